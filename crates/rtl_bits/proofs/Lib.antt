@@ -1,0 +1,10 @@
+pub mod Tables
+pub mod Lists
+pub mod Widths
+pub mod PlaneLemmas
+pub mod Numbers
+pub mod Known
+pub mod Signs
+pub mod Reductions
+pub mod Wrapping
+pub mod Shifts
