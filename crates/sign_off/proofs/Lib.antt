@@ -1,0 +1,11 @@
+pub mod Walks
+pub mod MarkLemmas
+pub mod NameLemmas
+pub mod ResolveLemmas
+pub mod Basic
+pub mod Ready
+pub mod Held
+pub mod Sound
+pub mod Clean
+pub mod Up
+pub mod Example

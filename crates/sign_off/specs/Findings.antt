@@ -1,0 +1,37 @@
+-- The findings of a design, rule by rule.
+use Rattle.std.specs.Prelude.{ℕ, ◌==◌, ◌++◌, List, take, Option, None, Some, Bool, not, ◌&&◌, if◌then◌else◌}
+use Rattle.std.specs.List.{list_any, enumerate_from, filter_map}
+use Rattle.sign_off.specs.declared.finding.Finding.{Finding}
+use Rattle.sign_off.specs.declared.finding.Rule.TheVariants.{SeveralDrivers, Undriven}
+use Rattle.sign_off.specs.Flat.{Object, Process, Assign, Flat, is_top_input}
+
+-- a process may write this signal
+abbrev pub may_write : ℕ → Process → Bool
+may_write signal (Assign target value at) = signal == target
+
+-- a finding where the condition holds
+abbrev pub found_if : Bool → Finding → Option Finding
+found_if condition finding = if condition then Some finding else None
+
+-- SeveralDrivers: a process may write a signal that a process of a lower number may write, too;
+-- it stands at the process
+abbrev pub several_drivers_at : List Process → (ℕ × Process) → Option Finding
+several_drivers_at processes (number, Assign target value at) =
+    found_if (list_any (may_write target) (take number processes))
+    (record { rule = SeveralDrivers; signal = record { 0 = target }; at = at })
+
+abbrev pub several_drivers : Flat → List Finding
+several_drivers design = filter_map (several_drivers_at design.processes) (enumerate_from 0 design.processes)
+
+-- Undriven: a signal isn't a top input, and no process may write it; it stands at the declaration
+abbrev pub undriven_at : List Process → (ℕ × Object) → Option Finding
+undriven_at processes (number, object) =
+    found_if (not (is_top_input object.kind) && not (list_any (may_write number) processes))
+    (record { rule = Undriven; signal = record { 0 = number }; at = object.at })
+
+abbrev pub undriven : Flat → List Finding
+undriven design = filter_map (undriven_at design.processes) (enumerate_from 0 design.signals)
+
+-- all findings in the order of their places: the ports stand before the assignments
+abbrev pub findings : Flat → List Finding
+findings design = undriven design ++ several_drivers design

@@ -1,0 +1,10 @@
+pub mod Flat
+pub mod Elaboration
+pub mod Findings
+pub mod Marks
+pub mod Names
+pub mod Queue
+pub mod Meaning
+pub mod Agree
+pub mod BringUp
+pub mod Rules

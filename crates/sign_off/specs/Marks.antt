@@ -1,0 +1,23 @@
+-- What a pass over the processes keeps.
+use Rattle.std.specs.Prelude.{◌≡◌, ℕ, ◌<◌, length, List, Bool, false, slice_index_or}
+use Rattle.std.specs.List.{list_any}
+use Rattle.sign_off.specs.declared.design.Process as code
+use Rattle.sign_off.specs.declared.design.SigId.{SigId}
+use Rattle.sign_off.specs.declared.design.Signal.{Signal}
+use Rattle.sign_off.specs.declared.finding.Finding.{Finding}
+use Rattle.sign_off.specs.declared.finding.Rule.TheVariants.{SeveralDrivers, Undriven}
+use Rattle.sign_off.specs.Flat.{Process}
+use Rattle.sign_off.specs.Findings.{may_write}
+
+-- one mark for each of so many signals: whether a process may write it
+pub record AreDriven (marks : List Bool) (count : ℕ) (processes : List Process) : Type 0 where
+  pub each : length marks ≡ count
+  pub driven : (number : ℕ) → number < count → slice_index_or marks number false ≡ list_any (may_write number) processes
+
+-- the finding at a process whose target a lower process drives
+abbrev pub several_finding : code.Process → Finding
+several_finding process = record { rule = SeveralDrivers; signal = process.target; at = process.at }
+
+-- the finding at a signal that nothing drives
+abbrev pub undriven_finding : SigId → Signal → Finding
+undriven_finding number signal = record { rule = Undriven; signal = number; at = signal.at }
