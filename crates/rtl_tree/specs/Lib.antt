@@ -1,1 +1,5 @@
 pub mod Thin
+pub mod Token
+pub mod Lexemes
+pub mod Literal
+pub mod Splits

@@ -1,4 +1,7 @@
 // Verilog as it is written: trees, and which text spells which tree.
 #![tactic(auto)]
 
+pub mod literal;
+pub mod text;
 pub mod thin;
+pub mod token;

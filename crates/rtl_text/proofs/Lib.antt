@@ -1,0 +1,11 @@
+mod Numbers
+mod Runs
+mod Chains
+mod FormTakes
+mod FormAgain
+mod Pragmas
+mod Ends
+mod Fronts
+mod FrontsAgain
+mod Turns
+mod Unique

@@ -1,0 +1,17 @@
+// The lexer: the tokens of a text, or the first fault in it.
+#![tactic(auto)]
+
+mod fault;
+mod form;
+mod front;
+pub mod law;
+mod lexer;
+mod literal;
+mod mark;
+mod pragma;
+mod run;
+#[cfg(test)]
+mod tests;
+
+pub use fault::LexFault;
+pub use lexer::lex;
