@@ -1,1 +1,3 @@
 pub mod ThinLaws
+pub mod TreeDepths
+pub mod TreeViews

@@ -1,5 +1,10 @@
+pub mod Depth
 pub mod Thin
 pub mod Token
 pub mod Lexemes
 pub mod Literal
 pub mod Splits
+pub mod TreeExpr
+pub mod TreeItem
+pub mod TreeModule
+pub mod TreeStmt

@@ -1,7 +1,10 @@
 // Verilog as it is written: trees, and which text spells which tree.
 #![tactic(auto)]
 
+pub mod dropped;
 pub mod literal;
+pub mod memory;
 pub mod text;
 pub mod thin;
 pub mod token;
+pub mod tree;

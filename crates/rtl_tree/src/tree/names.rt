@@ -1,0 +1,11 @@
+// Names as they are written.
+
+use crate::text::Text;
+
+/// A name as it is written.
+#[derive(Drop)]
+pub struct Name {
+    pub text: Text,
+    /// The place of its first byte.
+    pub at: u32,
+}
