@@ -1,0 +1,9 @@
+pub mod Expression
+pub mod Value
+pub mod Sizes
+pub mod Process
+pub mod Labels
+pub mod Signs
+pub mod Sizing
+pub mod WellFormed
+pub mod Propositions
