@@ -1,0 +1,4 @@
+mod Each
+mod Lines
+mod Parts
+mod Runs

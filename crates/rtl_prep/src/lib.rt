@@ -1,0 +1,15 @@
+// Preparation: what the parser sees of a list of tokens, and which regions of the text it doesn't see.
+#![tactic(auto)]
+
+mod directive;
+mod fault;
+mod initial;
+mod reader;
+mod region;
+#[cfg(test)]
+mod tests;
+mod whole;
+mod word;
+
+pub use fault::PrepFault;
+pub use whole::{Prepared, prepare};
