@@ -1,9 +1,17 @@
 pub mod Depth
+pub mod Deeper
+pub mod Grammar
+pub mod GrammarExpr
+pub mod GrammarStmt
+pub mod GrammarItem
+pub mod GrammarModule
 pub mod Thin
 pub mod Token
 pub mod Lexemes
 pub mod Literal
+pub mod Prepared
 pub mod Splits
+pub mod Symbols
 pub mod TreeExpr
 pub mod TreeItem
 pub mod TreeModule

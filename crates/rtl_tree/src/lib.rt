@@ -4,6 +4,8 @@
 pub mod dropped;
 pub mod literal;
 pub mod memory;
+pub mod prepared;
+pub mod symbol;
 pub mod text;
 pub mod thin;
 pub mod token;

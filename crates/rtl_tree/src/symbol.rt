@@ -1,0 +1,150 @@
+// Tokens as the grammar sees them.
+
+use crate::token::Tok;
+
+/// What a token is to the grammar: its terminal symbols (IEEE 1364-2001 annex A).
+#[derive(Clone, Copy, PartialEq, Eq, Debug)]
+pub enum Symbol {
+    /// A word that is neither a keyword nor a refused word.
+    Name,
+    Number,
+    /// A string.
+    Quoted,
+    /// A word or a mark of the standard that is outside this language.
+    Refused,
+    /// What stands nowhere in a module: a directive that is left.
+    Alien,
+    // Words
+    Always,
+    Assign,
+    Begin,
+    Case,
+    Casex,
+    Casez,
+    Default,
+    Else,
+    End,
+    Endcase,
+    Endmodule,
+    For,
+    If,
+    Input,
+    Integer,
+    Localparam,
+    Module,
+    Negedge,
+    Or,
+    Output,
+    Parameter,
+    Posedge,
+    Reg,
+    Signed,
+    Wire,
+    /// `$signed`
+    ToSigned,
+    /// `$unsigned`
+    ToUnsigned,
+    // Marks
+    /// `(`
+    OpenParen,
+    /// `)`
+    CloseParen,
+    /// `[`
+    OpenBracket,
+    /// `]`
+    CloseBracket,
+    /// `{`
+    OpenBrace,
+    /// `}`
+    CloseBrace,
+    /// `(*`
+    OpenAttribute,
+    /// `*)`
+    CloseAttribute,
+    /// `;`
+    Semicolon,
+    /// `:`
+    Colon,
+    /// `,`
+    Comma,
+    /// `.`
+    Dot,
+    /// `=`
+    Equals,
+    /// `@`
+    At,
+    /// `#`
+    Hash,
+    /// `?`
+    Question,
+    /// `+`
+    Plus,
+    /// `-`
+    Minus,
+    /// `*`
+    Star,
+    /// `/`
+    Slash,
+    /// `%`
+    Percent,
+    /// `!`
+    Bang,
+    /// `~`
+    Tilde,
+    /// `&`
+    Ampersand,
+    /// `~&`
+    TildeAmpersand,
+    /// `|`
+    Bar,
+    /// `~|`
+    TildeBar,
+    /// `^`
+    Caret,
+    /// `~^` or `^~`
+    TildeCaret,
+    /// `<<`
+    ShiftLeft,
+    /// `>>`
+    ShiftRight,
+    /// `<<<`
+    ArithmeticShiftLeft,
+    /// `>>>`
+    ArithmeticShiftRight,
+    /// `<`
+    Less,
+    /// `<=`, in a comparison or before a nonblocking assignment's value
+    LessEquals,
+    /// `>`
+    Greater,
+    /// `>=`
+    GreaterEquals,
+    /// `==`
+    EqualEquals,
+    /// `!=`
+    BangEquals,
+    /// `===`
+    CaseEquals,
+    /// `!==`
+    CaseBangEquals,
+    /// `&&`
+    AndAnd,
+    /// `||`
+    OrOr,
+}
+
+/// A token as the grammar sees it.
+#[derive(Clone, Copy, Debug)]
+pub struct Terminal<'a> {
+    pub symbol: Symbol,
+    /// With a number's value.
+    pub kind: Tok,
+    /// Its place, in bytes from 0.
+    pub at: u32,
+    /// Its slice of the text.
+    pub text: &'a [u8],
+    /// A pragma directly after it says `full_case`.
+    pub full: bool,
+    /// A pragma directly after it says `parallel_case`.
+    pub parallel: bool,
+}
