@@ -1,4 +1,6 @@
 mod Each
 mod Lines
 mod Parts
-mod Runs
+mod Passes
+mod Resumes
+mod Tables

@@ -9,7 +9,8 @@ use Rattle.rtl_tree.specs.Lexemes.{is_in_line}
 use Rattle.rtl_prep.specs.declared.directive.Known.{Known}
 use Rattle.rtl_prep.specs.declared.directive.Known.TheVariants.{Define, Undef, Ifdef, Ifndef, Elsif, Else, Endif, Ignored}
 use Rattle.rtl_prep.specs.declared.fault.PrepFault.{PrepFault}
-use Rattle.rtl_prep.specs.Stops.{Stop, Refused, slice}
+use Rattle.rtl_tree.specs.Symbols.{slice}
+use Rattle.rtl_prep.specs.Stops.{Stop, Refused}
 
 -- ---- names and lines
 

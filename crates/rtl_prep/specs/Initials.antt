@@ -9,7 +9,8 @@ use Rattle.rtl_tree.specs.declared.dropped.DropKind.TheVariants as kind
 use Rattle.rtl_prep.specs.declared.initial.Within.{Within}
 use Rattle.rtl_prep.specs.declared.initial.Within.TheVariants.{Outside, Opened, Block, Statement}
 use Rattle.rtl_prep.specs.declared.initial.Shed as code
-use Rattle.rtl_prep.specs.Stops.{Stop, Alone, and_then, each, slice}
+use Rattle.rtl_tree.specs.Symbols.{slice}
+use Rattle.rtl_prep.specs.Stops.{Stop, Alone, and_then, each}
 
 abbrev pub word_of : Tok → List ℕ → List ℕ → Bool
 word_of Word word s = bytes_eq s word

@@ -1,5 +1,5 @@
 -- What stops preparation, and doing one thing after another until something stops it.
-use Rattle.std.specs.Prelude.{◌≡◌, ℕ, ◌-◌, List, [], ◌∷◌, take, drop, Result, Ok, Err}
+use Rattle.std.specs.Prelude.{◌≡◌, ℕ, List, [], ◌∷◌, Result, Ok, Err}
 use Rattle.rtl_tree.specs.declared.token.Token.{Token}
 use Rattle.rtl_prep.specs.declared.fault.PrepFault.{PrepFault}
 use Rattle.rtl_prep.specs.declared.fault.PrepFault.TheVariants.{Directive, Unbalanced, MacroLoop, TooManyTokens, Memory}
@@ -28,7 +28,3 @@ and_then (Err stop) f = Err stop
 unfoldable pub each : {S : Type 0} → (S → Token → Result S Stop) → S → List Token → Result S Stop
 each f s [] = Ok s
 each f s (t ∷ ts) = and_then (f s t) (λ s'. each f s' ts)
-
--- the slice of a text for a token
-abbrev pub slice : List ℕ → Token → List ℕ
-slice text t = take (t.to - t.from) (drop t.from text)

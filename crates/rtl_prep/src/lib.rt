@@ -4,12 +4,14 @@
 mod directive;
 mod fault;
 mod initial;
+mod macros;
 mod reader;
 mod region;
+mod replace;
 #[cfg(test)]
 mod tests;
 mod whole;
 mod word;
 
 pub use fault::PrepFault;
-pub use whole::{Prepared, prepare};
+pub use whole::prepare;

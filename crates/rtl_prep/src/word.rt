@@ -1,7 +1,7 @@
 // The text of a token.
 
 ghost use Rattle.std.specs.Prelude.{◌≡◌, take, drop, codes};
-ghost use Rattle.rtl_prep.specs.Stops as spec;
+ghost use Rattle.rtl_tree.specs.Symbols as spec;
 ghost use Rattle.rtl_prep.specs.Initials as words;
 
 use rtl_tree::token::{Tok, Token};

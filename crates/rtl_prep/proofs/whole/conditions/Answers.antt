@@ -1,34 +1,29 @@
-use Rattle.std.proofs.Common.{sym, ◌∙◌, ap, arith, ◌+◌, ◌-◌, Vec, Global}
+use Rattle.std.proofs.Common.{◌∙◌, Ok, Err, Vec, Global, refl, sym, arith}
 use Rattle.std.proofs.lemmas.Result.{err_from_is_err_and}
 use Rattle.rtl_tree.specs.declared.token.Token.{Token}
-use Rattle.rtl_prep.specs.Reading.{seen}
+use Rattle.rtl_prep.specs.Tables.{seen}
 use Rattle.rtl_prep.specs.Prepares as spec
 use Rattle.rtl_prep.proofs.Each.{tells_err}
-use Rattle.rtl_prep.proofs.Runs.{run_out, run_done, run_turn, run_fails, conditions_err, conditions_ok, tells_same}
+use Rattle.rtl_prep.proofs.Passes.{read_turn, read_end, conditions_err, conditions_ok, tells_same}
 use Rattle.rtl_prep.proofs.whole.conditions.Goals as goal
 
-pub returns-then-is_done : goal.returns-then-is_done
-returns-then-is_done c =
-    tells_same _ (spec.finished (seen c.loop-turn.reader)) _ c.finished.result
-    (sym (conditions_ok c.args.text.now c.args.tokens.now (seen c.loop-turn.reader) (sym c.loop-turn.invariant ∙ run_done _ c.loop-turn.reader.text.now (seen c.loop-turn.reader) (sym c.is_done.ensures ∙ c.if-is_done.true))))
-    c.finished.ensures
+pub loop-at-preserved : goal.loop-at-preserved
+loop-at-preserved c = (
+  c.in_ok-take.ensures.text ∙ c.loop-at.invariant.0,
+  c.in_ok-take.ensures.same ∙ c.loop-at.invariant.1,
+  sym (read_turn c.args.text.now c.loop-at.reader.text.now (seen c.loop-at.reader) c.args.tokens.now _ c.loop-at.at _ _ (Ok (seen c.take.new.self)) (omega arith) c.loop-at.invariant.0 c.after.ensures refl c.in_ok-take.ensures.step) ∙ c.loop-at.invariant.2,
+)
 
-pub returns-in_err-turn : goal.returns-in_err-turn
-returns-in_err-turn c =
+pub returns-in_err-take : goal.returns-in_err-take
+returns-in_err-take c =
     let p = err_from_is_err_and c.from_residual.result c.from_residual.ensures.1 in
     rw (p.1, p.2)
-    (tells_err (λ (_ : Unit {0}). seen c.turn.new.self) (λ (v : Vec Token Global). v.items) _ _ c.in_err-turn.field-0.0
-    (λ stop e. conditions_err c.args.text.now c.args.tokens.now stop (sym c.loop-turn.invariant ∙ run_fails _ c.loop-turn.reader.text.now (seen c.loop-turn.reader) stop (omega arith) (sym c.is_done.ensures ∙ c.if-is_done.false) e))
-    c.in_err-turn.ensures.step)
-
-pub loop-turn-preserved : goal.loop-turn-preserved
-loop-turn-preserved c =
-    ap (λ text. spec.run (c.turns-turns.result - (c.loop-turn._turn + 1)) text (seen c.turn.new.self)) c.in_ok-turn.ensures.text
-    ∙ sym (run_turn _ (c.turns-turns.result - (c.loop-turn._turn + 1)) c.loop-turn.reader.text.now (seen c.loop-turn.reader) (seen c.turn.new.self) (omega arith) (sym c.is_done.ensures ∙ c.if-is_done.false) c.in_ok-turn.ensures.step)
-    ∙ c.loop-turn.invariant
+    (tells_err (λ (_ : Unit {0}). seen c.take.new.self) (λ (v : Vec Token Global). v.items) _ _ c.in_err-take.field-0.0
+    (λ stop e. conditions_err c.args.text.now c.args.tokens.now stop (sym c.loop-at.invariant.2 ∙ read_turn c.args.text.now c.loop-at.reader.text.now (seen c.loop-at.reader) c.args.tokens.now _ c.loop-at.at _ _ (Err stop) (omega arith) c.loop-at.invariant.0 c.after.ensures refl e))
+    c.in_err-take.ensures.step)
 
 pub returns : goal.returns
 returns c =
-    tells_same _ (spec.finished (seen c.loop-turn.reader)) _ c.finished-2.result
-    (sym (conditions_ok c.args.text.now c.args.tokens.now (seen c.loop-turn.reader) (sym c.loop-turn.invariant ∙ run_out _ c.loop-turn.reader.text.now (seen c.loop-turn.reader) (omega arith))))
-    c.finished-2.ensures
+    tells_same _ (spec.finished (seen c.loop-at.reader)) _ c.finished.result
+    (sym (conditions_ok c.args.text.now c.args.tokens.now (seen c.loop-at.reader) (sym c.loop-at.invariant.2 ∙ read_end c.args.text.now (seen c.loop-at.reader) c.args.tokens.now c.loop-at.at (omega arith))))
+    c.finished.ensures

@@ -1,7 +1,9 @@
-use Rattle.std.proofs.Common.{◌≡◌, ◌-◌}
-use Rattle.rtl_prep.specs.Reading.{seen}
-use Rattle.rtl_prep.specs.Prepares as spec
+use Rattle.std.proofs.Common.{◌≡◌, drop}
+use Rattle.rtl_prep.specs.Tables.{seen}
+use Rattle.rtl_prep.specs.Reading.{read}
+use Rattle.rtl_prep.specs.Prepares.{start}
 use Rattle.rtl_prep.proofs.whole.conditions.Given as goal
 
-abbrev pub invariant-loop-turn : goal.invariant-loop-turn
-invariant-loop-turn l = spec.run (l.turns - l._turn) l.reader.text.now (seen l.reader) ≡ spec.run (spec.turns l.fn.tokens) l.fn.text (spec.start l.fn.tokens)
+abbrev pub invariant-loop-at : goal.invariant-loop-at
+invariant-loop-at l =
+    (l.reader.text.now ≡ l.fn.text) × (l.reader.replacer.text.now ≡ l.fn.text) × (read l.fn.text (drop l.at l.fn.tokens) (seen l.reader) ≡ read l.fn.text l.fn.tokens start)
