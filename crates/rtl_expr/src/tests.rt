@@ -72,6 +72,40 @@ fn a_sum_has_the_bits_of_its_context(rt: HostRuntime) -> Result<(), Fail> {
     Ok(())
 }
 
+/// Parts beside one another.
+fn concat(parts: Vec<SizedExpr>) -> Node
+    ensures { form result ≡ beside (map tree parts.items) }
+{
+    Node::Concat(parts)
+}
+
+#[test]
+fn a_sum_in_braces_has_its_own_bits(rt: HostRuntime) -> Result<(), Fail> {
+    let alloc = rt.alloc();
+    let values = [Vec4::of_number(8, 0xff), Vec4::of_number(8, 0xff)];
+    let sum = Node::Joined(
+        Join::Add,
+        Box::new(alloc, whole(0, 8, false))?,
+        Box::new(alloc, whole(1, 8, false))?,
+    );
+    let sum = concat(vec![in alloc; sized(8, false, sum)]?);
+    let sum = eval(&sized(9, false, sum), &values);
+    assert!(rt; sum.is_same(vector(&rt, "011111110")));
+    Ok(())
+}
+
+#[test]
+fn the_first_part_stands_highest(rt: HostRuntime) -> Result<(), Fail> {
+    let alloc = rt.alloc();
+    let values = [vector(&rt, "1x"), vector(&rt, "001")];
+    assert_eq!(rt; values[0].width(), 2);
+    assert_eq!(rt; values[1].width(), 3);
+    let both = concat(vec![in alloc; whole(0, 2, false), whole(1, 3, false)]?);
+    let both = eval(&sized(5, false, both), &values);
+    assert!(rt; both.is_same(vector(&rt, "1x001")));
+    Ok(())
+}
+
 #[test]
 fn a_sum_of_128_bits_carries_out_of_them(rt: HostRuntime) -> Result<(), Fail> {
     let alloc = rt.alloc();
