@@ -1,0 +1,19 @@
+-- What the steps of the survey have to do with the grammar.
+pub mod Steps
+pub mod Ahead
+pub mod Operands
+pub mod Expressions
+pub mod Starts
+pub mod Lists
+pub mod Statements
+pub mod Declarations
+pub mod Items
+pub mod Weights
+pub mod Stops
+pub mod Loops
+pub mod Means
+pub mod SoundExpressions
+pub mod SoundStatements
+pub mod SoundItems
+pub mod SoundModules
+pub mod Sound

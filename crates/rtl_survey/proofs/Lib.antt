@@ -1,0 +1,4 @@
+mod Laws
+mod Numbers
+mod Pragmas
+mod Stacks

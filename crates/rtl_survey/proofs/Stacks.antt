@@ -1,0 +1,6 @@
+-- Stacks whose top is the last element.
+use Rattle.std.proofs.Common.{◌≡◌, ℕ, List, [], ◌∷◌, ◌++◌, refl, ap, ◌∙◌, reverse}
+use Rattle.std.proofs.lemmas.List.{reverse-append}
+
+pub popped : {A : Type 0} (xs : List A) (x : A) → reverse (xs ++ x ∷ []) ≡ x ∷ reverse xs
+popped xs x = reverse-append xs (x ∷ [])

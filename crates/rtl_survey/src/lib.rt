@@ -1,0 +1,13 @@
+// Whether tokens spell modules, else where they stop doing so, and how deep they nest: found without recursion.
+#![tactic(auto)]
+
+mod depths;
+mod machine;
+mod symbols;
+mod table;
+mod task;
+#[cfg(test)]
+mod tests;
+
+pub use machine::{Surveyed, survey};
+pub use symbols::{refused, terminals};
