@@ -4,4 +4,6 @@ pub mod Bits
 pub mod Sized
 pub mod Signed
 pub mod Stored
+pub mod Paths
+pub mod Flows
 mod Examples

@@ -7,3 +7,7 @@ pub mod Signs
 pub mod Sizing
 pub mod WellFormed
 pub mod Propositions
+pub mod Paths
+pub mod Flows
+pub mod PathSets
+pub mod Levels
