@@ -1,0 +1,13 @@
+pub mod Masks
+pub mod Places
+pub mod Adding
+pub mod Parts
+pub mod Bodies
+pub mod Labels
+pub mod Passes
+pub mod Covers
+pub mod Weights
+pub mod Statements
+pub mod Rows
+pub mod Processes
+pub mod Chains
