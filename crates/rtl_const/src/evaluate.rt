@@ -3,19 +3,18 @@
 ghost use Rattle.std.specs.Prelude.{◌≡◌};
 ghost use Rattle.rtl_tree.specs.TreeExpr.{formula};
 ghost use Rattle.rtl_const.specs.Constant.{constant, named};
-ghost use Rattle.rtl_const.specs.Numbers.{numbers_of};
 
 use crate::fault::ConstFault;
 use crate::number::{
     applied, combined, is_constant_operator, is_constant_prefix, is_true, literal, named,
 };
-use crate::params::Params;
+use crate::params::Lookup;
 use rtl_tree::tree::expr::Expr;
 
 /// The number of a constant expression; the first operand or operator, left to right, that isn't constant, leaves the
 /// range or divides by 0 refuses it at its place. It takes no memory.
-pub fn constant(e: &Expr, params: &Params) -> Result<i64, ConstFault>
-    ensures { result ≡ constant (numbers_of params.now) (formula e.now) }
+pub fn constant<L: Lookup>(e: &Expr, params: &L) -> Result<i64, ConstFault>
+    ensures { result ≡ constant (L.numbers params.now) (formula e.now) }
 {
     match e {
         Expr::Number(value, at) => literal(*at, value),

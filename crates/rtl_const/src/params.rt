@@ -8,6 +8,18 @@ use rtl_tree::text::Text;
 use std::alloc::Global;
 use std::collections::BTreeMap;
 
+/// What gives names their numbers.
+pub trait Lookup {
+    ghost use Rattle.rtl_const.specs.Numbers.{Numbers};
+
+    /// The numbers that the names have.
+    ghost numbers: { Self → Numbers };
+
+    /// The number of the name.
+    fn get(&self, name: &Text) -> Option<i64>
+        ensures { result ≡ numbers self.now name.now };
+}
+
 /// A map from names to numbers.
 #[derive(Drop)]
 pub struct Params {
@@ -61,11 +73,12 @@ impl Params {
         self.numbers.insert(key, n)?;
         Ok(())
     }
+}
 
-    /// The number of the name.
-    pub fn get(&self, name: &Text) -> Option<i64>
-        ensures { result ≡ numbers_of self.now name.now }
-    {
+impl Lookup for Params {
+    ghost numbers = { numbers_of };
+
+    fn get(&self, name: &Text) -> Option<i64> {
         self.numbers.get(name.as_bytes()).copied()
     }
 }

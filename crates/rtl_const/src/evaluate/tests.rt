@@ -1,4 +1,5 @@
 use super::*;
+use crate::params::Params;
 use rtl_tree::literal::Literal;
 use rtl_tree::text::Text;
 use rtl_tree::tree::names::Name;
