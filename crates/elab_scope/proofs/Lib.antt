@@ -1,0 +1,9 @@
+pub mod Fitting
+pub mod Law
+pub mod Leaves
+pub mod Least
+pub mod Nodes
+pub mod Sound
+pub mod TargetViews
+pub mod Views
+pub mod Written

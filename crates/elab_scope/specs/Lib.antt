@@ -1,0 +1,10 @@
+pub mod Expressions
+pub mod Faults
+pub mod Names
+pub mod Operators
+pub mod Own
+pub mod Rules
+pub mod Sources
+pub mod Targets
+pub mod Trees
+pub mod Widths

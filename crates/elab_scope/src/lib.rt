@@ -1,0 +1,19 @@
+//! What names stand for in a module, and the faults, the sizes and the trees of its expressions.
+#![tactic(auto)]
+
+pub mod context;
+pub mod covers;
+pub mod fault;
+pub mod judge;
+pub mod known;
+mod literals;
+pub mod names;
+pub mod operators;
+pub mod own;
+pub mod pieces;
+pub mod rules;
+pub mod size;
+pub mod targets;
+#[cfg(test)]
+mod tests;
+pub mod widths;
