@@ -17,3 +17,5 @@ pub mod SoundStatements
 pub mod SoundItems
 pub mod SoundModules
 pub mod Sound
+pub mod Inside
+pub mod Closed

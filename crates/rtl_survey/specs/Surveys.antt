@@ -1,5 +1,6 @@
 -- What a survey says of tokens.
-use Rattle.std.specs.Prelude.{◌≡◌, ◌≤◌, ℕ, reverse, map, List, [], ◌∷◌, take, drop, length}
+use Rattle.std.specs.Prelude.{◌≡◌, ◌≤◌, ◌<◌, ◌+◌, ℕ, Some, reverse, map, List, [], ◌∷◌, take, drop, length}
+use Rattle.std.specs.List.{slice_get}
 use Rattle.rtl_tree.specs.declared.dropped.Dropped.{Dropped}
 use Rattle.rtl_tree.specs.declared.literal.Literal.{Literal}
 use Rattle.rtl_tree.specs.declared.symbol.Symbol.TheVariants as symbol
@@ -38,8 +39,12 @@ AreNumbered (t ∷ ts) = IsNumbered t × AreNumbered ts
 abbrev pub SpellSome : List Terminal → Type 0
 SpellSome tokens = AreNumbered tokens → (regions : List Dropped) → (circuits : List Circuit) × AreSpelled regions tokens circuits
 
+-- the tokens through each `endmodule` of the first `n` spell some modules
+abbrev pub AreClosed : List Terminal → ℕ → Type 0
+AreClosed tokens n = (m : ℕ) (t : Terminal) → m < n → slice_get tokens m ≡ Some t → t.symbol ≡ symbol.Endmodule → SpellSome (take (m + 1) tokens)
+
 -- what is proved of each answer; that depths and places are those of the modules isn't part of it yet
 abbrev pub IsSurvey : List Terminal → Surveyed → Type 0
 IsSurvey tokens Spelled = SpellSome tokens
 IsSurvey tokens (TooDeep place) = SpellSome tokens
-IsSurvey tokens (Stopped n) = (n ≤ length tokens) × IsDead tokens n
+IsSurvey tokens (Stopped n) = (n ≤ length tokens) × IsDead tokens n × AreClosed tokens n

@@ -2,8 +2,8 @@ use Rattle.std.proofs.Common.{rules, ◌≡◌, ◌≤◌, ◌-◌, [], length, 
 use Rattle.rtl_tree.specs.Symbols.{terminal}
 use Rattle.rtl_survey.specs.Rule.{rule}
 use Rattle.rtl_survey.specs.Machine.{symbol_at, moved}
-use Rattle.rtl_survey.specs.Surveys.{state, IsDead}
-use Rattle.rtl_survey.proofs.Laws.Loops.{moves_on, moves_not, on, less, within, stuck, over, through}
+use Rattle.rtl_survey.specs.Surveys.{state}
+use Rattle.rtl_survey.proofs.Laws.Loops.{Stop, moves_on, moves_not, on, less, within, stuck, over, through}
 use Rattle.rtl_survey.proofs.machine.survey.Goals as goal
 
 pub loop-task-smaller : goal.loop-task-smaller
@@ -25,7 +25,7 @@ overflow_sub-result c =
 
 pub returns-then-not-branch : goal.returns-then-not-branch
 returns-then-not-branch c =
-    subst (λ r. (length c.args.tokens.now - length r ≤ length (map terminal c.args.tokens.now)) × IsDead (map terminal c.args.tokens.now) (length c.args.tokens.now - length r))
+    subst (λ r. Stop (map terminal c.args.tokens.now) (length c.args.tokens.now - length r))
     (sym (c.in_ok-step.ensures.kept c.if-not-branch.true))
     (stuck c.args.tokens.now c.loop-task.machine.rest.now c.loop-task.machine.tasks.items c.pop.new.self.items c.in-Some.task c.in-Some.ensures.items c.loop-task.invariant
     (moves_not (moved (rule c.in-Some.task (symbol_at (map terminal c.loop-task.machine.rest.now))) (reverse c.pop.new.self.items) (map terminal c.loop-task.machine.rest.now))
