@@ -1,5 +1,7 @@
 -- What the steps of the survey have to do with the grammar.
 pub mod Steps
+pub mod Counts
+pub mod Nests
 pub mod Ahead
 pub mod Operands
 pub mod Expressions
@@ -19,3 +21,4 @@ pub mod SoundModules
 pub mod Sound
 pub mod Inside
 pub mod Closed
+pub mod Places

@@ -2,3 +2,4 @@ mod Laws
 mod Numbers
 mod Pragmas
 mod Stacks
+pub mod Profiles

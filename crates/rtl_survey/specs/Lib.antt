@@ -5,3 +5,4 @@ pub mod TableItem
 pub mod Rule
 pub mod Machine
 pub mod Surveys
+pub mod Depths

@@ -8,6 +8,7 @@ use Rattle.rtl_tree.specs.declared.token.Tok.TheVariants as tok
 use Rattle.rtl_tree.specs.Symbols.{Terminal, terminal}
 use Rattle.rtl_tree.specs.TreeModule.{Circuit}
 use Rattle.rtl_tree.specs.GrammarModule.{AreSpelled}
+use Rattle.rtl_tree.specs.Deeper.{too_deep, IsLeastPlace}
 use Rattle.rtl_survey.specs.declared.machine.Machine.{Machine}
 use Rattle.rtl_survey.specs.declared.machine.Surveyed.{Surveyed}
 use Rattle.rtl_survey.specs.declared.machine.Surveyed.TheVariants.{Spelled, TooDeep, Stopped}
@@ -35,7 +36,10 @@ abbrev pub AreNumbered : List Terminal → Type 0
 AreNumbered [] = Unit {0}
 AreNumbered (t ∷ ts) = IsNumbered t × AreNumbered ts
 
--- tokens spell some modules, whatever was dropped from them
+-- tokens spell some modules of which this holds, whatever was dropped from them
+abbrev pub SpellSomeThat : (List Circuit → Type 0) → List Terminal → Type 0
+SpellSomeThat P tokens = AreNumbered tokens → (regions : List Dropped) → (circuits : List Circuit) × AreSpelled regions tokens circuits × P circuits
+
 abbrev pub SpellSome : List Terminal → Type 0
 SpellSome tokens = AreNumbered tokens → (regions : List Dropped) → (circuits : List Circuit) × AreSpelled regions tokens circuits
 
@@ -43,8 +47,8 @@ SpellSome tokens = AreNumbered tokens → (regions : List Dropped) → (circuits
 abbrev pub AreClosed : List Terminal → ℕ → Type 0
 AreClosed tokens n = (m : ℕ) (t : Terminal) → m < n → slice_get tokens m ≡ Some t → t.symbol ≡ symbol.Endmodule → SpellSome (take (m + 1) tokens)
 
--- what is proved of each answer; that depths and places are those of the modules isn't part of it yet
+-- what a survey answers
 abbrev pub IsSurvey : List Terminal → Surveyed → Type 0
-IsSurvey tokens Spelled = SpellSome tokens
-IsSurvey tokens (TooDeep place) = SpellSome tokens
+IsSurvey tokens Spelled = SpellSomeThat (λ circuits. too_deep circuits ≡ []) tokens
+IsSurvey tokens (TooDeep place) = SpellSomeThat (λ circuits. IsLeastPlace (too_deep circuits) place) tokens
 IsSurvey tokens (Stopped n) = (n ≤ length tokens) × IsDead tokens n × AreClosed tokens n

@@ -1,5 +1,8 @@
 // How deep what was read is nested, and at which places.
 
+ghost use Rattle.std.specs.Prelude.{◌≡◌, reverse, IfOk};
+ghost use Rattle.rtl_survey.specs.Depths as spec;
+
 use crate::task::{Taking, Task};
 use rtl_tree::memory::Memory;
 use std::alloc::Global;
@@ -17,18 +20,39 @@ pub struct Depths {
 }
 
 /// The least places of the trees of both, in the time of the shallower one.
-fn merge(a: Profile, b: Profile) -> Profile {
-    let (mut deeper, other) = if a.len() < b.len() { (b, a) } else { (a, b) };
-    for (place, at) in deeper.iter_mut().rev().zip(other.iter().rev()) {
-        if *at < *place {
-            *place = *at;
+fn merge(alloc: Global, a: Profile, b: Profile) -> Result<Profile, Memory>
+    ensures { IfOk result (λ p. reverse p.items ≡ spec.merged (reverse a.items) (reverse b.items)) }
+{
+    let (mut deeper, mut other) = if a.len() < b.len() { (b, a) } else { (a, b) };
+    let mut both = Vec::new(alloc);
+    while let Some(place) = other.pop() {
+        if let Some(at) = deeper.pop() {
+            both.push(at.min(place))?;
         }
     }
-    deeper
+    while let Some(place) = both.pop() {
+        deeper.push(place)?;
+    }
+    Ok(deeper)
+}
+
+fn least(places: &[u32]) -> Option<u32>
+    ensures { result ≡ spec.least_of places.now }
+{
+    let mut least: Option<u32> = None;
+    for place in places {
+        least = Some(match least {
+            Some(other) => other.min(*place),
+            None => *place,
+        });
+    }
+    least
 }
 
 impl Depths {
-    pub fn new(alloc: Global) -> Result<Depths, Memory> {
+    pub fn new(alloc: Global) -> Result<Depths, Memory>
+        ensures { IfOk result (λ d. spec.IsKept d spec.none_read) }
+    {
         let mut profiles = Vec::new(alloc);
         profiles.push(Vec::new(alloc))?;
         Ok(Depths {
@@ -39,7 +63,9 @@ impl Depths {
     }
 
     /// Begins a node where one begins.
-    pub fn begin(&mut self, taking: Taking, at: u32) -> Result<(), Memory> {
+    pub fn begin(&mut self, taking: Taking, at: u32) -> Result<(), Memory>
+        ensures { IfOk result (λ _. (s : spec.Depths) → spec.IsKept self.old s → spec.IsKept self.new (spec.begun taking at s)) }
+    {
         match taking {
             Taking::Nothing | Taking::Token => {}
             Taking::Node | Taking::Ahead => {
@@ -51,19 +77,24 @@ impl Depths {
         Ok(())
     }
 
-    fn wrap(&mut self) -> Result<(), Memory> {
+    fn wrap(&mut self) -> Result<(), Memory>
+        ensures { IfOk result (λ _. (s : spec.Depths) → spec.IsKept self.old s → spec.IsKept self.new (spec.wrapped s.places s.top s.under)) }
+    {
         if let Some(at) = self.places.pop() {
-            if let Some(last) = self.profiles.last_mut() {
+            if let Some(mut last) = self.profiles.pop() {
                 last.push(at)?;
+                self.profiles.push(last)?;
             }
         }
         Ok(())
     }
 
-    fn join(&mut self) -> Result<(), Memory> {
+    fn join(&mut self) -> Result<(), Memory>
+        ensures { IfOk result (λ _. (s : spec.Depths) → spec.IsKept self.old s → spec.IsKept self.new (spec.joined s.places s.top s.under)) }
+    {
         if let Some(last) = self.profiles.pop() {
             let joined = match self.profiles.pop() {
-                Some(other) => merge(other, last),
+                Some(other) => merge(self.alloc, other, last)?,
                 None => last,
             };
             self.profiles.push(joined)?;
@@ -71,13 +102,19 @@ impl Depths {
         Ok(())
     }
 
-    fn forget(&mut self) {
+    fn forget(&mut self)
+        ensures { (s : spec.Depths) → spec.IsKept self.old s → spec.IsKept self.new (spec.forgotten (spec.behind_place s.places) s.top s.under) }
+    {
         let _place = self.places.pop();
-        let _profile = self.profiles.pop();
+        if self.profiles.len() > 1 {
+            let _profile = self.profiles.pop();
+        }
     }
 
     /// Does what a task says of depths.
-    pub fn count(&mut self, task: Task) -> Result<(), Memory> {
+    pub fn count(&mut self, task: Task) -> Result<(), Memory>
+        ensures { IfOk result (λ _. (s : spec.Depths) → spec.IsKept self.old s → spec.IsKept self.new (spec.counted task s)) }
+    {
         match task {
             Task::Wrap => self.wrap(),
             Task::Join => self.join(),
@@ -89,10 +126,12 @@ impl Depths {
         }
     }
 
-    /// The least place of what is nested deeper than this.
-    pub fn deeper(&self, limit: usize) -> Option<u32> {
-        let all = self.profiles.last()?;
-        let size = all.len().saturating_sub(limit);
-        all[..size].iter().copied().min()
+    /// The least place of what is nested deeper than this, in what was read last, which is taken away.
+    pub fn deeper(&mut self, limit: usize) -> Option<u32>
+        ensures { (s : spec.Depths) → spec.IsKept self.old s → result ≡ spec.least_of (spec.nest_deeper limit s.top) }
+    {
+        let profile = self.profiles.pop()?;
+        let levels = profile.len().saturating_sub(limit);
+        least(&profile[..levels])
     }
 }

@@ -1,10 +1,11 @@
 // Reads tokens as modules, without recursion.
 
-ghost use Rattle.std.specs.Prelude.{◌≡◌, ◌++◌, false, reverse, map, IfOk};
+ghost use Rattle.std.specs.Prelude.{◌≡◌, ◌++◌, true, false, reverse, map, IfOk};
 ghost use Rattle.rtl_tree.specs.Symbols.{terminal};
 ghost use Rattle.rtl_survey.specs.Machine as spec;
 ghost use Rattle.rtl_survey.specs.Rule as rules;
 ghost use Rattle.rtl_survey.specs.Surveys as surveys;
+ghost use Rattle.rtl_survey.specs.Depths as depth;
 
 use crate::depths::Depths;
 use crate::table::rule;
@@ -59,7 +60,9 @@ impl<'a> Machine<'a> {
     }
 
     /// The place of the next token.
-    fn place(&self) -> u32 {
+    fn place(&self) -> u32
+        ensures { result ≡ depth.place (map terminal self.now.rest.now) }
+    {
         match self.rest {
             [token, ..] => token.at,
             [] => 0,
@@ -69,6 +72,7 @@ impl<'a> Machine<'a> {
     fn take(&mut self, taking: Taking)
         ensures rest { map terminal self.new.rest.now ≡ spec.left taking (map terminal self.old.rest.now) }
         ensures tasks { self.new.tasks ≡ self.old.tasks }
+        ensures depths { self.new.depths ≡ self.old.depths }
     {
         if let (Taking::Token | Taking::Node | Taking::Operator, [_, rest @ ..]) = (
             taking, self.rest,
@@ -81,6 +85,7 @@ impl<'a> Machine<'a> {
     fn step(&mut self, task: Task) -> Result<bool, Memory>
         ensures step { IfOk result (λ moved. spec.Moves (spec.moved (rules.rule task (spec.symbol_at (map terminal self.old.rest.now))) (reverse self.old.tasks.items) (map terminal self.old.rest.now)) moved (surveys.state self.new)) }
         ensures kept { IfOk result (λ moved. moved ≡ false → self.new.rest.now ≡ self.old.rest.now) }
+        ensures read { IfOk result (λ moved. moved ≡ true → (s : depth.Depths) → depth.IsKept self.old.depths s → depth.IsKept self.new.depths (depth.read_by task (rules.rule task (spec.symbol_at (map terminal self.old.rest.now))) (depth.place (map terminal self.old.rest.now)) s)) }
     {
         let next = self.next();
         let place = self.place();
@@ -96,7 +101,7 @@ impl<'a> Machine<'a> {
 }
 
 /// Whether tokens spell modules, else where they stop doing so, and whether these are nested too deep. It takes the time of the
-/// tokens, and no stack. The only error is want of memory. The clause says nothing yet of the depths and their place.
+/// tokens, and no stack. The only error is want of memory.
 pub fn survey(alloc: Global, tokens: &[Terminal]) -> Result<Surveyed, Memory>
     ensures { IfOk result (λ s. surveys.IsSurvey (map terminal tokens.now) s) }
 {

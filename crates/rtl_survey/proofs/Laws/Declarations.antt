@@ -18,17 +18,19 @@ use Rattle.rtl_survey.specs.declared.task.Taking.TheVariants as taking
 use Rattle.rtl_survey.specs.Table.{go, is_next, same_symbol, looseness}
 use Rattle.rtl_survey.specs.Rule.{rule}
 use Rattle.rtl_survey.specs.Machine.{symbol_at}
-use Rattle.rtl_survey.proofs.Laws.Steps.{Runs, Does, ◌▸◌, ◌▹◌, nothing, stay, token, node}
+use Rattle.rtl_survey.specs.Depths.{Nest, Depths, counted}
+use Rattle.rtl_survey.proofs.Laws.Counts.{Runs, Does, ◌▸◌, ◌▹◌, same, grow, nothing, stay, token, node}
+use Rattle.rtl_survey.proofs.Laws.Nests.{beside, skip, all_beside, valued, bounded, net, valuation, drive, happening, awaited, positional, associated, arguments, placed}
 use Rattle.rtl_survey.proofs.Laws.Operands.{no_select}
 use Rattle.rtl_survey.proofs.Laws.Expressions.{head, expect, Ends, ends, Not, apart, left_out, bit, part, expression_runs}
 use Rattle.rtl_survey.proofs.Laws.Starts.{Opens, Closes, opens, closes_by, closes_ends, closes_equals, closes_initial, formula_opens}
 use Rattle.rtl_survey.proofs.Laws.Lists.{Each, listed_run, target_run, forget}
 
-pub name_each : Each IsName task.Name
+pub name_each : Each IsName task.Name skip
 unfolding same_symbol
 name_each n ts rest w c = token symbol.Name refl (w.0, w.1, w.2.0) (nothing rest)
 
-pub name_run : (n : Identifier) (ts rest : List Terminal) → IsName n ts rest → Does task.Name ts rest
+pub name_run : (n : Identifier) (ts rest : List Terminal) → IsName n ts rest → Does task.Name ts rest same
 unfolding same_symbol
 name_run n ts rest w = token symbol.Name refl (w.0, w.1, w.2.0) (nothing rest)
 
@@ -65,11 +67,11 @@ declares_kind (Some symbol.Reg) h = cc
 declares_kind None h = refl
 declares_kind (Some other) h = refl
 
-pub range_run : (b : Option Bounds) (ts mid rest : List Terminal) → IsOptional IsBounds b ts mid → IsA symbol.Name mid rest → Does task.Range ts mid
+pub range_run : (b : Option Bounds) (ts mid rest : List Terminal) → IsOptional IsBounds b ts mid → IsA symbol.Name mid rest → Does task.Range ts mid (grow (bounded b))
 unfolding same_symbol
 range_run None ts mid rest w n =
-    subst (λ x. Does task.Range x mid) (sym w)
-    (left_out task.Range symbol.OpenBracket (task.Expression ∷ task.Expect symbol.Colon ∷ task.Expression ∷ task.Expect symbol.CloseBracket ∷ []) mid (λ o. refl) (apart symbol.Name symbol.OpenBracket mid rest refl n))
+    subst (λ x. Does task.Range x mid same) (sym w)
+    (left_out task.Range symbol.OpenBracket (task.Expression ∷ task.Expect symbol.Colon ∷ task.Expression ∷ task.Expect symbol.CloseBracket ∷ []) mid (λ o. refl) (λ d. refl) (apart symbol.Name symbol.OpenBracket mid rest refl n))
 range_run (Some b) ts mid rest w n =
     let v = w.2 in
     let u = v.2 in
@@ -82,9 +84,9 @@ pub range_begins : (b : Option Bounds) (ts mid rest : List Terminal) → IsOptio
 range_begins None ts mid rest w n = ap (λ x. ranged (symbol_at x)) w ∙ ap ranged (head symbol.Name mid rest n)
 range_begins (Some b) ts mid rest w n = ap ranged (head symbol.OpenBracket ts w.0 (w.1.0, w.1.1, w.1.2.0))
 
-pub sign_run : (b : Bool) (ts mid : List Terminal) → IsFlag symbol.Signed b ts mid → ranged (symbol_at mid) ≡ true → Does task.Sign ts mid
+pub sign_run : (b : Bool) (ts mid : List Terminal) → IsFlag symbol.Signed b ts mid → ranged (symbol_at mid) ≡ true → Does task.Sign ts mid same
 unfolding same_symbol
-sign_run false ts mid w r = subst (λ x. Does task.Sign x mid) (sym w) (left_out task.Sign symbol.Signed [] mid (λ o. refl) (ranged_sign (symbol_at mid) r))
+sign_run false ts mid w r = subst (λ x. Does task.Sign x mid same) (sym w) (left_out task.Sign symbol.Signed [] mid (λ o. refl) (λ d. refl) (ranged_sign (symbol_at mid) r))
 sign_run true ts mid w r = token symbol.Signed refl w (nothing mid)
 
 pub sign_begins : (b : Bool) (ts mid : List Terminal) → IsFlag symbol.Signed b ts mid → ranged (symbol_at mid) ≡ true → declares (symbol_at ts) ≡ true
@@ -95,43 +97,43 @@ kind_rule : (k : PortKind) → rule task.PortKind (Some (kind_symbol k)) ≡ go 
 kind_rule kind.Wire = refl
 kind_rule kind.Reg = refl
 
-pub kind_run : (k : Option PortKind) (ts mid : List Terminal) → IsOptional IsKind k ts mid → declares (symbol_at mid) ≡ true → Does task.PortKind ts mid
-kind_run None ts mid w d = subst (λ x. Does task.PortKind x mid) (sym w) (stay (declares_kind (symbol_at mid) d) (nothing mid))
+pub kind_run : (k : Option PortKind) (ts mid : List Terminal) → IsOptional IsKind k ts mid → declares (symbol_at mid) ≡ true → Does task.PortKind ts mid same
+kind_run None ts mid w d = subst (λ x. Does task.PortKind x mid same) (sym w) (stay (declares_kind (symbol_at mid) d) (nothing mid))
 kind_run (Some k) ts mid w d = token (kind_symbol k) (kind_rule k) w (nothing mid)
 
 -- ---- names with values
 
-value_runs : (v : Option Formula) (ts rest : List Terminal) → IsOptional IsValue v ts rest → Closes rest → Does task.Value ts rest
+value_runs : (v : Option Formula) (ts rest : List Terminal) → IsOptional IsValue v ts rest → Closes rest → Does task.Value ts rest (grow (valued v))
 unfolding same_symbol
 value_runs None ts rest w c =
-    subst (λ x. Does task.Value x rest) (sym w) (left_out task.Value symbol.Equals (task.Expression ∷ []) rest (λ o. refl) (closes_equals (symbol_at rest) c))
+    subst (λ x. Does task.Value x rest same) (sym w) (left_out task.Value symbol.Equals (task.Expression ∷ []) rest (λ o. refl) (λ d. refl) (closes_equals (symbol_at rest) c))
 value_runs (Some f) ts rest w c = token symbol.Equals refl w.1 (expression_runs f w.0 rest w.2 (closes_ends (symbol_at rest) c) ▸ nothing rest)
 
-pub net_each : Each IsNet task.Net
+pub net_each : Each IsNet task.Net net
 unfolding same_symbol
 net_each n ts rest w c = token symbol.Name refl (w.1.0, w.1.1, w.1.2.0) (value_runs n.value w.0 rest w.2 c ▸ nothing rest)
 
-initial_runs : (i : Bool) (ts rest : List Terminal) → IsInitial i ts rest → Closes rest → Does task.Initial ts rest
-initial_runs false ts rest w c = subst (λ x. Does task.Initial x rest) (sym w) (stay (closes_initial (symbol_at rest) c) (nothing rest))
+initial_runs : (i : Bool) (ts rest : List Terminal) → IsInitial i ts rest → Closes rest → Does task.Initial ts rest same
+initial_runs false ts rest w c = subst (λ x. Does task.Initial x rest same) (sym w) (stay (closes_initial (symbol_at rest) c) (nothing rest))
 initial_runs true ts rest w c =
     let v = w.1 in
-    node symbol.Equals refl v.1 (expression_runs w.0 v.0 rest v.2 (closes_ends (symbol_at rest) c) ▸ forget rest ▸ nothing rest)
+    node symbol.Equals v.1.0.at refl (v.1.0, v.1.1, (v.1.2, refl)) (expression_runs w.0 v.0 rest v.2 (closes_ends (symbol_at rest) c) ▸ forget rest ▸ nothing rest)
 
-pub variable_each : Each IsVariable task.Variable
+pub variable_each : Each IsVariable task.Variable skip
 unfolding same_symbol
 variable_each n ts rest w c = token symbol.Name refl (w.1.0, w.1.1, w.1.2.0) (initial_runs n.initial w.0 rest w.2 c ▸ nothing rest)
 
-pub setting_run : (n : Identifier) (f : Formula) (ts rest : List Terminal) → (IsName n ⨾ IsValue f) ts rest → Closes rest → Does task.Setting ts rest
+pub setting_run : (n : Identifier) (f : Formula) (ts rest : List Terminal) → (IsName n ⨾ IsValue f) ts rest → Closes rest → Does task.Setting ts rest (grow (beside f))
 unfolding same_symbol
 setting_run n f ts rest w c =
     let v = w.2 in
     token symbol.Name refl (w.1.0, w.1.1, w.1.2.0) (
     expect symbol.Equals w.0 v.0 v.1 ▸ expression_runs f v.0 rest v.2 (closes_ends (symbol_at rest) c) ▸ nothing rest)
 
-pub setting_each : Each IsValuation task.Setting
+pub setting_each : Each IsValuation task.Setting valuation
 setting_each s ts rest w c = setting_run s.name s.value ts rest w c
 
-pub drive_each : Each IsDrive task.Drive
+pub drive_each : Each IsDrive task.Drive drive
 drive_each d ts rest w c =
     let v = w.2 in
     stay refl (
@@ -144,7 +146,7 @@ edge_rule : (e : EventEdge) → rule task.Event (Some (edge_symbol e)) ≡ go ta
 edge_rule edge.Posedge = refl
 edge_rule edge.Negedge = refl
 
-event_run : (h : Happening) (ts rest : List Terminal) → IsHappening h ts rest → 0 < looseness (symbol_at rest) → Does task.Event ts rest
+event_run : (h : Happening) (ts rest : List Terminal) → IsHappening h ts rest → 0 < looseness (symbol_at rest) → Does task.Event ts rest (grow (happening h))
 event_run (Edge e at name) ts rest w l = token (edge_symbol e) (edge_rule e) (w.1.0, w.1.1, w.1.2.0) (name_run name w.0 rest w.2 ▸ nothing rest)
 event_run (Change name) ts rest w l = token symbol.Name refl (w.0, w.1, w.2.0) (stay (no_select (symbol_at rest) l) (nothing rest) ▸ nothing rest)
 event_run (ChangeBit name index) ts rest w l = token symbol.Name refl (w.1.0, w.1.1, w.1.2.0) (bit w.0 rest index (expression_runs index) w.2 ▸ nothing rest)
@@ -159,11 +161,11 @@ events_loose (e ∷ es) ts mid rest w c = between w.1
     between (inl v) = omega (arith, ends symbol.Or ts w.0 refl v)
     between (inr v) = omega (arith, ends symbol.Comma ts w.0 refl v)
 
-events_run : (es : List Happening) (ts mid rest : List Terminal) → AreMoreEvents es ts mid → IsA symbol.CloseParen mid rest → Does task.Events ts mid
-events_run [] ts mid rest w c = subst (λ x. Does task.Events x mid) (sym w) (stay (ap (λ o. rule task.Events o) (head symbol.CloseParen mid rest c)) (nothing mid))
+events_run : (es : List Happening) (ts mid rest : List Terminal) → AreMoreEvents es ts mid → IsA symbol.CloseParen mid rest → Does task.Events ts mid (grow (all_beside happening es))
+events_run [] ts mid rest w c = subst (λ x. Does task.Events x mid same) (sym w) (stay (ap (λ o. rule task.Events o) (head symbol.CloseParen mid rest c)) (nothing mid))
 events_run (e ∷ es) ts mid rest w c =
     let v = w.2 in
-    let more : Runs (task.Event ∷ task.Events ∷ []) w.0 mid =
+    let more : Runs (task.Event ∷ task.Events ∷ []) w.0 mid (grow (all_beside happening (e ∷ es))) =
     event_run e w.0 v.0 v.1 (events_loose es v.0 mid rest v.2 c) ▸ events_run es v.0 mid rest v.2 c ▸ nothing mid in
     elim w.1 [ inl a ↦ token symbol.Or refl a more | inr a ↦ token symbol.Comma refl a more ]
 
@@ -174,7 +176,7 @@ event_list_rule (Change name) ts rest w = ap (λ o. rule task.EventList o) (head
 event_list_rule (ChangeBit name index) ts rest w = ap (λ o. rule task.EventList o) (head symbol.Name ts w.0 (w.1.0, w.1.1, w.1.2.0))
 event_list_rule (ChangePart name msb lsb) ts rest w = ap (λ o. rule task.EventList o) (head symbol.Name ts w.0 (w.1.0, w.1.1, w.1.2.0))
 
-pub sensitivity_run : (s : Sensitivity) (ts rest : List Terminal) → IsSensitivity s ts rest → Does task.Sensitivity ts rest
+pub sensitivity_run : (s : Sensitivity) (ts rest : List Terminal) → IsSensitivity s ts rest → Does task.Sensitivity ts rest (grow (awaited s))
 sensitivity_run Star ts rest w = token symbol.Star refl w (nothing rest)
 sensitivity_run StarInParens ts rest w =
     let v = w.2 in
@@ -226,8 +228,8 @@ opens_close (Some symbol.CloseParen) h = cc
 opens_close None h = refl
 opens_close (Some other) h = refl
 
-argument_run : (v : Option Formula) (ts rest : List Terminal) → IsOptional IsExpression v ts rest → argued (symbol_at rest) ≡ true → Does task.Argument ts rest
-argument_run None ts rest w a = subst (λ x. Does task.Argument x rest) (sym w) (stay (argued_none (symbol_at rest) a) (nothing rest))
+argument_run : (v : Option Formula) (ts rest : List Terminal) → IsOptional IsExpression v ts rest → argued (symbol_at rest) ≡ true → Does task.Argument ts rest (grow (valued v))
+argument_run None ts rest w a = subst (λ x. Does task.Argument x rest same) (sym w) (stay (argued_none (symbol_at rest) a) (nothing rest))
 argument_run (Some f) ts rest w a =
     stay (opens_argument (symbol_at ts) (formula_opens f 11 ts rest w)) (expression_runs f ts rest w (argued_ends (symbol_at rest) a) ▸ nothing rest)
 
@@ -235,17 +237,17 @@ positional_argued : (xs : List Positional) (ts mid rest : List Terminal) → Are
 positional_argued [] ts mid rest w c = ap (λ x. argued (symbol_at x)) w ∙ ap argued (head symbol.CloseParen mid rest c)
 positional_argued (x ∷ xs) ts mid rest w c = ap argued (head symbol.Comma ts w.0 w.1)
 
-positional_run : (xs : List Positional) (ts mid rest : List Terminal) → AreMore IsPositional xs ts mid → IsA symbol.CloseParen mid rest → Does task.Positional ts mid
+positional_run : (xs : List Positional) (ts mid rest : List Terminal) → AreMore IsPositional xs ts mid → IsA symbol.CloseParen mid rest → Does task.Positional ts mid (grow (all_beside positional xs))
 unfolding same_symbol
 positional_run [] ts mid rest w c =
-    subst (λ x. Does task.Positional x mid) (sym w)
-    (left_out task.Positional symbol.Comma (task.Argument ∷ task.Positional ∷ []) mid (λ o. refl) (apart symbol.CloseParen symbol.Comma mid rest refl c))
+    subst (λ x. Does task.Positional x mid same) (sym w)
+    (left_out task.Positional symbol.Comma (task.Argument ∷ task.Positional ∷ []) mid (λ o. refl) (λ d. refl) (apart symbol.CloseParen symbol.Comma mid rest refl c))
 positional_run (x ∷ xs) ts mid rest w c =
     let v = w.2 in
     token symbol.Comma refl w.1 (
     argument_run x.value w.0 v.0 v.1.1 (positional_argued xs v.0 mid rest v.2 c) ▸ positional_run xs v.0 mid rest v.2 c ▸ nothing mid)
 
-named_each : Each IsAssociated task.NamedArgument
+named_each : Each IsAssociated task.NamedArgument associated
 unfolding same_symbol
 named_each a ts rest w c =
     let v = w.2 in
@@ -256,16 +258,16 @@ named_each a ts rest w c =
     ▸ argument_run a.value u.0 z.0 z.1 (ap argued (head symbol.CloseParen z.0 rest z.2)) ▸ expect symbol.CloseParen z.0 rest z.2 ▸ nothing rest)
 
 first_positional : (at : ℕ) (v : Option Formula) (xs : List Positional) (ts mid rest : List Terminal) → IsMoreThanEmpty (record { at = at; value = v } ∷ xs) → IsOptional IsExpression v ts mid
-    → (end : List Terminal) → AreMore IsPositional xs mid end → IsA symbol.CloseParen end rest → Does task.Arguments ts end
+    → (end : List Terminal) → AreMore IsPositional xs mid end → IsA symbol.CloseParen end rest → Does task.Arguments ts end (grow (λ before. all_beside positional xs (valued v before)))
 first_positional at (Some f) xs ts mid rest m w end v c =
     stay (opens_arguments (symbol_at ts) (formula_opens f 11 ts mid w)) (
     expression_runs f ts mid w (argued_ends (symbol_at mid) (positional_argued xs mid end rest v c)) ▸ positional_run xs mid end rest v c ▸ nothing end)
 first_positional at None [] ts mid rest m w end v c = absurd m
 first_positional at None (x ∷ xs) ts mid rest m w end v c =
-    subst (λ y. Does task.Arguments y end) (sym w)
+    subst (λ y. Does task.Arguments y end (grow (all_beside positional (x ∷ xs)))) (sym w)
     (stay (ap (λ o. rule task.Arguments o) (head symbol.Comma mid v.0 v.1)) (positional_run (x ∷ xs) mid end rest v c ▸ nothing end))
 
-arguments_run : (a : Association) (ts mid rest : List Terminal) → AreArguments a ts mid → IsA symbol.CloseParen mid rest → Does task.Arguments ts mid
+arguments_run : (a : Association) (ts mid rest : List Terminal) → AreArguments a ts mid → IsA symbol.CloseParen mid rest → Does task.Arguments ts mid (grow (arguments a))
 unfolding same_symbol
 arguments_run (ByPosition []) ts mid rest w c = absurd w.0
 arguments_run (ByPosition (x ∷ xs)) ts mid rest w c =
@@ -275,7 +277,7 @@ arguments_run (ByName []) ts mid rest w c = absurd w
 arguments_run (ByName (x ∷ xs)) ts mid rest w c =
     let dot = w.1.1 in
     stay (ap (λ o. rule task.Arguments o) (head symbol.Dot ts w.1.0 (dot.0, dot.1, dot.2.0))) (
-    listed_run IsAssociated task.NamedArgument task.Associated (λ o. refl) named_each (x ∷ xs) ts mid w
+    listed_run IsAssociated task.NamedArgument task.Associated associated ((λ o. refl), (λ d. refl)) named_each (x ∷ xs) ts mid w
     (closes_by symbol.CloseParen mid rest refl c) (apart symbol.CloseParen symbol.Comma mid rest refl c))
 
 first_close : (at : ℕ) (v : Option Formula) (xs : List Positional) (ts mid end : List Terminal) → IsMoreThanEmpty (record { at = at; value = v } ∷ xs) → IsOptional IsExpression v ts mid → AreMore IsPositional xs mid end
@@ -296,18 +298,18 @@ arguments_close (ByName (x ∷ xs)) ts mid w =
     let dot = w.1.1 in
     apart symbol.Dot symbol.CloseParen ts w.1.0 refl (dot.0, dot.1, dot.2.0)
 
-connected : (a : Association) (ts mid rest : List Terminal) → AreArguments a ts mid → IsA symbol.CloseParen mid rest → Does task.Connections ts mid
+connected : (a : Association) (ts mid rest : List Terminal) → AreArguments a ts mid → IsA symbol.CloseParen mid rest → Does task.Connections ts mid (grow (arguments a))
 connected a ts mid rest w c =
     stay (ap (λ b. if b then go taking.Nothing [] else go taking.Nothing (task.Arguments ∷ [])) (arguments_close a ts mid w)) (arguments_run a ts mid rest w c ▸ nothing mid)
 
-connections_run : (a : Association) (ts mid rest : List Terminal) → AreConnections a ts mid → IsA symbol.CloseParen mid rest → Does task.Connections ts mid
+connections_run : (a : Association) (ts mid rest : List Terminal) → AreConnections a ts mid → IsA symbol.CloseParen mid rest → Does task.Connections ts mid (grow (arguments a))
 unfolding same_symbol
 connections_run (ByPosition []) ts mid rest w c =
-    subst (λ x. Does task.Connections x mid) (sym w) (stay (ap (λ o. rule task.Connections o) (head symbol.CloseParen mid rest c)) (nothing mid))
+    subst (λ x. Does task.Connections x mid same) (sym w) (stay (ap (λ o. rule task.Connections o) (head symbol.CloseParen mid rest c)) (nothing mid))
 connections_run (ByPosition (x ∷ xs)) ts mid rest w c = connected (ByPosition (x ∷ xs)) ts mid rest w c
 connections_run (ByName xs) ts mid rest w c = connected (ByName xs) ts mid rest w c
 
-pub placement_each : Each IsPlacement task.Instance
+pub placement_each : Each IsPlacement task.Instance placed
 unfolding same_symbol
 placement_each p ts rest w c =
     let v = w.2 in
@@ -315,7 +317,7 @@ placement_each p ts rest w c =
     token symbol.Name refl (w.1.0, w.1.1, w.1.2.0) (
     expect symbol.OpenParen w.0 v.0 v.1 ▸ connections_run p.connections v.0 u.0 rest u.1 u.2 ▸ expect symbol.CloseParen u.0 rest u.2 ▸ nothing rest)
 
-set_run : (a : Association) (ts rest : List Terminal) → (IsA symbol.Hash ⨾ IsA symbol.OpenParen ⨾ AreArguments a ⨾ IsA symbol.CloseParen) ts rest → Does task.Overrides ts rest
+set_run : (a : Association) (ts rest : List Terminal) → (IsA symbol.Hash ⨾ IsA symbol.OpenParen ⨾ AreArguments a ⨾ IsA symbol.CloseParen) ts rest → Does task.Overrides ts rest (grow (arguments a))
 unfolding same_symbol
 set_run a ts rest w =
     let v = w.2 in
@@ -323,10 +325,10 @@ set_run a ts rest w =
     token symbol.Hash refl w.1 (
     expect symbol.OpenParen w.0 v.0 v.1 ▸ arguments_run a v.0 u.0 rest u.1 u.2 ▸ expect symbol.CloseParen u.0 rest u.2 ▸ nothing rest)
 
-pub overrides_run : (a : Association) (ts mid rest : List Terminal) → AreOverrides a ts mid → IsA symbol.Name mid rest → Does task.Overrides ts mid
+pub overrides_run : (a : Association) (ts mid rest : List Terminal) → AreOverrides a ts mid → IsA symbol.Name mid rest → Does task.Overrides ts mid (grow (arguments a))
 unfolding same_symbol
 overrides_run (ByPosition []) ts mid rest w n =
-    subst (λ x. Does task.Overrides x mid) (sym w)
-    (left_out task.Overrides symbol.Hash (task.Expect symbol.OpenParen ∷ task.Arguments ∷ task.Expect symbol.CloseParen ∷ []) mid (λ o. refl) (apart symbol.Name symbol.Hash mid rest refl n))
+    subst (λ x. Does task.Overrides x mid same) (sym w)
+    (left_out task.Overrides symbol.Hash (task.Expect symbol.OpenParen ∷ task.Arguments ∷ task.Expect symbol.CloseParen ∷ []) mid (λ o. refl) (λ d. refl) (apart symbol.Name symbol.Hash mid rest refl n))
 overrides_run (ByPosition (x ∷ xs)) ts mid rest w n = set_run (ByPosition (x ∷ xs)) ts mid w
 overrides_run (ByName xs) ts mid rest w n = set_run (ByName xs) ts mid w

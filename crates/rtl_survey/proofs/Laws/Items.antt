@@ -22,7 +22,9 @@ use Rattle.rtl_survey.specs.declared.task.Taking.TheVariants as taking
 use Rattle.rtl_survey.specs.Table.{go, is_next, same_symbol, looseness}
 use Rattle.rtl_survey.specs.Rule.{rule}
 use Rattle.rtl_survey.specs.Machine.{symbol_at}
-use Rattle.rtl_survey.proofs.Laws.Steps.{Runs, Does, ◌▸◌, ◌▹◌, nothing, stay, token, node}
+use Rattle.rtl_survey.specs.Depths.{Nest, Depths, counted}
+use Rattle.rtl_survey.proofs.Laws.Counts.{Runs, Does, ◌▸◌, ◌▹◌, same, grow, told, nothing, stay, token, node}
+use Rattle.rtl_survey.proofs.Laws.Nests.{beside, skip, all_beside, bounded, net, valuation, drive, placed, in_item, headed, heading, head_parameter, head_port, in_header, in_circuit}
 use Rattle.rtl_survey.proofs.Laws.Expressions.{head, expect, Not, apart, left_out}
 use Rattle.rtl_survey.proofs.Laws.Starts.{Closes, closes_by}
 use Rattle.rtl_survey.proofs.Laws.Lists.{Each, Many, listed_run, more_run, marked_run, delay_run}
@@ -32,11 +34,11 @@ use Rattle.rtl_survey.proofs.Laws.Declarations.{name_each, name_run, declares, r
 -- ---- lists that end with a mark
 
 -- a list up to its semicolon
-ended : {A : Type 0} (p : A → Spelling) (one many : Task) → Many one many → Each p one → (xs : List A) (ts rest : List Terminal) → (AreListed p xs ⨾ IsA symbol.Semicolon) ts rest
-    → Runs (one ∷ many ∷ task.Expect symbol.Semicolon ∷ []) ts rest
+ended : {A : Type 0} (p : A → Spelling) (one many : Task) (g : A → Nest → Nest) → Many one many → Each p one g → (xs : List A) (ts rest : List Terminal) → (AreListed p xs ⨾ IsA symbol.Semicolon) ts rest
+    → Runs (one ∷ many ∷ task.Expect symbol.Semicolon ∷ []) ts rest (grow (all_beside g xs))
 unfolding same_symbol
-ended p one many m each xs ts rest w =
-    listed_run p one many m each xs ts w.0 w.1 (closes_by symbol.Semicolon w.0 rest refl w.2) (apart symbol.Semicolon symbol.Comma w.0 rest refl w.2)
+ended p one many g m each xs ts rest w =
+    listed_run p one many g m each xs ts w.0 w.1 (closes_by symbol.Semicolon w.0 rest refl w.2) (apart symbol.Semicolon symbol.Comma w.0 rest refl w.2)
     ▹ expect symbol.Semicolon w.0 rest w.2 ▸ nothing rest
 
 -- ---- what stands before names
@@ -54,14 +56,15 @@ port_list_rule direction.Input = refl
 port_list_rule direction.Output = refl
 
 -- what follows a direction
-head_run : (t : Task) (tasks : List Task) (h : Head) (ts mid rest end : List Terminal) → ((d : Direction) → rule t (Some (direction_symbol d)) ≡ go taking.Token (task.PortKind ∷ task.Sign ∷ task.Range ∷ tasks))
-    → IsHead h ts mid → IsA symbol.Name mid rest → Runs tasks mid end → Does t ts end
-head_run t tasks h ts mid rest end r w n v =
+head_run : (t : Task) (tasks : List Task) (h : Head) (ts mid rest end : List Terminal) (f : Depths → Depths) → ((d : Depths) → counted t d ≡ d) → ((d : Direction) → rule t (Some (direction_symbol d)) ≡ go taking.Token (task.PortKind ∷ task.Sign ∷ task.Range ∷ tasks))
+    → IsHead h ts mid → IsA symbol.Name mid rest → Runs tasks mid end f → Does t ts end (λ d. f (grow (bounded h.bounds) d))
+head_run t tasks h ts mid rest end f k r w n v =
     let w2 = w.2 in
     let w3 = w2.2 in
     let b = range_begins h.bounds w3.0 mid rest w3.2 n in
-    token (direction_symbol h.direction) (r h.direction) (w.1.0, w.1.1, w.1.2.0) (
-    kind_run h.kind w.0 w2.0 w2.1 (sign_begins h.signed w2.0 w3.0 w3.1 b) ▸ sign_run h.signed w2.0 w3.0 w3.1 b ▸ range_run h.bounds w3.0 mid rest w3.2 n ▸ v)
+    told (λ d. f (grow (bounded h.bounds) (counted t d))) (λ d. f (grow (bounded h.bounds) d)) (λ d. ap (λ z. f (grow (bounded h.bounds) z)) (k d))
+    (token (direction_symbol h.direction) (r h.direction) (w.1.0, w.1.1, w.1.2.0) (
+    kind_run h.kind w.0 w2.0 w2.1 (sign_begins h.signed w2.0 w3.0 w3.1 b) ▸ sign_run h.signed w2.0 w3.0 w3.1 b ▸ range_run h.bounds w3.0 mid rest w3.2 n ▸ v))
 
 -- ---- items
 
@@ -88,12 +91,12 @@ drives_delay (d ∷ ds) ts rest w =
     let v = w.1 in
     target_delay d.target ts v.0 v.1
 
-item_run : (i : ModuleItem) (ts rest : List Terminal) → IsItem i ts rest → Not symbol.Else rest → Does task.Item ts rest
+item_run : (i : ModuleItem) (ts rest : List Terminal) → IsItem i ts rest → Not symbol.Else rest → Does task.Item ts rest (grow (in_item i))
 unfolding same_symbol
 item_run (Ports h names) ts rest w e =
     let v = w.2 in
     let n = first_name IsName names w.0 v.0 (λ x ts' rest' y. (rest', (y.0, y.1, y.2.0))) v.1 in
-    head_run task.Item (task.Name ∷ task.Names ∷ task.Expect symbol.Semicolon ∷ []) h ts w.0 n.0 rest direction_rule w.1 n.1 (ended IsName task.Name task.Names (λ o. refl) name_each names w.0 rest w.2)
+    head_run task.Item (task.Name ∷ task.Names ∷ task.Expect symbol.Semicolon ∷ []) h ts w.0 n.0 rest (grow (all_beside skip names)) (λ d. refl) direction_rule w.1 n.1 (ended IsName task.Name task.Names skip ((λ o. refl), (λ d. refl)) name_each names w.0 rest w.2)
 item_run (Nets at signed bounds nets) ts rest w e =
     let w2 = w.2 in
     let w3 = w2.2 in
@@ -101,7 +104,7 @@ item_run (Nets at signed bounds nets) ts rest w e =
     let n = first_name IsNet nets w3.0 v.0 (λ x ts' rest' y. (y.0, (y.1.0, y.1.1, y.1.2.0))) v.1 in
     token symbol.Wire refl (w.1.0, w.1.1, w.1.2.0) (
     sign_run signed w.0 w2.0 w2.1 (range_begins bounds w2.0 w3.0 n.0 w3.1 n.1) ▸ range_run bounds w2.0 w3.0 n.0 w3.1 n.1
-    ▸ ended IsNet task.Net task.Nets (λ o. refl) net_each nets w3.0 rest w3.2)
+    ▸ ended IsNet task.Net task.Nets net ((λ o. refl), (λ d. refl)) net_each nets w3.0 rest w3.2)
 item_run (Variables at signed bounds variables) ts rest w e =
     let w2 = w.2 in
     let w3 = w2.2 in
@@ -109,20 +112,20 @@ item_run (Variables at signed bounds variables) ts rest w e =
     let n = first_name IsVariable variables w3.0 v.0 (λ x ts' rest' y. (y.0, (y.1.0, y.1.1, y.1.2.0))) v.1 in
     token symbol.Reg refl (w.1.0, w.1.1, w.1.2.0) (
     sign_run signed w.0 w2.0 w2.1 (range_begins bounds w2.0 w3.0 n.0 w3.1 n.1) ▸ range_run bounds w2.0 w3.0 n.0 w3.1 n.1
-    ▸ ended IsVariable task.Variable task.Variables (λ o. refl) variable_each variables w3.0 rest w3.2)
+    ▸ ended IsVariable task.Variable task.Variables skip ((λ o. refl), (λ d. refl)) variable_each variables w3.0 rest w3.2)
 item_run (Integers at names) ts rest w e =
-    token symbol.Integer refl (w.1.0, w.1.1, w.1.2.0) (ended IsName task.Name task.Names (λ o. refl) name_each names w.0 rest w.2)
+    token symbol.Integer refl (w.1.0, w.1.1, w.1.2.0) (ended IsName task.Name task.Names skip ((λ o. refl), (λ d. refl)) name_each names w.0 rest w.2)
 item_run (Parameters at k bounds values) ts rest w e =
     let w2 = w.2 in
     let v = w2.2 in
     let n = first_name IsValuation values w2.0 v.0 (λ x ts' rest' y. (y.0, (y.1.0, y.1.1, y.1.2.0))) v.1 in
     token (parameter_symbol k) (parameter_rule k) (w.1.0, w.1.1, w.1.2.0) (
-    range_run bounds w.0 w2.0 n.0 w2.1 n.1 ▸ ended IsValuation task.Setting task.Settings (λ o. refl) setting_each values w2.0 rest w2.2)
+    range_run bounds w.0 w2.0 n.0 w2.1 n.1 ▸ ended IsValuation task.Setting task.Settings valuation ((λ o. refl), (λ d. refl)) setting_each values w2.0 rest w2.2)
 item_run (Drives at pause drives) ts rest w e =
     let w2 = w.2 in
     let v = w2.2 in
     token symbol.Assign refl (w.1.0, w.1.1, w.1.2.0) (
-    delay_run pause w.0 w2.0 w2.1 (drives_delay drives w2.0 v.0 v.1) ▸ ended IsDrive task.Drive task.Drives (λ o. refl) drive_each drives w2.0 rest w2.2)
+    delay_run pause w.0 w2.0 w2.1 (drives_delay drives w2.0 v.0 v.1) ▸ ended IsDrive task.Drive task.Drives drive ((λ o. refl), (λ d. refl)) drive_each drives w2.0 rest w2.2)
 item_run (Always at sensitivity body) ts rest w e =
     let w2 = w.2 in
     let w3 = w2.2 in
@@ -133,7 +136,7 @@ item_run (Instances child parameters placements) ts rest w e =
     let v = w2.2 in
     let n = first_name IsPlacement placements w2.0 v.0 (λ x ts' rest' y. (y.0, (y.1.0, y.1.1, y.1.2.0))) v.1 in
     token symbol.Name refl (w.1.0, w.1.1, w.1.2.0) (
-    overrides_run parameters w.0 w2.0 n.0 w2.1 n.1 ▸ ended IsPlacement task.Instance task.Instances (λ o. refl) placement_each placements w2.0 rest w2.2)
+    overrides_run parameters w.0 w2.0 n.0 w2.1 n.1 ▸ ended IsPlacement task.Instance task.Instances placed ((λ o. refl), (λ d. refl)) placement_each placements w2.0 rest w2.2)
 
 -- an item begins here
 abbrev items_begin : Option Symbol → Bool
@@ -199,28 +202,28 @@ unfolding same_symbol
 items_else [] ts mid rest w e = subst (λ x. Not symbol.Else x) (sym w) (apart symbol.Endmodule symbol.Else mid rest refl e)
 items_else (i ∷ is) ts mid rest w e = begin_else (symbol_at ts) (marked_item_begins i ts w.0 w.1)
 
-items_run : (is : List ModuleItem) (ts mid rest : List Terminal) → AreAll IsMarkedItem is ts mid → IsA symbol.Endmodule mid rest → Does task.Items ts mid
+items_run : (is : List ModuleItem) (ts mid rest : List Terminal) → AreAll IsMarkedItem is ts mid → IsA symbol.Endmodule mid rest → Does task.Items ts mid (grow (all_beside in_item is))
 unfolding same_symbol
-items_run [] ts mid rest w e = subst (λ x. Does task.Items x mid) (sym w) (stay (ap (λ o. rule task.Items o) (head symbol.Endmodule mid rest e)) (nothing mid))
+items_run [] ts mid rest w e = subst (λ x. Does task.Items x mid same) (sym w) (stay (ap (λ o. rule task.Items o) (head symbol.Endmodule mid rest e)) (nothing mid))
 items_run (i ∷ is) ts mid rest w e =
     let m = w.1 in
     let v = m.1 in
     stay (begin_rule (symbol_at ts) (marked_item_begins i ts w.0 w.1)) (
-    marked_run task.Item refl m.0 ts v.0 w.0 v.1 (item_run i v.0 w.0 v.2 (items_else is w.0 mid rest w.2 e)) ▸ items_run is w.0 mid rest w.2 e ▸ nothing mid)
+    marked_run task.Item refl m.0 ts v.0 w.0 v.1 (grow (in_item i)) (λ d. refl) (item_run i v.0 w.0 v.2 (items_else is w.0 mid rest w.2 e)) ▸ items_run is w.0 mid rest w.2 e ▸ nothing mid)
 
 -- ---- heads of modules
 
-parameter_each : (h : Option Heading) (n : Identifier) (f : Formula) (ts rest : List Terminal) → (IsOptional IsHeading h ⨾ IsName n ⨾ IsValue f) ts rest → Closes rest → Does task.HeadParameter ts rest
+parameter_each : (h : Option Heading) (n : Identifier) (f : Formula) (ts rest : List Terminal) → (IsOptional IsHeading h ⨾ IsName n ⨾ IsValue f) ts rest → Closes rest → Does task.HeadParameter ts rest (grow (λ before. beside f (heading h before)))
 parameter_each None n f ts rest w c =
     let v = w.2 in
-    subst (λ x. Does task.HeadParameter x rest) (sym w.1) (stay (ap (λ o. rule task.HeadParameter o) (head symbol.Name w.0 v.0 (v.1.0, v.1.1, v.1.2.0))) (setting_run n f w.0 rest w.2 c ▸ nothing rest))
+    subst (λ x. Does task.HeadParameter x rest (grow (beside f))) (sym w.1) (stay (ap (λ o. rule task.HeadParameter o) (head symbol.Name w.0 v.0 (v.1.0, v.1.1, v.1.2.0))) (setting_run n f w.0 rest w.2 c ▸ nothing rest))
 parameter_each (Some h) n f ts rest w c =
     let u = w.1 in
     let v = w.2 in
     token symbol.Parameter refl (u.1.0, u.1.1, u.1.2.0) (range_run h.bounds u.0 w.0 v.0 u.2 (v.1.0, v.1.1, v.1.2.0) ▸ setting_run n f w.0 rest w.2 c ▸ nothing rest)
 
 first_parameter : (h : Option Heading) (n : Identifier) (f : Formula) (ts rest : List Terminal) → IsThere h → (IsOptional IsHeading h ⨾ IsName n ⨾ IsValue f) ts rest → Closes rest
-    → Does task.FirstParameter ts rest
+    → Does task.FirstParameter ts rest (grow (λ before. beside f (heading h before)))
 unfolding same_symbol
 first_parameter None n f ts rest t w c = absurd t
 first_parameter (Some h) n f ts rest t w c =
@@ -232,11 +235,11 @@ more_parameters_close : (ps : List HeaderParameter) (ts rest : List Terminal) �
 more_parameters_close [] ts rest w c = subst (λ x. Closes x) (sym w) c
 more_parameters_close (p ∷ ps) ts rest w c = closes_by symbol.Comma ts w.0 refl w.1
 
-parameters_run : (ps : List HeaderParameter) (ts mid : List Terminal) → AreParameters ps ts mid → Not symbol.Hash mid → Does task.Parameters ts mid
+parameters_run : (ps : List HeaderParameter) (ts mid : List Terminal) → AreParameters ps ts mid → Not symbol.Hash mid → Does task.Parameters ts mid (grow (all_beside head_parameter ps))
 unfolding same_symbol
 parameters_run [] ts mid w n =
-    subst (λ x. Does task.Parameters x mid) (sym w)
-    (left_out task.Parameters symbol.Hash (task.Expect symbol.OpenParen ∷ task.FirstParameter ∷ task.HeadParameters ∷ task.Expect symbol.CloseParen ∷ []) mid (λ o. refl) n)
+    subst (λ x. Does task.Parameters x mid same) (sym w)
+    (left_out task.Parameters symbol.Hash (task.Expect symbol.OpenParen ∷ task.FirstParameter ∷ task.HeadParameters ∷ task.Expect symbol.CloseParen ∷ []) mid (λ o. refl) (λ d. refl) n)
 parameters_run (p ∷ ps) ts mid x n =
     let w = x.1 in
     let v = w.2 in
@@ -245,16 +248,16 @@ parameters_run (p ∷ ps) ts mid x n =
     let c = closes_by symbol.CloseParen z.0 mid refl z.2 in
     token symbol.Hash refl w.1 (
     expect symbol.OpenParen w.0 v.0 v.1 ▸ first_parameter p.heading p.name p.value v.0 u.0 x.0 u.1 (more_parameters_close ps u.0 z.0 z.1 c)
-    ▸ more_run IsParameter task.HeadParameter task.HeadParameters (λ o. refl) (λ q ts' rest' y d. parameter_each q.heading q.name q.value ts' rest' y d) ps u.0 z.0 z.1 c (apart symbol.CloseParen symbol.Comma z.0 mid refl z.2)
+    ▸ more_run IsParameter task.HeadParameter task.HeadParameters head_parameter ((λ o. refl), (λ d. refl)) (λ q ts' rest' y d. parameter_each q.heading q.name q.value ts' rest' y d) ps u.0 z.0 z.1 c (apart symbol.CloseParen symbol.Comma z.0 mid refl z.2)
     ▸ expect symbol.CloseParen z.0 mid z.2 ▸ nothing mid)
 
-port_run : (h : Option Head) (n : Identifier) (ts rest : List Terminal) → (IsOptional IsHead h ⨾ IsName n) ts rest → Does task.Port ts rest
+port_run : (h : Option Head) (n : Identifier) (ts rest : List Terminal) → (IsOptional IsHead h ⨾ IsName n) ts rest → Does task.Port ts rest (grow (headed h))
 port_run None n ts rest w =
-    subst (λ x. Does task.Port x rest) (sym w.1) (stay (ap (λ o. rule task.Port o) (head symbol.Name w.0 rest (w.2.0, w.2.1, w.2.2.0))) (name_run n w.0 rest w.2 ▸ nothing rest))
+    subst (λ x. Does task.Port x rest same) (sym w.1) (stay (ap (λ o. rule task.Port o) (head symbol.Name w.0 rest (w.2.0, w.2.1, w.2.2.0))) (name_run n w.0 rest w.2 ▸ nothing rest))
 port_run (Some h) n ts rest w =
-    head_run task.Port (task.Name ∷ []) h ts w.0 rest rest port_rule w.1 (w.2.0, w.2.1, w.2.2.0) (name_run n w.0 rest w.2 ▸ nothing rest)
+    head_run task.Port (task.Name ∷ []) h ts w.0 rest rest same (λ d. refl) port_rule w.1 (w.2.0, w.2.1, w.2.2.0) (name_run n w.0 rest w.2 ▸ nothing rest)
 
-port_each : Each IsPort task.Port
+port_each : Each IsPort task.Port head_port
 port_each p ts rest w c = port_run p.head p.name ts rest w
 
 first_port : (h : Option Head) (n : Identifier) (ts rest : List Terminal) → IsThere h → (IsOptional IsHead h ⨾ IsName n) ts rest
@@ -264,10 +267,10 @@ first_port (Some h) n ts rest t w =
     let v = w.1.1 in
     ap (λ o. rule task.PortList o) (head (direction_symbol h.direction) ts w.1.0 (v.0, v.1, v.2.0)) ∙ port_list_rule h.direction
 
-header_run : (h : Header) (ts mid rest : List Terminal) → IsHeader h ts mid → IsA symbol.Semicolon mid rest → Does task.Ports ts mid
+header_run : (h : Header) (ts mid rest : List Terminal) → IsHeader h ts mid → IsA symbol.Semicolon mid rest → Does task.Ports ts mid (grow (in_header h))
 unfolding same_symbol
 header_run Absent ts mid rest w e =
-    subst (λ x. Does task.Ports x mid) (sym w) (left_out task.Ports symbol.OpenParen (task.PortList ∷ []) mid (λ o. refl) (apart symbol.Semicolon symbol.OpenParen mid rest refl e))
+    subst (λ x. Does task.Ports x mid same) (sym w) (left_out task.Ports symbol.OpenParen (task.PortList ∷ []) mid (λ o. refl) (λ d. refl) (apart symbol.Semicolon symbol.OpenParen mid rest refl e))
 header_run Empty ts mid rest w e = token symbol.OpenParen refl w.1 (token symbol.CloseParen refl w.2 (nothing mid) ▸ nothing mid)
 header_run (Declared []) ts mid rest w e = absurd w
 header_run (Declared (p ∷ ps)) ts mid rest x e =
@@ -277,7 +280,7 @@ header_run (Declared (p ∷ ps)) ts mid rest x e =
     token symbol.OpenParen refl w.1 (
     stay (first_port p.head p.name w.0 v.0 x.0 v.1) (
     port_run p.head p.name w.0 v.0 v.1
-    ▸ more_run IsPort task.Port task.HeadPorts (λ o. refl) port_each ps v.0 u.0 u.1 (closes_by symbol.CloseParen u.0 mid refl u.2) (apart symbol.CloseParen symbol.Comma u.0 mid refl u.2)
+    ▸ more_run IsPort task.Port task.HeadPorts head_port ((λ o. refl), (λ d. refl)) port_each ps v.0 u.0 u.1 (closes_by symbol.CloseParen u.0 mid refl u.2) (apart symbol.CloseParen symbol.Comma u.0 mid refl u.2)
     ▸ expect symbol.CloseParen u.0 mid u.2 ▸ nothing mid)
     ▸ nothing mid)
 header_run (Named names) ts mid rest w e =
@@ -285,7 +288,7 @@ header_run (Named names) ts mid rest w e =
     let n = first_name IsName names w.0 v.0 (λ x ts' rest' y. (rest', (y.0, y.1, y.2.0))) v.1 in
     token symbol.OpenParen refl w.1 (
     stay (ap (λ o. rule task.PortList o) (head symbol.Name w.0 n.0 n.1)) (
-    listed_run IsName task.Name task.Names (λ o. refl) name_each names w.0 v.0 v.1 (closes_by symbol.CloseParen v.0 mid refl v.2) (apart symbol.CloseParen symbol.Comma v.0 mid refl v.2)
+    listed_run IsName task.Name task.Names skip ((λ o. refl), (λ d. refl)) name_each names w.0 v.0 v.1 (closes_by symbol.CloseParen v.0 mid refl v.2) (apart symbol.CloseParen symbol.Comma v.0 mid refl v.2)
     ▹ expect symbol.CloseParen v.0 mid v.2 ▸ nothing mid)
     ▸ nothing mid)
 
@@ -299,7 +302,7 @@ header_hash (Named names) ts mid rest w e = apart symbol.OpenParen symbol.Hash t
 
 -- ---- modules
 
-circuit_run : (regions : List Dropped) (c : Circuit) (ts rest : List Terminal) → IsCircuit regions c ts rest → Does task.Module ts rest
+circuit_run : (regions : List Dropped) (c : Circuit) (ts rest : List Terminal) → IsCircuit regions c ts rest → Does task.Module ts rest (grow (in_circuit c))
 circuit_run regions c ts rest x =
     let w = x.2 in
     let w2 = w.2 in
@@ -312,10 +315,10 @@ circuit_run regions c ts rest x =
     name_run c.name w.0 w2.0 w2.1 ▸ parameters_run c.parameters w2.0 w3.0 w3.1 (header_hash c.header w3.0 w4.0 w5.0 w4.1 w5.1) ▸ header_run c.header w3.0 w4.0 w5.0 w4.1 w5.1
     ▸ expect symbol.Semicolon w4.0 w5.0 w5.1 ▸ items_run c.items w5.0 w6.0 rest w6.1 finish ▸ expect symbol.Endmodule w6.0 rest finish ▸ nothing rest)
 
-marked_circuit_run : (regions : List Dropped) (c : Circuit) (ts rest : List Terminal) → IsMarkedCircuit regions c ts rest → Does task.Module ts rest
+marked_circuit_run : (regions : List Dropped) (c : Circuit) (ts rest : List Terminal) → IsMarkedCircuit regions c ts rest → Does task.Module ts rest (grow (in_circuit c))
 marked_circuit_run regions c ts rest w =
     let v = w.1 in
-    marked_run task.Module refl w.0 ts v.0 rest v.1 (circuit_run regions c v.0 rest v.2)
+    marked_run task.Module refl w.0 ts v.0 rest v.1 (grow (in_circuit c)) (λ d. refl) (circuit_run regions c v.0 rest v.2)
 
 -- a module begins with a token
 begun : (marks : List (List Identifier)) (regions : List Dropped) (c : Circuit) (ts mid rest : List Terminal) → AreAttributes marks ts mid → IsCircuit regions c mid rest
@@ -326,8 +329,8 @@ begun [] regions c ts mid rest w x =
 begun (names ∷ others) regions c ts mid rest w x = ap (λ o. rule task.Source o) (head symbol.OpenAttribute ts w.1.0 w.1.1)
 
 -- what modules spell is gone through whole
-pub circuits_run : (regions : List Dropped) (cs : List Circuit) (ts : List Terminal) → AreCircuits regions cs ts [] → Does task.Source ts []
-circuits_run regions [] ts w = subst (λ x. Does task.Source x []) (sym w) (stay refl (nothing []))
+pub circuits_run : (regions : List Dropped) (cs : List Circuit) (ts : List Terminal) → AreCircuits regions cs ts [] → Does task.Source ts [] (grow (all_beside in_circuit cs))
+circuits_run regions [] ts w = subst (λ x. Does task.Source x [] same) (sym w) (stay refl (nothing []))
 circuits_run regions (c ∷ cs) ts w =
     let v = w.1.1 in
     stay (begun w.1.0 regions c ts v.0 w.0 v.1 v.2) (marked_circuit_run regions c ts w.0 w.1 ▸ circuits_run regions cs w.0 w.2 ▸ nothing [])

@@ -8,7 +8,7 @@ use Rattle.rtl_tree.specs.declared.tree.stmt.CaseKind.{CaseKind}
 use Rattle.rtl_tree.specs.declared.tree.stmt.CaseKind.TheVariants as kind
 use Rattle.rtl_tree.specs.Symbols.{Terminal}
 use Rattle.rtl_tree.specs.TreeExpr.{Formula, Identifier}
-use Rattle.rtl_tree.specs.TreeStmt.{Target, Whole, Bit, Part, Joined, Pause, Action, Null, Delayed, Assign, If, IfElse, Case, For, Block, Actions, no_actions, more_actions, Branch, Labelled, Default, Branches, no_branches, more_branches}
+use Rattle.rtl_tree.specs.TreeStmt.{target_place, Target, Whole, Bit, Part, Joined, Pause, Action, Null, Delayed, Assign, If, IfElse, Case, For, Block, Actions, no_actions, more_actions, Branch, Labelled, Default, Branches, no_branches, more_branches}
 use Rattle.rtl_tree.specs.Grammar.{◌⨾◌, IsA, IsName, IsOptional, AreListed}
 use Rattle.rtl_tree.specs.GrammarExpr.{IsExpression}
 use Rattle.rtl_tree.specs.GrammarStmt.{Marked, IsTarget, IsPause, AreAttributes, assignment_symbol, case_symbol, ends_open, defaults, IsLabel, IsDefaultEnd, IsAction, AreStatements, IsBranch, AreBranches, AreMoreBranches, IsStatement}
@@ -18,10 +18,12 @@ use Rattle.rtl_survey.specs.declared.task.Taking.TheVariants as taking
 use Rattle.rtl_survey.specs.Table.{go, is_next, same_symbol, looseness}
 use Rattle.rtl_survey.specs.Rule.{rule}
 use Rattle.rtl_survey.specs.Machine.{symbol_at}
-use Rattle.rtl_survey.proofs.Laws.Steps.{Runs, Does, ◌▸◌, ◌▹◌, nothing, stay, look, token, node}
+use Rattle.rtl_survey.specs.Depths.{Nest, Nothing, Both, Depths, counted, place}
+use Rattle.rtl_survey.proofs.Laws.Counts.{Runs, Does, ◌▸◌, ◌▹◌, same, grow, told, nothing, stay, look, token, node}
+use Rattle.rtl_survey.proofs.Laws.Nests.{beside, all_beside, beside_action, nest_action, nest_actions, nest_branch, nest_branches}
 use Rattle.rtl_survey.proofs.Laws.Expressions.{head, wrap, join, expect, Ends, ends, Not, apart, left_out, expression_runs}
 use Rattle.rtl_survey.proofs.Laws.Starts.{Opens, Begins, opens, begins, opens_by, begins_by, closes_by, closes_ends, formula_opens, opens_delay, opens_first, opens_branches, opens_labelled, opens_else, begins_else, begins_statements, begins_colon, no_else}
-use Rattle.rtl_survey.proofs.Laws.Lists.{listed_run, marked_run, delay_run, ticks_run, target_run}
+use Rattle.rtl_survey.proofs.Laws.Lists.{ended_node, listed_run, marked_run, delay_run, ticks_run, target_run}
 
 -- ---- how statements begin
 
@@ -75,28 +77,28 @@ false_true b e f = cc
 
 -- ---- statements by their forms
 
-finished : (ts : List Terminal) → Runs (task.Wrap ∷ task.Join ∷ []) ts ts
+finished : (ts : List Terminal) → Runs (task.Wrap ∷ task.Join ∷ []) ts ts ended_node
 finished ts = wrap ts ▸ join ts ▸ nothing ts
 
 -- the claim of a statement
 Good : Action → Type 0
-Good a = (marks : List (List Identifier)) (ts rest : List Terminal) → IsAction marks a ts rest → Shut a rest → Does task.Statement ts rest
+Good a = (marks : List (List Identifier)) (ts rest : List Terminal) → IsAction marks a ts rest → Shut a rest → Does task.Statement ts rest (grow (beside_action a))
 
-good_marked : (a : Action) → Good a → (ts rest : List Terminal) → IsStatement a ts rest → Shut a rest → Does task.Statement ts rest
+good_marked : (a : Action) → Good a → (ts rest : List Terminal) → IsStatement a ts rest → Shut a rest → Does task.Statement ts rest (grow (beside_action a))
 unfolding Good
 good_marked a g ts rest w s =
     let v = w.1 in
-    marked_run task.Statement refl w.0 ts v.0 rest v.1 (g w.0 v.0 rest v.2 s)
+    marked_run task.Statement refl w.0 ts v.0 rest v.1 (grow (beside_action a)) (λ d. refl) (g w.0 v.0 rest v.2 s)
 
 good_null : (at : ℕ) → Good (Null at)
 unfolding Good
-good_null at marks ts rest w s = node symbol.Semicolon refl (w.0, w.1, w.2.0) (finished rest)
+good_null at marks ts rest w s = node symbol.Semicolon at refl w (finished rest)
 
 good_delayed : (p : Pause) (body : Action) → Good body → Good (Delayed p body)
 unfolding Good
 good_delayed p body g marks ts rest w s =
     let v = w.1 in
-    node symbol.Hash refl (v.1.0, v.1.1, v.1.2.0) (ticks_run p.span v.0 w.0 v.2 ▸ good_marked body g w.0 rest w.2 s ▸ finished rest)
+    node symbol.Hash p.at refl v.1 (ticks_run p.span v.0 w.0 v.2 ▸ good_marked body g w.0 rest w.2 s ▸ finished rest)
 
 assigner_rule : (k : AssignmentKind) → rule task.Assigner (Some (assignment_symbol k)) ≡ go taking.Token []
 assigner_rule assignment.Blocking = refl
@@ -113,13 +115,19 @@ target_opens (Bit name index) ts rest w = ap (λ o. rule task.Statement o) (head
 target_opens (Part name msb lsb) ts rest w = ap (λ o. rule task.Statement o) (head symbol.Name ts w.0 (w.1.0, w.1.1, w.1.2.0))
 target_opens (Joined at parts) ts rest w = ap (λ o. rule task.Statement o) (head symbol.OpenBrace ts w.0 (w.1.0, w.1.1, w.1.2.0))
 
+target_at : (t : Target) (ts rest : List Terminal) → IsTarget t ts rest → place ts ≡ target_place t
+target_at (Whole name) ts rest w = ap place w.1 ∙ ap (λ (n : Identifier). n.at) w.2.1
+target_at (Bit name index) ts rest w = ap place w.1.1 ∙ ap (λ (n : Identifier). n.at) w.1.2.1
+target_at (Part name msb lsb) ts rest w = ap place w.1.1 ∙ ap (λ (n : Identifier). n.at) w.1.2.1
+target_at (Joined at parts) ts rest w = ap place w.1.1 ∙ w.1.2.1
+
 good_assign : (t : Target) (k : AssignmentKind) (p : Option Pause) (value : Formula) → Good (Assign t k p value)
 unfolding Good
 good_assign t k p value marks ts rest w s =
     let v = w.2 in
     let u = v.2 in
     let z = u.2 in
-    look (target_opens t ts w.0 w.1) (
+    look (target_place t) (target_at t ts w.0 w.1) (target_opens t ts w.0 w.1) (
     target_run t ts w.0 w.1 (subst (λ o. 0 < looseness o) (sym (head (assignment_symbol k) w.0 v.0 v.1)) (assigner_loose k))
     ▸ token (assignment_symbol k) (assigner_rule k) v.1 (nothing v.0)
     ▸ delay_run p v.0 u.0 u.1 (opens_delay (symbol_at u.0) (formula_opens value 11 u.0 z.0 z.1))
@@ -132,7 +140,7 @@ good_if at c a g marks ts rest w s =
     let v = w.2 in
     let u = v.2 in
     let z = u.2 in
-    node symbol.If refl (w.1.0, w.1.1, w.1.2.0) (
+    node symbol.If at refl w.1 (
     expect symbol.OpenParen w.0 v.0 v.1 ▸ expression_runs c v.0 u.0 u.1 (ends symbol.CloseParen u.0 z.0 refl z.1) ▸ expect symbol.CloseParen u.0 z.0 z.1
     ▸ good_marked a g z.0 rest z.2 (shut a rest (s refl)) ▸ stay (no_else (symbol_at rest) (s refl)) (finished rest) ▸ nothing rest)
 
@@ -145,13 +153,13 @@ good_if_else at c a b g h marks ts rest x s =
     let z = u.2 in
     let y = z.2 in
     let q = y.2 in
-    node symbol.If refl (w.1.0, w.1.1, w.1.2.0) (
+    node symbol.If at refl w.1 (
     expect symbol.OpenParen w.0 v.0 v.1 ▸ expression_runs c v.0 u.0 u.1 (ends symbol.CloseParen u.0 z.0 refl z.1) ▸ expect symbol.CloseParen u.0 z.0 z.1
     ▸ good_marked a g z.0 y.0 y.1 (λ e. absurd (false_true (ends_open a) x.0 e))
     ▸ token symbol.Else refl q.1 (good_marked b h q.0 rest q.2 s ▸ finished rest)
     ▸ nothing rest)
 
-name_run : (n : Identifier) (ts rest : List Terminal) → IsName n ts rest → Does task.Name ts rest
+name_run : (n : Identifier) (ts rest : List Terminal) → IsName n ts rest → Does task.Name ts rest same
 unfolding same_symbol
 name_run n ts rest w = token symbol.Name refl (w.0, w.1, w.2.0) (nothing rest)
 
@@ -169,7 +177,7 @@ good_for at i start c j step body g marks ts rest w s =
     let w10 = w9.2 in
     let w11 = w10.2 in
     let w12 = w11.2 in
-    node symbol.For refl (w.1.0, w.1.1, w.1.2.0) (
+    node symbol.For at refl w.1 (
     expect symbol.OpenParen w.0 w2.0 w2.1 ▸ name_run i w2.0 w3.0 w3.1 ▸ expect symbol.Equals w3.0 w4.0 w4.1
     ▸ expression_runs start w4.0 w5.0 w5.1 (ends symbol.Semicolon w5.0 w6.0 refl w6.1) ▸ expect symbol.Semicolon w5.0 w6.0 w6.1
     ▸ expression_runs c w6.0 w7.0 w7.1 (ends symbol.Semicolon w7.0 w8.0 refl w8.1) ▸ expect symbol.Semicolon w7.0 w8.0 w8.1
@@ -180,7 +188,7 @@ good_for at i start c j step body g marks ts rest w s =
 -- ---- blocks
 
 GoodRow : Actions → Type 0
-GoodRow actions = (ts mid rest : List Terminal) → AreStatements actions ts mid → IsA symbol.End mid rest → Does task.Statements ts mid
+GoodRow actions = (ts mid rest : List Terminal) → AreStatements actions ts mid → IsA symbol.End mid rest → Does task.Statements ts mid (grow (nest_actions actions))
 
 -- a statement of a block is followed by another, or by `end`
 row_shut : (actions : Actions) (ts mid rest : List Terminal) → AreStatements actions ts mid → IsA symbol.End mid rest → Not symbol.Else ts
@@ -190,7 +198,7 @@ row_shut (more_actions a others) ts mid rest w e = begins_else (symbol_at ts) (s
 
 row_none : GoodRow no_actions
 unfolding GoodRow same_symbol
-row_none ts mid rest w e = subst (λ x. Does task.Statements x mid) (sym w) (stay (ap (λ o. rule task.Statements o) (head symbol.End mid rest e)) (nothing mid))
+row_none ts mid rest w e = subst (λ x. Does task.Statements x mid same) (sym w) (stay (ap (λ o. rule task.Statements o) (head symbol.End mid rest e)) (nothing mid))
 
 row_more : (a : Action) (others : Actions) → Good a → GoodRow others → GoodRow (more_actions a others)
 unfolding GoodRow
@@ -198,9 +206,9 @@ row_more a others g h ts mid rest w e =
     stay (begins_statements (symbol_at ts) (statement_begins a ts w.0 w.1)) (
     good_marked a g ts w.0 w.1 (shut a w.0 (row_shut others w.0 mid rest w.2 e)) ▸ h w.0 mid rest w.2 e ▸ nothing mid)
 
-label_run : (l : Option Identifier) (ts rest : List Terminal) → IsOptional IsLabel l ts rest → Not symbol.Colon rest → Does task.Label ts rest
+label_run : (l : Option Identifier) (ts rest : List Terminal) → IsOptional IsLabel l ts rest → Not symbol.Colon rest → Does task.Label ts rest same
 unfolding same_symbol
-label_run None ts rest w n = subst (λ x. Does task.Label x rest) (sym w) (left_out task.Label symbol.Colon (task.Name ∷ []) rest (λ o. refl) n)
+label_run None ts rest w n = subst (λ x. Does task.Label x rest same) (sym w) (left_out task.Label symbol.Colon (task.Name ∷ []) rest (λ o. refl) (λ d. refl) n)
 label_run (Some n) ts rest w m = token symbol.Colon refl w.1 (name_run n w.0 rest w.2 ▸ nothing rest)
 
 row_colon : (actions : Actions) (ts mid rest : List Terminal) → AreStatements actions ts mid → IsA symbol.End mid rest → Not symbol.Colon ts
@@ -213,7 +221,7 @@ unfolding Good GoodRow
 good_block at l body g marks ts rest w s =
     let v = w.2 in
     let u = v.2 in
-    node symbol.Begin refl (w.1.0, w.1.1, w.1.2.0) (
+    node symbol.Begin at refl w.1 (
     label_run l w.0 v.0 v.1 (row_colon body v.0 u.0 rest u.1 u.2) ▸ g v.0 u.0 rest u.1 u.2 ▸ expect symbol.End u.0 rest u.2 ▸ finished rest)
 
 -- ---- cases
@@ -231,16 +239,16 @@ branch_shut (more_branches (Default at body) others) ts mid rest w e =
 
 -- the claims of items of a case: before the default, and after it
 record GoodBranches (bs : Branches) : Type 0 where
-  before : (ts mid rest : List Terminal) → AreMoreBranches bs ts mid → defaults bs ≤ 1 → IsA symbol.Endcase mid rest → Does task.Branches ts mid
-  after : (ts mid rest : List Terminal) → AreMoreBranches bs ts mid → defaults bs ≤ 0 → IsA symbol.Endcase mid rest → Does task.Labelled ts mid
-  first : (ts mid rest : List Terminal) → AreBranches bs ts mid → defaults bs ≤ 1 → IsA symbol.Endcase mid rest → Does task.FirstBranch ts mid
+  before : (ts mid rest : List Terminal) → AreMoreBranches bs ts mid → defaults bs ≤ 1 → IsA symbol.Endcase mid rest → Does task.Branches ts mid (grow (nest_branches bs))
+  after : (ts mid rest : List Terminal) → AreMoreBranches bs ts mid → defaults bs ≤ 0 → IsA symbol.Endcase mid rest → Does task.Labelled ts mid (grow (nest_branches bs))
+  first : (ts mid rest : List Terminal) → AreBranches bs ts mid → defaults bs ≤ 1 → IsA symbol.Endcase mid rest → Does task.FirstBranch ts mid (grow (nest_branches bs))
 
 no_more : GoodBranches no_branches
 unfolding same_symbol
 no_more =
     record {
-      before = λ ts mid rest w d e. subst (λ x. Does task.Branches x mid) (sym w) (stay (ap (λ o. rule task.Branches o) (head symbol.Endcase mid rest e)) (nothing mid));
-      after = λ ts mid rest w d e. subst (λ x. Does task.Labelled x mid) (sym w) (stay (ap (λ o. rule task.Labelled o) (head symbol.Endcase mid rest e)) (nothing mid));
+      before = λ ts mid rest w d e. subst (λ x. Does task.Branches x mid same) (sym w) (stay (ap (λ o. rule task.Branches o) (head symbol.Endcase mid rest e)) (nothing mid));
+      after = λ ts mid rest w d e. subst (λ x. Does task.Labelled x mid same) (sym w) (stay (ap (λ o. rule task.Labelled o) (head symbol.Endcase mid rest e)) (nothing mid));
       first = λ ts mid rest w d e. absurd w;
     }
 
@@ -249,31 +257,32 @@ labels_opens [] ts rest w = absurd w
 labels_opens (f ∷ fs) ts rest w = formula_opens f 11 ts w.0 w.1
 
 labelled_part : (fs : List Formula) (body : Action) (others : Branches) (t : Task) → Good body
-    → ((ts mid rest : List Terminal) → AreMoreBranches others ts mid → IsA symbol.Endcase mid rest → Does t ts mid)
+    → ((ts mid rest : List Terminal) → AreMoreBranches others ts mid → IsA symbol.Endcase mid rest → Does t ts mid (grow (nest_branches others)))
     → (ts mid rest : List Terminal) → (IsBranch (Labelled fs body) ⨾ AreMoreBranches others) ts mid → IsA symbol.Endcase mid rest
-    → Runs (task.Expression ∷ task.Expressions ∷ task.Expect symbol.Colon ∷ task.Statement ∷ t ∷ []) ts mid
+    → Runs (task.Expression ∷ task.Expressions ∷ task.Expect symbol.Colon ∷ task.Statement ∷ t ∷ []) ts mid (grow (nest_branches (more_branches (Labelled fs body) others)))
 unfolding same_symbol
 labelled_part fs body others t g h ts mid rest w e =
     let v = w.1 in
     let u = v.2 in
-    listed_run IsExpression task.Expression task.Expressions (λ o. refl) (λ f ts' rest' x c. expression_runs f ts' rest' x (closes_ends (symbol_at rest') c)) fs ts v.0 v.1
+    listed_run IsExpression task.Expression task.Expressions beside ((λ o. refl), (λ d. refl)) (λ f ts' rest' x c. expression_runs f ts' rest' x (closes_ends (symbol_at rest') c)) fs ts v.0 v.1
     (closes_by symbol.Colon v.0 u.0 refl u.1) (apart symbol.Colon symbol.Comma v.0 u.0 refl u.1)
     ▹ expect symbol.Colon v.0 u.0 u.1 ▸ good_marked body g u.0 w.0 u.2 (shut body w.0 (branch_shut others w.0 mid rest w.2 e)) ▸ h w.0 mid rest w.2 e ▸ nothing mid
 
-colon_run : (ts rest : List Terminal) → IsDefaultEnd ts rest → Not symbol.Colon rest → Does task.DefaultColon ts rest
+colon_run : (ts rest : List Terminal) → IsDefaultEnd ts rest → Not symbol.Colon rest → Does task.DefaultColon ts rest same
 unfolding same_symbol
-colon_run ts rest (inl w) n = subst (λ x. Does task.DefaultColon x rest) (sym w) (left_out task.DefaultColon symbol.Colon [] rest (λ o. refl) n)
+colon_run ts rest (inl w) n = subst (λ x. Does task.DefaultColon x rest same) (sym w) (left_out task.DefaultColon symbol.Colon [] rest (λ o. refl) (λ d. refl) n)
 colon_run ts rest (inr w) n = token symbol.Colon refl w (nothing rest)
 
-default_part : (at : ℕ) (body : Action) (others : Branches) → Good body → GoodBranches others → (t : Task)
+default_part : (at : ℕ) (body : Action) (others : Branches) → Good body → GoodBranches others → (t : Task) → ((d : Depths) → counted t d ≡ d)
     → rule t (Some symbol.Default) ≡ go taking.Token (task.DefaultColon ∷ task.Statement ∷ task.Labelled ∷ []) → (ts mid rest : List Terminal)
-    → (IsBranch (Default at body) ⨾ AreMoreBranches others) ts mid → defaults others ≤ 0 → IsA symbol.Endcase mid rest → Does t ts mid
-default_part at body others g h t r ts mid rest w d e =
+    → (IsBranch (Default at body) ⨾ AreMoreBranches others) ts mid → defaults others ≤ 0 → IsA symbol.Endcase mid rest → Does t ts mid (grow (nest_branches (more_branches (Default at body) others)))
+default_part at body others g h t k r ts mid rest w d e =
     let v = w.1 in
     let u = v.2 in
-    token symbol.Default r (v.1.0, v.1.1, v.1.2.0) (
+    told (λ x. grow (nest_branches others) (grow (beside_action body) (counted t x))) (grow (nest_branches (more_branches (Default at body) others))) (λ x. ap (λ z. grow (nest_branches others) (grow (beside_action body) z)) (k x))
+    (token symbol.Default r (v.1.0, v.1.1, v.1.2.0) (
     colon_run v.0 u.0 u.1 (begins_colon (symbol_at u.0) (statement_begins body u.0 w.0 u.2))
-    ▸ good_marked body g u.0 w.0 u.2 (shut body w.0 (branch_shut others w.0 mid rest w.2 e)) ▸ h.after w.0 mid rest w.2 d e ▸ nothing mid)
+    ▸ good_marked body g u.0 w.0 u.2 (shut body w.0 (branch_shut others w.0 mid rest w.2 e)) ▸ h.after w.0 mid rest w.2 d e ▸ nothing mid))
 
 more_labelled : (fs : List Formula) (body : Action) (others : Branches) → Good body → GoodBranches others → GoodBranches (more_branches (Labelled fs body) others)
 more_labelled fs body others g h =
@@ -292,9 +301,9 @@ more_labelled fs body others g h =
 more_default : (at : ℕ) (body : Action) (others : Branches) → Good body → GoodBranches others → GoodBranches (more_branches (Default at body) others)
 more_default at body others g h =
     record {
-      before = λ ts mid rest w d e. default_part at body others g h task.Branches refl ts mid rest w (omega (arith, d)) e;
+      before = λ ts mid rest w d e. default_part at body others g h task.Branches (λ d. refl) refl ts mid rest w (omega (arith, d)) e;
       after = λ ts mid rest w d e. absurd (omega (arith, d));
-      first = λ ts mid rest w d e. default_part at body others g h task.FirstBranch refl ts mid rest w (omega (arith, d)) e;
+      first = λ ts mid rest w d e. default_part at body others g h task.FirstBranch (λ d. refl) refl ts mid rest w (omega (arith, d)) e;
     }
 
 case_rule : (k : CaseKind) → rule task.Statement (Some (case_symbol k))
@@ -312,7 +321,7 @@ good_case at k full parallel selector bs g marks ts rest x s =
     let z = u.2 in
     let y = z.2 in
     let closing : IsA symbol.CloseParen u.0 z.0 = (z.1.0, z.1.1, z.1.2.0) in
-    node (case_symbol k) (case_rule k) (w.1.0, w.1.1, w.1.2.0) (
+    node (case_symbol k) at (case_rule k) w.1 (
     expect symbol.OpenParen w.0 v.0 v.1 ▸ expression_runs selector v.0 u.0 u.1 (ends symbol.CloseParen u.0 z.0 refl closing) ▸ expect symbol.CloseParen u.0 z.0 closing
     ▸ g.first z.0 y.0 rest y.1 x.4 y.2 ▸ expect symbol.Endcase y.0 rest y.2 ▸ finished rest)
 
@@ -341,5 +350,5 @@ mutual
   one_branch (Labelled labels body) others h = more_labelled labels body others (all body) h
   one_branch (Default at body) others h = more_default at body others (all body) h
 
-pub statement_runs : (a : Action) (ts rest : List Terminal) → IsStatement a ts rest → Not symbol.Else rest → Does task.Statement ts rest
+pub statement_runs : (a : Action) (ts rest : List Terminal) → IsStatement a ts rest → Not symbol.Else rest → Does task.Statement ts rest (grow (beside_action a))
 statement_runs a ts rest w n = good_marked a (all a) ts rest w (shut a rest n)

@@ -5,10 +5,14 @@ use Rattle.rtl_tree.specs.Symbols.{Terminal}
 use Rattle.rtl_tree.specs.TreeModule.{Circuit}
 use Rattle.rtl_tree.specs.GrammarModule.{AreSpelled}
 use Rattle.rtl_survey.specs.declared.task.Task.{Task}
+use Rattle.rtl_survey.specs.declared.task.Task.TheVariants as task
 use Rattle.rtl_survey.specs.Rule.{rule}
 use Rattle.rtl_survey.specs.Machine.{State, at, symbol_at, moved, next, Leads}
 use Rattle.rtl_survey.specs.Surveys.{IsDead, start}
+use Rattle.rtl_survey.specs.Depths.{none_read, reading}
 use Rattle.rtl_survey.proofs.Laws.Steps.{one_end}
+use Rattle.rtl_survey.proofs.Laws.Nests.{all_beside, in_circuit}
+use Rattle.rtl_survey.proofs.Laws.Counts.{grow, leads}
 use Rattle.rtl_survey.proofs.Laws.Ahead.{ahead}
 use Rattle.rtl_survey.proofs.Laws.Items.{circuits_run}
 use Rattle.std.proofs.lemmas.List.{length-append, take-append-drop}
@@ -41,7 +45,7 @@ end_none = refl
 dead_after : (u r : List Terminal) (tasks : List Task) → ((other : List Terminal) → symbol_at r ≡ symbol_at other → Leads (start (u ++ other)) (at tasks other)) → next tasks r ≡ None → (tasks ≡ [] → r ≡ [] → ⊥)
     → (v : List Terminal) → symbol_at v ≡ symbol_at r → (regions : List Dropped) (cs : List Circuit) → AreSpelled regions (u ++ v) cs → ⊥
 dead_after u r tasks f h open' v e regions cs s =
-    let run = (circuits_run regions cs (u ++ v) s.spelled).runs [] in
+    let run = leads (reading (task.Source ∷ []) (u ++ v) none_read) (reading [] [] (grow (all_beside in_circuit cs) none_read)) ((circuits_run regions cs (u ++ v) s.spelled).runs [] none_read) in
     let same = one_end (start (u ++ v)) (at tasks v) (at [] []) (f v (sym e)) (none_same tasks r v (sym e) h) run end_none in
     open' (ap (λ (z : State). z.tasks) same) (nothing_next r (sym e ∙ ap (λ (z : State). symbol_at z.rest) same))
 
