@@ -1,0 +1,21 @@
+// Builds the trees of a text that is known to be spelled.
+#![tactic(auto)]
+
+mod attributes;
+mod cursor;
+mod declarations;
+mod expression;
+mod fault;
+mod instances;
+mod modules;
+mod operators;
+mod processes;
+mod reference;
+mod statements;
+mod targets;
+#[cfg(test)]
+mod tests;
+mod whole;
+
+pub use fault::BuildFault;
+pub use whole::{build, spelled_once};
