@@ -5,15 +5,12 @@ use Rattle.rtl_bits.specs.Bits.{is_one_at}
 use Rattle.rtl_bits.specs.Digits.{one_at-zero}
 use Rattle.rtl_flat.specs.Expression.{Tree}
 use Rattle.rtl_flat.specs.Flows.{reads, reads_all}
-use Rattle.std.proofs.Common.{ℕ, ◌≡◌, ◌∙◌, Bool, true, false, ◌||◌, List, [], ◌∷◌, ◌++◌, refl, ap, sym}
+use Rattle.std.proofs.Common.{ℕ, ◌≡◌, ◌∙◌, false, ◌||◌, List, [], ◌∷◌, ◌++◌, refl, ap, sym}
 use Rattle.rtl_flat.specs.Paths.{BitSet, no_bit, either}
 use Rattle.rtl_scan.specs.declared.bits.Row.{Row}
 use Rattle.rtl_scan.specs.Sets.{has_row, has_rows, Adds}
+use Rattle.rtl_scan.proofs.Bools.{or_assoc}
 use Rattle.rtl_scan.proofs.Masks.{has_rows_push, or_nothing}
-
-pub or_assoc : (a b c : Bool) → ((a || b) || c) ≡ (a || (b || c))
-or_assoc true b c = refl
-or_assoc false b c = refl
 
 pub adds_none : (rows : List Row) → Adds no_bit rows rows
 adds_none rows = record { at = λ s k. or_nothing (has_rows rows s k) }

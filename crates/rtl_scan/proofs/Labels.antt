@@ -6,7 +6,8 @@ use Rattle.rtl_flat.specs.Flows.{reads_all, labels_of}
 use Rattle.rtl_scan.specs.declared.bits.Row.{Row}
 use Rattle.rtl_scan.specs.Sets.{has_rows, Adds}
 use Rattle.rtl_scan.specs.Bodies.{branches_of}
-use Rattle.rtl_scan.proofs.Adding.{reads_all_append, or_assoc}
+use Rattle.rtl_scan.proofs.Adding.{reads_all_append}
+use Rattle.rtl_scan.proofs.Bools.{or_assoc}
 
 -- what is left from one element on
 pub left_at : {A : Type 0} (xs : List A) (i : ℕ) (x : A) → i < length xs → x ≡ get_or xs i x → drop i xs ≡ x ∷ drop (i + 1) xs

@@ -1,3 +1,4 @@
+pub mod Bools
 pub mod Masks
 pub mod Places
 pub mod Adding
@@ -11,3 +12,8 @@ pub mod Statements
 pub mod Rows
 pub mod Processes
 pub mod Chains
+pub mod Searches
+pub mod Users
+pub mod Advances
+pub mod Tables
+pub mod Feeding

@@ -11,6 +11,7 @@ use Rattle.std.proofs.lemmas.Bool.{cases_Bool, cases_lt, eqb-true, lt-ltb, le-lt
 use Rattle.rtl_bits.specs.Bits.{is_one_at}
 use Rattle.rtl_bits.specs.Digits.{one_at_and, one_at_or, one_at_xor, one_at-zero, differ}
 use Rattle.rtl_scan.specs.declared.bits.Row.{Row}
+use Rattle.rtl_scan.proofs.Bools.{or_assoc}
 use Rattle.rtl_scan.specs.Sets.{put, has, has_row, has_rows}
 
 and_differ : (a b : Bool) → (a && differ a b) ≡ (a && not b)
@@ -65,11 +66,7 @@ row_inside row f m was s k =
 pub has_rows_push : (rows : List Row) (row : Row) (s k : ℕ) → has_rows (rows ++ row ∷ []) s k ≡ (has_rows rows s k || has_row row s k)
 has_rows_push [] row s k = sym (or_nothing (has_row row s k))
 has_rows_push (x ∷ rows) row s k =
-    ap (λ b. has_row x s k || b) (has_rows_push rows row s k) ∙ or_assoc (has_row x s k) (has_rows rows s k) (has_row row s k)
-  where
-    or_assoc : (a b c : Bool) → (a || (b || c)) ≡ ((a || b) || c)
-    or_assoc true b c = refl
-    or_assoc false b c = refl
+    ap (λ b. has_row x s k || b) (has_rows_push rows row s k) ∙ sym (or_assoc (has_row x s k) (has_rows rows s k) (has_row row s k))
 
 -- a map without entries has no bit
 pub has_none : (masks : BTreeMap ℕ ℕ) → masks.entries ≡ [] → (s k : ℕ) → has masks s k ≡ false

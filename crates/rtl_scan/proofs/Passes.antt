@@ -1,7 +1,7 @@
 -- Parts of a pass that follow one another.
 use Rattle.std.proofs.Common.{ℕ, ◌≡◌, ◌∙◌, Bool, true, false, not, ◌&&◌, ◌||◌, List, [], Some, refl, sym, ap}
 use Rattle.rtl_flat.specs.Process.{Action, Actions, Then, Branches, NoBranch, Branch}
-use Rattle.rtl_flat.specs.Paths.{BitSet, either, Step, Read, Write, reads_bit, may_write_bit, Flow, End, Do, Fork, Ways, Last, More, some, every, first, some_way, every_way, first_way}
+use Rattle.rtl_flat.specs.Paths.{BitSet, either, Step, Read, Write, reads_bit, may_write_bit, may_write_late, Flow, End, Do, Fork, Ways, Last, More, some, every, first, some_way, every_way, first_way}
 use Rattle.rtl_flat.specs.Flows.{action_then, actions_then, body_flow, ways}
 use Rattle.rtl_flat.proofs.Flows.{some_action, every_action, first_action}
 use Rattle.rtl_scan.specs.declared.bits.Row.{Row}
@@ -10,6 +10,7 @@ use Rattle.rtl_scan.specs.declared.scan.Counted.TheVariants.{Nothing, Blocking, 
 use Rattle.rtl_scan.specs.declared.scan.Sets.{Sets}
 use Rattle.rtl_scan.specs.Sets.{has, has_rows, Adds}
 use Rattle.rtl_scan.specs.Counting.{counts, counts_as_sure}
+use Rattle.rtl_scan.proofs.Bools.{or_assoc}
 use Rattle.rtl_scan.specs.Scan.{Scanned, WayScanned, AlsoScanned, FlowScanned, WaysScanned, FlowAlso, ItemsAlso, Reads, Commits, Restores, some_item, every_item, first_item}
 
 -- ---- Bools
@@ -22,10 +23,6 @@ nothing_more false false = refl
 or_false : (a : Bool) → a ≡ (a || false)
 or_false true = refl
 or_false false = refl
-
-or_assoc : (a b c : Bool) → ((a || b) || c) ≡ (a || (b || c))
-or_assoc true b c = refl
-or_assoc false b c = refl
 
 -- a set that grows by two reads, the second after some sure writes
 reads_then : (r d p q s : Bool) → ((r || (not d && p)) || (not (d || s) && q)) ≡ (r || (not d && (p || (not s && q))))
@@ -92,26 +89,29 @@ pub scanned_none : (counted : Counted) (t : Sets) (log : List Row) → FlowScann
 scanned_none counted t log = record {
   reads = λ s k. nothing_more (has t.reads.masks s k) (has t.done.masks s k);
   writes = λ s k. or_false (has t.writes.masks s k);
+  late = λ s k. or_false (has t.late.masks s k);
   done = λ s k. or_false (has t.done.masks s k);
   logged = λ s k. nothing_more (has_rows log s k) (has t.done.masks s k);
 }
 
-pub scanned_then : (r w s r' w' s' : BitSet) (t t1 t2 : Sets) (l l1 l2 : List Row) → Scanned r w s t l t1 l1 → Scanned r' w' s' t1 l1 t2 l2 → Scanned (λ i k. r i k || (not (s i k) && r' i k)) (λ i k. w i k || w' i k) (λ i k. s i k || s' i k) t l t2 l2
-scanned_then r w s r' w' s' t t1 t2 l l1 l2 a b = record {
+pub scanned_then : (r w n s r' w' n' s' : BitSet) (t t1 t2 : Sets) (l l1 l2 : List Row) → Scanned r w n s t l t1 l1 → Scanned r' w' n' s' t1 l1 t2 l2 → Scanned (λ i k. r i k || (not (s i k) && r' i k)) (λ i k. w i k || w' i k) (λ i k. n i k || n' i k) (λ i k. s i k || s' i k) t l t2 l2
+scanned_then r w n s r' w' n' s' t t1 t2 l l1 l2 a b = record {
   reads = λ i k. b.reads i k ∙ ap (λ x. x || (not (has t1.done.masks i k) && r' i k)) (a.reads i k)
       ∙ ap (λ x. (has t.reads.masks i k || (not (has t.done.masks i k) && r i k)) || (not x && r' i k)) (a.done i k)
       ∙ reads_then (has t.reads.masks i k) (has t.done.masks i k) (r i k) (r' i k) (s i k);
   writes = λ i k. b.writes i k ∙ ap (λ x. x || w' i k) (a.writes i k) ∙ or_assoc (has t.writes.masks i k) (w i k) (w' i k);
+  late = λ i k. b.late i k ∙ ap (λ x. x || n' i k) (a.late i k) ∙ or_assoc (has t.late.masks i k) (n i k) (n' i k);
   done = λ i k. b.done i k ∙ ap (λ x. x || s' i k) (a.done i k) ∙ or_assoc (has t.done.masks i k) (s i k) (s' i k);
   logged = λ i k. b.logged i k ∙ ap (λ x. x || (not (has t1.done.masks i k) && s' i k)) (a.logged i k)
       ∙ ap (λ x. (has_rows l i k || (not (has t.done.masks i k) && s i k)) || (not x && s' i k)) (a.done i k)
       ∙ logs_then (has_rows l i k) (has t.done.masks i k) (s i k) (s' i k);
 }
 
-pub scanned_same : (r w s r' w' s' : BitSet) (t u : Sets) (l m : List Row) → ((i k : ℕ) → r i k ≡ r' i k) → ((i k : ℕ) → w i k ≡ w' i k) → ((i k : ℕ) → s i k ≡ s' i k) → Scanned r w s t l u m → Scanned r' w' s' t l u m
-scanned_same r w s r' w' s' t u l m er ew es a = record {
+pub scanned_same : (r w n s r' w' n' s' : BitSet) (t u : Sets) (l m : List Row) → ((i k : ℕ) → r i k ≡ r' i k) → ((i k : ℕ) → w i k ≡ w' i k) → ((i k : ℕ) → n i k ≡ n' i k) → ((i k : ℕ) → s i k ≡ s' i k) → Scanned r w n s t l u m → Scanned r' w' n' s' t l u m
+scanned_same r w n s r' w' n' s' t u l m er ew en es a = record {
   reads = λ i k. a.reads i k ∙ ap (λ x. has t.reads.masks i k || (not (has t.done.masks i k) && x)) (er i k);
   writes = λ i k. a.writes i k ∙ ap (λ x. has t.writes.masks i k || x) (ew i k);
+  late = λ i k. a.late i k ∙ ap (λ x. has t.late.masks i k || x) (en i k);
   done = λ i k. a.done i k ∙ ap (λ x. has t.done.masks i k || x) (es i k);
   logged = λ i k. a.logged i k ∙ ap (λ x. has_rows l i k || (not (has t.done.masks i k) && x)) (es i k);
 }
@@ -119,11 +119,12 @@ scanned_same r w s r' w' s' t u l m er ew es a = record {
 -- a statement and those behind it
 pub action_scanned : (counted : Counted) (ws : ℕ → ℕ) (a : Action) (b : Actions) (t t1 t2 : Sets) (l l1 l2 : List Row) → FlowScanned counted (action_then ws a End) t l t1 l1 → FlowScanned counted (actions_then ws b End) t1 l1 t2 l2 → FlowScanned counted (actions_then ws (Then a b) End) t l t2 l2
 action_scanned counted ws a b t t1 t2 l l1 l2 x y =
-    scanned_same _ _ _ _ _ _ t t2 l l2
+    scanned_same _ _ _ _ _ _ _ _ t t2 l l2
     (λ i k. sym (first_action (reads_bit i k) (counts counted i k) ws a (actions_then ws b End)))
     (λ i k. sym (some_action (may_write_bit i k) ws a (actions_then ws b End)))
+    (λ i k. sym (some_action (may_write_late i k) ws a (actions_then ws b End)))
     (λ i k. sym (every_action (counts counted i k) ws a (actions_then ws b End)))
-    (scanned_then (λ i k. first (reads_bit i k) (counts counted i k) (action_then ws a End)) (λ i k. some (may_write_bit i k) (action_then ws a End)) (λ i k. every (counts counted i k) (action_then ws a End)) (λ i k. first (reads_bit i k) (counts counted i k) (actions_then ws b End)) (λ i k. some (may_write_bit i k) (actions_then ws b End)) (λ i k. every (counts counted i k) (actions_then ws b End)) t t1 t2 l l1 l2 x y)
+    (scanned_then (λ i k. first (reads_bit i k) (counts counted i k) (action_then ws a End)) (λ i k. some (may_write_bit i k) (action_then ws a End)) (λ i k. some (may_write_late i k) (action_then ws a End)) (λ i k. every (counts counted i k) (action_then ws a End)) (λ i k. first (reads_bit i k) (counts counted i k) (actions_then ws b End)) (λ i k. some (may_write_bit i k) (actions_then ws b End)) (λ i k. some (may_write_late i k) (actions_then ws b End)) (λ i k. every (counts counted i k) (actions_then ws b End)) t t1 t2 l l1 l2 x y)
 
 -- ---- ways
 
@@ -132,6 +133,7 @@ pub way_scanned : (counted : Counted) (flow : Flow) (t t1 t2 : Sets) (log : List
 way_scanned counted flow t t1 t2 log a b = record {
   reads = λ i k. b.reads i k ∙ a.reads i k;
   writes = λ i k. b.writes i k ∙ a.writes i k;
+  late = λ i k. b.late i k ∙ a.late i k;
   done = λ i k. b.done i k ∙ ap (λ x. x && not (has_rows log i k)) (a.done i k)
       ∙ ap (λ x. (has t.done.masks i k || every (counts counted i k) flow) && not x) (a.logged i k)
       ∙ taken_back (has t.done.masks i k) (every (counts counted i k) flow);
@@ -143,6 +145,7 @@ pub way_none : (counted : Counted) (t : Sets) → WaysScanned counted (Last End)
 way_none counted t = record {
   reads = λ s k. nothing_more (has t.reads.masks s k) (has t.done.masks s k);
   writes = λ s k. or_false (has t.writes.masks s k);
+  late = λ s k. or_false (has t.late.masks s k);
   done = λ s k. refl;
   sure_rows = λ s k. no_more (has t.done.masks s k);
 }
@@ -151,6 +154,7 @@ pub also_scanned : (counted : Counted) (flow : Flow) (t t1 t2 : Sets) (log kept 
 also_scanned counted flow t t1 t2 log kept both a c b = record {
   reads = λ i k. b.reads i k ∙ a.reads i k;
   writes = λ i k. b.writes i k ∙ a.writes i k;
+  late = λ i k. b.late i k ∙ a.late i k;
   done = λ i k. b.done i k ∙ ap (λ x. x && not (has_rows log i k)) (a.done i k)
       ∙ ap (λ x. (has t.done.masks i k || every (counts counted i k) flow) && not x) (a.logged i k)
       ∙ taken_back (has t.done.masks i k) (every (counts counted i k) flow);
@@ -161,28 +165,31 @@ pub also_none : (counted : Counted) (ws : ℕ → ℕ) (t : Sets) (kept : List R
 also_none counted ws t kept = record {
   reads = λ s k. nothing_more (has t.reads.masks s k) (has t.done.masks s k);
   writes = λ s k. or_false (has t.writes.masks s k);
+  late = λ s k. or_false (has t.late.masks s k);
   done = λ s k. refl;
   sure_rows = λ s k. kept_all (has_rows kept s k) (has t.done.masks s k);
 }
 
-pub also_then : (r w s r' w' s' : BitSet) (t t1 t2 : Sets) (kept kept1 kept2 : List Row) → AlsoScanned r w s t kept t1 kept1 → AlsoScanned r' w' s' t1 kept1 t2 kept2 → AlsoScanned (either r r') (either w w') (λ i k. s i k && s' i k) t kept t2 kept2
-also_then r w s r' w' s' t t1 t2 kept kept1 kept2 a b = record {
+pub also_then : (r w n s r' w' n' s' : BitSet) (t t1 t2 : Sets) (kept kept1 kept2 : List Row) → AlsoScanned r w n s t kept t1 kept1 → AlsoScanned r' w' n' s' t1 kept1 t2 kept2 → AlsoScanned (either r r') (either w w') (either n n') (λ i k. s i k && s' i k) t kept t2 kept2
+also_then r w n s r' w' n' s' t t1 t2 kept kept1 kept2 a b = record {
   reads = λ i k. b.reads i k ∙ ap (λ x. x || (not (has t1.done.masks i k) && r' i k)) (a.reads i k)
       ∙ ap (λ x. (has t.reads.masks i k || (not (has t.done.masks i k) && r i k)) || (not x && r' i k)) (a.done i k)
       ∙ reads_also (has t.reads.masks i k) (has t.done.masks i k) (r i k) (r' i k);
   writes = λ i k. b.writes i k ∙ ap (λ x. x || w' i k) (a.writes i k) ∙ or_assoc (has t.writes.masks i k) (w i k) (w' i k);
+  late = λ i k. b.late i k ∙ ap (λ x. x || n' i k) (a.late i k) ∙ or_assoc (has t.late.masks i k) (n i k) (n' i k);
   done = λ i k. b.done i k ∙ a.done i k;
   sure_rows = λ i k. b.sure_rows i k ∙ ap (λ x. x && (has t1.done.masks i k || s' i k)) (a.sure_rows i k)
       ∙ ap (λ x. (has_rows kept i k && (has t.done.masks i k || s i k)) && (x || s' i k)) (a.done i k)
       ∙ kept_twice (has_rows kept i k) (has t.done.masks i k) (s i k) (s' i k);
 }
 
-pub way_also : (r w s r' w' s' : BitSet) (t t1 t2 : Sets) (kept kept2 : List Row) → WayScanned r w s t t1 kept → AlsoScanned r' w' s' t1 kept t2 kept2 → WayScanned (either r r') (either w w') (λ i k. s i k && s' i k) t t2 kept2
-way_also r w s r' w' s' t t1 t2 kept kept2 a b = record {
+pub way_also : (r w n s r' w' n' s' : BitSet) (t t1 t2 : Sets) (kept kept2 : List Row) → WayScanned r w n s t t1 kept → AlsoScanned r' w' n' s' t1 kept t2 kept2 → WayScanned (either r r') (either w w') (either n n') (λ i k. s i k && s' i k) t t2 kept2
+way_also r w n s r' w' n' s' t t1 t2 kept kept2 a b = record {
   reads = λ i k. b.reads i k ∙ ap (λ x. x || (not (has t1.done.masks i k) && r' i k)) (a.reads i k)
       ∙ ap (λ x. (has t.reads.masks i k || (not (has t.done.masks i k) && r i k)) || (not x && r' i k)) (a.done i k)
       ∙ reads_also (has t.reads.masks i k) (has t.done.masks i k) (r i k) (r' i k);
   writes = λ i k. b.writes i k ∙ ap (λ x. x || w' i k) (a.writes i k) ∙ or_assoc (has t.writes.masks i k) (w i k) (w' i k);
+  late = λ i k. b.late i k ∙ ap (λ x. x || n' i k) (a.late i k) ∙ or_assoc (has t.late.masks i k) (n i k) (n' i k);
   done = λ i k. b.done i k ∙ a.done i k;
   sure_rows = λ i k. b.sure_rows i k ∙ ap (λ x. x && (has t1.done.masks i k || s' i k)) (a.sure_rows i k)
       ∙ ap (λ x. (not (has t.done.masks i k) && s i k) && (x || s' i k)) (a.done i k)
@@ -210,10 +217,11 @@ first_ways f g ws way NoBranch = sym (or_false (first f g way))
 first_ways f g ws way (Branch labels body others) =
     ap (λ x. first f g way || x) (first_ways f g ws (body_flow ws body) others)
 
-way_same : (r w s r' w' s' : BitSet) (t u : Sets) (kept : List Row) → ((i k : ℕ) → r i k ≡ r' i k) → ((i k : ℕ) → w i k ≡ w' i k) → ((i k : ℕ) → s i k ≡ s' i k) → WayScanned r w s t u kept → WayScanned r' w' s' t u kept
-way_same r w s r' w' s' t u kept er ew es a = record {
+way_same : (r w n s r' w' n' s' : BitSet) (t u : Sets) (kept : List Row) → ((i k : ℕ) → r i k ≡ r' i k) → ((i k : ℕ) → w i k ≡ w' i k) → ((i k : ℕ) → n i k ≡ n' i k) → ((i k : ℕ) → s i k ≡ s' i k) → WayScanned r w n s t u kept → WayScanned r' w' n' s' t u kept
+way_same r w n s r' w' n' s' t u kept er ew en es a = record {
   reads = λ i k. a.reads i k ∙ ap (λ x. has t.reads.masks i k || (not (has t.done.masks i k) && x)) (er i k);
   writes = λ i k. a.writes i k ∙ ap (λ x. has t.writes.masks i k || x) (ew i k);
+  late = λ i k. a.late i k ∙ ap (λ x. has t.late.masks i k || x) (en i k);
   done = a.done;
   sure_rows = λ i k. a.sure_rows i k ∙ ap (λ x. not (has t.done.masks i k) && x) (es i k);
 }
@@ -221,21 +229,22 @@ way_same r w s r' w' s' t u kept er ew es a = record {
 -- a way, and the items of a case
 pub items_scanned : (counted : Counted) (ws : ℕ → ℕ) (way : Flow) (items : Branches) (t t1 t2 : Sets) (kept kept2 : List Row) → WaysScanned counted (Last way) t t1 kept → ItemsAlso counted ws items t1 kept t2 kept2 → WaysScanned counted (ways ws (Some way) items) t t2 kept2
 items_scanned counted ws way items t t1 t2 kept kept2 a b =
-    way_same _ _ _ _ _ _ t t2 kept2
+    way_same _ _ _ _ _ _ _ _ t t2 kept2
     (λ i k. first_ways (reads_bit i k) (counts counted i k) ws way items)
     (λ i k. some_ways (may_write_bit i k) ws way items)
+    (λ i k. some_ways (may_write_late i k) ws way items)
     (λ i k. every_ways (counts counted i k) ws way items)
-    (way_also (λ i k. first (reads_bit i k) (counts counted i k) way) (λ i k. some (may_write_bit i k) way) (λ i k. every (counts counted i k) way) (λ i k. first_item (reads_bit i k) (counts counted i k) ws items) (λ i k. some_item (may_write_bit i k) ws items) (λ i k. every_item (counts counted i k) ws items) t t1 t2 kept kept2 a b)
+    (way_also (λ i k. first (reads_bit i k) (counts counted i k) way) (λ i k. some (may_write_bit i k) way) (λ i k. some (may_write_late i k) way) (λ i k. every (counts counted i k) way) (λ i k. first_item (reads_bit i k) (counts counted i k) ws items) (λ i k. some_item (may_write_bit i k) ws items) (λ i k. some_item (may_write_late i k) ws items) (λ i k. every_item (counts counted i k) ws items) t t1 t2 kept kept2 a b)
 
 -- two ways
 pub both_scanned : (counted : Counted) (one other : Flow) (t t1 t2 : Sets) (kept kept2 : List Row) → WaysScanned counted (Last one) t t1 kept → FlowAlso counted other t1 kept t2 kept2 → WaysScanned counted (More one (Last other)) t t2 kept2
 both_scanned counted one other t t1 t2 kept kept2 a b =
-    way_also (λ i k. first (reads_bit i k) (counts counted i k) one) (λ i k. some (may_write_bit i k) one) (λ i k. every (counts counted i k) one) (λ i k. first (reads_bit i k) (counts counted i k) other) (λ i k. some (may_write_bit i k) other) (λ i k. every (counts counted i k) other) t t1 t2 kept kept2 a b
+    way_also (λ i k. first (reads_bit i k) (counts counted i k) one) (λ i k. some (may_write_bit i k) one) (λ i k. some (may_write_late i k) one) (λ i k. every (counts counted i k) one) (λ i k. first (reads_bit i k) (counts counted i k) other) (λ i k. some (may_write_bit i k) other) (λ i k. some (may_write_late i k) other) (λ i k. every (counts counted i k) other) t t1 t2 kept kept2 a b
 
 -- an item, and those behind it
 pub item_scanned : (counted : Counted) (ws : ℕ → ℕ) (labels : _) (body : Actions) (others : Branches) (t t1 t2 : Sets) (kept kept1 kept2 : List Row) → FlowAlso counted (body_flow ws body) t kept t1 kept1 → ItemsAlso counted ws others t1 kept1 t2 kept2 → ItemsAlso counted ws (Branch labels body others) t kept t2 kept2
 item_scanned counted ws labels body others t t1 t2 kept kept1 kept2 a b =
-    also_then (λ i k. first (reads_bit i k) (counts counted i k) (body_flow ws body)) (λ i k. some (may_write_bit i k) (body_flow ws body)) (λ i k. every (counts counted i k) (body_flow ws body)) (λ i k. first_item (reads_bit i k) (counts counted i k) ws others) (λ i k. some_item (may_write_bit i k) ws others) (λ i k. every_item (counts counted i k) ws others) t t1 t2 kept kept1 kept2 a b
+    also_then (λ i k. first (reads_bit i k) (counts counted i k) (body_flow ws body)) (λ i k. some (may_write_bit i k) (body_flow ws body)) (λ i k. some (may_write_late i k) (body_flow ws body)) (λ i k. every (counts counted i k) (body_flow ws body)) (λ i k. first_item (reads_bit i k) (counts counted i k) ws others) (λ i k. some_item (may_write_bit i k) ws others) (λ i k. some_item (may_write_late i k) ws others) (λ i k. every_item (counts counted i k) ws others) t t1 t2 kept kept1 kept2 a b
 
 -- ---- forks
 
@@ -256,6 +265,8 @@ fork_scanned counted bits all t t1 t2 t3 log log' kept a b c = record {
       ∙ ap (λ x. has t.reads.masks i k || (not (has t.done.masks i k) && (bits i k || (not x && (f || (not w && false)))))) (sym (counts_read counted bits i k));
   writes = λ i k. c.writes i k ∙ b.writes i k ∙ ap (λ x. x || some_way (may_write_bit i k) all) (a.writes i k)
       ∙ ap (λ x. has t.writes.masks i k || x) (or_false (some_way (may_write_bit i k) all));
+  late = λ i k. c.late i k ∙ b.late i k ∙ ap (λ x. x || some_way (may_write_late i k) all) (a.late i k)
+      ∙ ap (λ x. has t.late.masks i k || x) (or_false (some_way (may_write_late i k) all));
   done = λ i k.
       let w = every_way (counts counted i k) all in
       c.done i k ∙ ap (λ x. x || has_rows kept i k) (b.done i k ∙ a.done i k) ∙ ap (λ x. has t.done.masks i k || x) (b.sure_rows i k)
@@ -289,6 +300,7 @@ pub rows_read : (bits : BitSet) (rows : List Row) (t u : Sets) → Adds bits [] 
 rows_read bits rows t u adds a = record {
   reads = λ s k. a.reads s k ∙ ap (λ x. has t.reads.masks s k || (not (has t.done.masks s k) && x)) (adds.at s k);
   writes = a.writes;
+  late = a.late;
   done = a.done;
 }
 
@@ -302,18 +314,20 @@ read_scanned counted bits rest t t1 t2 log log' a b = record {
       ∙ reads_also (has t.reads.masks i k) (has t.done.masks i k) (bits i k) f
       ∙ ap (λ x. has t.reads.masks i k || (not (has t.done.masks i k) && (bits i k || (not x && f)))) (sym (counts_read counted bits i k));
   writes = λ i k. b.writes i k ∙ ap (λ x. x || some (may_write_bit i k) rest) (a.writes i k);
+  late = λ i k. b.late i k ∙ ap (λ x. x || some (may_write_late i k) rest) (a.late i k);
   done = λ i k. b.done i k ∙ ap (λ x. x || every (counts counted i k) rest) (a.done i k)
       ∙ ap (λ x. has t.done.masks i k || (x || every (counts counted i k) rest)) (sym (counts_read counted bits i k));
   logged = λ i k. b.logged i k ∙ ap (λ x. has_rows log i k || (not x && every (counts counted i k) rest)) (a.done i k)
       ∙ ap (λ x. has_rows log i k || (not (has t.done.masks i k) && (x || every (counts counted i k) rest))) (sym (counts_read counted bits i k));
 }
 
-module _ (delayed : Bool) (may sure : BitSet) (t u : Sets) (log log' : List Row) (writes : (s k : ℕ) → has u.writes.masks s k ≡ (has t.writes.masks s k || may s k)) (reads : (s k : ℕ) → has u.reads.masks s k ≡ has t.reads.masks s k) where
+module _ (delayed : Bool) (may sure : BitSet) (t u : Sets) (log log' : List Row) (writes : (s k : ℕ) → has u.writes.masks s k ≡ (has t.writes.masks s k || may s k)) (lates : (s k : ℕ) → has u.late.masks s k ≡ (has t.late.masks s k || (delayed && may s k))) (reads : (s k : ℕ) → has u.reads.masks s k ≡ has t.reads.masks s k) where
   -- a write that counts as sure
   pub write_counts : (counted : Counted) → counts_as_sure counted delayed ≡ true → ((s k : ℕ) → (has u.done.masks s k ≡ (has t.done.masks s k || sure s k)) × (has_rows log' s k ≡ (has_rows log s k || (not (has t.done.masks s k) && sure s k)))) → FlowScanned counted (Do (Write delayed may sure) End) t log u log'
   write_counts counted e more = record {
     reads = λ s k. reads s k ∙ nothing_read (has t.reads.masks s k) (has t.done.masks s k) (counts counted s k (Write delayed may sure));
     writes = λ s k. writes s k ∙ ap (λ x. has t.writes.masks s k || x) (or_false (may s k));
+    late = λ s k. lates s k ∙ ap (λ x. has t.late.masks s k || x) (or_false (delayed && may s k));
     done = λ s k. (more s k).0 ∙ ap (λ x. has t.done.masks s k || x) (sym (counts_write counted delayed may sure s k e) ∙ or_false (counts counted s k (Write delayed may sure)));
     logged = λ s k. (more s k).1 ∙ ap (λ x. has_rows log s k || (not (has t.done.masks s k) && x)) (sym (counts_write counted delayed may sure s k e) ∙ or_false (counts counted s k (Write delayed may sure)));
   }
@@ -329,6 +343,7 @@ module _ (delayed : Bool) (may sure : BitSet) (t u : Sets) (log log' : List Row)
   write_late counted e done logged = record {
     reads = λ s k. reads s k ∙ nothing_read (has t.reads.masks s k) (has t.done.masks s k) (counts counted s k (Write delayed may sure));
     writes = λ s k. writes s k ∙ ap (λ x. has t.writes.masks s k || x) (or_false (may s k));
+    late = λ s k. lates s k ∙ ap (λ x. has t.late.masks s k || x) (or_false (delayed && may s k));
     done = λ s k. done s k ∙ or_false (has t.done.masks s k) ∙ ap (λ x. has t.done.masks s k || (x || false)) (sym (counts_late counted delayed may sure s k e));
     logged = λ s k. logged s k ∙ nothing_more (has_rows log s k) (has t.done.masks s k) ∙ ap (λ x. has_rows log s k || (not (has t.done.masks s k) && (x || false))) (sym (counts_late counted delayed may sure s k e));
   }

@@ -1,15 +1,16 @@
 -- What a scan of a process says of its path sets.
-use Rattle.std.proofs.Common.{ℕ, zero, suc, ◌≡◌, ◌∙◌, ◌<◌, ◌≤◌, arith, Bool, true, false, not, ◌&&◌, ◌||◌, List, [], ◌∷◌, map, length, get_or, Some, refl, sym, ap, subst}
-use Rattle.std.specs.Prelude.{◌↔◌}
+use Rattle.std.proofs.Common.{ℕ, zero, suc, ◌≡◌, ◌∙◌, ◌<◌, ◌≤◌, arith, Bool, true, false, not, ◌&&◌, ◌||◌, List, [], ◌∷◌, ◌++◌, map, length, get_or, Option, Some, refl, sym, ap, subst, inl, inr}
+use Rattle.std.specs.Prelude.{◌⊎◌, ◌+◌, ◌↔◌}
 use Rattle.std.specs.List.{All, slice_get}
 use Rattle.std.specs.Option.{IsSomeAnd}
+use Rattle.std.proofs.lemmas.Bool.{cases_lt}
 use Rattle.std.proofs.lemmas.List.Elements.{All-head, All-tail}
 use Rattle.rtl_flat.specs.declared.signal.Signal.{Signal}
 use Rattle.rtl_flat.specs.declared.instance.Instance.{Instance}
 use Rattle.rtl_flat.specs.declared.act.Process.{Process}
 use Rattle.rtl_flat.specs.Signs.{width_in}
 use Rattle.rtl_flat.specs.WellFormed.{IsSignal}
-use Rattle.rtl_flat.specs.Process.{task, doing}
+use Rattle.rtl_flat.specs.Process.{Task, task, doing}
 use Rattle.rtl_flat.specs.Paths.{BitSet, Step, Flow, End, Do, Fork, Ways, Last, More, some, some_way, every, every_way, first, first_way}
 use Rattle.rtl_flat.specs.Flows.{flow_of}
 use Rattle.rtl_flat.specs.PathSets.{OfProcess}
@@ -61,6 +62,25 @@ task_at [] p one h is = absurd (omega arith)
 task_at (x ∷ processes) zero one h is = ap (λ y. Some (task y)) (sym is)
 task_at (x ∷ processes) (suc p) one h is = task_at processes p one (omega arith) is
 
+pub length-tasks : (processes : List Process) → length processes ≡ length (map task processes)
+length-tasks [] = refl
+length-tasks (x ∷ processes) = ap suc (length-tasks processes)
+
+pub below_next : (q n : ℕ) → q < n + 1 → (q < n) ⊎ (q ≡ n)
+below_next q n h =
+    elim (cases_lt q n) [
+      | inl below ↦ inl below
+      | inr above ↦ inr (omega arith)
+    ]
+
+-- a fact of the task with a number
+pub there : (P : Task → Type 0) (tasks : List Task) (n : ℕ) (task : Task) → slice_get tasks n ≡ Some task → P task → IsSomeAnd (slice_get tasks n) P
+there P tasks n task at = subst (λ (o : Option Task). IsSomeAnd o P) (sym at)
+
+pub back : (P : Task → Type 0) (tasks : List Task) (n q : ℕ) (task : Task) → slice_get tasks n ≡ Some task → q ≡ n → IsSomeAnd (slice_get tasks q) P → P task
+back P tasks n q task at e h =
+    subst (λ (o : Option Task). IsSomeAnd o P) at (subst (λ (i : ℕ). IsSomeAnd (slice_get tasks i) P) e h)
+
 -- a set of bits that decides a set of paths
 pub exact : (P : Flow → ℕ → ℕ → Type 0) (f : Flow → BitSet) → ((flow : Flow) (s k : ℕ) → f flow s k ≡ true ↔ P flow s k) → (signals there : List Signal) → there ≡ signals → (processes : List Process) (p : ℕ) (one : Process) → p < length processes → one ≡ get_or processes p one → (bits : BitSet) → ((s k : ℕ) → bits s k ≡ f (flow_of (width_in there) (doing one.does)) s k) → (s k : ℕ) → bits s k ≡ true ↔ OfProcess P signals (map task processes) p s k
 exact P f decides signals there same processes p one h is bits are s k =
@@ -74,10 +94,9 @@ exact P f decides signals there same processes p one h is bits are s k =
       λ q. are s k ∙ (decides flow s k).1 (back (subst (λ (o : _). IsSomeAnd o (λ t. P (flow_of (width_in signals) t.does) s k)) at q)),
     )
 
--- four signals that aren't too wide
-pub four_fit : (a b c d : Signal) → a.width ≤ 128 → b.width ≤ 128 → c.width ≤ 128 → d.width ≤ 128 → (i : ℕ) → width_in (a ∷ b ∷ c ∷ d ∷ []) i ≤ 128
-four_fit a b c d ha hb hc hd zero = ha
-four_fit a b c d ha hb hc hd (suc zero) = hb
-four_fit a b c d ha hb hc hd (suc (suc zero)) = hc
-four_fit a b c d ha hb hc hd (suc (suc (suc zero))) = hd
-four_fit a b c d ha hb hc hd (suc (suc (suc (suc i)))) = omega arith
+-- a signal more that isn't too wide
+pub width_push : (signals : List Signal) (one : Signal) → ((i : ℕ) → width_in signals i ≤ 128) → one.width ≤ 128 → (i : ℕ) → width_in (signals ++ one ∷ []) i ≤ 128
+width_push [] one h fits zero = fits
+width_push [] one h fits (suc i) = omega arith
+width_push (s ∷ signals) one h fits zero = h zero
+width_push (s ∷ signals) one h fits (suc i) = width_push signals one (λ j. h (suc j)) fits i

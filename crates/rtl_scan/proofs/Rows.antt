@@ -15,6 +15,7 @@ use Rattle.std.proofs.lemmas.Map.Keys.{sorted_head, sorted_tail}
 use Rattle.rtl_bits.specs.Bits.{is_one_at}
 use Rattle.rtl_bits.specs.Digits.{one_at-zero}
 use Rattle.rtl_scan.specs.declared.bits.Row.{Row}
+use Rattle.rtl_scan.proofs.Bools.{or_assoc}
 use Rattle.rtl_scan.specs.Sets.{has_row, has_rows, row_of, rows_of, IsInOrder}
 
 abbrev Entries : Type 0
@@ -41,11 +42,7 @@ eq_test a b =
 
 rows-append : (xs ys : List Row) (s k : ℕ) → has_rows (xs ++ ys) s k ≡ (has_rows xs s k || has_rows ys s k)
 rows-append [] ys s k = refl
-rows-append (x ∷ xs) ys s k = ap (λ t. has_row x s k || t) (rows-append xs ys s k) ∙ or_assoc (has_row x s k) (has_rows xs s k) (has_rows ys s k)
-  where
-    or_assoc : (a b c : Bool) → (a || (b || c)) ≡ ((a || b) || c)
-    or_assoc true b c = refl
-    or_assoc false b c = refl
+rows-append (x ∷ xs) ys s k = ap (λ t. has_row x s k || t) (rows-append xs ys s k) ∙ sym (or_assoc (has_row x s k) (has_rows xs s k) (has_rows ys s k))
 
 row_has : (signal mask s k : ℕ) → has_rows (row_of signal mask) s k ≡ ((s == signal) && is_one_at mask k)
 row_has signal mask s k =

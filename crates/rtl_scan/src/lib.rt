@@ -1,9 +1,12 @@
 //! What the processes of a flat design read, write and list on the paths of their bodies.
 #![tactic(auto)]
 
+mod arrows;
 pub mod bits;
 mod complete;
 mod expressions;
+mod feeds;
+mod graph;
 pub mod law;
 mod pass;
 mod scan;
@@ -13,5 +16,8 @@ mod steps;
 mod targets;
 #[cfg(test)]
 mod tests;
+mod usages;
 
+pub use feeds::levels;
 pub use sets::{lists, reads, sure, writes};
+pub use usages::temporaries;

@@ -34,12 +34,13 @@ pub(crate) fn is_counted(counted: Counted, delayed: bool) -> bool
     }
 }
 
-/// What a pass has found: bits read before they were written, bits that may be written, and bits
-/// surely written on the way.
+/// What a pass has found: bits read before they were written, bits that may be written, those
+/// of them by nonblocking assignments, and bits surely written on the way.
 #[derive(Drop)]
 pub(crate) struct Sets {
     pub(crate) reads: BitSet,
     pub(crate) writes: BitSet,
+    pub(crate) late: BitSet,
     pub(crate) done: BitSet,
 }
 
@@ -65,6 +66,21 @@ pub(crate) fn add_writes(
         writes.insert(widths.may_row(part.signal, &part.select))?;
     }
     Ok(())
+}
+
+/// Adds the bits that a target may mean in a nonblocking assignment.
+pub(crate) fn add_late(
+    widths: &Widths,
+    late: &mut BitSet,
+    parts: &[TargetPart],
+    delayed: bool,
+) -> Result<(), Memory>
+    ensures { OnOk result ((s k : ℕ) → has late.new.masks s k ≡ (has late.old.masks s k || (delayed && may_target (width_in widths.now.signals.now) (map piece parts.now) s k))) }
+{
+    if !delayed {
+        return Ok(());
+    }
+    add_writes(widths, late, parts)
 }
 
 /// Adds the bits of a row, and logs those that are new.

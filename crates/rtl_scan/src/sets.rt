@@ -36,6 +36,7 @@ pub(crate) fn scan(
     let mut sets = Sets {
         reads: BitSet::new(alloc),
         writes: BitSet::new(alloc),
+        late: BitSet::new(alloc),
         done: BitSet::new(alloc),
     };
     pass.process(does, &mut sets)?;
@@ -91,7 +92,7 @@ fn listed_items(alloc: Global, widths: Widths, items: &[EventItem]) -> Result<Bi
     Ok(bits)
 }
 
-fn widths_of(d: &Design) -> Widths<'_>
+pub(crate) fn widths_of(d: &Design) -> Widths<'_>
     ensures { result.signals.now ≡ d.now.signals.items }
 {
     Widths {

@@ -12,7 +12,7 @@ ghost use Rattle.rtl_scan.specs.Bodies.{branches_of};
 
 use crate::bits::Row;
 use crate::scan::{
-    Counted, Sets, add_kept, add_reads, add_sure, add_writes, is_counted, take_back,
+    Counted, Sets, add_kept, add_late, add_reads, add_sure, add_writes, is_counted, take_back,
 };
 use crate::spans::Widths;
 use rtl_flat::act::{CaseItem, TargetPart};
@@ -79,6 +79,7 @@ impl<'d> Pass<'d> {
         ensures { OnOk result (FlowScanned self.now.counted (write_flow (width_in self.now.widths.signals.now) (map piece parts.now) delayed) sets.old log.old.items sets.new log.new.items) }
     {
         add_writes(&self.widths, &mut sets.writes, parts)?;
+        add_late(&self.widths, &mut sets.late, parts, delayed)?;
         if !is_counted(self.counted, delayed) {
             return Ok(());
         }

@@ -1,10 +1,15 @@
-ghost use Rattle.std.specs.Prelude.{◌≡◌, ◌≤◌, IfOk};
+ghost use Rattle.std.specs.Prelude.{ℕ, ◌≡◌, ◌≤◌, IfOk};
+ghost use Rattle.rtl_flat.specs.Signs.{width_in};
 
+use crate::feeds::levels_of;
 use crate::scan::{Counted, Sets};
 use crate::sets::scan;
 use crate::spans::Widths;
-use rtl_bits::{Bit, Vec4};
-use rtl_flat::act::{Act, CaseItem, CaseKind, Does, Listed, Target, TargetPart};
+use crate::usages::temporaries_of;
+use rtl_bits::{Bit, Edge, Vec4};
+use rtl_flat::act::{
+    Act, CaseItem, CaseKind, Does, EventItem, Listed, Process, Target, TargetPart,
+};
 use rtl_flat::expr::{Index, Join, Node, Select, SigId, SizedExpr};
 use rtl_flat::signal::{Kind, Signal};
 use rtl_tree::memory::Memory;
@@ -220,5 +225,292 @@ fn an_index_past_the_signal_means_no_bit(rt: HostRuntime) -> Result<(), Fail> {
         let sets = found(alloc, &comb(vec![in alloc; write]?), Counted::All)?;
         assert_eq!(rt; sets.done.mask(Y), want, "{low} {at}");
     }
+    Ok(())
+}
+
+// What a process over the signals `a`, `y` and `z` does.
+#[derive(Clone, Copy, PartialEq, Eq, Debug)]
+enum Line {
+    // `y = a; z = y;`, or `y <= a; z = y;`.
+    Through { delayed: bool },
+    // `z = y; y = a;`
+    After,
+    // `z = y;`
+    Read,
+    // `y = a;`
+    Write,
+    // `z = a;`, which lists `y`.
+    List,
+}
+
+fn process_of(alloc: Global, line: Line) -> Result<Process, Memory> {
+    let write = set(
+        alloc,
+        Y,
+        Select::Whole,
+        A,
+        matches!(line, Line::Through { delayed: true }),
+    )?;
+    let read = set(alloc, Z, Select::Whole, Y, false)?;
+    let body = match line {
+        Line::Through { delayed: _ } => vec![in alloc; write, read]?,
+        Line::After => vec![in alloc; read, write]?,
+        Line::Read => vec![in alloc; read]?,
+        Line::Write => vec![in alloc; write]?,
+        Line::List => return lists(alloc, Y, A, Z),
+    };
+    Ok(process(comb(body)))
+}
+
+fn process(does: Does) -> Process {
+    Process {
+        does,
+        instance: 0,
+        spot: SPOT,
+    }
+}
+
+// `always @(listed) to = from;`
+fn lists(alloc: Global, listed: SigId, from: SigId, to: SigId) -> Result<Process, Memory> {
+    let item = EventItem {
+        signal: listed,
+        select: Select::Whole,
+        edge: Edge::No,
+        spot: SPOT,
+    };
+    let copy = set(alloc, to, Select::Whole, from, false)?;
+    Ok(process(Does::Comb {
+        list: Listed::Items(vec![in alloc; item]?),
+        body: vec![in alloc; copy]?,
+    }))
+}
+
+#[test]
+fn a_temporary_is_written_before_it_is_read_and_by_one_process(
+    rt: HostRuntime,
+) -> Result<(), Fail> {
+    let alloc = rt.alloc();
+    let first = Line::Through { delayed: false };
+    let late = Line::Through { delayed: true };
+    for (one, two, kind, top_output, want) in [
+        (first, None, Kind::Var, false, true),
+        (first, None, Kind::Var, true, false),
+        (first, None, Kind::Net, false, false),
+        (late, None, Kind::Var, false, false),
+        (Line::After, None, Kind::Var, false, false),
+        (Line::Write, None, Kind::Var, false, true),
+        (Line::Read, None, Kind::Var, false, false),
+        (first, Some(Line::Read), Kind::Var, false, false),
+        (first, Some(Line::Write), Kind::Var, false, false),
+        (first, Some(Line::List), Kind::Var, false, false),
+        (Line::List, None, Kind::Var, false, false),
+    ] {
+        let s = signal(alloc, 2)?;
+        let a = signal(alloc, 4)?;
+        let mut y = signal(alloc, 4)?;
+        y.kind = kind;
+        y.top_output = top_output;
+        let z = signal(alloc, 4)?;
+        let signals = [s, a, y, z];
+        let mut processes = vec![in alloc; process_of(alloc, one)?]?;
+        if let Some(two) = two {
+            processes.push(process_of(alloc, two)?)?;
+        }
+        let widths = Widths { signals: &signals };
+        let answers = temporaries_of(alloc, widths, &processes)?;
+        assert_eq!(rt;
+            answers.get(2).copied(),
+            Some(want),
+            "{one:?} {two:?} {kind:?}"
+        );
+        assert_eq!(rt; answers.len(), 4);
+    }
+    Ok(())
+}
+
+fn moves(alloc: Global, from: SigId, to: SigId, edge: bool) -> Result<Process, Memory> {
+    let body = vec![in alloc; set(alloc, to, Select::Whole, from, false)?]?;
+    let does = if edge {
+        Does::Edge {
+            events: Vec::new(alloc),
+            body,
+        }
+    } else {
+        comb(body)
+    };
+    Ok(process(does))
+}
+
+#[test]
+fn a_level_is_the_length_of_the_longest_chain(rt: HostRuntime) -> Result<(), Fail> {
+    let alloc = rt.alloc();
+    let wants: [(&[(SigId, SigId, bool)], &[Option<u32>]); 5] = [
+        (&[], &[]),
+        (&[(Y, Z, false), (A, Y, false)], &[Some(1), Some(0)]),
+        (
+            &[(A, Y, false), (Y, Z, false), (A, Z, false), (Z, S, false)],
+            &[Some(0), Some(1), Some(0), Some(2)],
+        ),
+        (
+            &[(A, Y, false), (Y, A, false), (A, Z, false), (S, S, false)],
+            &[None, None, None, None],
+        ),
+        (
+            &[(A, Y, false), (Y, A, true), (Y, Z, false)],
+            &[Some(0), None, Some(1)],
+        ),
+    ];
+    for (lines, want) in wants {
+        let signals = [
+            signal(alloc, 2)?,
+            signal(alloc, 4)?,
+            signal(alloc, 4)?,
+            signal(alloc, 4)?,
+        ];
+        let mut processes = Vec::new(alloc);
+        for (from, to, edge) in lines {
+            processes.push(moves(alloc, *from, *to, *edge)?)?;
+        }
+        assert!(rt; processes.len() < 5);
+        let widths = Widths { signals: &signals };
+        let levels = levels_of(alloc, widths, &processes)?;
+        assert_eq!(rt; levels.as_slice(), want);
+    }
+    Ok(())
+}
+
+fn bit(at: i64) -> Select {
+    Select::Bit {
+        low: 0,
+        index: Index::Fixed(at),
+    }
+}
+
+// `always @* y[to] = y[from];`
+fn moves_bit(alloc: Global, from: i64, to: i64) -> Result<Process, Memory> {
+    let part = TargetPart {
+        signal: Y,
+        select: bit(to),
+        spot: SPOT,
+    };
+    let copy = Act::Set {
+        target: Target {
+            parts: vec![in alloc; part]?,
+        },
+        value: sized(1, Node::Read(Y, bit(from))),
+        delayed: false,
+        spot: SPOT,
+    };
+    Ok(process(comb(vec![in alloc; copy]?)))
+}
+
+#[test]
+fn processes_over_bits_of_one_vector_make_a_cycle_only_of_bits(
+    rt: HostRuntime,
+) -> Result<(), Fail> {
+    let alloc = rt.alloc();
+    let wants: [(&[(i64, i64)], &[Option<u32>]); 4] = [
+        (&[(0, 1), (1, 2)], &[Some(0), Some(1)]),
+        (&[(2, 3), (1, 2), (0, 1)], &[Some(2), Some(1), Some(0)]),
+        (&[(0, 1), (1, 0)], &[None, None]),
+        (&[(0, 1), (1, 0), (1, 2), (3, 3)], &[None, None, None, None]),
+    ];
+    for (lines, want) in wants {
+        let signals = [
+            signal(alloc, 2)?,
+            signal(alloc, 4)?,
+            signal(alloc, 4)?,
+            signal(alloc, 4)?,
+        ];
+        let mut processes = Vec::new(alloc);
+        for (from, to) in lines {
+            processes.push(moves_bit(alloc, *from, *to)?)?;
+        }
+        assert!(rt; processes.len() < 5);
+        let widths = Widths { signals: &signals };
+        let levels = levels_of(alloc, widths, &processes)?;
+        assert_eq!(rt; levels.as_slice(), want);
+    }
+    Ok(())
+}
+
+#[test]
+fn a_process_waits_for_what_it_lists_and_not_for_itself(rt: HostRuntime) -> Result<(), Fail> {
+    let alloc = rt.alloc();
+    let signals = [
+        signal(alloc, 2)?,
+        signal(alloc, 4)?,
+        signal(alloc, 4)?,
+        signal(alloc, 4)?,
+    ];
+    let processes = vec![in alloc;
+        moves(alloc, A, S, false)?,
+        lists(alloc, S, A, Y)?,
+        lists(alloc, Z, Y, Z)?,
+    ]?;
+    let widths = Widths { signals: &signals };
+    let levels = levels_of(alloc, widths, &processes)?;
+    let want = [Some(0), Some(1), Some(2)];
+    assert_eq!(rt; levels.as_slice(), want.as_slice());
+    Ok(())
+}
+
+// So many signals of one bit.
+#[tactic(auto, using(crate::proofs::Processes::width_push))]
+fn bits(alloc: Global, count: u32) -> Result<Vec<Signal>, Memory>
+    ensures { IfOk result (λ signals. (i : ℕ) → width_in signals.items i ≤ 128) }
+{
+    let mut signals = Vec::new(alloc);
+    for _number in 0..count {
+        signals.push(signal(alloc, 1)?)?;
+    }
+    Ok(signals)
+}
+
+// Each process passes on what the one behind it has, so that a search goes through all of them
+// before the first has its level.
+#[test]
+fn a_long_chain_has_its_levels(rt: HostRuntime) -> Result<(), Fail> {
+    let alloc = rt.alloc();
+    let signals = bits(alloc, 20_001)?;
+    let mut processes = Vec::new(alloc);
+    for number in 0..20_000u32 {
+        processes.push(moves(alloc, SigId(number + 1), SigId(number), false)?)?;
+    }
+    assert!(rt; processes.len() < 30_000);
+    let widths = Widths { signals: &signals };
+    let levels = levels_of(alloc, widths, &processes)?;
+    assert_eq!(rt; levels.len(), 20_000);
+    assert_eq!(rt; levels.first().copied(), Some(Some(19_999)));
+    assert_eq!(rt; levels.last().copied(), Some(Some(0)));
+    Ok(())
+}
+
+// `if (s) y = a; else y = z;` for 25,000 variables `y`, so that 100,000 statements are scanned.
+#[test]
+fn a_long_body_is_scanned(rt: HostRuntime) -> Result<(), Fail> {
+    let alloc = rt.alloc();
+    let signals = bits(alloc, 25_003)?;
+    let mut body = Vec::new(alloc);
+    for number in 0..25_000u32 {
+        let yes = set(alloc, SigId(number + 3), Select::Whole, A, false)?;
+        let no = set(alloc, SigId(number + 3), Select::Whole, Y, false)?;
+        body.push(Act::If {
+            test: whole(S, 1),
+            yes: vec![in alloc; yes]?,
+            no: Some(vec![in alloc; no]?),
+            spot: SPOT,
+        })?;
+        body.push(set(alloc, S, Select::Whole, SigId(number + 3), false)?)?;
+    }
+    let sets = scan(
+        alloc,
+        Widths { signals: &signals },
+        &comb(body),
+        Counted::Blocking,
+    )?;
+    assert_eq!(rt; sets.done.mask(SigId(25_002)), 1);
+    assert_eq!(rt; sets.reads.mask(SigId(25_002)), 0);
+    assert_eq!(rt; sets.reads.mask(S), 1);
     Ok(())
 }
