@@ -1,0 +1,94 @@
+-- What follows from the answers of the survey and the builder.
+use Rattle.std.proofs.Common.{◌≡◌, ℕ, ◌+◌, ◌≤◌, cond, not, nat_lt, List, [], ◌∷◌, length, map, position, Option, Some, None, Result, Ok, Vec, Global, refl, sym, ap, subst, ◌∙◌}
+use Rattle.std.specs.List.{All, slice_get, position_or_len}
+use Rattle.std.proofs.lemmas.List.{length-map}
+use Rattle.rtl_tree.specs.declared.symbol.Terminal as code
+use Rattle.rtl_tree.specs.declared.tree.modules.Module.{Module}
+use Rattle.rtl_tree.specs.Symbols.{terminal, terminals}
+use Rattle.rtl_tree.specs.Prepared.{Ready}
+use Rattle.rtl_tree.specs.TreeModule.{Circuit, circuit}
+use Rattle.rtl_tree.specs.GrammarModule.{AreSpelled, Spells}
+use Rattle.rtl_tree.specs.Deeper.{too_deep}
+use Rattle.rtl_tree.specs.Depth.{depth}
+use Rattle.rtl_tree.specs.declared.dropped.Dropped.{Dropped}
+use Rattle.rtl_tree.specs.declared.token.Token.{Token}
+use Rattle.rtl_survey.specs.Terminals.{is_refused}
+use Rattle.rtl_survey.specs.Surveys.{AreNumbered, IsDead, AreClosed, IsSurvey}
+use Rattle.rtl_survey.specs.declared.machine.Surveyed.{Surveyed}
+use Rattle.rtl_survey.specs.declared.machine.Surveyed.TheVariants as surveyed
+use Rattle.rtl_build.specs.declared.fault.BuildFault.{BuildFault}
+use Rattle.rtl_build.specs.Built.{IsBuilt}
+use Rattle.rtl_parse.specs.declared.fault.ParseFault.TheVariants.{Refused, Syntax, TooDeep}
+use Rattle.rtl_parse.specs.Parses.{tokens, is_outside, first_outside, IsThere, IsCause}
+use Rattle.rtl_parse.proofs.Shallow.{shallow}
+
+-- the first token that is outside, by number
+length_or : (xs : List code.Terminal) → position_or_len is_outside (map terminal xs) ≡ position_or_len (λ t. is_refused t.symbol) xs
+length_or [] = refl
+length_or (x ∷ xs) = ap (λ n. cond (not (is_refused x.symbol)) (1 + n) 0) (length_or xs)
+
+outside : (xs : List code.Terminal) → position is_outside (map terminal xs) ≡ position (λ t. is_refused t.symbol) xs
+outside xs =
+    ap (λ n. cond (nat_lt n (length (map terminal xs))) (Some n) None) (length_or xs)
+    ∙ ap (λ m. cond (nat_lt (position_or_len (λ (t : code.Terminal). is_refused t.symbol) xs) m) (Some (position_or_len (λ (t : code.Terminal). is_refused t.symbol) xs)) None) (length-map xs terminal)
+
+pub first_of : (ready : Ready) (xs : List code.Terminal) (o : Option ℕ) → map terminal xs ≡ tokens ready → o ≡ position (λ t. is_refused t.symbol) xs → first_outside ready ≡ o
+first_of ready xs o e f = ap (position is_outside) (sym e) ∙ outside xs ∙ sym f
+
+-- the tokens that are read are those of the text, and its numbers have values
+pub record AreRead (ready : Ready) (xs : List code.Terminal) : Type 0 where
+  pub same : map terminal xs ≡ tokens ready
+  pub numbered : AreNumbered (map terminal xs)
+
+pub are_read : (ready : Ready) (text : List ℕ) (all : List Token) (items xs : List code.Terminal) → text ≡ ready.text → all ≡ ready.tokens
+    → map terminal items ≡ terminals text all → AreNumbered (map terminal items) → xs ≡ items → AreRead ready xs
+are_read ready text all items xs e f same numbered g = record {
+  same = ap (map terminal) g ∙ same ∙ ap (λ t. terminals t all) e ∙ ap (λ ts. terminals ready.text ts) f;
+  numbered = subst (λ ys. AreNumbered (map terminal ys)) (sym g) numbered;
+}
+
+-- the place of a token of the text
+pub there : (ready : Ready) (xs : List code.Terminal) (text : List ℕ) (n : ℕ) (word : List ℕ) (at : ℕ) → AreRead ready xs → text ≡ ready.text
+    → IsThere text (slice_get (map terminal xs) n) word at → IsThere ready.text (slice_get (tokens ready) n) word at
+there ready xs text n word at read e found =
+    subst (λ ts. IsThere ready.text (slice_get ts n) word at) read.same (subst (λ t. IsThere t (slice_get (map terminal xs) n) word at) e found)
+
+-- a word that is outside
+pub outside_cause : (ready : Ready) (xs : List code.Terminal) (text : List ℕ) (o : Option ℕ) (n : ℕ) (word : Vec ℕ Global) (at : ℕ) → AreRead ready xs
+    → o ≡ position (λ t. is_refused t.symbol) xs → o ≡ Some n → text ≡ ready.text → IsThere text (slice_get (map terminal xs) n) word.items at
+    → IsCause ready (Refused word at)
+outside_cause ready xs text o n word at read first some e found =
+    (n, first_of ready xs o read.same first ∙ some, there ready xs text n word.items at read e found)
+
+-- no word is
+pub all_inside : (ready : Ready) (xs : List code.Terminal) (o : Option ℕ) → AreRead ready xs → o ≡ position (λ t. is_refused t.symbol) xs → o ≡ None
+    → first_outside ready ≡ None
+all_inside ready xs o read first none = first_of ready xs o read.same first ∙ none
+
+-- where the survey stopped
+pub stop_cause : (ready : Ready) (xs : List code.Terminal) (text : List ℕ) (s : Surveyed) (n : ℕ) (word : Vec ℕ Global) (at : ℕ) → AreRead ready xs
+    → first_outside ready ≡ None → IsSurvey (map terminal xs) s → s ≡ surveyed.Stopped n → text ≡ ready.text
+    → IsThere text (slice_get (map terminal xs) n) word.items at → IsCause ready (Syntax word at)
+stop_cause ready xs text s n word at read inside survey stopped e found =
+    let v : IsSurvey (map terminal xs) (surveyed.Stopped n) = subst (λ x. IsSurvey (map terminal xs) x) stopped survey in
+    (n, inside, subst (λ ts. IsDead ts n) read.same v.1, subst (λ ts. AreClosed ts n) read.same v.2, there ready xs text n word.items at read e found)
+
+-- what is spelled and somewhere too deep
+pub depth_cause : (ready : Ready) (xs : List code.Terminal) (s : Surveyed) (at : ℕ) → AreRead ready xs → first_outside ready ≡ None
+    → IsSurvey (map terminal xs) s → s ≡ surveyed.TooDeep at → IsCause ready (TooDeep at)
+depth_cause ready xs s at read inside survey deep =
+    let some : IsSurvey (map terminal xs) (surveyed.TooDeep at) = subst (λ x. IsSurvey (map terminal xs) x) deep survey in
+    let v = some read.numbered ready.dropped in
+    (v.0, inside, subst (λ ts. AreSpelled ready.dropped ts v.0) read.same v.1, v.2)
+
+-- what is spelled and nowhere too deep is built
+pub built : (ready : Ready) (xs : List code.Terminal) (s : Surveyed) (regions : List Dropped) (result : Result (Vec Module Global) BuildFault)
+    (modules : Vec Module Global) → AreRead ready xs → IsSurvey (map terminal xs) s → s ≡ surveyed.Spelled → regions ≡ ready.dropped
+    → ((cs : List Circuit) → AreSpelled regions (map terminal xs) cs → All (λ c. depth c ≤ 200) cs → IsBuilt cs result) → result ≡ Ok modules
+    → Spells ready (map circuit modules.items) × (too_deep (map circuit modules.items) ≡ [])
+built ready xs s regions result modules read survey spelled e each ok =
+    let some : IsSurvey (map terminal xs) surveyed.Spelled = subst (λ x. IsSurvey (map terminal xs) x) spelled survey in
+    let v = some read.numbered regions in
+    let same : map circuit modules.items ≡ v.0 = subst (λ r. IsBuilt v.0 r) ok (each v.0 v.1 (shallow v.0 v.2)) in
+    let here = subst (λ ds. AreSpelled ds (map terminal xs) v.0) e v.1 in
+    (subst (λ cs. Spells ready cs) (sym same) (subst (λ ts. AreSpelled ready.dropped ts v.0) read.same here), ap too_deep same ∙ v.2)

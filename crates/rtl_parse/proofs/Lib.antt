@@ -1,0 +1,2 @@
+mod Shallow
+mod Answers

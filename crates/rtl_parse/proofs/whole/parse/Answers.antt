@@ -1,0 +1,35 @@
+-- Each answer is told from what the survey and the builder say.
+use Rattle.rtl_parse.proofs.Answers.{are_read, outside_cause, all_inside, stop_cause, depth_cause, built}
+use Rattle.rtl_parse.proofs.whole.parse.Goals as goal
+
+pub returns-in-Some-clause-cause : goal.returns-in-Some-clause-cause
+returns-in-Some-clause-cause g c =
+    let read = are_read c.args.text.now _ _ _ c.as_slice-tokens.result.now c.text.ensures c.tokens.ensures c.in_ok-terminals.ensures.found c.in_ok-terminals.ensures.numbered c.as_slice-tokens.ensures.value in
+    outside_cause c.args.text.now c.as_slice-tokens.result.now c.text-in-Some.result.now c.refused.result c.in-Some.number c.in_ok-word.word c.in_ok-word.at read c.refused.ensures c.in-Some.is c.text-in-Some.ensures c.in_ok-word.ensures
+
+pub returns-in-Stopped-clause-cause : goal.returns-in-Stopped-clause-cause
+returns-in-Stopped-clause-cause g c =
+    let read = are_read c.args.text.now _ _ _ c.as_slice-tokens.result.now c.text.ensures c.tokens.ensures c.in_ok-terminals.ensures.found c.in_ok-terminals.ensures.numbered c.as_slice-tokens.ensures.value in
+    let inside = all_inside c.args.text.now c.as_slice-tokens.result.now c.refused.result read c.refused.ensures c.in_default.is in
+    stop_cause c.args.text.now c.as_slice-tokens.result.now c.text-in-Stopped.result.now c.in_ok-number.field-0 c.in-Stopped.number c.in_ok-token-in-Stopped.token c.in_ok-token-in-Stopped.at read inside c.in_ok-number.ensures c.in-Stopped.is c.text-in-Stopped.ensures c.in_ok-token-in-Stopped.ensures
+
+pub returns-in-TooDeep-clause-cause : goal.returns-in-TooDeep-clause-cause
+returns-in-TooDeep-clause-cause g c =
+    let read = are_read c.args.text.now _ _ _ c.as_slice-tokens.result.now c.text.ensures c.tokens.ensures c.in_ok-terminals.ensures.found c.in_ok-terminals.ensures.numbered c.as_slice-tokens.ensures.value in
+    let inside = all_inside c.args.text.now c.as_slice-tokens.result.now c.refused.result read c.refused.ensures c.in_default.is in
+    depth_cause c.args.text.now c.as_slice-tokens.result.now c.in_ok-number.field-0 c.in-TooDeep.at read inside c.in_ok-number.ensures c.in-TooDeep.is
+
+pub returns-in-Ok-clause-inside : goal.returns-in-Ok-clause-inside
+returns-in-Ok-clause-inside g c =
+    let read = are_read c.args.text.now _ _ _ c.as_slice-tokens.result.now c.text.ensures c.tokens.ensures c.in_ok-terminals.ensures.found c.in_ok-terminals.ensures.numbered c.as_slice-tokens.ensures.value in
+    all_inside c.args.text.now c.as_slice-tokens.result.now c.refused.result read c.refused.ensures c.in_default.is
+
+pub returns-in-Ok-clause-spelled : goal.returns-in-Ok-clause-spelled
+returns-in-Ok-clause-spelled g c =
+    let read = are_read c.args.text.now _ _ _ c.as_slice-tokens.result.now c.text.ensures c.tokens.ensures c.in_ok-terminals.ensures.found c.in_ok-terminals.ensures.numbered c.as_slice-tokens.ensures.value in
+    (built c.args.text.now c.as_slice-tokens.result.now c.in_ok-number.field-0 _ c.build.result c.in-Ok.modules read c.in_ok-number.ensures c.in-Spelled.is c.dropped.ensures c.build.ensures c.in-Ok.is).0
+
+pub returns-in-Ok-clause-shallow : goal.returns-in-Ok-clause-shallow
+returns-in-Ok-clause-shallow g c =
+    let read = are_read c.args.text.now _ _ _ c.as_slice-tokens.result.now c.text.ensures c.tokens.ensures c.in_ok-terminals.ensures.found c.in_ok-terminals.ensures.numbered c.as_slice-tokens.ensures.value in
+    (built c.args.text.now c.as_slice-tokens.result.now c.in_ok-number.field-0 _ c.build.result c.in-Ok.modules read c.in_ok-number.ensures c.in-Spelled.is c.dropped.ensures c.build.ensures c.in-Ok.is).1

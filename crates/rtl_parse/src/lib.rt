@@ -1,0 +1,10 @@
+//! The parser: a prepared text's modules, or why it has none.
+#![tactic(auto)]
+
+mod fault;
+#[cfg(test)]
+mod tests;
+mod whole;
+
+pub use fault::ParseFault;
+pub use whole::parse;

@@ -1,0 +1,77 @@
+// The way of a prepared text through the parser.
+
+ghost use Rattle.std.specs.Prelude.{◌≡◌, ◌+◌, [], None, map, position, IfOk, IfErr};
+ghost use Rattle.std.specs.List.{slice_get};
+ghost use Rattle.rtl_tree.specs.Symbols.{terminal};
+ghost use Rattle.rtl_tree.specs.TreeModule.{circuit};
+ghost use Rattle.rtl_tree.specs.GrammarModule.{Spells};
+ghost use Rattle.rtl_tree.specs.Deeper.{too_deep};
+ghost use Rattle.rtl_parse.specs.Parses.{IsCause, IsThere, first_outside};
+
+use crate::fault::ParseFault;
+use rtl_build::build;
+use rtl_survey::{Surveyed, refused, survey, terminals};
+use rtl_tree::memory::Memory;
+use rtl_tree::prepared::Prepared;
+use rtl_tree::symbol::Terminal;
+use rtl_tree::tree::modules::Module;
+use std::alloc::Global;
+use std::sync::ledger::Ledger;
+use steps::Steps;
+
+/// The text and the place of a token, or of the end of the text.
+fn place(
+    alloc: Global,
+    text: &[u8],
+    tokens: &[Terminal],
+    number: usize,
+) -> Result<(Vec<u8>, u32), Memory>
+    ensures { IfOk result (λ found. IsThere text.now (slice_get (map terminal tokens.now) number) found.0.items found.1) }
+{
+    match tokens.get(number) {
+        Some(token) => Ok((Vec::from_slice(alloc, token.text)?, token.at)),
+        None => Ok((
+            Vec::new(alloc),
+            u32::try_from(text.len()).unwrap_or(u32::MAX),
+        )),
+    }
+}
+
+/// The modules that a prepared text spells. It is searched for a word outside this language first, then surveyed without recursion,
+/// which tells where it stops being spelled and how deep it is nested, and only then built. Each call is one step.
+///
+/// # Errors
+///
+/// `Refused` at the first such word, else `Syntax` where nothing is spelled, else `TooDeep` at the least place that is nested
+/// more than 200 deep; `Memory` where memory runs out.
+pub fn parse<L: Ledger>(
+    alloc: Global,
+    text: &Prepared,
+    steps: &mut Steps<L>,
+) -> Result<Vec<Module>, ParseFault>
+    ensures counted { steps.new ≡ steps.old + 1 }
+    ensures inside { IfOk result (λ _. first_outside text.now ≡ None) }
+    ensures spelled { IfOk result (λ modules. Spells text.now (map circuit modules.items)) }
+    ensures shallow { IfOk result (λ modules. too_deep (map circuit modules.items) ≡ []) }
+    ensures cause { IfErr result (λ fault. IsCause text.now fault) }
+{
+    steps.tick();
+    let terminals = terminals(alloc, text.text(), text.tokens())?;
+    let tokens = terminals.as_slice();
+    if let Some(number) = refused(tokens) {
+        let (word, at) = place(alloc, text.text(), tokens, number)?;
+        return Err(ParseFault::Refused(word, at));
+    }
+    match survey(alloc, tokens)? {
+        Surveyed::Stopped(number) => {
+            let (token, at) = place(alloc, text.text(), tokens, number)?;
+            Err(ParseFault::Syntax(token, at))
+        }
+        Surveyed::TooDeep(at) => Err(ParseFault::TooDeep(at)),
+        Surveyed::Spelled => match build(alloc, tokens, text.dropped()) {
+            Ok(modules) => Ok(modules),
+            // What is spelled and not too deep is built, unless memory runs out.
+            Err(_) => Err(ParseFault::Memory),
+        },
+    }
+}
