@@ -1,0 +1,4 @@
+mod Active
+mod Example
+mod Runs
+mod Wires

@@ -1,0 +1,5 @@
+pub mod Bodies
+pub mod Order
+pub mod Policies
+pub mod Queue
+pub mod Writes
