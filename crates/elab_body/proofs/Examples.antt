@@ -1,0 +1,67 @@
+-- Bodies at work.
+use Rattle.std.specs.Prelude.{ℕ, true, false, if◌then◌else◌, [], ◌∷◌, None, Some}
+use Rattle.std.specs.Str.{bytes_eq}
+use Rattle.std.proofs.Common.{◌≡◌, refl}
+use Rattle.rtl_tree.specs.declared.tree.operators.BinaryOperator.TheVariants.{Add, Less}
+use Rattle.rtl_tree.specs.declared.tree.stmt.AssignmentKind.TheVariants.{Blocking}
+use Rattle.rtl_tree.specs.TreeExpr.{Identifier, Formula, Number, Read, Binary}
+use Rattle.rtl_tree.specs.TreeStmt.{Bit, Whole, Valued, Action, Null, Delayed, Assign, If, For}
+use Rattle.elab_scope.specs.declared.known.Known.TheVariants.{Signal, Integer}
+use Rattle.elab_scope.specs.declared.known.Role.TheVariants.{Variable}
+use Rattle.elab_scope.specs.Faults.{TooLarge, NotAssignable}
+use Rattle.elab_scope.specs.Names.{Meanings}
+use Rattle.elab_scope.specs.Rules.{fault}
+use Rattle.elab_body.specs.Bodies.{all_turns, loop_faults, steps, turns}
+use Rattle.elab_body.specs.Steps.{Statement, Faulty, checked, delays_of}
+
+-- a variable d of two bits and an integer i
+abbrev scope : Meanings
+scope name =
+    if bytes_eq name (100 ∷ []) then Some (Signal 0 Variable (Some (record { width = 2; signed = false; low = 0 })))
+    else if bytes_eq name (105 ∷ []) then Some (Integer None) else None
+
+abbrev d : ℕ → Identifier
+d at = record { text = 100 ∷ []; at = at }
+
+abbrev i : ℕ → Identifier
+i at = record { text = 105 ∷ []; at = at }
+
+abbrev whole : ℕ → ℕ → Formula
+whole n at = Number (record { width = 32; val = n; unk = 0; signed = true; sized = false }) at
+
+-- for (i = 0; i < 2; i = i + 1) body
+abbrev twice : Action → Action
+twice body =
+    For 10 (i 15) (whole 0 19) (Binary Less 24 (Read (i 22)) (whole 2 26)) (i 29) (Binary Add 35 (Read (i 33)) (whole 1 37)) body
+
+-- d[i] = d;
+abbrev one_bit : Action
+one_bit = Assign (Bit (d 50) (Read (i 52))) Blocking None (Read (d 57))
+
+-- a loop is its turns
+two_turns : steps (twice one_bit) scope ≡ Statement 50 ∷ Statement 50 ∷ []
+unfolding turns all_turns loop_faults
+two_turns = refl
+
+-- the statement that is one too many ends it
+one_left : checked 1 9 (steps (twice one_bit) scope) ≡ fault 50 TooLarge ∷ []
+unfolding turns all_turns loop_faults
+one_left = refl
+
+-- a turn that leaves no statement counts as one
+empty_turns : steps (twice (Null 50)) scope ≡ Statement 10 ∷ Statement 10 ∷ []
+unfolding turns all_turns loop_faults
+empty_turns = refl
+
+-- a delay counts in each turn
+two_delays : delays_of (steps (twice (Delayed (record { at = 45; span = Valued (whole 5 47) }) one_bit)) scope) ≡ 45 ∷ 45 ∷ []
+unfolding turns all_turns loop_faults
+two_delays = refl
+
+-- a branch that a constant condition doesn't take isn't looked at
+not_taken : steps (If 10 (whole 0 14) (Assign (Whole (i 20)) Blocking None (Read (d 24)))) scope ≡ []
+not_taken = refl
+
+-- outside its loop an integer is neither read nor assigned
+outside : steps (Assign (Whole (i 20)) Blocking None (Read (i 24))) scope ≡ Statement 20 ∷ Faulty (fault 20 (NotAssignable (105 ∷ []))) ∷ Faulty (fault 24 (NotAssignable (105 ∷ []))) ∷ []
+outside = refl

@@ -1,0 +1,6 @@
+pub mod Acts
+pub mod Bodies
+pub mod Courses
+pub mod Events
+pub mod Made
+pub mod Steps
