@@ -1,0 +1,8 @@
+pub mod Claims
+pub mod Declarations
+pub mod Drafts
+pub mod Reaches
+pub mod Rosters
+pub mod Scopes
+pub mod Settings
+pub mod Signals
