@@ -1,0 +1,13 @@
+pub mod Always
+pub mod Apart
+pub mod Assignments
+pub mod Bodies
+pub mod Examples
+pub mod Labels
+pub mod Lists
+pub mod Made
+pub mod Steps
+pub mod Targets
+pub mod Turns
+pub mod Values
+pub mod Widths

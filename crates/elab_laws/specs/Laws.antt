@@ -1,0 +1,111 @@
+-- What is without faults is lawful in the design: the laws that elaboration rests on.
+use Rattle.std.specs.Prelude.{ℕ, ℤ, ◌<◌, ◌≤◌, ◌≡◌, Bool, true, false, List, [], ◌∷◌, map, length, Option}
+use Rattle.std.specs.List.{All, list_any}
+use Rattle.rtl_tree.specs.declared.text.Spot.{Spot}
+use Rattle.rtl_tree.specs.TreeExpr.{Formula}
+use Rattle.rtl_tree.specs.TreeStmt.{Action, Target}
+use Rattle.rtl_tree.specs.TreeItem.{Happening, Listed, Sensitivity}
+use Rattle.rtl_flat.specs.declared.signal.Kind.TheVariants.{Net, Var}
+use Rattle.rtl_flat.specs.declared.signal.Signal.{Signal}
+use Rattle.rtl_flat.specs.declared.instance.Instance.{Instance}
+use Rattle.rtl_flat.specs.Expression.{Sized}
+use Rattle.rtl_flat.specs.Expression as tree
+use Rattle.rtl_flat.specs.Process.{Assign, Comb, Edge', Whole, body_of}
+use Rattle.rtl_flat.specs.Signs.{Has, IsExpression, width_in}
+use Rattle.rtl_flat.specs.Sizing.{HaveBits, signed_in}
+use Rattle.rtl_flat.specs.WellFormed.{IsAssignment, IsBody, IsList, IsProcess, IsSignal, IsWatched, has_edge, statements_of}
+use Rattle.elab_scope.specs.declared.rules.Writer.TheVariants.{Continuous, Procedural}
+use Rattle.elab_scope.specs.declared.widths.Breadth.{Breadth}
+use Rattle.elab_scope.specs.declared.widths.Breadth.TheVariants.{Bits}
+use Rattle.elab_scope.specs.Expressions.{faults}
+use Rattle.elab_scope.specs.Names.{Meanings, indexed}
+use Rattle.elab_scope.specs.Own.{breadth, sign}
+use Rattle.elab_scope.specs.Targets.{assigned_context, pieces_of, target_breadth, target_faults}
+use Rattle.elab_scope.specs.Trees.{tree_of}
+use Rattle.elab_scope.specs.Widths.{bits, wider}
+use Rattle.elab_body.specs.Acts.{acts}
+use Rattle.elab_body.specs.Bodies.{steps}
+use Rattle.elab_body.specs.Events.{is_clocked_by, listing_of, sensitivity_faults, watched_of}
+use Rattle.elab_body.specs.Steps.{Step, checked, delays_of}
+use Rattle.elab_laws.specs.Faultless.{AreFaultless, statement_count}
+use Rattle.elab_laws.specs.Scopes.{IsScopeOf}
+
+-- ---- signals
+
+-- signals of a design have bits, and no more than 128
+abbrev pub SignalsLaw : Type 0
+SignalsLaw =
+    (instances : List Instance) (signals : List Signal) → All (IsSignal instances) signals → HaveBits signals × ((i : ℕ) → i < length signals → width_in signals i ≤ 128)
+
+-- ---- assignments
+
+-- a continuous assignment: its target is of nets, at places that are known, and has no bit twice; its value is sized
+-- with it
+abbrev pub ContinuousLaw : Type 0
+ContinuousLaw =
+    (file base : ℕ) (scope : Meanings) (signals : List Signal) → IsScopeOf base signals scope → (target : Target) (value : Formula) → target_faults Continuous scope target ≡ [] → faults scope value ≡ [] → IsProcess signals (Assign (pieces_of file base scope target) (tree_of file base scope value (assigned_context scope value target)))
+
+-- an assignment in a statement: its target is of variables
+abbrev pub ProceduralLaw : Type 0
+ProceduralLaw =
+    (file base : ℕ) (scope : Meanings) (signals : List Signal) → IsScopeOf base signals scope → (target : Target) (value : Formula) → target_faults Procedural scope target ≡ [] → faults scope value ≡ [] → IsAssignment signals Var (pieces_of file base scope target) (tree_of file base scope value (assigned_context scope value target))
+
+-- ---- sensitivity lists
+
+-- a list without edges
+abbrev pub ListLaw : Type 0
+ListLaw =
+    (file base : ℕ) (scope : Meanings) (signals : List Signal) → IsScopeOf base signals scope → (list : Sensitivity) → sensitivity_faults scope list ≡ [] → is_clocked_by list ≡ false → IsList signals (listing_of file base scope list)
+
+-- events of which one is an edge
+abbrev pub EventsLaw : Type 0
+EventsLaw =
+    (file base : ℕ) (scope : Meanings) (signals : List Signal) → IsScopeOf base signals scope → (events : List Happening) → sensitivity_faults scope (Listed events) ≡ [] → is_clocked_by (Listed events) ≡ true → All (IsWatched signals) (map (watched_of file base scope) events) × (list_any (λ item. has_edge item.edge) (map (watched_of file base scope) events) ≡ true)
+
+-- ---- bodies
+
+-- in a turn of a loop the names stand for the same signals
+abbrev pub TurnLaw : Type 0
+TurnLaw =
+    (base : ℕ) (scope : Meanings) (signals : List Signal) → IsScopeOf base signals scope → (name : List ℕ) (number : Option ℤ) → IsScopeOf base signals (indexed scope name number)
+
+abbrev pub BodyLaw : Type 0
+BodyLaw =
+    (file base : ℕ) (scope : Meanings) (signals : List Signal) → IsScopeOf base signals scope → (body : Action) → AreFaultless (steps body scope) → IsBody signals (body_of (acts file base body scope))
+
+-- the statements of a body are no more than those that count among its steps
+abbrev pub CountLaw : Type 0
+CountLaw =
+    (file base : ℕ) (scope : Meanings) (signals : List Signal) → IsScopeOf base signals scope → (body : Action) → AreFaultless (steps body scope) → statements_of (body_of (acts file base body scope)) ≤ statement_count (steps body scope)
+
+-- steps of which nothing is told, where so many statements and delays are allowed
+abbrev pub LimitLaw : Type 0
+LimitLaw =
+    (statements delays : ℕ) (all : List Step) → checked statements delays all ≡ [] → AreFaultless all × (statement_count all ≤ statements) × (length (delays_of all) ≤ delays)
+
+-- an `always` that waits for no edge
+abbrev pub CombLaw : Type 0
+CombLaw =
+    (file base : ℕ) (scope : Meanings) (signals : List Signal) → IsScopeOf base signals scope → (list : Sensitivity) (body : Action) → sensitivity_faults scope list ≡ [] → is_clocked_by list ≡ false → AreFaultless (steps body scope) → IsProcess signals (Comb (listing_of file base scope list) (body_of (acts file base body scope)))
+
+-- an `always` that waits for an edge
+abbrev pub EdgeLaw : Type 0
+EdgeLaw =
+    (file base : ℕ) (scope : Meanings) (signals : List Signal) → IsScopeOf base signals scope → (events : List Happening) (body : Action) → sensitivity_faults scope (Listed events) ≡ [] → is_clocked_by (Listed events) ≡ true → AreFaultless (steps body scope) → IsProcess signals (Edge' (map (watched_of file base scope) events) (body_of (acts file base body scope)))
+
+-- ---- connections of instances (IEEE 1364-2001 section 12.3.9): continuous assignments to or from a port
+
+-- a signal that is read whole, in a context that is no narrower and signed only where the signal is
+abbrev pub ReadLaw : Type 0
+ReadLaw =
+    (signals : List Signal) → HaveBits signals → (port width : ℕ) (signed : Bool) (spot : Spot) → port < length signals → width_in signals port ≤ width → width ≤ 128 → (signed ≡ true → signed_in signals port ≡ true) → IsExpression signals (Sized width signed spot (tree.Whole port))
+
+-- an input takes its argument
+abbrev pub InputLaw : Type 0
+InputLaw =
+    (file base : ℕ) (scope : Meanings) (signals : List Signal) → IsScopeOf base signals scope → (port : ℕ) (spot : Spot) (own : Breadth) (value : Formula) → port < length signals → width_in signals port ≤ 128 → own ≡ Bits (width_in signals port) → Has (λ s. s.kind ≡ Net) signals port → faults scope value ≡ [] → IsProcess signals (Assign (record { signal = port; selection = Whole; spot = spot } ∷ []) (tree_of file base scope value (record { width = bits (wider own (breadth scope value)); signed = sign scope value })))
+
+-- an output drives its argument
+abbrev pub OutputLaw : Type 0
+OutputLaw =
+    (file base : ℕ) (scope : Meanings) (signals : List Signal) → IsScopeOf base signals scope → (target : Target) (port : ℕ) (signed : Bool) (spot : Spot) (own : Breadth) → port < length signals → width_in signals port ≤ 128 → own ≡ Bits (width_in signals port) → (signed ≡ true → signed_in signals port ≡ true) → target_faults Continuous scope target ≡ [] → IsProcess signals (Assign (pieces_of file base scope target) (Sized (bits (wider (target_breadth scope target) own)) signed spot (tree.Whole port)))

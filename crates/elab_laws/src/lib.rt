@@ -1,0 +1,4 @@
+//! What is without faults is lawful in the design: targets, sensitivity lists, bodies and connections.
+#![tactic(auto)]
+
+pub mod law;
