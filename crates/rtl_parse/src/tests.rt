@@ -357,6 +357,26 @@ fn a_refused_word_comes_before_every_other_fault(rt: HostRuntime) -> Result<(), 
     Ok(())
 }
 
+/// The words of constructs outside this language.
+const OUTSIDE: &[u8] =
+    b"fork join wait force release disable deassign defparam real realtime time event task endtask \
+specify endspecify specparam primitive endprimitive table endtable while repeat forever supply0 supply1 tri tri0 tri1 \
+triand trior trireg wand wor scalared vectored and nand nor xor xnor not buf bufif0 bufif1 notif0 notif1 nmos pmos cmos \
+rnmos rpmos rcmos tran tranif0 tranif1 rtran rtranif0 rtranif1 pullup pulldown inout function endfunction generate \
+endgenerate genvar config library $display $time $signedness ** -> +: -:";
+
+#[test]
+fn each_word_and_mark_outside_the_language_is_refused(rt: HostRuntime) -> Result<(), Fail> {
+    for word in OUTSIDE.split(|b| *b == b' ') {
+        let mut text = Vec::from_slice(rt.alloc(), b"module m; ")?;
+        append(&mut text, word, 1)?;
+        let wanted = named(rt.alloc(), b"Refused ", word, 10)?;
+        let found = other(rt.alloc(), text.as_slice(), wanted.as_slice())?;
+        assert!(rt; found.is_empty(), "{}", found.as_slice().escape_ascii());
+    }
+    Ok(())
+}
+
 #[test]
 fn nesting_is_counted_to_200(rt: HostRuntime) -> Result<(), Fail> {
     let assign: &[u8] = b"module m; assign y = ";
