@@ -1,0 +1,13 @@
+use Rattle.std.proofs.Common.{◌≡◌, map, drop}
+use Rattle.std.specs.Option.{option_map}
+use Rattle.rtl_tree.specs.TreeItem.{associated}
+use Rattle.elab_scope.specs.Faults.{after, refusal}
+use Rattle.elab_scope.specs.Names.{meanings}
+use Rattle.elab_links.specs.Marks.{marks_of, no_marks}
+use Rattle.elab_links.specs.Parameters.{named_setting_faults}
+use Rattle.elab_links.proofs.parameters.judge_named.Given as goal
+
+abbrev pub invariant-loop-argument : goal.invariant-loop-argument
+invariant-loop-argument l =
+    after (option_map refusal l.best) (named_setting_faults (marks_of l.known) (meanings l.names) (marks_of l.taken) (map associated (drop l.argument-index l.arguments)))
+    ≡ after (option_map refusal l.initial.best) (named_setting_faults (marks_of l.known) (meanings l.names) no_marks (map associated l.arguments))

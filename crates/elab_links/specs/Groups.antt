@@ -1,0 +1,54 @@
+-- The instances that an item places, with what they set their parameters to.
+use Rattle.std.specs.Prelude.{ℕ, List, [], ◌∷◌, Option, None, Some, map}
+use Rattle.rtl_tree.specs.TreeExpr.{Identifier, identifier}
+use Rattle.rtl_tree.specs.TreeItem.{ModuleItem, Ports, Nets, Variables, Integers, Parameters, Drives, Always, Instances, Association, Placement, placement}
+use Rattle.rtl_tree.specs.TreeModule.{Circuit, circuit}
+use Rattle.elab_scope.specs.Names.{Meanings}
+use Rattle.elab_items.specs.Declarations.{declarations}
+use Rattle.elab_items.specs.Settings.{Settings, settings_of}
+use Rattle.elab_links.specs.declared.groups.Group.{Group as Kept}
+use Rattle.elab_links.specs.declared.module_set.Finding.{Finding}
+use Rattle.elab_links.specs.declared.module_set.Finding.TheVariants.{Missing, Found, Twice}
+use Rattle.elab_links.specs.declared.module_set.Place.{Place}
+use Rattle.elab_links.specs.Modules.{Findings, circuit_at}
+use Rattle.elab_links.specs.Parameters.{settable, settings_by}
+
+-- instances of one module with the same parameters: the place of the module and the module itself, what its parameters
+-- are set to, and the instances in order
+pub record Group : Type 0 where
+  pub place : Place
+  pub circuit : Circuit
+  pub settings : Settings
+  pub placements : List Placement
+
+abbrev pub group : Kept → Group
+group kept =
+    record {
+      place = kept.place;
+      circuit = circuit kept.written.now;
+      settings = settings_of kept.overrides;
+      placements = map placement kept.instances.now;
+    }
+
+abbrev pub group_at : Meanings → Place → Option Circuit → Association → List Placement → Option Group
+group_at scope place None parameters placements = None
+group_at scope place (Some circuit) parameters placements =
+    Some (record { place = place; circuit = circuit; settings = settings_by (settable (declarations circuit)) scope parameters; placements = placements })
+
+abbrev pub found_group : List (List Circuit) → Meanings → Finding → Association → List Placement → Option Group
+found_group files scope Missing parameters placements = None
+found_group files scope Twice parameters placements = None
+found_group files scope (Found place) parameters placements =
+    group_at scope place (circuit_at files place) parameters placements
+
+-- the instances that an item places, where their module is found
+abbrev pub group_of : Findings → List (List Circuit) → Meanings → ModuleItem → Option Group
+group_of findings files scope (Instances child parameters placements) =
+    found_group files scope (findings child.text) parameters placements
+group_of findings files scope (Ports head names) = None
+group_of findings files scope (Nets at signed bounds nets) = None
+group_of findings files scope (Variables at signed bounds variables) = None
+group_of findings files scope (Integers at names) = None
+group_of findings files scope (Parameters at kind bounds values) = None
+group_of findings files scope (Drives at pause drives) = None
+group_of findings files scope (Always at sensitivity body) = None

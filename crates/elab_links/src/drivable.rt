@@ -1,0 +1,224 @@
+//! Arguments of output ports: what a port may drive.
+
+ghost use Rattle.std.specs.Prelude.{◌≡◌, ◌++◌, IfOk, OnOk, map};
+ghost use Rattle.std.specs.List.{list_any};
+ghost use Rattle.rtl_tree.specs.TreeExpr.{formula, formula_row};
+ghost use Rattle.elab_scope.specs.Names.{meanings};
+ghost use Rattle.elab_scope.specs.Own.{breadth};
+ghost use Rattle.elab_scope.specs.Targets.{bit_cover, overlap, part_cover, whole_cover};
+ghost use Rattle.elab_links.specs.Drivable.{all_covers_of, all_have_nets, cover_list, covers_of, drivable, has_nets, may_link, meet, meets_itself};
+
+use elab_scope::covers::Cover;
+use elab_scope::known::{Known, Role};
+use elab_scope::names::Names;
+use elab_scope::size::field_in;
+use elab_scope::widths::{Breadth, Field};
+use rtl_const::evaluate::constant;
+use rtl_const::fault::ConstFault;
+use rtl_tree::memory::Memory;
+use rtl_tree::tree::expr::Expr;
+use std::alloc::Global;
+
+/// A net may be driven; that a name isn't declared is a fault of its own.
+fn may_link(known: Option<Known>) -> bool
+    ensures { result ≡ may_link known }
+{
+    match known {
+        None => true,
+        Some(Known::Signal { role, .. }) => match role {
+            Role::Net => true,
+            Role::Input | Role::Variable => false,
+        },
+        Some(Known::Parameter { .. }) | Some(Known::Integer(_)) => false,
+    }
+}
+
+/// Whether an argument is a net, a bit of one with a constant index, a part of one, or several of these beside one
+/// another.
+#[cycle(has_nets)]
+#[tactic(auto, using(crate::proofs::Rows::concat_nets))]
+fn has_nets(e: &Expr, names: &Names) -> bool
+    ensures { result ≡ has_nets (meanings names.now) (formula e.now) }
+{
+    match e {
+        Expr::Read(name) => may_link(names.find(&name.text)),
+        Expr::ReadBit(name, index) => {
+            may_link(names.find(&name.text)) && constant(index, names).is_ok()
+        }
+        Expr::ReadPart(name, _, _) => may_link(names.find(&name.text)),
+        Expr::Concat(_, parts) => all_have_nets(parts, names),
+        Expr::Number(_, _)
+        | Expr::Parens(_, _)
+        | Expr::Convert(_, _, _)
+        | Expr::Repeat(_, _, _)
+        | Expr::Unary(_, _, _)
+        | Expr::Binary(_, _, _, _)
+        | Expr::Choose(_, _, _, _) => false,
+    }
+}
+
+#[cycle(has_nets)]
+fn all_have_nets(parts: &[Expr], names: &Names) -> bool
+    ensures { result ≡ all_have_nets (meanings names.now) (formula_row (map formula parts.now)) }
+{
+    for part in parts {
+        if !has_nets(part, names) {
+            return false;
+        }
+    }
+    true
+}
+
+fn whole_cover(known: Option<Known>) -> Option<Cover>
+    ensures { result ≡ whole_cover known }
+{
+    match known {
+        Some(
+            Known::Signal {
+                number,
+                shape: Some(shape),
+                ..
+            },
+        ) => Some(Cover {
+            signal: number,
+            low: 0,
+            count: shape.width,
+        }),
+        _ => None,
+    }
+}
+
+fn bit_cover(known: Option<Known>, index: Result<i64, ConstFault>) -> Option<Cover>
+    ensures { result ≡ bit_cover known index }
+{
+    match (known, index) {
+        (
+            Some(
+                Known::Signal {
+                    number,
+                    shape: Some(shape),
+                    ..
+                },
+            ),
+            Ok(index),
+        ) => {
+            let low = i64::from(shape.low);
+            if low <= index && index < low + i64::from(shape.width) {
+                Some(Cover {
+                    signal: number,
+                    low: (index - low) as u8,
+                    count: 1,
+                })
+            } else {
+                None
+            }
+        }
+        _ => None,
+    }
+}
+
+fn part_cover(known: Option<Known>, field: Option<Field>) -> Option<Cover>
+    ensures { result ≡ part_cover known field }
+{
+    match (known, field) {
+        (Some(Known::Signal { number, .. }), Some(field)) => Some(Cover {
+            signal: number,
+            low: field.low,
+            count: field.width,
+        }),
+        _ => None,
+    }
+}
+
+/// Whether both have a bit in common.
+fn overlap(one: Cover, other: Cover) -> bool
+    ensures { result ≡ overlap one other }
+{
+    let end = u16::from(one.low) + u16::from(one.count);
+    let other_end = u16::from(other.low) + u16::from(other.count);
+    one.signal == other.signal && u16::from(one.low) < other_end && u16::from(other.low) < end
+}
+
+fn push_cover(cover: Option<Cover>, covers: &mut Vec<Cover>) -> Result<(), Memory>
+    ensures { OnOk result (covers.new.items ≡ covers.old.items ++ cover_list cover) }
+{
+    if let Some(cover) = cover {
+        covers.push(cover)?;
+    }
+    Ok(())
+}
+
+/// The bits that are driven through an argument, behind others.
+#[cycle(push_covers)]
+#[tactic(auto, using(crate::proofs::Rows::concat_covers))]
+fn push_covers(e: &Expr, names: &Names, covers: &mut Vec<Cover>) -> Result<(), Memory>
+    ensures { OnOk result (covers.new.items ≡ covers.old.items ++ covers_of (meanings names.now) (formula e.now)) }
+{
+    match e {
+        Expr::Read(name) => push_cover(whole_cover(names.find(&name.text)), covers)?,
+        Expr::ReadBit(name, index) => {
+            let cover = bit_cover(names.find(&name.text), constant(index, names));
+            push_cover(cover, covers)?;
+        }
+        Expr::ReadPart(name, msb, lsb) => {
+            let known = names.find(&name.text);
+            let field = field_in(known, constant(msb, names), constant(lsb, names));
+            push_cover(part_cover(known, field), covers)?;
+        }
+        Expr::Concat(_, parts) => push_all_covers(parts, names, covers)?,
+        Expr::Number(_, _)
+        | Expr::Parens(_, _)
+        | Expr::Convert(_, _, _)
+        | Expr::Repeat(_, _, _)
+        | Expr::Unary(_, _, _)
+        | Expr::Binary(_, _, _, _)
+        | Expr::Choose(_, _, _, _) => {}
+    }
+    Ok(())
+}
+
+#[cycle(push_covers)]
+#[tactic(auto, using(std::proofs::lemmas::Grind::common_steps))]
+fn push_all_covers(parts: &[Expr], names: &Names, covers: &mut Vec<Cover>) -> Result<(), Memory>
+    ensures { OnOk result (covers.new.items ≡ covers.old.items ++ all_covers_of (meanings names.now) (formula_row (map formula parts.now))) }
+{
+    for part in parts {
+        push_covers(part, names, covers)?;
+    }
+    Ok(())
+}
+
+/// Whether a part has a bit that stands in one of some others too.
+fn meets_one(cover: Cover, others: &[Cover]) -> bool
+    ensures { result ≡ list_any (overlap cover) others.now }
+{
+    others.iter().any(|other| overlap(cover, *other))
+}
+
+/// Whether one of some parts has a bit that stands in a later one too.
+fn meet(covers: &[Cover]) -> bool
+    ensures { result ≡ meet covers.now }
+{
+    match covers.split_first() {
+        None => false,
+        Some((first, others)) => meets_one(*first, others) || meet(others),
+    }
+}
+
+/// Whether an output port may drive an argument of this breadth.
+pub fn drivable(alloc: Global, e: &Expr, width: Breadth, names: &Names) -> Result<bool, Memory>
+    requires { width ≡ breadth (meanings names.now) (formula e.now) }
+    ensures { IfOk result (λ may. may ≡ drivable (meanings names.now) (formula e.now)) }
+{
+    if !has_nets(e, names) {
+        return Ok(false);
+    }
+    match width {
+        Breadth::Bits(_) => {
+            let mut covers = Vec::new(alloc);
+            push_covers(e, names, &mut covers)?;
+            Ok(!meet(&covers))
+        }
+        Breadth::Unfit | Breadth::Hidden => Ok(true),
+    }
+}

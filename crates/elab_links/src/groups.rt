@@ -1,0 +1,85 @@
+//! The instances that an item places.
+
+ghost use Rattle.std.specs.Prelude.{◌≡◌, IfOk, map};
+ghost use Rattle.std.specs.Option.{option_map};
+ghost use Rattle.rtl_tree.specs.TreeItem.{association, module_item, placement};
+ghost use Rattle.elab_scope.specs.Names.{meanings};
+ghost use Rattle.elab_links.specs.Groups.{found_group, group, group_of};
+ghost use Rattle.elab_links.specs.Modules.{circuits_of, findings_of};
+
+use crate::module_set::{Finding, ModuleSet, Place, module_at};
+use crate::parameters::{settable, settings_by};
+use elab_items::entries::entries_of;
+use elab_items::overrides::Overrides;
+use elab_scope::names::Names;
+use rtl_tree::memory::Memory;
+use rtl_tree::tree::item::{Arguments, Instance, Item};
+use rtl_tree::tree::modules::Module;
+use std::alloc::Global;
+
+/// Instances of one module with the same parameters.
+#[derive(Drop)]
+pub struct Group<'a> {
+    /// Where their module stands.
+    pub place: Place,
+    pub written: &'a Module,
+    /// What their parameters are set to.
+    pub overrides: Overrides,
+    /// In the order of the item.
+    pub instances: &'a [Instance],
+}
+
+fn found_group<'a>(
+    alloc: Global,
+    files: &'a [Vec<Module>],
+    finding: Finding,
+    parameters: &Arguments,
+    instances: &'a [Instance],
+    names: &Names,
+) -> Result<Option<Group<'a>>, Memory>
+    ensures { IfOk result (λ made. option_map group made ≡ found_group (circuits_of files.now) (meanings names.now) finding (association parameters.now) (map placement instances.now)) }
+{
+    let Finding::Found(place) = finding else {
+        return Ok(None);
+    };
+    let Some(written) = module_at(files, place) else {
+        return Ok(None);
+    };
+    let entries = entries_of(alloc, written)?;
+    let settable = settable(alloc, &entries)?;
+    Ok(Some(Group {
+        place,
+        written,
+        overrides: settings_by(alloc, &settable, parameters, names)?,
+        instances,
+    }))
+}
+
+/// The instances that an item places, where their module is found; `names` are those of the module that holds it.
+pub fn group_of<'a>(
+    alloc: Global,
+    files: &'a [Vec<Module>],
+    set: &ModuleSet,
+    item: &'a Item,
+    names: &Names,
+) -> Result<Option<Group<'a>>, Memory>
+    ensures { IfOk result (λ made. option_map group made ≡ group_of (findings_of set.now) (circuits_of files.now) (meanings names.now) (module_item item.now)) }
+{
+    match item {
+        Item::Instances {
+            child,
+            parameters,
+            instances,
+        } => {
+            let finding = set.find(&child.text);
+            found_group(alloc, files, finding, parameters, instances, names)
+        }
+        Item::Ports(_, _)
+        | Item::Wires { .. }
+        | Item::Regs { .. }
+        | Item::Integers(_, _)
+        | Item::Parameters { .. }
+        | Item::Assigns(_, _, _)
+        | Item::Always(_, _, _) => Ok(None),
+    }
+}

@@ -1,0 +1,184 @@
+//! The ports of a module.
+
+ghost use Rattle.std.specs.Prelude.{◌≡◌, ◌++◌, IfOk, OnOk, map};
+ghost use Rattle.rtl_tree.specs.TreeExpr.{identifier};
+ghost use Rattle.rtl_tree.specs.TreeModule.{circuit, header, header_port};
+ghost use Rattle.elab_items.specs.Claims.{direction_of};
+ghost use Rattle.elab_items.specs.Declarations.{declaration, declarations};
+ghost use Rattle.elab_links.specs.Marks.{marks_of, no_marks, with_marks};
+ghost use Rattle.elab_links.specs.Ports.{all_directed, directed, directions_of, no_directions, port_name, port_names, set_direction, sockets, sockets_of, with_direction};
+
+use crate::marks::NameSet;
+use elab_items::entries::{Entry, Form};
+use rtl_tree::memory::Memory;
+use rtl_tree::text::Text;
+use rtl_tree::tree::item::Direction;
+use rtl_tree::tree::modules::{HeadPort, Module, PortList};
+use rtl_tree::tree::names::Name;
+use std::alloc::Global;
+use std::collections::BTreeMap;
+
+/// The direction of each name that has one.
+#[derive(Drop)]
+pub struct Directions {
+    alloc: Global,
+    known: BTreeMap<Vec<u8>, Direction>,
+}
+
+impl Directions {
+    fn new(alloc: Global) -> Directions
+        ensures { directions_of result ≡ no_directions }
+    {
+        Directions {
+            alloc,
+            known: BTreeMap::new(alloc),
+        }
+    }
+
+    fn find(&self, name: &Text) -> Option<Direction>
+        ensures { result ≡ directions_of self.now name.now }
+    {
+        self.known.get(name.as_bytes()).copied()
+    }
+
+    fn put(&mut self, name: &Text, direction: Direction) -> Result<(), Memory>
+        ensures { OnOk result (directions_of self.new ≡ set_direction (directions_of self.old) name.now direction) }
+    {
+        let key = Vec::from_slice(self.alloc, name.as_bytes())?;
+        self.known.insert(key, direction)?;
+        Ok(())
+    }
+
+    /// A name has the first direction that is given to it.
+    fn enter(&mut self, name: &Text, direction: Option<Direction>) -> Result<(), Memory>
+        ensures { OnOk result (directions_of self.new ≡ with_direction (directions_of self.old) name.now direction) }
+    {
+        match direction {
+            None => Ok(()),
+            Some(direction) => {
+                if self.find(name).is_some() {
+                    return Ok(());
+                }
+                self.put(name, direction)
+            }
+        }
+    }
+
+    fn declare(&mut self, entry: Entry<'_>) -> Result<(), Memory>
+        ensures { OnOk result (directions_of self.new ≡ directed (directions_of self.old) (declaration entry.entry)) }
+    {
+        match entry {
+            Entry::Signal { form, name, .. } => self.enter(&name.text, direction_of(form))?,
+            Entry::ParameterRange(_) | Entry::Parameter(_, _, _) => {}
+            Entry::SignalRange(_) | Entry::Listed(_) => {}
+            Entry::Integer(_) | Entry::Instance(_) => {}
+        }
+        Ok(())
+    }
+}
+
+fn direction_of(form: Form) -> Option<Direction>
+    ensures { result ≡ direction_of form }
+{
+    match form {
+        Form::Header(direction, _) | Form::Item(direction, _) => Some(direction),
+        Form::Wire | Form::Reg => None,
+    }
+}
+
+/// The direction of each name, by the declarations of its module.
+fn directions_by(alloc: Global, entries: &[Entry<'_>]) -> Result<Directions, Memory>
+    ensures { IfOk result (λ made. directions_of made ≡ all_directed no_directions (map declaration entries.now)) }
+{
+    let mut made = Directions::new(alloc);
+    for entry in entries {
+        made.declare(*entry)?;
+    }
+    Ok(made)
+}
+
+fn push_declared<'a>(ports: &'a [HeadPort], order: &mut Vec<&'a Name>) -> Result<(), Memory>
+    ensures { OnOk result (map (λ name. identifier name.now) order.new.items ≡ map (λ name. identifier name.now) order.old.items ++ map port_name (map header_port ports.now)) }
+{
+    for port in ports {
+        order.push(&port.name)?;
+    }
+    Ok(())
+}
+
+fn push_named<'a>(names: &'a [Name], order: &mut Vec<&'a Name>) -> Result<(), Memory>
+    ensures { OnOk result (map (λ name. identifier name.now) order.new.items ≡ map (λ name. identifier name.now) order.old.items ++ map identifier names.now) }
+{
+    for name in names {
+        order.push(name)?;
+    }
+    Ok(())
+}
+
+/// The names in a head, in the order of the ports.
+fn port_names<'a>(alloc: Global, ports: &'a PortList) -> Result<Vec<&'a Name>, Memory>
+    ensures { IfOk result (λ order. map (λ name. identifier name.now) order.items ≡ port_names (header ports.now)) }
+{
+    let mut order = Vec::new(alloc);
+    match ports {
+        PortList::Absent | PortList::Empty => {}
+        PortList::Declared(ports) => push_declared(ports, &mut order)?,
+        PortList::Named(names) => push_named(names, &mut order)?,
+    }
+    Ok(order)
+}
+
+/// The set of these names.
+pub fn set_of(alloc: Global, names: &[&Name]) -> Result<NameSet, Memory>
+    ensures { IfOk result (λ set. marks_of set ≡ with_marks no_marks (map (λ name. identifier name.now) names.now)) }
+{
+    let mut set = NameSet::new(alloc);
+    for name in names {
+        set.add(&name.text)?;
+    }
+    Ok(set)
+}
+
+/// The ports of a module.
+#[derive(Drop)]
+pub struct Ports<'a> {
+    /// Their names, in the order of the head.
+    pub order: Vec<&'a Name>,
+    listed: NameSet,
+    directions: Directions,
+}
+
+impl<'a> Ports<'a> {
+    /// The ports of a module with these declarations.
+    pub fn new(
+        alloc: Global,
+        written: &'a Module,
+        entries: &[Entry<'a>],
+    ) -> Result<Ports<'a>, Memory>
+        requires { map declaration entries.now ≡ declarations (circuit written.now) }
+        ensures { IfOk result (λ made. sockets made ≡ sockets_of (circuit written.now)) }
+    {
+        let order = port_names(alloc, &written.ports)?;
+        let listed = set_of(alloc, &order)?;
+        let directions = directions_by(alloc, entries)?;
+        Ok(Ports {
+            order,
+            listed,
+            directions,
+        })
+    }
+
+    /// Whether a port has the name.
+    pub fn has(&self, name: &Text) -> bool
+        ensures { result ≡ (sockets self.now).listed name.now }
+    {
+        self.listed.has(name)
+    }
+
+    /// The direction of the port, where it is known.
+    pub fn direction(&self, name: &Text) -> Option<Direction>
+        ensures { result ≡ (sockets self.now).direction name.now }
+    {
+        self.directions.find(name)
+    }
+}
