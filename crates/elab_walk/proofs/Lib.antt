@@ -1,0 +1,6 @@
+pub mod Ending
+mod Examples
+pub mod Leaving
+pub mod Rows
+pub mod Seeking
+pub mod Telling

@@ -1,0 +1,122 @@
+-- How far instances go towards the limits on the size of a design.
+use Rattle.std.specs.Prelude.{ℕ, zero, suc, ◌+◌, ◌-◌, List, [], ◌∷◌, ◌++◌, length, Option, None, Some}
+use Rattle.std.specs.List.{slice_get}
+use Rattle.rtl_tree.specs.TreeExpr.{Formula}
+use Rattle.rtl_tree.specs.TreeItem.{ModuleItem, Ports, Nets, Variables, Integers, Parameters, Drives, Always, Instances, Association, ByPosition, ByName, Associated, Positional, Placement}
+use Rattle.elab_scope.specs.Faults.{Refusal, TooLarge}
+use Rattle.elab_scope.specs.Names.{Meanings}
+use Rattle.elab_scope.specs.Rules.{fault}
+use Rattle.elab_body.specs.Steps.{Step, delays_of, faulty}
+use Rattle.elab_items.specs.Scopes.{listings_of}
+use Rattle.elab_laws.specs.Faultless.{statement_count}
+use Rattle.elab_links.specs.Instances.{link_faults}
+use Rattle.elab_parts.specs.Items.{item_places, item_steps}
+use Rattle.elab_walk.specs.declared.places.Seek.{Seek}
+use Rattle.elab_walk.specs.declared.places.Seek.TheVariants.{Found, Left}
+use Rattle.elab_walk.specs.declared.room.Room.{Room}
+use Rattle.elab_walk.specs.Visits.{Library, Visit, scope_in}
+
+-- ---- processes
+
+-- an empty argument connects nothing
+abbrev pub argument_places : ℕ → Option Formula → List ℕ
+argument_places at None = []
+argument_places at (Some value) = at ∷ []
+
+abbrev pub ordered_places : List Positional → List ℕ
+ordered_places [] = []
+ordered_places (first ∷ others) = argument_places first.at first.value ++ ordered_places others
+
+abbrev pub named_places : List Associated → List ℕ
+named_places [] = []
+named_places (first ∷ others) = argument_places first.at first.value ++ named_places others
+
+abbrev pub connection_places : Association → List ℕ
+connection_places (ByPosition arguments) = ordered_places arguments
+connection_places (ByName arguments) = named_places arguments
+
+abbrev pub placement_places : List Placement → List ℕ
+placement_places [] = []
+placement_places (first ∷ others) = connection_places first.connections ++ placement_places others
+
+-- the places of the connections of an item's instances: each that has an argument is a process
+abbrev pub link_places : ModuleItem → List ℕ
+link_places (Instances child parameters placements) = placement_places placements
+link_places (Ports head names) = []
+link_places (Nets at signed bounds nets) = []
+link_places (Variables at signed bounds variables) = []
+link_places (Integers at names) = []
+link_places (Parameters at kind bounds values) = []
+link_places (Drives at pause drives) = []
+link_places (Always at sensitivity body) = []
+
+-- the places of the processes of items, in order
+abbrev pub process_places : List ModuleItem → List ℕ
+process_places [] = []
+process_places (first ∷ others) = (item_places first ++ link_places first) ++ process_places others
+
+-- ---- statements and delays
+
+-- what is come upon in an item, where `way` has the names of the modules from the top to the one that holds it
+abbrev pub part_steps : Library → List (List ℕ) → Meanings → ModuleItem → List Step
+part_steps library way scope item =
+    item_steps scope item ++ faulty (link_faults library.findings library.files way scope item)
+
+-- and in items, in order
+abbrev pub parts_steps : Library → List (List ℕ) → Meanings → List ModuleItem → List Step
+parts_steps library way scope [] = []
+parts_steps library way scope (first ∷ others) =
+    part_steps library way scope first ++ parts_steps library way scope others
+
+-- and in an instance
+abbrev pub visit_steps : Library → Visit → List Step
+visit_steps library v = parts_steps library v.way (scope_in v) v.circuit.items
+
+-- ---- limits
+
+-- a design has at most 20,000 instances, 20,000 signals, 20,000 processes, 100,000 statements and 100,000 delays
+abbrev pub whole_room : Room
+whole_room =
+    record {
+      base = 0;
+      processes = 20000;
+      left = record { statements = 100000; delays = 100000 };
+      number = 0;
+    }
+
+-- what an instance leaves
+abbrev pub room_after : Library → Room → Visit → Room
+room_after library room v =
+    record {
+      base = room.base + length (listings_of v.settings v.circuit);
+      processes = room.processes - length (process_places v.circuit.items);
+      left = record {
+        statements = room.left.statements - statement_count (visit_steps library v);
+        delays = room.left.delays - length (delays_of (visit_steps library v));
+      };
+      number = room.number + 1;
+    }
+
+-- a process that is one too many
+abbrev pub surplus : Option ℕ → List Refusal
+surplus None = []
+surplus (Some at) = fault at TooLarge ∷ []
+
+-- where a design may have so many processes more
+abbrev pub process_faults : ℕ → List ℕ → List Refusal
+process_faults most places = surplus (slice_get places most)
+
+-- the same one place after the other: a place is found, or so many may still come
+abbrev pub sought : ℕ → List ℕ → Seek
+sought most [] = Left most
+sought zero (first ∷ others) = Found first
+sought (suc most) (first ∷ others) = sought most others
+
+abbrev pub sought_on : Seek → List ℕ → Seek
+sought_on (Found at) places = Found at
+sought_on (Left most) places = sought most places
+
+-- the place that is found
+abbrev pub place_of : Seek → Option ℕ
+place_of (Found at) = Some at
+place_of (Left most) = None

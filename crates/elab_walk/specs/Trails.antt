@@ -1,0 +1,68 @@
+-- The walk over instances, one after the other: how far it comes, or what is told.
+use Rattle.std.specs.Prelude.{ℕ, ◌≡◌, List, [], ◌∷◌, ◌++◌, map, Option, None, Some, Result, Ok, Err}
+use Rattle.elab_scope.specs.declared.fault.ElabFault.{ElabFault}
+use Rattle.elab_scope.specs.Faults.{Answer, Memory, Named, Placed, answer}
+use Rattle.elab_walk.specs.declared.room.Room.{Room}
+use Rattle.elab_walk.specs.declared.trail.Stop.{Stop as Made}
+use Rattle.elab_walk.specs.declared.trail.Trail.{Trail as Kept}
+use Rattle.elab_walk.specs.Refusals.{told_of}
+use Rattle.elab_walk.specs.Rooms.{room_after}
+use Rattle.elab_walk.specs.Stops.{Stop}
+use Rattle.elab_walk.specs.Visits.{Library, Visit, visit}
+
+-- the instances so far, and the room that they leave
+pub record Trail : Type 0 where
+  pub stops : List Stop
+  pub room : Room
+
+abbrev pub stop : Made → Stop
+stop made = record { visit = visit made.visit; number = made.number; base = made.base }
+
+abbrev pub trail : Kept → Trail
+trail kept = record { stops = map stop kept.stops.items; room = kept.room }
+
+-- how far the walk comes
+pub data Gone : Type 0 where
+  Going : (trail : Trail) → Gone
+  Refused : (told : Answer) → Gone
+
+-- the trail with one instance more, which leaves this room
+abbrev pub followed : Trail → Visit → Room → Trail
+followed trail v room =
+    record {
+      stops = trail.stops ++ record { visit = v; number = trail.room.number; base = trail.room.base } ∷ [];
+      room = room;
+    }
+
+abbrev pub extended : Library → Trail → Visit → Trail
+extended library trail v = followed trail v (room_after library trail.room v)
+
+abbrev pub passed_by : Library → Trail → Visit → Option Answer → Gone
+passed_by library trail v None = Going (extended library trail v)
+passed_by library trail v (Some told) = Refused told
+
+-- one instance more
+abbrev pub step : Library → Gone → Visit → Gone
+step library (Going trail) v = passed_by library trail v (told_of library trail.room v)
+step library (Refused told) v = Refused told
+
+-- instances one after the other
+abbrev pub gone : Library → Gone → List Visit → Gone
+gone library so_far [] = so_far
+gone library so_far (first ∷ others) = gone library (step library so_far first) others
+
+-- what is told on the walk
+abbrev pub told_in : Gone → Option Answer
+told_in (Going trail) = None
+told_in (Refused told) = Some told
+
+-- whether an answer is what is told, or want of memory
+abbrev pub IsTold : Answer → Option Answer → Type 0
+IsTold Memory told = Unit {0}
+IsTold (Named breach) told = told ≡ Some (Named breach)
+IsTold (Placed breach spot) told = told ≡ Some (Placed breach spot)
+
+-- whether the code went as the walk goes
+abbrev pub Went : Result Kept ElabFault → Gone → Type 0
+Went (Ok made) walk = walk ≡ Going (trail made)
+Went (Err error) walk = IsTold (answer error) (told_in walk)

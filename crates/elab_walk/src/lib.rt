@@ -1,0 +1,13 @@
+//! The walk over the instances of a top module, and what is told of them.
+#![tactic(auto)]
+
+pub mod judge;
+pub mod library;
+pub mod places;
+pub mod room;
+#[cfg(test)]
+mod tests;
+pub mod top;
+pub mod trail;
+pub mod visit;
+pub mod walk;

@@ -1,0 +1,81 @@
+//! The walk from the top on.
+
+ghost use Rattle.std.specs.Prelude.{◌≡◌, IfErr, IfOk, map};
+ghost use Rattle.elab_scope.specs.Faults.{answer};
+ghost use Rattle.rtl_tree.specs.TreeModule.{circuit};
+ghost use Rattle.elab_walk.specs.Rooms.{whole_room};
+ghost use Rattle.elab_walk.specs.Stops.{stops};
+ghost use Rattle.elab_walk.specs.Trails.{IsTold, stop};
+ghost use Rattle.elab_walk.specs.Visits.{all_visits, library, top_visit, visit};
+ghost use Rattle.elab_walk.specs.Refusals.{refusal};
+
+use crate::library::Library;
+use crate::room::Room;
+use crate::trail::{Stop, Trail};
+use crate::visit::{Visit, file_of};
+use crate::walk::visit;
+use elab_body::progress::Left;
+use elab_items::overrides::Overrides;
+use elab_links::module_set::Place;
+use elab_scope::fault::ElabFault;
+use rtl_tree::memory::Memory;
+use rtl_tree::text::{Spot, Text};
+use rtl_tree::tree::modules::Module;
+use std::alloc::Global;
+
+/// The most modules on the way from the top to an instance, both counted.
+const LEVELS: u32 = 32;
+
+/// What a design may have.
+fn whole_room() -> Room
+    ensures { result ≡ whole_room }
+{
+    Room {
+        base: 0,
+        number: 0,
+        processes: 20_000,
+        left: Left {
+            statements: 100_000,
+            delays: 100_000,
+        },
+    }
+}
+
+/// The top: it isn't named anywhere, so its module's place stands for it.
+pub fn top_visit(alloc: Global, place: Place, written: &Module) -> Result<Visit<'_>, Memory>
+    ensures { IfOk result (λ met. visit met ≡ top_visit place (circuit written.now)) }
+{
+    let mut way = Vec::new(alloc);
+    way.push(&written.name.text)?;
+    Ok(Visit {
+        path: Text::from_bytes(alloc, written.name.text.as_bytes())?,
+        place,
+        written,
+        overrides: Overrides::new(alloc),
+        way,
+        spot: Spot {
+            file: file_of(place)?,
+            at: written.at,
+        },
+    })
+}
+
+/// All instances from the top on, each before those that it holds, with their numbers.
+pub fn all_stops<'a>(
+    alloc: Global,
+    all: Library<'a>,
+    met: Visit<'a>,
+) -> Result<Vec<Stop<'a>>, ElabFault>
+    ensures nothing { IfOk result (λ made. refusal (library all.entry) whole_room (all_visits (library all.entry) (visit met.entry)) ≡ None) }
+    ensures stops { IfOk result (λ made. map stop made.items ≡ stops 0 0 (all_visits (library all.entry) (visit met.entry))) }
+    ensures told { IfErr result (λ error. IsTold (answer error) (refusal (library all.entry) whole_room (all_visits (library all.entry) (visit met.entry)))) }
+{
+    let before = Trail {
+        stops: Vec::new(alloc),
+        room: whole_room(),
+    };
+    match visit(alloc, all, LEVELS, met, before) {
+        Ok(trail) => Ok(trail.stops),
+        Err(error) => Err(error),
+    }
+}

@@ -1,0 +1,213 @@
+//! The walk over the instances of a design, each before those that it holds.
+
+ghost use Rattle.std.specs.Prelude.{◌≡◌, IfErr, IfOk, map};
+ghost use Rattle.std.specs.List.{flat_map};
+ghost use Rattle.std.specs.Option.{option_map};
+ghost use Rattle.rtl_tree.specs.TreeItem.{module_item, placement};
+ghost use Rattle.elab_scope.specs.Faults.{answer, located, refusal};
+ghost use Rattle.elab_scope.specs.Names.{meanings};
+ghost use Rattle.elab_links.specs.Groups.{group, group_of};
+ghost use Rattle.elab_walk.specs.Refusals.{told_of};
+ghost use Rattle.elab_walk.specs.Rooms.{room_after};
+ghost use Rattle.elab_walk.specs.Trails.{Going, IsTold, Went, followed, gone, trail};
+ghost use Rattle.elab_walk.specs.Visits.{child_of, children, holder, item_children, library, placed_children, scope_in, visit, visits};
+
+use crate::judge::{Judged, judge_visit};
+use crate::library::Library;
+use crate::room::Room;
+use crate::trail::{Stop, Trail};
+use crate::visit::{Holder, Visit, file_of};
+use elab_links::groups::{Group, group_of};
+use elab_links::module_set::Place;
+use elab_scope::fault::{ElabFault, Fault};
+use elab_scope::names::Names;
+use rtl_tree::memory::Memory;
+use rtl_tree::tree::item::{Instance, Item};
+use std::alloc::Global;
+
+/// The most instances of a design.
+const INSTANCES: u16 = 20_000;
+
+/// The fault with its file, or want of memory.
+#[tactic(auto, using(crate::proofs::Telling::told_as))]
+fn told(alloc: Global, place: Place, fault: Fault<'_>) -> ElabFault
+    ensures { IsTold (answer result) (Some (located place.file (refusal fault.entry))) }
+{
+    let Ok(file) = file_of(place) else {
+        return ElabFault::Memory;
+    };
+    match fault.locate(alloc, file) {
+        Ok(told) => told,
+        Err(_) => ElabFault::Memory,
+    }
+}
+
+/// What an instance leaves of which nothing is told.
+#[derive(Drop)]
+struct Left {
+    /// What the names of its module stand for.
+    names: Names,
+    room: Room,
+}
+
+/// An instance of which nothing is told.
+fn pass<'a>(alloc: Global, all: Library<'a>, met: &Visit<'a>, room: Room) -> Result<Left, ElabFault>
+    ensures names { IfOk result (λ left. meanings left.names ≡ scope_in (visit met.now)) }
+    ensures nothing { IfOk result (λ left. told_of (library all.entry) room (visit met.now) ≡ None) }
+    ensures room { IfOk result (λ left. left.room ≡ room_after (library all.entry) room (visit met.now)) }
+    ensures told { IfErr result (λ error. IsTold (answer error) (told_of (library all.entry) room (visit met.now))) }
+{
+    if room.number >= INSTANCES {
+        return Err(ElabFault::TooLarge(met.spot));
+    }
+    match judge_visit(alloc, all, met, room) {
+        Err(_) => Err(ElabFault::Memory),
+        Ok(Judged { names, best, room }) => match best {
+            None => Ok(Left { names, room }),
+            Some(fault) => Err(told(alloc, met.place, fault)),
+        },
+    }
+}
+
+/// The trail with one instance more.
+fn with<'a>(so_far: Trail<'a>, met: Visit<'a>, room: Room) -> Result<Trail<'a>, Memory>
+    ensures { IfOk result (λ made. trail made ≡ followed (trail so_far.entry) (visit met.entry) room) }
+{
+    let Trail {
+        mut stops,
+        room: before,
+    } = so_far;
+    stops.push(Stop {
+        visit: met,
+        number: before.number,
+        base: before.base,
+    })?;
+    Ok(Trail { stops, room })
+}
+
+/// An instance, and behind it each that it holds with its own, over so many levels.
+#[cycle(visit)]
+pub fn visit<'a>(
+    alloc: Global,
+    all: Library<'a>,
+    levels: u32,
+    met: Visit<'a>,
+    so_far: Trail<'a>,
+) -> Result<Trail<'a>, ElabFault>
+    ensures { Went result (gone (library all.entry) (Going (trail so_far.entry)) (visits (library all.entry) levels (visit met.entry))) }
+{
+    if levels == 0 {
+        return Ok(so_far);
+    }
+    match pass(alloc, all, &met, so_far.room) {
+        Err(error) => Err(error),
+        Ok(left) => {
+            let room = left.room;
+            let holder = Holder::new(alloc, &met, left.names)?;
+            let items = met.written.items.as_slice();
+            let so_far = with(so_far, met, room)?;
+            visit_items(alloc, all, levels - 1, &holder, items, so_far)
+        }
+    }
+}
+
+/// What items hold, in order.
+#[cycle(visit)]
+fn visit_items<'a>(
+    alloc: Global,
+    all: Library<'a>,
+    levels: u32,
+    within: &Holder<'a>,
+    items: &'a [Item],
+    so_far: Trail<'a>,
+) -> Result<Trail<'a>, ElabFault>
+    ensures { Went result (gone (library all.entry) (Going (trail so_far.entry)) (flat_map (visits (library all.entry) levels) (children (library all.entry) (holder within.now) (map module_item items.now)))) }
+{
+    let mut so_far = so_far;
+    for item in items {
+        match visit_item(alloc, all, levels, within, item, so_far) {
+            Ok(made) => so_far = made,
+            Err(error) => return Err(error),
+        }
+    }
+    Ok(so_far)
+}
+
+/// What an item holds.
+#[cycle(visit)]
+fn visit_item<'a>(
+    alloc: Global,
+    all: Library<'a>,
+    levels: u32,
+    within: &Holder<'a>,
+    item: &'a Item,
+    so_far: Trail<'a>,
+) -> Result<Trail<'a>, ElabFault>
+    ensures { Went result (gone (library all.entry) (Going (trail so_far.entry)) (flat_map (visits (library all.entry) levels) (item_children (library all.entry) (holder within.now) (module_item item.now)))) }
+{
+    match item {
+        Item::Instances {
+            child,
+            instances,
+            ..
+        } => {
+            visit_placements(
+                alloc, all, levels, within, child.at, item, instances, so_far,
+            )
+        }
+        Item::Ports(_, _)
+        | Item::Wires { .. }
+        | Item::Regs { .. }
+        | Item::Integers(_, _)
+        | Item::Parameters { .. }
+        | Item::Assigns(_, _, _)
+        | Item::Always(_, _, _) => Ok(so_far),
+    }
+}
+
+/// The instances that an item places, in order.
+#[cycle(visit)]
+fn visit_placements<'a>(
+    alloc: Global,
+    all: Library<'a>,
+    levels: u32,
+    within: &Holder<'a>,
+    at: u32,
+    item: &'a Item,
+    instances: &'a [Instance],
+    so_far: Trail<'a>,
+) -> Result<Trail<'a>, ElabFault>
+    ensures { Went result (gone (library all.entry) (Going (trail so_far.entry)) (flat_map (visits (library all.entry) levels) (placed_children (holder within.now) at (group_of (library all.entry).findings (library all.entry).files (holder within.now).scope (module_item item.now)) (map placement instances.now)))) }
+{
+    let mut so_far = so_far;
+    for instance in instances {
+        match visit_placement(alloc, all, levels, within, at, item, instance, so_far) {
+            Ok(made) => so_far = made,
+            Err(error) => return Err(error),
+        }
+    }
+    Ok(so_far)
+}
+
+/// One instance that an item places.
+#[cycle(visit)]
+fn visit_placement<'a>(
+    alloc: Global,
+    all: Library<'a>,
+    levels: u32,
+    within: &Holder<'a>,
+    at: u32,
+    item: &'a Item,
+    instance: &'a Instance,
+    so_far: Trail<'a>,
+) -> Result<Trail<'a>, ElabFault>
+    ensures { Went result (gone (library all.entry) (Going (trail so_far.entry)) (flat_map (visits (library all.entry) levels) (child_of (holder within.now) at instance.now.name.text (group_of (library all.entry).findings (library all.entry).files (holder within.now).scope (module_item item.now))))) }
+{
+    match group_of(alloc, all.files, all.set, item, &within.names)? {
+        None => Ok(so_far),
+        Some(made) => {
+            let met = within.child(alloc, at, &instance.name.text, made)?;
+            visit(alloc, all, levels, met, so_far)
+        }
+    }
+}
