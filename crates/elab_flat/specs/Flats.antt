@@ -1,0 +1,33 @@
+-- The flat design that instances make.
+use Rattle.std.specs.Prelude.{List, map}
+use Rattle.std.specs.List.{flat_map}
+use Rattle.rtl_flat.specs.declared.instance.Delay.{Delay}
+use Rattle.rtl_flat.specs.declared.instance.DroppedRegion.{DroppedRegion}
+use Rattle.rtl_flat.specs.declared.instance.Instance.{Instance}
+use Rattle.rtl_flat.specs.declared.signal.Signal.{Signal}
+use Rattle.rtl_flat.specs.Process.{Task}
+use Rattle.elab_walk.specs.Stops.{Stop, instance_of, regions_at, signals_at}
+use Rattle.elab_walk.specs.Visits.{Library}
+use Rattle.elab_flat.specs.Works.{Works, no_works, with_stops}
+
+-- a flat design
+pub record Flat : Type 0 where
+  pub signals : List Signal
+  pub tasks : List Task
+  pub instances : List Instance
+  pub dropped : List DroppedRegion
+  pub delays : List Delay
+
+abbrev pub with_works : List Stop → Works → Flat
+with_works all works =
+    record {
+      signals = flat_map signals_at all;
+      tasks = works.tasks;
+      instances = map instance_of all;
+      dropped = flat_map regions_at all;
+      delays = works.delays;
+    }
+
+-- the design of these instances
+abbrev pub flat_of : Library → List Stop → Flat
+flat_of library all = with_works all (with_stops library no_works all)

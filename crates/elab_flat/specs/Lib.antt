@@ -1,0 +1,4 @@
+pub mod Flats
+pub mod Held
+pub mod Views
+pub mod Works

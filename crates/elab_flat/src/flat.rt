@@ -1,0 +1,117 @@
+//! What instances are in a flat design.
+
+ghost use Rattle.std.specs.Prelude.{◌≡◌, ◌++◌, IfOk, OnOk, map};
+ghost use Rattle.std.specs.List.{flat_map};
+ghost use Rattle.elab_walk.specs.Stops.{instance_of, region, regions_at, signals_at};
+ghost use Rattle.elab_walk.specs.Trails.{stop};
+ghost use Rattle.elab_walk.specs.Visits.{library};
+ghost use Rattle.elab_flat.specs.Flats.{flat_of};
+ghost use Rattle.elab_flat.specs.Views.{flat};
+
+use crate::works::Works;
+use elab_items::declare::declare;
+use elab_items::signals::{Home, push_signals};
+use elab_walk::library::Library;
+use elab_walk::trail::Stop;
+use elab_walk::visit::file_of;
+use rtl_flat::instance::{DroppedRegion, Instance};
+use rtl_flat::signal::Signal;
+use rtl_tree::memory::Memory;
+use rtl_tree::text::{Spot, Text};
+use std::alloc::Global;
+
+/// A flat design.
+#[derive(Drop)]
+pub struct Flat {
+    pub signals: Vec<Signal>,
+    pub works: Works,
+    pub instances: Vec<Instance>,
+    pub dropped: Vec<DroppedRegion>,
+}
+
+/// An instance of the design. One that is deeper than can be counted fits into no memory.
+fn instance_of(alloc: Global, at: &Stop<'_>) -> Result<Instance, Memory>
+    ensures { IfOk result (λ made. made ≡ instance_of (stop at.now)) }
+{
+    let Ok(depth) = u32::try_from(at.visit.way.len()) else {
+        return Err(Memory);
+    };
+    Ok(Instance {
+        path: Text::from_bytes(alloc, at.visit.path.as_bytes())?,
+        depth,
+        spot: at.visit.spot,
+    })
+}
+
+fn instances_of(alloc: Global, stops: &[Stop<'_>]) -> Result<Vec<Instance>, Memory>
+    ensures { IfOk result (λ made. made.items ≡ map instance_of (map stop stops.now)) }
+{
+    let mut made = Vec::new(alloc);
+    for at in stops {
+        made.push(instance_of(alloc, at)?)?;
+    }
+    Ok(made)
+}
+
+/// The signals of an instance, behind others.
+fn push_own(alloc: Global, at: &Stop<'_>, signals: &mut Vec<Signal>) -> Result<(), Memory>
+    ensures { OnOk result (signals.new.items ≡ signals.old.items ++ signals_at (stop at.now)) }
+{
+    let declared = declare(alloc, at.visit.written, &at.visit.overrides, 0, None)?;
+    let home = Home {
+        alloc,
+        path: at.visit.path.as_bytes(),
+        instance: u32::from(at.number),
+        file: file_of(at.visit.place)?,
+        is_top: at.number == 0,
+    };
+    push_signals(home, &declared.signals, signals)
+}
+
+fn signals_of(alloc: Global, stops: &[Stop<'_>]) -> Result<Vec<Signal>, Memory>
+    ensures { IfOk result (λ made. made.items ≡ flat_map signals_at (map stop stops.now)) }
+{
+    let mut made = Vec::new(alloc);
+    for at in stops {
+        push_own(alloc, at, &mut made)?;
+    }
+    Ok(made)
+}
+
+/// The regions of an instance's module that have no meaning, behind others.
+fn push_regions(at: &Stop<'_>, dropped: &mut Vec<DroppedRegion>) -> Result<(), Memory>
+    ensures { OnOk result (dropped.new.items ≡ dropped.old.items ++ regions_at (stop at.now)) }
+{
+    let file = file_of(at.visit.place)?;
+    for one in &at.visit.written.dropped {
+        let spot = Spot { file, at: one.at };
+        dropped.push(DroppedRegion {
+            kind: one.kind,
+            instance: u32::from(at.number),
+            spot,
+        })?;
+    }
+    Ok(())
+}
+
+fn regions_of(alloc: Global, stops: &[Stop<'_>]) -> Result<Vec<DroppedRegion>, Memory>
+    ensures { IfOk result (λ made. made.items ≡ flat_map regions_at (map stop stops.now)) }
+{
+    let mut made = Vec::new(alloc);
+    for at in stops {
+        push_regions(at, &mut made)?;
+    }
+    Ok(made)
+}
+
+/// The design of these instances.
+pub fn flat_of(alloc: Global, all: Library<'_>, stops: &[Stop<'_>]) -> Result<Flat, Memory>
+    ensures { IfOk result (λ made. flat made ≡ flat_of (library all.entry) (map stop stops.now)) }
+{
+    Ok(Flat {
+        signals: signals_of(alloc, stops)?,
+        works: Works::of(alloc, all, stops)?,
+        instances: instances_of(alloc, stops)?,
+        dropped: regions_of(alloc, stops)?,
+    })
+}

@@ -1,0 +1,7 @@
+//! The flat design that instances make.
+#![tactic(auto)]
+
+pub mod flat;
+#[cfg(test)]
+mod tests;
+pub mod works;
