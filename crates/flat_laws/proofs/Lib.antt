@@ -1,0 +1,13 @@
+pub mod Claimed
+pub mod Designs
+pub mod Directions
+pub mod Driven
+pub mod Entries
+pub mod Groups
+pub mod Links
+pub mod Parts
+pub mod Rooms
+pub mod Scopes
+pub mod Tasks
+pub mod Trees
+pub mod Works

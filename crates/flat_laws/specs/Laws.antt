@@ -1,0 +1,17 @@
+-- What is without faults is lawful in the design: the law of whole designs.
+use Rattle.std.specs.Prelude.{◌≡◌, length, None}
+use Rattle.rtl_flat.specs.WellFormed.{IsDesign}
+use Rattle.elab_walk.specs.Refusals.{refusal}
+use Rattle.elab_walk.specs.Rooms.{whole_room}
+use Rattle.elab_walk.specs.Stops.{stops}
+use Rattle.elab_walk.specs.Visits.{Library, Visit, all_visits}
+use Rattle.elab_flat.specs.Flats.{Flat, flat_of}
+
+-- whether a flat design has what holds of every one
+abbrev pub IsLawful : Flat → Type 0
+IsLawful flat = IsDesign flat.signals flat.tasks flat.instances flat.dropped flat.delays
+
+-- the instances of a top make a lawful design where nothing is told of them
+abbrev pub LawfulLaw : Type 0
+LawfulLaw =
+    (library : Library) (v : Visit) → length v.way ≡ 1 → refusal library whole_room (all_visits library v) ≡ None → IsLawful (flat_of library (stops 0 0 (all_visits library v)))
