@@ -1,0 +1,38 @@
+-- What elaboration makes is lawful.
+use Rattle.std.specs.Prelude.{ℕ, ◌≡◌, List, Option, None, Some, Ok, Err}
+use Rattle.std.proofs.Common.{◌∙◌, refl, subst}
+use Rattle.rtl_tree.specs.TreeModule.{Circuit}
+use Rattle.elab_scope.specs.Faults.{Answer}
+use Rattle.elab_links.specs.declared.module_set.Finding.{Finding}
+use Rattle.elab_links.specs.declared.module_set.Finding.TheVariants.{Missing, Found, Twice}
+use Rattle.elab_links.specs.declared.module_set.Place.{Place}
+use Rattle.elab_links.specs.Modules.{circuit_at}
+use Rattle.elab_walk.specs.Refusals.{refusal}
+use Rattle.elab_walk.specs.Rooms.{whole_room}
+use Rattle.elab_walk.specs.Stops.{stops}
+use Rattle.elab_walk.specs.Visits.{Library, Visit, all_visits, top_visit}
+use Rattle.elab_flat.specs.Flats.{Flat, flat_of}
+use Rattle.flat_laws.specs.Laws.{IsLawful}
+use Rattle.flat_laws.proofs.Designs.{lawful}
+use Rattle.rtl_elab.specs.Elaborated.{decided, elaborated, elaborated_at, elaborated_found, elaborated_of}
+
+by_told : (told : Option Answer) (made f : Flat) → (told ≡ None → IsLawful made) → decided told made ≡ Ok f → IsLawful f
+by_told None made f law is =
+    let same : made ≡ f = cc in
+    subst IsLawful same (law refl)
+by_told (Some answer) made f law is = absurd cc
+
+at_place : (library : Library) (top : List ℕ) (place : Place) (circuit : Option Circuit) (f : Flat) → elaborated_at library top place circuit ≡ Ok f → IsLawful f
+at_place library top place None f is = absurd cc
+at_place library top place (Some circuit) f is =
+    let v = top_visit place circuit in
+    by_told (refusal library whole_room (all_visits library v)) (flat_of library (stops 0 0 (all_visits library v))) f (lawful library v refl) is
+
+found_there : (library : Library) (top : List ℕ) (finding : Finding) (f : Flat) → elaborated_found library top finding ≡ Ok f → IsLawful f
+found_there library top Missing f is = absurd cc
+found_there library top Twice f is = absurd cc
+found_there library top (Found place) f is =
+    at_place library top place (circuit_at library.files place) f is
+
+pub elaborated_lawful : (library : Library) (top : List ℕ) (f : Flat) → elaborated library top ≡ Ok f → IsLawful f
+elaborated_lawful library top f is = found_there library top (library.findings top) f is

@@ -1,0 +1,41 @@
+-- The flat design of a top module, or why there is none.
+use Rattle.std.specs.Prelude.{ℕ, List, Option, None, Some, Result, Ok, Err}
+use Rattle.rtl_tree.specs.TreeModule.{Circuit}
+use Rattle.elab_scope.specs.Faults.{Answer, ModuleTwice, Named, NoSuchModule}
+use Rattle.elab_links.specs.declared.module_set.Finding.{Finding}
+use Rattle.elab_links.specs.declared.module_set.Finding.TheVariants.{Missing, Found, Twice}
+use Rattle.elab_links.specs.declared.module_set.Place.{Place}
+use Rattle.elab_links.specs.Modules.{circuit_at}
+use Rattle.elab_walk.specs.Refusals.{refusal}
+use Rattle.elab_walk.specs.Rooms.{whole_room}
+use Rattle.elab_walk.specs.Stops.{stops}
+use Rattle.elab_walk.specs.Visits.{Library, Visit, all_visits, top_visit}
+use Rattle.elab_flat.specs.Flats.{Flat, flat_of}
+
+abbrev pub decided : Option Answer → Flat → Result Flat Answer
+decided None flat = Ok flat
+decided (Some answer) flat = Err answer
+
+abbrev pub elaborated_of : Library → List Visit → Result Flat Answer
+elaborated_of library all =
+    decided (refusal library whole_room all) (flat_of library (stops 0 0 all))
+
+abbrev pub elaborated_at : Library → List ℕ → Place → Option Circuit → Result Flat Answer
+elaborated_at library top place None = Err (Named (NoSuchModule top))
+elaborated_at library top place (Some circuit) =
+    elaborated_of library (all_visits library (top_visit place circuit))
+
+abbrev pub elaborated_found : Library → List ℕ → Finding → Result Flat Answer
+elaborated_found library top Missing = Err (Named (NoSuchModule top))
+elaborated_found library top Twice = Err (Named (ModuleTwice top))
+elaborated_found library top (Found place) =
+    elaborated_at library top place (circuit_at library.files place)
+
+-- what elaboration makes of the module with a name
+abbrev pub elaborated : Library → List ℕ → Result Flat Answer
+elaborated library top = elaborated_found library top (library.findings top)
+
+-- why there is no design
+abbrev pub refused : Result Flat Answer → Option Answer
+refused (Ok flat) = None
+refused (Err answer) = Some answer

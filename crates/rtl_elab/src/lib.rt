@@ -1,0 +1,7 @@
+//! The flat design that a top module means, or why there is none.
+#![tactic(auto)]
+
+pub mod elaborate;
+#[cfg(test)]
+mod tests;
+pub mod whole;

@@ -1,0 +1,67 @@
+//! The design of a top module, and that it is lawful.
+
+ghost use Rattle.std.specs.Prelude.{◌≡◌, ◌+◌, IfErr, IfOk, Ok};
+ghost use Rattle.elab_scope.specs.Faults.{answer};
+ghost use Rattle.elab_flat.specs.Views.{flat};
+ghost use Rattle.elab_walk.specs.Trails.{IsTold};
+ghost use Rattle.flat_laws.specs.Laws.{IsLawful};
+ghost use Rattle.rtl_elab.specs.Designs.{flat_in, library_of};
+ghost use Rattle.rtl_elab.specs.Elaborated.{elaborated, refused};
+
+use crate::elaborate::flat_design;
+use elab_flat::flat::Flat;
+use elab_flat::works::Works;
+use elab_links::module_set::ModuleSet;
+use elab_scope::fault::ElabFault;
+use elab_walk::library::Library;
+use rtl_flat::design::Design;
+use rtl_tree::text::Text;
+use rtl_tree::tree::modules::Module;
+use std::alloc::Global;
+use std::sync::ledger::Ledger;
+use steps::Steps;
+
+/// The design that is made of these parts.
+fn design_of(made: Flat) -> Design
+    requires { IsLawful (flat made) }
+    ensures { flat_in result ≡ flat made }
+{
+    let Flat {
+        signals,
+        works,
+        instances,
+        dropped,
+    } = made;
+    let Works { processes, delays } = works;
+    Design {
+        signals,
+        processes,
+        instances,
+        dropped,
+        delays,
+    }
+}
+
+/// The flat design of the module with a name among those of all files, which `set` has. Each call is one step.
+///
+/// # Errors
+///
+/// `NoSuchModule` or `ModuleTwice` of the top's name; else of the first instance, each before those that it holds, that has
+/// a fault or passes a limit, its least fault by place and then by the order of the rules; `Memory` where memory runs out.
+pub fn elaborate<L: Ledger>(
+    alloc: Global,
+    files: &[Vec<Module>],
+    set: &ModuleSet,
+    top: &Text,
+    steps: &mut Steps<L>,
+) -> Result<Design, ElabFault>
+    ensures counted { steps.new ≡ steps.old + 1 }
+    ensures design { IfOk result (λ design. elaborated (library_of files.now set.now) top.now ≡ Ok (flat_in design)) }
+    ensures told { IfErr result (λ error. IsTold (answer error) (refused (elaborated (library_of files.now set.now) top.now))) }
+{
+    steps.tick();
+    match flat_design(alloc, Library { files, set }, top) {
+        Ok(made) => Ok(design_of(made)),
+        Err(error) => Err(error),
+    }
+}
