@@ -1,0 +1,11 @@
+use Rattle.std.proofs.Common.{◌≡◌, ◌+◌, map, drop}
+use Rattle.rtl_flat.specs.Process.{piece}
+use Rattle.rtl_flat.specs.Signs.{width_in}
+use Rattle.event_model.specs.Writes.{counts}
+use Rattle.event_write.specs.Entries.{AreSelected}
+use Rattle.event_write.proofs.entries.counts.Given as goal
+
+abbrev pub invariant-loop-part : goal.invariant-loop-part
+invariant-loop-part l =
+    AreSelected l.signals (map piece (drop l.part-index l.parts))
+    × (l.count + counts (width_in l.signals) (map piece (drop l.part-index l.parts)) ≡ counts (width_in l.signals) (map piece l.parts))

@@ -1,0 +1,122 @@
+-- The state of the queue, from what the simulator keeps.
+use Rattle.std.specs.Prelude.{◌≡◌, ◌<◌, ◌≤◌, ℕ, ◌+◌, Bool, if◌then◌else◌, List, [], ◌∷◌, drop, map, length, Option, None, Some, slice_index_or, Vec}
+use Rattle.std.specs.List.{All, slice_get}
+use Rattle.std.specs.declared.alloc.Global.{Global}
+use Rattle.rtl_bits.specs.declared.Bit.{Bit}
+use Rattle.rtl_flat.specs.declared.design.Design.{Design}
+use Rattle.rtl_flat.specs.declared.signal.Signal.{Signal}
+use Rattle.rtl_flat.specs.Process.{Doing, Assign}
+use Rattle.rtl_flat.specs.Sizes.{width_of}
+use Rattle.rtl_flat.specs.Signs.{width_in}
+use Rattle.rtl_flat.specs.Value.{store}
+use Rattle.rank_set.specs.Ranks.{flag}
+use Rattle.event_model.specs.Writes.{Values, Span, no_drive}
+use Rattle.event_model.specs.Queue.{Flat, State, flat, doing_at, widths, hears, drive_with, resolved}
+use Rattle.event_write.specs.declared.fanout.Fanout.{Fanout}
+use Rattle.event_write.specs.declared.marks.Marks.{Marks}
+use Rattle.event_write.specs.declared.listener.Listener.{Listener}
+use Rattle.event_write.specs.Entries.{Entry, entry, updates, IsClosed}
+use Rattle.event_write.specs.Listeners.{heard_by}
+use Rattle.event_write.specs.Stored.{AreStored}
+
+-- the value of a flagged number
+abbrev pub held : List Bool → List (List Bit) → ℕ → Option (List Bit)
+held flags values k = if flag flags k then Some (store values k) else None
+
+-- what a continuous assignment drives
+abbrev pub driver_of : Option (Option (List Bit)) → List Bit
+driver_of None = []
+driver_of (Some None) = []
+driver_of (Some (Some bits)) = bits
+
+-- the state that marks are
+abbrev pub state : Marks → State
+state m =
+    record {
+      value = store m.values.items;
+      woken = flag m.woken;
+      driver = λ p. driver_of (slice_get m.drivers.items p);
+      pending = held m.pending m.pending_values.items;
+      offered = held m.offered m.offered_values.items;
+      activated = updates (drop m.next (map entry m.active.items));
+      delayed = updates (map entry m.waiting.items);
+    }
+
+-- a row of a table; past its end it is empty
+abbrev pub items_of : {A : Type 0} → Option (Vec A Global) → List A
+items_of None = []
+items_of (Some v) = v.items
+
+abbrev pub row : {A : Type 0} → List (Vec A Global) → ℕ → List A
+row rows i = items_of (slice_get rows i)
+
+-- ---- what holds of the tables of a design
+
+-- what the continuous assignments with some numbers give to a net together
+abbrev pub driven_with : (ℕ → ℕ) → Option Doing → List Bit → ℕ → List Bit → List Bit
+driven_with ws None bits net others = others
+driven_with ws (Some does) bits net others = drive_with ws does bits net others
+
+abbrev pub resolved_by : Flat → List ℕ → (ℕ → List Bit) → Values
+resolved_by d [] driver net = no_drive (widths d) net
+resolved_by d (p ∷ ps) driver net =
+    driven_with (widths d) (doing_at d p) (driver p) net (resolved_by d ps driver net)
+
+-- whether tables of listeners and drivers are those of a design
+pub record AreTables (d : Flat) (listeners : List (Vec Listener Global)) (drivers : List (Vec ℕ Global)) : Type 0 where
+  pub listened : length listeners ≡ length d.signals
+  pub driven : length drivers ≡ length d.signals
+  pub inside : (i : ℕ) → All (λ listener. listener.process < length d.tasks) (row listeners i)
+  pub hear : (i p : ℕ) (old new : List Bit) → heard_by (row listeners i) p old new ≡ hears (widths d) i old new (doing_at d p)
+  pub drivers_inside : (i : ℕ) → All (λ p. p < length d.tasks) (row drivers i)
+  pub drive : (driver : ℕ → List Bit) (i : ℕ) → resolved_by d (row drivers i) driver i ≡ resolved d driver i
+
+abbrev pub design_of : Fanout → Flat
+design_of f = flat f.design.now
+
+abbrev pub IsFanout : Fanout → Type 0
+IsFanout f = AreTables (design_of f) f.listeners.items f.drivers.items
+
+-- ---- what holds of the marks
+
+-- whether a write lies inside its signal
+abbrev pub IsInside : List Signal → ℕ → Option Span → List Bit → Type 0
+IsInside signals i None bits = i < length signals
+IsInside signals i (Some span) bits =
+    (i < length signals) × (span.at + length bits ≤ width_in signals i)
+
+abbrev pub AreInside : List Signal → List Entry → Type 0
+AreInside signals entries = All (λ e. IsInside signals e.signal e.span e.bits) entries
+
+-- whether there is a value for each driver, as wide as its expression
+abbrev pub HasWidth : (ℕ → ℕ) → Option Doing → ℕ → Type 0
+HasWidth ws (Some (Assign target e)) width = width ≡ width_of ws e
+HasWidth ws _ width = Unit {0}
+
+pub record IsMarks (d : Flat) (m : Marks) : Type 0 where
+  pub values : AreStored d.signals m.values.items
+  pub woken : length m.woken ≡ length d.tasks
+  pub drivers : length m.drivers.items ≡ length d.tasks
+  pub driver_widths : (p : ℕ) → HasWidth (widths d) (doing_at d p) (length (driver_of (slice_get m.drivers.items p)))
+  pub pending : length m.pending ≡ length d.tasks
+  pub pending_values : length m.pending_values.items ≡ length d.tasks
+  pub pending_widths : (p : ℕ) → HasWidth (widths d) (doing_at d p) (length (store m.pending_values.items p))
+  pub offered : length m.offered ≡ length d.signals
+  pub offered_values : AreStored d.signals m.offered_values.items
+  pub next : m.next ≤ length m.active.items
+  pub active : IsClosed (drop m.next (map entry m.active.items))
+  pub active_inside : AreInside d.signals (map entry m.active.items)
+  pub waiting : IsClosed (map entry m.waiting.items)
+  pub waiting_inside : AreInside d.signals (map entry m.waiting.items)
+
+-- whether all but values and woken processes stays
+pub record AreSame (m n : Marks) : Type 0 where
+  pub drivers : n.drivers ≡ m.drivers
+  pub pending : n.pending ≡ m.pending
+  pub pending_values : n.pending_values ≡ m.pending_values
+  pub offered : n.offered ≡ m.offered
+  pub offered_values : n.offered_values ≡ m.offered_values
+  pub active : n.active ≡ m.active
+  pub next : n.next ≡ m.next
+  pub waiting : n.waiting ≡ m.waiting
+  pub scratch : n.scratch ≡ m.scratch

@@ -1,0 +1,16 @@
+//! What a simulator keeps of a flat design, its writes, and the bodies that make them.
+#![tactic(auto)]
+
+pub mod bodies;
+pub mod changes;
+pub mod choices;
+pub mod entries;
+pub mod fanout;
+pub mod listener;
+pub mod marks;
+pub mod spans;
+pub mod statements;
+pub mod stores;
+#[cfg(test)]
+mod tests;
+pub mod waking;

@@ -1,0 +1,60 @@
+//! A write to a signal, and whom it wakes.
+
+ghost use Rattle.std.specs.Prelude.{ℕ, ◌≡◌, ◌<◌, ◌≤◌, ◌+◌, ◌==◌, ◌&&◌, ◌||◌, List, length};
+ghost use Rattle.std.specs.List.{All};
+ghost use Rattle.rtl_bits.specs.declared.Bit.{Bit};
+ghost use Rattle.rtl_flat.specs.Signs.{width_in};
+ghost use Rattle.rank_set.specs.Ranks.{flag};
+ghost use Rattle.event_model.specs.Queue.{write};
+ghost use Rattle.event_write.specs.Changes.{AreChanges};
+ghost use Rattle.event_write.specs.Listeners.{heard_by};
+ghost use Rattle.event_write.specs.Marks.{AreSame, IsFanout, IsMarks, design_of, state};
+
+use crate::changes::Changes;
+use crate::fanout::Fanout;
+use crate::listener::Listener;
+use crate::marks::Marks;
+use rank_set::RankSet;
+use rtl_bits::Vec4;
+use rtl_flat::expr::SigId;
+
+/// Wakes the processes that hear changes of a signal.
+pub(crate) fn wake(listeners: &[Listener], changes: Changes, woken: &mut RankSet)
+    requires { All (λ listener. listener.process < length woken.old) listeners.now }
+    ensures size { length woken.new ≡ length woken.old }
+    ensures woken { (old new : List Bit) → length old ≡ length new → AreChanges old new changes → (p : ℕ) → flag woken.new p ≡ (flag woken.old p || heard_by listeners.now p old new) }
+{
+    for listener in listeners {
+        let hears = listener.hears(changes);
+        insert_if(woken, listener.process, hears);
+    }
+}
+
+/// Adds a process where it hears something.
+#[tactic(auto, using(crate::proofs::Woken::inserted, crate::proofs::Woken::not_inserted))]
+fn insert_if(woken: &mut RankSet, process: u32, hears: bool)
+    requires { process < length woken.old }
+    ensures size { length woken.new ≡ length woken.old }
+    ensures flags { (p : ℕ) → flag woken.new p ≡ (flag woken.old p || ((process == p) && hears)) }
+{
+    if hears {
+        woken.insert(process as usize);
+    }
+}
+
+/// Writes bits over those of a signal from a place on, and wakes whoever hears a change. It takes no memory.
+pub fn write(fanout: &Fanout, marks: &mut Marks, signal: SigId, at: u8, bits: Vec4)
+    requires fanout { IsFanout fanout.now }
+    requires marks { IsMarks (design_of fanout.now) marks.old }
+    requires there { signal.0 < length fanout.now.design.now.signals.items }
+    requires inside { at + length bits ≤ width_in fanout.now.design.now.signals.items signal.0 }
+    ensures state { state marks.new ≡ write (design_of fanout.now) (state marks.old) (record { signal = signal.0; at = at; bits = bits }) }
+    ensures marks { IsMarks (design_of fanout.now) marks.new }
+    ensures rest { AreSame marks.old marks.new }
+{
+    let old = marks.values[signal.0 as usize];
+    let new = old.replace(at, bits);
+    marks.values[signal.0 as usize] = new;
+    let listeners = &fanout.listeners[signal.0 as usize];
+    wake(listeners, Changes::of(old, new), &mut marks.woken);
+}
