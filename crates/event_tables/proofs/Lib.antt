@@ -1,0 +1,6 @@
+pub mod Deaf
+pub mod Ears
+pub mod Hearing
+pub mod Lengths
+pub mod Given
+pub mod Entering

@@ -1,0 +1,6 @@
+use Rattle.event_model.specs.Queue.{flat}
+use Rattle.event_tables.specs.Driving.{AreDriven}
+use Rattle.event_tables.proofs.drivers.drivers_of.Given as goal
+
+abbrev pub invariant-loop-number : goal.invariant-loop-number
+invariant-loop-number l = AreDriven (flat l.design) l.number l.drivers.items

@@ -1,0 +1,14 @@
+use Rattle.std.proofs.Common.{◌<◌, length, map, arith}
+use Rattle.rtl_flat.specs.Process.{task}
+use Rattle.rtl_scan.proofs.Processes.{length-tasks}
+use Rattle.event_model.specs.Queue.{flat}
+use Rattle.event_tables.proofs.Hearing.{heard_more}
+use Rattle.event_tables.proofs.listeners.listeners_of.Goals as goal
+
+pub loop-number-preserved : goal.loop-number-preserved
+loop-number-preserved c =
+    let processes = c.args.design.now.processes.items in
+    let same = length-tasks processes in
+    let below = c.loop-number-test.true in
+    let few : c.loop-number.number < length (map task processes) = omega arith in
+    heard_more (flat c.args.design.now) c.loop-number.number c.loop-number.listeners.items c.hear.new.listeners.items few c.loop-number.invariant c.in_ok-hear.ensures

@@ -1,0 +1,6 @@
+use Rattle.event_model.specs.Queue.{flat}
+use Rattle.event_tables.specs.Hearing.{AreHeard}
+use Rattle.event_tables.proofs.listeners.listeners_of.Given as goal
+
+abbrev pub invariant-loop-number : goal.invariant-loop-number
+invariant-loop-number l = AreHeard (flat l.design) l.number l.listeners.items

@@ -1,0 +1,49 @@
+-- Who drives which signals.
+use Rattle.std.specs.Prelude.{ℕ, ◌≡◌, ◌<◌, ◌==◌, Bool, false, cond, List, [], ◌∷◌, ◌++◌, drop, length, Option, None, Some, Vec}
+use Rattle.std.specs.List.{All, list_any}
+use Rattle.std.specs.declared.alloc.Global.{Global}
+use Rattle.rtl_bits.specs.declared.Bit.{Bit}
+use Rattle.rtl_flat.specs.Process.{Piece, Doing, Assign, Comb, Edge'}
+use Rattle.event_model.specs.Queue.{Flat, doing_at, widths, resolved_from, resolved}
+use Rattle.event_write.specs.Marks.{row, driven_with}
+
+-- whether a target names a signal
+abbrev pub names : List Piece → ℕ → Bool
+names target i = list_any (λ piece. i == piece.signal) target
+
+-- whether a process drives a part of a signal
+abbrev pub drives_of : Option Doing → ℕ → Bool
+drives_of None i = false
+drives_of (Some (Assign target value)) i = names target i
+drives_of (Some (Comb list body)) i = false
+drives_of (Some (Edge' events body)) i = false
+
+abbrev pub drives : Flat → ℕ → ℕ → Bool
+drives d p = drives_of (doing_at d p)
+
+-- whether a number is the last one of a list
+abbrev pub ends_in : List ℕ → ℕ → Bool
+ends_in [] p = false
+ends_in (x ∷ []) p = x == p
+ends_in (x ∷ y ∷ ys) p = ends_in (y ∷ ys) p
+
+-- a list with a number at its end
+abbrev pub entered : ℕ → List ℕ → List ℕ
+entered p xs = cond (ends_in xs p) xs (xs ++ p ∷ [])
+
+-- a process is put into the rows of some signals
+pub record Enters (process : ℕ) (which : ℕ → Bool) (old new : List (Vec ℕ Global)) : Type 0 where
+  pub same_length : length new ≡ length old
+  pub rows : (i : ℕ) → i < length old → row new i ≡ cond (which i) (entered process (row old i)) (row old i)
+
+-- what the processes in a row give to a net together with the others
+abbrev pub given_by : Flat → List ℕ → (ℕ → List Bit) → ℕ → List Bit → List Bit
+given_by d [] driver net others = others
+given_by d (p ∷ ps) driver net others =
+    driven_with (widths d) (doing_at d p) (driver p) net (given_by d ps driver net others)
+
+-- the processes below a number stand in the rows of what they drive: with all others they give each net its value
+pub record AreDriven (d : Flat) (n : ℕ) (drivers : List (Vec ℕ Global)) : Type 0 where
+  pub same_length : length drivers ≡ length d.signals
+  pub below : (i : ℕ) → All (λ p. p < n) (row drivers i)
+  pub given : (driver : ℕ → List Bit) (i : ℕ) → i < length d.signals → given_by d (row drivers i) driver i (resolved_from (widths d) n (drop n d.tasks) driver i) ≡ resolved d driver i

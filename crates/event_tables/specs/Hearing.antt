@@ -1,0 +1,39 @@
+-- What processes hear of changes, place by place.
+use Rattle.std.specs.Prelude.{ℕ, ◌≡◌, ◌<◌, ◌+◌, ◌==◌, nat_lt, Bool, false, ◌&&◌, ◌||◌, List, ◌∷◌, length, Option, None, Some, Vec}
+use Rattle.std.specs.List.{All}
+use Rattle.std.specs.declared.alloc.Global.{Global}
+use Rattle.rtl_bits.specs.declared.Bit.{Bit}
+use Rattle.rtl_flat.specs.Process.{Doing}
+use Rattle.event_model.specs.Queue.{Flat, doing_at, widths, listens, hears}
+use Rattle.event_write.specs.declared.listener.Listener.{Listener}
+use Rattle.event_write.specs.Listeners.{heard_by}
+use Rattle.event_write.specs.Marks.{row}
+
+-- whether a change of bit k of signal s, from an old value to a new one, is heard
+abbrev pub Ear : Type 0
+Ear = ℕ → ℕ → Bit → Bit → Bool
+
+-- whether a change among the bits of signal s from place k on is heard
+abbrev pub ear_from : Ear → ℕ → ℕ → List Bit → List Bit → Bool
+ear_from ear s k (a ∷ old) (b ∷ new) = ear s k a b || ear_from ear s (k + 1) old new
+ear_from ear s k _ _ = false
+
+-- what the process with a number is sensitive to, if there is one
+abbrev pub listens_of : (ℕ → ℕ) → Option Doing → Ear
+listens_of ws None s k old new = false
+listens_of ws (Some does) s k old new = listens ws s k old new does
+
+abbrev pub listens_at : Flat → ℕ → Ear
+listens_at d p = listens_of (widths d) (doing_at d p)
+
+-- a process hears in tables what it is sensitive to, besides what was heard before
+pub record Hears (process : ℕ) (ear : Ear) (old new : List (Vec Listener Global)) : Type 0 where
+  pub same_length : length new ≡ length old
+  pub inside : (n i : ℕ) → process < n → All (λ listener. listener.process < n) (row old i) → All (λ listener. listener.process < n) (row new i)
+  pub heard : (i p : ℕ) (a b : List Bit) → i < length old → heard_by (row new i) p a b ≡ (heard_by (row old i) p a b || ((process == p) && ear_from ear i 0 a b))
+
+-- the processes below a number hear in tables what they are sensitive to
+pub record AreHeard (d : Flat) (n : ℕ) (listeners : List (Vec Listener Global)) : Type 0 where
+  pub same_length : length listeners ≡ length d.signals
+  pub inside : (i : ℕ) → All (λ listener. listener.process < length d.tasks) (row listeners i)
+  pub heard : (i p : ℕ) (a b : List Bit) → i < length d.signals → heard_by (row listeners i) p a b ≡ (nat_lt p n && hears (widths d) i a b (doing_at d p))

@@ -1,0 +1,76 @@
+//! Who drives each signal.
+
+ghost use Rattle.std.specs.Prelude.{ℕ, ◌≡◌, ◌<◌, ◌==◌, length, map, IfOk, OnOk};
+ghost use Rattle.rtl_flat.specs.Process.{piece};
+ghost use Rattle.event_model.specs.Queue.{flat};
+ghost use Rattle.event_tables.specs.Driving.{AreDriven, Enters, drives, ends_in, names};
+
+use crate::rows::empty_rows;
+use rtl_flat::act::{Does, ProcId, TargetPart};
+use rtl_flat::design::Design;
+use rtl_flat::expr::SigId;
+use rtl_tree::memory::Memory;
+use std::alloc::Global;
+
+/// Whether a process is the last one in a row.
+fn ends_in(row: &[u32], process: u32) -> bool
+    ensures { result ≡ ends_in row.now process }
+{
+    match row.last() {
+        Some(last) => *last == process,
+        None => false,
+    }
+}
+
+/// Puts a process into the row of a signal, unless it is the last one there.
+fn enter(drivers: &mut Vec<Vec<u32>>, process: u32, signal: SigId) -> Result<(), Memory>
+    ensures { OnOk result (Enters process (λ i. i == signal.0) drivers.old.items drivers.new.items) }
+{
+    let place = signal.0 as usize;
+    if place >= drivers.len() {
+        return Ok(());
+    }
+    if ends_in(&drivers[place], process) {
+        // Another part of its target named the signal.
+        return Ok(());
+    }
+    drivers[place].push(process)?;
+    Ok(())
+}
+
+/// Puts a process into the rows of the signals that its target names.
+fn enter_parts(
+    drivers: &mut Vec<Vec<u32>>,
+    process: u32,
+    parts: &[TargetPart],
+) -> Result<(), Memory>
+    ensures { OnOk result (Enters process (names (map piece parts.now)) drivers.old.items drivers.new.items) }
+{
+    for part in parts {
+        enter(drivers, process, part.signal)?;
+    }
+    Ok(())
+}
+
+/// Puts a process into the rows of the signals that it drives: a body drives none.
+fn drive(drivers: &mut Vec<Vec<u32>>, design: &Design, process: ProcId) -> Result<(), Memory>
+    requires { process.0 < length design.now.processes.items }
+    ensures { OnOk result (Enters process.0 (drives (flat design.now) process.0) drivers.old.items drivers.new.items) }
+{
+    match &design.processes[process.0 as usize].does {
+        Does::Assign { target, value: _ } => enter_parts(drivers, process.0, &target.parts),
+        Does::Comb { list: _, body: _ } => Ok(()),
+        Does::Edge { events: _, body: _ } => Ok(()),
+    }
+}
+
+/// The continuous assignments that drive each signal.
+pub(crate) fn drivers_of(alloc: Global, design: &Design) -> Result<Vec<Vec<u32>>, Memory>
+    ensures { IfOk result (λ drivers. AreDriven (flat design.now) (length design.now.processes.items) drivers.items) }
+{
+    let mut drivers = empty_rows(alloc, design.signals.len())?;
+    for number in 0..design.processes.len() {
+        drive(&mut drivers, design, ProcId(number as u32))?;
+    }
+    Ok(drivers)
+}

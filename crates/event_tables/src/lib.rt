@@ -1,0 +1,12 @@
+//! The tables of a simulator, built once from a flat design: who hears changes of each signal, and who drives it.
+#![tactic(auto)]
+
+mod drivers;
+mod listeners;
+mod masks;
+mod rows;
+mod tables;
+#[cfg(test)]
+mod tests;
+
+pub use tables::fanout_of;
