@@ -1,0 +1,3 @@
+pub mod Delaying
+pub mod Driving
+pub mod Taking

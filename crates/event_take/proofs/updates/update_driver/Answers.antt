@@ -1,0 +1,96 @@
+use Rattle.std.proofs.Common.{ℕ, ◌≡◌, ◌≤◌, ◌<◌, ◌∙◌, false, List, [], length, map, set, Option, None, Some, ap, sym, subst, arith}
+use Rattle.std.specs.List.{All, slice_get}
+use Rattle.std.proofs.lemmas.List.{get_or_default, length-map}
+use mathlib.Core.Path.{fun_ext}
+use Rattle.rtl_bits.specs.declared.Bit.{Bit}
+use Rattle.rtl_flat.specs.declared.act.TargetPart.{TargetPart}
+use Rattle.rtl_flat.specs.Expression.{tree}
+use Rattle.rtl_flat.specs.Process.{Assign, Piece, doing, piece, task}
+use Rattle.rtl_flat.specs.Signs.{width_in}
+use Rattle.rtl_flat.specs.Value.{store}
+use Rattle.rtl_flat.specs.WellFormed.{IsFixed, IsProcess}
+use Rattle.rank_set.proofs.Law.{member_within}
+use Rattle.event_model.specs.Queue.{after_update, doing_at, drive, net_writes, resolved, write_all}
+use Rattle.event_model.specs.Writes.{put}
+use Rattle.event_write.specs.Entries.{AreSelected}
+use Rattle.event_write.specs.Marks.{design_of, driver_of, held, state}
+use Rattle.event_write.proofs.Targets.{are_selected, some_bits}
+use Rattle.event_take.proofs.Driving.{driver_put}
+use Rattle.event_take.proofs.Taking.{doing_here, held_here, held_less, task_has}
+use Rattle.event_take.proofs.updates.update_driver.Goals as goal
+
+pub write_nets-requires-clause-selected : goal.write_nets-requires-clause-selected
+write_nets-requires-clause-selected c =
+    let design = c.args.fanout.now.design.now in
+    let signals = design.signals.items in
+    let flagged = member_within c.args.marks.now.pending c.args.process c.requires.pending in
+    let count = length-map design.processes.items task in
+    let known = c.requires.marks.pending in
+    let there : c.args.process < length design.processes.items = omega (arith, flagged, count, known) in
+    let one = task_has (λ one. IsProcess signals one.does) design.processes.items c.args.process c.index.result.now design.is_design.each_process there c.index.ensures in
+    let lawful = subst (IsProcess signals) (ap doing c.in-Assign.is) one in
+    subst (λ (ps : List TargetPart). AreSelected signals (map piece ps)) (sym c.deref.ensures.value)
+    (are_selected signals (some_bits design.instances.items signals design.is_design.each_signal) (map piece c.in-Assign.target.parts.items) lawful.0.parts)
+
+pub write_nets-requires-clause-fixed : goal.write_nets-requires-clause-fixed
+write_nets-requires-clause-fixed c =
+    let design = c.args.fanout.now.design.now in
+    let flagged = member_within c.args.marks.now.pending c.args.process c.requires.pending in
+    let count = length-map design.processes.items task in
+    let known = c.requires.marks.pending in
+    let there : c.args.process < length design.processes.items = omega (arith, flagged, count, known) in
+    let one = task_has (λ one. IsProcess design.signals.items one.does) design.processes.items c.args.process c.index.result.now design.is_design.each_process there c.index.ensures in
+    let lawful = subst (IsProcess design.signals.items) (ap doing c.in-Assign.is) one in
+    subst (λ (ps : List TargetPart). All (λ (p : Piece). IsFixed p.selection) (map piece ps)) (sym c.deref.ensures.value) lawful.1
+
+pub returns-in-Assign-clause-state : goal.returns-in-Assign-clause-state
+returns-in-Assign-clause-state c =
+    let design = c.args.fanout.now.design.now in
+    let d = design_of c.args.fanout.now in
+    let ws = width_in design.signals.items in
+    let m = c.args.marks.now in
+    let s = state m in
+    let p = c.args.process in
+    let flags = m.pending in
+    let values = m.pending_values.items in
+    let flagged = member_within flags p c.requires.pending in
+    let count = length-map design.processes.items task in
+    let known = c.requires.marks.pending in
+    let there : p < length design.processes.items = omega (arith, flagged, count, known) in
+    let stored = c.requires.marks.pending_values in
+    let kept : p < length values = omega (arith, flagged, known, stored) in
+    let driving = c.requires.marks.drivers in
+    let within : p < length m.drivers.items = omega (arith, flagged, known, driving) in
+    let b = c.index-bits.result.now in
+    let bits : b ≡ store values p = c.index-bits.ensures ∙ get_or_default values p b [] kept in
+    let parts = map piece c.in-Assign.target.parts.items in
+    let does : doing_at d p ≡ Some (Assign parts (tree c.in-Assign.value)) =
+    doing_here design.processes.items p c.index.result.now there c.index.ensures ∙ ap (λ x. Some (doing x)) c.in-Assign.is in
+    let pending : held c.remove.new.self values ≡ put (held flags values) p None = ap (λ f. held f values) c.remove.ensures ∙ fun_ext (held_less flags values p flagged) in
+    let drivers : (λ (q : ℕ). driver_of (slice_get (set m.drivers.items p (Some b)) q)) ≡ put s.driver p b = fun_ext (driver_put m.drivers.items p b within) in
+    let given = λ (q : ℕ). driver_of (slice_get (set m.drivers.items p (Some b)) q) in
+    c.write_nets.ensures.state
+    ∙ ap (λ (ps : List TargetPart). write_all d (record s { driver = given; pending = held c.remove.new.self values }) (net_writes ws (resolved d given) (map piece ps))) c.deref.ensures.value
+    ∙ ap (λ (f : ℕ → List Bit). write_all d (record s { driver = f; pending = held c.remove.new.self values }) (net_writes ws (resolved d f) parts)) drivers
+    ∙ ap (λ (q : ℕ → Option (List Bit)). write_all d (record s { driver = put s.driver p b; pending = q }) (net_writes ws (resolved d (put s.driver p b)) parts)) pending
+    ∙ ap (λ (bs : List Bit). drive d s p parts (Some bs)) bits
+    ∙ sym (ap (drive d s p parts) (held_here flags values p c.requires.pending))
+    ∙ sym (ap (after_update d s p) does)
+
+pub returns-in-Comb-clause-state : goal.returns-in-Comb-clause-state
+returns-in-Comb-clause-state c =
+    let processes = c.args.fanout.now.design.now.processes.items in
+    let flagged = member_within c.args.marks.now.pending c.args.process c.requires.pending in
+    let count = length-map processes task in
+    let known = c.requires.marks.pending in
+    let there : c.args.process < length processes = omega (arith, flagged, count, known) in
+    sym (ap (after_update (design_of c.args.fanout.now) (state c.args.marks.now) c.args.process) (doing_here processes c.args.process c.index.result.now there c.index.ensures ∙ ap (λ x. Some (doing x)) c.in-Comb.is))
+
+pub returns-in-Edge-clause-state : goal.returns-in-Edge-clause-state
+returns-in-Edge-clause-state c =
+    let processes = c.args.fanout.now.design.now.processes.items in
+    let flagged = member_within c.args.marks.now.pending c.args.process c.requires.pending in
+    let count = length-map processes task in
+    let known = c.requires.marks.pending in
+    let there : c.args.process < length processes = omega (arith, flagged, count, known) in
+    sym (ap (after_update (design_of c.args.fanout.now) (state c.args.marks.now) c.args.process) (doing_here processes c.args.process c.index.result.now there c.index.ensures ∙ ap (λ x. Some (doing x)) c.in-Edge.is))

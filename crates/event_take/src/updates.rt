@@ -1,0 +1,77 @@
+//! The update of a driver, and the nets that follow it. It takes no memory.
+
+ghost use Rattle.std.specs.Prelude.{◌≡◌, ◌≤◌, true, length, map};
+ghost use Rattle.std.specs.List.{All};
+ghost use Rattle.rtl_flat.specs.Process.{piece, selection};
+ghost use Rattle.rtl_flat.specs.Signs.{width_in};
+ghost use Rattle.rtl_flat.specs.WellFormed.{IsFixed, IsSelection};
+ghost use Rattle.rank_set.specs.Ranks.{flag};
+ghost use Rattle.event_model.specs.Queue.{Update, after, bits_in, net_writes, resolved, write_all};
+ghost use Rattle.event_model.specs.Writes.{count_of, no_drive, span_of, write_at};
+ghost use Rattle.event_write.specs.Entries.{AreSelected};
+ghost use Rattle.event_write.specs.Marks.{IsFanout, IsMarks, design_of, state};
+ghost use Rattle.event_take.specs.Rooms.{IsStill};
+
+use crate::drives::resolve;
+use event_write::fanout::Fanout;
+use event_write::marks::Marks;
+use event_write::spans::span_of;
+use event_write::waking::write;
+use rtl_flat::act::{Does, TargetPart};
+
+/// The driver of a continuous assignment takes its pending value, and its nets follow.
+pub fn update_driver(fanout: &Fanout, marks: &mut Marks, process: u32)
+    requires fanout { IsFanout fanout.now }
+    requires marks { IsMarks (design_of fanout.now) marks.old }
+    requires pending { flag marks.old.pending process ≡ true }
+    ensures state { state marks.new ≡ after (design_of fanout.now) (state marks.old) (Update process) }
+    ensures marks { IsMarks (design_of fanout.now) marks.new }
+    ensures still { IsStill marks.old marks.new }
+{
+    match &fanout.design.processes[process as usize].does {
+        Does::Assign { target, value: _ } => {
+            let bits = marks.pending_values[process as usize];
+            marks.pending.remove(process as usize);
+            marks.drivers[process as usize] = Some(bits);
+            write_nets(fanout, marks, &target.parts);
+        }
+        Does::Comb { list: _, body: _ } => {}
+        Does::Edge { events: _, body: _ } => {}
+    }
+}
+
+/// The nets of a target take what their drivers give them.
+fn write_nets(fanout: &Fanout, marks: &mut Marks, parts: &[TargetPart])
+    requires fanout { IsFanout fanout.now }
+    requires marks { IsMarks (design_of fanout.now) marks.old }
+    requires selected { AreSelected fanout.now.design.now.signals.items (map piece parts.now) }
+    requires fixed { All (λ piece. IsFixed piece.selection) (map piece parts.now) }
+    ensures state { state marks.new ≡ write_all (design_of fanout.now) (state marks.old) (net_writes (width_in fanout.now.design.now.signals.items) (resolved (design_of fanout.now) (state marks.old).driver) (map piece parts.now)) }
+    ensures marks { IsMarks (design_of fanout.now) marks.new }
+    ensures still { IsStill marks.old marks.new }
+{
+    for part in parts {
+        write_net(fanout, marks, part);
+    }
+}
+
+/// A net takes what its drivers give to a part of it.
+fn write_net(fanout: &Fanout, marks: &mut Marks, part: &TargetPart)
+    requires fanout { IsFanout fanout.now }
+    requires marks { IsMarks (design_of fanout.now) marks.old }
+    requires selected { IsSelection fanout.now.design.now.signals.items part.now.signal.0 (selection part.now.select) }
+    requires not_empty { 1 ≤ count_of (width_in fanout.now.design.now.signals.items) part.now.signal.0 (selection part.now.select) }
+    requires fixed { IsFixed (selection part.now.select) }
+    ensures state { state marks.new ≡ write_all (design_of fanout.now) (state marks.old) (write_at part.now.signal.0 (span_of (width_in fanout.now.design.now.signals.items) (no_drive (width_in fanout.now.design.now.signals.items)) part.now.signal.0 (selection part.now.select)) (bits_in (span_of (width_in fanout.now.design.now.signals.items) (no_drive (width_in fanout.now.design.now.signals.items)) part.now.signal.0 (selection part.now.select)) (resolved (design_of fanout.now) (state marks.old).driver part.now.signal.0))) }
+    ensures marks { IsMarks (design_of fanout.now) marks.new }
+    ensures still { IsStill marks.old marks.new }
+    ensures drivers { marks.new.drivers ≡ marks.old.drivers }
+{
+    let signals = &fanout.design.signals;
+    let span = span_of(signals, &marks.values, part.signal, &part.select);
+    if let Some(span) = span {
+        let given = resolve(fanout, marks, part.signal);
+        let bits = given.select(span.at, span.count);
+        write(fanout, marks, part.signal, span.at, bits);
+    }
+}
