@@ -1,0 +1,7 @@
+pub mod Cuts
+pub mod Files
+pub mod Lines
+pub mod Marks
+pub mod Names
+pub mod Steps
+pub mod Values
