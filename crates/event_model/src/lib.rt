@@ -4,3 +4,4 @@
 
 pub mod law;
 pub mod policy;
+pub mod setting;
