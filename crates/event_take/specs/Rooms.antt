@@ -11,8 +11,9 @@ room_of (Some (Assign target e)) = 0
 room_of (Some (Comb list body)) = rooms body
 room_of (Some (Edge' events body)) = rooms body
 
--- whether all prepared writes stay
+-- whether all prepared writes stay, and the levels of processes
 pub record IsStill (m n : Marks) : Type 0 where
+  pub levels : n.woken.levels ≡ m.woken.levels
   pub active : n.active ≡ m.active
   pub next : n.next ≡ m.next
   pub waiting : n.waiting ≡ m.waiting

@@ -104,6 +104,7 @@ pub fn make_update(fanout: &Fanout, marks: &mut Marks)
     ensures waiting { marks.new.waiting ≡ marks.old.waiting }
     ensures scratch { marks.new.scratch ≡ marks.old.scratch }
     ensures active { marks.new.active ≡ marks.old.active }
+    ensures levels { marks.new.woken.levels ≡ marks.old.woken.levels }
 {
     let first = marks.next;
     let end = marks.active.len();
@@ -126,6 +127,7 @@ pub fn activate(fanout: &Fanout, marks: &mut Marks)
     ensures active { vec_capacity marks.new.active ≡ vec_capacity marks.old.waiting }
     ensures waiting { vec_capacity marks.old.active ≤ vec_capacity marks.new.waiting }
     ensures scratch { marks.new.scratch ≡ marks.old.scratch }
+    ensures levels { marks.new.woken.levels ≡ marks.old.woken.levels }
 {
     mem::swap(&mut marks.active, &mut marks.waiting);
     marks.waiting.clear();

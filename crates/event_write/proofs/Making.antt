@@ -75,6 +75,7 @@ kept_more a b m n more h =
       waiting = omega (arith, few, more);
       room = h.room;
       scratch = h.scratch;
+      levels = h.levels;
       active = h.active;
       next = h.next;
     }

@@ -34,7 +34,7 @@ abbrev pub state : Marks → State
 state m =
     record {
       value = store m.values.items;
-      woken = flag m.woken;
+      woken = flag m.woken.flags;
       driver = λ p. driver_of (slice_get m.drivers.items p);
       pending = held m.pending m.pending_values.items;
       offered = held m.offered m.offered_values.items;
@@ -95,7 +95,7 @@ HasWidth ws _ width = Unit {0}
 
 pub record IsMarks (d : Flat) (m : Marks) : Type 0 where
   pub values : AreStored d.signals m.values.items
-  pub woken : length m.woken ≡ length d.tasks
+  pub woken : length m.woken.flags ≡ length d.tasks
   pub drivers : length m.drivers.items ≡ length d.tasks
   pub driver_widths : (p : ℕ) → HasWidth (widths d) (doing_at d p) (length (driver_of (slice_get m.drivers.items p)))
   pub pending : length m.pending ≡ length d.tasks
@@ -111,6 +111,7 @@ pub record IsMarks (d : Flat) (m : Marks) : Type 0 where
 
 -- whether all but values and woken processes stays
 pub record AreSame (m n : Marks) : Type 0 where
+  pub levels : n.woken.levels ≡ m.woken.levels
   pub drivers : n.drivers ≡ m.drivers
   pub pending : n.pending ≡ m.pending
   pub pending_values : n.pending_values ≡ m.pending_values

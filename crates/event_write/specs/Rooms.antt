@@ -32,5 +32,6 @@ pub record IsKept (most : ℕ) (m n : Marks) : Type 0 where
   pub waiting : length n.waiting.items ≤ length m.waiting.items + most
   pub room : vec_capacity m.waiting ≤ vec_capacity n.waiting
   pub scratch : vec_capacity m.scratch ≤ vec_capacity n.scratch
+  pub levels : n.woken.levels ≡ m.woken.levels
   pub active : n.active ≡ m.active
   pub next : n.next ≡ m.next

@@ -26,6 +26,7 @@ pub fn write_entry(fanout: &Fanout, marks: &mut Marks, prepared: Entry)
     ensures marks { IsMarks (design_of fanout.now) marks.new }
     ensures waiting { marks.new.waiting ≡ marks.old.waiting }
     ensures scratch { marks.new.scratch ≡ marks.old.scratch }
+    ensures levels { marks.new.woken.levels ≡ marks.old.woken.levels }
     ensures active { marks.new.active ≡ marks.old.active }
     ensures next { marks.new.next ≡ marks.old.next }
 {
@@ -43,6 +44,7 @@ fn write_prepared(fanout: &Fanout, marks: &mut Marks)
     ensures marks { IsMarks (design_of fanout.now) marks.new }
     ensures waiting { marks.new.waiting ≡ marks.old.waiting }
     ensures scratch { marks.new.scratch ≡ marks.old.scratch }
+    ensures levels { marks.new.woken.levels ≡ marks.old.woken.levels }
     ensures active { marks.new.active ≡ marks.old.active }
     ensures next { marks.new.next ≡ marks.old.next }
 {
@@ -63,6 +65,7 @@ pub fn write_now(fanout: &Fanout, marks: &mut Marks, parts: &[TargetPart], bits:
     ensures marks { IsMarks (design_of fanout.now) marks.new }
     ensures waiting { marks.new.waiting ≡ marks.old.waiting }
     ensures scratch { vec_capacity marks.old.scratch ≤ vec_capacity marks.new.scratch }
+    ensures levels { marks.new.woken.levels ≡ marks.old.woken.levels }
     ensures active { marks.new.active ≡ marks.old.active }
     ensures next { marks.new.next ≡ marks.old.next }
 {
@@ -89,6 +92,7 @@ pub fn write_later(fanout: &Fanout, marks: &mut Marks, parts: &[TargetPart], bit
     ensures waiting { length marks.new.waiting.items ≡ length marks.old.waiting.items + length parts.now }
     ensures room { vec_capacity marks.old.waiting ≤ vec_capacity marks.new.waiting }
     ensures scratch { marks.new.scratch ≡ marks.old.scratch }
+    ensures levels { marks.new.woken.levels ≡ marks.old.woken.levels }
     ensures active { marks.new.active ≡ marks.old.active }
     ensures next { marks.new.next ≡ marks.old.next }
 {

@@ -1,6 +1,7 @@
 //! All that changes while a simulator runs.
 
 use crate::entries::Entry;
+use agenda::Agenda;
 use rank_set::RankSet;
 use rtl_bits::Vec4;
 
@@ -10,7 +11,7 @@ pub struct Marks {
     /// The value of each signal.
     pub values: Vec<Vec4>,
     /// The woken processes.
-    pub woken: RankSet,
+    pub woken: Agenda,
     /// What each continuous assignment drives; none for a body.
     pub drivers: Vec<Option<Vec4>>,
     /// The continuous assignments with an update of their driver, and the value that it takes.

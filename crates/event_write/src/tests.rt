@@ -5,7 +5,7 @@ use crate::entries::prepare;
 use crate::listener::Listener;
 use crate::spans::Span;
 use crate::waking::wake;
-use rank_set::RankSet;
+use agenda::Agenda;
 use rtl_bits::{Bit, Edge, Vec4};
 use rtl_flat::act::TargetPart;
 use rtl_flat::expr::{Index, Node, Select, SigId, SizedExpr};
@@ -66,7 +66,8 @@ fn a_change_of_a_part_wakes_its_listeners(rt: HostRuntime) -> Result<(), Fail> {
             mask: 3,
         },
     ];
-    let mut woken = RankSet::new(rt.alloc(), 4)?;
+    let levels = vec![in rt.alloc(); None; 4]?;
+    let mut woken = Agenda::new(rt.alloc(), levels)?;
     let changes = Changes::of(Vec4::of_number(4, 0), Vec4::of_number(4, 2));
     wake(&listeners, changes, &mut woken);
     assert!(rt; !woken.contains(0));

@@ -14,15 +14,16 @@ use crate::changes::Changes;
 use crate::fanout::Fanout;
 use crate::listener::Listener;
 use crate::marks::Marks;
-use rank_set::RankSet;
+use agenda::Agenda;
 use rtl_bits::Vec4;
 use rtl_flat::expr::SigId;
 
 /// Wakes the processes that hear changes of a signal.
-pub(crate) fn wake(listeners: &[Listener], changes: Changes, woken: &mut RankSet)
-    requires { All (λ listener. listener.process < length woken.old) listeners.now }
-    ensures size { length woken.new ≡ length woken.old }
-    ensures woken { (old new : List Bit) → length old ≡ length new → AreChanges old new changes → (p : ℕ) → flag woken.new p ≡ (flag woken.old p || heard_by listeners.now p old new) }
+pub(crate) fn wake(listeners: &[Listener], changes: Changes, woken: &mut Agenda)
+    requires { All (λ listener. listener.process < length woken.old.flags) listeners.now }
+    ensures size { length woken.new.flags ≡ length woken.old.flags }
+    ensures levels { woken.new.levels ≡ woken.old.levels }
+    ensures woken { (old new : List Bit) → length old ≡ length new → AreChanges old new changes → (p : ℕ) → flag woken.new.flags p ≡ (flag woken.old.flags p || heard_by listeners.now p old new) }
 {
     for listener in listeners {
         let hears = listener.hears(changes);
@@ -32,10 +33,11 @@ pub(crate) fn wake(listeners: &[Listener], changes: Changes, woken: &mut RankSet
 
 /// Adds a process where it hears something.
 #[tactic(auto, using(crate::proofs::Woken::inserted, crate::proofs::Woken::not_inserted))]
-fn insert_if(woken: &mut RankSet, process: u32, hears: bool)
-    requires { process < length woken.old }
-    ensures size { length woken.new ≡ length woken.old }
-    ensures flags { (p : ℕ) → flag woken.new p ≡ (flag woken.old p || ((process == p) && hears)) }
+fn insert_if(woken: &mut Agenda, process: u32, hears: bool)
+    requires { process < length woken.old.flags }
+    ensures size { length woken.new.flags ≡ length woken.old.flags }
+    ensures levels { woken.new.levels ≡ woken.old.levels }
+    ensures flags { (p : ℕ) → flag woken.new.flags p ≡ (flag woken.old.flags p || ((process == p) && hears)) }
 {
     if hears {
         woken.insert(process as usize);

@@ -10,6 +10,7 @@ use Rattle.rtl_flat.specs.Signs.{IsExpression, width_in}
 use Rattle.rtl_flat.specs.Value.{store, value}
 use Rattle.rtl_flat.specs.WellFormed.{IsProcess}
 use Rattle.rank_set.specs.Ranks.{flag}
+use Rattle.agenda.specs.Agendas.{Numbered}
 use Rattle.event_model.specs.Queue.{after_evaluate, doing_at}
 use Rattle.event_model.specs.Writes.{put}
 use Rattle.event_write.specs.Marks.{HasWidth, design_of, held, state}
@@ -29,7 +30,7 @@ returns-in-Assign-clause-state c =
     let p = c.args.process in
     let processes = c.args.fanout.now.design.now.processes.items in
     let flags = c.args.marks.now.pending in
-    let woken = c.args.marks.now.woken in
+    let woken = c.args.marks.now.woken.flags in
     let values = c.args.marks.now.pending_values.items in
     let there = c.requires.there in
     let count = length-map processes task in
@@ -47,7 +48,7 @@ returns-in-Assign-clause-state c =
     ap (λ f. held f (set values p c.evaluate-bits.result)) c.insert.ensures
     ∙ fun_ext (held_more flags values p c.evaluate-bits.result within kept)
     ∙ ap (λ (bs : List Bit). put (held flags values) p (Some bs)) bits in
-    ap (λ (w : ℕ → Bool). record s { pending = held c.insert.new.self (set values p c.evaluate-bits.result); woken = w }) (ap flag c.remove.ensures ∙ fun_ext (flag_put woken p false known))
+    ap (λ (w : ℕ → Bool). record s { pending = held c.insert.new.self (set values p c.evaluate-bits.result); woken = w }) (ap (λ (a : Numbered). flag a.flags) c.remove.ensures ∙ fun_ext (flag_put woken p false known))
     ∙ ap (λ (q : ℕ → Option (List Bit)). record s { pending = q; woken = put (flag woken) p false }) pending
     ∙ sym (ap (after_evaluate s p) does)
 
@@ -67,7 +68,7 @@ returns-in-Assign-clause-marks c =
     doing_here processes p c.index.result.now there c.index.ensures ∙ ap (λ x. Some (doing x)) c.in-Assign.is in
     record {
       values = is.values;
-      woken = ap length c.remove.ensures ∙ length-set c.args.marks.now.woken p false ∙ is.woken;
+      woken = ap (λ (a : Numbered). length a.flags) c.remove.ensures ∙ length-set c.args.marks.now.woken.flags p false ∙ is.woken;
       drivers = is.drivers;
       driver_widths = is.driver_widths;
       pending = ap length c.insert.ensures ∙ length-set c.args.marks.now.pending p true ∙ is.pending;

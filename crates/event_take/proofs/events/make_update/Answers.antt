@@ -50,7 +50,7 @@ returns-then-is_last-clause-state c =
     ∙ update_ends d s (entry c.index-prepared.result.now) (drop (number + 1) (map entry items)) c.if-is_last.true
     ∙ ap (λ (es : List Entry). after_delayed d s (updates es)) (sym left)
     ∙ ap (λ (v : Vec Code Global). after_delayed d s (updates (drop number (map entry v.items)))) inv.2
-    ∙ inv.5
+    ∙ inv.6
 
 pub loop-number-preserved : goal.loop-number-preserved
 loop-number-preserved c =
@@ -74,9 +74,10 @@ loop-number-preserved c =
       c.write_entry.ensures.active ∙ inv.2,
       c.write_entry.ensures.waiting ∙ inv.3,
       c.write_entry.ensures.scratch ∙ inv.4,
+      c.write_entry.ensures.levels ∙ inv.5,
       ap (λ (v : Vec Code Global). after_delayed d t (updates (drop (number + 1) (map entry v.items)))) (sym inv.2)
           ∙ update_goes d s t e rest c.if-is_last.false (subst IsClosed left closed) c.write_entry.ensures.state
           ∙ ap (λ (es : List Entry). after_delayed d s (updates es)) (sym left)
           ∙ ap (λ (v : Vec Code Global). after_delayed d s (updates (drop number (map entry v.items)))) inv.2
-          ∙ inv.5,
+          ∙ inv.6,
     )

@@ -11,4 +11,5 @@ invariant-loop-number l =
     × (l.marks.active ≡ l.initial.marks.active)
     × (l.marks.waiting ≡ l.initial.marks.waiting)
     × (l.marks.scratch ≡ l.initial.marks.scratch)
+    × (l.marks.woken.levels ≡ l.initial.marks.woken.levels)
     × (after_delayed (design_of l.fanout) (state l.marks) (updates (drop l.number (map entry l.initial.marks.active.items))) ≡ after_delayed (design_of l.fanout) (state l.initial.marks) (updates (drop l.initial.marks.next (map entry l.initial.marks.active.items))))

@@ -41,7 +41,7 @@ loop-part-preserved c =
     let still = c.write_net.ensures.still in
     let here = write_at part.signal.0 span (bits_in span (resolved d first part.signal.0)) in (
       c.write_net.ensures.marks,
-      record { active = still.active ∙ inv.1.active; next = still.next ∙ inv.1.next; waiting = still.waiting ∙ inv.1.waiting; scratch = still.scratch ∙ inv.1.scratch },
+      record { levels = still.levels ∙ inv.1.levels; active = still.active ∙ inv.1.active; next = still.next ∙ inv.1.next; waiting = still.waiting ∙ inv.1.waiting; scratch = still.scratch ∙ inv.1.scratch },
       c.write_net.ensures.drivers ∙ inv.2,
       lawful.2,
       All-tail (λ (p : Piece). IsFixed p.selection) (piece part) (map piece others) fixed,

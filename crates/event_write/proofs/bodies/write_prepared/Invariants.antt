@@ -11,4 +11,5 @@ invariant-loop-number l =
     × (l.marks.waiting ≡ l.initial.marks.waiting)
     × (l.marks.active ≡ l.initial.marks.active)
     × (l.marks.next ≡ l.initial.marks.next)
+    × (l.marks.woken.levels ≡ l.initial.marks.woken.levels)
     × (write_all (design_of l.fanout) (state l.marks) (all_writes (map entry (drop l.number l.initial.marks.scratch.items))) ≡ write_all (design_of l.fanout) (state l.initial.marks) (all_writes (map entry l.initial.marks.scratch.items)))

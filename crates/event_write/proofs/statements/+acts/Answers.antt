@@ -200,9 +200,10 @@ make_all-loop-act-preserved t c =
       omega (arith, here, used, used_now),
       kept.active ∙ inv.5,
       kept.next ∙ inv.6,
+      kept.levels ∙ inv.7,
       one_made d (state c.loop-act.marks) (state c.make.new.marks) ws (action c.act-item.result) others c.make.ensures.state
           ∙ ap (λ (xs : List Act). perform_all d (state c.loop-act.marks) (body_made ws (store c.loop-act.marks.values.items) (body_of (map action xs)))) (sym left)
-          ∙ inv.7,
+          ∙ inv.8,
     )
 
 -- ---- a case

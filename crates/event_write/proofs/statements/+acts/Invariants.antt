@@ -19,6 +19,7 @@ invariant-make_all-loop-act l =
     × (length l.marks.waiting.items + rooms (body_of (map action (drop l.act-index l.acts))) ≤ length l.initial.marks.waiting.items + rooms (body_of (map action l.acts)))
     × (l.marks.active ≡ l.initial.marks.active)
     × (l.marks.next ≡ l.initial.marks.next)
+    × (l.marks.woken.levels ≡ l.initial.marks.woken.levels)
     × (perform_all (design_of l.fanout) (state l.marks) (body_made (width_in l.fanout.design.now.signals.items) (store l.marks.values.items) (body_of (map action (drop l.act-index l.acts)))) ≡ perform_all (design_of l.fanout) (state l.initial.marks) (body_made (width_in l.fanout.design.now.signals.items) (store l.initial.marks.values.items) (body_of (map action l.acts))))
 
 abbrev pub decreases-make_all : goal.decreases-make_all

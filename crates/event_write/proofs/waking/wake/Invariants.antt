@@ -7,5 +7,6 @@ use Rattle.event_write.proofs.waking.wake.Given as goal
 
 abbrev pub invariant-loop-listener : goal.invariant-loop-listener
 invariant-loop-listener l =
-    (length l.woken ≡ length l.initial.woken)
-    × ((old new : List Bit) → length old ≡ length new → AreChanges old new l.changes → (p : ℕ) → (flag l.woken p || heard_by (drop l.listener-index l.listeners) p old new) ≡ (flag l.initial.woken p || heard_by l.listeners p old new))
+    (length l.woken.flags ≡ length l.initial.woken.flags)
+    × (l.woken.levels ≡ l.initial.woken.levels)
+    × ((old new : List Bit) → length old ≡ length new → AreChanges old new l.changes → (p : ℕ) → (flag l.woken.flags p || heard_by (drop l.listener-index l.listeners) p old new) ≡ (flag l.initial.woken.flags p || heard_by l.listeners p old new))

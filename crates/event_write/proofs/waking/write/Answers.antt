@@ -20,7 +20,7 @@ wake-requires c =
     let listened = c.requires.fanout.listened in
     let within : c.args.signal.0 < length c.args.fanout.now.listeners.items = omega (arith, there, listened) in
     let is = row_at c.args.fanout.now.listeners.items c.args.signal.0 c.index-listeners.result.now within c.index-listeners.ensures in
-    subst (λ (xs : List Listener). All (λ listener. listener.process < length c.args.marks.now.woken) xs) (is ∙ sym c.deref.ensures.value)
+    subst (λ (xs : List Listener). All (λ listener. listener.process < length c.args.marks.now.woken.flags) xs) (is ∙ sym c.deref.ensures.value)
     (subst (λ (n : ℕ). All (λ listener. listener.process < n) (row c.args.fanout.now.listeners.items c.args.signal.0)) (sym c.requires.marks.woken) (c.requires.fanout.inside c.args.signal.0))
 
 pub returns-clause-state : goal.returns-clause-state
@@ -38,10 +38,10 @@ returns-clause-state c =
     let new_is : c.replace-new.result ≡ replaced c.args.at c.args.bits (store values i) = c.replace-new.ensures.bits ∙ ap (replaced c.args.at c.args.bits) old_is in
     let at_signal : written (store values) w i ≡ replaced c.args.at c.args.bits (store values i) = put_at (store values) i (replaced c.args.at c.args.bits (store values i)) in
     let is = row_at c.args.fanout.now.listeners.items i c.index-listeners.result.now within c.index-listeners.ensures in
-    write_is d (state c.args.marks.now) w (store (with_item c.args.marks.now.values i c.replace-new.result).items) (flag c.wake.new.woken)
+    write_is d (state c.args.marks.now) w (store (with_item c.args.marks.now.values i c.replace-new.result).items) (flag c.wake.new.woken.flags)
     (λ j. store_set values i c.replace-new.result kept j ∙ ap (λ bits. put (store values) i bits j) new_is)
     (λ p. c.wake.ensures.woken c.index-old.result.now c.replace-new.result (sym c.replace-new.ensures.width) c.of.ensures p
-    ∙ ap (λ b. flag c.args.marks.now.woken p || b)
+    ∙ ap (λ b. flag c.args.marks.now.woken.flags p || b)
     (ap (λ xs. heard_by xs p c.index-old.result.now c.replace-new.result) (c.deref.ensures.value ∙ sym is)
     ∙ c.requires.fanout.hear i p c.index-old.result.now c.replace-new.result
     ∙ ap (λ bits. hears (widths d) i bits c.replace-new.result (doing_at d p)) old_is

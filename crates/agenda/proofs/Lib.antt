@@ -1,0 +1,5 @@
+pub mod Order
+pub mod Distinct
+pub mod Sorted
+pub mod Kept
+pub mod Law
