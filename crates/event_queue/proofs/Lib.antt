@@ -1,0 +1,10 @@
+pub mod Kept
+pub mod Fewness
+pub mod Costing
+pub mod Loads
+pub mod Starting
+pub mod Freshness
+pub mod Offered
+pub mod Paying
+pub mod Running
+pub mod Beginning

@@ -1,0 +1,21 @@
+use Rattle.std.proofs.Common.{refl, ap}
+use Rattle.event_model.specs.Queue.{flat}
+use Rattle.event_queue.proofs.Beginning.{holding, levels_are}
+use Rattle.event_queue.proofs.sim.EventSim.new.Goals as goal
+
+pub invariant_of-result : goal.invariant_of-result
+invariant_of-result c =
+    record {
+      is_sim = holding c.args.design.now c.args.start.now c.in_ok-levels.levels.items c.in_ok-fanout.fanout c.in_ok-marks.marks c.in_ok-costs.costs c.budget_of-budget.result
+          c.in_ok-fanout.ensures.tables c.in_ok-fanout.ensures.design c.in_ok-costs.ensures c.budget_of-budget.ensures.budget c.in_ok-marks.ensures;
+    }
+
+pub returns : goal.returns
+returns c =
+    record {
+      design = ap flat c.in_ok-fanout.ensures.design;
+      state = c.in_ok-marks.ensures.state;
+      left = c.budget_of-budget.ensures.budget;
+      free = refl;
+      levels = levels_are c.args.design.now c.in_ok-levels.levels.items c.in_ok-marks.marks.woken.levels c.in_ok-marks.ensures.levels c.in_ok-levels.ensures.each;
+    }

@@ -1,0 +1,6 @@
+use Rattle.event_queue.proofs.Loads.{made_ready}
+use Rattle.event_queue.proofs.taking.make_ready.Goals as goal
+
+pub returns-then-is_idle-clause-made : goal.returns-then-is_idle-clause-made
+returns-then-is_idle-clause-made c =
+    made_ready c.args.marks.now c.activate.new.marks c.activate.ensures.state c.activate.ensures.levels c.activate.ensures.active c.activate.ensures.waiting c.activate.ensures.scratch

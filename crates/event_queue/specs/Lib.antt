@@ -1,0 +1,10 @@
+pub mod Lates
+pub mod Costs
+pub mod Rooms
+pub mod First
+pub mod Offers
+pub mod Holding
+pub mod Propositions
+pub mod Starts
+pub mod Sims
+pub mod Samples

@@ -1,0 +1,13 @@
+//! A simulator of a flat design: it takes the events of the queue one after the other, in the order of a policy or of the
+//! caller's choice.
+#![tactic(auto)]
+
+mod bodies;
+mod costs;
+mod first_marks;
+mod offering;
+pub mod sim;
+pub mod start;
+mod taking;
+#[cfg(test)]
+mod tests;

@@ -1,0 +1,40 @@
+//! Where a simulator begins.
+
+ghost use Rattle.std.specs.Prelude.{◌≡◌, length, IfOk};
+ghost use Rattle.event_model.specs.Queue.{flat};
+ghost use Rattle.event_queue.specs.First.{IsFirst};
+ghost use Rattle.event_queue.specs.Starts.{IsStart, start_of};
+
+use crate::first_marks::{power_up, settled};
+use event_write::marks::Marks;
+use rtl_bits::Vec4;
+use rtl_flat::design::Design;
+use rtl_tree::memory::Memory;
+use std::alloc::Global;
+
+/// Where a simulator begins.
+#[derive(Drop)]
+pub enum Start {
+    /// All variables and inputs x, all nets z, and every continuous assignment to be evaluated.
+    PowerUp,
+    /// A value for each signal, of its width, where nothing is to be done.
+    Values(Vec<Vec4>),
+}
+
+/// The marks from which a simulator begins.
+pub(crate) fn first_marks(
+    alloc: Global,
+    design: &Design,
+    start: &Start,
+    levels: Vec<Option<u32>>,
+    room: usize,
+) -> Result<Marks, Memory>
+    requires start { IsStart design.now start.now }
+    requires levels { length levels.items ≡ length design.now.processes.items }
+    ensures { IfOk result (λ marks. IsFirst (flat design.now) (start_of (flat design.now) start.now) levels.items room marks) }
+{
+    match start {
+        Start::PowerUp => power_up(alloc, design, levels, room),
+        Start::Values(values) => settled(alloc, design, values, levels, room),
+    }
+}
