@@ -1,0 +1,9 @@
+use Rattle.std.proofs.Common.{◌≤◌, ◌+◌}
+use Rattle.rtl_front.proofs.Reading.{SoFar}
+use Rattle.rtl_front.proofs.files.read_files.Given as goal
+
+abbrev pub invariant-loop-number : goal.invariant-loop-number
+invariant-loop-number g l = record {
+  so_far : SoFar l.texts l.number l.files.items;
+  few : l.steps ≤ l.initial.steps + l.number;
+}

@@ -1,0 +1,76 @@
+-- The modules that files spell, or why the first of them that spells none doesn't.
+use Rattle.std.specs.Prelude.{◌≡◌, ℕ, zero, suc, Bool, true, false, if◌then◌else◌, List, [], ◌∷◌, None, Ok, Err, Vec, map}
+use Rattle.std.specs.declared.alloc.Global.{Global}
+use Rattle.rtl_tree.specs.declared.token.Token.{Token}
+use Rattle.rtl_tree.specs.declared.tree.modules.Module.{Module}
+use Rattle.rtl_tree.specs.Prepared.{Ready}
+use Rattle.rtl_tree.specs.TreeModule.{Circuit, circuit}
+use Rattle.rtl_tree.specs.GrammarModule.{Spells}
+use Rattle.rtl_tree.specs.Deeper.{too_deep}
+use Rattle.rtl_text.specs.declared.fault.LexFault.TheVariants as lexing
+use Rattle.rtl_text.specs.Faults.{Answers, Refuses}
+use Rattle.rtl_prep.specs.declared.fault.PrepFault.TheVariants as preparing
+use Rattle.rtl_prep.specs.Prepares.{prepared}
+use Rattle.rtl_prep.specs.Stops.{Tells}
+use Rattle.rtl_parse.specs.declared.fault.ParseFault.TheVariants as parsing
+use Rattle.rtl_parse.specs.Parses.{IsCause, first_outside}
+use Rattle.rtl_front.specs.declared.fault.FileFault.{FileFault}
+use Rattle.rtl_front.specs.declared.fault.FileFault.TheVariants.{Lex, Prepare, Parse}
+use Rattle.rtl_front.specs.declared.fault.SourceFault.{SourceFault}
+use Rattle.rtl_front.specs.declared.fault.SourceFault.TheVariants.{Refused, Memory}
+
+-- a text splits into tokens, and what is left of them is this
+pub record IsPrepared (text : List ℕ) (ready : Ready) : Type 0 where
+  pub tokens : List Token
+  pub split : Answers text (Ok tokens)
+  pub prepares : prepared text tokens ≡ Ok ready
+
+-- the modules that a file's text spells
+pub record IsRead (text : List ℕ) (circuits : List Circuit) : Type 0 where
+  pub ready : Ready
+  pub is_prepared : IsPrepared text ready
+  pub inside : first_outside ready ≡ None
+  pub spelled : Spells ready circuits
+  pub shallow : too_deep circuits ≡ []
+
+-- why a file's text has no modules
+abbrev pub IsFaulty : List ℕ → FileFault → Type 0
+IsFaulty text (Lex fault) = Refuses text fault
+IsFaulty text (Prepare fault) = (tokens : List Token) × Answers text (Ok tokens) × Tells (λ (ready : Ready). ready) (prepared text tokens) (Err fault)
+IsFaulty text (Parse fault) = (ready : Ready) × IsPrepared text ready × IsCause ready fault
+
+-- the modules of files, one after the other
+abbrev pub AreRead : List (List ℕ) → List (List Circuit) → Type 0
+AreRead [] [] = Unit {0}
+AreRead (text ∷ texts) (circuits ∷ others) = IsRead text circuits × AreRead texts others
+AreRead _ _ = ⊥
+
+-- the modules of all files before one, which has none
+abbrev pub IsFirst : List (List ℕ) → ℕ → FileFault → Type 0
+IsFirst [] number fault = ⊥
+IsFirst (text ∷ texts) zero fault = IsFaulty text fault
+IsFirst (text ∷ texts) (suc number) fault =
+    (circuits : List Circuit) × IsRead text circuits × IsFirst texts number fault
+
+-- whether memory ran out, which is no fault of a file's text
+abbrev pub is_memory : FileFault → Bool
+is_memory (Lex lexing.Memory) = true
+is_memory (Prepare preparing.Memory) = true
+is_memory (Parse parsing.Memory) = true
+is_memory _ = false
+
+-- how the fault of a file is told: want of memory without the file
+abbrev pub told : ℕ → FileFault → SourceFault
+told file fault = if is_memory fault then Memory else Refused file fault
+
+-- the fault of the first file that has no modules; or want of memory, which may come at any time
+abbrev pub IsFirstFaulty : List (List ℕ) → SourceFault → Type 0
+IsFirstFaulty texts Memory = Unit {0}
+IsFirstFaulty texts (Refused file fault) = (is_memory fault ≡ false) × IsFirst texts file fault
+
+-- what the code reads and makes: the texts of files, and the modules of each
+abbrev pub texts_of : List (Vec ℕ Global) → List (List ℕ)
+texts_of files = map (λ file. file.items) files
+
+abbrev pub circuits_of : List (Vec Module Global) → List (List Circuit)
+circuits_of files = map (λ modules. map circuit modules.items) files

@@ -1,0 +1,10 @@
+//! The modules of files, from their bytes: tokens, preparation, and parsing, file by file.
+#![tactic(auto)]
+
+mod fault;
+mod files;
+#[cfg(test)]
+mod tests;
+
+pub use crate::fault::{FileFault, SourceFault};
+pub use crate::files::read_files;
