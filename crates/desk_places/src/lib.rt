@@ -1,0 +1,7 @@
+//! Where places stand in the files that were read, as an engineer reads them.
+#![tactic(auto)]
+
+pub mod lines;
+pub mod sources;
+#[cfg(test)]
+mod tests;

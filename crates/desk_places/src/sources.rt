@@ -1,0 +1,84 @@
+//! The files that were read.
+
+ghost use Rattle.std.specs.Prelude.{◌≡◌, ◌≤◌, ◌++◌, All, codes, decimal, IfOk, length, OnOk};
+ghost use Rattle.desk_places.specs.Places.{file_of, place_in, place_text, source, sources, sources_of, text_of};
+
+use crate::lines::LineTable;
+use itoa::Buffer;
+use rtl_tree::memory::Memory;
+use rtl_tree::text::Spot;
+use std::alloc::Global;
+
+/// A file by its name, with the lines of its text.
+#[derive(Drop)]
+struct SourceFile<'a> {
+    name: &'a str,
+    lines: LineTable<'a>,
+}
+
+/// The files that were read, in their order: a spot names its file by the position there.
+#[derive(Drop)]
+pub struct Sources<'a> {
+    files: Vec<SourceFile<'a>>,
+}
+
+impl<'a> SourceFile<'a> {
+    fn new(alloc: Global, name: &'a String, text: &'a Vec<u8>) -> Result<SourceFile<'a>, Memory>
+        requires { length text.now.items ≤ 1048576 }
+        ensures { IfOk result (λ file. file_of file ≡ source name.now text.now) }
+    {
+        Ok(SourceFile {
+            name: name.as_str(),
+            lines: LineTable::new(alloc, text.as_slice())?,
+        })
+    }
+
+    /// Writes a place of the file behind other text.
+    fn push_place(&self, out: &mut Vec<u8>, at: u32) -> Result<(), Memory>
+        ensures { OnOk result (out.new.items ≡ out.old.items ++ place_text self.now.name.now (text_of self.now.lines) at) }
+    {
+        let position = self.lines.position(at);
+        out.extend_from_slice(self.name.as_bytes())?;
+        push_number(out, position.line)?;
+        push_number(out, position.column)
+    }
+}
+
+impl<'a> Sources<'a> {
+    /// The files with these names and texts, each text of at most 1 MiB.
+    pub fn new(
+        alloc: Global,
+        names: &'a [String],
+        texts: &'a [Vec<u8>],
+    ) -> Result<Sources<'a>, Memory>
+        requires as_many { length names.now ≡ length texts.now }
+        requires short { All (λ text. length text.items ≤ 1048576) texts.now }
+        ensures { IfOk result (λ made. sources_of made ≡ sources names.now texts.now) }
+    {
+        let mut files = Vec::new(alloc);
+        for number in 0..names.len() {
+            files.push(SourceFile::new(alloc, &names[number], &texts[number])?)?;
+        }
+        Ok(Sources { files })
+    }
+
+    /// Writes a place as `file:line:column` behind other text, and nothing where there is no such file.
+    pub fn push_place(&self, out: &mut Vec<u8>, spot: Spot) -> Result<(), Memory>
+        ensures { OnOk result (out.new.items ≡ out.old.items ++ place_in (sources_of self.now) spot) }
+    {
+        match self.files.get(spot.file as usize) {
+            Some(file) => file.push_place(out, spot.at),
+            None => Ok(()),
+        }
+    }
+}
+
+/// Writes a number behind a colon.
+fn push_number(out: &mut Vec<u8>, number: u64) -> Result<(), Memory>
+    ensures { OnOk result (out.new.items ≡ out.old.items ++ (codes ":" ++ decimal number)) }
+{
+    let mut digits = Buffer::new();
+    out.push(b':')?;
+    out.extend_from_slice(digits.format(number).as_bytes())?;
+    Ok(())
+}
