@@ -1,0 +1,12 @@
+//! The line that says why sources are refused: `refused NAME`, the text that the fault carries, and its place.
+#![tactic(auto)]
+
+mod design;
+mod file;
+mod line;
+mod reason;
+#[cfg(test)]
+mod tests;
+
+pub use crate::design::{design_refusal, not_built};
+pub use crate::file::source_refusal;
