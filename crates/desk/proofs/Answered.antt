@@ -1,24 +1,25 @@
 -- From the work of a command to the answer of the desk, and from status 0 to the headline.
-use Rattle.std.proofs.Common.{◌≡◌, ◌≢◌, ℕ, List, [], ◌∷◌, Option, None, Some, Result, Ok, Err, Bool, true, false, cond, refl, sym, ◌∙◌, ap, bytes_eq, arith}
+use Rattle.std.proofs.Common.{◌≡◌, ◌≢◌, ℕ, List, [], ◌∷◌, Option, None, Some, Result, Ok, Err, Bool, true, false, cond, refl, sym, ◌∙◌, ap, arith}
 use Rattle.std.specs.Io.KnownBytes.{Appends}
-use Rattle.std.proofs.lemmas.Slice.Eq.{bytes_eq-Decides}
-use Rattle.desk_io.specs.declared.shelf.ShelfFault.{ShelfFault}
-use Rattle.desk_io.specs.Shelf.{reading}
-use Rattle.rtl_tree.specs.Thin.{Circuit}
+use Rattle.rtl_tree.specs.declared.text.Spot.{Spot}
+use Rattle.rtl_tree.specs.TreeModule.{Circuit}
+use Rattle.elab_scope.specs.Faults.{Answer}
+use Rattle.elab_flat.specs.Flats.{Flat}
+use Rattle.rtl_elab.specs.Elaborated.{elaborated}
+use Rattle.rtl_elab.proofs.Deciding.{elaborated_lawful}
 use Rattle.sign_off.specs.declared.finding.Finding.{Finding}
-use Rattle.sign_off.specs.Flat.{Flat}
-use Rattle.sign_off.specs.Findings.{findings}
+use Rattle.sign_off.specs.Flat.{view}
+use Rattle.sign_off.proofs.Formed.{formed}
 use Rattle.sign_off.proofs.Clean.{agreement_of}
 use Rattle.sign_off.proofs.Up.{bring_up_of}
-use Rattle.sign_off.proofs.ResolveLemmas.{well_formed_of}
 use Rattle.desk.specs.declared.deliver.Stop.{Stop}
 use Rattle.desk.specs.declared.deliver.Stop.TheVariants.{Unread, NoFile, Memory}
 use Rattle.desk.specs.declared.deliver.Work.{Work}
 use Rattle.desk.specs.Words.{Order, Sign, order}
-use Rattle.desk.specs.Report.{report, has_none, no_such_module}
 use Rattle.desk.specs.Delivery.{Outcome, Delivers, Finishes, IsWork, gave_up, no_file, outcome_of}
-use Rattle.desk.specs.Source.{Source, Empty, Module, NotBuilt, IsSource, IsTheSource}
-use Rattle.desk.specs.Outcome.{World, IsDone, IsOutcome, IsSigned, judged, refused, ruled}
+use Rattle.desk.specs.Building.{AreSpelled, Front, Modules, Faulty, IsFront, built_of, elaborated_or_not, library}
+use Rattle.desk.specs.Outcome.{World, IsDone, IsOutcome, IsSigned, found_in, has_none, judged, not_judged, report_of, ruled_or_not}
+use Rattle.desk.specs.Texts.{named, texts_of}
 use Rattle.desk.specs.Answers.{IsAnswered, IsSignedClean}
 
 -- work that has one outcome has every other that follows from it
@@ -71,7 +72,7 @@ answered_usage words world usage status before now is done delivers =
       silent = λ gives_up. let same : true ≡ false = sym gives_up ∙ done in absurd (cc);
     }
 
-has_none_is : (all : List Finding) → has_none all ≡ true → all ≡ []
+pub has_none_is : (all : List Finding) → has_none all ≡ true → all ≡ []
 has_none_is [] is = refl
 has_none_is (finding ∷ others) is = absurd (cc)
 
@@ -83,51 +84,59 @@ zero_is_clean words world wanted before now is zero written = by_order (order wo
     clash : {P : Type 0} (status : ℕ) → wanted.status ≡ status → 0 ≢ status → P
     clash status same other = absurd (other (zero ∙ same))
 
-    by_findings : (top file text : List ℕ) (circuit : Circuit) (design : Flat) → order words ≡ Some (Sign top file) → reading (world.files file) ≡ Ok text
-        → IsSource text (Module circuit design) → circuit.name.text ≡ top
-        → (b : Bool) → has_none (findings design) ≡ b → wanted ≡ record { status = cond b 0 1; bytes = report top file text design } → IsSignedClean words before now world
-    by_findings top file text circuit design command held spelled named true none outcome =
-        let clean : findings design ≡ [] = has_none_is (findings design) none in
+    by_findings : (top : List ℕ) (files texts : List (List ℕ)) (circuits : List (List Circuit)) (design : Flat) → order words ≡ Some (Sign top files) → texts_of world.files files ≡ Some texts
+        → AreSpelled texts circuits → elaborated (library circuits) top ≡ Ok design → not_judged design ≡ None
+        → (b : Bool) → has_none (found_in design) ≡ b → wanted ≡ record { status = cond b 0 1; bytes = report_of top (named files texts) design } → IsSignedClean words before now world
+    by_findings top files texts circuits design command held spelled made built true none outcome =
+        let clean : found_in design ≡ [] = has_none_is (found_in design) none in
+        let lawful = elaborated_lawful (library circuits) top design made in
+        let fits = formed design.signals design.tasks design.delays design.dropped lawful.each_process built in
         record {
           top = top;
-          file = file;
-          text = text;
-          circuit = circuit;
+          files = files;
+          texts = texts;
+          circuits = circuits;
           design = design;
           command = command;
           held = held;
-          spelled = spelled.0;
-          named = named;
-          flat = spelled.1;
+          spelled = spelled;
+          flat = made;
+          judged = built;
           clean = clean;
           reported = rw (← ap (λ o. o.bytes) outcome) written;
-          agrees = agreement_of design (well_formed_of circuit design spelled.1) clean;
-          brought_up = bring_up_of design (well_formed_of circuit design spelled.1) clean;
+          agrees = agreement_of (view design.signals design.tasks) fits clean;
+          brought_up = bring_up_of (view design.signals design.tasks) fits clean;
         }
-    by_findings top file text circuit design command held spelled named false some outcome = clash 1 (ap (λ o. o.status) outcome) (λ same. omega (arith, same))
+    by_findings top files texts circuits design command held spelled made built false some outcome = clash 1 (ap (λ o. o.status) outcome) (λ same. omega (arith, same))
 
-    by_name : (top file text : List ℕ) (circuit : Circuit) (design : Flat) → order words ≡ Some (Sign top file) → reading (world.files file) ≡ Ok text
-        → IsSource text (Module circuit design) → (b : Bool) → bytes_eq circuit.name.text top ≡ b
-        → wanted ≡ cond b (ruled top file text design) (refused (no_such_module top)) → IsSignedClean words before now world
-    by_name top file text circuit design command held spelled true same outcome =
-        by_findings top file text circuit design command held spelled ((bytes_eq-Decides circuit.name.text top).0 same) (has_none (findings design)) refl outcome
-    by_name top file text circuit design command held spelled false same outcome = clash 2 (ap (λ o. o.status) outcome) (λ same. omega (arith, same))
+    by_spot : (top : List ℕ) (files texts : List (List ℕ)) (circuits : List (List Circuit)) (design : Flat) → order words ≡ Some (Sign top files) → texts_of world.files files ≡ Some texts
+        → AreSpelled texts circuits → elaborated (library circuits) top ≡ Ok design
+        → (o : Option Spot) → not_judged design ≡ o → wanted ≡ ruled_or_not top (named files texts) design o → IsSignedClean words before now world
+    by_spot top files texts circuits design command held spelled made None built outcome =
+        by_findings top files texts circuits design command held spelled made built (has_none (found_in design)) refl outcome
+    by_spot top files texts circuits design command held spelled made (Some spot) built outcome = clash 2 (ap (λ o. o.status) outcome) (λ same. omega (arith, same))
 
-    by_source : (top file text : List ℕ) → order words ≡ Some (Sign top file) → reading (world.files file) ≡ Ok text
-        → (source : Source) → IsSource text source → wanted ≡ judged top file text source → IsSignedClean words before now world
-    by_source top file text command held Empty spelled outcome = clash 2 (ap (λ o. o.status) outcome) (λ same. omega (arith, same))
-    by_source top file text command held NotBuilt spelled outcome = clash 2 (ap (λ o. o.status) outcome) (λ same. omega (arith, same))
-    by_source top file text command held (Module circuit design) spelled outcome =
-        by_name top file text circuit design command held spelled (bytes_eq circuit.name.text top) refl outcome
+    by_built : (top : List ℕ) (files texts : List (List ℕ)) (circuits : List (List Circuit)) → order words ≡ Some (Sign top files) → texts_of world.files files ≡ Some texts
+        → AreSpelled texts circuits → (made : Result Flat Answer) → elaborated (library circuits) top ≡ made → wanted ≡ judged top (named files texts) (elaborated_or_not (named files texts) made) → IsSignedClean words before now world
+    by_built top files texts circuits command held spelled (Ok design) made outcome =
+        by_spot top files texts circuits design command held spelled made (not_judged design) refl outcome
+    by_built top files texts circuits command held spelled (Err answer) made outcome = clash 2 (ap (λ o. o.status) outcome) (λ same. omega (arith, same))
 
-    by_reading : (top file : List ℕ) → order words ≡ Some (Sign top file) → (answer : Result (List ℕ) ShelfFault) → reading (world.files file) ≡ answer
-        → IsSigned top file answer wanted → IsSignedClean words before now world
-    by_reading top file command (Err fault) held outcome = clash 9 (ap (λ o. o.status) outcome) (λ same. omega (arith, same))
-    by_reading top file command (Ok text) held outcome = by_source top file text command held outcome.0 outcome.1.is outcome.2
+    by_front : (top : List ℕ) (files texts : List (List ℕ)) → order words ≡ Some (Sign top files) → texts_of world.files files ≡ Some texts
+        → (front : Front) → IsFront texts front → wanted ≡ judged top (named files texts) (built_of top (named files texts) front) → IsSignedClean words before now world
+    by_front top files texts command held (Modules circuits) spelled outcome =
+        by_built top files texts circuits command held spelled (elaborated (library circuits) top) refl outcome
+    by_front top files texts command held (Faulty file fault) refused outcome = clash 2 (ap (λ o. o.status) outcome) (λ same. omega (arith, same))
+
+    by_texts : (top : List ℕ) (files : List (List ℕ)) → order words ≡ Some (Sign top files) → (o : Option (List (List ℕ))) → texts_of world.files files ≡ o
+        → IsSigned top files o wanted → IsSignedClean words before now world
+    by_texts top files command None held outcome = clash 9 (ap (λ o. o.status) outcome) (λ same. omega (arith, same))
+    by_texts top files command (Some texts) held outcome =
+        by_front top files texts command held outcome.is_built.front outcome.is_built.is_front (outcome.is ∙ ap (judged top (named files texts)) outcome.is_built.is)
 
     by_order : (o : Option Order) → order words ≡ o → IsDone world o wanted → IsSignedClean words before now world
     by_order None command outcome = clash 3 (ap (λ o. o.status) outcome) (λ same. omega (arith, same))
-    by_order (Some (Sign top file)) command outcome = by_reading top file command (reading (world.files file)) refl outcome
+    by_order (Some (Sign top files)) command outcome = by_texts top files command (texts_of world.files files) refl outcome
 
 -- the headline from the answer 0
 pub signed_clean : (words : List (List ℕ)) (world : World) (before now : Option (List ℕ)) → IsAnswered words 0 before now world → IsSignedClean words before now world
@@ -135,9 +144,3 @@ signed_clean words world before now is =
     let wanted = is.answered refl in
     let not_five : 0 ≢ 5 = λ same. omega (arith, same) in
     zero_is_clean words world wanted.0 before now wanted.1 (wanted.2.exact not_five) (wanted.2.whole not_five)
-
--- the outcome of what the text is
-pub signed_from : (top file text : List ℕ) (source : Source) (work : Result Work Stop) → IsTheSource text source
-    → IsWork (λ outcome. outcome ≡ judged top file text source) work → IsWork (IsSigned top file (Ok text)) work
-signed_from top file text source work the is =
-    work_map {P = λ outcome. outcome ≡ judged top file text source} {Q = IsSigned top file (Ok text)} work is (λ outcome same. (source, the, same))

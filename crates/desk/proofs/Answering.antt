@@ -4,9 +4,8 @@ use Rattle.desk_io.specs.Shelf.{Files}
 use Rattle.desk.specs.declared.deliver.Stop.{Stop}
 use Rattle.desk.specs.declared.deliver.Work.{Work}
 use Rattle.desk.specs.Words.{Order, order}
-use Rattle.desk.specs.Report.{usage}
 use Rattle.desk.specs.Delivery.{Delivers, Finishes, IsWork, gave_up}
-use Rattle.desk.specs.Outcome.{IsDone}
+use Rattle.desk.specs.Outcome.{IsDone, usage}
 use Rattle.desk.specs.Answers.{OverWorld, IsAnswered, IsSignedClean}
 use Rattle.desk.proofs.Answered.{answered, answered_usage, signed_clean}
 use Rattle.desk.proofs.Worlds.{over_map, over_any}

@@ -1,6 +1,6 @@
-pub mod PlaceLemmas
 pub mod Fronts
-pub mod Sources
 pub mod Worlds
+pub mod Reading
 pub mod Answered
 pub mod Answering
+pub mod Buildings

@@ -1,18 +1,18 @@
 -- How a call of the desk answers through objects that may fail, and what its status 0 promises.
 use Rattle.std.specs.Prelude.{◌≡◌, ℕ, List, [], Option, None, Some, Ok, Bool, true, false, ⊤}
 use Rattle.std.specs.Io.KnownBytes.{Appends}
-use Rattle.desk_io.specs.Shelf.{Files, reading}
-use Rattle.rtl_tree.specs.Thin.{Circuit}
-use Rattle.rtl_tree.specs.Thin.Spelling.{Spells}
-use Rattle.sign_off.specs.Flat.{Flat}
-use Rattle.sign_off.specs.Elaboration.{elaborated}
-use Rattle.sign_off.specs.Findings.{findings}
+use Rattle.desk_io.specs.Shelf.{Files}
+use Rattle.rtl_tree.specs.TreeModule.{Circuit}
+use Rattle.elab_flat.specs.Flats.{Flat}
+use Rattle.rtl_elab.specs.Elaborated.{elaborated}
+use Rattle.sign_off.specs.Flat.{view}
 use Rattle.sign_off.specs.Agree.{Agree}
 use Rattle.sign_off.specs.BringUp.{BringsUp}
-use Rattle.desk.specs.Words.{Sign, order}
-use Rattle.desk.specs.Report.{report}
 use Rattle.desk.specs.Delivery.{Outcome, Delivers, gave_up}
-use Rattle.desk.specs.Outcome.{World, IsOutcome}
+use Rattle.desk.specs.Building.{AreSpelled, library}
+use Rattle.desk.specs.Outcome.{World, IsOutcome, found_in, not_judged, report_of}
+use Rattle.desk.specs.Texts.{named, texts_of}
+use Rattle.desk.specs.Words.{Sign, order}
 
 -- what is told is this; an object over the system tells nothing
 abbrev pub Agrees : {A : Type 0} → Option A → A → Type 0
@@ -30,21 +30,22 @@ pub record IsAnswered (words : List (List ℕ)) (status : ℕ) (before now : Opt
   pub answered : gave_up status ≡ false → (wanted : Outcome) × IsOutcome words world wanted × Delivers wanted status before now
   pub silent : gave_up status ≡ true → Appends before now []
 
--- The headline. The words are `sign TOP FILE`; the file holds the text of a module of that name; its design has no
--- finding, which the report says; simulation agrees with synthesis on that design, whatever the order of events and
--- whatever the fill of what nothing drives; and a bring-up reaches the states from which it does
+-- The headline. The words are `sign TOP FILE..`; the files hold texts that spell modules, and no others; of these the module with the
+-- top's name means a flat design; nothing in it is outside what is judged; it has no finding, which the report says;
+-- simulation agrees with synthesis on that design, whatever the order of events and whatever the fill of what nothing
+-- drives; and a bring-up reaches the states from which it does
 pub record IsSignedClean (words : List (List ℕ)) (before now : Option (List ℕ)) (world : World) : Type 0 where
   pub top : List ℕ
-  pub file : List ℕ
-  pub text : List ℕ
-  pub circuit : Circuit
+  pub files : List (List ℕ)
+  pub texts : List (List ℕ)
+  pub circuits : List (List Circuit)
   pub design : Flat
-  pub command : order words ≡ Some (Sign top file)
-  pub held : reading (world.files file) ≡ Ok text
-  pub spelled : Spells text (Some circuit)
-  pub named : circuit.name.text ≡ top
-  pub flat : elaborated circuit ≡ Some design
-  pub clean : findings design ≡ []
-  pub reported : Appends before now (report top file text design)
-  pub agrees : (fill : Bool) → Agree design fill
-  pub brought_up : (fill : Bool) → BringsUp design fill
+  pub command : order words ≡ Some (Sign top files)
+  pub held : texts_of world.files files ≡ Some texts
+  pub spelled : AreSpelled texts circuits
+  pub flat : elaborated (library circuits) top ≡ Ok design
+  pub judged : not_judged design ≡ None
+  pub clean : found_in design ≡ []
+  pub reported : Appends before now (report_of top (named files texts) design)
+  pub agrees : (fill : Bool) → Agree (view design.signals design.tasks) fill
+  pub brought_up : (fill : Bool) → BringsUp (view design.signals design.tasks) fill

@@ -1,7 +1,12 @@
 -- What the code's commands mean.
+use Rattle.std.specs.Prelude.{◌≡◌, true}
 use Rattle.desk.specs.declared.words.Command.{Command}
 use Rattle.desk.specs.declared.words.Command.TheVariants as code
-use Rattle.desk.specs.Words.{Order, Sign}
+use Rattle.desk.specs.Words.{Order, Sign, are_files, texts}
 
 abbrev pub order_of : Command → Order
-order_of (code.Sign top file) = Sign top.now file.now
+order_of (code.Sign top files) = Sign top.now (texts files.now)
+
+-- the files of a command are a list of files
+abbrev pub HasFiles : Order → Type 0
+HasFiles (Sign top files) = are_files files ≡ true

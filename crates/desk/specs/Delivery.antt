@@ -1,5 +1,5 @@
 -- How a command's work ends, and how its bytes reach a sink.
-use Rattle.std.specs.Prelude.{◌≡◌, ◌≢◌, ℕ, ◌==◌, List, [], ◌++◌, Option, Result, Ok, Err, Bool, false, ◌||◌, ⊤, string_bytes}
+use Rattle.std.specs.Prelude.{◌≡◌, ◌≢◌, ℕ, ◌==◌, List, [], ◌++◌, Option, Result, Ok, Err, Bool, false, ◌||◌, ⊤}
 use Rattle.std.specs.Io.KnownBytes.{Appends}
 use Rattle.desk_io.specs.declared.shelf.ShelfFault.{ShelfFault}
 use Rattle.desk_io.specs.declared.shelf.ShelfFault.TheVariants as fault
@@ -34,7 +34,7 @@ stop_of fault.Memory = Memory
 
 -- the outcome of work that was done
 abbrev pub outcome_of : Work → Outcome
-outcome_of work = record { status = status_of work.ending; bytes = string_bytes work.bytes }
+outcome_of work = record { status = status_of work.ending; bytes = work.bytes.items }
 
 -- the outcome where a file isn't there or is too long: nothing is written
 abbrev pub no_file : Outcome

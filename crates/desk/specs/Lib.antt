@@ -1,8 +1,7 @@
 pub mod Words
 pub mod Commands
-pub mod Places
-pub mod Report
+pub mod Texts
 pub mod Delivery
-pub mod Source
+pub mod Building
 pub mod Outcome
 pub mod Answers

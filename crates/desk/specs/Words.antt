@@ -1,10 +1,11 @@
 -- The words of the command line.
-use Rattle.std.specs.Prelude.{ℕ, ◌==◌, List, [], ◌∷◌, Option, None, Some, Bool, false, not, ◌&&◌, if◌then◌else◌, map, codes, String, string_bytes, bytes_eq}
+use Rattle.std.specs.Prelude.{ℕ, ◌==◌, nat_le, List, [], ◌∷◌, length, Option, None, Some, Bool, true, false, not, ◌&&◌, if◌then◌else◌, map, codes, String, string_bytes, bytes_eq}
+use Rattle.std.specs.List.{list_all, list_any}
 use Rattle.std.specs.declared.alloc.Global.{Global}
 
--- a command: `sign TOP FILE`
+-- a command: `sign TOP FILE..`
 pub data Order : Type 0 where
-  Sign : (top file : List ℕ) → Order
+  Sign : (top : List ℕ) (files : List (List ℕ)) → Order
 
 -- the words as lists of bytes
 abbrev pub texts : List (String Global) → List (List ℕ)
@@ -15,9 +16,19 @@ abbrev pub is_name : List ℕ → Bool
 is_name [] = false
 is_name (first ∷ rest) = not (first == 45)
 
+-- no word is there twice
+abbrev pub all_different : List (List ℕ) → Bool
+all_different [] = true
+all_different (word ∷ others) = not (list_any (bytes_eq word) others) && all_different others
+
+-- a list of files has 1 to 64 names, all different
+abbrev pub are_files : List (List ℕ) → Bool
+are_files files =
+    (nat_le 1 (length files) && nat_le (length files) 64) && (list_all is_name files && all_different files)
+
 abbrev pub sign_order : List (List ℕ) → Option Order
-sign_order (top ∷ file ∷ []) = if is_name top && is_name file then Some (Sign top file) else None
-sign_order _ = None
+sign_order [] = None
+sign_order (top ∷ files) = if is_name top && are_files files then Some (Sign top files) else None
 
 -- the command that the words are, if they are one
 abbrev pub order : List (List ℕ) → Option Order

@@ -7,7 +7,8 @@ ghost use Rattle.desk.specs.declared.deliver.Stop.TheVariants.{Memory};
 ghost use Rattle.desk.specs.Delivery.{Delivers, Finishes, FrontAppended, gave_up, status_of, stop_status};
 
 use desk_io::{Failed, Sink};
-use std::alloc::AllocError;
+use rtl_tree::memory::Memory as NoMemory;
+use std::alloc::{AllocError, AllocFailed};
 
 /// How work ends that was done.
 #[derive(Clone, Copy, PartialEq, Eq, Debug)]
@@ -27,7 +28,7 @@ pub enum Ending {
 pub enum Stop {
     /// A read failed.
     Unread,
-    /// There is no such file, or it is too long.
+    /// A file isn't there, or is too long.
     NoFile,
     /// Memory ran out.
     Memory,
@@ -41,11 +42,27 @@ impl From<AllocError> for Stop {
     }
 }
 
+impl From<NoMemory> for Stop {
+    ghost from_gives = { λ _ stop. stop ≡ Memory };
+
+    fn from(_error: NoMemory) -> Stop {
+        Stop::Memory
+    }
+}
+
+impl<T: Drop> From<AllocFailed<T>> for Stop {
+    ghost from_gives = { λ _ stop. stop ≡ Memory };
+
+    fn from(_error: AllocFailed<T>) -> Stop {
+        Stop::Memory
+    }
+}
+
 /// Work that was done, with the bytes to be written.
 #[derive(Drop)]
 pub struct Work {
     pub ending: Ending,
-    pub bytes: String,
+    pub bytes: Vec<u8>,
 }
 
 impl Ending {
@@ -88,7 +105,7 @@ pub fn finish<S: Sink>(work: Result<Work, Stop>, out: &mut S) -> u8
     ensures later { S.faults out.old ≤ S.faults out.new }
 {
     match work {
-        Ok(work) => deliver(work.ending, work.bytes.as_bytes(), out),
+        Ok(work) => deliver(work.ending, &work.bytes, out),
         Err(stop) => stop.status(),
     }
 }

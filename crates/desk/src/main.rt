@@ -2,8 +2,8 @@
 #![tactic(auto)]
 
 mod deliver;
-mod place;
-mod report;
+mod files;
+mod front;
 mod sign;
 #[cfg(test)]
 mod tests;

@@ -1,144 +1,102 @@
-// The command `sign TOP FILE`.
+// The command `sign TOP FILE..`.
 
-ghost use Rattle.std.specs.Prelude.{◌≡◌, ◌≢◌, ◌≤◌, if◌then◌else◌, length, bytes_eq};
+ghost use Rattle.std.specs.Prelude.{◌≡◌, ◌≢◌, ◌≤◌, if◌then◌else◌, map, length, true, vec_len};
+ghost use Rattle.std.specs.List.{All};
 ghost use Rattle.desk_io.specs.Causes.{Rose};
-ghost use Rattle.desk_io.specs.Shelf.{reading};
 ghost use Rattle.desk_io.specs.declared.shelf.TheConstants.{MAX_FILE_BYTES};
-ghost use Rattle.rtl_tree.specs.Thin.{circuit};
-ghost use Rattle.sign_off.specs.Flat.{flat};
+ghost use Rattle.rtl_elab.specs.Designs.{flat_in};
+ghost use Rattle.desk_places.specs.Places.{sources_of};
 ghost use Rattle.desk.specs.Answers.{OverWorld};
-ghost use Rattle.desk.specs.Delivery.{IsWork, stop_of};
-ghost use Rattle.desk.specs.Outcome.{IsSigned, judged, refused, ruled};
-ghost use Rattle.desk.specs.Report.{no_such_module, not_built};
-ghost use Rattle.desk.specs.Source.{source_of};
+ghost use Rattle.desk.specs.Delivery.{IsWork, status_of};
+ghost use Rattle.desk.specs.Outcome.{IsJudged, IsSigned, not_judged, refused, ruled_or_not};
+ghost use Rattle.desk.specs.Texts.{named, texts_of};
+ghost use Rattle.desk.specs.Words.{are_files, texts};
 
 use crate::deliver::{Ending, Stop, Work};
-use crate::report::report;
-use desk_io::{Shelf, ShelfFault};
-use rtl_tree::thin::{Module, ReadFault, read};
-use sign_off::design::Design;
-use sign_off::elaborate::{ElabFault, elaborate};
-use sign_off::rule::rule;
+use crate::files::read_texts;
+use crate::front::{Built, build};
+use desk_io::Shelf;
+use desk_places::sources::Sources;
+use desk_refusals::not_built;
+use desk_report::report;
+use rtl_flat::design::Design;
+use sign_off::finding::Ruling;
+use sign_off::rule::{Unruled, rule};
 use std::alloc::Global;
 
-/// Rules the module of this name in this file, and writes the report.
-pub fn sign<F: Shelf>(alloc: Global, top: &str, file: &str, shelf: &mut F) -> Result<Work, Stop>
-    ensures work { OverWorld (F.files shelf.old) (λ world. IsWork (IsSigned top.now file.now (reading (world.files file.now))) result) }
+/// Rules the module of this name among those of these files, and writes the report.
+pub fn sign<F: Shelf>(
+    alloc: Global,
+    top: &str,
+    files: &[String],
+    shelf: &mut F,
+) -> Result<Work, Stop>
+    requires { are_files (texts files.now) ≡ true }
+    ensures work { OverWorld (F.files shelf.old) (λ world. IsWork (IsSigned top.now (texts files.now) (texts_of world.files (texts files.now))) result) }
     ensures unread { result ≡ Err Stop.Unread → Rose (F.faults shelf.old) (F.faults shelf.new) }
     ensures later { F.faults shelf.old ≤ F.faults shelf.new }
 {
-    match shelf.read(file) {
-        Ok(text) => judge(alloc, top, file, text.as_slice()),
-        Err(fault) => Err(stop_of(fault)),
+    match read_texts(alloc, files, shelf) {
+        Ok(made) => judge(alloc, top, files, &made),
+        Err(stop) => Err(stop),
     }
 }
 
-// How a file that wasn't read stops the work.
-fn stop_of(fault: ShelfFault) -> Stop
-    ensures { result ≡ stop_of fault }
-{
-    match fault {
-        ShelfFault::Failed => Stop::Unread,
-        ShelfFault::NoSuchFile | ShelfFault::TooLong => Stop::NoFile,
-        ShelfFault::Memory => Stop::Memory,
-    }
-}
-
-// The report of the module in a text, or the refusal of the text.
-fn judge(alloc: Global, top: &str, file: &str, text: &[u8]) -> Result<Work, Stop>
-    requires { length text.now ≤ MAX_FILE_BYTES }
-    ensures work { IsWork (IsSigned top.now file.now (Ok text.now)) result }
+// The report of the top, or why there is none.
+fn judge(alloc: Global, top: &str, files: &[String], made: &[Vec<u8>]) -> Result<Work, Stop>
+    requires count { length made.now ≡ length files.now }
+    requires short { All (λ text. vec_len text ≤ MAX_FILE_BYTES) made.now }
+    ensures work { IsWork (IsJudged top.now (named (texts files.now) (map (λ text. text.items) made.now)) (map (λ text. text.items) made.now)) result }
     ensures read { result ≢ Err Stop.Unread }
 {
-    match read(alloc, text) {
-        Ok(Some(source)) => judge_module(alloc, top, file, text, &source),
-        Ok(None) => refuse_module(alloc, top),
-        Err(ReadFault::NotThin) => refuse_not_built(alloc),
-        Err(ReadFault::Memory) => Err(Stop::Memory),
+    let sources = Sources::new(alloc, files, made)?;
+    match build(alloc, top, &sources, made) {
+        Ok(Built::Designed(design)) => judge_design(alloc, top, &sources, &design),
+        Ok(Built::Refused(line)) => refuse(line),
+        Err(stop) => Err(stop),
     }
 }
 
-// The report of a module, or its refusal.
-fn judge_module(
-    alloc: Global,
-    top: &str,
-    file: &str,
-    text: &[u8],
-    source: &Module,
-) -> Result<Work, Stop>
-    requires { length text.now ≤ MAX_FILE_BYTES }
-    ensures work { IsWork (λ outcome. outcome ≡ judged top.now file.now text.now (source_of (circuit source.now))) result }
-    ensures read { result ≢ Err Stop.Unread }
-{
-    match elaborate(alloc, source) {
-        Ok(design) => judge_named(alloc, top, file, text, source.name.text.as_str(), &design),
-        Err(ElabFault::NotBuilt) => refuse_not_built(alloc),
-        Err(ElabFault::Memory) => Err(Stop::Memory),
-    }
-}
-
-// The report of a design, if its module is the top.
-fn judge_named(
-    alloc: Global,
-    top: &str,
-    file: &str,
-    text: &[u8],
-    name: &str,
-    design: &Design,
-) -> Result<Work, Stop>
-    requires { length text.now ≤ MAX_FILE_BYTES }
-    ensures work { IsWork (λ outcome. outcome ≡ (if bytes_eq name.now top.now
-        then ruled top.now file.now text.now (flat design.now.signals.items design.now.processes.items)
-        else refused (no_such_module top.now))) result }
-    ensures read { result ≢ Err Stop.Unread }
-{
-    if name == top {
-        judge_design(alloc, top, file, text, design)
-    } else {
-        refuse_module(alloc, top)
-    }
-}
-
-// The report of a design.
+// The report of a design, or where it has what isn't judged.
 fn judge_design(
     alloc: Global,
     top: &str,
-    file: &str,
-    text: &[u8],
+    sources: &Sources<'_>,
     design: &Design,
 ) -> Result<Work, Stop>
-    requires { length text.now ≤ MAX_FILE_BYTES }
-    ensures work { IsWork (λ outcome. outcome ≡ ruled top.now file.now text.now (flat design.now.signals.items design.now.processes.items)) result }
+    ensures work { IsWork (λ outcome. outcome ≡ ruled_or_not top.now (sources_of sources.now) (flat_in design.now) (not_judged (flat_in design.now))) result }
     ensures read { result ≢ Err Stop.Unread }
 {
-    let ruling = rule(alloc, design)?;
-    let bytes = report(alloc, top, file, text, &design.signals, &ruling)?;
-    let ending = if ruling.clean {
+    match rule(alloc, design) {
+        Ok(ruling) => {
+            let bytes = report(alloc, top.as_bytes(), sources, design, &ruling)?;
+            Ok(Work {
+                ending: ending_of(&ruling),
+                bytes,
+            })
+        }
+        Err(Unruled::NotBuilt(spot)) => refuse(not_built(alloc, sources, spot)?),
+        Err(Unruled::Memory) => Err(Stop::Memory),
+    }
+}
+
+fn ending_of(ruling: &Ruling) -> Ending
+    ensures { status_of result ≡ (if ruling.now.clean then 0 else 1) }
+{
+    if ruling.clean {
         Ending::Clean
     } else {
         Ending::Open
-    };
-    Ok(Work { ending, bytes })
+    }
 }
 
-fn refuse_module(alloc: Global, top: &str) -> Result<Work, Stop>
-    ensures work { IsWork (λ outcome. outcome ≡ refused (no_such_module top.now)) result }
+// The work that is done with a refusal.
+pub fn refuse(line: Vec<u8>) -> Result<Work, Stop>
+    ensures work { IsWork (λ outcome. outcome ≡ refused line.items) result }
     ensures read { result ≢ Err Stop.Unread }
 {
-    let bytes = format!(in alloc; "refused NoSuchModule {top}\n")?;
     Ok(Work {
         ending: Ending::Refused,
-        bytes,
-    })
-}
-
-fn refuse_not_built(alloc: Global) -> Result<Work, Stop>
-    ensures work { IsWork (λ outcome. outcome ≡ refused not_built) result }
-    ensures read { result ≢ Err Stop.Unread }
-{
-    let bytes = String::from_str(alloc, "refused NotBuilt\n")?;
-    Ok(Work {
-        ending: Ending::Refused,
-        bytes,
+        bytes: line,
     })
 }

@@ -4,7 +4,7 @@ ghost use Rattle.std.specs.Prelude.{◌≡◌, ◌≤◌, Some, true, IsSome};
 ghost use Rattle.desk_io.specs.Causes.{Rose};
 ghost use Rattle.desk.specs.declared.deliver.TheConstants.{UNREAD, UNWRITTEN};
 ghost use Rattle.desk.specs.Answers.{IsAnswered, IsSignedClean, OverWorld};
-ghost use Rattle.desk.specs.Commands.{order_of};
+ghost use Rattle.desk.specs.Commands.{HasFiles, order_of};
 ghost use Rattle.desk.specs.Delivery.{gave_up, IsWork};
 ghost use Rattle.desk.specs.Outcome.{IsDone};
 ghost use Rattle.desk.specs.Words.{order, texts};
@@ -21,7 +21,7 @@ const USAGE: &[u8] =
 
 /// Does what the words of the command line say, with the files of a shelf, writes to a sink, and answers the exit status:
 /// 0 where the module is signed clean, 1 where a rule has a finding, 2 where the source is refused, 3 where the words are
-/// no command, 4 where a read failed, 5 where a write failed, 9 where the file isn't there or is too long, and 20 where
+/// no command, 4 where a read failed, 5 where a write failed, 9 where a file isn't there or is too long, and 20 where
 /// memory ran out.
 pub fn desk<F: Shelf, S: Sink>(alloc: Global, words: &[String], shelf: &mut F, out: &mut S) -> u8
     // What is answered and written, over the files that are told, or over some files.
@@ -45,11 +45,12 @@ pub fn desk<F: Shelf, S: Sink>(alloc: Global, words: &[String], shelf: &mut F, o
 
 // The work of a command.
 fn run<F: Shelf>(alloc: Global, command: Command<'_>, shelf: &mut F) -> Result<Work, Stop>
+    requires { HasFiles (order_of command) }
     ensures work { OverWorld (F.files shelf.old) (λ world. IsWork (IsDone world (Some (order_of command.entry))) result) }
     ensures unread { result ≡ Err Stop.Unread → Rose (F.faults shelf.old) (F.faults shelf.new) }
     ensures later { F.faults shelf.old ≤ F.faults shelf.new }
 {
     match command {
-        Command::Sign { top, file } => sign(alloc, top, file, shelf),
+        Command::Sign { top, files } => sign(alloc, top, files, shelf),
     }
 }

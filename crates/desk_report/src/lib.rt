@@ -1,8 +1,10 @@
 //! The texts that the desk writes.
 #![tactic(auto)]
 
+mod findings;
 #[cfg(test)]
 mod tests;
 mod value;
 
+pub use crate::findings::report;
 pub use crate::value::{push_value, value_text};

@@ -1,3 +1,2 @@
-pub mod ThinLaws
 pub mod TreeDepths
 pub mod TreeViews

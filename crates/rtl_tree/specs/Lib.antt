@@ -5,7 +5,6 @@ pub mod GrammarExpr
 pub mod GrammarStmt
 pub mod GrammarItem
 pub mod GrammarModule
-pub mod Thin
 pub mod Token
 pub mod Lexemes
 pub mod Literal

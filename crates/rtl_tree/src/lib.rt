@@ -7,6 +7,5 @@ pub mod memory;
 pub mod prepared;
 pub mod symbol;
 pub mod text;
-pub mod thin;
 pub mod token;
 pub mod tree;

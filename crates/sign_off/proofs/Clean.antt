@@ -4,10 +4,12 @@ use Rattle.std.specs.Prelude.{slice_get, IsTrue}
 use Rattle.std.specs.List.{list_any, list_all, cons_option, filter_map, enumerate_from}
 use Rattle.std.proofs.lemmas.Bool.{and_parts, and_cases, or_cases, or_left, or_right, eq-eqb, eqb-true, not-false, cases_order}
 use Rattle.sign_off.specs.declared.finding.Finding.{Finding}
-use Rattle.sign_off.specs.Flat.{Object, Tree, Read, Not, Binary, Process, Assign, Flat, is_top_input, is_some_net, is_input, is_net, reads_inputs, is_fitting, is_well_formed}
+use Rattle.rtl_flat.specs.declared.signal.Signal.{Signal}
+use Rattle.sign_off.specs.Flat.{Home, Tree, Read, Not, Binary, Process, Assign, Flat, is_top_input, is_some_net, is_input, is_net, reads_inputs, is_fitting, is_well_formed}
 use Rattle.sign_off.specs.Findings.{may_write, found_if, several_drivers_at, several_drivers, undriven_at, undriven, findings}
 use Rattle.sign_off.specs.Queue.{Place, reads}
 use Rattle.sign_off.specs.Agree.{Agree}
+use Rattle.sign_off.proofs.Ordered.{none_ranked}
 use Rattle.sign_off.proofs.Held.{IsClean}
 use Rattle.sign_off.proofs.Sound.{agreement_of_clean}
 
@@ -62,10 +64,10 @@ not_found true finding none = absurd (cc)
 not_found false finding none = refl
 
 -- what an expression reads
-reads_at : (signals : List Object) (e : Tree) → reads_inputs signals e ≡ true → (i : Place) → IsTrue (reads e i) → IsTrue (is_input signals i)
+reads_at : (signals : List Signal) (e : Tree) → reads_inputs signals e ≡ true → (i : Place) → IsTrue (reads e i) → IsTrue (is_input signals i)
 reads_at signals (Read signal) all i read = ap (is_input signals) (eqb-true i signal read) ∙ all
 reads_at signals (Not operand) all i read = reads_at signals operand all i read
-reads_at signals (Binary operator left right) all i read =
+reads_at signals (Binary gate left right) all i read =
     let parts = and_parts (reads_inputs signals left) (reads_inputs signals right) all in
     elim (or_cases (reads left i) (reads right i) read) [
       | inl on_left ↦ reads_at signals left parts.0 i on_left
@@ -73,22 +75,22 @@ reads_at signals (Binary operator left right) all i read =
     ]
 
 module _ (design : Flat) (well_formed : IsTrue (is_well_formed design)) (none : findings design ≡ []) where
-  fits : (p target at : ℕ) (e : Tree) → slice_get design.processes p ≡ Some (Assign target e at) → (IsTrue (is_net design.signals target)) × (IsTrue (reads_inputs design.signals e))
+  fits : (p target : ℕ) (at : Home) (e : Tree) → slice_get design.processes p ≡ Some (Assign target e at) → (IsTrue (is_net design.signals target)) × (IsTrue (reads_inputs design.signals e))
   fits p target at e here =
       and_parts (is_net design.signals target) (reads_inputs design.signals e)
       (all_at (is_fitting design.signals) design.processes p (Assign target e at) well_formed here)
 
   -- no later process has the target of an earlier one
-  not_later : (p q target at at' : ℕ) (e e' : Tree) → p < q → slice_get design.processes p ≡ Some (Assign target e at) → slice_get design.processes q ≡ Some (Assign target e' at') → ⊥
+  not_later : (p q target : ℕ) (at at' : Home) (e e' : Tree) → p < q → slice_get design.processes p ≡ Some (Assign target e at) → slice_get design.processes q ≡ Some (Assign target e' at') → ⊥
   not_later p q target at at' e e' less earlier later =
-      let empty = (empty_parts (undriven design) (several_drivers design) none).1 in
+      let empty = (empty_parts (undriven design) (several_drivers design) (none_ranked (undriven design ++ several_drivers design) none)).1 in
       let number : 0 + q ≡ q = omega arith in
       let nothing = sym (ap (λ m. several_drivers_at design.processes (m, Assign target e' at')) number) ∙ nothing_at (several_drivers_at design.processes) design.processes 0 q (Assign target e' at') empty later in
       let free = not_found (list_any (may_write target) (take q design.processes)) _ nothing in
       let taken = any_before (may_write target) design.processes p q (Assign target e at) less earlier (eq-eqb target target refl) in
       absurd (cc)
 
-  one_driver : (p q target at at' : ℕ) (e e' : Tree) → slice_get design.processes p ≡ Some (Assign target e at) → slice_get design.processes q ≡ Some (Assign target e' at') → p ≡ q
+  one_driver : (p q target : ℕ) (at at' : Home) (e e' : Tree) → slice_get design.processes p ≡ Some (Assign target e at) → slice_get design.processes q ≡ Some (Assign target e' at') → p ≡ q
   one_driver p q target at at' e e' first second =
       elim (cases_order p q) [
         | inl same ↦ same
@@ -99,22 +101,22 @@ module _ (design : Flat) (well_formed : IsTrue (is_well_formed design)) (none : 
             ]
       ]
 
-  some_driver : (i : Place) (o : Option Object) → slice_get design.signals i ≡ o → is_some_net o ≡ true → (p at : ℕ) × (e : Tree) × (slice_get design.processes p ≡ Some (Assign i e at))
+  some_driver : (i : Place) (o : Option Signal) → slice_get design.signals i ≡ o → is_some_net o ≡ true → (p : ℕ) × (at : Home) × (e : Tree) × (slice_get design.processes p ≡ Some (Assign i e at))
   some_driver i None is net = absurd (cc)
-  some_driver i (Some object) is net =
-      let empty = (empty_parts (undriven design) (several_drivers design) none).0 in
+  some_driver i (Some signal) is net =
+      let empty = (empty_parts (undriven design) (several_drivers design) (none_ranked (undriven design ++ several_drivers design) none)).0 in
       let number : 0 + i ≡ i = omega arith in
-      let nothing = sym (ap (λ m. undriven_at design.processes (m, object)) number) ∙ nothing_at (undriven_at design.processes) design.signals 0 i object empty is in
-      let either = and_cases (not (is_top_input object.kind)) (not (list_any (may_write i) design.processes)) (not_found _ _ nothing) in
+      let nothing = sym (ap (λ m. undriven_at design.processes (m, signal)) number) ∙ nothing_at (undriven_at design.processes) design.signals 0 i signal empty is in
+      let either = and_cases (not (is_top_input signal.kind)) (not (list_any (may_write i) design.processes)) (not_found _ _ nothing) in
       let driven : list_any (may_write i) design.processes ≡ true =
       elim either [ inl input ↦ absurd (cc) | inr some ↦ not-false (list_any (may_write i) design.processes) some ] in
       by_process (any_found (may_write i) design.processes driven)
     where
-      at_process : (p : ℕ) (process : Process) → slice_get design.processes p ≡ Some process → may_write i process ≡ true → (p at : ℕ) × (e : Tree) × (slice_get design.processes p ≡ Some (Assign i e at))
+      at_process : (p : ℕ) (process : Process) → slice_get design.processes p ≡ Some process → may_write i process ≡ true → (p : ℕ) × (at : Home) × (e : Tree) × (slice_get design.processes p ≡ Some (Assign i e at))
       at_process p (Assign target e at) here writes =
           (p, at, e, here ∙ ap (λ t. Some (Assign t e at)) (sym (eqb-true i target writes)))
 
-      by_process : ((p : ℕ) × (process : Process) × (slice_get design.processes p ≡ Some process) × (may_write i process ≡ true)) → (p at : ℕ) × (e : Tree) × (slice_get design.processes p ≡ Some (Assign i e at))
+      by_process : ((p : ℕ) × (process : Process) × (slice_get design.processes p ≡ Some process) × (may_write i process ≡ true)) → (p : ℕ) × (at : Home) × (e : Tree) × (slice_get design.processes p ≡ Some (Assign i e at))
       by_process (p, process, here, writes) = at_process p process here writes
 
   pub is_clean : IsClean design

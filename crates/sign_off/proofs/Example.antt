@@ -3,9 +3,10 @@ use Rattle.std.proofs.Common.{◌≡◌, ℕ, Bool, true, false, refl, sym, ap, 
 use Rattle.std.specs.Prelude.{slice_get, is_some, IsTrue, IsSome, ◌⊎◌}
 use Rattle.std.specs.List.{list_any}
 use Rattle.rtl_bits.specs.declared.Bit.TheVariants.{Zero, One, X, Z}
-use Rattle.rtl_tree.specs.declared.thin.Operator.TheVariants.{And}
-use Rattle.sign_off.specs.declared.design.Kind.TheVariants.{TopInput, Net}
-use Rattle.sign_off.specs.Flat.{Object, Tree, Read, Binary, Assign, Flat, is_input, is_net, is_well_formed}
+use Rattle.rtl_flat.specs.declared.signal.Kind.{Kind}
+use Rattle.rtl_flat.specs.declared.signal.Kind.TheVariants.{TopInput, Net}
+use Rattle.rtl_flat.specs.declared.signal.Signal.{Signal}
+use Rattle.sign_off.specs.Flat.{And, Home, Tree, Read, Binary, Assign, Flat, is_input, is_net, is_well_formed}
 use Rattle.sign_off.specs.Findings.{findings}
 use Rattle.sign_off.specs.Queue.{power_up, Place, put, State, Input, Evaluate, Update, value_of, CanRun, drives, IsAtRest}
 use Rattle.sign_off.specs.Meaning.{Numbers, num_of, IsSolution, Step}
@@ -15,16 +16,20 @@ use Rattle.sign_off.proofs.Clean.{agreement_of}
 use Rattle.sign_off.proofs.Basic.{put_other, one-known}
 use Rattle.rtl_bits.specs.Bit.{known_bit, is_one}
 
+-- a signal of one bit, and where what stands at a place in the text does
+abbrev bit_of : List ℕ → Kind → ℕ → Signal
+bit_of path kind at =
+    record { path = path; width = 1; signed = false; low = 0; kind = kind; top_output = false; instance = 0; spot = record { file = 0; at = at } }
+
+abbrev at_place : ℕ → Home
+at_place at = record { instance = 0; spot = record { file = 0; at = at } }
+
 -- `module top(input a, b, output y); assign y = a & b; endmodule`
-abbrev ports : List Object
-ports =
-    record { name = 97 ∷ []; kind = TopInput; at = 17 }
-    ∷ record { name = 98 ∷ []; kind = TopInput; at = 20 }
-    ∷ record { name = 121 ∷ []; kind = Net; at = 30 }
-    ∷ []
+abbrev ports : List Signal
+ports = bit_of (97 ∷ []) TopInput 17 ∷ bit_of (98 ∷ []) TopInput 20 ∷ bit_of (121 ∷ []) Net 30 ∷ []
 
 abbrev gate : Flat
-gate = record { signals = ports; processes = Assign 2 (Binary And (Read 0) (Read 1)) 41 ∷ [] }
+gate = record { signals = ports; processes = Assign 2 (Binary And (Read 0) (Read 1)) (at_place 41) ∷ [] }
 
 gate_well_formed : IsTrue (is_well_formed gate)
 gate_well_formed = refl
@@ -59,7 +64,7 @@ inputs_idle s first second (suc zero) input = second
 inputs_idle s first second (suc (suc zero)) input = absurd (cc)
 inputs_idle s first second (suc (suc (suc i))) input = absurd (cc)
 
-one_process : (p target at : ℕ) (value : Tree) → slice_get gate.processes p ≡ Some (Assign target value at) → (target ≡ 2) × (value ≡ Binary And (Read 0) (Read 1))
+one_process : (p target : ℕ) (at : Home) (value : Tree) → slice_get gate.processes p ≡ Some (Assign target value at) → (target ≡ 2) × (value ≡ Binary And (Read 0) (Read 1))
 one_process zero target at value is = (cc, cc)
 one_process (suc p) target at value is = absurd (cc)
 
@@ -141,9 +146,9 @@ early_number =
 
 -- `assign y = a; assign y = b;`: the net is x where the drivers differ, and no number is both
 abbrev two_drivers : Flat
-two_drivers = record { signals = ports; processes = Assign 2 (Read 0) 41 ∷ Assign 2 (Read 1) 57 ∷ [] }
+two_drivers = record { signals = ports; processes = Assign 2 (Read 0) (at_place 41) ∷ Assign 2 (Read 1) (at_place 57) ∷ [] }
 
-two_processes : (p target at : ℕ) (value : Tree) → slice_get two_drivers.processes p ≡ Some (Assign target value at) → (target ≡ 2) × ((value ≡ Read 0) ⊎ (value ≡ Read 1))
+two_processes : (p target : ℕ) (at : Home) (value : Tree) → slice_get two_drivers.processes p ≡ Some (Assign target value at) → (target ≡ 2) × ((value ≡ Read 0) ⊎ (value ≡ Read 1))
 two_processes zero target at value is = (cc, inl (cc))
 two_processes (suc zero) target at value is = (cc, inr (cc))
 two_processes (suc (suc p)) target at value is = absurd (cc)
@@ -218,16 +223,15 @@ two_drivers_disagree : (fill : Bool) → Agree two_drivers fill → ⊥
 two_drivers_disagree fill agree =
     let (next, cycle, shows, rest) = agree.agrees low (λ i. false) (two_settled fill) (apart_now ∷ []) (record { lawful = apart_lawful; runs = two_runs; rests = two_rests }) in
     let solution = cycle.follows.solution in
-    let first = solution.assigns 0 2 41 (Read 0) refl in
-    let second = solution.assigns 1 2 57 (Read 1) refl in
+    let first = solution.assigns 0 2 (at_place 41) (Read 0) refl in
+    let second = solution.assigns 1 2 (at_place 57) (Read 1) refl in
     let high = solution.inputs 0 refl in
     let low' = solution.inputs 1 refl in
     absurd (cc)
 
 -- `module top(input a, output y); endmodule`: the output keeps the z of power-up
-abbrev undriven_ports : List Object
-undriven_ports =
-    record { name = 97 ∷ []; kind = TopInput; at = 17 } ∷ record { name = 121 ∷ []; kind = Net; at = 27 } ∷ []
+abbrev undriven_ports : List Signal
+undriven_ports = bit_of (97 ∷ []) TopInput 17 ∷ bit_of (121 ∷ []) Net 27 ∷ []
 
 abbrev no_driver : Flat
 no_driver = record { signals = undriven_ports; processes = [] }

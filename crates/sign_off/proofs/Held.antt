@@ -5,7 +5,8 @@ use Rattle.std.proofs.lemmas.Bool.{cases_eq, eq-eqb, ne_eqb}
 use Rattle.rtl_bits.specs.declared.Bit.{Bit}
 use Rattle.rtl_bits.specs.declared.Bit.TheVariants.{Zero, One, X, Z}
 use Rattle.rtl_bits.specs.Bit.{resolve_bit}
-use Rattle.sign_off.specs.Flat.{Object, Tree, Process, Assign, Flat, is_some_input, is_some_net, is_input, is_net}
+use Rattle.rtl_flat.specs.declared.signal.Signal.{Signal}
+use Rattle.sign_off.specs.Flat.{Home, Tree, Process, Assign, Flat, is_some_input, is_some_net, is_input, is_net}
 use Rattle.sign_off.specs.Queue.{Place, Values, Write, State, Event, Input, Evaluate, Update, Delayed, Activate, IsThere, put, reads, after_input, after_evaluate, after_update, after_delayed, after, resolved_from, resolved, run, CanRun}
 use Rattle.sign_off.specs.Meaning.{Step}
 use Rattle.sign_off.specs.Agree.{newest, offer}
@@ -14,21 +15,21 @@ use Rattle.sign_off.proofs.Ready.{IsReady, ready_after}
 
 -- each net has one driver, inputs have none, and expressions read inputs
 pub record IsClean (design : Flat) : Type 0 where
-  pub targets : (p target at : ℕ) (e : Tree) → slice_get design.processes p ≡ Some (Assign target e at) → IsTrue (is_net design.signals target)
-  pub sources : (p target at : ℕ) (e : Tree) → slice_get design.processes p ≡ Some (Assign target e at) → (i : Place) → IsTrue (reads e i) → IsTrue (is_input design.signals i)
-  pub alone : (p q target at at' : ℕ) (e e' : Tree) → slice_get design.processes p ≡ Some (Assign target e at) → slice_get design.processes q ≡ Some (Assign target e' at') → p ≡ q
-  pub driven : (i : Place) → IsTrue (is_net design.signals i) → (p at : ℕ) × (e : Tree) × (slice_get design.processes p ≡ Some (Assign i e at))
+  pub targets : (p target : ℕ) (at : Home) (e : Tree) → slice_get design.processes p ≡ Some (Assign target e at) → IsTrue (is_net design.signals target)
+  pub sources : (p target : ℕ) (at : Home) (e : Tree) → slice_get design.processes p ≡ Some (Assign target e at) → (i : Place) → IsTrue (reads e i) → IsTrue (is_input design.signals i)
+  pub alone : (p q target : ℕ) (at at' : Home) (e e' : Tree) → slice_get design.processes p ≡ Some (Assign target e at) → slice_get design.processes q ≡ Some (Assign target e' at') → p ≡ q
+  pub driven : (i : Place) → IsTrue (is_net design.signals i) → (p : ℕ) × (at : Home) × (e : Tree) × (slice_get design.processes p ≡ Some (Assign i e at))
 
 -- no signal is an input and a net
-apart_objects : (o : Option Object) → is_some_input o ≡ true → is_some_net o ≡ true → ⊥
-apart_objects None input net = absurd (cc)
-apart_objects (Some object) input net = absurd (let other = ap not input in cc)
+apart_signals : (o : Option Signal) → is_some_input o ≡ true → is_some_net o ≡ true → ⊥
+apart_signals None input net = absurd (cc)
+apart_signals (Some signal) input net = absurd (let other = ap not input in cc)
 
-pub apart : (signals : List Object) (i j : Place) → IsTrue (is_input signals i) → IsTrue (is_net signals j) → i ≢ j
-apart signals i j input net same = apart_objects (slice_get signals i) input (ap (is_net signals) same ∙ net)
+pub apart : (signals : List Signal) (i j : Place) → IsTrue (is_input signals i) → IsTrue (is_net signals j) → i ≢ j
+apart signals i j input net same = apart_signals (slice_get signals i) input (ap (is_net signals) same ∙ net)
 
 -- a net that nothing drives has z
-resolved_none : (k : ℕ) (ps : List Process) (driver : ℕ → Bit) (net : Place) → ((q target at : ℕ) (e : Tree) → slice_get ps q ≡ Some (Assign target e at) → target ≢ net) → resolved_from k ps driver net ≡ Z
+resolved_none : (k : ℕ) (ps : List Process) (driver : ℕ → Bit) (net : Place) → ((q target : ℕ) (at : Home) (e : Tree) → slice_get ps q ≡ Some (Assign target e at) → target ≢ net) → resolved_from k ps driver net ≡ Z
 resolved_none k [] driver net free = refl
 resolved_none k (Assign target e at ∷ ps) driver net free =
     rw (ne_eqb target net (free 0 target at e refl)) (resolved_none (k + 1) ps driver net (λ q t a f h. free (suc q) t a f h))
@@ -41,11 +42,11 @@ resolve_z X = refl
 resolve_z Z = refl
 
 -- a net with one driver follows it
-resolved_alone : (k : ℕ) (ps : List Process) (driver : ℕ → Bit) (p target at : ℕ) (e : Tree) → slice_get ps p ≡ Some (Assign target e at) → ((q at' : ℕ) (e' : Tree) → slice_get ps q ≡ Some (Assign target e' at') → q ≡ p) → resolved_from k ps driver target ≡ driver (k + p)
+resolved_alone : (k : ℕ) (ps : List Process) (driver : ℕ → Bit) (p target : ℕ) (at : Home) (e : Tree) → slice_get ps p ≡ Some (Assign target e at) → ((q : ℕ) (at' : Home) (e' : Tree) → slice_get ps q ≡ Some (Assign target e' at') → q ≡ p) → resolved_from k ps driver target ≡ driver (k + p)
 resolved_alone k [] driver p target at e here alone = absurd (cc)
 resolved_alone k (Assign t f a ∷ ps) driver zero target at e here alone =
     let same : t ≡ target = cc in
-    let others : (q t' a' : ℕ) (f' : Tree) → slice_get ps q ≡ Some (Assign t' f' a') → t' ≢ target =
+    let others : (q t' : ℕ) (a' : Home) (f' : Tree) → slice_get ps q ≡ Some (Assign t' f' a') → t' ≢ target =
     λ q t' a' f' there meets. absurd (let is = alone (suc q) a' f' (there ∙ ap (λ x. Some (Assign x f' a')) meets) in omega (arith, is)) in
     rw (eq-eqb t target same)
     (ap (resolve_bit (driver k)) (resolved_none (k + 1) ps driver target others) ∙ resolve_z (driver k) ∙ ap driver (let e0 : k ≡ k + 0 = omega arith in e0))
@@ -56,7 +57,7 @@ resolved_alone k (Assign t f a ∷ ps) driver (suc p) target at e here alone =
     (resolved_alone (k + 1) ps driver p target at e here (λ q a' f' there. let is = alone (suc q) a' f' there in let less : q ≡ p = omega arith in less)
     ∙ ap driver (let e1 : k + 1 + p ≡ k + suc p = omega arith in e1))
 
-pub resolved_one : (design : Flat) → IsClean design → (driver : ℕ → Bit) (p target at : ℕ) (e : Tree) → slice_get design.processes p ≡ Some (Assign target e at) → resolved design driver target ≡ driver p
+pub resolved_one : (design : Flat) → IsClean design → (driver : ℕ → Bit) (p target : ℕ) (at : Home) (e : Tree) → slice_get design.processes p ≡ Some (Assign target e at) → resolved design driver target ≡ driver p
 resolved_one design clean driver p target at e here =
     resolved_alone 0 design.processes driver p target at e here (λ q at' e' there. clean.alone q p target at' at e' e there here)
     ∙ ap driver (let e0 : 0 + p ≡ p = omega arith in e0)
@@ -65,7 +66,7 @@ resolved_one design clean driver p target at e here =
 pub record IsGoing (design : Flat) (given : Values) (s : State) : Type 0 where
   pub ready : IsReady design s
   -- each net has what its driver has
-  pub held : (p target at : ℕ) (e : Tree) → slice_get design.processes p ≡ Some (Assign target e at) → s.value target ≡ s.driver p
+  pub held : (p target : ℕ) (at : Home) (e : Tree) → slice_get design.processes p ≡ Some (Assign target e at) → s.value target ≡ s.driver p
   -- each input has the value that it was given last, or is offered it
   pub inputs : (i : Place) → IsTrue (is_input design.signals i) → unwrap_or (s.offered i) (s.value i) ≡ given i
   pub none_activated : s.activated ≡ []

@@ -1,7 +1,7 @@
 pub mod Walks
 pub mod MarkLemmas
-pub mod NameLemmas
-pub mod ResolveLemmas
+pub mod Ordered
+pub mod Formed
 pub mod Basic
 pub mod Ready
 pub mod Held

@@ -3,14 +3,14 @@ use Rattle.std.proofs.Common.{◌≡◌, ℕ, false, refl, sym, ap, ◌∙◌, O
 use Rattle.std.specs.Prelude.{slice_get, unwrap_or}
 use Rattle.std.proofs.lemmas.Bool.{cases_eq, or_parts}
 use Rattle.rtl_bits.specs.declared.Bit.{Bit}
-use Rattle.sign_off.specs.Flat.{Tree, Process, Assign, Flat}
+use Rattle.sign_off.specs.Flat.{Home, Tree, Process, Assign, Flat}
 use Rattle.sign_off.specs.Queue.{Place, Write, State, Event, Input, Evaluate, Update, Delayed, Activate, put, value_of, hears, write, write_all, after_input, after_evaluate, after_update, after_delayed, after, resolved}
 use Rattle.sign_off.proofs.Basic.{put_at, put_other, unheard}
 
 -- an assignment that waits has its expression's value pending, or on its driver with nothing pending
 abbrev pub IsReady : Flat → State → Type 0
 IsReady design s =
-    (p target at : ℕ) (e : Tree) →
+    (p target : ℕ) (at : Home) (e : Tree) →
     slice_get design.processes p ≡ Some (Assign target e at) →
     s.woken p ≡ false → unwrap_or (s.pending p) (s.driver p) ≡ value_of e s.value
 

@@ -4,9 +4,10 @@ use Rattle.std.specs.Prelude.{slice_get, unwrap_or, is_some, IsTrue, IsSome, ◌
 use Rattle.std.specs.List.{list_any}
 use Rattle.std.proofs.lemmas.Bool.{or_left, or_right, eq-eqb}
 use Rattle.rtl_bits.specs.Bit.{known_bit, is_one}
-use Rattle.sign_off.specs.declared.design.Kind.{Kind}
-use Rattle.sign_off.specs.declared.design.Kind.TheVariants.{TopInput, Net}
-use Rattle.sign_off.specs.Flat.{Object, Tree, Assign, Flat, is_top_input, is_some_input, is_some_net, is_input, is_net}
+use Rattle.rtl_flat.specs.declared.signal.Kind.{Kind}
+use Rattle.rtl_flat.specs.declared.signal.Kind.TheVariants.{TopInput, Net, Var}
+use Rattle.rtl_flat.specs.declared.signal.Signal.{Signal}
+use Rattle.sign_off.specs.Flat.{Home, Tree, Assign, Flat, is_top_input, is_some_input, is_some_net, is_input, is_net}
 use Rattle.sign_off.specs.Queue.{Place, Values, State, value_of, drives, HasNoActive, IsAtRest}
 use Rattle.sign_off.specs.Meaning.{Numbers, num_of, IsSolution, given_after}
 use Rattle.sign_off.specs.Agree.{IsSettled, offer, Round, after_round, Follows, Agree}
@@ -14,21 +15,22 @@ use Rattle.sign_off.proofs.Basic.{value_num, num_agrees, one-known}
 use Rattle.sign_off.proofs.Held.{IsClean, IsGoing, given_value, going_offer, going_run}
 
 -- a signal is an input or a net
-kind_of_object : (o : Option Object) → IsSome o → (is_some_input o ≡ true) ⊎ (is_some_net o ≡ true)
-kind_of_object None some = absurd (cc)
-kind_of_object (Some object) some = by_kind object.kind refl
+kind_of_signal : (o : Option Signal) → IsSome o → (is_some_input o ≡ true) ⊎ (is_some_net o ≡ true)
+kind_of_signal None some = absurd (cc)
+kind_of_signal (Some signal) some = by_kind signal.kind refl
   where
-    by_kind : (kind : Kind) → object.kind ≡ kind → (is_top_input object.kind ≡ true) ⊎ (not (is_top_input object.kind) ≡ true)
+    by_kind : (kind : Kind) → signal.kind ≡ kind → (is_top_input signal.kind ≡ true) ⊎ (not (is_top_input signal.kind) ≡ true)
     by_kind TopInput is = inl (ap is_top_input is)
     by_kind Net is = inr (ap (λ k. not (is_top_input k)) is)
+    by_kind Var is = inr (ap (λ k. not (is_top_input k)) is)
 
-input_is_some : (o : Option Object) → is_some_input o ≡ true → IsSome o
+input_is_some : (o : Option Signal) → is_some_input o ≡ true → IsSome o
 input_is_some None input = absurd (cc)
-input_is_some (Some object) input = refl
+input_is_some (Some signal) input = refl
 
-net_is_some : (o : Option Object) → is_some_net o ≡ true → IsSome o
+net_is_some : (o : Option Signal) → is_some_net o ≡ true → IsSome o
 net_is_some None net = absurd (cc)
-net_is_some (Some object) net = refl
+net_is_some (Some signal) net = refl
 
 -- a test that one element passes is passed by some element
 any_at : {A : Type 0} (test : A → Bool) (xs : List A) (k : ℕ) (x : A) → slice_get xs k ≡ Some x → test x ≡ true → list_any test xs ≡ true
@@ -80,17 +82,17 @@ module _ (design : Flat) (clean : IsClean design) (given : Numbers) (values : Va
   input_shown : (i : Place) → IsTrue (is_input design.signals i) → s.value i ≡ known_bit (numbers_of s i)
   input_shown i input = input_known i input ∙ ap known_bit (sym (input_number i input))
 
-  driver_value : (p target at : ℕ) (e : Tree) → slice_get design.processes p ≡ Some (Assign target e at) → s.driver p ≡ value_of e s.value
+  driver_value : (p target : ℕ) (at : Home) (e : Tree) → slice_get design.processes p ≡ Some (Assign target e at) → s.driver p ≡ value_of e s.value
   driver_value p target at e here =
       ap (λ o. unwrap_or o (s.driver p)) (sym (rest.no_active.drivers p (ap is_some here)))
       ∙ going.ready p target at e here (rest.no_active.processes p (ap is_some here))
 
-  target_known : (p target at : ℕ) (e : Tree) → slice_get design.processes p ≡ Some (Assign target e at) → s.value target ≡ known_bit (num_of e (numbers_of s))
+  target_known : (p target : ℕ) (at : Home) (e : Tree) → slice_get design.processes p ≡ Some (Assign target e at) → s.value target ≡ known_bit (num_of e (numbers_of s))
   target_known p target at e here =
       going.held p target at e here ∙ driver_value p target at e here
       ∙ value_num e s.value (numbers_of s) (λ i read. input_shown i (clean.sources p target at e here i read))
 
-  target_number : (p target at : ℕ) (e : Tree) → slice_get design.processes p ≡ Some (Assign target e at) → numbers_of s target ≡ num_of e (numbers_of s)
+  target_number : (p target : ℕ) (at : Home) (e : Tree) → slice_get design.processes p ≡ Some (Assign target e at) → numbers_of s target ≡ num_of e (numbers_of s)
   target_number p target at e here = ap is_one (target_known p target at e here) ∙ one-known (num_of e (numbers_of s))
 
   net_shown : (i : Place) → IsTrue (is_net design.signals i) → s.value i ≡ known_bit (numbers_of s i)
@@ -111,7 +113,7 @@ module _ (design : Flat) (clean : IsClean design) (given : Numbers) (values : Va
 
   solved_alone : (fill : Bool) (other : Numbers) → IsSolution design fill given other → (i : Place) → IsSome (slice_get design.signals i) → other i ≡ numbers_of s i
   solved_alone fill other is i some =
-      elim (kind_of_object (slice_get design.signals i) some) [
+      elim (kind_of_signal (slice_get design.signals i) some) [
         | inl input ↦ same_input i input
         | inr net ↦
             let (p, at, e, here) = clean.driven i net in
@@ -128,7 +130,7 @@ module _ (design : Flat) (clean : IsClean design) (given : Numbers) (values : Va
       record {
         rest = rest;
         known = λ i some.
-            elim (kind_of_object (slice_get design.signals i) some) [ inl input ↦ input_shown i input | inr net ↦ net_shown i net ];
+            elim (kind_of_signal (slice_get design.signals i) some) [ inl input ↦ input_shown i input | inr net ↦ net_shown i net ];
         drivers = driver_value;
         solution = record { inputs = λ i input. refl; assigns = target_number; others = (solved fill).others };
       }

@@ -2,7 +2,7 @@
 use Rattle.std.specs.Prelude.{◌≡◌, ℕ, List, [], ◌∷◌, Option, None, Some, IsSome, Bool, IsTrue, ⊤, slice_get}
 use Rattle.rtl_bits.specs.declared.Bit.{Bit}
 use Rattle.rtl_bits.specs.Bit.{known_bit}
-use Rattle.sign_off.specs.Flat.{Tree, Assign, Flat, is_input, is_net}
+use Rattle.sign_off.specs.Flat.{Home, Tree, Assign, Flat, is_input, is_net}
 use Rattle.sign_off.specs.Queue.{Place, State, Event, value_of, run, CanRun, IsAtRest}
 use Rattle.sign_off.specs.Meaning.{Numbers, IsSolution, Step, IsTheCycle}
 
@@ -11,7 +11,7 @@ use Rattle.sign_off.specs.Meaning.{Numbers, IsSolution, Step, IsTheCycle}
 pub record IsSettled (design : Flat) (fill : Bool) (s : State) (n : Numbers) : Type 0 where
   pub rest : IsAtRest design s
   pub known : (i : Place) → IsSome (slice_get design.signals i) → s.value i ≡ known_bit (n i)
-  pub drivers : (p target at : ℕ) (value : Tree) → slice_get design.processes p ≡ Some (Assign target value at) → s.driver p ≡ value_of value s.value
+  pub drivers : (p target : ℕ) (at : Home) (value : Tree) → slice_get design.processes p ≡ Some (Assign target value at) → s.driver p ≡ value_of value s.value
   pub solution : IsSolution design fill n n
 
 -- a lawful step sets data inputs, each to a known value: today every input is one, since no process waits for an edge

@@ -3,7 +3,9 @@ use Rattle.std.specs.Prelude.{ℕ, ◌==◌, ◌++◌, List, take, Option, None,
 use Rattle.std.specs.List.{list_any, enumerate_from, filter_map}
 use Rattle.sign_off.specs.declared.finding.Finding.{Finding}
 use Rattle.sign_off.specs.declared.finding.Rule.TheVariants.{SeveralDrivers, Undriven}
-use Rattle.sign_off.specs.Flat.{Object, Process, Assign, Flat, is_top_input}
+use Rattle.rtl_flat.specs.declared.signal.Signal.{Signal}
+use Rattle.sign_off.specs.Flat.{Process, Assign, Flat, is_top_input}
+use Rattle.sign_off.specs.Ranks.{ranked}
 
 -- a process may write this signal
 abbrev pub may_write : ℕ → Process → Bool
@@ -18,20 +20,20 @@ found_if condition finding = if condition then Some finding else None
 abbrev pub several_drivers_at : List Process → (ℕ × Process) → Option Finding
 several_drivers_at processes (number, Assign target value at) =
     found_if (list_any (may_write target) (take number processes))
-    (record { rule = SeveralDrivers; signal = record { 0 = target }; at = at })
+    (record { rule = SeveralDrivers; signal = record { 0 = target }; instance = at.instance; spot = at.spot })
 
 abbrev pub several_drivers : Flat → List Finding
 several_drivers design = filter_map (several_drivers_at design.processes) (enumerate_from 0 design.processes)
 
 -- Undriven: a signal isn't a top input, and no process may write it; it stands at the declaration
-abbrev pub undriven_at : List Process → (ℕ × Object) → Option Finding
-undriven_at processes (number, object) =
-    found_if (not (is_top_input object.kind) && not (list_any (may_write number) processes))
-    (record { rule = Undriven; signal = record { 0 = number }; at = object.at })
+abbrev pub undriven_at : List Process → (ℕ × Signal) → Option Finding
+undriven_at processes (number, signal) =
+    found_if (not (is_top_input signal.kind) && not (list_any (may_write number) processes))
+    (record { rule = Undriven; signal = record { 0 = number }; instance = signal.instance; spot = signal.spot })
 
 abbrev pub undriven : Flat → List Finding
 undriven design = filter_map (undriven_at design.processes) (enumerate_from 0 design.signals)
 
--- all findings in the order of their places: the ports stand before the assignments
+-- all findings, in their order
 abbrev pub findings : Flat → List Finding
-findings design = undriven design ++ several_drivers design
+findings design = ranked (undriven design ++ several_drivers design)

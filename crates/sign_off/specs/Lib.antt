@@ -1,8 +1,8 @@
 pub mod Flat
-pub mod Elaboration
+pub mod Built
+pub mod Ranks
 pub mod Findings
 pub mod Marks
-pub mod Names
 pub mod Queue
 pub mod Meaning
 pub mod Agree

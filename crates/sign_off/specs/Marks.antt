@@ -1,12 +1,12 @@
 -- What a pass over the processes keeps.
 use Rattle.std.specs.Prelude.{◌≡◌, ℕ, ◌<◌, length, List, Bool, false, slice_index_or}
 use Rattle.std.specs.List.{list_any}
-use Rattle.sign_off.specs.declared.design.Process as code
-use Rattle.sign_off.specs.declared.design.SigId.{SigId}
-use Rattle.sign_off.specs.declared.design.Signal.{Signal}
+use Rattle.rtl_flat.specs.declared.expr.SigId.{SigId}
+use Rattle.rtl_flat.specs.declared.signal.Signal.{Signal}
+use Rattle.rtl_flat.specs.Process.{Task}
 use Rattle.sign_off.specs.declared.finding.Finding.{Finding}
 use Rattle.sign_off.specs.declared.finding.Rule.TheVariants.{SeveralDrivers, Undriven}
-use Rattle.sign_off.specs.Flat.{Process}
+use Rattle.sign_off.specs.Flat.{Process, target_in}
 use Rattle.sign_off.specs.Findings.{may_write}
 
 -- one mark for each of so many signals: whether a process may write it
@@ -15,9 +15,11 @@ pub record AreDriven (marks : List Bool) (count : ℕ) (processes : List Process
   pub driven : (number : ℕ) → number < count → slice_index_or marks number false ≡ list_any (may_write number) processes
 
 -- the finding at a process whose target a lower process drives
-abbrev pub several_finding : code.Process → Finding
-several_finding process = record { rule = SeveralDrivers; signal = process.target; at = process.at }
+abbrev pub several_finding : Task → Finding
+several_finding task =
+    record { rule = SeveralDrivers; signal = record { 0 = target_in task.does }; instance = task.instance; spot = task.spot }
 
 -- the finding at a signal that nothing drives
 abbrev pub undriven_finding : SigId → Signal → Finding
-undriven_finding number signal = record { rule = Undriven; signal = number; at = signal.at }
+undriven_finding number signal =
+    record { rule = Undriven; signal = number; instance = signal.instance; spot = signal.spot }

@@ -1,17 +1,15 @@
 -- The synthesised meaning of a design (IEEE 1364.1-2002): equations between numbers, with no order of evaluation.
 use Rattle.std.specs.Prelude.{◌≡◌, ℕ, Option, Some, IsSome, Bool, false, not, ◌&&◌, ◌||◌, if◌then◌else◌, IsTrue, slice_get, unwrap_or}
 use Rattle.std.specs.List.{list_any}
-use Rattle.rtl_tree.specs.declared.thin.Operator.{Operator}
-use Rattle.rtl_tree.specs.declared.thin.Operator.TheVariants.{And, Xor, Or}
-use Rattle.sign_off.specs.Flat.{Tree, Read, Not, Binary, Assign, Flat, is_input, is_net}
+use Rattle.sign_off.specs.Flat.{Gate, And, Xor, Or, Home, Tree, Read, Not, Binary, Assign, Flat, is_input, is_net}
 use Rattle.sign_off.specs.Queue.{Place, drives}
 
 -- the binary digits of the signals' numbers by their places, true for 1: today a number has one digit
 abbrev pub Numbers : Type 0
 Numbers = Place → Bool
 
--- the digit that an operator gives for two digits
-abbrev pub binary_digit : Operator → Bool → Bool → Bool
+-- the digit that an gate gives for two digits
+abbrev pub binary_digit : Gate → Bool → Bool → Bool
 binary_digit And a b = a && b
 binary_digit Xor a b = if a then not b else b
 binary_digit Or a b = a || b
@@ -20,14 +18,14 @@ binary_digit Or a b = a || b
 abbrev pub num_of : Tree → Numbers → Bool
 num_of (Read signal) n = n signal
 num_of (Not operand) n = not (num_of operand n)
-num_of (Binary operator left right) n = binary_digit operator (num_of left n) (num_of right n)
+num_of (Binary gate left right) n = binary_digit gate (num_of left n) (num_of right n)
 
 -- the numbers solve the design's equations (IEEE 1364.1-2002 section 5.1) for what its inputs are given.
 -- A net that nothing drives has the fill, 0 or 1. Blocks and registers, of which a design has none today, will
 -- add their equations and what they hold
 pub record IsSolution (design : Flat) (fill : Bool) (given n : Numbers) : Type 0 where
   pub inputs : (i : Place) → IsTrue (is_input design.signals i) → n i ≡ given i
-  pub assigns : (p target at : ℕ) (value : Tree) → slice_get design.processes p ≡ Some (Assign target value at) → n target ≡ num_of value n
+  pub assigns : (p target : ℕ) (at : Home) (value : Tree) → slice_get design.processes p ≡ Some (Assign target value at) → n target ≡ num_of value n
   pub others : (i : Place) → IsTrue (is_net design.signals i) → list_any (λ p. drives p i) design.processes ≡ false → n i ≡ fill
 
 -- a step of the world around a design: the inputs that it sets, each to 0 or 1

@@ -3,9 +3,7 @@ use Rattle.std.specs.Prelude.{◌≡◌, ◌≢◌, ℕ, ◌+◌, ◌==◌, List
 use Rattle.rtl_bits.specs.declared.Bit.{Bit}
 use Rattle.rtl_bits.specs.declared.Bit.TheVariants.{Zero, One, X, Z}
 use Rattle.rtl_bits.specs.Bit.{and_bit, or_bit, xor_bit, not_bit, resolve_bit}
-use Rattle.rtl_tree.specs.declared.thin.Operator.{Operator}
-use Rattle.rtl_tree.specs.declared.thin.Operator.TheVariants.{And, Xor, Or}
-use Rattle.sign_off.specs.Flat.{Tree, Read, Not, Binary, Process, Assign, Flat, is_input, is_net}
+use Rattle.sign_off.specs.Flat.{Gate, And, Xor, Or, Tree, Read, Not, Binary, Process, Assign, Flat, is_input, is_net}
 
 -- the place of a bit in a design: today each signal has one bit, whose place is the signal's number
 abbrev pub Place : Type 0
@@ -19,8 +17,8 @@ Values = Place → Bit
 abbrev pub put : {A : Type 0} → (ℕ → A) → ℕ → A → ℕ → A
 put f k a j = if j == k then a else f j
 
--- the table of an operator (IEEE 1364-2001 section 4.1.10)
-abbrev pub binary_bit : Operator → Bit → Bit → Bit
+-- the table of an gate (IEEE 1364-2001 section 4.1.10)
+abbrev pub binary_bit : Gate → Bit → Bit → Bit
 binary_bit And a b = and_bit a b
 binary_bit Xor a b = xor_bit a b
 binary_bit Or a b = or_bit a b
@@ -29,13 +27,13 @@ binary_bit Or a b = or_bit a b
 abbrev pub value_of : Tree → Values → Bit
 value_of (Read signal) values = values signal
 value_of (Not operand) values = not_bit (value_of operand values)
-value_of (Binary operator left right) values = binary_bit operator (value_of left values) (value_of right values)
+value_of (Binary gate left right) values = binary_bit gate (value_of left values) (value_of right values)
 
 -- whether an expression reads a place
 abbrev pub reads : Tree → Place → Bool
 reads (Read signal) place = place == signal
 reads (Not operand) place = reads operand place
-reads (Binary operator left right) place = reads left place || reads right place
+reads (Binary gate left right) place = reads left place || reads right place
 
 -- whether two bits differ, all four values told apart
 abbrev pub differs : Bit → Bit → Bool

@@ -1,8 +1,7 @@
-// The flat design, its rules, and what a clean design promises.
+// The rules over a flat design, and what a clean design promises.
 #![tactic(auto)]
 
-pub mod design;
-pub mod elaborate;
 pub mod finding;
+pub mod refusal;
 pub mod rule;
 pub mod soundness;

@@ -1,31 +1,75 @@
 // All rules over a design.
 
-ghost use Rattle.std.specs.Prelude.{◌≡◌, ◌<◌, ◌≤◌, ◌^◌, ◌↔◌, ◌++◌, ◌&&◌, [], map, length, vec_len, not, IsTrue, OnOk, IfOk, slice_set, slice_index_or, true, false, Bool};
+ghost use Rattle.std.specs.Prelude.{◌≡◌, ◌<◌, ◌≤◌, ◌^◌, ◌↔◌, ◌++◌, ◌&&◌, [], map, length, vec_len, not, IsTrue, OnOk, IfOk, Err, Some, slice_set, slice_index_or, true, false, Bool};
 ghost use Rattle.std.specs.List.{list_all};
 ghost use Rattle.std.specs.Option.{option_to_list};
-ghost use Rattle.sign_off.specs.Flat.{flat, is_fitting, is_top_input, object, process};
+ghost use Rattle.rtl_tree.specs.declared.text.Spot.{Spot};
+ghost use Rattle.rtl_flat.specs.Process.{doing, task};
+ghost use Rattle.sign_off.specs.Flat.{is_fitting, is_top_input, is_well_formed, process_of, target_in, view};
+ghost use Rattle.sign_off.specs.Built.{not_built};
 ghost use Rattle.sign_off.specs.Findings.{findings, found_if, several_drivers, undriven};
 ghost use Rattle.sign_off.specs.Agree.{Agree};
 ghost use Rattle.sign_off.specs.BringUp.{BringsUp};
 ghost use Rattle.sign_off.specs.Marks.{AreDriven, several_finding, undriven_finding};
+ghost use Rattle.sign_off.specs.declared.rule.Unruled.TheVariants.{NotBuilt, Memory};
 
-use crate::design::{Design, Kind, Process, SigId, Signal};
-use crate::finding::{Finding, Rule, Ruling};
+use crate::finding::{Finding, Rule, Ruling, rank};
+use crate::refusal::not_built;
+use rtl_flat::act::{Does, Process};
+use rtl_flat::design::Design;
+use rtl_flat::expr::SigId;
+use rtl_flat::signal::{Kind, Signal};
+use rtl_tree::text::Spot;
 use std::alloc::{AllocError, Global};
+use thiserror::Error;
 
-/// Applies every rule to a design: all findings in the order of their places, and the judgement.
-pub fn rule(alloc: Global, design: &Design) -> Result<Ruling, AllocError>
-    ensures findings { IfOk result (λ r. r.findings.items ≡ findings (flat design.now.signals.items design.now.processes.items)) }
+/// Why a design has no ruling.
+#[derive(Clone, Copy, PartialEq, Eq, Debug, Error)]
+pub enum Unruled {
+    /// It has something that isn't judged today, which stands here.
+    #[error("not built")]
+    NotBuilt(Spot),
+    #[error("out of memory")]
+    Memory,
+}
+
+impl From<AllocError> for Unruled {
+    ghost from_gives = { λ _ fault. fault ≡ Memory };
+
+    fn from(_error: AllocError) -> Unruled {
+        Unruled::Memory
+    }
+}
+
+/// Applies every rule to a design: all findings in their order, and the judgement.
+pub fn rule(alloc: Global, design: &Design) -> Result<Ruling, Unruled>
+    ensures not_built { (spot : Spot) → (not_built design.now.signals.items (map task design.now.processes.items) design.now.delays.items design.now.dropped.items ≡ Some spot) ↔ (result ≡ Err (NotBuilt spot)) }
+    ensures findings { IfOk result (λ r. r.findings.items ≡ findings (view design.now.signals.items (map task design.now.processes.items))) }
     ensures clean { IfOk result (λ r. IsTrue r.clean ↔ (r.findings.items ≡ [])) }
     ensures firm { IfOk result (λ r. IsTrue r.firm ↔ (r.findings.items ≡ [])) }
 
     // What a clean design promises: every run shows the synthesised values, from states that a bring-up reaches.
-    ensures sound { IfOk result (λ r. IsTrue r.clean → (fill : Bool) → Agree (flat design.now.signals.items design.now.processes.items) fill) }
-    ensures brought_up { IfOk result (λ r. IsTrue r.clean → (fill : Bool) → BringsUp (flat design.now.signals.items design.now.processes.items) fill) }
+    ensures sound { IfOk result (λ r. IsTrue r.clean → (fill : Bool) → Agree (view design.now.signals.items (map task design.now.processes.items)) fill) }
+    ensures brought_up { IfOk result (λ r. IsTrue r.clean → (fill : Bool) → BringsUp (view design.now.signals.items (map task design.now.processes.items)) fill) }
 {
-    let drivers = judge_processes(alloc, &design.signals, &design.processes)?;
-    let mut findings = judge_signals(alloc, &design.signals, &drivers.driven, &design.processes)?;
+    match not_built(design) {
+        Some(spot) => Err(Unruled::NotBuilt(spot)),
+        None => Ok(judge(alloc, &design.signals, &design.processes)?),
+    }
+}
+
+// Judges what isn't refused.
+fn judge(alloc: Global, signals: &[Signal], processes: &[Process]) -> Result<Ruling, AllocError>
+    requires numbered { length signals.now ≤ 2 ^ 32 }
+    requires well_formed { IsTrue (is_well_formed (view signals.now (map task processes.now))) }
+    ensures findings { IfOk result (λ r. r.findings.items ≡ findings (view signals.now (map task processes.now))) }
+    ensures clean { IfOk result (λ r. IsTrue r.clean ↔ (r.findings.items ≡ [])) }
+    ensures firm { IfOk result (λ r. IsTrue r.firm ↔ (r.findings.items ≡ [])) }
+{
+    let drivers = judge_processes(alloc, signals, processes)?;
+    let mut findings = judge_signals(alloc, signals, &drivers.driven, processes)?;
     findings.extend_from_slice(&drivers.findings)?;
+    rank(&mut findings)?;
     let clean = findings.is_empty();
     Ok(Ruling {
         findings,
@@ -47,9 +91,9 @@ fn judge_processes(
     signals: &[Signal],
     processes: &[Process],
 ) -> Result<Drivers, AllocError>
-    requires { list_all (is_fitting (map object signals.now)) (map process processes.now) ≡ true }
-    ensures findings { IfOk result (λ d. d.findings.items ≡ several_drivers (flat signals.now processes.now)) }
-    ensures driven { IfOk result (λ d. AreDriven d.driven.items (length signals.now) (map process processes.now)) }
+    requires { list_all (is_fitting signals.now) (map process_of (map task processes.now)) ≡ true }
+    ensures findings { IfOk result (λ d. d.findings.items ≡ several_drivers (view signals.now (map task processes.now))) }
+    ensures driven { IfOk result (λ d. AreDriven d.driven.items (length signals.now) (map process_of (map task processes.now))) }
 {
     let mut driven = vec![in alloc; false; signals.len()]?;
     let mut findings = Vec::new(alloc);
@@ -65,21 +109,36 @@ fn judge_process(
     findings: &mut Vec<Finding>,
     process: &Process,
 ) -> Result<(), AllocError>
-    requires { process.now.target.0 < vec_len driven.old }
-    ensures marked { OnOk result (driven.new.items ≡ slice_set driven.old.items process.now.target.0 true) }
+    requires { target_in (doing process.now.does) < vec_len driven.old }
+    ensures marked { OnOk result (driven.new.items ≡ slice_set driven.old.items (target_in (doing process.now.does)) true) }
     ensures found { OnOk result (findings.new.items ≡ findings.old.items
-        ++ option_to_list (found_if (slice_index_or driven.old.items process.now.target.0 false) (several_finding process.now))) }
+        ++ option_to_list (found_if (slice_index_or driven.old.items (target_in (doing process.now.does)) false) (several_finding (task process.now)))) }
 {
-    let target = process.target.0 as usize;
+    let signal = target_of(process);
+    let target = signal.0 as usize;
     if driven[target] {
         findings.push(Finding {
             rule: Rule::SeveralDrivers,
-            signal: process.target,
-            at: process.at,
+            signal,
+            instance: process.instance,
+            spot: process.spot,
         })?;
     }
     driven[target] = true;
     Ok(())
+}
+
+// The signal that a process assigns.
+fn target_of(process: &Process) -> SigId
+    ensures { result.0 ≡ target_in (doing process.now.does) }
+{
+    match &process.does {
+        Does::Assign { target, .. } => match target.parts.first() {
+            Some(part) => part.signal,
+            None => SigId(0),
+        },
+        _ => SigId(0),
+    }
 }
 
 // Goes over the signals once, with the marks of what is driven.
@@ -90,8 +149,8 @@ fn judge_signals(
     processes: &[Process],
 ) -> Result<Vec<Finding>, AllocError>
     requires numbered { length signals.now ≤ 2 ^ 32 }
-    requires driven { AreDriven driven.now (length signals.now) (map process processes.now) }
-    ensures { IfOk result (λ v. v.items ≡ undriven (flat signals.now processes.now)) }
+    requires driven { AreDriven driven.now (length signals.now) (map process_of (map task processes.now)) }
+    ensures { IfOk result (λ v. v.items ≡ undriven (view signals.now (map task processes.now))) }
 {
     let mut findings = Vec::new(alloc);
     for (number, signal) in signals.iter().enumerate() {
@@ -110,11 +169,12 @@ fn judge_signal(
     ensures { OnOk result (findings.new.items ≡ findings.old.items
         ++ option_to_list (found_if (not (is_top_input signal.now.kind) && not is_driven) (undriven_finding number signal.now))) }
 {
-    if signal.kind == Kind::Net && !is_driven {
+    if signal.kind != Kind::TopInput && !is_driven {
         findings.push(Finding {
             rule: Rule::Undriven,
             signal: number,
-            at: signal.at,
+            instance: signal.instance,
+            spot: signal.spot,
         })?;
     }
     Ok(())

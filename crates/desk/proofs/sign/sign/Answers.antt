@@ -1,11 +1,18 @@
-use Rattle.desk.proofs.Worlds.{signed_bytes, signed_fault}
+use Rattle.std.proofs.Common.{◌∙◌, ℕ, List, Vec, map, sym, subst}
+use Rattle.std.specs.declared.alloc.Global.{Global}
+use Rattle.desk.specs.Delivery.{IsWork}
+use Rattle.desk.specs.Outcome.{IsJudged}
+use Rattle.desk.specs.Texts.{named}
+use Rattle.desk.specs.Words.{texts}
+use Rattle.desk.proofs.Worlds.{count_texts, signed_stop, signed_texts}
 use Rattle.desk.proofs.sign.sign.Goals as goal
 
 pub returns-in-Ok-clause-work : goal.returns-in-Ok-clause-work
 returns-in-Ok-clause-work g c =
-    signed_bytes (g.F.Shelf.files c.args.shelf.now) c.args.top.now c.args.file.now c.in-Ok.text c.as_slice.result.now c.judge.result
-    c.in-Ok.ensures.told c.in-Ok.ensures.short c.as_slice.ensures.value c.judge.ensures.work
+    signed_texts (g.F.Shelf.files c.args.shelf.now) c.args.top.now (texts c.args.files.now) c.in-Ok.made.items c.judge.result
+    c.in-Ok.ensures.told (c.in-Ok.ensures.count ∙ sym (count_texts c.args.files.now)) c.in-Ok.ensures.short c.requires
+    (subst (λ (ms : List (Vec ℕ Global)). IsWork (IsJudged c.args.top.now (named (texts c.args.files.now) (map (λ text. text.items) ms)) (map (λ text. text.items) ms)) c.judge.result) c.deref.ensures.value c.judge.ensures.work)
 
 pub returns-in-Err-clause-work : goal.returns-in-Err-clause-work
 returns-in-Err-clause-work g c =
-    rw c.stop_of.ensures (signed_fault (g.F.Shelf.files c.args.shelf.now) c.args.top.now c.args.file.now c.in-Err.fault c.in-Err.ensures.told)
+    signed_stop (g.F.Shelf.files c.args.shelf.now) c.args.top.now (texts c.args.files.now) c.in-Err.stop c.in-Err.ensures.missing c.requires

@@ -1,6 +1,0 @@
-use Rattle.std.proofs.Common.{arith}
-use Rattle.std.proofs.lemmas.Map.Text.{text_keys}
-use Rattle.sign_off.proofs.elaborate.number_name.Goals as goal
-
-pub returns-clause-added : goal.returns-clause-added
-returns-clause-added c = λ q. grind (arith, text_keys)
