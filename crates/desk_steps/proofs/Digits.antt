@@ -1,5 +1,5 @@
 -- How many bits digits stand for.
-use Rattle.std.specs.Prelude.{ℕ, zero, suc, ◌+◌, ◌*◌, ◌/◌, ◌≤◌, List, [], ◌∷◌, length}
+use Rattle.std.specs.Prelude.{ℕ, ◌+◌, ◌*◌, ◌≤◌, List, [], ◌∷◌, length}
 use Rattle.std.proofs.Common.{◌≡◌, refl, arith}
 use Rattle.desk_steps.specs.declared.value.Base.{Base}
 use Rattle.desk_steps.specs.declared.value.Base.TheVariants.{Binary, Hexadecimal}

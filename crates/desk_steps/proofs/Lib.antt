@@ -1,3 +1,5 @@
 pub mod Cutting
 pub mod Digits
+pub mod Fitting
 pub mod Reading
+pub mod Widths

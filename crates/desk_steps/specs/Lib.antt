@@ -1,5 +1,6 @@
 pub mod Cuts
 pub mod Files
+pub mod Fitting
 pub mod Lines
 pub mod Marks
 pub mod Names

@@ -26,6 +26,10 @@ abbrev pub ahead : List Instance → ℕ
 ahead [] = 0
 ahead (top ∷ others) = length top.path + 1
 
+-- the name of a signal of the top
+abbrev pub top_name : List Instance → Signal → List ℕ
+top_name instances signal = drop (ahead instances) signal.path
+
 abbrev pub input_of : ℕ → Signal → Input
 input_of number signal = record { signal = record { 0 = number }; width = signal.width }
 

@@ -7,7 +7,7 @@ use Rattle.rtl_bits.specs.declared.Bit.{Bit}
 use Rattle.event_model.specs.declared.policy.Policy.{Policy}
 use Rattle.event_model.specs.declared.policy.Policy.TheVariants.{Level, Ascending, Descending}
 use Rattle.desk_steps.specs.declared.names.Input.{Input}
-use Rattle.desk_steps.specs.declared.line.Setting.{Setting as Kept}
+use Rattle.event_model.specs.declared.setting.Setting.{Setting as Kept}
 use Rattle.desk_steps.specs.declared.file.Steps.{Steps as Read}
 use Rattle.desk_steps.specs.Lines.{Cut, cut_at, lines, parts}
 use Rattle.desk_steps.specs.Names.{Names}

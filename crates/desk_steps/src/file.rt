@@ -1,16 +1,19 @@
 //! A file of steps.
 
 ghost use Rattle.std.specs.Prelude.{◌≡◌, ◌≤◌, ◌+◌, IfOk, IfErr, Ok, map};
+ghost use Rattle.std.specs.List.{All};
 ghost use Rattle.desk_steps.specs.Files.{IsTold};
+ghost use Rattle.desk_steps.specs.Fitting.{AreFitting};
 ghost use Rattle.desk_steps.specs.Lines.{lines};
 ghost use Rattle.desk_steps.specs.Names.{inputs_of, names_of};
 ghost use Rattle.desk_steps.specs.Steps.{file_of, policy_of, step, steps, steps_from, under};
 ghost use Rattle.desk_steps.specs.declared.file.StepsFault.TheVariants.{Memory as NoMemory};
 
 use crate::cut::next_line;
-use crate::line::{Setting, read_line};
+use crate::line::read_line;
 use crate::names::Names;
 use event_model::policy::Policy;
+use event_model::setting::Setting;
 use rtl_flat::design::Design;
 use rtl_tree::memory::Memory;
 use std::alloc::{AllocFailed, Global};
@@ -112,15 +115,11 @@ fn read_from(
     Ok(Steps { policy, steps })
 }
 
-/// The steps of a file for a design: an optional first line that asks for an order, and then one step a line.
-///
-/// Malformed comes exactly where some line is none of these, with the number of the first, or where there are more than
-/// 10,000 lines.
-pub fn read_steps(alloc: Global, design: &Design, text: &[u8]) -> Result<Steps, StepsFault>
-    ensures read { IfOk result (λ made. file_of (inputs_of design.now) text.now ≡ Ok (steps made)) }
-    ensures malformed { IfErr result (λ fault. IsTold fault (file_of (inputs_of design.now) text.now)) }
+/// The steps of a file for inputs with these names.
+fn read_with(alloc: Global, names: &Names, text: &[u8]) -> Result<Steps, StepsFault>
+    ensures read { IfOk result (λ made. file_of (names_of names.now) text.now ≡ Ok (steps made)) }
+    ensures malformed { IfErr result (λ fault. IsTold fault (file_of (names_of names.now) text.now)) }
 {
-    let names = Names::of(alloc, design)?;
     if text.is_empty() {
         return Ok(Steps {
             policy: Policy::Level,
@@ -129,7 +128,21 @@ pub fn read_steps(alloc: Global, design: &Design, text: &[u8]) -> Result<Steps, 
     }
     let (first, behind) = next_line(text);
     match policy_of(first) {
-        None => read_from(alloc, &names, Policy::Level, text, 0),
-        Some(policy) => read_from(alloc, &names, policy, behind, 1),
+        None => read_from(alloc, names, Policy::Level, text, 0),
+        Some(policy) => read_from(alloc, names, policy, behind, 1),
     }
+}
+
+/// The steps of a file for a design: an optional first line that asks for an order, and then one step a line. Each value
+/// is that of a top input, and has its width.
+///
+/// Malformed comes exactly where some line is none of these, with the number of the first, or where there are more than
+/// 10,000 lines.
+pub fn read_steps(alloc: Global, design: &Design, text: &[u8]) -> Result<Steps, StepsFault>
+    ensures read { IfOk result (λ made. file_of (inputs_of design.now) text.now ≡ Ok (steps made)) }
+    ensures fitting { IfOk result (λ made. All (λ step. AreFitting design.now.signals.items step.items) made.steps.items) }
+    ensures malformed { IfErr result (λ fault. IsTold fault (file_of (inputs_of design.now) text.now)) }
+{
+    let names = Names::of(alloc, design)?;
+    read_with(alloc, &names, text)
 }

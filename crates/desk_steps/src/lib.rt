@@ -10,4 +10,4 @@ mod tests;
 mod value;
 
 pub use crate::file::{Steps, StepsFault, read_steps};
-pub use crate::line::Setting;
+pub use crate::names::top_name;

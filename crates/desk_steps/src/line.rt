@@ -10,18 +10,11 @@ ghost use Rattle.desk_steps.specs.Steps.{Setting as Plain, behind, set_signal, s
 use crate::cut::{cut_at, next_part};
 use crate::names::{Input, Names};
 use crate::value::value_bits;
-use rtl_bits::Vec4;
+use event_model::setting::Setting;
 use rtl_flat::expr::SigId;
 use rtl_tree::memory::Memory;
 use std::alloc::Global;
 use std::collections::BTreeMap;
-
-/// An input of the top, and the value that it is set to, which has its width.
-#[derive(Clone, Copy)]
-pub struct Setting {
-    pub signal: SigId,
-    pub value: Vec4,
-}
 
 /// The inputs that a line has set so far.
 #[derive(Drop)]

@@ -1,7 +1,7 @@
 //! The top inputs of a design by their names.
 
 ghost use Rattle.std.specs.Prelude.{◌≡◌, IfOk, OnOk};
-ghost use Rattle.desk_steps.specs.Names.{ahead, input_of, inputs_of, named, names_from, names_of, no_names, with_signal};
+ghost use Rattle.desk_steps.specs.Names.{ahead, input_of, inputs_of, named, names_from, names_of, no_names, top_name, with_signal};
 
 use crate::cut::behind;
 use rtl_flat::design::Design;
@@ -34,6 +34,13 @@ fn ahead(instances: &[Instance]) -> usize
         None => 0,
         Some((top, _)) => top.path.as_bytes().len() + 1,
     }
+}
+
+/// The name of a signal of the top: its path behind that of its instance and a dot.
+pub fn top_name<'a>(instances: &[Instance], signal: &'a Signal) -> &'a [u8]
+    ensures { result.now ≡ top_name instances.now signal.now }
+{
+    behind(signal.path.as_bytes(), ahead(instances))
 }
 
 impl Names {

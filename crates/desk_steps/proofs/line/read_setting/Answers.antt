@@ -1,4 +1,4 @@
-use Rattle.std.proofs.Common.{◌≡◌, ◌∙◌, ap, sym, subst, Option, IfOk}
+use Rattle.std.proofs.Common.{◌≡◌, ◌∙◌, ap, subst, Option, IfOk}
 use Rattle.std.specs.Option.{option_map}
 use Rattle.desk_steps.specs.Names.{names_of}
 use Rattle.desk_steps.specs.Steps.{Setting, cut_setting, set_signal, setting}

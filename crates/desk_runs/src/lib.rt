@@ -1,0 +1,7 @@
+//! What a simulator shows of a file of steps.
+#![tactic(auto)]
+
+mod lines;
+mod run;
+
+pub use crate::run::{Shown, simulate};
