@@ -15,7 +15,7 @@ use Rattle.sign_off.proofs.Up.{bring_up_of}
 use Rattle.desk.specs.declared.deliver.Stop.{Stop}
 use Rattle.desk.specs.declared.deliver.Stop.TheVariants.{Unread, NoFile, Memory}
 use Rattle.desk.specs.declared.deliver.Work.{Work}
-use Rattle.desk.specs.Words.{Order, Sign, order}
+use Rattle.desk.specs.Words.{Order, Sign, Simulate, is_sign, order}
 use Rattle.desk.specs.Delivery.{Outcome, Delivers, Finishes, IsWork, gave_up, no_file, outcome_of}
 use Rattle.desk.specs.Building.{AreSpelled, Front, Modules, Faulty, IsFront, built_of, elaborated_or_not, library}
 use Rattle.desk.specs.Outcome.{World, IsDone, IsOutcome, IsSigned, found_in, has_none, judged, not_judged, report_of, ruled_or_not}
@@ -78,8 +78,8 @@ has_none_is (finding ∷ others) is = absurd (cc)
 
 -- the outcome 0 comes of a design without findings alone
 pub zero_is_clean : (words : List (List ℕ)) (world : World) (wanted : Outcome) (before now : Option (List ℕ))
-    → IsOutcome words world wanted → 0 ≡ wanted.status → Appends before now wanted.bytes → IsSignedClean words before now world
-zero_is_clean words world wanted before now is zero written = by_order (order words) refl is
+    → is_sign (order words) ≡ true → IsOutcome words world wanted → 0 ≡ wanted.status → Appends before now wanted.bytes → IsSignedClean words before now world
+zero_is_clean words world wanted before now asked is zero written = by_order (order words) refl is
   where
     clash : {P : Type 0} (status : ℕ) → wanted.status ≡ status → 0 ≢ status → P
     clash status same other = absurd (other (zero ∙ same))
@@ -137,10 +137,11 @@ zero_is_clean words world wanted before now is zero written = by_order (order wo
     by_order : (o : Option Order) → order words ≡ o → IsDone world o wanted → IsSignedClean words before now world
     by_order None command outcome = clash 3 (ap (λ o. o.status) outcome) (λ same. omega (arith, same))
     by_order (Some (Sign top files)) command outcome = by_texts top files command (texts_of world.files files) refl outcome
+    by_order (Some (Simulate top steps files)) command outcome = absurd (let no : false ≡ true = ap is_sign (sym command) ∙ asked in cc)
 
 -- the headline from the answer 0
-pub signed_clean : (words : List (List ℕ)) (world : World) (before now : Option (List ℕ)) → IsAnswered words 0 before now world → IsSignedClean words before now world
-signed_clean words world before now is =
+pub signed_clean : (words : List (List ℕ)) (world : World) (before now : Option (List ℕ)) → is_sign (order words) ≡ true → IsAnswered words 0 before now world → IsSignedClean words before now world
+signed_clean words world before now asked is =
     let wanted = is.answered refl in
     let not_five : 0 ≢ 5 = λ same. omega (arith, same) in
-    zero_is_clean words world wanted.0 before now wanted.1 (wanted.2.exact not_five) (wanted.2.whole not_five)
+    zero_is_clean words world wanted.0 before now asked wanted.1 (wanted.2.exact not_five) (wanted.2.whole not_five)

@@ -1,9 +1,9 @@
 -- The answer of the desk, over the world that is told or some world.
-use Rattle.std.proofs.Common.{◌≡◌, ℕ, List, Option, None, Some, Result, false, sym, ap, subst}
+use Rattle.std.proofs.Common.{◌≡◌, ℕ, List, Option, None, Some, Result, true, false, sym, ap, subst}
 use Rattle.desk_io.specs.Shelf.{Files}
 use Rattle.desk.specs.declared.deliver.Stop.{Stop}
 use Rattle.desk.specs.declared.deliver.Work.{Work}
-use Rattle.desk.specs.Words.{Order, order}
+use Rattle.desk.specs.Words.{Order, is_sign, order}
 use Rattle.desk.specs.Delivery.{Delivers, Finishes, IsWork, gave_up}
 use Rattle.desk.specs.Outcome.{IsDone, usage}
 use Rattle.desk.specs.Answers.{OverWorld, IsAnswered, IsSignedClean}
@@ -29,7 +29,7 @@ over_usage files words bytes status before now is same done delivers =
 
 -- the status 0 carries the headline
 pub over_signed_clean : (files : Option Files) (words : List (List ℕ)) (status : ℕ) (before now : Option (List ℕ))
-    → OverWorld files (IsAnswered words status before now) → status ≡ 0 → OverWorld files (IsSignedClean words before now)
-over_signed_clean files words status before now over zero =
+    → OverWorld files (IsAnswered words status before now) → is_sign (order words) ≡ true → status ≡ 0 → OverWorld files (IsSignedClean words before now)
+over_signed_clean files words status before now over asked zero =
     over_map {P = IsAnswered words status before now} {Q = IsSignedClean words before now} files over
-    (λ world is. signed_clean words world before now (subst (λ (n : ℕ). IsAnswered words n before now world) zero is))
+    (λ world is. signed_clean words world before now asked (subst (λ (n : ℕ). IsAnswered words n before now world) zero is))

@@ -22,7 +22,7 @@ use Rattle.desk.specs.declared.deliver.Work.{Work}
 use Rattle.desk.specs.declared.front.Built.{Built as Made}
 use Rattle.desk.specs.Building.{AreSpelled, Built, Modules, IsBuilt, built, elaborated_or_not, library}
 use Rattle.desk.specs.Delivery.{Outcome, IsWork}
-use Rattle.desk.specs.Outcome.{IsJudged, found_in, has_none, judged, not_judged, refused, ruled, ruled_or_not}
+use Rattle.desk.specs.Outcome.{IsJudged, IsStepped, IsTried, found_in, has_none, judged, not_judged, refused, ruled, ruled_or_not}
 use Rattle.desk.proofs.Answered.{work_map}
 
 pub library_is : (files : List (Vec Module Global)) (set : ModuleSet) → findings_of set ≡ found (all_placed (circuits_of files)) → library_of files set ≡ library (circuits_of files)
@@ -40,6 +40,13 @@ pub judged_of : (top : List ℕ) (s t : List Source) (texts : List (List ℕ)) (
 judged_of top s t texts b work same made is =
     work_map {P = λ outcome. outcome ≡ judged top s b} {Q = IsJudged top t texts} work is
     (λ outcome it. record { built = b; is_built = subst (λ (all : List Source). IsBuilt top all texts b) same made; is = it ∙ ap (λ (all : List Source). judged top all b) same })
+
+-- the answer for steps over what texts make
+pub stepped_of : (top : List ℕ) (s t : List Source) (texts : List (List ℕ)) (steps : List ℕ) (b : Built) (work : Result Work Stop) → s ≡ t → IsBuilt top s texts b
+    → IsWork (IsTried steps b) work → IsWork (IsStepped top t texts steps) work
+stepped_of top s t texts steps b work same made is =
+    work_map {P = IsTried steps b} {Q = IsStepped top t texts steps} work is
+    (λ outcome it. record { built = b; is_built = subst (λ (all : List Source). IsBuilt top all texts b) same made; is = it })
 
 -- ---- rulings
 

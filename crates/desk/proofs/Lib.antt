@@ -4,3 +4,4 @@ pub mod Reading
 pub mod Answered
 pub mod Answering
 pub mod Buildings
+pub mod Ordered

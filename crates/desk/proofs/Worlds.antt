@@ -1,5 +1,5 @@
 -- Facts over the world that is told, or over some world.
-use Rattle.std.proofs.Common.{◌≡◌, ◌≢◌, ℕ, ◌≤◌, List, [], ◌∷◌, length, map, Option, None, Some, Result, Ok, Err, Vec, String, vec_len, Bool, true, false, cond, not, refl, sym, ◌∙◌, ap, subst, arith}
+use Rattle.std.proofs.Common.{◌≡◌, ◌≢◌, ℕ, ◌≤◌, List, [], ◌∷◌, length, map, Option, None, Some, Result, Ok, Err, Vec, String, IfOk, vec_len, Bool, true, false, cond, not, refl, sym, ◌∙◌, ap, subst, arith}
 use Rattle.std.specs.Prelude.{IfSome, bytes_eq, nat_le, ◌&&◌, ◌||◌}
 use Rattle.std.specs.List.{All, list_all, list_any}
 use Rattle.std.specs.declared.alloc.Global.{Global}
@@ -8,24 +8,42 @@ use Rattle.std.proofs.lemmas.List.Elements.{All-nil, All-cons, All-head, All-tai
 use Rattle.std.proofs.lemmas.Slice.Eq.{bytes_eq-Decides}
 use Rattle.desk_io.specs.declared.shelf.TheConstants.{MAX_FILE_BYTES}
 use Rattle.desk_io.specs.declared.shelf.ShelfFault.{ShelfFault}
-use Rattle.desk_io.specs.declared.shelf.ShelfFault.TheVariants.{TooLong}
-use Rattle.desk_io.specs.Shelf.{Files, no_files, reading, with_file}
+use Rattle.desk_io.specs.declared.shelf.ShelfFault.TheVariants.{Failed, Memory as NoMemory, NoSuchFile, TooLong}
+use Rattle.desk_io.specs.Shelf.{Files, IsReading, no_files, reading, with_file}
+use Rattle.desk_io.proofs.Readings.{some_reading}
 use Rattle.desk.specs.declared.deliver.Stop.{Stop}
 use Rattle.desk.specs.declared.deliver.Stop.TheVariants.{Memory, NoFile, Unread}
 use Rattle.desk.specs.declared.deliver.Work.{Work}
-use Rattle.desk.specs.Answers.{OverWorld}
-use Rattle.desk.specs.Delivery.{IsWork}
-use Rattle.desk.specs.Outcome.{World, IsJudged, IsSigned}
+use Rattle.desk.specs.Answers.{Agrees, OverWorld}
+use Rattle.desk.specs.Delivery.{IsWork, stop_of}
+use Rattle.desk.specs.Outcome.{World, IsJudged, IsSigned, IsSimulating, IsStepped}
 use Rattle.desk.specs.Texts.{named, texts_of, with_text}
 use Rattle.desk.specs.Words.{all_different, are_files, is_name, texts}
 
 pub over_map : {P Q : World → Type 0} (files : Option Files) → OverWorld files P → ((world : World) → P world → Q world) → OverWorld files Q
-over_map files over more = record { world = over.world; agrees = over.agrees; holds = more over.world over.holds }
+over_map files over more = record { world = over.world; agrees = over.agrees; agrees_before = over.agrees_before; holds = more over.world over.holds }
 
 -- a fact that holds of every world
 pub over_any : {P : World → Type 0} (files : Option Files) → ((world : World) → P world) → OverWorld files P
-over_any None all = record { world = record { files = no_files }; agrees = tt; holds = all (record { files = no_files }) }
-over_any (Some held) all = record { world = record { files = held }; agrees = refl; holds = all (record { files = held }) }
+over_any None all =
+    record { world = record { before = no_files; files = no_files }; agrees = tt; agrees_before = tt; holds = all (record { before = no_files; files = no_files }) }
+over_any (Some held) all =
+    record { world = record { before = held; files = held }; agrees = refl; agrees_before = refl; holds = all (record { before = held; files = held }) }
+
+-- the fact holds of the files that are told, or, where they aren't told, of some files
+pub record OverFiles (files : Option Files) (P : Files → Type 0) : Type 0 where
+  pub held : Files
+  pub agrees : Agrees files held
+  pub holds : P held
+
+pub over_files : {P : Files → Type 0} (files : Option Files) → OverFiles files P → OverWorld files (λ world. P world.files)
+over_files files over =
+    record { world = record { before = over.held; files = over.held }; agrees = over.agrees; agrees_before = over.agrees; holds = over.holds }
+
+-- facts of the files at two moments
+pub over_both : {P Q : Files → Type 0} (files : Option Files) → OverFiles files P → OverFiles files Q → OverWorld files (λ world. P world.before × Q world.files)
+over_both files before later =
+    record { world = record { before = before.held; files = later.held }; agrees = later.agrees; agrees_before = before.agrees; holds = (before.holds, later.holds) }
 
 -- ---- a world with given texts
 
@@ -71,18 +89,18 @@ all_there (name ∷ names) (text ∷ texts) different same short =
 -- ---- texts over the world
 
 pub over_texts : (files : Option Files) (names texts : List (List ℕ)) → IfSome files (λ held. texts_of held names ≡ Some texts)
-    → all_different names ≡ true → length texts ≡ length names → All (λ text. length text ≤ MAX_FILE_BYTES) texts → OverWorld files (λ world. texts_of world.files names ≡ Some texts)
+    → all_different names ≡ true → length texts ≡ length names → All (λ text. length text ≤ MAX_FILE_BYTES) texts → OverFiles files (λ held. texts_of held names ≡ Some texts)
 over_texts None names texts told different same short =
-    record { world = record { files = files_with names texts }; agrees = tt; holds = all_there names texts different same short }
-over_texts (Some held) names texts told different same short = record { world = record { files = held }; agrees = refl; holds = told }
+    record { held = files_with names texts; agrees = tt; holds = all_there names texts different same short }
+over_texts (Some held) names texts told different same short = record { held = held; agrees = refl; holds = told }
 
 some_name : (names : List (List ℕ)) → nat_le 1 (length names) ≡ true → texts_of no_files names ≡ None
 some_name [] some = absurd (cc)
 some_name (name ∷ names) some = refl
 
-pub over_missing : (files : Option Files) (names : List (List ℕ)) → IfSome files (λ held. texts_of held names ≡ None) → nat_le 1 (length names) ≡ true → OverWorld files (λ world. texts_of world.files names ≡ None)
-over_missing None names told some = record { world = record { files = no_files }; agrees = tt; holds = some_name names some }
-over_missing (Some held) names told some = record { world = record { files = held }; agrees = refl; holds = told }
+pub over_missing : (files : Option Files) (names : List (List ℕ)) → IfSome files (λ held. texts_of held names ≡ None) → nat_le 1 (length names) ≡ true → OverFiles files (λ held. texts_of held names ≡ None)
+over_missing None names told some = record { held = no_files; agrees = tt; holds = some_name names some }
+over_missing (Some held) names told some = record { held = held; agrees = refl; holds = told }
 
 -- ---- what a list of files gives
 
@@ -116,7 +134,7 @@ pub signed_texts : (files : Option Files) (top : List ℕ) (names : List (List �
     → IsWork (IsJudged top (named names (items made)) (items made)) work → OverWorld files (λ world. IsWork (IsSigned top names (texts_of world.files names)) work)
 signed_texts files top names made work told count short are is =
     over_map {P = λ world. texts_of world.files names ≡ Some (items made)} {Q = λ world. IsWork (IsSigned top names (texts_of world.files names)) work}
-    files (over_texts files names (items made) told (different_of names are) (count_items made ∙ count) (short_items made short))
+    files (over_files files (over_texts files names (items made) told (different_of names are) (count_items made ∙ count) (short_items made short)))
     (λ world read. subst (λ (o : Option (List (List ℕ))). IsWork (IsSigned top names o) work) (sym read) is)
 
 -- a file that isn't there is signed by that
@@ -124,7 +142,7 @@ pub signed_missing : (files : Option Files) (top : List ℕ) (names : List (List
     → OverWorld files (λ world. IsWork (IsSigned top names (texts_of world.files names)) (Err NoFile))
 signed_missing files top names told are =
     over_map {P = λ world. texts_of world.files names ≡ None} {Q = λ world. IsWork (IsSigned top names (texts_of world.files names)) (Err NoFile)}
-    files (over_missing files names told (some_of names are))
+    files (over_files files (over_missing files names told (some_of names are)))
     (λ world read. subst (λ (o : Option (List (List ℕ))). IsWork (IsSigned top names o) (Err NoFile)) (sym read) refl)
 
 -- nothing is said where the work was given up
@@ -147,3 +165,59 @@ signed_stop files top names NoFile told are = signed_missing files top names (mi
     missing (Some held) told = told refl
 signed_stop files top names Unread told are = signed_not files top names Unread (λ same. absurd cc)
 signed_stop files top names Memory told are = signed_not files top names Memory (λ same. absurd cc)
+
+-- ---- simulations
+
+-- a file that was read, or why it wasn't
+over_reading : (files : Option Files) (name : List ℕ) (answer : Result (Vec ℕ Global) ShelfFault)
+    → IfSome files (λ held. IsReading (reading (held name)) answer) → IfOk answer (λ bytes. vec_len bytes ≤ MAX_FILE_BYTES)
+    → OverFiles files (λ held. IsReading (reading (held name)) answer)
+over_reading None name answer told short =
+    let some = some_reading answer short in
+    record { held = λ wanted. some.0; agrees = tt; holds = some.1 }
+over_reading (Some held) name answer told short = record { held = held; agrees = refl; holds = told }
+
+pub stepped_texts : (files : Option Files) (top steps : List ℕ) (names : List (List ℕ)) (text : Vec ℕ Global) (bytes : List ℕ) (made : List (Vec ℕ Global)) (work : Result Work Stop)
+    → IfSome files (λ held. IsReading (reading (held steps)) (Ok text)) → vec_len text ≤ MAX_FILE_BYTES → bytes ≡ text.items
+    → IfSome files (λ held. texts_of held names ≡ Some (items made)) → length made ≡ length names → All (λ text. vec_len text ≤ MAX_FILE_BYTES) made → are_files names ≡ true
+    → IsWork (IsStepped top (named names (items made)) (items made) bytes) work → OverWorld files (λ world. IsWork (IsSimulating top names (reading (world.before steps)) (texts_of world.files names)) work)
+stepped_texts files top steps names text bytes made work had fits same told count short are is =
+    over_map {P = λ world. IsReading (reading (world.before steps)) (Ok text) × (texts_of world.files names ≡ Some (items made))} {Q = λ world. IsWork (IsSimulating top names (reading (world.before steps)) (texts_of world.files names)) work}
+    files (over_both files (over_reading files steps (Ok text) had fits) (over_texts files names (items made) told (different_of names are) (count_items made ∙ count) (short_items made short)))
+    (λ world both. subst (λ (r : Result (List ℕ) ShelfFault). IsWork (IsSimulating top names r (texts_of world.files names)) work) (sym both.0)
+    (subst (λ (o : Option (List (List ℕ))). IsWork (IsSimulating top names (Ok text.items) o) work) (sym both.1)
+    (subst (λ (all : List ℕ). IsWork (IsStepped top (named names (items made)) (items made) all) work) same is)))
+
+pub stepped_fault : (files : Option Files) (top steps : List ℕ) (names : List (List ℕ)) (fault : ShelfFault) → IfSome files (λ held. IsReading (reading (held steps)) (Err fault))
+    → OverWorld files (λ world. IsWork (IsSimulating top names (reading (world.before steps)) (texts_of world.files names)) (Err (stop_of fault)))
+stepped_fault files top steps names fault had =
+    over_map {P = λ world. IsReading (reading (world.before steps)) (Err fault) × Unit {0}} {Q = λ world. IsWork (IsSimulating top names (reading (world.before steps)) (texts_of world.files names)) (Err (stop_of fault))}
+    files (over_both {Q = λ held. Unit {0}} files (over_reading files steps (Err fault) had tt) (any files)) (by_fault fault)
+  where
+    any : (files : Option Files) → OverFiles files (λ held. Unit {0})
+    any None = record { held = no_files; agrees = tt; holds = tt }
+    any (Some held) = record { held = held; agrees = refl; holds = tt }
+
+    by_fault : (fault : ShelfFault) (world : World) → IsReading (reading (world.before steps)) (Err fault) × Unit {0}
+        → IsWork (IsSimulating top names (reading (world.before steps)) (texts_of world.files names)) (Err (stop_of fault))
+    by_fault Failed world both = tt
+    by_fault NoMemory world both = tt
+    by_fault NoSuchFile world both = rw both.0 refl
+    by_fault TooLong world both = rw both.0 refl
+
+-- the stop of files that weren't read
+pub stepped_stop : (files : Option Files) (top steps : List ℕ) (names : List (List ℕ)) (text : Vec ℕ Global) (stop : Stop)
+    → IfSome files (λ held. IsReading (reading (held steps)) (Ok text)) → vec_len text ≤ MAX_FILE_BYTES
+    → IfSome files (λ held. gone stop ≡ Err NoFile → texts_of held names ≡ None) → are_files names ≡ true
+    → OverWorld files (λ world. IsWork (IsSimulating top names (reading (world.before steps)) (texts_of world.files names)) (Err stop))
+stepped_stop files top steps names text Unread had fits told are = over_any {P = λ world. IsWork (IsSimulating top names (reading (world.before steps)) (texts_of world.files names)) (Err Unread)} files (λ world. tt)
+stepped_stop files top steps names text Memory had fits told are = over_any {P = λ world. IsWork (IsSimulating top names (reading (world.before steps)) (texts_of world.files names)) (Err Memory)} files (λ world. tt)
+stepped_stop files top steps names text NoFile had fits told are =
+    over_map {P = λ world. IsReading (reading (world.before steps)) (Ok text) × (texts_of world.files names ≡ None)} {Q = λ world. IsWork (IsSimulating top names (reading (world.before steps)) (texts_of world.files names)) (Err NoFile)}
+    files (over_both files (over_reading files steps (Ok text) had fits) (over_missing files names (missing files told) (some_of names are)))
+    (λ world both. subst (λ (r : Result (List ℕ) ShelfFault). IsWork (IsSimulating top names r (texts_of world.files names)) (Err NoFile)) (sym both.0)
+    (subst (λ (o : Option (List (List ℕ))). IsWork (IsSimulating top names (Ok text.items) o) (Err NoFile)) (sym both.1) refl))
+  where
+    missing : (files : Option Files) → IfSome files (λ held. gone NoFile ≡ Err NoFile → texts_of held names ≡ None) → IfSome files (λ held. texts_of held names ≡ None)
+    missing None told = tt
+    missing (Some held) told = told refl

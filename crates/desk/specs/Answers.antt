@@ -23,6 +23,7 @@ Agrees (Some told) value = told ≡ value
 pub record OverWorld (files : Option Files) (P : World → Type 0) : Type 0 where
   pub world : World
   pub agrees : Agrees files world.files
+  pub agrees_before : Agrees files world.before
   pub holds : P world
 
 -- the words' outcome in this world is delivered, or nothing is written where a read failed or memory ran out

@@ -2,11 +2,13 @@
 use Rattle.std.specs.Prelude.{◌≡◌, true}
 use Rattle.desk.specs.declared.words.Command.{Command}
 use Rattle.desk.specs.declared.words.Command.TheVariants as code
-use Rattle.desk.specs.Words.{Order, Sign, are_files, texts}
+use Rattle.desk.specs.Words.{Order, Sign, Simulate, are_files, texts}
 
 abbrev pub order_of : Command → Order
 order_of (code.Sign top files) = Sign top.now (texts files.now)
+order_of (code.Simulate top steps files) = Simulate top.now steps.now (texts files.now)
 
 -- the files of a command are a list of files
 abbrev pub HasFiles : Order → Type 0
 HasFiles (Sign top files) = are_files files ≡ true
+HasFiles (Simulate top steps files) = are_files files ≡ true

@@ -4,7 +4,7 @@ use Rattle.std.specs.Io.KnownBytes.{Appends}
 use Rattle.desk_io.specs.declared.shelf.ShelfFault.{ShelfFault}
 use Rattle.desk_io.specs.declared.shelf.ShelfFault.TheVariants as fault
 use Rattle.desk.specs.declared.deliver.Ending.{Ending}
-use Rattle.desk.specs.declared.deliver.Ending.TheVariants.{Clean, Open, Refused, NoCommand}
+use Rattle.desk.specs.declared.deliver.Ending.TheVariants.{Clean, Open, Refused, NoCommand, Settled, Unsettled, Malformed}
 use Rattle.desk.specs.declared.deliver.Stop.{Stop}
 use Rattle.desk.specs.declared.deliver.Stop.TheVariants.{Unread, NoFile, Memory}
 use Rattle.desk.specs.declared.deliver.Work.{Work}
@@ -19,6 +19,9 @@ status_of Clean = 0
 status_of Open = 1
 status_of Refused = 2
 status_of NoCommand = 3
+status_of Settled = 0
+status_of Unsettled = 11
+status_of Malformed = 12
 
 abbrev pub stop_status : Stop → ℕ
 stop_status Unread = 4

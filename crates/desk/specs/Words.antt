@@ -3,9 +3,10 @@ use Rattle.std.specs.Prelude.{ℕ, ◌==◌, nat_le, List, [], ◌∷◌, length
 use Rattle.std.specs.List.{list_all, list_any}
 use Rattle.std.specs.declared.alloc.Global.{Global}
 
--- a command: `sign TOP FILE..`
+-- a command: `sign TOP FILE..`, or `simulate TOP STEPS FILE..`
 pub data Order : Type 0 where
   Sign : (top : List ℕ) (files : List (List ℕ)) → Order
+  Simulate : (top steps : List ℕ) (files : List (List ℕ)) → Order
 
 -- the words as lists of bytes
 abbrev pub texts : List (String Global) → List (List ℕ)
@@ -30,7 +31,22 @@ abbrev pub sign_order : List (List ℕ) → Option Order
 sign_order [] = None
 sign_order (top ∷ files) = if is_name top && are_files files then Some (Sign top files) else None
 
+abbrev pub simulate_order : List (List ℕ) → Option Order
+simulate_order [] = None
+simulate_order (top ∷ []) = None
+simulate_order (top ∷ steps ∷ files) =
+    if is_name top && (is_name steps && are_files files) then Some (Simulate top steps files) else None
+
 -- the command that the words are, if they are one
 abbrev pub order : List (List ℕ) → Option Order
 order [] = None
-order (name ∷ rest) = if bytes_eq name (codes "sign") then sign_order rest else None
+order (name ∷ rest) =
+    if bytes_eq name (codes "sign") then sign_order rest
+    else if bytes_eq name (codes "simulate") then simulate_order rest
+    else None
+
+-- whether a command asks for a ruling
+abbrev pub is_sign : Option Order → Bool
+is_sign None = false
+is_sign (Some (Sign top files)) = true
+is_sign (Some (Simulate top steps files)) = false

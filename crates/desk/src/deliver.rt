@@ -21,6 +21,12 @@ pub enum Ending {
     Refused,
     /// The words are no command.
     NoCommand,
+    /// Each step of a simulation came to rest.
+    Settled,
+    /// A step didn't come to rest within its budget.
+    Unsettled,
+    /// The file of steps has a line that is none.
+    Malformed,
 }
 
 /// Why work was not done.
@@ -75,6 +81,9 @@ impl Ending {
             Ending::Open => 1,
             Ending::Refused => 2,
             Ending::NoCommand => 3,
+            Ending::Settled => 0,
+            Ending::Unsettled => 11,
+            Ending::Malformed => 12,
         }
     }
 }

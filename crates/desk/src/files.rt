@@ -35,8 +35,8 @@ pub fn read_texts<F: Shelf>(
     Ok(made)
 }
 
-// How a file that wasn't read stops the work.
-fn stop_of(fault: ShelfFault) -> Stop
+/// How a file that wasn't read stops the work.
+pub fn stop_of(fault: ShelfFault) -> Stop
     ensures { result ≡ stop_of fault }
 {
     match fault {

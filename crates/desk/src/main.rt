@@ -5,6 +5,7 @@ mod deliver;
 mod files;
 mod front;
 mod sign;
+mod simulate;
 #[cfg(test)]
 mod tests;
 mod top;

@@ -5,6 +5,7 @@ mod elaboration;
 mod failures;
 mod refusals;
 mod reports;
+mod simulations;
 
 use crate::top::desk;
 use desk_io::{MemoryShelf, MemorySink};
@@ -70,4 +71,13 @@ fn check_all(rt: &(impl Abort + AllocGlobal), rows: &[Row<'_>]) -> Result<(), Fa
         check(rt, row, &mut shelf, &mut sink)?;
     }
     Ok(())
+}
+
+/// The status of a call and what it wrote.
+fn written_of(alloc: Global, row: &Row<'_>) -> Result<(u8, Vec<u8>), Fail> {
+    let mut shelf = shelf_of(alloc, row)?;
+    let mut sink = MemorySink::new(alloc);
+    let words = words_of(alloc, row)?;
+    let status = desk(alloc, &words, &mut shelf, &mut sink);
+    Ok((status, Vec::from_slice(alloc, sink.bytes())?))
 }

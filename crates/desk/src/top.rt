@@ -7,10 +7,11 @@ ghost use Rattle.desk.specs.Answers.{IsAnswered, IsSignedClean, OverWorld};
 ghost use Rattle.desk.specs.Commands.{HasFiles, order_of};
 ghost use Rattle.desk.specs.Delivery.{gave_up, IsWork};
 ghost use Rattle.desk.specs.Outcome.{IsDone};
-ghost use Rattle.desk.specs.Words.{order, texts};
+ghost use Rattle.desk.specs.Words.{is_sign, order, texts};
 
 use crate::deliver::{Ending, Stop, Work, deliver, finish};
 use crate::sign::sign;
+use crate::simulate::simulate;
 use crate::words::{Command, read_command};
 use desk_io::{Shelf, Sink};
 use std::alloc::Global;
@@ -20,15 +21,16 @@ const USAGE: &[u8] =
     b"usage: desk sign TOP FILE.. | simulate TOP STEPS FILE.. | replay TOP DEMO FILE.. | serve PORT COUNT | report TOP | generate N\n";
 
 /// Does what the words of the command line say, with the files of a shelf, writes to a sink, and answers the exit status:
-/// 0 where the module is signed clean, 1 where a rule has a finding, 2 where the source is refused, 3 where the words are
-/// no command, 4 where a read failed, 5 where a write failed, 9 where a file isn't there or is too long, and 20 where
-/// memory ran out.
+/// 0 where the module is signed clean, or where each step of a simulation came to rest; 1 where a rule has a finding, 2
+/// where the source is refused, 3 where the words are no command, 4 where a read failed, 5 where a write failed, 9 where a
+/// file isn't there or is too long, 11 where a step didn't come to rest within its budget, 12 where a line of the steps is
+/// none, and 20 where memory ran out.
 pub fn desk<F: Shelf, S: Sink>(alloc: Global, words: &[String], shelf: &mut F, out: &mut S) -> u8
     // What is answered and written, over the files that are told, or over some files.
     ensures answer { OverWorld (F.files shelf.old) (IsAnswered (texts words.now) result (S.taken out.old) (S.taken out.new)) }
 
     // The headline: what is signed clean shows in every simulation what its hardware shows.
-    ensures headline { result ≡ 0 → OverWorld (F.files shelf.old) (IsSignedClean (texts words.now) (S.taken out.old) (S.taken out.new)) }
+    ensures headline { is_sign (order (texts words.now)) ≡ true → result ≡ 0 → OverWorld (F.files shelf.old) (IsSignedClean (texts words.now) (S.taken out.old) (S.taken out.new)) }
 
     // Each failure has its cause.
     ensures unread { result ≡ UNREAD → Rose (F.faults shelf.old) (F.faults shelf.new) }
@@ -52,5 +54,6 @@ fn run<F: Shelf>(alloc: Global, command: Command<'_>, shelf: &mut F) -> Result<W
 {
     match command {
         Command::Sign { top, files } => sign(alloc, top, files, shelf),
+        Command::Simulate { top, steps, files } => simulate(alloc, top, steps, files, shelf),
     }
 }

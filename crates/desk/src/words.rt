@@ -2,7 +2,7 @@
 
 ghost use Rattle.std.specs.Prelude.{◌≡◌, option_map, bytes_eq};
 ghost use Rattle.std.specs.List.{list_all, list_any};
-ghost use Rattle.desk.specs.Words.{all_different, are_files, is_name, order, sign_order, texts};
+ghost use Rattle.desk.specs.Words.{all_different, are_files, is_name, order, sign_order, simulate_order, texts};
 ghost use Rattle.desk.specs.Commands.{order_of};
 
 /// The most files that a command is given.
@@ -12,7 +12,16 @@ const MOST_FILES: usize = 64;
 #[derive(Clone, Copy)]
 pub enum Command<'a> {
     /// Rules the module of this name among those of these files.
-    Sign { top: &'a str, files: &'a [String] },
+    Sign {
+        top: &'a str,
+        files: &'a [String],
+    },
+    /// Runs the module of this name among those of these files through the steps of a file.
+    Simulate {
+        top: &'a str,
+        steps: &'a str,
+        files: &'a [String],
+    },
 }
 
 /// The command that the words are, if they are one.
@@ -20,10 +29,10 @@ pub fn read_command(words: &[String]) -> Option<Command<'_>>
     ensures { option_map order_of result ≡ order (texts words.now) }
 {
     let (name, rest) = words.split_first()?;
-    if name.as_str() == "sign" {
-        read_sign(rest)
-    } else {
-        None
+    match name.as_str() {
+        "sign" => read_sign(rest),
+        "simulate" => read_simulate(rest),
+        _ => None,
     }
 }
 
@@ -34,6 +43,22 @@ fn read_sign(words: &[String]) -> Option<Command<'_>>
     if is_name(top.as_str()) && are_files(files) {
         Some(Command::Sign {
             top: top.as_str(),
+            files,
+        })
+    } else {
+        None
+    }
+}
+
+fn read_simulate(words: &[String]) -> Option<Command<'_>>
+    ensures { option_map order_of result ≡ simulate_order (texts words.now) }
+{
+    let (top, rest) = words.split_first()?;
+    let (steps, files) = rest.split_first()?;
+    if is_name(top.as_str()) && (is_name(steps.as_str()) && are_files(files)) {
+        Some(Command::Simulate {
+            top: top.as_str(),
+            steps: steps.as_str(),
             files,
         })
     } else {

@@ -1,6 +1,6 @@
 //! Words, and files that aren't there.
 
-use super::{CLEAN, USAGE, Row, check_all};
+use super::{CLEAN, Row, USAGE, check_all};
 use std::test::Fail;
 
 const ROWS: [Row<'static>; 10] = [

@@ -27,7 +27,11 @@ fn a_read_that_fails_is_told(rt: HostRuntime) -> Result<(), Fail> {
 
 #[test]
 fn a_write_that_fails_is_told(rt: HostRuntime) -> Result<(), Fail> {
-    let row = clean_row("a sink that takes ten bytes and then fails", 5, "module top");
+    let row = clean_row(
+        "a sink that takes ten bytes and then fails",
+        5,
+        "module top",
+    );
     let mut shelf = shelf_of(rt.alloc(), &row)?;
     let mut sink = MemorySink::new(rt.alloc());
     sink.take_at_most(10);

@@ -2,7 +2,12 @@ use Rattle.std.proofs.Common.{refl}
 use Rattle.desk.specs.Commands.{order_of}
 use Rattle.desk.specs.Words.{texts}
 use Rattle.desk.proofs.Answering.{over_answered, over_signed_clean, over_usage}
+use Rattle.desk.proofs.Ordered.{has_files}
 use Rattle.desk.proofs.top.desk.Goals as goal
+
+pub run-requires : goal.run-requires
+run-requires g c =
+    has_files (texts c.args.words.now) (order_of c.in-Some.command) c.in-Some.ensures
 
 pub returns-in-None-clause-answer : goal.returns-in-None-clause-answer
 returns-in-None-clause-answer g c =
