@@ -29,13 +29,13 @@ use thiserror::Error;
 #[error("the step did not settle")]
 pub struct Unsettled;
 
-/// A simulator of a design. Only `EventSim::new` takes memory.
+/// A simulator of a design. Only `EventSim::new` takes memory, and an event costs time in what it changes and wakes.
 #[derive(Drop)]
 pub struct EventSim<'d> {
     fanout: Fanout<'d>,
     marks: Marks,
     costs: Costs,
-    /// What all events of one step may cost.
+    /// What all events of one step may cost: each costs 1, and a run 1 more for each nonblocking assignment in its body.
     budget: u64,
     /// What is left of it.
     left: u64,
@@ -54,7 +54,7 @@ impl<'d> EventSim<'d> {
     ghost use Rattle.event_queue.specs.Starts.{IsStart, start_of};
     ghost use Rattle.event_queue.specs.Sims.{IsDearAt, IsSame, IsSimOf, IsTakenAt, Runs, flat_of, is_stuck, left_of, level_of, state_of, work};
 
-    /// A simulator that begins at a start.
+    /// A simulator of a design that begins at a start. It fails only for want of memory.
     pub fn new(alloc: Global, design: &'d Design, start: &Start) -> Result<EventSim<'d>, Memory>
         requires { IsStart design.now start.now }
         ensures { IfOk result (λ sim. IsSimOf design.now (start_of (flat design.now) start.now) sim) }
@@ -140,8 +140,8 @@ impl<'d> EventSim<'d> {
         count(&self.fanout, &self.marks)
     }
 
-    /// Takes the active event before which so many are, unless it costs more than is left of the budget. After that no
-    /// event is taken and no step settles.
+    /// Takes the active event before which so many are. It answers `Unsettled` where that costs more than is left of the
+    /// budget: then no later event is taken, and no step settles.
     pub fn take(&mut self, place: usize) -> Result<(), Unsettled>
         requires there { place < length (active (flat_of self.old) (state_of self.old)) }
         ensures same { IsSame self.old self.new }
@@ -177,8 +177,8 @@ impl<'d> EventSim<'d> {
         self.left = self.budget;
     }
 
-    /// Offers values to top inputs, and takes the events that a policy takes until none is active, unless they cost more
-    /// than a step may cost. After a step that didn't settle no other does, and nothing changes.
+    /// Offers values to top inputs, and takes the events that a policy takes until none is active. It answers `Unsettled`
+    /// where the next one costs more than is left of the budget: then no later step settles, and nothing changes.
     pub fn step(&mut self, settings: &[Setting], policy: Policy) -> Result<(), Unsettled>
         requires allowed { AreAllowed (flat_of self.old) settings.now }
         requires settled { is_stuck self.old ≡ false → ((state_of self.old).activated ≡ []) × ((state_of self.old).delayed ≡ []) }
