@@ -31,10 +31,10 @@ pub record IsAnswered (words : List (List ℕ)) (status : ℕ) (before now : Opt
   pub answered : gave_up status ≡ false → (wanted : Outcome) × IsOutcome words world wanted × Delivers wanted status before now
   pub silent : gave_up status ≡ true → Appends before now []
 
--- The headline. The words are `sign TOP FILE..`; the files hold texts that spell modules, and no others; of these the module with the
--- top's name means a flat design; nothing in it is outside what is judged; it has no finding, which the report says;
--- simulation agrees with synthesis on that design, whatever the order of events and whatever the fill of what nothing
--- drives; and a bring-up reaches the states from which it does
+-- The headline. The words are `sign TOP FILE..`; the files hold texts that spell modules, and no others; of these
+-- the module with the top's name means a flat design; nothing in it is outside what is judged; it has no finding,
+-- which the report says; simulation agrees with synthesis on that design, whatever the order of events and
+-- whatever the fill of what nothing drives; and a bring-up reaches the states from which it does
 pub record IsSignedClean (words : List (List ℕ)) (before now : Option (List ℕ)) (world : World) : Type 0 where
   pub top : List ℕ
   pub files : List (List ℕ)
