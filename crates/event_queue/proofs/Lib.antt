@@ -8,3 +8,4 @@ pub mod Offered
 pub mod Paying
 pub mod Running
 pub mod Beginning
+pub mod Sampled

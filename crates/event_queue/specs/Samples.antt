@@ -1,5 +1,5 @@
 -- A small design for tests: a net copies an input, and a variable takes the net at a rising clock.
-use Rattle.std.specs.Prelude.{◌≡◌, true, false, [], ◌∷◌, length}
+use Rattle.std.specs.Prelude.{◌≡◌, true, false, [], ◌∷◌, length, map}
 use Rattle.rtl_bits.specs.declared.Edge.TheVariants.{Pos}
 use Rattle.rtl_flat.specs.Expression.{Sized}
 use Rattle.rtl_flat.specs.Expression as tree
@@ -19,13 +19,14 @@ abbrev pub stored : Doing
 stored =
     Edge' (record { signal = 0; selection = Whole; edge = Pos; spot = spot } ∷ []) (Then (Set (record { signal = 3; selection = Whole; spot = spot } ∷ []) (Sized 4 false spot (tree.Whole 2)) true spot) Done)
 
--- whether a design has its inputs and as many signals
+-- whether a design has its inputs, and signals of these widths
 pub record IsSample (d : Flat) : Type 0 where
   pub count : length d.signals ≡ 4
   pub clock : is_input d 0 ≡ true
   pub clock_width : widths d 0 ≡ 1
   pub input : is_input d 1 ≡ true
   pub input_width : widths d 1 ≡ 4
+  pub sizes : map (λ s. s.width) d.signals ≡ 1 ∷ 4 ∷ 4 ∷ 4 ∷ []
 
 -- whether a simulator has settled
 pub record IsSettled (sim : EventSim) : Type 0 where

@@ -1,4 +1,4 @@
-ghost use Rattle.std.specs.Prelude.{◌≡◌, ◌≤◌, length, IfOk};
+ghost use Rattle.std.specs.Prelude.{◌≡◌, ◌≤◌, ◌∷◌, [], length, map, IfOk};
 ghost use Rattle.event_model.specs.Queue.{flat};
 ghost use Rattle.event_tables.specs.Samples.{IsDoing, IsOf};
 ghost use Rattle.event_queue.specs.Offers.{AreAllowed};
@@ -21,6 +21,10 @@ use std::alloc::Global;
 use std::test::Fail;
 
 const SPOT: Spot = Spot { file: 0, at: 0 };
+
+const CLOCK: SigId = SigId(0);
+
+const A: SigId = SigId(1);
 
 const N: SigId = SigId(2);
 
@@ -225,5 +229,39 @@ fn a_net_follows_its_input_event_by_event(rt: HostRuntime) -> Result<(), Fail> {
     assert!(rt; take(&mut sim, 1, 0)?);
     assert_eq!(rt; sim.choices(), 0);
     assert_eq!(rt; shown(&sim, N), Some(3));
+    Ok(())
+}
+
+// A low clock, a net that has what the input has, and another number in the variable.
+fn held(alloc: Global) -> Result<Vec<Vec4>, Memory>
+    ensures { IfOk result (λ values. map length values.items ≡ 1 ∷ 4 ∷ 4 ∷ 4 ∷ []) }
+{
+    let clock = Vec4::of_number(1, 0);
+    let a = Vec4::of_number(4, 5);
+    let q = Vec4::of_number(4, 9);
+    Ok(vec![in alloc; clock, a, a, q]?)
+}
+
+// A simulator of the design that begins with these values.
+fn resting(alloc: Global, design: &Design) -> Result<EventSim<'_>, Memory>
+    requires { IsSample (flat design.now) }
+    ensures { IfOk result (λ sim. IsSettled sim) }
+{
+    let values = held(alloc)?;
+    EventSim::new(alloc, design, &Start::Values(values))
+}
+
+#[test]
+fn nothing_is_to_be_done_where_a_settled_design_begins(rt: HostRuntime) -> Result<(), Fail> {
+    let alloc = rt.alloc();
+    let design = design(alloc)?;
+    let mut sim = resting(alloc, &design)?;
+    assert_eq!(rt; sim.choices(), 0);
+    assert_eq!(rt; shown(&sim, CLOCK), Some(0));
+    assert_eq!(rt; shown(&sim, A), Some(5));
+    assert_eq!(rt; shown(&sim, N), Some(5));
+    assert_eq!(rt; shown(&sim, Q), Some(9));
+    step(&mut sim, 1, 5, Policy::Level)?;
+    assert_eq!(rt; shown(&sim, Q), Some(5));
     Ok(())
 }
