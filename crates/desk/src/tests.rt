@@ -2,6 +2,7 @@
 
 mod commands;
 mod elaboration;
+mod events;
 mod failures;
 mod refusals;
 mod reports;
