@@ -3,5 +3,7 @@
 
 mod lines;
 mod run;
+#[cfg(test)]
+mod tests;
 
 pub use crate::run::{Shown, simulate};
