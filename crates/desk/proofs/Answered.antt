@@ -8,10 +8,7 @@ use Rattle.elab_flat.specs.Flats.{Flat}
 use Rattle.rtl_elab.specs.Elaborated.{elaborated}
 use Rattle.rtl_elab.proofs.Deciding.{elaborated_lawful}
 use Rattle.sign_off.specs.declared.finding.Finding.{Finding}
-use Rattle.sign_off.specs.Flat.{view}
-use Rattle.sign_off.proofs.Formed.{formed}
-use Rattle.sign_off.proofs.Clean.{agreement_of}
-use Rattle.sign_off.proofs.Up.{bring_up_of}
+use Rattle.sign_off.proofs.Signed.{agreement_of, bring_up_of}
 use Rattle.desk.specs.declared.deliver.Stop.{Stop}
 use Rattle.desk.specs.declared.deliver.Stop.TheVariants.{Unread, NoFile, Memory}
 use Rattle.desk.specs.declared.deliver.Work.{Work}
@@ -20,7 +17,7 @@ use Rattle.desk.specs.Delivery.{Outcome, Delivers, Finishes, IsWork, gave_up, no
 use Rattle.desk.specs.Building.{AreSpelled, Front, Modules, Faulty, IsFront, built_of, elaborated_or_not, library}
 use Rattle.desk.specs.Outcome.{World, IsDone, IsOutcome, IsSigned, found_in, has_none, judged, not_judged, report_of, ruled_or_not}
 use Rattle.desk.specs.Texts.{named, texts_of}
-use Rattle.desk.specs.Answers.{IsAnswered, IsSignedClean}
+use Rattle.desk.specs.Answers.{IsAnswered, IsSignedClean, queue_of}
 
 -- work that has one outcome has every other that follows from it
 pub work_map : {P Q : Outcome → Type 0} (work : Result Work Stop) → IsWork P work → ((outcome : Outcome) → P outcome → Q outcome) → IsWork Q work
@@ -90,7 +87,6 @@ zero_is_clean words world wanted before now asked is zero written = by_order (or
     by_findings top files texts circuits design command held spelled made built true none outcome =
         let clean : found_in design ≡ [] = has_none_is (found_in design) none in
         let lawful = elaborated_lawful (library circuits) top design made in
-        let fits = formed design.signals design.tasks design.delays design.dropped lawful.each_process built in
         record {
           top = top;
           files = files;
@@ -104,8 +100,8 @@ zero_is_clean words world wanted before now asked is zero written = by_order (or
           judged = built;
           clean = clean;
           reported = rw (← ap (λ o. o.bytes) outcome) written;
-          agrees = agreement_of (view design.signals design.tasks) fits clean;
-          brought_up = bring_up_of (view design.signals design.tasks) fits clean;
+          agrees = agreement_of (queue_of design) design.delays design.dropped lawful.each_process built clean;
+          brought_up = bring_up_of (queue_of design) design.delays design.dropped lawful.each_process built clean;
         }
     by_findings top files texts circuits design command held spelled made built false some outcome = clash 1 (ap (λ o. o.status) outcome) (λ same. omega (arith, same))
 

@@ -5,7 +5,7 @@ use Rattle.desk_io.specs.Shelf.{Files}
 use Rattle.rtl_tree.specs.TreeModule.{Circuit}
 use Rattle.elab_flat.specs.Flats.{Flat}
 use Rattle.rtl_elab.specs.Elaborated.{elaborated}
-use Rattle.sign_off.specs.Flat.{view}
+use Rattle.event_model.specs.Queue as queue
 use Rattle.sign_off.specs.Agree.{Agree}
 use Rattle.sign_off.specs.BringUp.{BringsUp}
 use Rattle.desk.specs.Delivery.{Outcome, Delivers, gave_up}
@@ -31,6 +31,10 @@ pub record IsAnswered (words : List (List ℕ)) (status : ℕ) (before now : Opt
   pub answered : gave_up status ≡ false → (wanted : Outcome) × IsOutcome words world wanted × Delivers wanted status before now
   pub silent : gave_up status ≡ true → Appends before now []
 
+-- a flat design as the event queue runs it
+abbrev pub queue_of : Flat → queue.Flat
+queue_of design = record { signals = design.signals; tasks = design.tasks }
+
 -- The headline. The words are `sign TOP FILE..`; the files hold texts that spell modules, and no others; of these
 -- the module with the top's name means a flat design; nothing in it is outside what is judged; it has no finding,
 -- which the report says; simulation agrees with synthesis on that design, whatever the order of events and
@@ -48,5 +52,5 @@ pub record IsSignedClean (words : List (List ℕ)) (before now : Option (List �
   pub judged : not_judged design ≡ None
   pub clean : found_in design ≡ []
   pub reported : Appends before now (report_of top (named files texts) design)
-  pub agrees : (fill : Bool) → Agree (view design.signals design.tasks) fill
-  pub brought_up : (fill : Bool) → BringsUp (view design.signals design.tasks) fill
+  pub agrees : (fill : Bool) → Agree (queue_of design) fill
+  pub brought_up : (fill : Bool) → BringsUp (queue_of design) fill

@@ -5,13 +5,17 @@ use Rattle.std.specs.List.{list_any, list_all, cons_option, filter_map, enumerat
 use Rattle.std.proofs.lemmas.Bool.{and_parts, and_cases, or_cases, or_left, or_right, eq-eqb, eqb-true, not-false, cases_order}
 use Rattle.sign_off.specs.declared.finding.Finding.{Finding}
 use Rattle.rtl_flat.specs.declared.signal.Signal.{Signal}
-use Rattle.sign_off.specs.Flat.{Home, Tree, Read, Not, Binary, Process, Assign, Flat, is_top_input, is_some_net, is_input, is_net, reads_inputs, is_fitting, is_well_formed}
+use Rattle.event_model.specs.Queue.{is_input_kind}
+use Rattle.sign_off.specs.Flat.{Home, Tree, Process, Assign, Flat, is_some_net, is_net, reads_inputs, is_fitting, is_well_formed}
 use Rattle.sign_off.specs.Findings.{may_write, found_if, several_drivers_at, several_drivers, undriven_at, undriven, findings}
-use Rattle.sign_off.specs.Queue.{Place, reads}
-use Rattle.sign_off.specs.Agree.{Agree}
 use Rattle.sign_off.proofs.Ordered.{none_ranked}
-use Rattle.sign_off.proofs.Held.{IsClean}
-use Rattle.sign_off.proofs.Sound.{agreement_of_clean}
+
+-- each net has one driver, inputs have none, and expressions read inputs
+pub record IsClean (design : Flat) : Type 0 where
+  pub targets : (p target : ℕ) (at : Home) (e : Tree) → slice_get design.processes p ≡ Some (Assign target e at) → IsTrue (is_net design.signals target)
+  pub sources : (p target : ℕ) (at : Home) (e : Tree) → slice_get design.processes p ≡ Some (Assign target e at) → IsTrue (reads_inputs design.signals e)
+  pub alone : (p q target : ℕ) (at at' : Home) (e e' : Tree) → slice_get design.processes p ≡ Some (Assign target e at) → slice_get design.processes q ≡ Some (Assign target e' at') → p ≡ q
+  pub driven : (i : ℕ) → IsTrue (is_net design.signals i) → (p : ℕ) × (at : Home) × (e : Tree) × (slice_get design.processes p ≡ Some (Assign i e at))
 
 -- lists
 empty_parts : {A : Type 0} (xs ys : List A) → xs ++ ys ≡ [] → (xs ≡ []) × (ys ≡ [])
@@ -63,17 +67,6 @@ not_found : (condition : Bool) (finding : Finding) → found_if condition findin
 not_found true finding none = absurd (cc)
 not_found false finding none = refl
 
--- what an expression reads
-reads_at : (signals : List Signal) (e : Tree) → reads_inputs signals e ≡ true → (i : Place) → IsTrue (reads e i) → IsTrue (is_input signals i)
-reads_at signals (Read signal) all i read = ap (is_input signals) (eqb-true i signal read) ∙ all
-reads_at signals (Not operand) all i read = reads_at signals operand all i read
-reads_at signals (Binary gate left right) all i read =
-    let parts = and_parts (reads_inputs signals left) (reads_inputs signals right) all in
-    elim (or_cases (reads left i) (reads right i) read) [
-      | inl on_left ↦ reads_at signals left parts.0 i on_left
-      | inr on_right ↦ reads_at signals right parts.1 i on_right
-    ]
-
 module _ (design : Flat) (well_formed : IsTrue (is_well_formed design)) (none : findings design ≡ []) where
   fits : (p target : ℕ) (at : Home) (e : Tree) → slice_get design.processes p ≡ Some (Assign target e at) → (IsTrue (is_net design.signals target)) × (IsTrue (reads_inputs design.signals e))
   fits p target at e here =
@@ -101,13 +94,13 @@ module _ (design : Flat) (well_formed : IsTrue (is_well_formed design)) (none : 
             ]
       ]
 
-  some_driver : (i : Place) (o : Option Signal) → slice_get design.signals i ≡ o → is_some_net o ≡ true → (p : ℕ) × (at : Home) × (e : Tree) × (slice_get design.processes p ≡ Some (Assign i e at))
+  some_driver : (i : ℕ) (o : Option Signal) → slice_get design.signals i ≡ o → is_some_net o ≡ true → (p : ℕ) × (at : Home) × (e : Tree) × (slice_get design.processes p ≡ Some (Assign i e at))
   some_driver i None is net = absurd (cc)
   some_driver i (Some signal) is net =
       let empty = (empty_parts (undriven design) (several_drivers design) (none_ranked (undriven design ++ several_drivers design) none)).0 in
       let number : 0 + i ≡ i = omega arith in
       let nothing = sym (ap (λ m. undriven_at design.processes (m, signal)) number) ∙ nothing_at (undriven_at design.processes) design.signals 0 i signal empty is in
-      let either = and_cases (not (is_top_input signal.kind)) (not (list_any (may_write i) design.processes)) (not_found _ _ nothing) in
+      let either = and_cases (not (is_input_kind signal.kind)) (not (list_any (may_write i) design.processes)) (not_found _ _ nothing) in
       let driven : list_any (may_write i) design.processes ≡ true =
       elim either [ inl input ↦ absurd (cc) | inr some ↦ not-false (list_any (may_write i) design.processes) some ] in
       by_process (any_found (may_write i) design.processes driven)
@@ -123,11 +116,7 @@ module _ (design : Flat) (well_formed : IsTrue (is_well_formed design)) (none : 
   is_clean =
       record {
         targets = λ p target at e here. (fits p target at e here).0;
-        sources = λ p target at e here. reads_at design.signals e (fits p target at e here).1;
+        sources = λ p target at e here. (fits p target at e here).1;
         alone = one_driver;
         driven = λ i net. some_driver i (slice_get design.signals i) refl net;
       }
-
--- a design without findings agrees, for either fill
-pub agreement_of : (design : Flat) → IsTrue (is_well_formed design) → findings design ≡ [] → (fill : Bool) → Agree design fill
-agreement_of design well_formed none fill = agreement_of_clean design (is_clean design well_formed none) fill

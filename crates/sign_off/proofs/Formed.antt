@@ -1,5 +1,5 @@
 -- A design that isn't refused fits its signals.
-use Rattle.std.proofs.Common.{◌≡◌, ℕ, Bool, true, false, not, refl, sym, ap, ◌∙◌, Option, Some, None, List, [], ◌∷◌, map}
+use Rattle.std.proofs.Common.{◌≡◌, Bool, true, false, not, refl, ap, ◌∙◌, Option, Some, None, List, [], ◌∷◌, map}
 use Rattle.std.specs.Prelude.{◌&&◌, cond, slice_get, IsTrue, Vec}
 use Rattle.std.specs.declared.alloc.Global.{Global}
 use Rattle.std.specs.List.{All, find, list_all}
@@ -20,7 +20,8 @@ use Rattle.rtl_flat.specs.Process as part
 use Rattle.rtl_flat.specs.Signs.{Has}
 use Rattle.rtl_flat.specs.WellFormed.{IsProcess}
 use Rattle.rtl_flat.proofs.Rows.{concat_at}
-use Rattle.sign_off.specs.Flat.{gates, is_fitting, is_net, is_some_net, is_top_input, is_well_formed, process_of, reads_inputs, target_in, value_in, view}
+use Rattle.event_model.specs.Queue.{is_input_kind}
+use Rattle.sign_off.specs.Flat.{gates, is_fitting, is_net, is_some_net, is_well_formed, process_of, reads_inputs, target_in, value_in, view}
 use Rattle.sign_off.specs.Built.{is_built, is_complement, is_gate, is_gates, is_one_whole, first_delay, first_dropped, not_built, refused_process, refused_signal}
 
 -- a test of plain forms finds the plain form of what it finds
@@ -75,7 +76,7 @@ reads_of signals (sized.Recast a) is = absurd (cc)
 -- what is assigned continuously is a net
 net_of : (o : Option Signal) → IsSomeAnd o (λ s. s.kind ≡ Net) → is_some_net o ≡ true
 net_of None is = absurd is
-net_of (Some signal) is = ap (λ kind. not (is_top_input kind)) is
+net_of (Some signal) is = ap (λ kind. not (is_input_kind kind)) is
 
 fits_of : (signals : List Signal) (d : Doing) → IsProcess signals d → is_built signals d ≡ true → (is_net signals (target_in d) && reads_inputs signals (value_in d)) ≡ true
 fits_of signals (part.Assign [] value) lawful built = absurd (cc)
@@ -104,11 +105,11 @@ all_fit signals (task ∷ tasks) lawful none =
     (fits_of signals task.does (All-head (λ (one : Task). IsProcess signals one.does) task tasks lawful) first.0)
     (all_fit signals tasks (All-tail (λ (one : Task). IsProcess signals one.does) task tasks lawful) first.1)
 
-neither : {A : Type 0} (a b : Option A) → option_or a b ≡ None → (a ≡ None) × (b ≡ None)
+pub neither : {A : Type 0} (a b : Option A) → option_or a b ≡ None → (a ≡ None) × (b ≡ None)
 neither None b none = (refl, none)
 neither (Some x) b none = absurd (cc)
 
-unmapped : {A B : Type 0} (f : A → B) (o : Option A) → option_map f o ≡ None → o ≡ None
+pub unmapped : {A B : Type 0} (f : A → B) (o : Option A) → option_map f o ≡ None → o ≡ None
 unmapped f None none = refl
 unmapped f (Some x) none = absurd (cc)
 

@@ -1,181 +1,231 @@
 -- Where each net has one driver: what holds from the offering of a step on, up to rest.
-use Rattle.std.proofs.Common.{◌≡◌, ℕ, Bool, zero, suc, ◌+◌, true, not, refl, sym, ap, ◌∙◌, Option, Some, None, List, [], ◌∷◌, inl, inr, arith}
-use Rattle.std.specs.Prelude.{slice_get, unwrap_or, IsTrue, ◌≢◌}
-use Rattle.std.proofs.lemmas.Bool.{cases_eq, eq-eqb, ne_eqb}
+use Rattle.std.proofs.Common.{◌≡◌, ℕ, ◌+◌, true, not, refl, sym, ap, ◌∙◌, Option, Some, None, List, [], ◌∷◌, length, inl, inr, arith}
+use Rattle.std.specs.Prelude.{slice_get, unwrap_or, IsTrue, IsSome, ◌≢◌}
+use Rattle.std.proofs.lemmas.Bool.{cases_eq}
 use Rattle.rtl_bits.specs.declared.Bit.{Bit}
-use Rattle.rtl_bits.specs.declared.Bit.TheVariants.{Zero, One, X, Z}
-use Rattle.rtl_bits.specs.Bit.{resolve_bit}
+use Rattle.rtl_bits.specs.Bit.{known_bit}
+use Rattle.rtl_bits.specs.Bits.{replaced, selected}
+use Rattle.rtl_tree.specs.declared.text.Spot.{Spot}
 use Rattle.rtl_flat.specs.declared.signal.Signal.{Signal}
-use Rattle.sign_off.specs.Flat.{Home, Tree, Process, Assign, Flat, is_some_input, is_some_net, is_input, is_net}
-use Rattle.sign_off.specs.Queue.{Place, Values, Write, State, Event, Input, Evaluate, Update, Delayed, Activate, IsThere, put, reads, after_input, after_evaluate, after_update, after_delayed, after, resolved_from, resolved, run, CanRun}
-use Rattle.sign_off.specs.Meaning.{Step}
-use Rattle.sign_off.specs.Agree.{newest, offer}
-use Rattle.sign_off.proofs.Basic.{put_at, put_other}
-use Rattle.sign_off.proofs.Ready.{IsReady, ready_after}
-
--- each net has one driver, inputs have none, and expressions read inputs
-pub record IsClean (design : Flat) : Type 0 where
-  pub targets : (p target : ℕ) (at : Home) (e : Tree) → slice_get design.processes p ≡ Some (Assign target e at) → IsTrue (is_net design.signals target)
-  pub sources : (p target : ℕ) (at : Home) (e : Tree) → slice_get design.processes p ≡ Some (Assign target e at) → (i : Place) → IsTrue (reads e i) → IsTrue (is_input design.signals i)
-  pub alone : (p q target : ℕ) (at at' : Home) (e e' : Tree) → slice_get design.processes p ≡ Some (Assign target e at) → slice_get design.processes q ≡ Some (Assign target e' at') → p ≡ q
-  pub driven : (i : Place) → IsTrue (is_net design.signals i) → (p : ℕ) × (at : Home) × (e : Tree) × (slice_get design.processes p ≡ Some (Assign i e at))
+use Rattle.rtl_flat.specs.Expression.{Tree}
+use Rattle.rtl_flat.specs.Process.{Doing, Assign, Comb, Edge'}
+use Rattle.event_model.specs.Writes.{Write, put}
+use Rattle.event_model.specs.Queue.{Flat, State, Event, Input, Evaluate, Update, Run, Delayed, Activate, IsThere, CanRun, after, run, after_input, after_evaluate, after_update, after_delayed, drive, doing_at, is_body, is_input, is_input_of, resolved, widths}
+use Rattle.event_laws.specs.Steady.{IsSteady}
+use Rattle.event_laws.proofs.Lengths.{put_at, put_other}
+use Rattle.sign_off.specs.Flat.{is_net, is_some_net, target_in}
+use Rattle.sign_off.specs.Meaning.{Setting, Step}
+use Rattle.sign_off.specs.Agree.{bits, offered}
+use Rattle.sign_off.proofs.Basic.{replaced_one}
+use Rattle.sign_off.proofs.Nets.{whole, IsToWhole, taken, taken_one, resolved_alone}
+use Rattle.sign_off.proofs.Judged.{IsDriver, IsJudged}
 
 -- no signal is an input and a net
-apart_signals : (o : Option Signal) → is_some_input o ≡ true → is_some_net o ≡ true → ⊥
+apart_signals : (o : Option Signal) → is_input_of o ≡ true → is_some_net o ≡ true → ⊥
 apart_signals None input net = absurd (cc)
 apart_signals (Some signal) input net = absurd (let other = ap not input in cc)
 
-pub apart : (signals : List Signal) (i j : Place) → IsTrue (is_input signals i) → IsTrue (is_net signals j) → i ≢ j
-apart signals i j input net same = apart_signals (slice_get signals i) input (ap (is_net signals) same ∙ net)
+pub apart : (d : Flat) (i j : ℕ) → IsTrue (is_input d i) → IsTrue (is_net d.signals j) → i ≢ j
+apart d i j input net same = apart_signals (slice_get d.signals i) input (ap (is_net d.signals) same ∙ net)
 
--- a net that nothing drives has z
-resolved_none : (k : ℕ) (ps : List Process) (driver : ℕ → Bit) (net : Place) → ((q target : ℕ) (at : Home) (e : Tree) → slice_get ps q ≡ Some (Assign target e at) → target ≢ net) → resolved_from k ps driver net ≡ Z
-resolved_none k [] driver net free = refl
-resolved_none k (Assign target e at ∷ ps) driver net free =
-    rw (ne_eqb target net (free 0 target at e refl)) (resolved_none (k + 1) ps driver net (λ q t a f h. free (suc q) t a f h))
+pub input_is_some : (o : Option Signal) → is_input_of o ≡ true → IsSome o
+input_is_some None input = absurd (cc)
+input_is_some (Some signal) input = refl
 
--- what one driver gives stands
-resolve_z : (b : Bit) → resolve_bit b Z ≡ b
-resolve_z Zero = refl
-resolve_z One = refl
-resolve_z X = refl
-resolve_z Z = refl
+pub net_is_some : (o : Option Signal) → is_some_net o ≡ true → IsSome o
+net_is_some None net = absurd (cc)
+net_is_some (Some signal) net = refl
 
--- a net with one driver follows it
-resolved_alone : (k : ℕ) (ps : List Process) (driver : ℕ → Bit) (p target : ℕ) (at : Home) (e : Tree) → slice_get ps p ≡ Some (Assign target e at) → ((q : ℕ) (at' : Home) (e' : Tree) → slice_get ps q ≡ Some (Assign target e' at') → q ≡ p) → resolved_from k ps driver target ≡ driver (k + p)
-resolved_alone k [] driver p target at e here alone = absurd (cc)
-resolved_alone k (Assign t f a ∷ ps) driver zero target at e here alone =
-    let same : t ≡ target = cc in
-    let others : (q t' : ℕ) (a' : Home) (f' : Tree) → slice_get ps q ≡ Some (Assign t' f' a') → t' ≢ target =
-    λ q t' a' f' there meets. absurd (let is = alone (suc q) a' f' (there ∙ ap (λ x. Some (Assign x f' a')) meets) in omega (arith, is)) in
-    rw (eq-eqb t target same)
-    (ap (resolve_bit (driver k)) (resolved_none (k + 1) ps driver target others) ∙ resolve_z (driver k) ∙ ap driver (let e0 : k ≡ k + 0 = omega arith in e0))
-resolved_alone k (Assign t f a ∷ ps) driver (suc p) target at e here alone =
-    let differs : t ≢ target =
-    λ meets. absurd (let is = alone 0 a f (ap (λ x. Some (Assign x f a)) meets) in omega (arith, is)) in
-    rw (ne_eqb t target differs)
-    (resolved_alone (k + 1) ps driver p target at e here (λ q a' f' there. let is = alone (suc q) a' f' there in let less : q ≡ p = omega arith in less)
-    ∙ ap driver (let e1 : k + 1 + p ≡ k + suc p = omega arith in e1))
-
-pub resolved_one : (design : Flat) → IsClean design → (driver : ℕ → Bit) (p target : ℕ) (at : Home) (e : Tree) → slice_get design.processes p ≡ Some (Assign target e at) → resolved design driver target ≡ driver p
-resolved_one design clean driver p target at e here =
-    resolved_alone 0 design.processes driver p target at e here (λ q at' e' there. clean.alone q p target at' at e' e there here)
-    ∙ ap driver (let e0 : 0 + p ≡ p = omega arith in e0)
+-- the signal that a process assigns
+abbrev target_at : Option Doing → ℕ
+target_at None = 0
+target_at (Some does) = target_in does
 
 -- what holds after a step was offered, until the next one is
-pub record IsGoing (design : Flat) (given : Values) (s : State) : Type 0 where
-  pub ready : IsReady design s
-  -- each net has what its driver has
-  pub held : (p target : ℕ) (at : Home) (e : Tree) → slice_get design.processes p ≡ Some (Assign target e at) → s.value target ≡ s.driver p
+pub record IsGoing (d : Flat) (given : ℕ → Bit) (s : State) : Type 0 where
+  pub steady : IsSteady d s
+  -- each net has what it takes of its driver
+  pub held : (p target : ℕ) (spot : Spot) (e : Tree) → IsDriver d p target spot e → s.value target ≡ taken (s.driver p)
   -- each input has the value that it was given last, or is offered it
-  pub inputs : (i : Place) → IsTrue (is_input design.signals i) → unwrap_or (s.offered i) (s.value i) ≡ given i
+  pub inputs : (i : ℕ) → IsTrue (is_input d i) → unwrap_or (s.offered i) (s.value i) ≡ given i ∷ []
   pub none_activated : s.activated ≡ []
   pub none_delayed : s.delayed ≡ []
 
-module _ (design : Flat) (clean : IsClean design) (given : Values) (s : State) (going : IsGoing design given s) where
-  going_input : (i : Place) → IsTrue (is_input design.signals i) → (o : Option Bit) → s.offered i ≡ o → IsReady design (after_input design s i o) → IsGoing design given (after_input design s i o)
-  going_input i input None is ready = going
-  going_input i input (Some b) is ready =
+module _ (d : Flat) (judged : IsJudged d) (given : ℕ → Bit) (s : State) (going : IsGoing d given s) where
+  -- the value of a signal is one bit
+  one_value : (i : ℕ) → IsSome (slice_get d.signals i) → length (s.value i) ≡ 1
+  one_value i some = going.steady.widths i some ∙ judged.one_bit i some
+
+  going_input : (i : ℕ) → IsTrue (is_input d i) → (o : Option (List Bit)) → s.offered i ≡ o → IsSteady d (after_input d s i o) → IsGoing d given (after_input d s i o)
+  going_input i input None is steady = going
+  going_input i input (Some all) is steady =
+      let offered : all ≡ given i ∷ [] = ap (λ o. unwrap_or o (s.value i)) (sym is) ∙ going.inputs i input in
+      let new : replaced 0 all (s.value i) ≡ given i ∷ [] =
+      ap (λ b. replaced 0 b (s.value i)) offered ∙ replaced_one (s.value i) (given i) (one_value i (input_is_some (slice_get d.signals i) input)) in
       record {
-        ready = ready;
-        held = λ p target at e here.
-            put_other s.value i target b (λ same. apart design.signals i target input (clean.targets p target at e here) (sym same))
-            ∙ going.held p target at e here;
+        steady = steady;
+        held = λ p target spot e here.
+            put_other s.value i target (replaced 0 all (s.value i)) (λ same. apart d i target input (judged.targets p target spot e here) (sym same))
+            ∙ going.held p target spot e here;
         inputs = λ j input'.
             elim (cases_eq j i) [
               | inl same ↦
-                  ap (λ o. unwrap_or o (put s.value i b j)) (ap (put s.offered i None) same ∙ put_at s.offered i None)
-                  ∙ ap (put s.value i b) same ∙ put_at s.value i b
-                  ∙ ap (λ o. unwrap_or o (s.value j)) (sym (ap s.offered same ∙ is))
-                  ∙ going.inputs j input'
+                  ap (λ o. unwrap_or o (put s.value i (replaced 0 all (s.value i)) j)) (put_at s.offered i j None same)
+                  ∙ put_at s.value i j (replaced 0 all (s.value i)) same
+                  ∙ new ∙ ap (λ k. given k ∷ []) (sym same)
               | inr other ↦
-                  ap (λ o. unwrap_or o (put s.value i b j)) (put_other s.offered i j None other)
-                  ∙ ap (unwrap_or (s.offered j)) (put_other s.value i j b other)
+                  ap (λ o. unwrap_or o (put s.value i (replaced 0 all (s.value i)) j)) (put_other s.offered i j None other)
+                  ∙ ap (unwrap_or (s.offered j)) (put_other s.value i j (replaced 0 all (s.value i)) other)
                   ∙ going.inputs j input'
             ];
         none_activated = going.none_activated;
         none_delayed = going.none_delayed;
       }
 
-  going_evaluate : (p : ℕ) (o : Option Process) → IsReady design (after_evaluate s p o) → IsGoing design given (after_evaluate s p o)
-  going_evaluate p None ready = going
-  going_evaluate p (Some (Assign target e at)) ready =
+  going_evaluate : (p : ℕ) (does : Doing) → IsToWhole does → IsSteady d (after_evaluate s p (Some does)) → IsGoing d given (after_evaluate s p (Some does))
+  going_evaluate p (Assign target e) form steady =
       record {
-        ready = ready;
+        steady = steady;
         held = going.held;
         inputs = going.inputs;
         none_activated = going.none_activated;
         none_delayed = going.none_delayed;
       }
+  going_evaluate p (Comb list body) form steady = going
+  going_evaluate p (Edge' events body) form steady = going
 
-  going_update : (p : ℕ) (o : Option Process) (new : Option Bit) → slice_get design.processes p ≡ o → IsReady design (after_update design s p o new) → IsGoing design given (after_update design s p o new)
-  going_update p None new is ready = going
-  going_update p (Some process) None is ready = going
-  going_update p (Some (Assign target e at)) (Some b) is ready =
-      let driver = put s.driver p b in
-      let net = resolved design driver target in
+  -- what a net has after its driver was updated
+  updated : (driver : ℕ → List Bit) (p target : ℕ) (spot : Spot) (e : Tree) → IsDriver d p target spot e → replaced 0 (selected 0 (widths d target) (resolved d driver target)) (s.value target) ≡ taken (driver p)
+  updated driver p target spot e here =
+      let some = net_is_some (slice_get d.signals target) (judged.targets p target spot e here) in
+      let one = judged.one_bit target some in
+      let alone = resolved_alone (widths d) target one 0 d.tasks driver judged.wholes p spot e here
+      (λ q spot' e' there. judged.alone q p target spot' spot e' e there here) in
+      let number : 0 + p ≡ p = omega arith in
+      let (b, is) = taken_one (driver p) in
+      ap (λ w. replaced 0 (selected 0 w (resolved d driver target)) (s.value target)) one
+      ∙ ap (λ all. replaced 0 (selected 0 1 all) (s.value target)) (alone ∙ ap (λ m. taken (driver m)) number ∙ is)
+      ∙ replaced_one (s.value target) b (one_value target some) ∙ sym is
+
+  going_drive : (p target : ℕ) (spot : Spot) (e : Tree) → IsDriver d p target spot e → (new : Option (List Bit)) → IsSteady d (drive d s p (whole target spot) new) → IsGoing d given (drive d s p (whole target spot) new)
+  going_drive p target spot e here None steady = going
+  going_drive p target spot e here (Some all) steady =
+      let driver = put s.driver p all in
+      let net = replaced 0 (selected 0 (widths d target) (resolved d driver target)) (s.value target) in
       record {
-        ready = ready;
-        held = λ q target' at' e' here.
+        steady = steady;
+        held = λ q target' spot' e' there.
             elim (cases_eq q p) [
               | inl same ↦
-                  let again : Some (Assign target e at) ≡ Some (Assign target' e' at') = sym is ∙ ap (slice_get design.processes) (sym same) ∙ here in
-                  let targets : target' ≡ target = cc in
-                  ap (put s.value target net) targets ∙ put_at s.value target net
-                  ∙ resolved_one design clean driver p target at e is ∙ ap driver (sym same)
+                  let again : Some (Assign (whole target spot) e) ≡ Some (Assign (whole target' spot') e') = sym here ∙ ap (doing_at d) (sym same) ∙ there in
+                  let targets : target' ≡ target = sym (ap target_at again) in
+                  put_at s.value target target' net targets
+                  ∙ updated driver p target spot e here ∙ ap (λ r. taken (driver r)) (sym same)
               | inr other ↦
                   put_other s.value target target' net
-                  (λ targets. other (clean.alone q p target at' at e' e (here ∙ ap (λ t. Some (Assign t e' at')) targets) is))
-                  ∙ going.held q target' at' e' here
-                  ∙ sym (put_other s.driver p q b other)
+                  (λ targets. other (judged.alone q p target spot' spot e' e (there ∙ ap (λ t. Some (Assign (whole t spot') e')) targets) here))
+                  ∙ going.held q target' spot' e' there
+                  ∙ ap taken (sym (put_other s.driver p q all other))
             ];
         inputs = λ j input.
-            ap (unwrap_or (s.offered j)) (put_other s.value target j net (apart design.signals j target input (clean.targets p target at e is)))
+            ap (unwrap_or (s.offered j)) (put_other s.value target j net (apart d j target input (judged.targets p target spot e here)))
             ∙ going.inputs j input;
         none_activated = going.none_activated;
         none_delayed = going.none_delayed;
       }
 
-  going_delayed : (us : List (List Write)) → s.activated ≡ us → IsGoing design given (after_delayed design s us)
+  going_update : (p : ℕ) (does : Doing) → doing_at d p ≡ Some does → (form : IsToWhole does) → IsSteady d (after_update d s p (Some does)) → IsGoing d given (after_update d s p (Some does))
+  going_update p does is form steady =
+      let same : after_update d s p (Some does) ≡ drive d s p (whole form.target form.spot) (s.pending p) = ap (λ x. after_update d s p (Some x)) form.is in
+      rw same (going_drive p form.target form.spot form.e (is ∙ ap Some form.is) (s.pending p) (rw (← same) steady))
+
+  going_delayed : (us : List (List Write)) → s.activated ≡ us → IsGoing d given (after_delayed d s us)
   going_delayed [] is = going
   going_delayed (ws ∷ us) is = absurd (let none = going.none_activated in cc)
 
-  pub going_after : (event : Event) → IsThere design s event → IsGoing design given (after design s event)
-  going_after (Input i) there = going_input i there.0 (s.offered i) refl (ready_after design s (Input i) going.ready)
-  going_after (Evaluate p) there = going_evaluate p (slice_get design.processes p) (ready_after design s (Evaluate p) going.ready)
-  going_after (Update p) there =
-      going_update p (slice_get design.processes p) (s.pending p) refl (ready_after design s (Update p) going.ready)
-  going_after Delayed there = going_delayed s.activated refl
-  going_after Activate there =
+  -- a process that is there does something
+  at_some : (p : ℕ) → (o : Option Doing) → doing_at d p ≡ o → IsSteady d (after_evaluate s p o) → IsGoing d given (after_evaluate s p o)
+  at_some p None is steady = going
+  at_some p (Some does) is steady = going_evaluate p does (judged.wholes p does is) steady
+
+  at_update : (p : ℕ) → (o : Option Doing) → doing_at d p ≡ o → IsSteady d (after_update d s p o) → IsGoing d given (after_update d s p o)
+  at_update p None is steady = going
+  at_update p (Some does) is steady = going_update p does is (judged.wholes p does is) steady
+
+  no_body : (p : ℕ) → (o : Option Doing) → doing_at d p ≡ o → is_body o ≡ true → ⊥
+  no_body p None is body = absurd (cc)
+  no_body p (Some does) is body =
+      let form = judged.wholes p does is in
+      absurd (let other = ap (λ x. is_body (Some x)) (sym form.is) ∙ body in cc)
+
+  pub going_after : (event : Event) → IsThere d s event → IsSteady d (after d s event) → IsGoing d given (after d s event)
+  going_after (Input i) there steady = going_input i there.0 (s.offered i) refl steady
+  going_after (Evaluate p) there steady = at_some p (doing_at d p) refl steady
+  going_after (Update p) there steady = at_update p (doing_at d p) refl steady
+  going_after (Run p) there steady = absurd (no_body p (doing_at d p) refl there.0)
+  going_after Delayed there steady = going_delayed s.activated refl
+  going_after Activate there steady =
       record {
-        ready = going.ready;
+        steady = steady;
         held = going.held;
         inputs = going.inputs;
         none_activated = going.none_delayed;
         none_delayed = refl;
       }
 
-pub going_run : (design : Flat) (clean : IsClean design) (given : Values) (s : State) (events : List Event) → IsGoing design given s → CanRun design s events → IsGoing design given (run design s events)
-going_run design clean given s [] going can = going
-going_run design clean given s (event ∷ events) going can =
-    going_run design clean given (after design s event) events (going_after design clean given s going event can.0) can.1
+-- what every event keeps
+abbrev pub KeepsSteady : Flat → Type 0
+KeepsSteady d = (s : State) (event : Event) → IsThere d s event → IsSteady d s → IsSteady d (after d s event)
 
--- what an input was given last, after a step
-abbrev pub given_value : Option Bool → Bit → Bit
-given_value set old = unwrap_or (newest set None) old
+pub going_run : (d : Flat) (judged : IsJudged d) (keeps : KeepsSteady d) (given : ℕ → Bit) (s : State) (events : List Event) → IsGoing d given s → CanRun d s events → IsGoing d given (run d s events)
+going_run d judged keeps given s [] going can = going
+going_run d judged keeps given s (event ∷ events) going can =
+    going_run d judged keeps given (after d s event) events (going_after d judged given s going event can.0 (keeps s event can.0 going.steady)) can.1
 
--- a step is offered where nothing is
-pub going_offer : (design : Flat) (given : Values) (s : State) (step : Step) → IsGoing design given s → ((i : Place) → IsTrue (is_input design.signals i) → s.offered i ≡ None) → IsGoing design (λ i. given_value (step i) (given i)) (offer s step)
-going_offer design given s step going idle =
+-- what the inputs were given last, after a step
+abbrev pub values_after : (ℕ → Bit) → Step → ℕ → Bit
+values_after given [] = given
+values_after given (setting ∷ others) = values_after (put given setting.input (known_bit setting.digit)) others
+
+-- one value is offered
+going_offer : (d : Flat) → IsJudged d → (given : ℕ → Bit) (s : State) (setting : Setting) → IsGoing d given s
+    → IsGoing d (put given setting.input (known_bit setting.digit)) (record s { offered = put s.offered setting.input (Some (bits setting.digit)) })
+going_offer d judged given s setting going =
     record {
-      ready = going.ready;
+      steady = record {
+        within = record {
+          offered = λ i all input is.
+              elim (cases_eq i setting.input) [
+                | inl same ↦
+                    let new : Some (bits setting.digit) ≡ Some all = sym (put_at s.offered setting.input i (Some (bits setting.digit)) same) ∙ is in
+                    let long : length all ≡ 1 = sym (ap (λ o. length (unwrap_or o [])) new) in
+                    let one = judged.one_bit i (input_is_some (slice_get d.signals i) input) in
+                    omega (arith, long, one)
+                | inr other ↦ going.steady.within.offered i all input (sym (put_other s.offered setting.input i (Some (bits setting.digit)) other) ∙ is)
+              ];
+          activated = going.steady.within.activated;
+          delayed = going.steady.within.delayed;
+        };
+        widths = going.steady.widths;
+        up_to_date = going.steady.up_to_date;
+      };
       held = going.held;
       inputs = λ i input.
-          ap (λ o. unwrap_or (newest (step i) o) (s.value i)) (idle i input) ∙ by_step i input (step i);
+          elim (cases_eq i setting.input) [
+            | inl same ↦
+                ap (λ o. unwrap_or o (s.value i)) (put_at s.offered setting.input i (Some (bits setting.digit)) same)
+                ∙ ap (λ b. b ∷ []) (sym (put_at given setting.input i (known_bit setting.digit) same))
+            | inr other ↦
+                ap (λ o. unwrap_or o (s.value i)) (put_other s.offered setting.input i (Some (bits setting.digit)) other)
+                ∙ going.inputs i input ∙ ap (λ b. b ∷ []) (sym (put_other given setting.input i (known_bit setting.digit) other))
+          ];
       none_activated = going.none_activated;
       none_delayed = going.none_delayed;
     }
-  where
-    by_step : (i : Place) → IsTrue (is_input design.signals i) → (o : Option Bool) → unwrap_or (newest o None) (s.value i) ≡ given_value o (given i)
-    by_step i input None = ap (λ o. unwrap_or o (s.value i)) (sym (idle i input)) ∙ going.inputs i input
-    by_step i input (Some digit) = refl
+
+-- a step is offered
+pub going_offered : (d : Flat) → IsJudged d → (given : ℕ → Bit) (s : State) (step : Step) → IsGoing d given s → IsGoing d (values_after given step) (offered s step)
+going_offered d judged given s [] going = going
+going_offered d judged given s (setting ∷ others) going =
+    going_offered d judged (put given setting.input (known_bit setting.digit)) (record s { offered = put s.offered setting.input (Some (bits setting.digit)) }) others
+    (going_offer d judged given s setting going)

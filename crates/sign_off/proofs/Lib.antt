@@ -3,9 +3,12 @@ pub mod MarkLemmas
 pub mod Ordered
 pub mod Formed
 pub mod Basic
-pub mod Ready
+pub mod Gates
+pub mod Nets
+pub mod Clean
+pub mod Judged
 pub mod Held
 pub mod Sound
-pub mod Clean
 pub mod Up
+pub mod Signed
 pub mod Example

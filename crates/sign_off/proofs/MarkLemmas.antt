@@ -9,7 +9,8 @@ use Rattle.std.proofs.lemmas.List.{get_or-map, length-map}
 use Rattle.std.proofs.lemmas.Option.{slice_get_within}
 use Rattle.rtl_flat.specs.declared.signal.Signal.{Signal}
 use Rattle.rtl_flat.specs.Process.{Task}
-use Rattle.sign_off.specs.Flat.{Process, Assign, Tree, Home, process_of, target_in, value_in, is_top_input, is_net, is_some_net, is_fitting, reads_inputs}
+use Rattle.event_model.specs.Queue.{is_input_kind}
+use Rattle.sign_off.specs.Flat.{Process, Assign, Tree, Home, process_of, target_in, value_in, is_net, is_some_net, is_fitting, reads_inputs}
 use Rattle.sign_off.specs.Findings.{may_write, found_if, several_drivers_at, undriven_at}
 use Rattle.sign_off.specs.Marks.{AreDriven, several_finding, undriven_finding}
 
@@ -92,10 +93,10 @@ pub undriven_next : (marks : List Bool) (count : ℕ) (signals : List Signal) (p
     → k < length signals → s ≡ get_or signals k s → k < count → AreDriven marks count processes
     → filter_map (undriven_at processes) (enumerate_from 0 (take (k + 1) signals))
     ≡ filter_map (undriven_at processes) (enumerate_from 0 (take k signals))
-    ++ option_to_list (found_if (not (is_top_input s.kind) && not (get_or marks k false)) (undriven_finding (record { 0 = k }) s))
+    ++ option_to_list (found_if (not (is_input_kind s.kind) && not (get_or marks k false)) (undriven_finding (record { 0 = k }) s))
 undriven_next marks count signals processes k s below is inside old =
     numbered_more (undriven_at processes) signals k s below
     ∙ ap (λ y. filter_map (undriven_at processes) (enumerate_from 0 (take k signals))
     ++ option_to_list (undriven_at processes (k, y))) (sym is)
     ∙ ap (λ b. filter_map (undriven_at processes) (enumerate_from 0 (take k signals))
-    ++ option_to_list (found_if (not (is_top_input s.kind) && not b) (undriven_finding (record { 0 = k }) s))) (sym (old.driven k inside))
+    ++ option_to_list (found_if (not (is_input_kind s.kind) && not b) (undriven_finding (record { 0 = k }) s))) (sym (old.driven k inside))

@@ -1,9 +1,8 @@
 -- Bring-up: from power-up to the settled states from which agreement begins.
-use Rattle.std.specs.Prelude.{◌≢◌, List, [], ◌∷◌, is_some, Bool, IsTrue, ⊤}
+use Rattle.std.specs.Prelude.{◌≢◌, ℕ, List, [], ◌∷◌, ◌==◌, Bool, IsTrue, ⊤}
 use Rattle.std.specs.List.{list_any}
-use Rattle.sign_off.specs.Flat.{Flat, is_input}
-use Rattle.sign_off.specs.Queue.{Place, State, power_up}
-use Rattle.sign_off.specs.Meaning.{Numbers}
+use Rattle.event_model.specs.Queue.{Flat, State, is_input, power_up}
+use Rattle.sign_off.specs.Meaning.{Numbers, Step}
 use Rattle.sign_off.specs.Agree.{Round, after_round, IsRound, IsSettled}
 
 -- the state after rounds in their order
@@ -16,11 +15,15 @@ abbrev pub AreRounds : Flat → State → List Round → Type 0
 AreRounds design s [] = ⊤
 AreRounds design s (round ∷ rounds) = IsRound design s round × AreRounds design (after_round design s round) rounds
 
+-- whether a step sets an input
+abbrev pub sets : Step → ℕ → Bool
+sets step i = list_any (λ setting. setting.input == i) step
+
 -- a bring-up: at least one round from power-up on, which set every input between them
 pub record IsBringUp (design : Flat) (rounds : List Round) : Type 0 where
   pub some_round : rounds ≢ []
   pub from_power_up : AreRounds design (power_up design) rounds
-  pub all_set : (i : Place) → IsTrue (is_input design.signals i) → IsTrue (list_any (λ round. is_some (round.step i)) rounds)
+  pub all_set : (i : ℕ) → IsTrue (is_input design i) → IsTrue (list_any (λ round. sets round.step i) rounds)
 
 -- every bring-up ends in a settled state of known values
 pub record BringsUp (design : Flat) (fill : Bool) : Type 0 where

@@ -4,7 +4,8 @@ use Rattle.std.specs.List.{list_any, enumerate_from, filter_map}
 use Rattle.sign_off.specs.declared.finding.Finding.{Finding}
 use Rattle.sign_off.specs.declared.finding.Rule.TheVariants.{SeveralDrivers, Undriven}
 use Rattle.rtl_flat.specs.declared.signal.Signal.{Signal}
-use Rattle.sign_off.specs.Flat.{Process, Assign, Flat, is_top_input}
+use Rattle.event_model.specs.Queue.{is_input_kind}
+use Rattle.sign_off.specs.Flat.{Process, Assign, Flat}
 use Rattle.sign_off.specs.Ranks.{ranked}
 
 -- a process may write this signal
@@ -28,7 +29,7 @@ several_drivers design = filter_map (several_drivers_at design.processes) (enume
 -- Undriven: a signal isn't a top input, and no process may write it; it stands at the declaration
 abbrev pub undriven_at : List Process → (ℕ × Signal) → Option Finding
 undriven_at processes (number, signal) =
-    found_if (not (is_top_input signal.kind) && not (list_any (may_write number) processes))
+    found_if (not (is_input_kind signal.kind) && not (list_any (may_write number) processes))
     (record { rule = Undriven; signal = record { 0 = number }; instance = signal.instance; spot = signal.spot })
 
 abbrev pub undriven : Flat → List Finding

@@ -1,14 +1,13 @@
 -- A flat design as the rules see it today: numbered signals of one bit, and the assignments that drive them.
-use Rattle.std.specs.Prelude.{ℕ, List, [], ◌∷◌, map, Option, None, Some, Bool, true, false, not, ◌&&◌, slice_get}
+use Rattle.std.specs.Prelude.{ℕ, List, [], ◌∷◌, map, Option, None, Some, Bool, false, not, ◌&&◌, slice_get}
 use Rattle.std.specs.List.{list_all}
 use Rattle.rtl_tree.specs.declared.text.Spot.{Spot}
-use Rattle.rtl_flat.specs.declared.signal.Kind.{Kind}
-use Rattle.rtl_flat.specs.declared.signal.Kind.TheVariants.{TopInput}
 use Rattle.rtl_flat.specs.declared.signal.Signal.{Signal}
 use Rattle.rtl_flat.specs.declared.expr.Join.{Join}
 use Rattle.rtl_flat.specs.declared.expr.Join.TheVariants as join
 use Rattle.rtl_flat.specs.Expression as sized
 use Rattle.rtl_flat.specs.Process as part
+use Rattle.event_model.specs.Queue.{is_input_kind, is_input_of}
 
 -- a bitwise operator of two operands (IEEE 1364-2001 section 4.1.10)
 pub data Gate : Type 0 where
@@ -74,23 +73,14 @@ view signals tasks = record { signals = signals; processes = map process_of task
 
 -- ---- signals
 
-abbrev pub is_top_input : Kind → Bool
-is_top_input TopInput = true
-is_top_input _ = false
-
--- there is a signal, and it is a top input
-abbrev pub is_some_input : Option Signal → Bool
-is_some_input None = false
-is_some_input (Some signal) = is_top_input signal.kind
-
 -- there is a signal, and it is a net: variables are refused
 abbrev pub is_some_net : Option Signal → Bool
 is_some_net None = false
-is_some_net (Some signal) = not (is_top_input signal.kind)
+is_some_net (Some signal) = not (is_input_kind signal.kind)
 
 -- a number names a top input
 abbrev pub is_input : List Signal → ℕ → Bool
-is_input signals number = is_some_input (slice_get signals number)
+is_input signals number = is_input_of (slice_get signals number)
 
 -- a number names a net
 abbrev pub is_net : List Signal → ℕ → Bool

@@ -3,7 +3,6 @@ pub mod Built
 pub mod Ranks
 pub mod Findings
 pub mod Marks
-pub mod Queue
 pub mod Meaning
 pub mod Agree
 pub mod BringUp

@@ -1,12 +1,12 @@
 -- The synthesised meaning of a design (IEEE 1364.1-2002): equations between numbers, with no order of evaluation.
-use Rattle.std.specs.Prelude.{◌≡◌, ℕ, Option, Some, IsSome, Bool, false, not, ◌&&◌, ◌||◌, if◌then◌else◌, IsTrue, slice_get, unwrap_or}
+use Rattle.std.specs.Prelude.{◌≡◌, ℕ, ◌==◌, List, [], ◌∷◌, Some, IsSome, Bool, false, not, ◌&&◌, ◌||◌, if◌then◌else◌, IsTrue, slice_get}
 use Rattle.std.specs.List.{list_any}
-use Rattle.sign_off.specs.Flat.{Gate, And, Xor, Or, Home, Tree, Read, Not, Binary, Assign, Flat, is_input, is_net}
-use Rattle.sign_off.specs.Queue.{Place, drives}
+use Rattle.event_model.specs.Writes.{put}
+use Rattle.sign_off.specs.Flat.{Gate, And, Xor, Or, Home, Tree, Read, Not, Binary, Process, Assign, Flat, is_input, is_net}
 
--- the binary digits of the signals' numbers by their places, true for 1: today a number has one digit
+-- the number of each signal, true for 1: today a signal has one bit
 abbrev pub Numbers : Type 0
-Numbers = Place → Bool
+Numbers = ℕ → Bool
 
 -- the digit that an gate gives for two digits
 abbrev pub binary_digit : Gate → Bool → Bool → Bool
@@ -20,21 +20,31 @@ num_of (Read signal) n = n signal
 num_of (Not operand) n = not (num_of operand n)
 num_of (Binary gate left right) n = binary_digit gate (num_of left n) (num_of right n)
 
+-- whether a process drives a net
+abbrev pub drives : Process → ℕ → Bool
+drives (Assign target value at) net = target == net
+
 -- the numbers solve the design's equations (IEEE 1364.1-2002 section 5.1) for what its inputs are given.
 -- A net that nothing drives has the fill, 0 or 1. Blocks and registers, of which a design has none today, will
 -- add their equations and what they hold
 pub record IsSolution (design : Flat) (fill : Bool) (given n : Numbers) : Type 0 where
-  pub inputs : (i : Place) → IsTrue (is_input design.signals i) → n i ≡ given i
+  pub inputs : (i : ℕ) → IsTrue (is_input design.signals i) → n i ≡ given i
   pub assigns : (p target : ℕ) (at : Home) (value : Tree) → slice_get design.processes p ≡ Some (Assign target value at) → n target ≡ num_of value n
-  pub others : (i : Place) → IsTrue (is_net design.signals i) → list_any (λ p. drives p i) design.processes ≡ false → n i ≡ fill
+  pub others : (i : ℕ) → IsTrue (is_net design.signals i) → list_any (λ p. drives p i) design.processes ≡ false → n i ≡ fill
 
--- a step of the world around a design: the inputs that it sets, each to 0 or 1
+-- an input, and the number that it is set to
+pub record Setting : Type 0 where
+  pub input : ℕ
+  pub digit : Bool
+
+-- a step of the world around a design: the inputs that it sets; of two settings of one input the last counts
 abbrev pub Step : Type 0
-Step = Place → Option Bool
+Step = List Setting
 
 -- what the inputs are after a step
 abbrev pub given_after : Numbers → Step → Numbers
-given_after n step i = unwrap_or (step i) (n i)
+given_after n [] = n
+given_after n (setting ∷ others) = given_after (put n setting.input setting.digit) others
 
 -- the numbers after a step, from those before it: inputs that aren't set stay, and all the rest is a solution
 pub record IsCycle (design : Flat) (fill : Bool) (n : Numbers) (step : Step) (next : Numbers) : Type 0 where
@@ -43,4 +53,4 @@ pub record IsCycle (design : Flat) (fill : Bool) (n : Numbers) (step : Step) (ne
 -- these numbers follow from the step, and no others do
 pub record IsTheCycle (design : Flat) (fill : Bool) (n : Numbers) (step : Step) (next : Numbers) : Type 0 where
   pub follows : IsCycle design fill n step next
-  pub alone : (other : Numbers) → IsCycle design fill n step other → (i : Place) → IsSome (slice_get design.signals i) → other i ≡ next i
+  pub alone : (other : Numbers) → IsCycle design fill n step other → (i : ℕ) → IsSome (slice_get design.signals i) → other i ≡ next i

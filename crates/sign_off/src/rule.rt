@@ -5,7 +5,8 @@ ghost use Rattle.std.specs.List.{list_all};
 ghost use Rattle.std.specs.Option.{option_to_list};
 ghost use Rattle.rtl_tree.specs.declared.text.Spot.{Spot};
 ghost use Rattle.rtl_flat.specs.Process.{doing, task};
-ghost use Rattle.sign_off.specs.Flat.{is_fitting, is_top_input, is_well_formed, process_of, target_in, view};
+ghost use Rattle.event_model.specs.Queue.{flat, is_input_kind};
+ghost use Rattle.sign_off.specs.Flat.{is_fitting, is_well_formed, process_of, target_in, view};
 ghost use Rattle.sign_off.specs.Built.{not_built};
 ghost use Rattle.sign_off.specs.Findings.{findings, found_if, several_drivers, undriven};
 ghost use Rattle.sign_off.specs.Agree.{Agree};
@@ -48,9 +49,10 @@ pub fn rule(alloc: Global, design: &Design) -> Result<Ruling, Unruled>
     ensures clean { IfOk result (λ r. IsTrue r.clean ↔ (r.findings.items ≡ [])) }
     ensures firm { IfOk result (λ r. IsTrue r.firm ↔ (r.findings.items ≡ [])) }
 
-    // What a clean design promises: every run shows the synthesised values, from states that a bring-up reaches.
-    ensures sound { IfOk result (λ r. IsTrue r.clean → (fill : Bool) → Agree (view design.now.signals.items (map task design.now.processes.items)) fill) }
-    ensures brought_up { IfOk result (λ r. IsTrue r.clean → (fill : Bool) → BringsUp (view design.now.signals.items (map task design.now.processes.items)) fill) }
+    // What a clean design promises: every run of the event queue shows the synthesised values, from states that a
+    // bring-up reaches.
+    ensures sound { IfOk result (λ r. IsTrue r.clean → (fill : Bool) → Agree (flat design.now) fill) }
+    ensures brought_up { IfOk result (λ r. IsTrue r.clean → (fill : Bool) → BringsUp (flat design.now) fill) }
 {
     match not_built(design) {
         Some(spot) => Err(Unruled::NotBuilt(spot)),
@@ -167,7 +169,7 @@ fn judge_signal(
     is_driven: bool,
 ) -> Result<(), AllocError>
     ensures { OnOk result (findings.new.items ≡ findings.old.items
-        ++ option_to_list (found_if (not (is_top_input signal.now.kind) && not is_driven) (undriven_finding number signal.now))) }
+        ++ option_to_list (found_if (not (is_input_kind signal.now.kind) && not is_driven) (undriven_finding number signal.now))) }
 {
     if signal.kind != Kind::TopInput && !is_driven {
         findings.push(Finding {

@@ -1,5 +1,5 @@
 use Rattle.sign_off.proofs.soundness.bring_up.Goals as goal
-use Rattle.sign_off.proofs.Up.{bring_up_of}
+use Rattle.sign_off.proofs.Signed.{bring_up_of}
 
 pub returns : goal.returns
 returns c = bring_up_of
