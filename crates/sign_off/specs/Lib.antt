@@ -7,3 +7,4 @@ pub mod Meaning
 pub mod Agree
 pub mod BringUp
 pub mod Rules
+pub mod Samples
