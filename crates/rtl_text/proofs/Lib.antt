@@ -8,4 +8,4 @@ mod Ends
 mod Fronts
 mod FrontsAgain
 mod Turns
-mod Unique
+pub mod Unique
