@@ -1,2 +1,3 @@
+pub mod Apart
 pub mod Once
 pub mod Reading

@@ -3,6 +3,7 @@
 
 mod fault;
 mod files;
+pub mod law;
 #[cfg(test)]
 mod tests;
 
