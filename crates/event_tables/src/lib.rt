@@ -3,7 +3,6 @@
 
 mod drivers;
 mod listeners;
-mod masks;
 mod rows;
 mod tables;
 #[cfg(test)]

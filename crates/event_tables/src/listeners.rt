@@ -8,14 +8,13 @@ ghost use Rattle.event_model.specs.Queue.{flat, happens, item_hears, widths};
 ghost use Rattle.rtl_scan.specs.Sets.{has_row, has_rows};
 ghost use Rattle.event_tables.specs.Hearing.{AreHeard, Hears, listens_at};
 
-use crate::masks::item_bits;
 use crate::rows::empty_rows;
 use event_write::listener::Listener;
 use rtl_bits::Edge;
 use rtl_flat::act::{Does, EventItem, Listed, ProcId};
 use rtl_flat::design::Design;
 use rtl_scan::bits::Row;
-use rtl_scan::{lists, reads};
+use rtl_scan::{lists, reads, selected};
 use rtl_tree::memory::Memory;
 use std::alloc::Global;
 
@@ -61,7 +60,8 @@ fn hear_items(
     ensures { OnOk result (Hears process (λ s k old new. list_any (item_hears (widths (flat design.now)) s k old new) (map watched items.now)) listeners.old.items listeners.new.items) }
 {
     for item in items {
-        hear_bits(listeners, process, item.edge, item_bits(design, item))?;
+        let bits = selected(design, item.signal, &item.select);
+        hear_bits(listeners, process, item.edge, bits)?;
     }
     Ok(())
 }

@@ -19,5 +19,5 @@ mod tests;
 mod usages;
 
 pub use feeds::levels;
-pub use sets::{lists, reads, sure, writes};
+pub use sets::{lists, reads, selected, sure, writes};
 pub use usages::temporaries;

@@ -2,19 +2,20 @@
 
 ghost use Rattle.std.specs.Prelude.{ℕ, ◌≡◌, ◌<◌, ◌≤◌, ◌↔◌, true, false, [], map, length, OnOk, IfOk};
 ghost use Rattle.rtl_flat.specs.Signs.{width_in};
-ghost use Rattle.rtl_flat.specs.Process.{doing, task, watched};
+ghost use Rattle.rtl_flat.specs.Process.{doing, selection, task, watched};
 ghost use Rattle.rtl_flat.specs.Paths.{MayWrite, IsSure, ReadsOutside, may_read};
-ghost use Rattle.rtl_flat.specs.Flows.{flow_of};
+ghost use Rattle.rtl_flat.specs.Flows.{flow_of, may_select};
 ghost use Rattle.rtl_flat.specs.PathSets.{OfProcess, Lists, listed, items_list};
-ghost use Rattle.rtl_scan.specs.Sets.{has, has_rows, IsInOrder};
+ghost use Rattle.rtl_scan.specs.Sets.{has, has_row, has_rows, IsInOrder};
 ghost use Rattle.rtl_scan.specs.Scan.{FlowScanned, ScannedOver, HasScanned};
 
-use crate::bits::{BitSet, Bits};
+use crate::bits::{BitSet, Bits, Row};
 use crate::scan::{Counted, Sets};
 use crate::spans::Widths;
 use crate::steps::Pass;
 use rtl_flat::act::{Does, EventItem, Listed, ProcId};
 use rtl_flat::design::Design;
+use rtl_flat::expr::{Select, SigId};
 use rtl_flat::signal::Signal;
 use rtl_tree::memory::Memory;
 use std::alloc::Global;
@@ -144,4 +145,11 @@ pub fn lists(alloc: Global, d: &Design, p: ProcId) -> Result<Bits, Memory>
     let does = &d.processes[p.0 as usize].does;
     let bits = list(alloc, widths_of(d), does)?;
     bits.to_bits(alloc)
+}
+
+/// The bits that a select of a signal may mean: all of the signal where its index is computed.
+pub fn selected(d: &Design, signal: SigId, select: &Select) -> Row
+    ensures { (s k : ℕ) → has_row result s k ≡ may_select (width_in d.now.signals.items) signal.0 (selection select.now) s k }
+{
+    widths_of(d).may_row(signal, select)
 }

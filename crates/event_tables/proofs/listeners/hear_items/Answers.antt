@@ -11,7 +11,7 @@ loop-item-preserved c = λ new others.
     let i = c.loop-item.item-index in
     let item = c.item-item.result in
     c.loop-item.invariant new
-    (items_more (widths (flat c.args.design.now)) c.args.process items i item c.item_bits.result (left items i item c.loop-item-test.true ∙ ap (λ x. x ∷ drop (i + 1) items) (sym c.item-item.is)) (λ s k a b. ap (λ t. t && happens item.edge a b) (c.item_bits.ensures s k)) c.loop-item.listeners.items c.hear_bits.new.listeners.items new c.in_ok-hear_bits.ensures others)
+    (items_more (widths (flat c.args.design.now)) c.args.process items i item c.selected-bits.result (left items i item c.loop-item-test.true ∙ ap (λ x. x ∷ drop (i + 1) items) (sym c.item-item.is)) (λ s k a b. ap (λ t. t && happens item.edge a b) (c.selected-bits.ensures s k)) c.loop-item.listeners.items c.hear_bits.new.listeners.items new c.in_ok-hear_bits.ensures others)
 
 pub returns : goal.returns
 returns c =
