@@ -12,8 +12,8 @@ use Rattle.elab_walk.specs.Rooms.{whole_room}
 use Rattle.elab_walk.specs.Stops.{stops}
 use Rattle.elab_walk.specs.Visits.{Library, Visit, all_visits, top_visit}
 use Rattle.elab_flat.specs.Flats.{Flat, flat_of}
-use Rattle.flat_laws.specs.Laws.{IsLawful}
-use Rattle.flat_laws.proofs.Designs.{lawful}
+use Rattle.elab_lawful.specs.Laws.{IsLawful}
+use Rattle.elab_lawful.proofs.Designs.{lawful}
 use Rattle.rtl_elab.specs.Elaborated.{decided, elaborated, elaborated_at, elaborated_found, elaborated_of}
 
 by_told : (told : Option Answer) (made f : Flat) → (told ≡ None → IsLawful made) → decided told made ≡ Ok f → IsLawful f

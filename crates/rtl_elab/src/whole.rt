@@ -4,7 +4,7 @@ ghost use Rattle.std.specs.Prelude.{◌≡◌, ◌+◌, IfErr, IfOk, Ok};
 ghost use Rattle.elab_scope.specs.Faults.{answer};
 ghost use Rattle.elab_flat.specs.Views.{flat};
 ghost use Rattle.elab_walk.specs.Trails.{IsTold};
-ghost use Rattle.flat_laws.specs.Laws.{IsLawful};
+ghost use Rattle.elab_lawful.specs.Laws.{IsLawful};
 ghost use Rattle.rtl_elab.specs.Designs.{flat_in, library_of};
 ghost use Rattle.rtl_elab.specs.Elaborated.{elaborated, refused};
 

@@ -16,7 +16,7 @@ use Rattle.rtl_prep.specs.declared.fault.PrepFault.{PrepFault}
 use Rattle.rtl_prep.specs.declared.fault.PrepFault.TheVariants as preparing
 use Rattle.rtl_prep.specs.Stops.{Stop, Tells}
 use Rattle.rtl_prep.specs.Prepares.{prepared}
-use Rattle.rtl_build.proofs.Laws.Modules.{spelled_once}
+use Rattle.text_build.proofs.Laws.Modules.{spelled_once}
 use Rattle.rtl_parse.specs.declared.fault.ParseFault.{ParseFault}
 use Rattle.rtl_parse.specs.declared.fault.ParseFault.TheVariants as parsing
 use Rattle.rtl_parse.specs.Parses.{IsCause, first_outside, tokens}

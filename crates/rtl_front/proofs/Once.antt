@@ -10,7 +10,7 @@ use Rattle.rtl_text.specs.declared.fault.LexFault.{LexFault}
 use Rattle.rtl_text.specs.Faults.{Answers}
 use Rattle.rtl_prep.specs.Stops.{Stop}
 use Rattle.rtl_prep.specs.Prepares.{prepared}
-use Rattle.rtl_build.specs.Built.{SpelledOnce}
+use Rattle.text_build.specs.Built.{SpelledOnce}
 use Rattle.rtl_front.specs.Fronts.{IsPrepared, IsRead}
 
 -- what is prepared of the tokens that the lexer finds

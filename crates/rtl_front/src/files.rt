@@ -7,7 +7,7 @@ ghost use Rattle.rtl_tree.specs.Prepared.{Ready};
 ghost use Rattle.rtl_front.specs.Fronts.{AreRead, IsFaulty, IsFirstFaulty, IsPrepared, IsRead, circuits_of, is_memory, texts_of, told};
 
 use crate::fault::{FileFault, SourceFault};
-use rtl_build::spelled_once;
+use text_build::spelled_once;
 use rtl_parse::{ParseFault, parse};
 use rtl_prep::{PrepFault, prepare};
 use rtl_text::{LexFault, lex};

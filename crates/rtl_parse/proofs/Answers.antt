@@ -12,12 +12,12 @@ use Rattle.rtl_tree.specs.Deeper.{too_deep}
 use Rattle.rtl_tree.specs.Depth.{depth}
 use Rattle.rtl_tree.specs.declared.dropped.Dropped.{Dropped}
 use Rattle.rtl_tree.specs.declared.token.Token.{Token}
-use Rattle.rtl_survey.specs.Terminals.{is_refused}
-use Rattle.rtl_survey.specs.Surveys.{AreNumbered, IsDead, AreClosed, IsSurvey}
-use Rattle.rtl_survey.specs.declared.machine.Surveyed.{Surveyed}
-use Rattle.rtl_survey.specs.declared.machine.Surveyed.TheVariants as surveyed
-use Rattle.rtl_build.specs.declared.fault.BuildFault.{BuildFault}
-use Rattle.rtl_build.specs.Built.{IsBuilt}
+use Rattle.text_survey.specs.Terminals.{is_refused}
+use Rattle.text_survey.specs.Surveys.{AreNumbered, IsDead, AreClosed, IsSurvey}
+use Rattle.text_survey.specs.declared.machine.Surveyed.{Surveyed}
+use Rattle.text_survey.specs.declared.machine.Surveyed.TheVariants as surveyed
+use Rattle.text_build.specs.declared.fault.BuildFault.{BuildFault}
+use Rattle.text_build.specs.Built.{IsBuilt}
 use Rattle.rtl_parse.specs.declared.fault.ParseFault.TheVariants.{Refused, Syntax, TooDeep}
 use Rattle.rtl_parse.specs.Parses.{tokens, is_outside, first_outside, IsThere, IsCause}
 use Rattle.rtl_parse.proofs.Shallow.{shallow}

@@ -6,8 +6,8 @@ use Rattle.rtl_tree.specs.Symbols.{Terminal, terminals}
 use Rattle.rtl_tree.specs.TreeModule.{Circuit}
 use Rattle.rtl_tree.specs.GrammarModule.{Spells}
 use Rattle.rtl_tree.specs.Deeper.{too_deep, IsLeastPlace}
-use Rattle.rtl_survey.specs.Terminals.{is_refused}
-use Rattle.rtl_survey.specs.Surveys.{IsDead, AreClosed}
+use Rattle.text_survey.specs.Terminals.{is_refused}
+use Rattle.text_survey.specs.Surveys.{IsDead, AreClosed}
 use Rattle.rtl_parse.specs.declared.fault.ParseFault.{ParseFault}
 use Rattle.rtl_parse.specs.declared.fault.ParseFault.TheVariants.{Refused, Syntax, TooDeep, Memory}
 

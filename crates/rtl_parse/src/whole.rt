@@ -9,8 +9,8 @@ ghost use Rattle.rtl_tree.specs.Deeper.{too_deep};
 ghost use Rattle.rtl_parse.specs.Parses.{IsCause, IsThere, first_outside};
 
 use crate::fault::ParseFault;
-use rtl_build::build;
-use rtl_survey::{Surveyed, refused, survey, terminals};
+use text_build::build;
+use text_survey::{Surveyed, refused, survey, terminals};
 use rtl_tree::memory::Memory;
 use rtl_tree::prepared::Prepared;
 use rtl_tree::symbol::Terminal;

@@ -1,9 +1,0 @@
-use Rattle.std.proofs.Common.{arith}
-use Rattle.rtl_build.proofs.Ahead.{advance_some, advance_none}
-use Rattle.rtl_build.proofs.cursor.Cursor.advance.Goals as goal
-
-pub returns-in_default : goal.returns-in_default
-returns-in_default c = advance_none c.args.self.now.rest.now (omega arith)
-
-pub returns : goal.returns
-returns c = advance_some c.args.self.now.rest.now _ (omega arith)

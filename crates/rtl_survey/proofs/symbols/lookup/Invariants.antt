@@ -1,9 +1,0 @@
-use Rattle.std.proofs.Common.{◌≡◌, length, map}
-use Rattle.rtl_tree.specs.Symbols.{lookup}
-use Rattle.rtl_survey.proofs.symbols.lookup.Given as goal
-
-abbrev pub invariant-loop-table : goal.invariant-loop-table
-invariant-loop-table l = lookup (map (λ k. (k.0.now, k.1)) l.table) l.other l.text ≡ lookup (map (λ k. (k.0.now, k.1)) l.initial.table) l.other l.text
-
-abbrev pub decreases-loop-table : goal.decreases-loop-table
-decreases-loop-table l = length l.table

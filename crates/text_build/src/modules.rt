@@ -1,0 +1,300 @@
+// Builds modules.
+
+ghost use Rattle.std.specs.Prelude.{◌≡◌, [], map};
+ghost use Rattle.std.specs.List.{filter};
+ghost use Rattle.std.specs.Option.{option_map};
+ghost use Rattle.rtl_tree.specs.Symbols.{terminal};
+ghost use Rattle.rtl_tree.specs.TreeItem.{head, module_item};
+ghost use Rattle.rtl_tree.specs.TreeModule.{heading, header_parameter, header_port, header, circuit};
+ghost use Rattle.rtl_tree.specs.GrammarModule.{is_between};
+ghost use Rattle.text_build.specs.Reading as generic;
+ghost use Rattle.text_build.specs.Reading.{Reads};
+ghost use Rattle.text_build.specs.ReadingModule as reading;
+ghost use Rattle.rtl_tree.specs.declared.symbol.Symbol.TheVariants as symbol;
+
+use crate::cursor::Cursor;
+use crate::fault::BuildFault;
+use rtl_tree::dropped::Dropped;
+use rtl_tree::symbol::Symbol;
+use rtl_tree::tree::item::{Item, PortHead};
+use rtl_tree::tree::modules::{HeadParameter, HeadPort, Module, ParameterHead, PortList};
+use std::alloc::Global;
+
+/// Whether a region begins neither before one place nor after another.
+fn is_between(first: u32, last: u32, region: Dropped) -> bool
+    ensures { result ≡ is_between first last region }
+{
+    first <= region.at && region.at <= last
+}
+
+/// The regions that begin neither before one place nor after another.
+fn between(
+    alloc: Global,
+    regions: &[Dropped],
+    first: u32,
+    last: u32,
+) -> Result<Vec<Dropped>, BuildFault>
+    ensures { Reads (λ all. all.items) (generic.pure (filter (is_between first last) regions.now) []) result [] }
+{
+    let mut all = Vec::new(alloc);
+    for region in regions {
+        if is_between(first, last, *region) {
+            all.push(*region)?;
+        }
+    }
+    Ok(all)
+}
+
+impl<'a> Cursor<'a> {
+    #[tactic(auto, unfolding(crate::specs::ReadingModule::item))]
+    fn item(&mut self) -> Result<Item, BuildFault>
+        ensures { Reads module_item (reading.item 200 (map terminal self.old.rest.now)) result (map terminal self.new.rest.now) }
+    {
+        self.attributes()?;
+        self.item_after()
+    }
+
+    fn items(&mut self) -> Result<Vec<Item>, BuildFault>
+        ensures { Reads (λ all. map module_item all.items) (generic.until symbol.Endmodule (reading.item 200) (map terminal self.old.rest.now)) result (map terminal self.new.rest.now) }
+    {
+        let mut all = Vec::new(self.alloc);
+        // Each turn takes a token, so these are enough.
+        for _turn in 0..self.rest.len() {
+            if self.is_next(Symbol::Endmodule) {
+                return Ok(all);
+            }
+            all.push(self.item()?)?;
+        }
+        Ok(all)
+    }
+
+    #[tactic(auto, unfolding(crate::specs::ReadingModule::heading))]
+    fn parameter_head(&mut self) -> Result<ParameterHead, BuildFault>
+        ensures { Reads heading (reading.heading 200 (map terminal self.old.rest.now)) result (map terminal self.new.rest.now) }
+    {
+        let at = self.advance()?;
+        let range = self.optional_range()?;
+        Ok(ParameterHead { at, range })
+    }
+
+    #[tactic(auto, unfolding(crate::specs::Reading::optional, crate::specs::Reading::either))]
+    fn optional_parameter_head(&mut self) -> Result<Option<ParameterHead>, BuildFault>
+        ensures { Reads (λ h. option_map heading h) (generic.optional symbol.Parameter (reading.heading 200) (map terminal self.old.rest.now)) result (map terminal self.new.rest.now) }
+    {
+        if self.is_next(Symbol::Parameter) {
+            let head = self.parameter_head()?;
+            Ok(Some(head))
+        } else {
+            Ok(None)
+        }
+    }
+
+    #[tactic(auto, unfolding(crate::specs::ReadingModule::parameter))]
+    fn head_parameter(&mut self) -> Result<HeadParameter, BuildFault>
+        ensures { Reads header_parameter (reading.parameter 200 (map terminal self.old.rest.now)) result (map terminal self.new.rest.now) }
+    {
+        let head = self.optional_parameter_head()?;
+        let name = self.name()?;
+        let value = self.value()?;
+        Ok(HeadParameter { head, name, value })
+    }
+
+    fn listed_parameters(&mut self) -> Result<Vec<HeadParameter>, BuildFault>
+        ensures { Reads (λ all. map header_parameter all.items) (generic.listed (reading.parameter 200) (map terminal self.old.rest.now)) result (map terminal self.new.rest.now) }
+    {
+        let mut all = Vec::new(self.alloc);
+        // Each turn takes a token, so these are enough.
+        for _turn in 0..self.rest.len() {
+            all.push(self.head_parameter()?)?;
+            if !self.take_if(Symbol::Comma) {
+                return Ok(all);
+            }
+        }
+        Err(BuildFault::NotSpelled)
+    }
+
+    #[tactic(auto, unfolding(crate::specs::ReadingModule::parameters_of))]
+    fn parameters(&mut self) -> Result<Vec<HeadParameter>, BuildFault>
+        ensures { Reads (λ all. map header_parameter all.items) (reading.parameters_of 200 (map terminal self.old.rest.now)) result (map terminal self.new.rest.now) }
+    {
+        self.advance()?;
+        self.mark(Symbol::OpenParen)?;
+        let parameters = self.listed_parameters()?;
+        self.mark(Symbol::CloseParen)?;
+        Ok(parameters)
+    }
+
+    #[tactic(auto, unfolding(crate::specs::ReadingModule::parameters, crate::specs::Reading::either))]
+    fn optional_parameters(&mut self) -> Result<Vec<HeadParameter>, BuildFault>
+        ensures { Reads (λ all. map header_parameter all.items) (reading.parameters 200 (map terminal self.old.rest.now)) result (map terminal self.new.rest.now) }
+    {
+        if self.is_next(Symbol::Hash) {
+            self.parameters()
+        } else {
+            Ok(Vec::new(self.alloc))
+        }
+    }
+
+    fn is_head_next(&self) -> bool
+        ensures { result ≡ reading.starts_head (map terminal self.now.rest.now) }
+    {
+        self.is_next(Symbol::Input) || self.is_next(Symbol::Output)
+    }
+
+    #[tactic(auto, unfolding(crate::specs::ReadingModule::own_head, crate::specs::Reading::either))]
+    fn own_head(&mut self) -> Result<Option<PortHead>, BuildFault>
+        ensures { Reads (λ h. option_map head h) (reading.own_head 200 (map terminal self.old.rest.now)) result (map terminal self.new.rest.now) }
+    {
+        if self.is_head_next() {
+            let head = self.port_head()?;
+            Ok(Some(head))
+        } else {
+            Ok(None)
+        }
+    }
+
+    #[tactic(auto, unfolding(crate::specs::ReadingModule::port))]
+    fn head_port(&mut self) -> Result<HeadPort, BuildFault>
+        ensures { Reads header_port (reading.port 200 (map terminal self.old.rest.now)) result (map terminal self.new.rest.now) }
+    {
+        let head = self.own_head()?;
+        let name = self.name()?;
+        Ok(HeadPort { head, name })
+    }
+
+    fn listed_ports(&mut self) -> Result<Vec<HeadPort>, BuildFault>
+        ensures { Reads (λ all. map header_port all.items) (generic.listed (reading.port 200) (map terminal self.old.rest.now)) result (map terminal self.new.rest.now) }
+    {
+        let mut all = Vec::new(self.alloc);
+        // Each turn takes a token, so these are enough.
+        for _turn in 0..self.rest.len() {
+            all.push(self.head_port()?)?;
+            if !self.take_if(Symbol::Comma) {
+                return Ok(all);
+            }
+        }
+        Err(BuildFault::NotSpelled)
+    }
+
+    #[tactic(auto, unfolding(crate::specs::ReadingModule::declared))]
+    fn declared_ports(&mut self) -> Result<PortList, BuildFault>
+        ensures { Reads header (reading.declared 200 (map terminal self.old.rest.now)) result (map terminal self.new.rest.now) }
+    {
+        let ports = self.listed_ports()?;
+        self.mark(Symbol::CloseParen)?;
+        Ok(PortList::Declared(ports))
+    }
+
+    #[tactic(auto, unfolding(crate::specs::ReadingModule::named))]
+    fn named_ports(&mut self) -> Result<PortList, BuildFault>
+        ensures { Reads header (reading.named (map terminal self.old.rest.now)) result (map terminal self.new.rest.now) }
+    {
+        let names = self.names()?;
+        self.mark(Symbol::CloseParen)?;
+        Ok(PortList::Named(names))
+    }
+
+    #[tactic(auto, unfolding(crate::specs::ReadingModule::empty))]
+    fn no_ports(&mut self) -> Result<PortList, BuildFault>
+        ensures { Reads header (reading.empty (map terminal self.old.rest.now)) result (map terminal self.new.rest.now) }
+    {
+        self.advance()?;
+        Ok(PortList::Empty)
+    }
+
+    #[tactic(auto, unfolding(crate::specs::Reading::either))]
+    fn some_ports(&mut self) -> Result<PortList, BuildFault>
+        ensures { Reads header (generic.either reading.starts_head (reading.declared 200) reading.named (map terminal self.old.rest.now)) result (map terminal self.new.rest.now) }
+    {
+        if self.is_head_next() {
+            self.declared_ports()
+        } else {
+            self.named_ports()
+        }
+    }
+
+    #[tactic(auto, unfolding(crate::specs::Reading::either))]
+    fn ports_in_parens(&mut self) -> Result<PortList, BuildFault>
+        ensures { Reads header (generic.either (generic.starts symbol.CloseParen) reading.empty (generic.either reading.starts_head (reading.declared 200) reading.named) (map terminal self.old.rest.now)) result (map terminal self.new.rest.now) }
+    {
+        if self.is_next(Symbol::CloseParen) {
+            self.no_ports()
+        } else {
+            self.some_ports()
+        }
+    }
+
+    #[tactic(auto, unfolding(crate::specs::ReadingModule::port_list))]
+    fn port_list(&mut self) -> Result<PortList, BuildFault>
+        ensures { Reads header (reading.port_list 200 (map terminal self.old.rest.now)) result (map terminal self.new.rest.now) }
+    {
+        self.advance()?;
+        self.ports_in_parens()
+    }
+
+    #[tactic(auto, unfolding(crate::specs::ReadingModule::header, crate::specs::Reading::either))]
+    fn optional_ports(&mut self) -> Result<PortList, BuildFault>
+        ensures { Reads header (reading.header 200 (map terminal self.old.rest.now)) result (map terminal self.new.rest.now) }
+    {
+        if self.is_next(Symbol::OpenParen) {
+            self.port_list()
+        } else {
+            Ok(PortList::Absent)
+        }
+    }
+
+    /// A module after its attributes.
+    #[tactic(auto, unfolding(crate::specs::ReadingModule::circuit_after))]
+    fn module_after(&mut self, regions: &[Dropped]) -> Result<Module, BuildFault>
+        ensures { Reads circuit (reading.circuit_after 200 regions.now (map terminal self.old.rest.now)) result (map terminal self.new.rest.now) }
+    {
+        let at = self.mark(Symbol::Module)?;
+        let name = self.name()?;
+        let parameters = self.optional_parameters()?;
+        let ports = self.optional_ports()?;
+        self.mark(Symbol::Semicolon)?;
+        let items = self.items()?;
+        let last = self.mark(Symbol::Endmodule)?;
+        let dropped = between(self.alloc, regions, at, last)?;
+        Ok(Module {
+            at,
+            name,
+            parameters,
+            ports,
+            items,
+            dropped,
+        })
+    }
+
+    #[tactic(auto, unfolding(crate::specs::ReadingModule::circuit))]
+    fn module(&mut self, regions: &[Dropped]) -> Result<Module, BuildFault>
+        ensures { Reads circuit (reading.circuit 200 regions.now (map terminal self.old.rest.now)) result (map terminal self.new.rest.now) }
+    {
+        self.attributes()?;
+        self.module_after(regions)
+    }
+
+    fn is_more(&self) -> bool
+        ensures { result ≡ reading.is_more (map terminal self.now.rest.now) }
+    {
+        match self.rest {
+            [_, ..] => true,
+            [] => false,
+        }
+    }
+
+    /// All modules, to the end of the tokens.
+    pub fn modules(&mut self, regions: &[Dropped]) -> Result<Vec<Module>, BuildFault>
+        ensures { Reads (λ all. map circuit all.items) (reading.circuits 200 regions.now (map terminal self.old.rest.now)) result (map terminal self.new.rest.now) }
+    {
+        let mut all = Vec::new(self.alloc);
+        // Each turn takes a token, so these are enough.
+        for _turn in 0..self.rest.len() {
+            if !self.is_more() {
+                return Ok(all);
+            }
+            all.push(self.module(regions)?)?;
+        }
+        Ok(all)
+    }
+}

@@ -1,0 +1,108 @@
+// The operators that tokens write, and how loosely they bind (IEEE 1364-2001 section 4.1.2).
+
+ghost use Rattle.std.specs.Prelude.{◌≡◌};
+ghost use Rattle.rtl_tree.specs.GrammarExpr as grammar;
+ghost use Rattle.text_build.specs.ReadingExpr as reading;
+
+use rtl_tree::symbol::Symbol;
+use rtl_tree::tree::operators::{BinaryOperator, UnaryOperator};
+
+/// The operator between operands that is written so.
+#[tactic(auto, unfolding(crate::specs::ReadingExpr::binary_of))]
+pub fn binary_of(symbol: Symbol) -> Option<BinaryOperator>
+    ensures { result ≡ reading.binary_of symbol }
+{
+    match symbol {
+        Symbol::Star => Some(BinaryOperator::Multiply),
+        Symbol::Slash => Some(BinaryOperator::Divide),
+        Symbol::Percent => Some(BinaryOperator::Modulus),
+        Symbol::Plus => Some(BinaryOperator::Add),
+        Symbol::Minus => Some(BinaryOperator::Subtract),
+        Symbol::ShiftLeft => Some(BinaryOperator::ShiftLeft),
+        Symbol::ShiftRight => Some(BinaryOperator::ShiftRight),
+        Symbol::ArithmeticShiftLeft => Some(BinaryOperator::ArithmeticShiftLeft),
+        Symbol::ArithmeticShiftRight => Some(BinaryOperator::ArithmeticShiftRight),
+        Symbol::Less => Some(BinaryOperator::Less),
+        Symbol::LessEquals => Some(BinaryOperator::LessOrEqual),
+        Symbol::Greater => Some(BinaryOperator::Greater),
+        Symbol::GreaterEquals => Some(BinaryOperator::GreaterOrEqual),
+        Symbol::EqualEquals => Some(BinaryOperator::Equal),
+        Symbol::BangEquals => Some(BinaryOperator::NotEqual),
+        Symbol::CaseEquals => Some(BinaryOperator::CaseEqual),
+        Symbol::CaseBangEquals => Some(BinaryOperator::CaseNotEqual),
+        Symbol::Ampersand => Some(BinaryOperator::BitwiseAnd),
+        Symbol::Caret => Some(BinaryOperator::BitwiseXor),
+        Symbol::TildeCaret => Some(BinaryOperator::BitwiseXnor),
+        Symbol::Bar => Some(BinaryOperator::BitwiseOr),
+        Symbol::AndAnd => Some(BinaryOperator::LogicalAnd),
+        Symbol::OrOr => Some(BinaryOperator::LogicalOr),
+        _ => None,
+    }
+}
+
+/// The operator before an operand that is written so.
+#[tactic(auto, unfolding(crate::specs::ReadingExpr::unary_of))]
+pub fn unary_of(symbol: Symbol) -> Option<UnaryOperator>
+    ensures { result ≡ reading.unary_of symbol }
+{
+    match symbol {
+        Symbol::Plus => Some(UnaryOperator::Plus),
+        Symbol::Minus => Some(UnaryOperator::Minus),
+        Symbol::Bang => Some(UnaryOperator::LogicalNot),
+        Symbol::Tilde => Some(UnaryOperator::BitwiseNot),
+        Symbol::Ampersand => Some(UnaryOperator::ReduceAnd),
+        Symbol::TildeAmpersand => Some(UnaryOperator::ReduceNand),
+        Symbol::Bar => Some(UnaryOperator::ReduceOr),
+        Symbol::TildeBar => Some(UnaryOperator::ReduceNor),
+        Symbol::Caret => Some(UnaryOperator::ReduceXor),
+        Symbol::TildeCaret => Some(UnaryOperator::ReduceXnor),
+        _ => None,
+    }
+}
+
+/// How loosely an operator binds, from 1 to 10.
+pub fn level(operator: BinaryOperator) -> u32
+    ensures { result ≡ grammar.level operator }
+{
+    match operator {
+        BinaryOperator::Multiply | BinaryOperator::Divide | BinaryOperator::Modulus => 1,
+        BinaryOperator::Add | BinaryOperator::Subtract => 2,
+        BinaryOperator::ShiftLeft
+        | BinaryOperator::ShiftRight
+        | BinaryOperator::ArithmeticShiftLeft
+        | BinaryOperator::ArithmeticShiftRight => 3,
+        BinaryOperator::Less
+        | BinaryOperator::LessOrEqual
+        | BinaryOperator::Greater
+        | BinaryOperator::GreaterOrEqual => 4,
+        BinaryOperator::Equal
+        | BinaryOperator::NotEqual
+        | BinaryOperator::CaseEqual
+        | BinaryOperator::CaseNotEqual => 5,
+        BinaryOperator::BitwiseAnd => 6,
+        BinaryOperator::BitwiseXor | BinaryOperator::BitwiseXnor => 7,
+        BinaryOperator::BitwiseOr => 8,
+        BinaryOperator::LogicalAnd => 9,
+        BinaryOperator::LogicalOr => 10,
+    }
+}
+
+fn level_or(level_without: u32, operator: Option<BinaryOperator>) -> u32
+    ensures { result ≡ reading.level_or level_without operator }
+{
+    match operator {
+        Some(operator) => level(operator),
+        None => level_without,
+    }
+}
+
+/// How loosely what goes on with an expression binds: `?` as level 11, and above it what doesn't go on.
+#[tactic(auto, unfolding(crate::specs::ReadingExpr::looseness))]
+pub fn looseness(symbol: Symbol) -> u32
+    ensures { result ≡ reading.looseness symbol }
+{
+    match symbol {
+        Symbol::Question => 11,
+        _ => level_or(12, binary_of(symbol)),
+    }
+}
