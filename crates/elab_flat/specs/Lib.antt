@@ -2,3 +2,4 @@ pub mod Flats
 pub mod Held
 pub mod Views
 pub mod Works
+pub mod Links

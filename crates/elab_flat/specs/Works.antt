@@ -9,7 +9,7 @@ use Rattle.elab_links.specs.Groups.{Group, group_of}
 use Rattle.elab_links.specs.Ports.{Sockets, sockets_of}
 use Rattle.elab_parts.specs.Delays.{item_delays}
 use Rattle.elab_parts.specs.Tasks.{item_tasks}
-use Rattle.elab_wiring.specs.Links.{Sides, link_tasks}
+use Rattle.elab_flat.specs.Links.{Sides, link_tasks}
 use Rattle.elab_walk.specs.Stops.{Stop}
 use Rattle.elab_walk.specs.Visits.{Library, scope_in}
 use Rattle.elab_flat.specs.Held.{bases_under, depth_of}

@@ -2,6 +2,7 @@
 #![tactic(auto)]
 
 pub mod flat;
+pub mod links;
+pub mod works;
 #[cfg(test)]
 mod tests;
-pub mod works;

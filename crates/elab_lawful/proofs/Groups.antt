@@ -31,7 +31,7 @@ use Rattle.elab_links.specs.Parameters.{parameter_faults, settable, settings_by}
 use Rattle.elab_links.specs.Ports.{Sockets, sockets_of}
 use Rattle.elab_parts.specs.Items.{item_places, item_steps}
 use Rattle.elab_parts.specs.Tasks.{item_tasks}
-use Rattle.elab_wiring.specs.Links.{link_tasks}
+use Rattle.elab_flat.specs.Links.{link_tasks}
 use Rattle.elab_walk.specs.Rooms.{connection_places, link_places, part_steps, placement_places}
 use Rattle.elab_walk.specs.Stops.{Stop}
 use Rattle.elab_walk.specs.Visits.{Holder, Library, Visit, child_in, holder_of, item_children, placed_children, scope_in}

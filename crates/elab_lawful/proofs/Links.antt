@@ -38,7 +38,7 @@ use Rattle.elab_links.specs.Marks.{Marks, no_marks, with_mark}
 use Rattle.elab_links.specs.Parameters.{name_faults, surplus_faults}
 use Rattle.elab_links.specs.Ports.{Sockets}
 use Rattle.elab_links.proofs.Pieces.{as_argument, pieces_agree}
-use Rattle.elab_wiring.specs.Links.{Sides, link_tasks, named_port_tasks, named_tasks, ordered_tasks, output_context, placed_tasks, port_tasks, port_tree}
+use Rattle.elab_flat.specs.Links.{Sides, link_tasks, named_port_tasks, named_tasks, ordered_tasks, output_context, placed_tasks, port_tasks, port_tree}
 use Rattle.elab_walk.specs.Rooms.{argument_places, connection_places, named_places, ordered_places}
 use Rattle.elab_lawful.proofs.Driven.{IsDriven, breadth_is, driven}
 use Rattle.elab_lawful.proofs.Scopes.{AreLinks, IsInputNet, IsLink}

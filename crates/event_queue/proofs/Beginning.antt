@@ -12,7 +12,7 @@ use Rattle.event_model.specs.Queue.{Flat, flat}
 use Rattle.event_write.specs.declared.fanout.Fanout.{Fanout}
 use Rattle.event_write.specs.declared.marks.Marks.{Marks}
 use Rattle.event_write.specs.Marks.{IsFanout, IsMarks, design_of, state}
-use Rattle.event_choice.specs.Lawful.{IsLawful}
+use Rattle.event_take.specs.Lawful.{IsLawful}
 use Rattle.event_queue.specs.declared.costs.Costs.{Costs}
 use Rattle.event_queue.specs.declared.start.Start.{Start}
 use Rattle.event_queue.specs.declared.start.Start.TheVariants.{PowerUp, Values}

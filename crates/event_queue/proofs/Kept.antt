@@ -11,7 +11,7 @@ use Rattle.event_model.specs.Queue.{Flat, State, Event, Input, Evaluate, Update,
 use Rattle.event_model.specs.declared.setting.Setting.{Setting}
 use Rattle.event_model.specs.Order.{active, ready, ready_where}
 use Rattle.event_model.specs.Writes.{Values, Write, put}
-use Rattle.event_choice.specs.Lawful.{IsLawful}
+use Rattle.event_take.specs.Lawful.{IsLawful}
 use Rattle.event_queue.specs.Offers.{AreAllowed, set_of}
 
 -- whether two states agree on what is offered and pending

@@ -7,9 +7,9 @@ use Rattle.event_model.specs.Policies.{Here, IsDone, IsTooDear, Next, PolicyRun,
 use Rattle.event_model.specs.Queue.{Flat, State, Event, Activate, after}
 use Rattle.event_write.specs.declared.fanout.Fanout.{Fanout}
 use Rattle.event_write.specs.Marks.{design_of}
-use Rattle.event_choice.specs.declared.choice.Choice.{Choice}
-use Rattle.event_choice.specs.declared.choice.Choice.TheVariants as choice
-use Rattle.event_choice.specs.Taken.{event_of}
+use Rattle.event_take.specs.declared.choice.Choice.{Choice}
+use Rattle.event_take.specs.declared.choice.Choice.TheVariants as choice
+use Rattle.event_take.specs.Taken.{event_of}
 use Rattle.event_queue.specs.declared.sim.EventSim.{EventSim}
 use Rattle.event_queue.specs.Sims.{IsSame, Runs, flat_of, left_of, level_of, state_of}
 

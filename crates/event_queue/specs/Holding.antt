@@ -4,7 +4,7 @@ use Rattle.event_model.specs.Policies.{budget}
 use Rattle.event_write.specs.declared.fanout.Fanout.{Fanout}
 use Rattle.event_write.specs.declared.marks.Marks.{Marks}
 use Rattle.event_write.specs.Marks.{IsFanout, IsMarks, design_of, state}
-use Rattle.event_choice.specs.Lawful.{IsLawful}
+use Rattle.event_take.specs.Lawful.{IsLawful}
 use Rattle.event_queue.specs.declared.costs.Costs.{Costs}
 use Rattle.event_queue.specs.Costs.{AreCosts}
 

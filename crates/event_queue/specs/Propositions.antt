@@ -10,7 +10,7 @@ use Rattle.event_write.specs.declared.fanout.Fanout.{Fanout}
 use Rattle.event_write.specs.declared.marks.Marks.{Marks}
 use Rattle.event_write.specs.Entries.{Entry, IsClosed}
 use Rattle.event_write.specs.Marks.{HasWidth, IsFanout, IsInside, IsMarks, design_of, state}
-use Rattle.event_choice.specs.Lawful.{IsLawful}
+use Rattle.event_take.specs.Lawful.{IsLawful}
 use Rattle.event_queue.specs.declared.costs.Costs.{Costs}
 use Rattle.event_queue.specs.Costs.{AreCosts}
 use Rattle.event_queue.specs.Holding.{IsSim}

@@ -4,12 +4,12 @@ ghost use Rattle.std.specs.Prelude.{◌≡◌, ◌≤◌, ◌+◌, length, vec_c
 ghost use Rattle.event_model.specs.Queue.{after};
 ghost use Rattle.event_model.specs.Order.{active, ready};
 ghost use Rattle.event_write.specs.Marks.{IsFanout, IsMarks, design_of, state};
-ghost use Rattle.event_choice.specs.Lawful.{IsLawful};
-ghost use Rattle.event_choice.specs.Taken.{IsAble, event_of};
+ghost use Rattle.event_take.specs.Lawful.{IsLawful};
+ghost use Rattle.event_take.specs.Taken.{IsAble, event_of};
 ghost use Rattle.event_queue.specs.Rooms.{IsMadeReady, IsTaken, free, is_nil, room_for};
 
-use event_choice::choice::Choice;
-use event_choice::policies::choose;
+use event_take::choice::Choice;
+use event_take::policies::choose;
 use event_model::policy::Policy;
 use event_take::events::{activate, evaluate_driver, make_update, run_body, take_input};
 use event_take::updates::update_driver;

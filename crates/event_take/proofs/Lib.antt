@@ -1,3 +1,10 @@
 pub mod Delaying
 pub mod Driving
 pub mod Taking
+pub mod Flags
+pub mod Numbers
+pub mod Orders
+pub mod Lowest
+pub mod Chosen
+pub mod Placing
+pub mod Marked

@@ -1,1 +1,3 @@
 pub mod Rooms
+pub mod Lawful
+pub mod Taken

@@ -1,7 +1,7 @@
 use Rattle.std.proofs.Common.{sym, subst}
 use Rattle.event_write.specs.Marks.{design_of}
-use Rattle.event_choice.specs.declared.choice.Choice.{Choice}
-use Rattle.event_choice.specs.Taken.{IsAble, event_of}
+use Rattle.event_take.specs.declared.choice.Choice.{Choice}
+use Rattle.event_take.specs.Taken.{IsAble, event_of}
 use Rattle.event_queue.specs.Rooms.{IsTaken, free, room_for}
 use Rattle.event_queue.proofs.Loads.{delayed_taken}
 use Rattle.event_queue.proofs.taking.take_event.Goals as goal

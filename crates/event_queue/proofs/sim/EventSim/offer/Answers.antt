@@ -4,7 +4,7 @@ use Rattle.std.specs.declared.alloc.Global.{Global}
 use Rattle.std.proofs.lemmas.List.{length-map}
 use Rattle.event_write.specs.declared.entries.Entry.{Entry as Code}
 use Rattle.event_write.specs.Entries.{entry}
-use Rattle.event_choice.specs.Lawful.{IsLawful}
+use Rattle.event_take.specs.Lawful.{IsLawful}
 use Rattle.event_queue.specs.Sims.{flat_of, state_of}
 use Rattle.event_queue.proofs.Kept.{offer_lawful}
 use Rattle.event_queue.proofs.Loads.{none_waiting}

@@ -1,5 +1,5 @@
 use Rattle.std.proofs.Common.{◌∙◌}
-use Rattle.event_choice.specs.Taken.{event_of}
+use Rattle.event_take.specs.Taken.{event_of}
 use Rattle.event_queue.specs.Sims.{IsSame, flat_of, left_of, level_of, state_of}
 use Rattle.event_queue.proofs.Running.{no_run, run_more, same_again, still_same}
 use Rattle.event_queue.proofs.sim.EventSim.settle.Goals as goal

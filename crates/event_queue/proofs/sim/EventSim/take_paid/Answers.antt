@@ -4,8 +4,8 @@ use Rattle.std.specs.declared.alloc.Global.{Global}
 use Rattle.event_model.specs.Order.{ready}
 use Rattle.event_model.specs.Policies.{cost}
 use Rattle.event_write.specs.declared.entries.Entry.{Entry as Code}
-use Rattle.event_choice.specs.Lawful.{IsLawful}
-use Rattle.event_choice.specs.Taken.{event_of}
+use Rattle.event_take.specs.Lawful.{IsLawful}
+use Rattle.event_take.specs.Taken.{event_of}
 use Rattle.event_queue.specs.Sims.{flat_of, state_of}
 use Rattle.event_queue.proofs.Kept.{after_lawful, ready_lawful}
 use Rattle.event_queue.proofs.Paying.{has_room, less_work, room_left}

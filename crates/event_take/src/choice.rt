@@ -1,0 +1,48 @@
+//! An active event, as the simulator keeps it.
+
+ghost use Rattle.std.specs.Prelude.{◌≡◌, ◌<◌, [], ◌∷◌, cond, length, IsTrue};
+ghost use Rattle.event_model.specs.Queue.{Delayed};
+ghost use Rattle.event_model.specs.Order.{first_delayed, woken_event};
+ghost use Rattle.event_write.specs.declared.marks.Marks.{Marks};
+ghost use Rattle.event_write.specs.Marks.{design_of, state};
+ghost use Rattle.event_take.specs.Taken.{IsAble, event_of};
+
+use event_write::fanout::Fanout;
+use event_write::marks::Marks;
+use rtl_flat::act::Does;
+use rtl_flat::expr::SigId;
+
+/// An active event: a top input takes the value that is offered to it, a continuous assignment is evaluated, its driver
+/// is updated, a body runs, or the first of the activated nonblocking updates is made.
+#[derive(Clone, Copy, PartialEq, Eq, Debug)]
+pub enum Choice {
+    Input(SigId),
+    Evaluate(u32),
+    Update(u32),
+    Run(u32),
+    Delayed,
+}
+
+/// What a woken process does.
+pub(crate) fn woken_choice(fanout: &Fanout, process: u32) -> Choice
+    requires { process < length fanout.now.design.now.processes.items }
+    ensures event { event_of result ≡ woken_event (design_of fanout.now) process }
+    ensures able { (m : Marks) → IsAble (design_of fanout.now) m result }
+{
+    match &fanout.design.processes[process as usize].does {
+        Does::Assign {
+            target: _,
+            value: _,
+        } => Choice::Evaluate(process),
+        Does::Comb { list: _, body: _ } => Choice::Run(process),
+        Does::Edge { events: _, body: _ } => Choice::Run(process),
+    }
+}
+
+/// Whether an activated update is left.
+pub(crate) fn has_delayed(marks: &Marks) -> bool
+    ensures event { first_delayed (state marks.now).activated ≡ cond result (Delayed ∷ []) [] }
+    ensures able { IsTrue result → marks.now.next < length marks.now.active.items }
+{
+    marks.next < marks.active.len()
+}
