@@ -10,8 +10,8 @@ use Rattle.rtl_flat.specs.Value.{store}
 use Rattle.event_model.specs.Policies.{budget}
 use Rattle.event_model.specs.Queue.{Flat, flat}
 use Rattle.event_write.specs.declared.fanout.Fanout.{Fanout}
-use Rattle.event_write.specs.declared.marks.Marks.{Marks}
-use Rattle.event_write.specs.Marks.{IsFanout, IsMarks, design_of, state}
+use Rattle.event_write.specs.declared.queue_state.QueueState.{QueueState}
+use Rattle.event_write.specs.QueueState.{IsFanout, IsQueueState, design_of, state}
 use Rattle.event_take.specs.Lawful.{IsLawful}
 use Rattle.event_queue.specs.declared.costs.Costs.{Costs}
 use Rattle.event_queue.specs.declared.start.Start.{Start}
@@ -31,7 +31,7 @@ pub small_room : (most share : ℕ) → most ≤ 300000 → share ≤ 1000000000
 small_room most share few some = mul-le most share 300000 1000000000000 few some
 
 -- what holds of it
-pub holding : (design : Design) (start : Start) (given : List (Option ℕ)) (fanout : Fanout) (m : Marks) (costs : Costs) (most : ℕ) → IsFanout fanout → fanout.design.now ≡ design → AreCosts (map task design.processes.items) costs → most ≡ budget (flat design) → IsFirst (flat design) (start_of (flat design) start) given (most * costs.share) m → IsSim fanout m costs most most
+pub holding : (design : Design) (start : Start) (given : List (Option ℕ)) (fanout : Fanout) (m : QueueState) (costs : Costs) (most : ℕ) → IsFanout fanout → fanout.design.now ≡ design → AreCosts (map task design.processes.items) costs → most ≡ budget (flat design) → IsFirst (flat design) (start_of (flat design) start) given (most * costs.share) m → IsSim fanout m costs most most
 holding design start given fanout m costs most tables same are most_is first =
     let d : design_of fanout ≡ flat design = ap flat same in
     let waiting = first.room.waiting in
@@ -39,7 +39,7 @@ holding design start given fanout m costs most tables same are most_is first =
     let none = ap length first.room.none in
     record {
       fanout = tables;
-      marks = subst (λ (f : Flat). IsMarks f m) (sym d) first.marks;
+      queue = subst (λ (f : Flat). IsQueueState f m) (sym d) first.queue;
       lawful = subst (λ (f : Flat). IsLawful f (state m)) (sym d) (subst (IsLawful (flat design)) (sym first.state) (start_lawful (flat design) start));
       costs = subst (λ (f : Flat). AreCosts f.tasks costs) (sym d) are;
       budget = most_is ∙ ap budget (sym d);

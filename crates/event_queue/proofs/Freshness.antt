@@ -1,4 +1,4 @@
--- Marks in which nothing is to be done.
+-- QueueState in which nothing is to be done.
 use Rattle.std.proofs.Common.{◌≡◌, ◌≤◌, ◌∙◌, ℕ, false, List, [], length, map, drop, replicate, Option, sym, ap, subst, arith}
 use Rattle.std.specs.Prelude.{vec_capacity}
 use Rattle.std.proofs.lemmas.List.{length-map, length-replicate}
@@ -15,9 +15,9 @@ use Rattle.agenda.specs.Agendas.{Numbered}
 use Rattle.event_model.specs.Writes.{Values}
 use Rattle.event_model.specs.Queue.{Flat, State, doing_at, flat, is_assignment, power_up, settled_at}
 use Rattle.event_write.specs.declared.entries.Entry.{Entry as Code}
-use Rattle.event_write.specs.declared.marks.Marks.{Marks}
+use Rattle.event_write.specs.declared.queue_state.QueueState.{QueueState}
 use Rattle.event_write.specs.Entries.{Entry, IsClosed, entry}
-use Rattle.event_write.specs.Marks.{AreInside, HasWidth, IsInside, IsMarks}
+use Rattle.event_write.specs.QueueState.{AreInside, HasWidth, IsInside, IsQueueState}
 use Rattle.event_write.specs.Stored.{AreStored}
 use Rattle.event_queue.specs.First.{AreDriven, IsFirst, IsFresh, blank, driver_in, first_driver, first_value, now_driver, quiet}
 use Rattle.event_queue.proofs.Starting.{blank_widths, first_are, first_driven, first_driver_widths, first_stored, now_driven, now_driver_widths, powered, quiet_state, settled_is}
@@ -34,7 +34,7 @@ tasks_are : (design : Design) (n : ℕ) → n ≡ length design.processes.items 
 tasks_are design n is =
     let count = length-map design.processes.items task in omega (arith, is, count)
 
-pub fresh_is : (design : Design) (m : Marks) (given : List (Option ℕ)) (most processes signals : ℕ) → length given ≡ length design.processes.items → processes ≡ length design.processes.items → signals ≡ length design.signals.items
+pub fresh_is : (design : Design) (m : QueueState) (given : List (Option ℕ)) (most processes signals : ℕ) → length given ≡ length design.processes.items → processes ≡ length design.processes.items → signals ≡ length design.signals.items
     → AreStored design.signals.items m.values.items → AreDriven (flat design) m.drivers.items → m.woken ≡ record { flags = replicate (length given) false; levels = given } → m.pending ≡ replicate processes false
     → m.pending_values.items ≡ map (λ process. blank (width_in design.signals.items) (doing process.does)) design.processes.items → m.offered ≡ replicate signals false → m.offered_values.items ≡ map first_value design.signals.items
     → m.next ≡ 0 → m.active.items ≡ [] → m.waiting.items ≡ [] → most ≤ vec_capacity m.active → most ≤ vec_capacity m.waiting → 128 ≤ vec_capacity m.scratch → IsFresh (flat design) (store m.values.items) (driver_in m.drivers.items) given most m
@@ -43,7 +43,7 @@ fresh_is design m given most processes signals size counted listed stored driven
     let ws = width_in design.signals.items in
     let flags : m.woken.flags ≡ replicate (length given) false = ap (λ (a : Numbered). a.flags) woken in
     record {
-      marks = record {
+      queue = record {
         values = stored;
         woken = ap length flags ∙ length-replicate (length given) false ∙ tasks_are design (length given) size;
         drivers = driven.count;
@@ -85,7 +85,7 @@ now_drivers_are design v drivers is =
 
 -- ---- where a simulator begins
 
-with_woken : (d : Flat) (m : Marks) (w : Numbered) → IsMarks d m → length w.flags ≡ length m.woken.flags → IsMarks d (record m { woken = w })
+with_woken : (d : Flat) (m : QueueState) (w : Numbered) → IsQueueState d m → length w.flags ≡ length m.woken.flags → IsQueueState d (record m { woken = w })
 with_woken d m w is size =
     record {
       values = is.values;
@@ -104,12 +104,12 @@ with_woken d m w is size =
       waiting_inside = is.waiting_inside;
     }
 
-pub power_up_is : (design : Design) (m : Marks) (w : Numbered) (values : List (List Bit)) (drivers : List (Option (List Bit))) (given : List (Option ℕ)) (most : ℕ) → values ≡ map first_value design.signals.items → drivers ≡ map (λ process. first_driver (width_in design.signals.items) (doing process.does)) design.processes.items
+pub power_up_is : (design : Design) (m : QueueState) (w : Numbered) (values : List (List Bit)) (drivers : List (Option (List Bit))) (given : List (Option ℕ)) (most : ℕ) → values ≡ map first_value design.signals.items → drivers ≡ map (λ process. first_driver (width_in design.signals.items) (doing process.does)) design.processes.items
     → IsFresh (flat design) (store values) (driver_in drivers) given most m → length w.flags ≡ length m.woken.flags → w.levels ≡ m.woken.levels → ((p : ℕ) → flag w.flags p ≡ is_assignment (doing_at (flat design) p)) → IsFirst (flat design) (power_up (flat design)) given most (record m { woken = w })
 power_up_is design m w values drivers given most values_are drivers_are fresh size levels flags =
     let d = flat design in
     record {
-      marks = with_woken d m w fresh.marks size;
+      queue = with_woken d m w fresh.queue size;
       state = ap (λ (s : State). record s { woken = flag w.flags }) fresh.state
           ∙ powered d (store values) (flag w.flags) (driver_in drivers)
           (λ i. ap (λ (xs : List (List Bit)). store xs i) values_are ∙ first_are design.signals.items i) flags
@@ -118,12 +118,12 @@ power_up_is design m w values drivers given most values_are drivers_are fresh si
       room = record { none = fresh.room.none; waiting = fresh.room.waiting; active = fresh.room.active; scratch = fresh.room.scratch };
     }
 
-pub settled_first : (design : Design) (m : Marks) (given : List (Option ℕ)) (most : ℕ) (v : Values) (values : List (List Bit)) (drivers : List (Option (List Bit))) → store values ≡ v → drivers ≡ map (λ process. now_driver v (doing process.does)) design.processes.items
+pub settled_first : (design : Design) (m : QueueState) (given : List (Option ℕ)) (most : ℕ) (v : Values) (values : List (List Bit)) (drivers : List (Option (List Bit))) → store values ≡ v → drivers ≡ map (λ process. now_driver v (doing process.does)) design.processes.items
     → IsFresh (flat design) (store values) (driver_in drivers) given most m → IsFirst (flat design) (settled_at (flat design) v) given most m
 settled_first design m given most v values drivers values_are drivers_are fresh =
     let d = flat design in
     record {
-      marks = fresh.marks;
+      queue = fresh.queue;
       state = fresh.state
           ∙ ap (λ (x : Values). quiet x (λ p. false) (driver_in drivers)) values_are
           ∙ settled_is d v (driver_in drivers) (λ p. ap (λ (xs : List (Option (List Bit))). driver_in xs p) drivers_are ∙ now_driven v design.processes.items p);

@@ -6,9 +6,9 @@ use Rattle.std.proofs.lemmas.List.{length-map}
 use Rattle.event_model.specs.Queue.{Flat, State, after_delayed, write, write_all}
 use Rattle.event_model.specs.Writes.{Write}
 use Rattle.event_write.specs.declared.entries.Entry.{Entry as Code}
-use Rattle.event_write.specs.declared.marks.Marks.{Marks}
+use Rattle.event_write.specs.declared.queue_state.QueueState.{QueueState}
 use Rattle.event_write.specs.Entries.{Entry, entry, glue, updates, writes_of}
-use Rattle.event_write.specs.Marks.{state}
+use Rattle.event_write.specs.QueueState.{state}
 use Rattle.event_write.proofs.Entering.{some_update}
 use Rattle.event_queue.specs.Rooms.{IsMadeReady, IsTaken}
 
@@ -30,7 +30,7 @@ some_left (e ∷ es) zero lt =
     let (u, us, is) = some_update e es in let count = ap length is in omega (arith, count)
 some_left (e ∷ es) (suc n) lt = some_left es n (omega (arith, lt))
 
-pub update_made : (d : Flat) (m n : Marks) → state n ≡ after_delayed d (state m) (state m).activated → m.next < length m.active.items → length (state n).activated + 1 ≡ length (state m).activated
+pub update_made : (d : Flat) (m n : QueueState) → state n ≡ after_delayed d (state m) (state m).activated → m.next < length m.active.items → length (state n).activated + 1 ≡ length (state m).activated
 update_made d m n is there =
     let count = length-map m.active.items entry in
     let some = some_left (map entry m.active.items) m.next (omega (arith, count, there)) in
@@ -60,7 +60,7 @@ none_waiting (e ∷ es) none =
 -- ---- what events leave
 
 -- the first activated update is made
-pub delayed_taken : (d : Flat) (m n : Marks) → state n ≡ after_delayed d (state m) (state m).activated → n.woken.levels ≡ m.woken.levels → n.waiting ≡ m.waiting → n.scratch ≡ m.scratch → n.active ≡ m.active → m.next < length m.active.items → IsTaken 0 1 m n
+pub delayed_taken : (d : Flat) (m n : QueueState) → state n ≡ after_delayed d (state m) (state m).activated → n.woken.levels ≡ m.woken.levels → n.waiting ≡ m.waiting → n.scratch ≡ m.scratch → n.active ≡ m.active → m.next < length m.active.items → IsTaken 0 1 m n
 delayed_taken d m n is levels waiting scratch active there =
     let made = update_made d m n is there in
     let count = ap (λ (v : Vec Code Global). length v.items) waiting in
@@ -76,7 +76,7 @@ delayed_taken d m n is levels waiting scratch active there =
     }
 
 -- all updates become active
-pub made_ready : (m n : Marks) → state n ≡ record (state m) { activated = (state m).delayed; delayed = [] } → n.woken.levels ≡ m.woken.levels → vec_capacity n.active ≡ vec_capacity m.waiting → vec_capacity m.active ≤ vec_capacity n.waiting → n.scratch ≡ m.scratch → IsMadeReady m n
+pub made_ready : (m n : QueueState) → state n ≡ record (state m) { activated = (state m).delayed; delayed = [] } → n.woken.levels ≡ m.woken.levels → vec_capacity n.active ≡ vec_capacity m.waiting → vec_capacity m.active ≤ vec_capacity n.waiting → n.scratch ≡ m.scratch → IsMadeReady m n
 made_ready m n is levels active waiting scratch =
     let empty = none_waiting (map entry n.waiting.items) (ap (λ (s : State). s.delayed) is) in
     let count = length-map n.waiting.items entry in

@@ -11,8 +11,8 @@ use Rattle.rtl_flat.specs.Signs.{width_in}
 use Rattle.rtl_flat.specs.Value.{store}
 use Rattle.event_model.specs.Queue.{Flat, is_input, is_input_of}
 use Rattle.event_model.specs.Writes.{put}
-use Rattle.event_write.specs.declared.marks.Marks.{Marks}
-use Rattle.event_write.specs.Marks.{IsMarks, held, state}
+use Rattle.event_write.specs.declared.queue_state.QueueState.{QueueState}
+use Rattle.event_write.specs.QueueState.{IsQueueState, held, state}
 use Rattle.event_write.specs.Stored.{AreStored}
 use Rattle.event_take.proofs.Taking.{held_more}
 
@@ -38,7 +38,7 @@ stored_set signals values i bits within width stored =
         ]
 
 -- the state with a value that is offered
-pub offered_state : (d : Flat) (m : Marks) (values : Vec (List Bit) Global) (i : ℕ) (bits : List Bit) → IsMarks d m → i < length d.signals → values.items ≡ set m.offered_values.items i bits → state (record m { offered = set m.offered i true; offered_values = values }) ≡ record (state m) { offered = put (state m).offered i (Some bits) }
+pub offered_state : (d : Flat) (m : QueueState) (values : Vec (List Bit) Global) (i : ℕ) (bits : List Bit) → IsQueueState d m → i < length d.signals → values.items ≡ set m.offered_values.items i bits → state (record m { offered = set m.offered i true; offered_values = values }) ≡ record (state m) { offered = put (state m).offered i (Some bits) }
 offered_state d m values i bits is within are =
     let flagged = is.offered in
     let stored = is.offered_values.count in
@@ -47,8 +47,8 @@ offered_state d m values i bits is within are =
     ap (λ (q : ℕ → Option (List Bit)). record (state m) { offered = q })
     (ap (held (set m.offered i true)) are ∙ fun_ext (held_more m.offered m.offered_values.items i bits there kept))
 
-pub offered_marks : (d : Flat) (m : Marks) (values : Vec (List Bit) Global) (i : ℕ) (bits : List Bit) → IsMarks d m → i < length d.signals → length bits ≡ width_in d.signals i → values.items ≡ set m.offered_values.items i bits → IsMarks d (record m { offered = set m.offered i true; offered_values = values })
-offered_marks d m values i bits is within width are =
+pub offered_queue : (d : Flat) (m : QueueState) (values : Vec (List Bit) Global) (i : ℕ) (bits : List Bit) → IsQueueState d m → i < length d.signals → length bits ≡ width_in d.signals i → values.items ≡ set m.offered_values.items i bits → IsQueueState d (record m { offered = set m.offered i true; offered_values = values })
+offered_queue d m values i bits is within width are =
     let stored = is.offered_values.count in
     record {
       values = is.values;

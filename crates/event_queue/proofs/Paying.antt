@@ -3,7 +3,7 @@ use Rattle.std.proofs.Common.{◌≡◌, ◌≤◌, ◌<◌, ◌+◌, ◌*◌, �
 use Rattle.rtl_flat.specs.Process.{Doing}
 use Rattle.event_model.specs.Policies.{cost, run_cost}
 use Rattle.event_model.specs.Queue.{Flat, Event, Input, Evaluate, Update, Run, Delayed, Activate, doing_at}
-use Rattle.event_write.specs.declared.marks.Marks.{Marks}
+use Rattle.event_write.specs.declared.queue_state.QueueState.{QueueState}
 use Rattle.event_queue.specs.declared.costs.Costs.{Costs}
 use Rattle.event_queue.specs.Costs.{AreCosts}
 use Rattle.event_queue.specs.Rooms.{IsMadeReady, IsTaken, free, load, room_for}
@@ -28,7 +28,7 @@ has_room d costs event waiting capacity left less all are paid fits enough =
     omega (arith, room, split, fits, enough)
 
 -- the room that is left
-pub room_left : (d : Flat) (costs : Costs) (event : Event) (m n o : Marks) (left less all : ℕ) → AreCosts d.tasks costs → less + cost d event ≡ left → length m.waiting.items + costs.share * left ≤ all → IsTaken (room_for d event) (free event) m n → IsMadeReady n o → length o.waiting.items + costs.share * less ≤ all
+pub room_left : (d : Flat) (costs : Costs) (event : Event) (m n o : QueueState) (left less all : ℕ) → AreCosts d.tasks costs → less + cost d event ≡ left → length m.waiting.items + costs.share * left ≤ all → IsTaken (room_for d event) (free event) m n → IsMadeReady n o → length o.waiting.items + costs.share * less ≤ all
 room_left d costs event m n o left less all are paid fits taken made =
     let room = room_paid d costs are event in
     let split = split_share costs.share left less (cost d event) paid in
@@ -50,7 +50,7 @@ some_work d Delayed h = omega arith
 some_work d Activate h = absurd (h refl)
 
 -- so the work that may be left becomes less
-pub less_work : (d : Flat) (costs : Costs) (event : Event) (m n o : Marks) (left less : ℕ) → AreCosts d.tasks costs → (event ≡ Activate → ⊥) → less + cost d event ≡ left → IsTaken (room_for d event) (free event) m n → IsMadeReady n o → 2 * (costs.share * less) + less + load o < 2 * (costs.share * left) + left + load m
+pub less_work : (d : Flat) (costs : Costs) (event : Event) (m n o : QueueState) (left less : ℕ) → AreCosts d.tasks costs → (event ≡ Activate → ⊥) → less + cost d event ≡ left → IsTaken (room_for d event) (free event) m n → IsMadeReady n o → 2 * (costs.share * less) + less + load o < 2 * (costs.share * left) + left + load m
 less_work d costs event m n o left less are chosen paid taken made =
     let room = room_paid d costs are event in
     let split = split_share costs.share left less (cost d event) paid in

@@ -6,7 +6,7 @@ use Rattle.event_model.specs.Order.{ready}
 use Rattle.event_model.specs.Policies.{Here, IsDone, IsTooDear, Next, PolicyRun, chosen, cost}
 use Rattle.event_model.specs.Queue.{Flat, State, Event, Activate, after}
 use Rattle.event_write.specs.declared.fanout.Fanout.{Fanout}
-use Rattle.event_write.specs.Marks.{design_of}
+use Rattle.event_write.specs.QueueState.{design_of}
 use Rattle.event_take.specs.declared.choice.Choice.{Choice}
 use Rattle.event_take.specs.declared.choice.Choice.TheVariants as choice
 use Rattle.event_take.specs.Taken.{event_of}

@@ -1,4 +1,4 @@
--- The marks from which a simulator begins.
+-- The queue from which a simulator begins.
 use Rattle.std.proofs.Common.{◌≡◌, ◌≤◌, ◌<◌, ◌+◌, ◌-◌, ◌∙◌, ℕ, zero, suc, Bool, true, false, cond, ◌&&◌, ◌||◌, List, [], ◌∷◌, length, map, take, drop, replicate, Option, None, Some, refl, sym, ap, inl, inr, arith}
 use Rattle.std.specs.Prelude.{◌==◌, nat_lt, if◌then◌else◌}
 use Rattle.std.specs.List.{slice_get}
@@ -20,9 +20,9 @@ use Rattle.rank_set.specs.Ranks.{flag}
 use Rattle.rank_set.proofs.Law.{flag-replicate}
 use Rattle.event_model.specs.Writes.{Values}
 use Rattle.event_model.specs.Queue.{Flat, doing_at, doing_of, drive_now, first_bits, first_drive, is_assignment, power_up, settled_at}
-use Rattle.event_write.specs.declared.marks.Marks.{Marks}
+use Rattle.event_write.specs.declared.queue_state.QueueState.{QueueState}
 use Rattle.event_write.specs.Entries.{entry, updates}
-use Rattle.event_write.specs.Marks.{HasWidth, driver_of, held, state}
+use Rattle.event_write.specs.QueueState.{HasWidth, driver_of, held, state}
 use Rattle.event_write.specs.Stored.{AreStored}
 use Rattle.event_queue.specs.First.{blank, driver_in, first_driver, first_value, now_driver, quiet}
 
@@ -106,7 +106,7 @@ blank_widths ws (x ∷ processes) (suc p) = blank_widths ws processes p
 none_held : (n : ℕ) (values : List (List Bit)) (k : ℕ) → held (replicate n false) values k ≡ None
 none_held n values k = ap (λ (b : Bool). if b then Some (store values k) else None) (flag-replicate n k)
 
-pub quiet_state : (m : Marks) (w n k : ℕ) → m.woken.flags ≡ replicate w false → m.pending ≡ replicate n false → m.offered ≡ replicate k false → m.next ≡ 0 → m.active.items ≡ [] → m.waiting.items ≡ [] → state m ≡ quiet (store m.values.items) (λ p. false) (driver_in m.drivers.items)
+pub quiet_state : (m : QueueState) (w n k : ℕ) → m.woken.flags ≡ replicate w false → m.pending ≡ replicate n false → m.offered ≡ replicate k false → m.next ≡ 0 → m.active.items ≡ [] → m.waiting.items ≡ [] → state m ≡ quiet (store m.values.items) (λ p. false) (driver_in m.drivers.items)
 quiet_state m w n k woken pending offered next active waiting =
     let s = state m in
     ap (λ (x : ℕ → Bool). record s { woken = x }) (ap flag woken ∙ fun_ext (flag-replicate w))

@@ -9,8 +9,8 @@ use Rattle.rtl_flat.specs.Sizes.{width_of}
 use Rattle.rtl_flat.specs.Value.{value}
 use Rattle.event_model.specs.Writes.{Values}
 use Rattle.event_model.specs.Queue.{Flat, State, doing_at, first_bit, widths}
-use Rattle.event_write.specs.declared.marks.Marks.{Marks}
-use Rattle.event_write.specs.Marks.{HasWidth, IsMarks, driver_of, state}
+use Rattle.event_write.specs.declared.queue_state.QueueState.{QueueState}
+use Rattle.event_write.specs.QueueState.{HasWidth, IsQueueState, driver_of, state}
 
 abbrev pub first_value : Signal → List Bit
 first_value signal = replicate signal.width (first_bit signal.kind)
@@ -48,23 +48,23 @@ quiet v woken driver =
     record { value = v; woken = woken; driver = driver; pending = λ p. None; offered = λ i. None; activated = []; delayed = [] }
 
 -- room for so many prepared writes, of which there are none yet
-pub record HasRoom (room : ℕ) (m : Marks) : Type 0 where
+pub record HasRoom (room : ℕ) (m : QueueState) : Type 0 where
   pub none : m.waiting.items ≡ []
   pub waiting : room ≤ vec_capacity m.waiting
   pub active : room ≤ vec_capacity m.active
   pub scratch : 128 ≤ vec_capacity m.scratch
 
--- marks in which no process is woken
-pub record IsFresh (d : Flat) (v : Values) (driver : ℕ → List Bit) (given : List (Option ℕ)) (most : ℕ) (m : Marks) : Type 0 where
-  pub marks : IsMarks d m
+-- queue in which no process is woken
+pub record IsFresh (d : Flat) (v : Values) (driver : ℕ → List Bit) (given : List (Option ℕ)) (most : ℕ) (m : QueueState) : Type 0 where
+  pub queue : IsQueueState d m
   pub state : state m ≡ quiet v (λ p. false) driver
   pub flags : m.woken.flags ≡ replicate (length d.tasks) false
   pub levels : m.woken.levels ≡ given
   pub room : HasRoom most m
 
--- marks that are a state from which a simulator begins
-pub record IsFirst (d : Flat) (s : State) (given : List (Option ℕ)) (most : ℕ) (m : Marks) : Type 0 where
-  pub marks : IsMarks d m
+-- queue that are a state from which a simulator begins
+pub record IsFirst (d : Flat) (s : State) (given : List (Option ℕ)) (most : ℕ) (m : QueueState) : Type 0 where
+  pub queue : IsQueueState d m
   pub state : state m ≡ s
   pub levels : m.woken.levels ≡ given
   pub room : HasRoom most m

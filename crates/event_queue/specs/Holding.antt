@@ -2,17 +2,17 @@
 use Rattle.std.specs.Prelude.{◌≡◌, ◌≤◌, ◌+◌, ◌*◌, ℕ, length, vec_capacity}
 use Rattle.event_model.specs.Policies.{budget}
 use Rattle.event_write.specs.declared.fanout.Fanout.{Fanout}
-use Rattle.event_write.specs.declared.marks.Marks.{Marks}
-use Rattle.event_write.specs.Marks.{IsFanout, IsMarks, design_of, state}
+use Rattle.event_write.specs.declared.queue_state.QueueState.{QueueState}
+use Rattle.event_write.specs.QueueState.{IsFanout, IsQueueState, design_of, state}
 use Rattle.event_take.specs.Lawful.{IsLawful}
 use Rattle.event_queue.specs.declared.costs.Costs.{Costs}
 use Rattle.event_queue.specs.Costs.{AreCosts}
 
--- its tables are those of its design, its marks are lawful, and the rest of its budget pays for the room that it has for
+-- its tables are those of its design, its queue are lawful, and the rest of its budget pays for the room that it has for
 -- prepared writes
-pub record IsSim (f : Fanout) (m : Marks) (c : Costs) (most rest : ℕ) : Type 0 where
+pub record IsSim (f : Fanout) (m : QueueState) (c : Costs) (most rest : ℕ) : Type 0 where
   pub fanout : IsFanout f
-  pub marks : IsMarks (design_of f) m
+  pub queue : IsQueueState (design_of f) m
   pub lawful : IsLawful (design_of f) (state m)
   pub costs : AreCosts (design_of f).tasks c
   pub budget : most ≡ budget (design_of f)

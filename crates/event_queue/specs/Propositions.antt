@@ -7,9 +7,9 @@ use Rattle.rtl_flat.specs.Process.{Doing, Assign, Comb, Edge', Task}
 use Rattle.event_model.specs.Queue.{Flat, State, widths}
 use Rattle.event_model.specs.Writes.{Span}
 use Rattle.event_write.specs.declared.fanout.Fanout.{Fanout}
-use Rattle.event_write.specs.declared.marks.Marks.{Marks}
+use Rattle.event_write.specs.declared.queue_state.QueueState.{QueueState}
 use Rattle.event_write.specs.Entries.{Entry, IsClosed}
-use Rattle.event_write.specs.Marks.{HasWidth, IsFanout, IsInside, IsMarks, design_of, state}
+use Rattle.event_write.specs.QueueState.{HasWidth, IsFanout, IsInside, IsQueueState, design_of, state}
 use Rattle.event_take.specs.Lawful.{IsLawful}
 use Rattle.event_queue.specs.declared.costs.Costs.{Costs}
 use Rattle.event_queue.specs.Costs.{AreCosts}
@@ -36,8 +36,8 @@ inside_one : (signals : List Signal) (i : ℕ) (span : Option Span) (bits : List
 inside_one signals i None bits = hlevel props
 inside_one signals i (Some span) bits = hlevel props
 
-marks_one : (d : Flat) (m : Marks) → IsProp (IsMarks d m)
-marks_one d m =
+queue_one : (d : Flat) (m : QueueState) → IsProp (IsQueueState d m)
+queue_one d m =
     hlevel (props, width_one (widths d), closed_one, λ (e : Entry). inside_one d.signals e.signal e.span e.bits)
 
 lawful_one : (d : Flat) (s : State) → IsProp (IsLawful d s)
@@ -46,6 +46,6 @@ lawful_one d s = hlevel (props, bit_set)
 costs_one : (tasks : List Task) (c : Costs) → IsProp (AreCosts tasks c)
 costs_one tasks c = hlevel props
 
-pub sim_one : (f : Fanout) (m : Marks) (c : Costs) (most rest : ℕ) → IsProp (IsSim f m c most rest)
+pub sim_one : (f : Fanout) (m : QueueState) (c : Costs) (most rest : ℕ) → IsProp (IsSim f m c most rest)
 sim_one f m c most rest =
-    hlevel (props, fanout_one f, marks_one (design_of f) m, lawful_one (design_of f) (state m), costs_one (design_of f).tasks c)
+    hlevel (props, fanout_one f, queue_one (design_of f) m, lawful_one (design_of f) (state m), costs_one (design_of f).tasks c)

@@ -1,8 +1,8 @@
 -- The room and the work of delayed updates.
 use Rattle.std.specs.Prelude.{◌≡◌, ◌≤◌, ◌+◌, ◌*◌, ℕ, Bool, true, false, List, [], ◌∷◌, length, vec_capacity}
 use Rattle.event_model.specs.Queue.{Flat, Event, Run, Delayed, doing_at}
-use Rattle.event_write.specs.declared.marks.Marks.{Marks}
-use Rattle.event_write.specs.Marks.{state}
+use Rattle.event_write.specs.declared.queue_state.QueueState.{QueueState}
+use Rattle.event_write.specs.QueueState.{state}
 use Rattle.event_take.specs.Rooms.{room_of}
 
 -- whether a list is empty
@@ -21,11 +21,11 @@ free Delayed = 1
 free _ = 0
 
 -- the work that is left in delayed updates: they are activated, and then made
-abbrev pub load : Marks → ℕ
+abbrev pub load : QueueState → ℕ
 load m = 2 * length m.waiting.items + length (state m).activated
 
 -- what an event leaves, where it makes at most so many prepared writes for later, and so many activated updates
-pub record IsTaken (most done : ℕ) (m n : Marks) : Type 0 where
+pub record IsTaken (most done : ℕ) (m n : QueueState) : Type 0 where
   pub levels : n.woken.levels ≡ m.woken.levels
   pub waiting : length n.waiting.items ≤ length m.waiting.items + most
   pub room : vec_capacity m.waiting ≤ vec_capacity n.waiting
@@ -33,8 +33,8 @@ pub record IsTaken (most done : ℕ) (m n : Marks) : Type 0 where
   pub active : n.active ≡ m.active
   pub load : load n + done ≤ load m + 2 * most
 
--- what becomes of marks where nonblocking updates may become active: room that both lists of updates have stays
-pub record IsMadeReady (m n : Marks) : Type 0 where
+-- what becomes of queue where nonblocking updates may become active: room that both lists of updates have stays
+pub record IsMadeReady (m n : QueueState) : Type 0 where
   pub levels : n.woken.levels ≡ m.woken.levels
   pub waiting : length n.waiting.items ≤ length m.waiting.items
   pub room : (most : ℕ) → most ≤ vec_capacity m.waiting → most ≤ vec_capacity m.active → (most ≤ vec_capacity n.waiting) × (most ≤ vec_capacity n.active)

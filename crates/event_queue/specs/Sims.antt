@@ -7,7 +7,7 @@ use Rattle.event_model.specs.declared.policy.Policy.{Policy}
 use Rattle.event_model.specs.Order.{active, ready}
 use Rattle.event_model.specs.Policies.{PolicyRun, budget, cost}
 use Rattle.event_model.specs.Queue.{Flat, State, Event, after, flat}
-use Rattle.event_write.specs.Marks.{design_of, state}
+use Rattle.event_write.specs.QueueState.{design_of, state}
 use Rattle.event_take.specs.Taken.{level_in}
 use Rattle.event_queue.specs.declared.sim.EventSim.{EventSim}
 use Rattle.event_queue.specs.Rooms.{load}
@@ -18,10 +18,10 @@ abbrev pub flat_of : EventSim → Flat
 flat_of sim = design_of sim.fanout
 
 abbrev pub state_of : EventSim → State
-state_of sim = state sim.marks
+state_of sim = state sim.queue
 
 abbrev pub level_of : EventSim → ℕ → Option ℕ
-level_of sim = level_in sim.marks
+level_of sim = level_in sim.queue
 
 abbrev pub left_of : EventSim → ℕ
 left_of sim = sim.left
@@ -31,12 +31,12 @@ is_stuck sim = sim.stuck
 
 -- the work that may be left in a step
 abbrev pub work : EventSim → ℕ
-work sim = 2 * (sim.costs.share * sim.left) + sim.left + load sim.marks
+work sim = 2 * (sim.costs.share * sim.left) + sim.left + load sim.queue
 
 -- what stays: the design, the levels of its processes, the budget of a step
 pub record IsSame (s t : EventSim) : Type 0 where
   pub fanout : t.fanout ≡ s.fanout
-  pub levels : t.marks.woken.levels ≡ s.marks.woken.levels
+  pub levels : t.queue.woken.levels ≡ s.queue.woken.levels
   pub costs : t.costs ≡ s.costs
   pub budget : t.budget ≡ s.budget
 

@@ -4,7 +4,7 @@
 
 mod bodies;
 mod costs;
-mod first_marks;
+mod first_queue;
 mod offering;
 pub mod sim;
 pub mod start;

@@ -5,7 +5,7 @@ ghost use Rattle.event_queue.specs.Propositions.{sim_one};
 
 use crate::costs::{Costs, budget_of, costs_of};
 use crate::offering::offer_all;
-use crate::start::{Start, first_marks};
+use crate::start::{Start, first_queue};
 use crate::taking::{make_ready, take_event};
 use event_take::choice::Choice;
 use event_take::places::{count, nth};
@@ -15,7 +15,7 @@ use event_model::policy::Policy;
 use event_model::setting::Setting;
 use event_tables::fanout_of;
 use event_write::fanout::Fanout;
-use event_write::marks::Marks;
+use event_write::queue_state::QueueState;
 use rtl_bits::Vec4;
 use rtl_flat::design::Design;
 use rtl_flat::expr::SigId;
@@ -33,7 +33,7 @@ pub struct Unsettled;
 #[derive(Drop)]
 pub struct EventSim<'d> {
     fanout: Fanout<'d>,
-    marks: Marks,
+    queue: QueueState,
     costs: Costs,
     /// What all events of one step may cost: each costs 1, and a run 1 more for each nonblocking assignment in its body.
     budget: u64,
@@ -41,7 +41,7 @@ pub struct EventSim<'d> {
     left: u64,
     /// Whether a step didn't settle.
     stuck: bool,
-    ghost is_sim: { IsSim fanout marks costs budget left } by { sim_one fanout marks costs budget left },
+    ghost is_sim: { IsSim fanout queue costs budget left } by { sim_one fanout queue costs budget left },
 }
 
 impl<'d> EventSim<'d> {
@@ -64,10 +64,10 @@ impl<'d> EventSim<'d> {
         let budget = budget_of(design, &costs);
         let levels = levels(alloc, design)?;
         let room = (budget * costs.share) as usize;
-        let marks = first_marks(alloc, design, start, levels, room)?;
+        let queue = first_queue(alloc, design, start, levels, room)?;
         Ok(EventSim {
             fanout,
-            marks,
+            queue,
             costs,
             budget,
             left: budget,
@@ -80,12 +80,12 @@ impl<'d> EventSim<'d> {
         requires there { signal.0 < length (flat_of self.now).signals }
         ensures { result ≡ (state_of self.now).value signal.0 }
     {
-        self.marks.values[signal.0 as usize]
+        self.queue.values[signal.0 as usize]
     }
 
     /// What an event costs.
     fn cost_of(&self, choice: Choice) -> u64
-        requires able { IsAble (flat_of self.now) self.now.marks choice }
+        requires able { IsAble (flat_of self.now) self.now.queue choice }
         ensures { result ≡ cost (flat_of self.now) (event_of choice) }
     {
         match choice {
@@ -99,7 +99,7 @@ impl<'d> EventSim<'d> {
 
     /// Takes an event that what is left pays for.
     fn take_paid(&mut self, choice: Choice)
-        requires able { IsAble (flat_of self.old) self.old.marks choice }
+        requires able { IsAble (flat_of self.old) self.old.queue choice }
         requires paid { cost (flat_of self.old) (event_of choice) ≤ left_of self.old }
         ensures state { state_of self.new ≡ ready (flat_of self.old) (after (flat_of self.old) (state_of self.old) (event_of choice)) }
         ensures left { left_of self.new + cost (flat_of self.old) (event_of choice) ≡ left_of self.old }
@@ -109,8 +109,8 @@ impl<'d> EventSim<'d> {
     {
         let cost = self.cost_of(choice);
         self.left -= cost;
-        take_event(&self.fanout, &mut self.marks, choice);
-        make_ready(&self.fanout, &mut self.marks);
+        take_event(&self.fanout, &mut self.queue, choice);
+        make_ready(&self.fanout, &mut self.queue);
     }
 
     /// Takes the events that a policy takes, until none is active.
@@ -123,7 +123,7 @@ impl<'d> EventSim<'d> {
         ensures dear { IfErr result (λ _. IsTooDear policy (level_of self.old) (flat_of self.old) (state_of self.new) (left_of self.new)) }
         ensures stuck { IfErr result (λ _. is_stuck self.new ≡ true) }
     {
-        while let Some(choice) = choose(policy, &self.fanout, &self.marks) {
+        while let Some(choice) = choose(policy, &self.fanout, &self.queue) {
             if self.cost_of(choice) > self.left {
                 self.stuck = true;
                 return Err(Unsettled);
@@ -137,7 +137,7 @@ impl<'d> EventSim<'d> {
     pub fn choices(&self) -> usize
         ensures { result ≡ length (active (flat_of self.now) (state_of self.now)) }
     {
-        count(&self.fanout, &self.marks)
+        count(&self.fanout, &self.queue)
     }
 
     /// Takes the active event before which so many are. It answers `Unsettled` where that costs more than is left of the
@@ -154,7 +154,7 @@ impl<'d> EventSim<'d> {
         if self.stuck {
             return Err(Unsettled);
         }
-        let choice = nth(&self.fanout, &self.marks, place);
+        let choice = nth(&self.fanout, &self.queue, place);
         if self.cost_of(choice) > self.left {
             self.stuck = true;
             return Err(Unsettled);
@@ -173,7 +173,7 @@ impl<'d> EventSim<'d> {
         ensures same { IsSame self.old self.new }
         ensures stuck { is_stuck self.new ≡ is_stuck self.old }
     {
-        offer_all(&self.fanout, &mut self.marks, settings);
+        offer_all(&self.fanout, &mut self.queue, settings);
         self.left = self.budget;
     }
 

@@ -5,8 +5,8 @@ ghost use Rattle.event_model.specs.Queue.{flat};
 ghost use Rattle.event_queue.specs.First.{IsFirst};
 ghost use Rattle.event_queue.specs.Starts.{IsStart, start_of};
 
-use crate::first_marks::{power_up, settled};
-use event_write::marks::Marks;
+use crate::first_queue::{power_up, settled};
+use event_write::queue_state::QueueState;
 use rtl_bits::Vec4;
 use rtl_flat::design::Design;
 use rtl_tree::memory::Memory;
@@ -21,17 +21,17 @@ pub enum Start {
     Values(Vec<Vec4>),
 }
 
-/// The marks from which a simulator begins.
-pub(crate) fn first_marks(
+/// The queue from which a simulator begins.
+pub(crate) fn first_queue(
     alloc: Global,
     design: &Design,
     start: &Start,
     levels: Vec<Option<u32>>,
     room: usize,
-) -> Result<Marks, Memory>
+) -> Result<QueueState, Memory>
     requires start { IsStart design.now start.now }
     requires levels { length levels.items ≡ length design.now.processes.items }
-    ensures { IfOk result (λ marks. IsFirst (flat design.now) (start_of (flat design.now) start.now) levels.items room marks) }
+    ensures { IfOk result (λ queue. IsFirst (flat design.now) (start_of (flat design.now) start.now) levels.items room queue) }
 {
     match start {
         Start::PowerUp => power_up(alloc, design, levels, room),

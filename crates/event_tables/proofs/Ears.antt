@@ -15,7 +15,7 @@ use Rattle.rtl_scan.specs.Sets.{has_row}
 use Rattle.event_model.specs.Queue.{happens, hears, hears_from as listened_from}
 use Rattle.event_write.specs.declared.listener.Listener.{Listener}
 use Rattle.event_write.specs.Listeners.{hears_from, heard_by}
-use Rattle.event_write.specs.Marks.{row}
+use Rattle.event_write.specs.QueueState.{row}
 use Rattle.event_tables.specs.Hearing.{Ear, ear_from, listens_of, Hears}
 
 pub or_none : (a b : Bool) → b ≡ false → (a || b) ≡ a

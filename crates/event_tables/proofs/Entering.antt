@@ -11,7 +11,7 @@ use Rattle.rtl_flat.specs.declared.act.TargetPart.{TargetPart}
 use Rattle.rtl_flat.specs.Process.{Piece, Doing, Assign, Comb, Edge', Task, Actions, Watched, piece}
 use Rattle.rtl_flat.specs.Expression.{Tree}
 use Rattle.event_model.specs.Queue.{Flat, doing_of, doing_at}
-use Rattle.event_write.specs.Marks.{row}
+use Rattle.event_write.specs.QueueState.{row}
 use Rattle.event_tables.specs.Driving.{names, drives_of, drives, ends_in, entered, Enters}
 use Rattle.event_tables.proofs.Ears.{row_set, row_other}
 

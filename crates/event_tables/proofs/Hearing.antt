@@ -25,7 +25,7 @@ use Rattle.rtl_scan.proofs.Places.{width_past}
 use Rattle.event_model.specs.Queue.{Flat, happens, hears, item_hears, doing_of, doing_at, widths}
 use Rattle.event_write.specs.declared.listener.Listener.{Listener}
 use Rattle.event_write.specs.Listeners.{heard_by}
-use Rattle.event_write.specs.Marks.{row}
+use Rattle.event_write.specs.QueueState.{row}
 use Rattle.event_tables.specs.Hearing.{Ear, ear_from, listens_of, listens_at, Hears, AreHeard}
 use Rattle.event_tables.proofs.Deaf.{deaf}
 use Rattle.event_tables.proofs.Ears.{bits_ear, silent, hears_is, hears_nothing, hears_then, hears_same, row_past}

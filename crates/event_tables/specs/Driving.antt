@@ -5,7 +5,7 @@ use Rattle.std.specs.declared.alloc.Global.{Global}
 use Rattle.rtl_bits.specs.declared.Bit.{Bit}
 use Rattle.rtl_flat.specs.Process.{Piece, Doing, Assign, Comb, Edge'}
 use Rattle.event_model.specs.Queue.{Flat, doing_at, widths, resolved_from, resolved}
-use Rattle.event_write.specs.Marks.{row, driven_with}
+use Rattle.event_write.specs.QueueState.{row, driven_with}
 
 -- whether a target names a signal
 abbrev pub names : List Piece → ℕ → Bool

@@ -7,7 +7,7 @@ use Rattle.rtl_flat.specs.Process.{Doing}
 use Rattle.event_model.specs.Queue.{Flat, doing_at, widths, listens, hears}
 use Rattle.event_write.specs.declared.listener.Listener.{Listener}
 use Rattle.event_write.specs.Listeners.{heard_by}
-use Rattle.event_write.specs.Marks.{row}
+use Rattle.event_write.specs.QueueState.{row}
 
 -- whether a change of bit k of signal s, from an old value to a new one, is heard
 abbrev pub Ear : Type 0

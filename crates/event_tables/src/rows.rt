@@ -1,7 +1,7 @@
 //! Tables with a row for each signal.
 
 ghost use Rattle.std.specs.Prelude.{ℕ, ◌≡◌, [], length, IfOk};
-ghost use Rattle.event_write.specs.Marks.{row};
+ghost use Rattle.event_write.specs.QueueState.{row};
 
 use rtl_tree::memory::Memory;
 use std::alloc::Global;

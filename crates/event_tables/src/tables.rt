@@ -1,7 +1,7 @@
 //! The tables of a design.
 
 ghost use Rattle.std.specs.Prelude.{◌≡◌, IfOk};
-ghost use Rattle.event_write.specs.Marks.{IsFanout};
+ghost use Rattle.event_write.specs.QueueState.{IsFanout};
 
 use crate::drivers::drivers_of;
 use crate::listeners::listeners_of;

@@ -3,9 +3,9 @@ use Rattle.std.proofs.Common.{◌≡◌, ◌<◌, ◌≤◌, ◌+◌, ◌∙◌,
 use Rattle.std.proofs.lemmas.Bool.{true≢false}
 use Rattle.event_model.specs.Queue.{Flat, State, after_delayed, write, write_all}
 use Rattle.event_model.specs.Writes.{Write}
-use Rattle.event_write.specs.declared.marks.Marks.{Marks}
+use Rattle.event_write.specs.declared.queue_state.QueueState.{QueueState}
 use Rattle.event_write.specs.Entries.{Entry, IsClosed, entry, glue, updates, writes_of}
-use Rattle.event_write.specs.Marks.{IsMarks}
+use Rattle.event_write.specs.QueueState.{IsQueueState}
 use Rattle.event_write.proofs.Entering.{some_update}
 
 activated_apart : (d : Flat) (s : State) (ws : List Write) (us : List (List Write)) → record (write_all d s ws) { activated = us } ≡ write_all d (record s { activated = us }) ws
@@ -49,8 +49,8 @@ pub closed_behind : (e : Entry) (rest : List Entry) → IsClosed (e ∷ rest) �
 closed_behind e [] closed = tt
 closed_behind e (f ∷ rest) closed = closed
 
--- marks whose first updates are made
-pub with_next : (d : Flat) (m : Marks) (n : ℕ) → IsMarks d m → n ≤ length m.active.items → IsClosed (drop n (map entry m.active.items)) → IsMarks d (record m { next = n })
+-- queue whose first updates are made
+pub with_next : (d : Flat) (m : QueueState) (n : ℕ) → IsQueueState d m → n ≤ length m.active.items → IsClosed (drop n (map entry m.active.items)) → IsQueueState d (record m { next = n })
 with_next d m n is within closed =
     record {
       values = is.values;

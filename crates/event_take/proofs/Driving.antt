@@ -15,7 +15,7 @@ use Rattle.rtl_flat.specs.Signs.{sign_of, width_in}
 use Rattle.rtl_flat.specs.Value.{index_number, value}
 use Rattle.rtl_flat.specs.WellFormed.{IsFixed, IsSelection}
 use Rattle.event_model.specs.Writes.{Values, Write, Span, all_written, bit_inside, count_of, put, span_of, written}
-use Rattle.event_write.specs.Marks.{IsInside, driver_of}
+use Rattle.event_write.specs.QueueState.{IsInside, driver_of}
 use Rattle.event_write.proofs.Entering.{has_room, part_inside}
 use Rattle.event_write.proofs.Writing.{put_at, put_other}
 

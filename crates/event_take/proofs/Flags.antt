@@ -8,10 +8,10 @@ use Rattle.rtl_flat.specs.Value.{store}
 use Rattle.rank_set.specs.Ranks.{flag}
 use Rattle.event_model.specs.Queue.{Flat, Event, Delayed}
 use Rattle.event_model.specs.Order.{first_delayed}
-use Rattle.event_write.specs.declared.marks.Marks.{Marks}
+use Rattle.event_write.specs.declared.queue_state.QueueState.{QueueState}
 use Rattle.event_write.specs.declared.entries.Entry.{Entry as Code}
 use Rattle.event_write.specs.Entries.{Entry, entry, updates}
-use Rattle.event_write.specs.Marks.{IsMarks, held, state}
+use Rattle.event_write.specs.QueueState.{IsQueueState, held, state}
 use Rattle.event_write.proofs.Entering.{some_update}
 use Rattle.event_take.specs.Lawful.{IsFlagged}
 
@@ -22,7 +22,7 @@ held_flag flags values k = by_flag (flag flags k)
     by_flag true = refl
     by_flag false = refl
 
-pub flagged : (d : Flat) (m : Marks) → IsMarks d m → IsFlagged d (state m) m.offered m.pending m.woken.flags
+pub flagged : (d : Flat) (m : QueueState) → IsQueueState d m → IsFlagged d (state m) m.offered m.pending m.woken.flags
 flagged d m is =
     record {
       signals = is.offered;

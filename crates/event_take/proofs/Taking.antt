@@ -16,7 +16,7 @@ use Rattle.rank_set.specs.Ranks.{flag}
 use Rattle.rank_set.proofs.Law.{flag-set_same, flag-set_other}
 use Rattle.event_model.specs.Queue.{doing_of}
 use Rattle.event_model.specs.Writes.{put}
-use Rattle.event_write.specs.Marks.{HasWidth, held}
+use Rattle.event_write.specs.QueueState.{HasWidth, held}
 use Rattle.event_write.proofs.Writing.{put_at, put_other, store_set}
 
 -- a flag that is set

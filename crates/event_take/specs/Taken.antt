@@ -2,7 +2,7 @@
 use Rattle.std.specs.Prelude.{◌≡◌, ◌<◌, ℕ, true, Option, None, length, slice_index_or}
 use Rattle.rank_set.specs.Ranks.{flag}
 use Rattle.event_model.specs.Queue.{Flat, Event, Input, Evaluate, Update, Run, Delayed}
-use Rattle.event_write.specs.declared.marks.Marks.{Marks}
+use Rattle.event_write.specs.declared.queue_state.QueueState.{QueueState}
 use Rattle.event_take.specs.declared.choice.Choice.{Choice}
 use Rattle.event_take.specs.declared.choice.Choice.TheVariants as choice
 
@@ -13,8 +13,8 @@ event_of (choice.Update process) = Update process
 event_of (choice.Run process) = Run process
 event_of choice.Delayed = Delayed
 
--- whether marks have what a choice takes: an offered value, a process, a pending value, an activated update
-abbrev pub IsAble : Flat → Marks → Choice → Type 0
+-- whether queue have what a choice takes: an offered value, a process, a pending value, an activated update
+abbrev pub IsAble : Flat → QueueState → Choice → Type 0
 IsAble d m (choice.Input signal) = flag m.offered signal.0 ≡ true
 IsAble d m (choice.Evaluate process) = process < length d.tasks
 IsAble d m (choice.Update process) = flag m.pending process ≡ true
@@ -22,5 +22,5 @@ IsAble d m (choice.Run process) = process < length d.tasks
 IsAble d m choice.Delayed = m.next < length m.active.items
 
 -- the level of a process
-abbrev pub level_in : Marks → ℕ → Option ℕ
+abbrev pub level_in : QueueState → ℕ → Option ℕ
 level_in m p = slice_index_or m.woken.levels p None

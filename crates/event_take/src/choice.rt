@@ -3,12 +3,12 @@
 ghost use Rattle.std.specs.Prelude.{◌≡◌, ◌<◌, [], ◌∷◌, cond, length, IsTrue};
 ghost use Rattle.event_model.specs.Queue.{Delayed};
 ghost use Rattle.event_model.specs.Order.{first_delayed, woken_event};
-ghost use Rattle.event_write.specs.declared.marks.Marks.{Marks};
-ghost use Rattle.event_write.specs.Marks.{design_of, state};
+ghost use Rattle.event_write.specs.declared.queue_state.QueueState.{QueueState};
+ghost use Rattle.event_write.specs.QueueState.{design_of, state};
 ghost use Rattle.event_take.specs.Taken.{IsAble, event_of};
 
 use event_write::fanout::Fanout;
-use event_write::marks::Marks;
+use event_write::queue_state::QueueState;
 use rtl_flat::act::Does;
 use rtl_flat::expr::SigId;
 
@@ -27,7 +27,7 @@ pub enum Choice {
 pub(crate) fn woken_choice(fanout: &Fanout, process: u32) -> Choice
     requires { process < length fanout.now.design.now.processes.items }
     ensures event { event_of result ≡ woken_event (design_of fanout.now) process }
-    ensures able { (m : Marks) → IsAble (design_of fanout.now) m result }
+    ensures able { (m : QueueState) → IsAble (design_of fanout.now) m result }
 {
     match &fanout.design.processes[process as usize].does {
         Does::Assign {
@@ -40,9 +40,9 @@ pub(crate) fn woken_choice(fanout: &Fanout, process: u32) -> Choice
 }
 
 /// Whether an activated update is left.
-pub(crate) fn has_delayed(marks: &Marks) -> bool
-    ensures event { first_delayed (state marks.now).activated ≡ cond result (Delayed ∷ []) [] }
-    ensures able { IsTrue result → marks.now.next < length marks.now.active.items }
+pub(crate) fn has_delayed(queue: &QueueState) -> bool
+    ensures event { first_delayed (state queue.now).activated ≡ cond result (Delayed ∷ []) [] }
+    ensures able { IsTrue result → queue.now.next < length queue.now.active.items }
 {
-    marks.next < marks.active.len()
+    queue.next < queue.active.len()
 }

@@ -9,12 +9,12 @@ ghost use Rattle.rtl_flat.specs.WellFormed.{IsFixed, IsSelection};
 ghost use Rattle.event_model.specs.Queue.{doing_at, resolved, widths};
 ghost use Rattle.event_model.specs.Writes.{Values, all_written, count_of, counts, driven, no_drive, span_of, write_at};
 ghost use Rattle.event_write.specs.Entries.{AreSelected};
-ghost use Rattle.event_write.specs.Marks.{IsFanout, IsMarks, design_of, driven_with, state};
+ghost use Rattle.event_write.specs.QueueState.{IsFanout, IsQueueState, design_of, driven_with, state};
 ghost use Rattle.event_write.specs.Stored.{AreStored};
 
 use event_write::entries::{counts, entry_of};
 use event_write::fanout::Fanout;
-use event_write::marks::Marks;
+use event_write::queue_state::QueueState;
 use event_write::spans::count_of;
 use event_write::stores::width_of;
 use rtl_bits::{Bit, Vec4};
@@ -23,11 +23,11 @@ use rtl_flat::expr::SigId;
 use rtl_flat::signal::Signal;
 
 /// What the drivers of a net give it together.
-pub fn resolve(fanout: &Fanout, marks: &Marks, net: SigId) -> Vec4
+pub fn resolve(fanout: &Fanout, queue: &QueueState, net: SigId) -> Vec4
     requires fanout { IsFanout fanout.now }
-    requires marks { IsMarks (design_of fanout.now) marks.now }
+    requires queue { IsQueueState (design_of fanout.now) queue.now }
     requires there { net.0 < length fanout.now.design.now.signals.items }
-    ensures bits { result ≡ resolved (design_of fanout.now) (state marks.now).driver net.0 }
+    ensures bits { result ≡ resolved (design_of fanout.now) (state queue.now).driver net.0 }
     ensures width { length result ≡ width_in fanout.now.design.now.signals.items net.0 }
 {
     let drivers = &fanout.drivers[net.0 as usize];
@@ -35,28 +35,28 @@ pub fn resolve(fanout: &Fanout, marks: &Marks, net: SigId) -> Vec4
     let mut given = Vec4::filled(width_of(&fanout.design.signals, net), Bit::Z);
     for behind in 0..count {
         let process = drivers[count - 1 - behind];
-        given = drive_with(fanout, marks, process, net, given);
+        given = drive_with(fanout, queue, process, net, given);
     }
     given
 }
 
 /// What a driver gives to a net beside what others give.
-fn drive_with(fanout: &Fanout, marks: &Marks, process: u32, net: SigId, others: Vec4) -> Vec4
-    requires marks { IsMarks (design_of fanout.now) marks.now }
+fn drive_with(fanout: &Fanout, queue: &QueueState, process: u32, net: SigId, others: Vec4) -> Vec4
+    requires queue { IsQueueState (design_of fanout.now) queue.now }
     requires inside { process < length fanout.now.design.now.processes.items }
     requires there { net.0 < length fanout.now.design.now.signals.items }
     requires width { length others ≡ width_in fanout.now.design.now.signals.items net.0 }
-    ensures bits { result ≡ driven_with (widths (design_of fanout.now)) (doing_at (design_of fanout.now) process) ((state marks.now).driver process) net.0 others }
+    ensures bits { result ≡ driven_with (widths (design_of fanout.now)) (doing_at (design_of fanout.now) process) ((state queue.now).driver process) net.0 others }
     ensures width { length result ≡ width_in fanout.now.design.now.signals.items net.0 }
 {
     let Does::Assign { target, value: _ } = &fanout.design.processes[process as usize].does else {
         return others;
     };
-    let Some(bits) = marks.drivers[process as usize] else {
+    let Some(bits) = queue.drivers[process as usize] else {
         return others;
     };
     let signals = &fanout.design.signals;
-    driven(signals, &marks.values, &target.parts, bits, net).resolve(others)
+    driven(signals, &queue.values, &target.parts, bits, net).resolve(others)
 }
 
 /// What a driver gives to a net: z in each bit that it doesn't drive.

@@ -8,13 +8,13 @@ ghost use Rattle.rtl_flat.specs.WellFormed.{IsBody};
 ghost use Rattle.rank_set.specs.Ranks.{flag};
 ghost use Rattle.event_model.specs.Bodies.{body_made};
 ghost use Rattle.event_model.specs.Queue.{Activate, Delayed, Evaluate, Input, Run, after, doing_at, perform_all, wait};
-ghost use Rattle.event_write.specs.Marks.{IsFanout, IsMarks, design_of, state};
+ghost use Rattle.event_write.specs.QueueState.{IsFanout, IsQueueState, design_of, state};
 ghost use Rattle.event_write.specs.Rooms.{IsKept, rooms};
 ghost use Rattle.event_take.specs.Rooms.{IsStill, room_of};
 
 use event_write::bodies::write_entry;
 use event_write::fanout::Fanout;
-use event_write::marks::Marks;
+use event_write::queue_state::QueueState;
 use event_write::statements::make_all;
 use event_write::stores::evaluate;
 use event_write::waking::write;
@@ -24,34 +24,34 @@ use rtl_flat::expr::SigId;
 use std::mem;
 
 /// A top input takes the value that is offered to it.
-pub fn take_input(fanout: &Fanout, marks: &mut Marks, signal: SigId)
+pub fn take_input(fanout: &Fanout, queue: &mut QueueState, signal: SigId)
     requires fanout { IsFanout fanout.now }
-    requires marks { IsMarks (design_of fanout.now) marks.old }
-    requires offered { flag marks.old.offered signal.0 ≡ true }
-    ensures state { state marks.new ≡ after (design_of fanout.now) (state marks.old) (Input signal.0) }
-    ensures marks { IsMarks (design_of fanout.now) marks.new }
-    ensures still { IsStill marks.old marks.new }
+    requires queue { IsQueueState (design_of fanout.now) queue.old }
+    requires offered { flag queue.old.offered signal.0 ≡ true }
+    ensures state { state queue.new ≡ after (design_of fanout.now) (state queue.old) (Input signal.0) }
+    ensures queue { IsQueueState (design_of fanout.now) queue.new }
+    ensures still { IsStill queue.old queue.new }
 {
-    let bits = marks.offered_values[signal.0 as usize];
-    marks.offered.remove(signal.0 as usize);
-    write(fanout, marks, signal, 0, bits);
+    let bits = queue.offered_values[signal.0 as usize];
+    queue.offered.remove(signal.0 as usize);
+    write(fanout, queue, signal, 0, bits);
 }
 
 /// A continuous assignment evaluates its expression.
-pub fn evaluate_driver(fanout: &Fanout, marks: &mut Marks, process: u32)
+pub fn evaluate_driver(fanout: &Fanout, queue: &mut QueueState, process: u32)
     requires fanout { IsFanout fanout.now }
-    requires marks { IsMarks (design_of fanout.now) marks.old }
+    requires queue { IsQueueState (design_of fanout.now) queue.old }
     requires there { process < length fanout.now.design.now.processes.items }
-    ensures state { state marks.new ≡ after (design_of fanout.now) (state marks.old) (Evaluate process) }
-    ensures marks { IsMarks (design_of fanout.now) marks.new }
-    ensures still { IsStill marks.old marks.new }
+    ensures state { state queue.new ≡ after (design_of fanout.now) (state queue.old) (Evaluate process) }
+    ensures queue { IsQueueState (design_of fanout.now) queue.new }
+    ensures still { IsStill queue.old queue.new }
 {
     match &fanout.design.processes[process as usize].does {
         Does::Assign { target: _, value } => {
-            let bits = evaluate(&fanout.design.signals, &marks.values, value);
-            marks.pending_values[process as usize] = bits;
-            marks.pending.insert(process as usize);
-            marks.woken.remove(process as usize);
+            let bits = evaluate(&fanout.design.signals, &queue.values, value);
+            queue.pending_values[process as usize] = bits;
+            queue.pending.insert(process as usize);
+            queue.woken.remove(process as usize);
         }
         Does::Comb { list: _, body: _ } => {}
         Does::Edge { events: _, body: _ } => {}
@@ -59,60 +59,60 @@ pub fn evaluate_driver(fanout: &Fanout, marks: &mut Marks, process: u32)
 }
 
 /// The body of an `always` runs.
-pub fn run_body(fanout: &Fanout, marks: &mut Marks, process: u32)
+pub fn run_body(fanout: &Fanout, queue: &mut QueueState, process: u32)
     requires fanout { IsFanout fanout.now }
-    requires marks { IsMarks (design_of fanout.now) marks.old }
+    requires queue { IsQueueState (design_of fanout.now) queue.old }
     requires there { process < length fanout.now.design.now.processes.items }
-    requires scratch { 128 ≤ vec_capacity marks.old.scratch }
-    requires room { length marks.old.waiting.items + room_of (doing_at (design_of fanout.now) process) ≤ vec_capacity marks.old.waiting }
-    ensures state { state marks.new ≡ after (design_of fanout.now) (state marks.old) (Run process) }
-    ensures marks { IsMarks (design_of fanout.now) marks.new }
-    ensures kept { IsKept (room_of (doing_at (design_of fanout.now) process)) marks.old marks.new }
+    requires scratch { 128 ≤ vec_capacity queue.old.scratch }
+    requires room { length queue.old.waiting.items + room_of (doing_at (design_of fanout.now) process) ≤ vec_capacity queue.old.waiting }
+    ensures state { state queue.new ≡ after (design_of fanout.now) (state queue.old) (Run process) }
+    ensures queue { IsQueueState (design_of fanout.now) queue.new }
+    ensures kept { IsKept (room_of (doing_at (design_of fanout.now) process)) queue.old queue.new }
 {
     match &fanout.design.processes[process as usize].does {
         Does::Assign {
             target: _,
             value: _,
         } => {}
-        Does::Comb { list: _, body } => run_statements(fanout, marks, process, body),
-        Does::Edge { events: _, body } => run_statements(fanout, marks, process, body),
+        Does::Comb { list: _, body } => run_statements(fanout, queue, process, body),
+        Does::Edge { events: _, body } => run_statements(fanout, queue, process, body),
     }
 }
 
 /// Statements run, and their process waits again.
-fn run_statements(fanout: &Fanout, marks: &mut Marks, process: u32, body: &[Act])
+fn run_statements(fanout: &Fanout, queue: &mut QueueState, process: u32, body: &[Act])
     requires fanout { IsFanout fanout.now }
-    requires marks { IsMarks (design_of fanout.now) marks.old }
+    requires queue { IsQueueState (design_of fanout.now) queue.old }
     requires there { process < length fanout.now.design.now.processes.items }
     requires body { IsBody fanout.now.design.now.signals.items (body_of (map action body.now)) }
-    requires scratch { 128 ≤ vec_capacity marks.old.scratch }
-    requires room { length marks.old.waiting.items + rooms (body_of (map action body.now)) ≤ vec_capacity marks.old.waiting }
-    ensures state { state marks.new ≡ wait (perform_all (design_of fanout.now) (state marks.old) (body_made (width_in fanout.now.design.now.signals.items) (store marks.old.values.items) (body_of (map action body.now)))) process }
-    ensures marks { IsMarks (design_of fanout.now) marks.new }
-    ensures kept { IsKept (rooms (body_of (map action body.now))) marks.old marks.new }
+    requires scratch { 128 ≤ vec_capacity queue.old.scratch }
+    requires room { length queue.old.waiting.items + rooms (body_of (map action body.now)) ≤ vec_capacity queue.old.waiting }
+    ensures state { state queue.new ≡ wait (perform_all (design_of fanout.now) (state queue.old) (body_made (width_in fanout.now.design.now.signals.items) (store queue.old.values.items) (body_of (map action body.now)))) process }
+    ensures queue { IsQueueState (design_of fanout.now) queue.new }
+    ensures kept { IsKept (rooms (body_of (map action body.now))) queue.old queue.new }
 {
-    make_all(fanout, marks, body);
-    marks.woken.remove(process as usize);
+    make_all(fanout, queue, body);
+    queue.woken.remove(process as usize);
 }
 
 /// The first of the activated nonblocking updates is made.
-pub fn make_update(fanout: &Fanout, marks: &mut Marks)
+pub fn make_update(fanout: &Fanout, queue: &mut QueueState)
     requires fanout { IsFanout fanout.now }
-    requires marks { IsMarks (design_of fanout.now) marks.old }
-    ensures state { state marks.new ≡ after (design_of fanout.now) (state marks.old) Delayed }
-    ensures marks { IsMarks (design_of fanout.now) marks.new }
-    ensures waiting { marks.new.waiting ≡ marks.old.waiting }
-    ensures scratch { marks.new.scratch ≡ marks.old.scratch }
-    ensures active { marks.new.active ≡ marks.old.active }
-    ensures levels { marks.new.woken.levels ≡ marks.old.woken.levels }
+    requires queue { IsQueueState (design_of fanout.now) queue.old }
+    ensures state { state queue.new ≡ after (design_of fanout.now) (state queue.old) Delayed }
+    ensures queue { IsQueueState (design_of fanout.now) queue.new }
+    ensures waiting { queue.new.waiting ≡ queue.old.waiting }
+    ensures scratch { queue.new.scratch ≡ queue.old.scratch }
+    ensures active { queue.new.active ≡ queue.old.active }
+    ensures levels { queue.new.woken.levels ≡ queue.old.woken.levels }
 {
-    let first = marks.next;
-    let end = marks.active.len();
+    let first = queue.next;
+    let end = queue.active.len();
     for number in first..end {
-        let prepared = marks.active[number];
+        let prepared = queue.active[number];
         let is_last = prepared.is_last;
-        marks.next = number + 1;
-        write_entry(fanout, marks, prepared);
+        queue.next = number + 1;
+        write_entry(fanout, queue, prepared);
         if is_last {
             return;
         }
@@ -120,16 +120,16 @@ pub fn make_update(fanout: &Fanout, marks: &mut Marks)
 }
 
 /// All nonblocking updates become active.
-pub fn activate(fanout: &Fanout, marks: &mut Marks)
-    requires marks { IsMarks (design_of fanout.now) marks.old }
-    ensures state { state marks.new ≡ after (design_of fanout.now) (state marks.old) Activate }
-    ensures marks { IsMarks (design_of fanout.now) marks.new }
-    ensures active { vec_capacity marks.new.active ≡ vec_capacity marks.old.waiting }
-    ensures waiting { vec_capacity marks.old.active ≤ vec_capacity marks.new.waiting }
-    ensures scratch { marks.new.scratch ≡ marks.old.scratch }
-    ensures levels { marks.new.woken.levels ≡ marks.old.woken.levels }
+pub fn activate(fanout: &Fanout, queue: &mut QueueState)
+    requires queue { IsQueueState (design_of fanout.now) queue.old }
+    ensures state { state queue.new ≡ after (design_of fanout.now) (state queue.old) Activate }
+    ensures queue { IsQueueState (design_of fanout.now) queue.new }
+    ensures active { vec_capacity queue.new.active ≡ vec_capacity queue.old.waiting }
+    ensures waiting { vec_capacity queue.old.active ≤ vec_capacity queue.new.waiting }
+    ensures scratch { queue.new.scratch ≡ queue.old.scratch }
+    ensures levels { queue.new.woken.levels ≡ queue.old.woken.levels }
 {
-    mem::swap(&mut marks.active, &mut marks.waiting);
-    marks.waiting.clear();
-    marks.next = 0;
+    mem::swap(&mut queue.active, &mut queue.waiting);
+    queue.waiting.clear();
+    queue.next = 0;
 }

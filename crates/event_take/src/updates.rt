@@ -9,31 +9,31 @@ ghost use Rattle.rank_set.specs.Ranks.{flag};
 ghost use Rattle.event_model.specs.Queue.{Update, after, bits_in, net_writes, resolved, write_all};
 ghost use Rattle.event_model.specs.Writes.{count_of, no_drive, span_of, write_at};
 ghost use Rattle.event_write.specs.Entries.{AreSelected};
-ghost use Rattle.event_write.specs.Marks.{IsFanout, IsMarks, design_of, state};
+ghost use Rattle.event_write.specs.QueueState.{IsFanout, IsQueueState, design_of, state};
 ghost use Rattle.event_take.specs.Rooms.{IsStill};
 
 use crate::drives::resolve;
 use event_write::fanout::Fanout;
-use event_write::marks::Marks;
+use event_write::queue_state::QueueState;
 use event_write::spans::span_of;
 use event_write::waking::write;
 use rtl_flat::act::{Does, TargetPart};
 
 /// The driver of a continuous assignment takes its pending value, and its nets follow.
-pub fn update_driver(fanout: &Fanout, marks: &mut Marks, process: u32)
+pub fn update_driver(fanout: &Fanout, queue: &mut QueueState, process: u32)
     requires fanout { IsFanout fanout.now }
-    requires marks { IsMarks (design_of fanout.now) marks.old }
-    requires pending { flag marks.old.pending process ≡ true }
-    ensures state { state marks.new ≡ after (design_of fanout.now) (state marks.old) (Update process) }
-    ensures marks { IsMarks (design_of fanout.now) marks.new }
-    ensures still { IsStill marks.old marks.new }
+    requires queue { IsQueueState (design_of fanout.now) queue.old }
+    requires pending { flag queue.old.pending process ≡ true }
+    ensures state { state queue.new ≡ after (design_of fanout.now) (state queue.old) (Update process) }
+    ensures queue { IsQueueState (design_of fanout.now) queue.new }
+    ensures still { IsStill queue.old queue.new }
 {
     match &fanout.design.processes[process as usize].does {
         Does::Assign { target, value: _ } => {
-            let bits = marks.pending_values[process as usize];
-            marks.pending.remove(process as usize);
-            marks.drivers[process as usize] = Some(bits);
-            write_nets(fanout, marks, &target.parts);
+            let bits = queue.pending_values[process as usize];
+            queue.pending.remove(process as usize);
+            queue.drivers[process as usize] = Some(bits);
+            write_nets(fanout, queue, &target.parts);
         }
         Does::Comb { list: _, body: _ } => {}
         Does::Edge { events: _, body: _ } => {}
@@ -41,37 +41,37 @@ pub fn update_driver(fanout: &Fanout, marks: &mut Marks, process: u32)
 }
 
 /// The nets of a target take what their drivers give them.
-fn write_nets(fanout: &Fanout, marks: &mut Marks, parts: &[TargetPart])
+fn write_nets(fanout: &Fanout, queue: &mut QueueState, parts: &[TargetPart])
     requires fanout { IsFanout fanout.now }
-    requires marks { IsMarks (design_of fanout.now) marks.old }
+    requires queue { IsQueueState (design_of fanout.now) queue.old }
     requires selected { AreSelected fanout.now.design.now.signals.items (map piece parts.now) }
     requires fixed { All (λ piece. IsFixed piece.selection) (map piece parts.now) }
-    ensures state { state marks.new ≡ write_all (design_of fanout.now) (state marks.old) (net_writes (width_in fanout.now.design.now.signals.items) (resolved (design_of fanout.now) (state marks.old).driver) (map piece parts.now)) }
-    ensures marks { IsMarks (design_of fanout.now) marks.new }
-    ensures still { IsStill marks.old marks.new }
+    ensures state { state queue.new ≡ write_all (design_of fanout.now) (state queue.old) (net_writes (width_in fanout.now.design.now.signals.items) (resolved (design_of fanout.now) (state queue.old).driver) (map piece parts.now)) }
+    ensures queue { IsQueueState (design_of fanout.now) queue.new }
+    ensures still { IsStill queue.old queue.new }
 {
     for part in parts {
-        write_net(fanout, marks, part);
+        write_net(fanout, queue, part);
     }
 }
 
 /// A net takes what its drivers give to a part of it.
-fn write_net(fanout: &Fanout, marks: &mut Marks, part: &TargetPart)
+fn write_net(fanout: &Fanout, queue: &mut QueueState, part: &TargetPart)
     requires fanout { IsFanout fanout.now }
-    requires marks { IsMarks (design_of fanout.now) marks.old }
+    requires queue { IsQueueState (design_of fanout.now) queue.old }
     requires selected { IsSelection fanout.now.design.now.signals.items part.now.signal.0 (selection part.now.select) }
     requires not_empty { 1 ≤ count_of (width_in fanout.now.design.now.signals.items) part.now.signal.0 (selection part.now.select) }
     requires fixed { IsFixed (selection part.now.select) }
-    ensures state { state marks.new ≡ write_all (design_of fanout.now) (state marks.old) (write_at part.now.signal.0 (span_of (width_in fanout.now.design.now.signals.items) (no_drive (width_in fanout.now.design.now.signals.items)) part.now.signal.0 (selection part.now.select)) (bits_in (span_of (width_in fanout.now.design.now.signals.items) (no_drive (width_in fanout.now.design.now.signals.items)) part.now.signal.0 (selection part.now.select)) (resolved (design_of fanout.now) (state marks.old).driver part.now.signal.0))) }
-    ensures marks { IsMarks (design_of fanout.now) marks.new }
-    ensures still { IsStill marks.old marks.new }
-    ensures drivers { marks.new.drivers ≡ marks.old.drivers }
+    ensures state { state queue.new ≡ write_all (design_of fanout.now) (state queue.old) (write_at part.now.signal.0 (span_of (width_in fanout.now.design.now.signals.items) (no_drive (width_in fanout.now.design.now.signals.items)) part.now.signal.0 (selection part.now.select)) (bits_in (span_of (width_in fanout.now.design.now.signals.items) (no_drive (width_in fanout.now.design.now.signals.items)) part.now.signal.0 (selection part.now.select)) (resolved (design_of fanout.now) (state queue.old).driver part.now.signal.0))) }
+    ensures queue { IsQueueState (design_of fanout.now) queue.new }
+    ensures still { IsStill queue.old queue.new }
+    ensures drivers { queue.new.drivers ≡ queue.old.drivers }
 {
     let signals = &fanout.design.signals;
-    let span = span_of(signals, &marks.values, part.signal, &part.select);
+    let span = span_of(signals, &queue.values, part.signal, &part.select);
     if let Some(span) = span {
-        let given = resolve(fanout, marks, part.signal);
+        let given = resolve(fanout, queue, part.signal);
         let bits = given.select(span.at, span.count);
-        write(fanout, marks, part.signal, span.at, bits);
+        write(fanout, queue, part.signal, span.at, bits);
     }
 }

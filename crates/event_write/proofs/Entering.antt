@@ -14,9 +14,9 @@ use Rattle.rtl_flat.specs.WellFormed.{IsSelection}
 use Rattle.event_model.specs.Writes.{Values, Write, Span, bit_inside, span_of, count_of, counts, write_at, writes}
 use Rattle.event_model.specs.Queue.{Flat}
 use Rattle.event_write.specs.declared.entries.Entry.{Entry as Code}
-use Rattle.event_write.specs.declared.marks.Marks.{Marks}
+use Rattle.event_write.specs.declared.queue_state.QueueState.{QueueState}
 use Rattle.event_write.specs.Entries.{Entry, AreSelected, entry, entries, writes_of, all_writes, glue, updates, IsClosed}
-use Rattle.event_write.specs.Marks.{AreInside, IsInside, IsMarks}
+use Rattle.event_write.specs.QueueState.{AreInside, IsInside, IsQueueState}
 
 -- the writes of entries are those of the target
 pub all_of : (ws : ℕ → ℕ) (v : Values) (parts : List Piece) (bits : List Bit) → all_writes (entries ws v parts bits) ≡ writes ws v parts bits
@@ -148,7 +148,7 @@ later_update xs ws v [] bits some h = absurd (omega (arith, some))
 later_update xs ws v (piece ∷ parts) bits some h = another_update xs ws v piece parts bits h
 
 -- other updates that aren't active yet
-pub with_waiting : (d : Flat) (m : Marks) (waiting : Vec Code Global) → IsMarks d m → IsClosed (map entry waiting.items) → AreInside d.signals (map entry waiting.items) → IsMarks d (record m { waiting = waiting })
+pub with_waiting : (d : Flat) (m : QueueState) (waiting : Vec Code Global) → IsQueueState d m → IsClosed (map entry waiting.items) → AreInside d.signals (map entry waiting.items) → IsQueueState d (record m { waiting = waiting })
 with_waiting d m waiting is closed inside =
     record {
       values = is.values;

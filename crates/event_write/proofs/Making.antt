@@ -19,7 +19,7 @@ use Rattle.rtl_scan.proofs.Bodies.{case_is, choice_is}
 use Rattle.event_model.specs.Bodies.{Made, Now, Later, after_made, made, body_made, other_made}
 use Rattle.event_model.specs.Queue.{Flat, State, perform, perform_all, write, write_all}
 use Rattle.event_model.specs.Writes.{Values, Write}
-use Rattle.event_write.specs.declared.marks.Marks.{Marks}
+use Rattle.event_write.specs.declared.queue_state.QueueState.{QueueState}
 use Rattle.event_write.specs.Rooms.{IsKept}
 
 -- the values of the state are those that the model goes on from
@@ -68,7 +68,7 @@ other_way_made ws v a test taken other spot is fails =
 
 -- ---- room
 
-pub kept_more : (a b : ℕ) (m n : Marks) → a ≤ b → IsKept a m n → IsKept b m n
+pub kept_more : (a b : ℕ) (m n : QueueState) → a ≤ b → IsKept a m n → IsKept b m n
 kept_more a b m n more h =
     let few = h.waiting in
     record {

@@ -12,7 +12,7 @@ use Rattle.rtl_bits.specs.Bits.{replaced}
 use Rattle.rtl_flat.specs.Value.{store}
 use Rattle.event_model.specs.Writes.{Values, Write, put, written}
 use Rattle.event_model.specs.Queue.{Flat, State, write, widths, hears, doing_at}
-use Rattle.event_write.specs.Marks.{items_of, row}
+use Rattle.event_write.specs.QueueState.{items_of, row}
 
 pub put_at : {A : Type 0} (f : ℕ → A) (k : ℕ) (a : A) → put f k a k ≡ a
 put_at f k a = ap (λ b. if b then a else f k) (eq-eqb k k refl)

@@ -2,6 +2,6 @@ pub mod Changes
 pub mod Listeners
 pub mod Stored
 pub mod Entries
-pub mod Marks
+pub mod QueueState
 pub mod Choices
 pub mod Rooms

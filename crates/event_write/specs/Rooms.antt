@@ -1,7 +1,7 @@
 -- How many prepared writes a body may make for later.
 use Rattle.std.specs.Prelude.{◌≡◌, ◌≤◌, ℕ, ◌+◌, Bool, true, false, List, length, vec_capacity}
 use Rattle.rtl_flat.specs.Process.{Piece, Action, Set, If, Case, Block, Actions, Done, Then, Otherwise, Without, With, Branches, NoBranch, Branch}
-use Rattle.event_write.specs.declared.marks.Marks.{Marks}
+use Rattle.event_write.specs.declared.queue_state.QueueState.{QueueState}
 
 abbrev pub late_parts : Bool → List Piece → ℕ
 late_parts true target = length target
@@ -28,7 +28,7 @@ abbrev mutual
   branch_rooms (Branch labels body others) = rooms body + branch_rooms others
 
 -- what a body leaves as it was, where it makes at most so many prepared writes for later
-pub record IsKept (most : ℕ) (m n : Marks) : Type 0 where
+pub record IsKept (most : ℕ) (m n : QueueState) : Type 0 where
   pub waiting : length n.waiting.items ≤ length m.waiting.items + most
   pub room : vec_capacity m.waiting ≤ vec_capacity n.waiting
   pub scratch : vec_capacity m.scratch ≤ vec_capacity n.scratch

@@ -7,7 +7,7 @@ pub mod choices;
 pub mod entries;
 pub mod fanout;
 pub mod listener;
-pub mod marks;
+pub mod queue_state;
 pub mod spans;
 pub mod statements;
 pub mod stores;

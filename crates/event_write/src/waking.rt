@@ -8,12 +8,12 @@ ghost use Rattle.rank_set.specs.Ranks.{flag};
 ghost use Rattle.event_model.specs.Queue.{write};
 ghost use Rattle.event_write.specs.Changes.{AreChanges};
 ghost use Rattle.event_write.specs.Listeners.{heard_by};
-ghost use Rattle.event_write.specs.Marks.{AreSame, IsFanout, IsMarks, design_of, state};
+ghost use Rattle.event_write.specs.QueueState.{AreSame, IsFanout, IsQueueState, design_of, state};
 
 use crate::changes::Changes;
 use crate::fanout::Fanout;
 use crate::listener::Listener;
-use crate::marks::Marks;
+use crate::queue_state::QueueState;
 use agenda::Agenda;
 use rtl_bits::Vec4;
 use rtl_flat::expr::SigId;
@@ -45,18 +45,18 @@ fn insert_if(woken: &mut Agenda, process: u32, hears: bool)
 }
 
 /// Writes bits over those of a signal from a place on, and wakes whoever hears a change. It takes no memory.
-pub fn write(fanout: &Fanout, marks: &mut Marks, signal: SigId, at: u8, bits: Vec4)
+pub fn write(fanout: &Fanout, queue: &mut QueueState, signal: SigId, at: u8, bits: Vec4)
     requires fanout { IsFanout fanout.now }
-    requires marks { IsMarks (design_of fanout.now) marks.old }
+    requires queue { IsQueueState (design_of fanout.now) queue.old }
     requires there { signal.0 < length fanout.now.design.now.signals.items }
     requires inside { at + length bits ≤ width_in fanout.now.design.now.signals.items signal.0 }
-    ensures state { state marks.new ≡ write (design_of fanout.now) (state marks.old) (record { signal = signal.0; at = at; bits = bits }) }
-    ensures marks { IsMarks (design_of fanout.now) marks.new }
-    ensures rest { AreSame marks.old marks.new }
+    ensures state { state queue.new ≡ write (design_of fanout.now) (state queue.old) (record { signal = signal.0; at = at; bits = bits }) }
+    ensures queue { IsQueueState (design_of fanout.now) queue.new }
+    ensures rest { AreSame queue.old queue.new }
 {
-    let old = marks.values[signal.0 as usize];
+    let old = queue.values[signal.0 as usize];
     let new = old.replace(at, bits);
-    marks.values[signal.0 as usize] = new;
+    queue.values[signal.0 as usize] = new;
     let listeners = &fanout.listeners[signal.0 as usize];
-    wake(listeners, Changes::of(old, new), &mut marks.woken);
+    wake(listeners, Changes::of(old, new), &mut queue.woken);
 }

@@ -3,4 +3,4 @@ use Rattle.event_queue.proofs.taking.make_ready.Goals as goal
 
 pub returns-then-is_idle-clause-made : goal.returns-then-is_idle-clause-made
 returns-then-is_idle-clause-made c =
-    made_ready c.args.marks.now c.activate.new.marks c.activate.ensures.state c.activate.ensures.levels c.activate.ensures.active c.activate.ensures.waiting c.activate.ensures.scratch
+    made_ready c.args.queue.now c.activate.new.queue c.activate.ensures.state c.activate.ensures.levels c.activate.ensures.active c.activate.ensures.waiting c.activate.ensures.scratch

@@ -1,5 +1,5 @@
 use Rattle.std.proofs.Common.{sym, subst}
-use Rattle.event_write.specs.Marks.{design_of}
+use Rattle.event_write.specs.QueueState.{design_of}
 use Rattle.event_take.specs.declared.choice.Choice.{Choice}
 use Rattle.event_take.specs.Taken.{IsAble, event_of}
 use Rattle.event_queue.specs.Rooms.{IsTaken, free, room_for}
@@ -10,5 +10,5 @@ pub returns-in-Delayed-clause-taken : goal.returns-in-Delayed-clause-taken
 returns-in-Delayed-clause-taken c =
     let d = design_of c.args.fanout.now in
     let made = c.make_update.ensures in
-    subst (λ (one : Choice). IsTaken (room_for d (event_of one)) (free (event_of one)) c.args.marks.now c.make_update.new.marks) (sym c.in-Delayed.is)
-    (delayed_taken d c.args.marks.now c.make_update.new.marks made.state made.levels made.waiting made.scratch made.active (subst (IsAble d c.args.marks.now) c.in-Delayed.is c.requires.able))
+    subst (λ (one : Choice). IsTaken (room_for d (event_of one)) (free (event_of one)) c.args.queue.now c.make_update.new.queue) (sym c.in-Delayed.is)
+    (delayed_taken d c.args.queue.now c.make_update.new.queue made.state made.levels made.waiting made.scratch made.active (subst (IsAble d c.args.queue.now) c.in-Delayed.is c.requires.able))

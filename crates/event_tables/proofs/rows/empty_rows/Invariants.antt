@@ -1,5 +1,5 @@
 use Rattle.std.proofs.Common.{ℕ, ◌≡◌, [], length}
-use Rattle.event_write.specs.Marks.{row}
+use Rattle.event_write.specs.QueueState.{row}
 use Rattle.event_tables.proofs.rows.empty_rows.Given as goal
 
 abbrev pub invariant-loop : goal.invariant-loop

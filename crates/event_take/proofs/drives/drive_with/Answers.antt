@@ -14,7 +14,7 @@ use Rattle.rtl_scan.proofs.Processes.{widths_fit}
 use Rattle.event_model.specs.Queue.{doing_at}
 use Rattle.event_model.specs.Writes.{counts, driven}
 use Rattle.event_write.specs.Entries.{AreSelected}
-use Rattle.event_write.specs.Marks.{HasWidth, design_of, driven_with, driver_of}
+use Rattle.event_write.specs.QueueState.{HasWidth, design_of, driven_with, driver_of}
 use Rattle.event_write.proofs.Targets.{are_selected, counts_is, some_bits}
 use Rattle.event_take.proofs.Driving.{driver_here}
 use Rattle.event_take.proofs.Taking.{doing_here, task_has}
@@ -49,7 +49,7 @@ driven-requires-clause-covered c =
     let design = c.args.fanout.now.design.now in
     let signals = design.signals.items in
     let p = c.args.process in
-    let drivers = c.args.marks.now.drivers.items in
+    let drivers = c.args.queue.now.drivers.items in
     let one = task_has (λ one. IsProcess signals one.does) design.processes.items p c.index.result.now design.is_design.each_process c.requires.inside c.index.ensures in
     let lawful = subst (IsProcess signals) (ap doing c.in-Assign.is) one in
     let parts = c.in-Assign.target.parts.items in
@@ -57,9 +57,9 @@ driven-requires-clause-covered c =
     doing_here design.processes.items p c.index.result.now c.requires.inside c.index.ensures ∙ ap (λ x. Some (doing x)) c.in-Assign.is in
     let there = c.requires.inside in
     let count = length-map design.processes.items task in
-    let kept = c.requires.marks.drivers in
+    let kept = c.requires.queue.drivers in
     let within : p < length drivers = omega (arith, there, count, kept) in
-    let wide = subst (λ (o : Option Doing). HasWidth (width_in signals) o (length (driver_of (slice_get drivers p)))) does (c.requires.marks.driver_widths p) in
+    let wide = subst (λ (o : Option Doing). HasWidth (width_in signals) o (length (driver_of (slice_get drivers p)))) does (c.requires.queue.driver_widths p) in
     let here = ap length (driver_here drivers p c.index-2.result.now c.in-Some.bits within c.index-2.ensures c.in-Some.is) in
     let all = counts_is signals (map piece parts) in
     let covered = lawful.0.covered in
@@ -74,14 +74,14 @@ returns-clause-bits c =
     let p = c.args.process in
     let net = c.args.net.0 in
     let others = c.args.others in
-    let drivers = c.args.marks.now.drivers.items in
+    let drivers = c.args.queue.now.drivers.items in
     let parts = map piece c.in-Assign.target.parts.items in
     let e = tree c.in-Assign.value in
     let does : doing_at (design_of c.args.fanout.now) p ≡ Some (Assign parts e) =
     doing_here design.processes.items p c.index.result.now c.requires.inside c.index.ensures ∙ ap (λ x. Some (doing x)) c.in-Assign.is in
     let there = c.requires.inside in
     let count = length-map design.processes.items task in
-    let kept = c.requires.marks.drivers in
+    let kept = c.requires.queue.drivers in
     let within : p < length drivers = omega (arith, there, count, kept) in
     let here = driver_here drivers p c.index-2.result.now c.in-Some.bits within c.index-2.ensures c.in-Some.is in
     c.resolve.ensures.bits

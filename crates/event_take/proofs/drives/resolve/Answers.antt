@@ -8,7 +8,7 @@ use Rattle.rtl_flat.specs.Signs.{width_in}
 use Rattle.rtl_scan.proofs.Labels.{left_at}
 use Rattle.rtl_scan.proofs.Processes.{widths_fit}
 use Rattle.event_model.specs.Queue.{doing_at, widths}
-use Rattle.event_write.specs.Marks.{design_of, driven_with, resolved_by, row, state}
+use Rattle.event_write.specs.QueueState.{design_of, driven_with, resolved_by, row, state}
 use Rattle.event_write.proofs.Targets.{some_bits}
 use Rattle.event_write.proofs.Writing.{row_at}
 use Rattle.event_take.proofs.drives.resolve.Goals as goal
@@ -42,7 +42,7 @@ loop-behind-init c =
     let same = ap length is in
     let width = c.width_of.ensures ∙ ap (λ (ss : List Signal). width_in ss net) c.deref.ensures.value in
     let none = drop_all (c.len-count.result - 0) (row rows net) (omega (arith, len, fits, same)) in (
-      c.filled-given.ensures.bits ∙ ap (λ n. replicate n Z) width ∙ ap (λ (ps : List ℕ). resolved_by d ps (state c.args.marks.now).driver net) (sym none),
+      c.filled-given.ensures.bits ∙ ap (λ n. replicate n Z) width ∙ ap (λ (ps : List ℕ). resolved_by d ps (state c.args.queue.now).driver net) (sym none),
       c.filled-given.ensures.width ∙ width,
     )
 
@@ -79,7 +79,7 @@ loop-behind-preserved c =
     let same = ap length is in
     let test = c.loop-behind-test.true in
     let process = c.index-process.result.now in
-    let driver = (state c.args.marks.now).driver in
+    let driver = (state c.args.queue.now).driver in
     let k = c.len-count.result - 1 - c.loop-behind.behind in
     let within : k < length (row rows net) = omega (arith, len, fits, same, test) in
     let here : process ≡ get_or (row rows net) k process = c.index-process.ensures ∙ ap (λ (ps : List ℕ). get_or ps k process) (sym is) in

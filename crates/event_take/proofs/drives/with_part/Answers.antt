@@ -6,7 +6,7 @@ use Rattle.rtl_flat.specs.Signs.{width_in}
 use Rattle.rtl_flat.specs.Value.{store}
 use Rattle.event_model.specs.Writes.{Span, count_of, span_of}
 use Rattle.event_write.specs.Entries.{Entry}
-use Rattle.event_write.specs.Marks.{IsInside}
+use Rattle.event_write.specs.QueueState.{IsInside}
 use Rattle.event_write.specs.Stored.{span}
 use Rattle.event_take.proofs.Driving.{same_number, selected_inside}
 use Rattle.event_take.proofs.drives.with_part.Goals as goal

@@ -1,15 +1,15 @@
 use Rattle.std.proofs.Common.{◌≡◌, map, drop}
 use Rattle.event_model.specs.Queue.{after_delayed}
 use Rattle.event_write.specs.Entries.{entry, updates}
-use Rattle.event_write.specs.Marks.{IsMarks, design_of, state}
+use Rattle.event_write.specs.QueueState.{IsQueueState, design_of, state}
 use Rattle.event_take.proofs.events.make_update.Given as goal
 
 abbrev pub invariant-loop-number : goal.invariant-loop-number
 invariant-loop-number l =
-    IsMarks (design_of l.fanout) l.marks
-    × (l.marks.next ≡ l.number)
-    × (l.marks.active ≡ l.initial.marks.active)
-    × (l.marks.waiting ≡ l.initial.marks.waiting)
-    × (l.marks.scratch ≡ l.initial.marks.scratch)
-    × (l.marks.woken.levels ≡ l.initial.marks.woken.levels)
-    × (after_delayed (design_of l.fanout) (state l.marks) (updates (drop l.number (map entry l.initial.marks.active.items))) ≡ after_delayed (design_of l.fanout) (state l.initial.marks) (updates (drop l.initial.marks.next (map entry l.initial.marks.active.items))))
+    IsQueueState (design_of l.fanout) l.queue
+    × (l.queue.next ≡ l.number)
+    × (l.queue.active ≡ l.initial.queue.active)
+    × (l.queue.waiting ≡ l.initial.queue.waiting)
+    × (l.queue.scratch ≡ l.initial.queue.scratch)
+    × (l.queue.woken.levels ≡ l.initial.queue.woken.levels)
+    × (after_delayed (design_of l.fanout) (state l.queue) (updates (drop l.number (map entry l.initial.queue.active.items))) ≡ after_delayed (design_of l.fanout) (state l.initial.queue) (updates (drop l.initial.queue.next (map entry l.initial.queue.active.items))))

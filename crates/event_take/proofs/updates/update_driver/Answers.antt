@@ -13,7 +13,7 @@ use Rattle.rank_set.proofs.Law.{member_within}
 use Rattle.event_model.specs.Queue.{after_update, doing_at, drive, net_writes, resolved, write_all}
 use Rattle.event_model.specs.Writes.{put}
 use Rattle.event_write.specs.Entries.{AreSelected}
-use Rattle.event_write.specs.Marks.{design_of, driver_of, held, state}
+use Rattle.event_write.specs.QueueState.{design_of, driver_of, held, state}
 use Rattle.event_write.proofs.Targets.{are_selected, some_bits}
 use Rattle.event_take.proofs.Driving.{driver_put}
 use Rattle.event_take.proofs.Taking.{doing_here, held_here, held_less, task_has}
@@ -23,9 +23,9 @@ pub write_nets-requires-clause-selected : goal.write_nets-requires-clause-select
 write_nets-requires-clause-selected c =
     let design = c.args.fanout.now.design.now in
     let signals = design.signals.items in
-    let flagged = member_within c.args.marks.now.pending c.args.process c.requires.pending in
+    let flagged = member_within c.args.queue.now.pending c.args.process c.requires.pending in
     let count = length-map design.processes.items task in
-    let known = c.requires.marks.pending in
+    let known = c.requires.queue.pending in
     let there : c.args.process < length design.processes.items = omega (arith, flagged, count, known) in
     let one = task_has (λ one. IsProcess signals one.does) design.processes.items c.args.process c.index.result.now design.is_design.each_process there c.index.ensures in
     let lawful = subst (IsProcess signals) (ap doing c.in-Assign.is) one in
@@ -35,9 +35,9 @@ write_nets-requires-clause-selected c =
 pub write_nets-requires-clause-fixed : goal.write_nets-requires-clause-fixed
 write_nets-requires-clause-fixed c =
     let design = c.args.fanout.now.design.now in
-    let flagged = member_within c.args.marks.now.pending c.args.process c.requires.pending in
+    let flagged = member_within c.args.queue.now.pending c.args.process c.requires.pending in
     let count = length-map design.processes.items task in
-    let known = c.requires.marks.pending in
+    let known = c.requires.queue.pending in
     let there : c.args.process < length design.processes.items = omega (arith, flagged, count, known) in
     let one = task_has (λ one. IsProcess design.signals.items one.does) design.processes.items c.args.process c.index.result.now design.is_design.each_process there c.index.ensures in
     let lawful = subst (IsProcess design.signals.items) (ap doing c.in-Assign.is) one in
@@ -48,18 +48,18 @@ returns-in-Assign-clause-state c =
     let design = c.args.fanout.now.design.now in
     let d = design_of c.args.fanout.now in
     let ws = width_in design.signals.items in
-    let m = c.args.marks.now in
+    let m = c.args.queue.now in
     let s = state m in
     let p = c.args.process in
     let flags = m.pending in
     let values = m.pending_values.items in
     let flagged = member_within flags p c.requires.pending in
     let count = length-map design.processes.items task in
-    let known = c.requires.marks.pending in
+    let known = c.requires.queue.pending in
     let there : p < length design.processes.items = omega (arith, flagged, count, known) in
-    let stored = c.requires.marks.pending_values in
+    let stored = c.requires.queue.pending_values in
     let kept : p < length values = omega (arith, flagged, known, stored) in
-    let driving = c.requires.marks.drivers in
+    let driving = c.requires.queue.drivers in
     let within : p < length m.drivers.items = omega (arith, flagged, known, driving) in
     let b = c.index-bits.result.now in
     let bits : b ≡ store values p = c.index-bits.ensures ∙ get_or_default values p b [] kept in
@@ -80,17 +80,17 @@ returns-in-Assign-clause-state c =
 pub returns-in-Comb-clause-state : goal.returns-in-Comb-clause-state
 returns-in-Comb-clause-state c =
     let processes = c.args.fanout.now.design.now.processes.items in
-    let flagged = member_within c.args.marks.now.pending c.args.process c.requires.pending in
+    let flagged = member_within c.args.queue.now.pending c.args.process c.requires.pending in
     let count = length-map processes task in
-    let known = c.requires.marks.pending in
+    let known = c.requires.queue.pending in
     let there : c.args.process < length processes = omega (arith, flagged, count, known) in
-    sym (ap (after_update (design_of c.args.fanout.now) (state c.args.marks.now) c.args.process) (doing_here processes c.args.process c.index.result.now there c.index.ensures ∙ ap (λ x. Some (doing x)) c.in-Comb.is))
+    sym (ap (after_update (design_of c.args.fanout.now) (state c.args.queue.now) c.args.process) (doing_here processes c.args.process c.index.result.now there c.index.ensures ∙ ap (λ x. Some (doing x)) c.in-Comb.is))
 
 pub returns-in-Edge-clause-state : goal.returns-in-Edge-clause-state
 returns-in-Edge-clause-state c =
     let processes = c.args.fanout.now.design.now.processes.items in
-    let flagged = member_within c.args.marks.now.pending c.args.process c.requires.pending in
+    let flagged = member_within c.args.queue.now.pending c.args.process c.requires.pending in
     let count = length-map processes task in
-    let known = c.requires.marks.pending in
+    let known = c.requires.queue.pending in
     let there : c.args.process < length processes = omega (arith, flagged, count, known) in
-    sym (ap (after_update (design_of c.args.fanout.now) (state c.args.marks.now) c.args.process) (doing_here processes c.args.process c.index.result.now there c.index.ensures ∙ ap (λ x. Some (doing x)) c.in-Edge.is))
+    sym (ap (after_update (design_of c.args.fanout.now) (state c.args.queue.now) c.args.process) (doing_here processes c.args.process c.index.result.now there c.index.ensures ∙ ap (λ x. Some (doing x)) c.in-Edge.is))

@@ -11,7 +11,7 @@ use Rattle.rtl_scan.proofs.Labels.{left_at}
 use Rattle.event_model.specs.Queue.{State, bits_in, net_writes, resolved, write_all}
 use Rattle.event_model.specs.Writes.{no_drive, span_of, write_at}
 use Rattle.event_write.specs.Entries.{AreSelected}
-use Rattle.event_write.specs.Marks.{design_of, driver_of, state}
+use Rattle.event_write.specs.QueueState.{design_of, driver_of, state}
 use Rattle.event_take.proofs.Delaying.{write_append}
 use Rattle.event_take.proofs.updates.write_nets.Goals as goal
 
@@ -33,14 +33,14 @@ loop-part-preserved c =
     let left = left_at c.args.parts.now c.loop-part.part-index part c.loop-part-test.true c.part-item.is in
     let lawful = subst (λ (ps : List TargetPart). AreSelected signals (map piece ps)) left inv.3 in
     let fixed = subst (λ (ps : List TargetPart). All (λ (p : Piece). IsFixed p.selection) (map piece ps)) left inv.4 in
-    let s = state c.loop-part.marks in
-    let first = (state c.args.marks.now).driver in
+    let s = state c.loop-part.queue in
+    let first = (state c.args.queue.now).driver in
     let span = span_of ws (no_drive ws) part.signal.0 (selection part.select) in
     let rest = net_writes ws (resolved d first) (map piece others) in
     let drivers : s.driver ≡ first = ap (λ (v : Vec (Option (List Bit)) Global). λ (p : ℕ). driver_of (slice_get v.items p)) inv.2 in
     let still = c.write_net.ensures.still in
     let here = write_at part.signal.0 span (bits_in span (resolved d first part.signal.0)) in (
-      c.write_net.ensures.marks,
+      c.write_net.ensures.queue,
       record { levels = still.levels ∙ inv.1.levels; active = still.active ∙ inv.1.active; next = still.next ∙ inv.1.next; waiting = still.waiting ∙ inv.1.waiting; scratch = still.scratch ∙ inv.1.scratch },
       c.write_net.ensures.drivers ∙ inv.2,
       lawful.2,

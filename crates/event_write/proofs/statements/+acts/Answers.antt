@@ -18,7 +18,7 @@ use Rattle.rtl_scan.proofs.Weights.{if_load, case_load, block_load, act_load}
 use Rattle.event_model.specs.Bodies.{body_made, branches_made, made, other_made}
 use Rattle.event_model.specs.Queue.{perform_all}
 use Rattle.event_write.specs.Choices.{AreMatched, chosen_body}
-use Rattle.event_write.specs.Marks.{design_of, state}
+use Rattle.event_write.specs.QueueState.{design_of, state}
 use Rattle.event_write.specs.Rooms.{branch_rooms, other_room, room, rooms}
 use Rattle.event_write.proofs.Choosing.{are_matched, as_other, chosen_lawful, chosen_made, chosen_room, chosen_statements, made_of}
 use Rattle.event_write.proofs.Making.{block_action, case_action, if_action, kept_more, one_made, other_way_made, taken_made}
@@ -39,7 +39,7 @@ make-make_all-requires t c =
     let whole = ap room is in
     let here = ap (λ (xs : List Act). rooms (body_of (map action xs))) value in
     let fits = c.requires.room in
-    (less, (c.requires.fanout, (c.requires.marks, (subst (λ (xs : List Act). IsBody signals (body_of (map action xs))) (sym value) lawful.1, (c.requires.scratch, omega (arith, whole, here, fits))))))
+    (less, (c.requires.fanout, (c.requires.queue, (subst (λ (xs : List Act). IsBody signals (body_of (map action xs))) (sym value) lawful.1, (c.requires.scratch, omega (arith, whole, here, fits))))))
 
 pub make-make_other-requires : goal.make-make_other-requires
 make-make_other-requires t c =
@@ -51,7 +51,7 @@ make-make_other-requires t c =
     let less : 4 * other_load c.in-If.no + 2 < t = omega (arith, part, measure) in
     let whole = ap room is in
     let fits = c.requires.room in
-    (less, (c.requires.fanout, (c.requires.marks, (lawful.2, (c.requires.scratch, omega (arith, whole, fits))))))
+    (less, (c.requires.fanout, (c.requires.queue, (lawful.2, (c.requires.scratch, omega (arith, whole, fits))))))
 
 pub make-make_case-requires : goal.make-make_case-requires
 make-make_case-requires t c =
@@ -66,7 +66,7 @@ make-make_case-requires t c =
     let whole = ap room is in
     let here = ap (λ (xs : List CaseItem). branch_rooms (branches_of xs)) value in
     let fits = c.requires.room in
-    (less, (c.requires.fanout, (c.requires.marks, (lawful.0, (subst (λ (xs : List CaseItem). AreBranches signals (tree c.in-Case.selector) (branches_of xs)) (sym value) lawful.1, (lawful.2, (c.requires.scratch, omega (arith, whole, here, fits))))))))
+    (less, (c.requires.fanout, (c.requires.queue, (lawful.0, (subst (λ (xs : List CaseItem). AreBranches signals (tree c.in-Case.selector) (branches_of xs)) (sym value) lawful.1, (lawful.2, (c.requires.scratch, omega (arith, whole, here, fits))))))))
 
 pub make-make_all-requires-in-Block : goal.make-make_all-requires-in-Block
 make-make_all-requires-in-Block t c =
@@ -81,14 +81,14 @@ make-make_all-requires-in-Block t c =
     let whole = ap room is in
     let here = ap (λ (xs : List Act). rooms (body_of (map action xs))) value in
     let fits = c.requires.room in
-    (less, (c.requires.fanout, (c.requires.marks, (subst (λ (xs : List Act). IsBody signals (body_of (map action xs))) (sym value) lawful, (c.requires.scratch, omega (arith, whole, here, fits))))))
+    (less, (c.requires.fanout, (c.requires.queue, (subst (λ (xs : List Act). IsBody signals (body_of (map action xs))) (sym value) lawful, (c.requires.scratch, omega (arith, whole, here, fits))))))
 
 pub make-returns-then-holds-clause-state : goal.make-returns-then-holds-clause-state
 make-returns-then-holds-clause-state t c =
     let d = design_of c.args.fanout.now in
-    let s = state c.args.marks.now in
+    let s = state c.args.queue.now in
     let ws = width_in c.args.fanout.now.design.now.signals.items in
-    let v = store c.args.marks.now.values.items in
+    let v = store c.args.queue.now.values.items in
     let is = if_action c.args.act.now c.in-If.test c.in-If.yes c.in-If.no c.in-If.spot c.in-If.is in
     let test : true ≡ is_one (truth_bit (value v (tree c.in-If.test))) =
     sym c.if-holds.true ∙ c.holds.ensures ∙ ap (λ (vs : List (List Bit)). is_one (truth_bit (value (store vs) (tree c.in-If.test)))) c.deref-in-If-2.ensures.value in
@@ -101,14 +101,14 @@ make-returns-then-holds-clause-kept t c =
     let is = if_action c.args.act.now c.in-If.test c.in-If.yes c.in-If.no c.in-If.spot c.in-If.is in
     let whole = ap room is in
     let here = ap (λ (xs : List Act). rooms (body_of (map action xs))) c.deref-then-holds.ensures.value in
-    kept_more (rooms (body_of (map action c.deref-then-holds.result.now))) (room (action c.args.act.now)) c.args.marks.now c.make_all.new.marks (omega (arith, whole, here)) c.make_all.ensures.kept
+    kept_more (rooms (body_of (map action c.deref-then-holds.result.now))) (room (action c.args.act.now)) c.args.queue.now c.make_all.new.queue (omega (arith, whole, here)) c.make_all.ensures.kept
 
 pub make-returns-else-holds-clause-state : goal.make-returns-else-holds-clause-state
 make-returns-else-holds-clause-state t c =
     let d = design_of c.args.fanout.now in
-    let s = state c.args.marks.now in
+    let s = state c.args.queue.now in
     let ws = width_in c.args.fanout.now.design.now.signals.items in
-    let v = store c.args.marks.now.values.items in
+    let v = store c.args.queue.now.values.items in
     let is = if_action c.args.act.now c.in-If.test c.in-If.yes c.in-If.no c.in-If.spot c.in-If.is in
     let test : false ≡ is_one (truth_bit (value v (tree c.in-If.test))) =
     sym c.if-holds.false ∙ c.holds.ensures ∙ ap (λ (vs : List (List Bit)). is_one (truth_bit (value (store vs) (tree c.in-If.test)))) c.deref-in-If-2.ensures.value in
@@ -119,14 +119,14 @@ pub make-returns-else-holds-clause-kept : goal.make-returns-else-holds-clause-ke
 make-returns-else-holds-clause-kept t c =
     let is = if_action c.args.act.now c.in-If.test c.in-If.yes c.in-If.no c.in-If.spot c.in-If.is in
     let whole = ap room is in
-    kept_more (other_room (other_of c.in-If.no)) (room (action c.args.act.now)) c.args.marks.now c.make_other.new.marks (omega (arith, whole)) c.make_other.ensures.kept
+    kept_more (other_room (other_of c.in-If.no)) (room (action c.args.act.now)) c.args.queue.now c.make_other.new.queue (omega (arith, whole)) c.make_other.ensures.kept
 
 pub make-returns-in-Case-clause-state : goal.make-returns-in-Case-clause-state
 make-returns-in-Case-clause-state t c =
     let d = design_of c.args.fanout.now in
-    let s = state c.args.marks.now in
+    let s = state c.args.queue.now in
     let ws = width_in c.args.fanout.now.design.now.signals.items in
-    let v = store c.args.marks.now.values.items in
+    let v = store c.args.queue.now.values.items in
     let is = case_action c.args.act.now c.in-Case.kind c.in-Case.full c.in-Case.parallel c.in-Case.selector c.in-Case.items c.in-Case.fallback c.in-Case.spot c.in-Case.is in
     c.make_case.ensures.state
     ∙ ap (λ (xs : List CaseItem). perform_all d s (branches_made ws v c.in-Case.kind (value v (tree c.in-Case.selector)) (other_made ws v (other_of c.in-Case.fallback)) (branches_of xs))) c.deref-in-Case.ensures.value
@@ -137,14 +137,14 @@ make-returns-in-Case-clause-kept t c =
     let is = case_action c.args.act.now c.in-Case.kind c.in-Case.full c.in-Case.parallel c.in-Case.selector c.in-Case.items c.in-Case.fallback c.in-Case.spot c.in-Case.is in
     let whole = ap room is in
     let here = ap (λ (xs : List CaseItem). branch_rooms (branches_of xs)) c.deref-in-Case.ensures.value in
-    kept_more (branch_rooms (branches_of c.deref-in-Case.result.now) + other_room (other_of c.in-Case.fallback)) (room (action c.args.act.now)) c.args.marks.now c.make_case.new.marks (omega (arith, whole, here)) c.make_case.ensures.kept
+    kept_more (branch_rooms (branches_of c.deref-in-Case.result.now) + other_room (other_of c.in-Case.fallback)) (room (action c.args.act.now)) c.args.queue.now c.make_case.new.queue (omega (arith, whole, here)) c.make_case.ensures.kept
 
 pub make-returns-in-Block-clause-state : goal.make-returns-in-Block-clause-state
 make-returns-in-Block-clause-state t c =
     let d = design_of c.args.fanout.now in
-    let s = state c.args.marks.now in
+    let s = state c.args.queue.now in
     let ws = width_in c.args.fanout.now.design.now.signals.items in
-    let v = store c.args.marks.now.values.items in
+    let v = store c.args.queue.now.values.items in
     let is = block_action c.args.act.now c.in-Block.body c.in-Block.is in
     c.make_all-in-Block.ensures.state
     ∙ ap (λ (xs : List Act). perform_all d s (body_made ws v (body_of (map action xs)))) c.deref-in-Block.ensures.value
@@ -155,7 +155,7 @@ make-returns-in-Block-clause-kept t c =
     let is = block_action c.args.act.now c.in-Block.body c.in-Block.is in
     let whole = ap room is in
     let here = ap (λ (xs : List Act). rooms (body_of (map action xs))) c.deref-in-Block.ensures.value in
-    kept_more (rooms (body_of (map action c.deref-in-Block.result.now))) (room (action c.args.act.now)) c.args.marks.now c.make_all-in-Block.new.marks (omega (arith, whole, here)) c.make_all-in-Block.ensures.kept
+    kept_more (rooms (body_of (map action c.deref-in-Block.result.now))) (room (action c.args.act.now)) c.args.queue.now c.make_all-in-Block.new.queue (omega (arith, whole, here)) c.make_all-in-Block.ensures.kept
 
 -- ---- statements in order
 
@@ -193,7 +193,7 @@ make_all-loop-act-preserved t c =
     let scratch_now = kept.scratch in
     let used = inv.4 in
     let used_now = kept.waiting in (
-      c.make.ensures.marks,
+      c.make.ensures.queue,
       lawful.1,
       omega (arith, more, more_now),
       omega (arith, scratch, scratch_now),
@@ -201,8 +201,8 @@ make_all-loop-act-preserved t c =
       kept.active ∙ inv.5,
       kept.next ∙ inv.6,
       kept.levels ∙ inv.7,
-      one_made d (state c.loop-act.marks) (state c.make.new.marks) ws (action c.act-item.result) others c.make.ensures.state
-          ∙ ap (λ (xs : List Act). perform_all d (state c.loop-act.marks) (body_made ws (store c.loop-act.marks.values.items) (body_of (map action xs)))) (sym left)
+      one_made d (state c.loop-act.queue) (state c.make.new.queue) ws (action c.act-item.result) others c.make.ensures.state
+          ∙ ap (λ (xs : List Act). perform_all d (state c.loop-act.queue) (body_made ws (store c.loop-act.queue.values.items) (body_of (map action xs)))) (sym left)
           ∙ inv.8,
     )
 
@@ -230,14 +230,14 @@ make_case-make_all-requires t c =
     let small = chosen_room c.args.kind v bits branches in
     let here = ap (λ (o : Option Actions). other_room (as_other o)) chosen in
     let fits = c.requires.room in
-    (less, (c.requires.fanout, (c.requires.marks, (lawful, (c.requires.scratch, omega (arith, small, here, fits))))))
+    (less, (c.requires.fanout, (c.requires.queue, (lawful, (c.requires.scratch, omega (arith, small, here, fits))))))
 
 pub make_case-returns-in-Some-clause-state : goal.make_case-returns-in-Some-clause-state
 make_case-returns-in-Some-clause-state t c =
     let d = design_of c.args.fanout.now in
-    let s = state c.args.marks.now in
+    let s = state c.args.queue.now in
     let ws = width_in c.args.fanout.now.design.now.signals.items in
-    let v = store c.args.marks.now.values.items in
+    let v = store c.args.queue.now.values.items in
     let e = tree c.args.selector.now in
     let branches = branches_of c.args.items.now in
     let none = other_made ws v (other_of c.args.fallback.now) in
@@ -258,14 +258,14 @@ make_case-returns-in-Some-clause-kept t c =
     let chosen : Some (body_of (map action c.in-Some.body.now)) ≡ chosen_body c.args.kind v bits branches = sym (ap (option_map (λ b. body_of (map action b.now))) c.in-Some.is) ∙ c.chosen_body.ensures in
     let small = chosen_room c.args.kind v bits branches in
     let here = ap (λ (o : Option Actions). other_room (as_other o)) chosen in
-    kept_more (rooms (body_of (map action c.in-Some.body.now))) (branch_rooms branches + other_room (other_of c.args.fallback.now)) c.args.marks.now c.make_all.new.marks (omega (arith, small, here)) c.make_all.ensures.kept
+    kept_more (rooms (body_of (map action c.in-Some.body.now))) (branch_rooms branches + other_room (other_of c.args.fallback.now)) c.args.queue.now c.make_all.new.queue (omega (arith, small, here)) c.make_all.ensures.kept
 
 pub make_case-returns-in-None-clause-state : goal.make_case-returns-in-None-clause-state
 make_case-returns-in-None-clause-state t c =
     let d = design_of c.args.fanout.now in
-    let s = state c.args.marks.now in
+    let s = state c.args.queue.now in
     let ws = width_in c.args.fanout.now.design.now.signals.items in
-    let v = store c.args.marks.now.values.items in
+    let v = store c.args.queue.now.values.items in
     let e = tree c.args.selector.now in
     let branches = branches_of c.args.items.now in
     let none = other_made ws v (other_of c.args.fallback.now) in

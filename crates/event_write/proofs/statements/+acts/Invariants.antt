@@ -6,21 +6,21 @@ use Rattle.rtl_flat.specs.WellFormed.{IsBody, statements}
 use Rattle.rtl_scan.specs.Loads.{load, other_load, items_load}
 use Rattle.event_model.specs.Bodies.{body_made}
 use Rattle.event_model.specs.Queue.{perform_all}
-use Rattle.event_write.specs.Marks.{IsMarks, design_of, state}
+use Rattle.event_write.specs.QueueState.{IsQueueState, design_of, state}
 use Rattle.event_write.specs.Rooms.{rooms}
 use Rattle.event_write.proofs.statements.+acts.Given as goal
 
 abbrev pub invariant-make_all-loop-act : goal.invariant-make_all-loop-act
 invariant-make_all-loop-act l =
-    IsMarks (design_of l.fanout) l.marks
+    IsQueueState (design_of l.fanout) l.queue
     × IsBody l.fanout.design.now.signals.items (body_of (map action (drop l.act-index l.acts)))
-    × (vec_capacity l.initial.marks.waiting ≤ vec_capacity l.marks.waiting)
-    × (vec_capacity l.initial.marks.scratch ≤ vec_capacity l.marks.scratch)
-    × (length l.marks.waiting.items + rooms (body_of (map action (drop l.act-index l.acts))) ≤ length l.initial.marks.waiting.items + rooms (body_of (map action l.acts)))
-    × (l.marks.active ≡ l.initial.marks.active)
-    × (l.marks.next ≡ l.initial.marks.next)
-    × (l.marks.woken.levels ≡ l.initial.marks.woken.levels)
-    × (perform_all (design_of l.fanout) (state l.marks) (body_made (width_in l.fanout.design.now.signals.items) (store l.marks.values.items) (body_of (map action (drop l.act-index l.acts)))) ≡ perform_all (design_of l.fanout) (state l.initial.marks) (body_made (width_in l.fanout.design.now.signals.items) (store l.initial.marks.values.items) (body_of (map action l.acts))))
+    × (vec_capacity l.initial.queue.waiting ≤ vec_capacity l.queue.waiting)
+    × (vec_capacity l.initial.queue.scratch ≤ vec_capacity l.queue.scratch)
+    × (length l.queue.waiting.items + rooms (body_of (map action (drop l.act-index l.acts))) ≤ length l.initial.queue.waiting.items + rooms (body_of (map action l.acts)))
+    × (l.queue.active ≡ l.initial.queue.active)
+    × (l.queue.next ≡ l.initial.queue.next)
+    × (l.queue.woken.levels ≡ l.initial.queue.woken.levels)
+    × (perform_all (design_of l.fanout) (state l.queue) (body_made (width_in l.fanout.design.now.signals.items) (store l.queue.values.items) (body_of (map action (drop l.act-index l.acts)))) ≡ perform_all (design_of l.fanout) (state l.initial.queue) (body_made (width_in l.fanout.design.now.signals.items) (store l.initial.queue.values.items) (body_of (map action l.acts))))
 
 abbrev pub decreases-make_all : goal.decreases-make_all
 decreases-make_all l = 4 * load l.acts.now + 1

@@ -8,7 +8,7 @@ use Rattle.rtl_flat.specs.Value.{store, value}
 use Rattle.event_model.specs.Bodies.{assigned}
 use Rattle.event_model.specs.Queue.{perform_all, write_all}
 use Rattle.event_model.specs.Writes.{writes}
-use Rattle.event_write.specs.Marks.{design_of, state}
+use Rattle.event_write.specs.QueueState.{design_of, state}
 use Rattle.event_write.proofs.Making.{all_now}
 use Rattle.event_write.proofs.Targets.{are_selected, counts_is, few_parts, some_bits}
 use Rattle.event_write.proofs.statements.make_set.Goals as goal
@@ -51,9 +51,9 @@ write_now-requires-clause-room c =
 pub returns-else-delayed-clause-state : goal.returns-else-delayed-clause-state
 returns-else-delayed-clause-state c =
     let d = design_of c.args.fanout.now in
-    let s = state c.args.marks.now in
+    let s = state c.args.queue.now in
     let ws = width_in c.args.fanout.now.design.now.signals.items in
-    let v = store c.args.marks.now.values.items in
+    let v = store c.args.queue.now.values.items in
     let parts = map piece c.args.parts.now in
     let e = tree c.args.expression.now in
     let bits : c.evaluate-bits.result ≡ value v e = c.evaluate-bits.ensures.bits ∙ ap (λ (vs : List (List Bit)). value (store vs) e) c.deref-2.ensures.value in

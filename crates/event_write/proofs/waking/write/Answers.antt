@@ -10,7 +10,7 @@ use Rattle.event_model.specs.Writes.{Write, put, written}
 use Rattle.event_model.specs.Queue.{hears, doing_at, widths}
 use Rattle.event_write.specs.declared.listener.Listener.{Listener}
 use Rattle.event_write.specs.Listeners.{heard_by}
-use Rattle.event_write.specs.Marks.{design_of, row, state}
+use Rattle.event_write.specs.QueueState.{design_of, row, state}
 use Rattle.event_write.proofs.Writing.{row_at, store_set, put_at, write_is}
 use Rattle.event_write.proofs.waking.write.Goals as goal
 
@@ -20,17 +20,17 @@ wake-requires c =
     let listened = c.requires.fanout.listened in
     let within : c.args.signal.0 < length c.args.fanout.now.listeners.items = omega (arith, there, listened) in
     let is = row_at c.args.fanout.now.listeners.items c.args.signal.0 c.index-listeners.result.now within c.index-listeners.ensures in
-    subst (λ (xs : List Listener). All (λ listener. listener.process < length c.args.marks.now.woken.flags) xs) (is ∙ sym c.deref.ensures.value)
-    (subst (λ (n : ℕ). All (λ listener. listener.process < n) (row c.args.fanout.now.listeners.items c.args.signal.0)) (sym c.requires.marks.woken) (c.requires.fanout.inside c.args.signal.0))
+    subst (λ (xs : List Listener). All (λ listener. listener.process < length c.args.queue.now.woken.flags) xs) (is ∙ sym c.deref.ensures.value)
+    (subst (λ (n : ℕ). All (λ listener. listener.process < n) (row c.args.fanout.now.listeners.items c.args.signal.0)) (sym c.requires.queue.woken) (c.requires.fanout.inside c.args.signal.0))
 
 pub returns-clause-state : goal.returns-clause-state
 returns-clause-state c =
     let d = design_of c.args.fanout.now in
     let i = c.args.signal.0 in
-    let values = c.args.marks.now.values.items in
+    let values = c.args.queue.now.values.items in
     let there = c.requires.there in
     let listened = c.requires.fanout.listened in
-    let stored = c.requires.marks.values.count in
+    let stored = c.requires.queue.values.count in
     let within : i < length c.args.fanout.now.listeners.items = omega (arith, there, listened) in
     let kept : i < length values = omega (arith, there, stored) in
     let w : Write = record { signal = i; at = c.args.at; bits = c.args.bits } in
@@ -38,10 +38,10 @@ returns-clause-state c =
     let new_is : c.replace-new.result ≡ replaced c.args.at c.args.bits (store values i) = c.replace-new.ensures.bits ∙ ap (replaced c.args.at c.args.bits) old_is in
     let at_signal : written (store values) w i ≡ replaced c.args.at c.args.bits (store values i) = put_at (store values) i (replaced c.args.at c.args.bits (store values i)) in
     let is = row_at c.args.fanout.now.listeners.items i c.index-listeners.result.now within c.index-listeners.ensures in
-    write_is d (state c.args.marks.now) w (store (with_item c.args.marks.now.values i c.replace-new.result).items) (flag c.wake.new.woken.flags)
+    write_is d (state c.args.queue.now) w (store (with_item c.args.queue.now.values i c.replace-new.result).items) (flag c.wake.new.woken.flags)
     (λ j. store_set values i c.replace-new.result kept j ∙ ap (λ bits. put (store values) i bits j) new_is)
     (λ p. c.wake.ensures.woken c.index-old.result.now c.replace-new.result (sym c.replace-new.ensures.width) c.of.ensures p
-    ∙ ap (λ b. flag c.args.marks.now.woken.flags p || b)
+    ∙ ap (λ b. flag c.args.queue.now.woken.flags p || b)
     (ap (λ xs. heard_by xs p c.index-old.result.now c.replace-new.result) (c.deref.ensures.value ∙ sym is)
     ∙ c.requires.fanout.hear i p c.index-old.result.now c.replace-new.result
     ∙ ap (λ bits. hears (widths d) i bits c.replace-new.result (doing_at d p)) old_is

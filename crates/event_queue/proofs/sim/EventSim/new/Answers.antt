@@ -6,16 +6,16 @@ use Rattle.event_queue.proofs.sim.EventSim.new.Goals as goal
 pub invariant_of-result : goal.invariant_of-result
 invariant_of-result c =
     record {
-      is_sim = holding c.args.design.now c.args.start.now c.in_ok-levels.levels.items c.in_ok-fanout.fanout c.in_ok-marks.marks c.in_ok-costs.costs c.budget_of-budget.result
-          c.in_ok-fanout.ensures.tables c.in_ok-fanout.ensures.design c.in_ok-costs.ensures c.budget_of-budget.ensures.budget c.in_ok-marks.ensures;
+      is_sim = holding c.args.design.now c.args.start.now c.in_ok-levels.levels.items c.in_ok-fanout.fanout c.in_ok-queue.queue c.in_ok-costs.costs c.budget_of-budget.result
+          c.in_ok-fanout.ensures.tables c.in_ok-fanout.ensures.design c.in_ok-costs.ensures c.budget_of-budget.ensures.budget c.in_ok-queue.ensures;
     }
 
 pub returns : goal.returns
 returns c =
     record {
       design = ap flat c.in_ok-fanout.ensures.design;
-      state = c.in_ok-marks.ensures.state;
+      state = c.in_ok-queue.ensures.state;
       left = c.budget_of-budget.ensures.budget;
       free = refl;
-      levels = levels_are c.args.design.now c.in_ok-levels.levels.items c.in_ok-marks.marks.woken.levels c.in_ok-marks.ensures.levels c.in_ok-levels.ensures.each;
+      levels = levels_are c.args.design.now c.in_ok-levels.levels.items c.in_ok-queue.queue.woken.levels c.in_ok-queue.ensures.levels c.in_ok-levels.ensures.each;
     }

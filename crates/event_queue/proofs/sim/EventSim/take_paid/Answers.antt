@@ -21,7 +21,7 @@ take_event-requires-clause-room c =
     let price = c.cost_of-cost.ensures in
     let enough = c.requires.paid in
     let paid : (s.left - c.cost_of-cost.result) + cost d e ≡ s.left = omega (arith, price, enough) in
-    has_room d s.costs e (length s.marks.waiting.items) (vec_capacity s.marks.waiting) s.left (s.left - c.cost_of-cost.result) (s.costs.share * s.budget) is.costs paid is.waiting is.waiting_room
+    has_room d s.costs e (length s.queue.waiting.items) (vec_capacity s.queue.waiting) s.left (s.left - c.cost_of-cost.result) (s.costs.share * s.budget) is.costs paid is.waiting is.waiting_room
 
 pub make_ready-requires-clause-lawful : goal.make_ready-requires-clause-lawful
 make_ready-requires-clause-lawful c =
@@ -53,12 +53,12 @@ invariant_of-self c =
     record {
       is_sim = record {
         fanout = is.fanout;
-        marks = c.make_ready.ensures.marks;
+        queue = c.make_ready.ensures.queue;
         lawful = subst (IsLawful d) (sym (c.make_ready.ensures.state ∙ ap (ready d) c.take_event.ensures.state)) (ready_lawful d (state_of s) e is.lawful);
         costs = is.costs;
         budget = is.budget;
         left = omega (arith, most);
-        waiting = room_left d s.costs e s.marks c.take_event.new.marks c.make_ready.new.marks s.left (s.left - c.cost_of-cost.result) all is.costs paid is.waiting taken made;
+        waiting = room_left d s.costs e s.queue c.take_event.new.queue c.make_ready.new.queue s.left (s.left - c.cost_of-cost.result) all is.costs paid is.waiting taken made;
         waiting_room = rooms.0;
         active_room = rooms.1;
         scratch = omega (arith, ample, scratch, scratch_then);
@@ -73,4 +73,4 @@ returns-clause-work c =
     let price = c.cost_of-cost.ensures in
     let enough = c.requires.paid in
     let paid : (s.left - c.cost_of-cost.result) + cost d e ≡ s.left = omega (arith, price, enough) in
-    less_work d s.costs e s.marks c.take_event.new.marks c.make_ready.new.marks s.left (s.left - c.cost_of-cost.result) c.args.self.now.is_sim.costs (never_activate c.args.choice) paid c.take_event.ensures.taken c.make_ready.ensures.made
+    less_work d s.costs e s.queue c.take_event.new.queue c.make_ready.new.queue s.left (s.left - c.cost_of-cost.result) c.args.self.now.is_sim.costs (never_activate c.args.choice) paid c.take_event.ensures.taken c.make_ready.ensures.made

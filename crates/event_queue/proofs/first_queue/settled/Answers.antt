@@ -5,7 +5,7 @@ use Rattle.event_model.specs.Queue.{flat, settled_at}
 use Rattle.event_write.specs.Stored.{AreStored}
 use Rattle.event_queue.specs.First.{IsFirst, IsFresh, driver_in}
 use Rattle.event_queue.proofs.Freshness.{now_drivers_are, settled_first}
-use Rattle.event_queue.proofs.first_marks.settled.Goals as goal
+use Rattle.event_queue.proofs.first_queue.settled.Goals as goal
 
 pub fresh-requires-clause-stored : goal.fresh-requires-clause-stored
 fresh-requires-clause-stored c =

@@ -7,7 +7,7 @@ use rtl_bits::Vec4;
 
 /// The values of signals and the events that are waiting to be taken.
 #[derive(Drop)]
-pub struct Marks {
+pub struct QueueState {
     /// The value of each signal.
     pub values: Vec<Vec4>,
     /// The woken processes.

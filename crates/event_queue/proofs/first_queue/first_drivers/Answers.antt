@@ -3,7 +3,7 @@ use Rattle.rtl_flat.specs.declared.signal.Signal.{Signal}
 use Rattle.rtl_flat.specs.Process.{doing}
 use Rattle.rtl_flat.specs.WellFormed.{IsProcess}
 use Rattle.event_queue.proofs.Fewness.{is_read, lawful_at}
-use Rattle.event_queue.proofs.first_marks.first_drivers.Goals as goal
+use Rattle.event_queue.proofs.first_queue.first_drivers.Goals as goal
 
 pub first_driver-requires : goal.first_driver-requires
 first_driver-requires c =

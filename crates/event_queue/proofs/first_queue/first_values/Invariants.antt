@@ -1,6 +1,6 @@
 use Rattle.std.proofs.Common.{◌≡◌, ◌++◌, map, drop}
 use Rattle.event_queue.specs.First.{first_value}
-use Rattle.event_queue.proofs.first_marks.first_values.Given as goal
+use Rattle.event_queue.proofs.first_queue.first_values.Given as goal
 
 abbrev pub invariant-loop-signal : goal.invariant-loop-signal
 invariant-loop-signal l =

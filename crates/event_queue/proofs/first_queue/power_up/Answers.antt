@@ -2,7 +2,7 @@ use Rattle.std.proofs.Common.{sym, subst}
 use Rattle.event_write.specs.Stored.{AreStored}
 use Rattle.event_queue.proofs.Freshness.{first_drivers_are, power_up_is}
 use Rattle.event_queue.proofs.Starting.{first_stored}
-use Rattle.event_queue.proofs.first_marks.power_up.Goals as goal
+use Rattle.event_queue.proofs.first_queue.power_up.Goals as goal
 
 pub fresh-requires-clause-stored : goal.fresh-requires-clause-stored
 fresh-requires-clause-stored c =
@@ -14,4 +14,4 @@ fresh-requires-clause-driven c =
 
 pub returns : goal.returns
 returns c =
-    power_up_is c.args.design.now c.in_ok-marks.marks c.wake_assignments.new.woken c.in_ok-values.values.items c.in_ok-drivers.drivers.items c.args.levels.items c.args.room c.in_ok-values.ensures c.in_ok-drivers.ensures c.in_ok-marks.ensures c.wake_assignments.ensures.size c.wake_assignments.ensures.levels c.wake_assignments.ensures.flags
+    power_up_is c.args.design.now c.in_ok-queue.queue c.wake_assignments.new.woken c.in_ok-values.values.items c.in_ok-drivers.drivers.items c.args.levels.items c.args.room c.in_ok-values.ensures c.in_ok-drivers.ensures c.in_ok-queue.ensures c.wake_assignments.ensures.size c.wake_assignments.ensures.levels c.wake_assignments.ensures.flags

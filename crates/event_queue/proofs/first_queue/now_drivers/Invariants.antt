@@ -2,7 +2,7 @@ use Rattle.std.proofs.Common.{◌≡◌, ◌++◌, map, drop}
 use Rattle.rtl_flat.specs.Process.{doing}
 use Rattle.rtl_flat.specs.Value.{store}
 use Rattle.event_queue.specs.First.{now_driver}
-use Rattle.event_queue.proofs.first_marks.now_drivers.Given as goal
+use Rattle.event_queue.proofs.first_queue.now_drivers.Given as goal
 
 abbrev pub invariant-loop-process : goal.invariant-loop-process
 invariant-loop-process l =

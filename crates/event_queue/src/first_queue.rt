@@ -1,4 +1,4 @@
-//! The marks from which a simulator begins.
+//! The queue from which a simulator begins.
 
 ghost use Rattle.std.specs.Prelude.{ℕ, ◌≡◌, ◌<◌, ◌≤◌, ◌==◌, ◌&&◌, ◌||◌, Some, false, length, map, replicate, IfOk};
 ghost use Rattle.rtl_flat.specs.Process.{doing};
@@ -11,7 +11,7 @@ ghost use Rattle.event_write.specs.Stored.{AreStored};
 ghost use Rattle.event_queue.specs.First.{AreDriven, IsFirst, IsFresh, blank, driver_in, first_driver, first_value, now_driver};
 
 use agenda::Agenda;
-use event_write::marks::Marks;
+use event_write::queue_state::QueueState;
 use event_write::stores::evaluate;
 use rank_set::RankSet;
 use rtl_bits::{Bit, Vec4};
@@ -130,7 +130,7 @@ fn copied(alloc: Global, values: &[Vec4]) -> Result<Vec<Vec4>, Memory>
     Ok(copy)
 }
 
-/// Marks where nothing is to be done, with room for so many prepared writes.
+/// QueueState where nothing is to be done, with room for so many prepared writes.
 fn fresh(
     alloc: Global,
     design: &Design,
@@ -138,11 +138,11 @@ fn fresh(
     values: Vec<Vec4>,
     drivers: Vec<Option<Vec4>>,
     room: usize,
-) -> Result<Marks, Memory>
+) -> Result<QueueState, Memory>
     requires levels { length levels.items ≡ length design.now.processes.items }
     requires stored { AreStored design.now.signals.items values.items }
     requires driven { AreDriven (flat design.now) drivers.items }
-    ensures { IfOk result (λ marks. IsFresh (flat design.now) (store values.items) (driver_in drivers.items) levels.items room marks) }
+    ensures { IfOk result (λ queue. IsFresh (flat design.now) (store values.items) (driver_in drivers.items) levels.items room queue) }
 {
     let offered_values = first_values(alloc, design)?;
     let pending_values = blanks(alloc, design)?;
@@ -154,7 +154,7 @@ fn fresh(
     let active = Vec::with_capacity(alloc, room)?;
     let waiting = Vec::with_capacity(alloc, room)?;
     let scratch = Vec::with_capacity(alloc, 128)?;
-    Ok(Marks {
+    Ok(QueueState {
         values,
         woken,
         drivers,
@@ -207,34 +207,34 @@ fn wake_assignments(design: &Design, woken: &mut Agenda)
     }
 }
 
-/// The marks at power-up, with room for so many prepared writes.
+/// The queue at power-up, with room for so many prepared writes.
 pub(crate) fn power_up(
     alloc: Global,
     design: &Design,
     levels: Vec<Option<u32>>,
     room: usize,
-) -> Result<Marks, Memory>
+) -> Result<QueueState, Memory>
     requires { length levels.items ≡ length design.now.processes.items }
-    ensures { IfOk result (λ marks. IsFirst (flat design.now) (power_up (flat design.now)) levels.items room marks) }
+    ensures { IfOk result (λ queue. IsFirst (flat design.now) (power_up (flat design.now)) levels.items room queue) }
 {
     let values = first_values(alloc, design)?;
     let drivers = first_drivers(alloc, design)?;
-    let mut marks = fresh(alloc, design, levels, values, drivers, room)?;
-    wake_assignments(design, &mut marks.woken);
-    Ok(marks)
+    let mut queue = fresh(alloc, design, levels, values, drivers, room)?;
+    wake_assignments(design, &mut queue.woken);
+    Ok(queue)
 }
 
-/// The marks with given values where nothing is to be done, with room for so many prepared writes.
+/// The queue with given values where nothing is to be done, with room for so many prepared writes.
 pub(crate) fn settled(
     alloc: Global,
     design: &Design,
     values: &[Vec4],
     levels: Vec<Option<u32>>,
     room: usize,
-) -> Result<Marks, Memory>
+) -> Result<QueueState, Memory>
     requires levels { length levels.items ≡ length design.now.processes.items }
     requires stored { AreStored design.now.signals.items values.now }
-    ensures { IfOk result (λ marks. IsFirst (flat design.now) (settled_at (flat design.now) (store values.now)) levels.items room marks) }
+    ensures { IfOk result (λ queue. IsFirst (flat design.now) (settled_at (flat design.now) (store values.now)) levels.items room queue) }
 {
     let drivers = now_drivers(alloc, design, values)?;
     let copy = copied(alloc, values)?;

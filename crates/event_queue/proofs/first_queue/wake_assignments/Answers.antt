@@ -5,7 +5,7 @@ use Rattle.rtl_flat.specs.Process.{Doing, doing, task}
 use Rattle.event_model.specs.Queue.{doing_at, flat, is_assignment}
 use Rattle.event_take.proofs.Taking.{doing_here}
 use Rattle.event_queue.proofs.Starting.{all_of_them, one_more}
-use Rattle.event_queue.proofs.first_marks.wake_assignments.Goals as goal
+use Rattle.event_queue.proofs.first_queue.wake_assignments.Goals as goal
 
 pub loop-number-preserved : goal.loop-number-preserved
 loop-number-preserved c =

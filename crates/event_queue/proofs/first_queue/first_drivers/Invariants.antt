@@ -2,7 +2,7 @@ use Rattle.std.proofs.Common.{◌≡◌, ◌++◌, map, drop}
 use Rattle.rtl_flat.specs.Process.{doing}
 use Rattle.rtl_flat.specs.Signs.{width_in}
 use Rattle.event_queue.specs.First.{first_driver}
-use Rattle.event_queue.proofs.first_marks.first_drivers.Given as goal
+use Rattle.event_queue.proofs.first_queue.first_drivers.Given as goal
 
 abbrev pub invariant-loop-process : goal.invariant-loop-process
 invariant-loop-process l =

@@ -13,7 +13,7 @@ use Rattle.rank_set.specs.Ranks.{flag}
 use Rattle.event_model.specs.Writes.{Values, Span, no_drive}
 use Rattle.event_model.specs.Queue.{Flat, State, flat, doing_at, widths, hears, drive_with, resolved}
 use Rattle.event_write.specs.declared.fanout.Fanout.{Fanout}
-use Rattle.event_write.specs.declared.marks.Marks.{Marks}
+use Rattle.event_write.specs.declared.queue_state.QueueState.{QueueState}
 use Rattle.event_write.specs.declared.listener.Listener.{Listener}
 use Rattle.event_write.specs.Entries.{Entry, entry, updates, IsClosed}
 use Rattle.event_write.specs.Listeners.{heard_by}
@@ -29,8 +29,8 @@ driver_of None = []
 driver_of (Some None) = []
 driver_of (Some (Some bits)) = bits
 
--- the state that marks are
-abbrev pub state : Marks → State
+-- the state that queue are
+abbrev pub state : QueueState → State
 state m =
     record {
       value = store m.values.items;
@@ -77,7 +77,7 @@ design_of f = flat f.design.now
 abbrev pub IsFanout : Fanout → Type 0
 IsFanout f = AreTables (design_of f) f.listeners.items f.drivers.items
 
--- ---- what holds of the marks
+-- ---- what holds of the queue
 
 -- whether a write lies inside its signal
 abbrev pub IsInside : List Signal → ℕ → Option Span → List Bit → Type 0
@@ -93,7 +93,7 @@ abbrev pub HasWidth : (ℕ → ℕ) → Option Doing → ℕ → Type 0
 HasWidth ws (Some (Assign target e)) width = width ≡ width_of ws e
 HasWidth ws _ width = Unit {0}
 
-pub record IsMarks (d : Flat) (m : Marks) : Type 0 where
+pub record IsQueueState (d : Flat) (m : QueueState) : Type 0 where
   pub values : AreStored d.signals m.values.items
   pub woken : length m.woken.flags ≡ length d.tasks
   pub drivers : length m.drivers.items ≡ length d.tasks
@@ -110,7 +110,7 @@ pub record IsMarks (d : Flat) (m : Marks) : Type 0 where
   pub waiting_inside : AreInside d.signals (map entry m.waiting.items)
 
 -- whether all but values and woken processes stays
-pub record AreSame (m n : Marks) : Type 0 where
+pub record AreSame (m n : QueueState) : Type 0 where
   pub levels : n.woken.levels ≡ m.woken.levels
   pub drivers : n.drivers ≡ m.drivers
   pub pending : n.pending ≡ m.pending

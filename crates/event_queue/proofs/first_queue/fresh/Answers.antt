@@ -1,6 +1,6 @@
 use Rattle.std.proofs.Common.{refl, arith}
 use Rattle.event_queue.proofs.Freshness.{fresh_is}
-use Rattle.event_queue.proofs.first_marks.fresh.Goals as goal
+use Rattle.event_queue.proofs.first_queue.fresh.Goals as goal
 
 pub returns : goal.returns
 returns c =
