@@ -53,7 +53,7 @@ holds letter =
     Instances (named letter 20) (ByName []) (placed 117 22 97 121 ∷ [])
 
 abbrev library_of : List Circuit → Library
-library_of circuits = record { findings = found (all_placed (circuits ∷ [])); files = circuits ∷ [] }
+library_of circuits = record { lookups = found (all_placed (circuits ∷ [])); files = circuits ∷ [] }
 
 -- t, which holds l as u
 abbrev two : Library

@@ -51,7 +51,7 @@ placed (Some group) = length group.placements
 
 abbrev pub group_in : Library → Stop → ModuleItem → Option Group
 group_in library stop item =
-    group_of library.findings library.files (scope_in stop.visit) item
+    group_of library.lookups library.files (scope_in stop.visit) item
 
 -- the processes of an item: those of connections belong to the instance that holds the item
 abbrev pub part_tasks : Library → Stop → List ℕ → ModuleItem → List Task

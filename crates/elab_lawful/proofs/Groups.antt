@@ -20,8 +20,8 @@ use Rattle.elab_items.specs.Scopes.{scope_of}
 use Rattle.elab_laws.specs.Faultless.{AreFaultless, statement_count}
 use Rattle.elab_laws.specs.Scopes.{IsScopeOf}
 use Rattle.elab_laws.proofs.Steps.{count_append, faultless_left, faultless_right, no_faults}
-use Rattle.elab_links.specs.declared.module_set.Finding.{Finding}
-use Rattle.elab_links.specs.declared.module_set.Finding.TheVariants.{Missing, Found, Twice}
+use Rattle.elab_links.specs.declared.module_set.Lookup.{Lookup}
+use Rattle.elab_links.specs.declared.module_set.Lookup.TheVariants.{Missing, Found, Twice}
 use Rattle.elab_links.specs.declared.module_set.Place.{Place}
 use Rattle.elab_links.specs.Connections.{placement_faults, placements_faults}
 use Rattle.elab_links.specs.Groups.{Group, found_group, group_at}
@@ -118,7 +118,7 @@ at_lawful stop signals count kids rest holder child place (Some c) parameters pl
     let less : length stop.visit.way < 32 = less_deep stop.visit.way child (nil_right loop depth front) in
     placements_lawful stop signals count (group_with (scope_in stop.visit) place c parameters placements) child.text holder child.at placements kids rest all.scope all.inside all.linked (are less) none
 
-found_lawful : (library : Library) (stop : Stop) (signals : List Signal) (count : ℕ) (kids : List Stop) (rest : List Visit) (holder : Holder) (child : Identifier) (finding : Finding) (parameters : Association) (placements : List Placement) → IsHolder stop signals count kids → (length stop.visit.way < 32 → map visit_of kids ≡ placed_children holder child.at (found_group library.files (scope_in stop.visit) finding parameters placements) placements ++ rest) → found_faults library.files stop.visit.way (scope_in stop.visit) child finding parameters placements ≡ [] → AreTasks signals count (length (placement_places placements)) 0 (group_tasks stop (map base_of kids) (found_group library.files (scope_in stop.visit) finding parameters placements))
+found_lawful : (library : Library) (stop : Stop) (signals : List Signal) (count : ℕ) (kids : List Stop) (rest : List Visit) (holder : Holder) (child : Identifier) (lookup : Lookup) (parameters : Association) (placements : List Placement) → IsHolder stop signals count kids → (length stop.visit.way < 32 → map visit_of kids ≡ placed_children holder child.at (found_group library.files (scope_in stop.visit) lookup parameters placements) placements ++ rest) → found_faults library.files stop.visit.way (scope_in stop.visit) child lookup parameters placements ≡ [] → AreTasks signals count (length (placement_places placements)) 0 (group_tasks stop (map base_of kids) (found_group library.files (scope_in stop.visit) lookup parameters placements))
 found_lawful library stop signals count kids rest holder child Missing parameters placements all are h =
     absurd (no_cons _ _ h)
 found_lawful library stop signals count kids rest holder child Twice parameters placements all are h =
@@ -126,7 +126,7 @@ found_lawful library stop signals count kids rest holder child Twice parameters 
 found_lawful library stop signals count kids rest holder child (Found place) parameters placements all are h =
     at_lawful stop signals count kids rest holder child place (circuit_at library.files place) parameters placements all are h
 
-group_lawful : (library : Library) (stop : Stop) (signals : List Signal) (count : ℕ) (kids : List Stop) (rest : List Visit) (item : ModuleItem) → IsHolder stop signals count kids → (length stop.visit.way < 32 → map visit_of kids ≡ item_children library (holder_of stop.visit) item ++ rest) → link_faults library.findings library.files stop.visit.way (scope_in stop.visit) item ≡ [] → AreTasks signals count (length (link_places item)) 0 (group_tasks stop (map base_of kids) (group_in library stop item))
+group_lawful : (library : Library) (stop : Stop) (signals : List Signal) (count : ℕ) (kids : List Stop) (rest : List Visit) (item : ModuleItem) → IsHolder stop signals count kids → (length stop.visit.way < 32 → map visit_of kids ≡ item_children library (holder_of stop.visit) item ++ rest) → link_faults library.lookups library.files stop.visit.way (scope_in stop.visit) item ≡ [] → AreTasks signals count (length (link_places item)) 0 (group_tasks stop (map base_of kids) (group_in library stop item))
 group_lawful library stop signals count kids rest (Ports head names) all are h = no_tasks signals count 0 0
 group_lawful library stop signals count kids rest (Nets at signed bounds nets) all are h =
     no_tasks signals count 0 0
@@ -139,14 +139,14 @@ group_lawful library stop signals count kids rest (Drives at pause drives) all a
 group_lawful library stop signals count kids rest (Always at sensitivity body) all are h =
     no_tasks signals count 0 0
 group_lawful library stop signals count kids rest (Instances child parameters placements) all are h =
-    found_lawful library stop signals count kids rest (holder_of stop.visit) child (library.findings child.text) parameters placements all are h
+    found_lawful library stop signals count kids rest (holder_of stop.visit) child (library.lookups child.text) parameters placements all are h
 
 -- the processes of an item, with the connections of the instances that it places
 pub part_lawful : (library : Library) (stop : Stop) (signals : List Signal) (count : ℕ) (kids : List Stop) (rest : List Visit) (item : ModuleItem) → IsHolder stop signals count kids → (length stop.visit.way < 32 → map visit_of kids ≡ item_children library (holder_of stop.visit) item ++ rest) → AreFaultless (part_steps library stop.visit.way (scope_in stop.visit) item) → AreTasks signals count (length (item_places item ++ link_places item)) (statement_count (part_steps library stop.visit.way (scope_in stop.visit) item)) (part_tasks library stop (map base_of kids) item)
 part_lawful library stop signals count kids rest item all are h =
     let own : List Step = item_steps (scope_in stop.visit) item in
-    let wrong : List Refusal = link_faults library.findings library.files stop.visit.way (scope_in stop.visit) item in
-    let none : link_faults library.findings library.files stop.visit.way (scope_in stop.visit) item ≡ [] =
+    let wrong : List Refusal = link_faults library.lookups library.files stop.visit.way (scope_in stop.visit) item in
+    let none : link_faults library.lookups library.files stop.visit.way (scope_in stop.visit) item ≡ [] =
     no_faults wrong (faultless_right own (faulty wrong) h) in
     let p : ℕ = length (item_places item) in
     let q : ℕ = length (link_places item) in
@@ -172,7 +172,7 @@ at_placed holder at scope place None parameters placements = none_placed holder 
 at_placed holder at scope place (Some c) parameters placements =
     all_placed holder at (group_with scope place c parameters placements) placements
 
-found_placed : (holder : Holder) (at : ℕ) (files : List (List Circuit)) (scope : Meanings) (finding : Finding) (parameters : Association) (placements : List Placement) → length (placed_children holder at (found_group files scope finding parameters placements) placements) ≡ placed (found_group files scope finding parameters placements)
+found_placed : (holder : Holder) (at : ℕ) (files : List (List Circuit)) (scope : Meanings) (lookup : Lookup) (parameters : Association) (placements : List Placement) → length (placed_children holder at (found_group files scope lookup parameters placements) placements) ≡ placed (found_group files scope lookup parameters placements)
 found_placed holder at files scope Missing parameters placements = none_placed holder at placements
 found_placed holder at files scope Twice parameters placements = none_placed holder at placements
 found_placed holder at files scope (Found place) parameters placements =
@@ -188,7 +188,7 @@ item_placed library stop (Parameters at kind bounds values) = refl
 item_placed library stop (Drives at pause drives) = refl
 item_placed library stop (Always at sensitivity body) = refl
 item_placed library stop (Instances child parameters placements) =
-    found_placed (holder_of stop.visit) child.at library.files (scope_in stop.visit) (library.findings child.text) parameters placements
+    found_placed (holder_of stop.visit) child.at library.files (scope_in stop.visit) (library.lookups child.text) parameters placements
 
 pub children_left : (library : Library) (stop : Stop) (item : ModuleItem) (kids : List Stop) (rest : List Visit) → map visit_of kids ≡ item_children library (holder_of stop.visit) item ++ rest → map visit_of (drop (placed (group_in library stop item)) kids) ≡ rest
 children_left library stop item kids rest are =

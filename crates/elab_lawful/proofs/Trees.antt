@@ -47,7 +47,7 @@ item_at library holder (Parameters at kind bounds values) = tt
 item_at library holder (Drives at pause drives) = tt
 item_at library holder (Always at sensitivity body) = tt
 item_at library holder (Instances child parameters placements) =
-    placed_at holder child.at (group_of library.findings library.files holder.scope (Instances child parameters placements)) placements
+    placed_at holder child.at (group_of library.lookups library.files holder.scope (Instances child parameters placements)) placements
 
 -- children are one deeper
 children_at : (library : Library) (holder : Holder) (items : List ModuleItem) → AreAt (length holder.way + 1) (children library holder items)

@@ -53,7 +53,7 @@ pub record AreMore (signals : List Signal) (count p s d : ℕ) (works new : Work
 part_delays : (library : Library) (stop : Stop) (process : ℕ) (item : ModuleItem) → length (item_delays stop.visit.place.file process (scope_in stop.visit) item) ≡ length (delays_of (part_steps library stop.visit.way (scope_in stop.visit) item))
 part_delays library stop process item =
     let own : List Step = item_steps (scope_in stop.visit) item in
-    let wrong : List Refusal = link_faults library.findings library.files stop.visit.way (scope_in stop.visit) item in
+    let wrong : List Refusal = link_faults library.lookups library.files stop.visit.way (scope_in stop.visit) item in
     let same : length (map (λ (delay : Delay). delay.spot.at) (item_delays stop.visit.place.file process (scope_in stop.visit) item)) ≡ length (delays_of (item_steps (scope_in stop.visit) item)) =
     ap length (delay_places stop.visit.place.file process (scope_in stop.visit) item) in
     let joined : length (delays_of (own ++ faulty wrong)) ≡ length (delays_of own ++ delays_of (faulty wrong)) =

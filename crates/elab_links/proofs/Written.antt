@@ -8,10 +8,10 @@ use Rattle.std.specs.Str.{bytes_eq}
 use Rattle.std.proofs.Common.{◌≡◌, refl, ap, ◌∙◌}
 use Rattle.std.proofs.Math.Path.{fun_ext}
 use Rattle.elab_items.proofs.Written.{written}
-use Rattle.elab_links.specs.declared.module_set.Finding.{Finding}
+use Rattle.elab_links.specs.declared.module_set.Lookup.{Lookup}
 use Rattle.elab_links.specs.Marks.{mark_or_none, with_mark}
-use Rattle.elab_links.specs.Modules.{finding_or_missing}
-use Rattle.elab_links.specs.Modules.{with_finding}
+use Rattle.elab_links.specs.Modules.{lookup_or_missing}
+use Rattle.elab_links.specs.Modules.{with_lookup}
 
 abbrev read : {V : Type 0} → BTreeMap (Vec ℕ Global) V → List ℕ → Option V
 read m = λ name. get_by (λ key. slice_cmp nat_cmp name key.items) m
@@ -25,11 +25,11 @@ mark_written old new name updates =
     ap (λ (f : List ℕ → Option Bool). (λ (other : List ℕ). mark_or_none (f other))) (written old new name true updates)
     ∙ fun_ext (λ other. marked (bytes_eq name other) (read old other))
 
-chosen : (b : Bool) (finding : Finding) (old : Option Finding) → finding_or_missing (if b then Some finding else old) ≡ (if b then finding else finding_or_missing old)
-chosen true finding old = refl
-chosen false finding old = refl
+chosen : (b : Bool) (lookup : Lookup) (old : Option Lookup) → lookup_or_missing (if b then Some lookup else old) ≡ (if b then lookup else lookup_or_missing old)
+chosen true lookup old = refl
+chosen false lookup old = refl
 
-pub finding_written : (old new : BTreeMap (Vec ℕ Global) Finding) (name : List ℕ) (finding : Finding) → UpdatesBy (λ x y. slice_cmp nat_cmp x.items y.items) (λ k. slice_cmp nat_cmp name k.items) old new (Some finding) → (λ other. finding_or_missing (read new other)) ≡ with_finding (λ other. finding_or_missing (read old other)) name finding
-finding_written old new name finding updates =
-    ap (λ (f : List ℕ → Option Finding). (λ (other : List ℕ). finding_or_missing (f other))) (written old new name finding updates)
-    ∙ fun_ext (λ other. chosen (bytes_eq name other) finding (read old other))
+pub lookup_written : (old new : BTreeMap (Vec ℕ Global) Lookup) (name : List ℕ) (lookup : Lookup) → UpdatesBy (λ x y. slice_cmp nat_cmp x.items y.items) (λ k. slice_cmp nat_cmp name k.items) old new (Some lookup) → (λ other. lookup_or_missing (read new other)) ≡ with_lookup (λ other. lookup_or_missing (read old other)) name lookup
+lookup_written old new name lookup updates =
+    ap (λ (f : List ℕ → Option Lookup). (λ (other : List ℕ). lookup_or_missing (f other))) (written old new name lookup updates)
+    ∙ fun_ext (λ other. chosen (bytes_eq name other) lookup (read old other))

@@ -7,10 +7,10 @@ use Rattle.elab_scope.specs.Names.{Meanings}
 use Rattle.elab_items.specs.Declarations.{declarations}
 use Rattle.elab_items.specs.Settings.{Settings, settings_of}
 use Rattle.elab_links.specs.declared.groups.Group.{Group as Kept}
-use Rattle.elab_links.specs.declared.module_set.Finding.{Finding}
-use Rattle.elab_links.specs.declared.module_set.Finding.TheVariants.{Missing, Found, Twice}
+use Rattle.elab_links.specs.declared.module_set.Lookup.{Lookup}
+use Rattle.elab_links.specs.declared.module_set.Lookup.TheVariants.{Missing, Found, Twice}
 use Rattle.elab_links.specs.declared.module_set.Place.{Place}
-use Rattle.elab_links.specs.Modules.{Findings, circuit_at}
+use Rattle.elab_links.specs.Modules.{Lookups, circuit_at}
 use Rattle.elab_links.specs.Parameters.{settable, settings_by}
 
 -- instances of one module with the same parameters: the place of the module and the module itself, what its parameters
@@ -35,20 +35,20 @@ group_at scope place None parameters placements = None
 group_at scope place (Some circuit) parameters placements =
     Some (record { place = place; circuit = circuit; settings = settings_by (settable (declarations circuit)) scope parameters; placements = placements })
 
-abbrev pub found_group : List (List Circuit) → Meanings → Finding → Association → List Placement → Option Group
+abbrev pub found_group : List (List Circuit) → Meanings → Lookup → Association → List Placement → Option Group
 found_group files scope Missing parameters placements = None
 found_group files scope Twice parameters placements = None
 found_group files scope (Found place) parameters placements =
     group_at scope place (circuit_at files place) parameters placements
 
 -- the instances that an item places, where their module is found
-abbrev pub group_of : Findings → List (List Circuit) → Meanings → ModuleItem → Option Group
-group_of findings files scope (Instances child parameters placements) =
-    found_group files scope (findings child.text) parameters placements
-group_of findings files scope (Ports head names) = None
-group_of findings files scope (Nets at signed bounds nets) = None
-group_of findings files scope (Variables at signed bounds variables) = None
-group_of findings files scope (Integers at names) = None
-group_of findings files scope (Parameters at kind bounds values) = None
-group_of findings files scope (Drives at pause drives) = None
-group_of findings files scope (Always at sensitivity body) = None
+abbrev pub group_of : Lookups → List (List Circuit) → Meanings → ModuleItem → Option Group
+group_of lookups files scope (Instances child parameters placements) =
+    found_group files scope (lookups child.text) parameters placements
+group_of lookups files scope (Ports head names) = None
+group_of lookups files scope (Nets at signed bounds nets) = None
+group_of lookups files scope (Variables at signed bounds variables) = None
+group_of lookups files scope (Integers at names) = None
+group_of lookups files scope (Parameters at kind bounds values) = None
+group_of lookups files scope (Drives at pause drives) = None
+group_of lookups files scope (Always at sensitivity body) = None

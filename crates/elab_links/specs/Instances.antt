@@ -9,10 +9,10 @@ use Rattle.elab_scope.specs.Faults.{InstanceLoop, ModuleTwice, NoSuchModule, Ref
 use Rattle.elab_scope.specs.Names.{Meanings}
 use Rattle.elab_scope.specs.Rules.{fault}
 use Rattle.elab_items.specs.Declarations.{declarations}
-use Rattle.elab_links.specs.declared.module_set.Finding.{Finding}
-use Rattle.elab_links.specs.declared.module_set.Finding.TheVariants.{Missing, Found, Twice}
+use Rattle.elab_links.specs.declared.module_set.Lookup.{Lookup}
+use Rattle.elab_links.specs.declared.module_set.Lookup.TheVariants.{Missing, Found, Twice}
 use Rattle.elab_links.specs.Connections.{placements_faults}
-use Rattle.elab_links.specs.Modules.{Findings, circuit_at}
+use Rattle.elab_links.specs.Modules.{Lookups, circuit_at}
 use Rattle.elab_links.specs.Parameters.{parameter_faults, settable}
 use Rattle.elab_links.specs.Ports.{sockets_of}
 
@@ -39,7 +39,7 @@ known_child_faults way scope child (Some circuit) parameters placements =
     child_faults way scope child circuit parameters placements
 
 -- the faults of instances, by what the name of their module means among the modules of files
-abbrev pub found_faults : List (List Circuit) → List (List ℕ) → Meanings → Identifier → Finding → Association → List Placement → List Refusal
+abbrev pub found_faults : List (List Circuit) → List (List ℕ) → Meanings → Identifier → Lookup → Association → List Placement → List Refusal
 found_faults files way scope child Missing parameters placements =
     fault child.at (NoSuchModule child.text) ∷ []
 found_faults files way scope child Twice parameters placements =
@@ -49,13 +49,13 @@ found_faults files way scope child (Found place) parameters placements =
 
 -- the faults of an item that places instances: of the module's name, the parameters that are set, and the connections
 -- of each instance
-abbrev pub link_faults : Findings → List (List Circuit) → List (List ℕ) → Meanings → ModuleItem → List Refusal
-link_faults findings files way scope (Instances child parameters placements) =
-    found_faults files way scope child (findings child.text) parameters placements
-link_faults findings files way scope (Ports head names) = []
-link_faults findings files way scope (Nets at signed bounds nets) = []
-link_faults findings files way scope (Variables at signed bounds variables) = []
-link_faults findings files way scope (Integers at names) = []
-link_faults findings files way scope (Parameters at kind bounds values) = []
-link_faults findings files way scope (Drives at pause drives) = []
-link_faults findings files way scope (Always at sensitivity body) = []
+abbrev pub link_faults : Lookups → List (List Circuit) → List (List ℕ) → Meanings → ModuleItem → List Refusal
+link_faults lookups files way scope (Instances child parameters placements) =
+    found_faults files way scope child (lookups child.text) parameters placements
+link_faults lookups files way scope (Ports head names) = []
+link_faults lookups files way scope (Nets at signed bounds nets) = []
+link_faults lookups files way scope (Variables at signed bounds variables) = []
+link_faults lookups files way scope (Integers at names) = []
+link_faults lookups files way scope (Parameters at kind bounds values) = []
+link_faults lookups files way scope (Drives at pause drives) = []
+link_faults lookups files way scope (Always at sensitivity body) = []

@@ -8,8 +8,8 @@ use Rattle.std.specs.Ordering.{nat_cmp}
 use Rattle.std.specs.Str.{bytes_eq}
 use Rattle.rtl_tree.specs.TreeModule.{Circuit, circuit}
 use Rattle.rtl_tree.specs.declared.tree.modules.Module.{Module}
-use Rattle.elab_links.specs.declared.module_set.Finding.{Finding}
-use Rattle.elab_links.specs.declared.module_set.Finding.TheVariants.{Missing, Found, Twice}
+use Rattle.elab_links.specs.declared.module_set.Lookup.{Lookup}
+use Rattle.elab_links.specs.declared.module_set.Lookup.TheVariants.{Missing, Found, Twice}
 use Rattle.elab_links.specs.declared.module_set.ModuleSet.{ModuleSet}
 use Rattle.elab_links.specs.declared.module_set.Place.{Place}
 
@@ -39,44 +39,44 @@ abbrev pub all_placed : List (List Circuit) → List Placed
 all_placed files = placed_from 0 files
 
 -- what a name means where one module more has it
-abbrev pub with_another : Place → Finding → Finding
+abbrev pub with_another : Place → Lookup → Lookup
 with_another place Missing = Found place
 with_another place (Found other) = Twice
 with_another place Twice = Twice
 
 -- which module a name means: the only one that has it (IEEE 1364-2001 section 12.1)
-abbrev pub found : List Placed → List ℕ → Finding
+abbrev pub found : List Placed → List ℕ → Lookup
 found [] name = Missing
 found (first ∷ others) name =
     if bytes_eq first.name name then with_another first.place (found others name) else found others name
 
 -- which module each name means
-abbrev pub Findings : Type 0
-Findings = List ℕ → Finding
+abbrev pub Lookups : Type 0
+Lookups = List ℕ → Lookup
 
-abbrev pub no_findings : Findings
-no_findings name = Missing
+abbrev pub no_lookups : Lookups
+no_lookups name = Missing
 
-abbrev pub with_finding : Findings → List ℕ → Finding → Findings
-with_finding findings name finding = λ other. if bytes_eq name other then finding else findings other
+abbrev pub with_lookup : Lookups → List ℕ → Lookup → Lookups
+with_lookup lookups name lookup = λ other. if bytes_eq name other then lookup else lookups other
 
--- the findings where one module more is there
-abbrev pub with_one : Findings → Placed → Findings
-with_one findings one = with_finding findings one.name (with_another one.place (findings one.name))
+-- the lookups where one module more is there
+abbrev pub with_one : Lookups → Placed → Lookups
+with_one lookups one = with_lookup lookups one.name (with_another one.place (lookups one.name))
 
 -- further modules
-abbrev pub with_all : Findings → List Placed → Findings
-with_all findings [] = findings
-with_all findings (first ∷ others) = with_all (with_one findings first) others
+abbrev pub with_all : Lookups → List Placed → Lookups
+with_all lookups [] = lookups
+with_all lookups (first ∷ others) = with_all (with_one lookups first) others
 
-abbrev pub finding_or_missing : Option Finding → Finding
-finding_or_missing None = Missing
-finding_or_missing (Some finding) = finding
+abbrev pub lookup_or_missing : Option Lookup → Lookup
+lookup_or_missing None = Missing
+lookup_or_missing (Some lookup) = lookup
 
 -- what a set of modules answers
-abbrev pub findings_of : ModuleSet → Findings
-findings_of set =
-    λ name. finding_or_missing (get_by (λ key. slice_cmp nat_cmp name key.items) set.known)
+abbrev pub lookups_of : ModuleSet → Lookups
+lookups_of set =
+    λ name. lookup_or_missing (get_by (λ key. slice_cmp nat_cmp name key.items) set.known)
 
 abbrev pub listed_at : Option (List Circuit) → ℕ → Option Circuit
 listed_at None index = None

@@ -5,9 +5,9 @@ ghost use Rattle.std.specs.Option.{option_map};
 ghost use Rattle.rtl_tree.specs.TreeItem.{association, module_item, placement};
 ghost use Rattle.elab_scope.specs.Names.{meanings};
 ghost use Rattle.elab_links.specs.Groups.{found_group, group, group_of};
-ghost use Rattle.elab_links.specs.Modules.{circuits_of, findings_of};
+ghost use Rattle.elab_links.specs.Modules.{circuits_of, lookups_of};
 
-use crate::module_set::{Finding, ModuleSet, Place, module_at};
+use crate::module_set::{Lookup, ModuleSet, Place, module_at};
 use crate::parameters::{settable, settings_by};
 use elab_items::entries::entries_of;
 use elab_items::overrides::Overrides;
@@ -32,14 +32,14 @@ pub struct Group<'a> {
 fn found_group<'a>(
     alloc: Global,
     files: &'a [Vec<Module>],
-    finding: Finding,
+    lookup: Lookup,
     parameters: &Arguments,
     instances: &'a [Instance],
     names: &Names,
 ) -> Result<Option<Group<'a>>, Memory>
-    ensures { IfOk result (λ made. option_map group made ≡ found_group (circuits_of files.now) (meanings names.now) finding (association parameters.now) (map placement instances.now)) }
+    ensures { IfOk result (λ made. option_map group made ≡ found_group (circuits_of files.now) (meanings names.now) lookup (association parameters.now) (map placement instances.now)) }
 {
-    let Finding::Found(place) = finding else {
+    let Lookup::Found(place) = lookup else {
         return Ok(None);
     };
     let Some(written) = module_at(files, place) else {
@@ -63,7 +63,7 @@ pub fn group_of<'a>(
     item: &'a Item,
     names: &Names,
 ) -> Result<Option<Group<'a>>, Memory>
-    ensures { IfOk result (λ made. option_map group made ≡ group_of (findings_of set.now) (circuits_of files.now) (meanings names.now) (module_item item.now)) }
+    ensures { IfOk result (λ made. option_map group made ≡ group_of (lookups_of set.now) (circuits_of files.now) (meanings names.now) (module_item item.now)) }
 {
     match item {
         Item::Instances {
@@ -71,8 +71,8 @@ pub fn group_of<'a>(
             parameters,
             instances,
         } => {
-            let finding = set.find(&child.text);
-            found_group(alloc, files, finding, parameters, instances, names)
+            let lookup = set.find(&child.text);
+            found_group(alloc, files, lookup, parameters, instances, names)
         }
         Item::Ports(_, _)
         | Item::Wires { .. }

@@ -10,10 +10,10 @@ ghost use Rattle.rtl_tree.specs.TreeModule.{circuit};
 ghost use Rattle.elab_scope.specs.Faults.{after, refusal};
 ghost use Rattle.elab_scope.specs.Names.{meanings};
 ghost use Rattle.elab_links.specs.Instances.{child_faults, depth_faults, found_faults, link_faults, loop_faults};
-ghost use Rattle.elab_links.specs.Modules.{circuits_of, findings_of};
+ghost use Rattle.elab_links.specs.Modules.{circuits_of, lookups_of};
 
 use crate::connections::judge_placements;
-use crate::module_set::{Finding, ModuleSet, module_at};
+use crate::module_set::{Lookup, ModuleSet, module_at};
 use crate::parameters::{judge_parameters, settable};
 use crate::ports::Ports;
 use elab_items::entries::entries_of;
@@ -115,18 +115,18 @@ fn judge_found<'a>(
     alloc: Global,
     files: &'a [Vec<Module>],
     way: &[&Text],
-    finding: Finding,
+    lookup: Lookup,
     placing: Placing<'a>,
     names: &Names,
     best: Option<Fault<'a>>,
 ) -> Result<Option<Fault<'a>>, Memory>
-    ensures { IfOk result (λ told. option_map refusal told ≡ after (option_map refusal best.entry) (found_faults (circuits_of files.now) (map (λ text. text.now) way.now) (meanings names.now) (identifier placing.entry.child.now) finding (association placing.entry.parameters.now) (map placement placing.entry.instances.now))) }
+    ensures { IfOk result (λ told. option_map refusal told ≡ after (option_map refusal best.entry) (found_faults (circuits_of files.now) (map (λ text. text.now) way.now) (meanings names.now) (identifier placing.entry.child.now) lookup (association placing.entry.parameters.now) (map placement placing.entry.instances.now))) }
 {
     let child = placing.child;
-    let cause = match finding {
-        Finding::Missing => Cause::NoSuchModule(&child.text),
-        Finding::Twice => Cause::ModuleTwice(&child.text),
-        Finding::Found(place) => {
+    let cause = match lookup {
+        Lookup::Missing => Cause::NoSuchModule(&child.text),
+        Lookup::Twice => Cause::ModuleTwice(&child.text),
+        Lookup::Found(place) => {
             return match module_at(files, place) {
                 None => Ok(best),
                 Some(written) => judge_child(alloc, way, written, placing, names, best),
@@ -153,7 +153,7 @@ pub fn judge_instances<'a>(
     names: &Names,
     best: Option<Fault<'a>>,
 ) -> Result<Option<Fault<'a>>, Memory>
-    ensures { IfOk result (λ told. option_map refusal told ≡ after (option_map refusal best.entry) (link_faults (findings_of set.now) (circuits_of files.now) (map (λ text. text.now) way.now) (meanings names.now) (module_item item.now))) }
+    ensures { IfOk result (λ told. option_map refusal told ≡ after (option_map refusal best.entry) (link_faults (lookups_of set.now) (circuits_of files.now) (map (λ text. text.now) way.now) (meanings names.now) (module_item item.now))) }
 {
     match item {
         Item::Instances {
@@ -166,8 +166,8 @@ pub fn judge_instances<'a>(
                 parameters,
                 instances,
             };
-            let finding = set.find(&child.text);
-            judge_found(alloc, files, way, finding, placing, names, best)
+            let lookup = set.find(&child.text);
+            judge_found(alloc, files, way, lookup, placing, names, best)
         }
         Item::Ports(_, _)
         | Item::Wires { .. }

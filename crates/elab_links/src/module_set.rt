@@ -3,8 +3,8 @@
 ghost use Rattle.std.specs.Prelude.{◌≡◌, IfOk, OnOk, map};
 ghost use Rattle.std.specs.Option.{option_map};
 ghost use Rattle.rtl_tree.specs.TreeModule.{circuit};
-ghost use Rattle.elab_links.specs.Modules.{all_placed, circuit_at, circuits_of, findings_of, found, placed_in, with_another};
-ghost use Rattle.elab_links.specs.Modules.{no_findings, with_all, with_finding, with_one};
+ghost use Rattle.elab_links.specs.Modules.{all_placed, circuit_at, circuits_of, lookups_of, found, placed_in, with_another};
+ghost use Rattle.elab_links.specs.Modules.{no_lookups, with_all, with_lookup, with_one};
 
 use rtl_tree::memory::Memory;
 use rtl_tree::text::Text;
@@ -23,7 +23,7 @@ pub struct Place {
 
 /// What a name means among modules.
 #[derive(Clone, Copy, PartialEq, Eq, Debug)]
-pub enum Finding {
+pub enum Lookup {
     /// No module has it.
     Missing,
     /// One module has it.
@@ -36,16 +36,16 @@ pub enum Finding {
 #[derive(Drop)]
 pub struct ModuleSet {
     alloc: Global,
-    known: BTreeMap<Vec<u8>, Finding>,
+    known: BTreeMap<Vec<u8>, Lookup>,
 }
 
 /// What a name means where one module more has it.
-fn with_another(place: Place, finding: Finding) -> Finding
-    ensures { result ≡ with_another place finding }
+fn with_another(place: Place, lookup: Lookup) -> Lookup
+    ensures { result ≡ with_another place lookup }
 {
-    match finding {
-        Finding::Missing => Finding::Found(place),
-        Finding::Found(_) | Finding::Twice => Finding::Twice,
+    match lookup {
+        Lookup::Missing => Lookup::Found(place),
+        Lookup::Found(_) | Lookup::Twice => Lookup::Twice,
     }
 }
 
@@ -53,7 +53,7 @@ impl ModuleSet {
     /// The modules of files.
     #[tactic(auto, using(crate::proofs::Founds::with_all_append, crate::proofs::Founds::found_is))]
     pub fn new(alloc: Global, files: &[Vec<Module>]) -> Result<ModuleSet, Memory>
-        ensures { IfOk result (λ set. findings_of set ≡ found (all_placed (circuits_of files.now))) }
+        ensures { IfOk result (λ set. lookups_of set ≡ found (all_placed (circuits_of files.now))) }
     {
         let mut set = ModuleSet {
             alloc,
@@ -67,7 +67,7 @@ impl ModuleSet {
 
     /// The modules of one file more.
     fn add_file(&mut self, file: usize, modules: &[Module]) -> Result<(), Memory>
-        ensures { OnOk result (findings_of self.new ≡ with_all (findings_of self.old) (placed_in file 0 (map circuit modules.now))) }
+        ensures { OnOk result (lookups_of self.new ≡ with_all (lookups_of self.old) (placed_in file 0 (map circuit modules.now))) }
     {
         for (index, written) in modules.iter().enumerate() {
             self.add(Place { file, index }, &written.name.text)?;
@@ -77,27 +77,27 @@ impl ModuleSet {
 
     /// One module more.
     fn add(&mut self, place: Place, name: &Text) -> Result<(), Memory>
-        ensures { OnOk result (findings_of self.new ≡ with_one (findings_of self.old) (record { place = place; name = name.now })) }
+        ensures { OnOk result (lookups_of self.new ≡ with_one (lookups_of self.old) (record { place = place; name = name.now })) }
     {
-        let finding = with_another(place, self.find(name));
-        self.put(name, finding)
+        let lookup = with_another(place, self.find(name));
+        self.put(name, lookup)
     }
 
-    fn put(&mut self, name: &Text, finding: Finding) -> Result<(), Memory>
-        ensures { OnOk result (findings_of self.new ≡ with_finding (findings_of self.old) name.now finding) }
+    fn put(&mut self, name: &Text, lookup: Lookup) -> Result<(), Memory>
+        ensures { OnOk result (lookups_of self.new ≡ with_lookup (lookups_of self.old) name.now lookup) }
     {
         let key = Vec::from_slice(self.alloc, name.as_bytes())?;
-        self.known.insert(key, finding)?;
+        self.known.insert(key, lookup)?;
         Ok(())
     }
 
     /// What the name means.
-    pub fn find(&self, name: &Text) -> Finding
-        ensures { result ≡ findings_of self.now name.now }
+    pub fn find(&self, name: &Text) -> Lookup
+        ensures { result ≡ lookups_of self.now name.now }
     {
         match self.known.get(name.as_bytes()) {
-            Some(finding) => *finding,
-            None => Finding::Missing,
+            Some(lookup) => *lookup,
+            None => Lookup::Missing,
         }
     }
 }

@@ -1,6 +1,6 @@
 use crate::groups::group_of;
 use crate::instances::judge_instances;
-use crate::module_set::{Finding, ModuleSet};
+use crate::module_set::{Lookup, ModuleSet};
 use elab_scope::fault::{Cause, Fault};
 use elab_scope::known::{Known, Role, Shape};
 use elab_scope::names::Names;
@@ -367,7 +367,7 @@ fn an_item_places_a_group(rt: HostRuntime) -> Result<(), Fail> {
     let files = files(alloc)?;
     let set = ModuleSet::new(alloc, &files)?;
     let missing = set.find(&Text::from_bytes(alloc, b"d")?);
-    assert_eq!(&rt; missing, Finding::Missing);
+    assert_eq!(&rt; missing, Lookup::Missing);
     let written = item(
         alloc,
         b"c",

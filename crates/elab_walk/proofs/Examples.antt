@@ -47,7 +47,7 @@ holds letter =
     Instances (named letter 20) (ByName []) (record { name = named 117 22; connections = ByName (record { at = 24; name = named 97 25; value = Some (Read (named 97 27)) } ∷ record { at = 30; name = named 121 31; value = Some (Read (named 121 33)) } ∷ []) } ∷ [])
 
 abbrev library_of : List Circuit → Library
-library_of circuits = record { findings = found (all_placed (circuits ∷ [])); files = circuits ∷ [] }
+library_of circuits = record { lookups = found (all_placed (circuits ∷ [])); files = circuits ∷ [] }
 
 -- t, which holds l as u
 abbrev two : Library

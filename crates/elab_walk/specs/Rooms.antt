@@ -60,7 +60,7 @@ process_places (first ∷ others) = (item_places first ++ link_places first) ++ 
 -- what is come upon in an item, where `way` has the names of the modules from the top to the one that holds it
 abbrev pub part_steps : Library → List (List ℕ) → Meanings → ModuleItem → List Step
 part_steps library way scope item =
-    item_steps scope item ++ faulty (link_faults library.findings library.files way scope item)
+    item_steps scope item ++ faulty (link_faults library.lookups library.files way scope item)
 
 -- and in items, in order
 abbrev pub parts_steps : Library → List (List ℕ) → Meanings → List ModuleItem → List Step

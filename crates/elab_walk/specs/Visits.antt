@@ -11,18 +11,18 @@ use Rattle.elab_items.specs.Settings.{Settings, no_settings, settings_of}
 use Rattle.elab_items.specs.Signals.{path_in}
 use Rattle.elab_links.specs.declared.module_set.Place.{Place}
 use Rattle.elab_links.specs.Groups.{Group, group_of}
-use Rattle.elab_links.specs.Modules.{Findings, circuits_of, findings_of}
+use Rattle.elab_links.specs.Modules.{Lookups, circuits_of, lookups_of}
 use Rattle.elab_walk.specs.declared.library.Library.{Library as Kept}
 use Rattle.elab_walk.specs.declared.visit.Holder.{Holder as Held}
 use Rattle.elab_walk.specs.declared.visit.Visit.{Visit as Met}
 
 -- all modules: which of them a name means, and those of each file
 pub record Library : Type 0 where
-  pub findings : Findings
+  pub lookups : Lookups
   pub files : List (List Circuit)
 
 abbrev pub library : Kept → Library
-library kept = record { findings = findings_of kept.set.now; files = circuits_of kept.files.now }
+library kept = record { lookups = lookups_of kept.set.now; files = circuits_of kept.files.now }
 
 -- an instance: its path, the place of its module and the module itself, what its parameters are set to, the names of
 -- the modules from the top to its own, and where its module is named
@@ -107,7 +107,7 @@ placed_children holder at group (first ∷ others) =
 -- the instances that an item holds; none where their module isn't found
 abbrev pub item_children : Library → Holder → ModuleItem → List Visit
 item_children library holder (Instances child parameters placements) =
-    placed_children holder child.at (group_of library.findings library.files holder.scope (Instances child parameters placements)) placements
+    placed_children holder child.at (group_of library.lookups library.files holder.scope (Instances child parameters placements)) placements
 item_children library holder (Ports head names) = []
 item_children library holder (Nets at signed bounds nets) = []
 item_children library holder (Variables at signed bounds variables) = []

@@ -177,7 +177,7 @@ fn visit_placements<'a>(
     instances: &'a [Instance],
     so_far: Trail<'a>,
 ) -> Result<Trail<'a>, ElabFault>
-    ensures { Went result (gone (library all.entry) (Going (trail so_far.entry)) (flat_map (visits (library all.entry) levels) (placed_children (holder within.now) at (group_of (library all.entry).findings (library all.entry).files (holder within.now).scope (module_item item.now)) (map placement instances.now)))) }
+    ensures { Went result (gone (library all.entry) (Going (trail so_far.entry)) (flat_map (visits (library all.entry) levels) (placed_children (holder within.now) at (group_of (library all.entry).lookups (library all.entry).files (holder within.now).scope (module_item item.now)) (map placement instances.now)))) }
 {
     let mut so_far = so_far;
     for instance in instances {
@@ -201,7 +201,7 @@ fn visit_placement<'a>(
     instance: &'a Instance,
     so_far: Trail<'a>,
 ) -> Result<Trail<'a>, ElabFault>
-    ensures { Went result (gone (library all.entry) (Going (trail so_far.entry)) (flat_map (visits (library all.entry) levels) (child_of (holder within.now) at instance.now.name.text (group_of (library all.entry).findings (library all.entry).files (holder within.now).scope (module_item item.now))))) }
+    ensures { Went result (gone (library all.entry) (Going (trail so_far.entry)) (flat_map (visits (library all.entry) levels) (child_of (holder within.now) at instance.now.name.text (group_of (library all.entry).lookups (library all.entry).files (holder within.now).scope (module_item item.now))))) }
 {
     match group_of(alloc, all.files, all.set, item, &within.names)? {
         None => Ok(so_far),

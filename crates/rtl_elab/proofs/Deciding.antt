@@ -3,8 +3,8 @@ use Rattle.std.specs.Prelude.{ℕ, ◌≡◌, List, Option, None, Some, Ok, Err}
 use Rattle.std.proofs.Common.{◌∙◌, refl, subst}
 use Rattle.rtl_tree.specs.TreeModule.{Circuit}
 use Rattle.elab_scope.specs.Faults.{Answer}
-use Rattle.elab_links.specs.declared.module_set.Finding.{Finding}
-use Rattle.elab_links.specs.declared.module_set.Finding.TheVariants.{Missing, Found, Twice}
+use Rattle.elab_links.specs.declared.module_set.Lookup.{Lookup}
+use Rattle.elab_links.specs.declared.module_set.Lookup.TheVariants.{Missing, Found, Twice}
 use Rattle.elab_links.specs.declared.module_set.Place.{Place}
 use Rattle.elab_links.specs.Modules.{circuit_at}
 use Rattle.elab_walk.specs.Refusals.{refusal}
@@ -28,11 +28,11 @@ at_place library top place (Some circuit) f is =
     let v = top_visit place circuit in
     by_told (refusal library whole_room (all_visits library v)) (flat_of library (stops 0 0 (all_visits library v))) f (lawful library v refl) is
 
-found_there : (library : Library) (top : List ℕ) (finding : Finding) (f : Flat) → elaborated_found library top finding ≡ Ok f → IsLawful f
+found_there : (library : Library) (top : List ℕ) (lookup : Lookup) (f : Flat) → elaborated_found library top lookup ≡ Ok f → IsLawful f
 found_there library top Missing f is = absurd cc
 found_there library top Twice f is = absurd cc
 found_there library top (Found place) f is =
     at_place library top place (circuit_at library.files place) f is
 
 pub elaborated_lawful : (library : Library) (top : List ℕ) (f : Flat) → elaborated library top ≡ Ok f → IsLawful f
-elaborated_lawful library top f is = found_there library top (library.findings top) f is
+elaborated_lawful library top f is = found_there library top (library.lookups top) f is

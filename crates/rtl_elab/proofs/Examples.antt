@@ -39,7 +39,7 @@ abbrev leaf : Circuit
 leaf = with_items 108 100 (Drives 120 None (record { target = Whole (named 121 127); value = Read (named 97 131) } ∷ []) ∷ [])
 
 abbrev library_of : List Circuit → Library
-library_of circuits = record { findings = found (all_placed (circuits ∷ [])); files = circuits ∷ [] }
+library_of circuits = record { lookups = found (all_placed (circuits ∷ [])); files = circuits ∷ [] }
 
 missing : elaborated (library_of []) (116 ∷ []) ≡ Err (Named (NoSuchModule (116 ∷ [])))
 missing = refl

@@ -2,8 +2,8 @@
 use Rattle.std.specs.Prelude.{ℕ, List, Option, None, Some, Result, Ok, Err}
 use Rattle.rtl_tree.specs.TreeModule.{Circuit}
 use Rattle.elab_scope.specs.Faults.{Answer, ModuleTwice, Named, NoSuchModule}
-use Rattle.elab_links.specs.declared.module_set.Finding.{Finding}
-use Rattle.elab_links.specs.declared.module_set.Finding.TheVariants.{Missing, Found, Twice}
+use Rattle.elab_links.specs.declared.module_set.Lookup.{Lookup}
+use Rattle.elab_links.specs.declared.module_set.Lookup.TheVariants.{Missing, Found, Twice}
 use Rattle.elab_links.specs.declared.module_set.Place.{Place}
 use Rattle.elab_links.specs.Modules.{circuit_at}
 use Rattle.elab_walk.specs.Refusals.{refusal}
@@ -25,7 +25,7 @@ elaborated_at library top place None = Err (Named (NoSuchModule top))
 elaborated_at library top place (Some circuit) =
     elaborated_of library (all_visits library (top_visit place circuit))
 
-abbrev pub elaborated_found : Library → List ℕ → Finding → Result Flat Answer
+abbrev pub elaborated_found : Library → List ℕ → Lookup → Result Flat Answer
 elaborated_found library top Missing = Err (Named (NoSuchModule top))
 elaborated_found library top Twice = Err (Named (ModuleTwice top))
 elaborated_found library top (Found place) =
@@ -33,7 +33,7 @@ elaborated_found library top (Found place) =
 
 -- what elaboration makes of the module with a name
 abbrev pub elaborated : Library → List ℕ → Result Flat Answer
-elaborated library top = elaborated_found library top (library.findings top)
+elaborated library top = elaborated_found library top (library.lookups top)
 
 -- why there is no design
 abbrev pub refused : Result Flat Answer → Option Answer

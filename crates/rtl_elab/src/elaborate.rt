@@ -13,7 +13,7 @@ ghost use Rattle.elab_walk.specs.Visits.{Visit, all_visits, library, top_visit, 
 ghost use Rattle.elab_walk.specs.Refusals.{refusal};
 
 use elab_flat::flat::{Flat, flat_of};
-use elab_links::module_set::{Finding, module_at};
+use elab_links::module_set::{Lookup, module_at};
 use elab_scope::fault::ElabFault;
 use elab_walk::library::Library;
 use elab_walk::top::{all_stops, top_visit};
@@ -39,9 +39,9 @@ pub fn flat_design(alloc: Global, all: Library<'_>, top: &Text) -> Result<Flat, 
     ensures told { IfErr result (λ error. IsTold (answer error) (refused (elaborated (library all.entry) top.now))) }
 {
     match all.set.find(top) {
-        Finding::Missing => Err(ElabFault::NoSuchModule(bytes(alloc, top)?)),
-        Finding::Twice => Err(ElabFault::ModuleTwice(bytes(alloc, top)?)),
-        Finding::Found(place) => match module_at(all.files, place) {
+        Lookup::Missing => Err(ElabFault::NoSuchModule(bytes(alloc, top)?)),
+        Lookup::Twice => Err(ElabFault::ModuleTwice(bytes(alloc, top)?)),
+        Lookup::Found(place) => match module_at(all.files, place) {
             None => Err(ElabFault::NoSuchModule(bytes(alloc, top)?)),
             Some(written) => flat_from(alloc, all, top_visit(alloc, place, written)?),
         },

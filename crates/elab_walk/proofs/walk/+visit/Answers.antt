@@ -30,7 +30,7 @@ pub visit_placements-loop-instance-preserved : goal.visit_placements-loop-instan
 visit_placements-loop-instance-preserved t c =
     let all = library c.args.all in
     let within = holder c.args.within.now in
-    let made = group_of all.findings all.files within.scope (module_item c.args.item.now) in
+    let made = group_of all.lookups all.files within.scope (module_item c.args.item.now) in
     let row : List Instance → List Visit = λ instances. placed_children within c.args.at made (map placement instances) in
     let own : Instance → List Visit = λ instance. child_of within c.args.at instance.name.text made in
     more_gone all c.args.levels row own (λ instance instances. refl) (Going (trail c.loop-instance.so_far)) (Going (trail c.in-Ok.made)) c.args.instances.now c.loop-instance.instance-index c.instance-item.result _ c.loop-instance-test.true c.instance-item.is c.in-Ok.ensures c.loop-instance.invariant
@@ -39,7 +39,7 @@ pub visit_placements-returns-in-Err : goal.visit_placements-returns-in-Err
 visit_placements-returns-in-Err t c =
     let all = library c.args.all in
     let within = holder c.args.within.now in
-    let made = group_of all.findings all.files within.scope (module_item c.args.item.now) in
+    let made = group_of all.lookups all.files within.scope (module_item c.args.item.now) in
     let row : List Instance → List Visit = λ instances. placed_children within c.args.at made (map placement instances) in
     let own : Instance → List Visit = λ instance. child_of within c.args.at instance.name.text made in
     more_told all c.args.levels row own (λ instance instances. refl) (answer c.in-Err.error) (Going (trail c.loop-instance.so_far)) c.args.instances.now c.loop-instance.instance-index c.instance-item.result _ c.loop-instance-test.true c.instance-item.is c.in-Err.ensures c.loop-instance.invariant

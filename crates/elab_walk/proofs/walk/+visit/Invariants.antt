@@ -29,5 +29,5 @@ invariant-visit_items-loop-item l =
 
 abbrev pub invariant-visit_placements-loop-instance : goal.invariant-visit_placements-loop-instance
 invariant-visit_placements-loop-instance l =
-    gone (library l.all) (Going (trail l.so_far)) (flat_map (visits (library l.all) l.levels) (placed_children (holder l.within) l.at (group_of (library l.all).findings (library l.all).files (holder l.within).scope (module_item l.item)) (map placement (drop l.instance-index l.instances))))
-    ≡ gone (library l.all) (Going (trail l.initial.so_far)) (flat_map (visits (library l.all) l.levels) (placed_children (holder l.within) l.at (group_of (library l.all).findings (library l.all).files (holder l.within).scope (module_item l.item)) (map placement l.instances)))
+    gone (library l.all) (Going (trail l.so_far)) (flat_map (visits (library l.all) l.levels) (placed_children (holder l.within) l.at (group_of (library l.all).lookups (library l.all).files (holder l.within).scope (module_item l.item)) (map placement (drop l.instance-index l.instances))))
+    ≡ gone (library l.all) (Going (trail l.initial.so_far)) (flat_map (visits (library l.all) l.levels) (placed_children (holder l.within) l.at (group_of (library l.all).lookups (library l.all).files (holder l.within).scope (module_item l.item)) (map placement l.instances)))
