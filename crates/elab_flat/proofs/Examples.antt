@@ -9,10 +9,10 @@ use Rattle.rtl_flat.specs.Expression as tree
 use Rattle.rtl_flat.specs.Process.{Doing, Assign}
 use Rattle.rtl_tree.specs.TreeExpr.{Identifier, Read}
 use Rattle.rtl_tree.specs.TreeStmt.{Whole}
-use Rattle.rtl_tree.specs.TreeItem.{ModuleItem, Nets, Drives, Instances, ByName, Placement}
+use Rattle.rtl_tree.specs.TreeItem.{ModuleItem, Nets, Drives, Instances, ByName, Instantiation}
 use Rattle.rtl_tree.specs.TreeModule.{Circuit, HeaderPort, Declared}
 use Rattle.elab_links.specs.Modules.{all_placed, found}
-use Rattle.elab_walk.specs.Stops.{stops}
+use Rattle.elab_walk.specs.Placements.{placements}
 use Rattle.elab_walk.specs.Visits.{Library, Visit, top_visit, visits}
 use Rattle.elab_flat.specs.Flats.{flat_of}
 
@@ -43,7 +43,7 @@ abbrev leaf : Circuit
 leaf = with_items 108 100 (Drives 120 None (record { target = Whole (named 121 127); value = Read (named 97 131) } ∷ []) ∷ [])
 
 -- NAME(.a(a_name), .y(y_name))
-abbrev placed : ℕ → ℕ → ℕ → ℕ → Placement
+abbrev placed : ℕ → ℕ → ℕ → ℕ → Instantiation
 placed letter at a_name y_name =
     record { name = named letter at; connections = ByName (record { at = at + 2; name = named 97 (at + 3); value = Some (Read (named a_name (at + 5))) } ∷ record { at = at + 8; name = named 121 (at + 9); value = Some (Read (named y_name (at + 11))) } ∷ []) }
 
@@ -66,11 +66,11 @@ abbrev met : List Visit
 met = visits two 2 (top two (with_items 116 0 (holds 108 ∷ [])))
 
 -- the signals of l come behind those of t
-signals : map (λ s. s.path) (flat_of two (stops 0 0 met)).signals ≡ (116 ∷ 46 ∷ 97 ∷ []) ∷ (116 ∷ 46 ∷ 121 ∷ []) ∷ (116 ∷ 46 ∷ 117 ∷ 46 ∷ 97 ∷ []) ∷ (116 ∷ 46 ∷ 117 ∷ 46 ∷ 121 ∷ []) ∷ []
+signals : map (λ s. s.path) (flat_of two (placements 0 0 met)).signals ≡ (116 ∷ 46 ∷ 97 ∷ []) ∷ (116 ∷ 46 ∷ 121 ∷ []) ∷ (116 ∷ 46 ∷ 117 ∷ 46 ∷ 97 ∷ []) ∷ (116 ∷ 46 ∷ 117 ∷ 46 ∷ 121 ∷ []) ∷ []
 signals = refl
 
 -- the processes of connections belong to the instance that holds the other
-instances : map (λ task. task.instance) (flat_of two (stops 0 0 met)).tasks ≡ 0 ∷ 0 ∷ 1 ∷ []
+instances : map (λ task. task.instance) (flat_of two (placements 0 0 met)).tasks ≡ 0 ∷ 0 ∷ 1 ∷ []
 instances = refl
 
 -- where a signal is assigned to another, the two numbers
@@ -91,5 +91,5 @@ abbrev both : Library
 both = library_of (chained ∷ leaf ∷ [])
 
 -- t has a, y and b as 0, 1 and 2, u has a and y as 3 and 4, and w as 5 and 6; each connection is with those of its own
-wired : map (λ task. ends task.does) (flat_of both (stops 0 0 (visits both 2 (top both chained)))).tasks ≡ (3 ∷ 0 ∷ []) ∷ (2 ∷ 4 ∷ []) ∷ (5 ∷ 2 ∷ []) ∷ (1 ∷ 6 ∷ []) ∷ (4 ∷ 3 ∷ []) ∷ (6 ∷ 5 ∷ []) ∷ []
+wired : map (λ task. ends task.does) (flat_of both (placements 0 0 (visits both 2 (top both chained)))).tasks ≡ (3 ∷ 0 ∷ []) ∷ (2 ∷ 4 ∷ []) ∷ (5 ∷ 2 ∷ []) ∷ (1 ∷ 6 ∷ []) ∷ (4 ∷ 3 ∷ []) ∷ (6 ∷ 5 ∷ []) ∷ []
 wired = refl

@@ -6,9 +6,9 @@ use Rattle.rtl_flat.specs.declared.instance.DroppedRegion.{DroppedRegion}
 use Rattle.rtl_flat.specs.declared.instance.Instance.{Instance}
 use Rattle.rtl_flat.specs.declared.signal.Signal.{Signal}
 use Rattle.rtl_flat.specs.Process.{Task}
-use Rattle.elab_walk.specs.Stops.{Stop, instance_of, regions_at, signals_at}
+use Rattle.elab_walk.specs.Placements.{Placement, instance_of, regions_at, signals_at}
 use Rattle.elab_walk.specs.Visits.{Library}
-use Rattle.elab_flat.specs.Works.{Works, no_works, with_stops}
+use Rattle.elab_flat.specs.Works.{Works, no_works, with_placements}
 
 -- a flat design
 pub record Flat : Type 0 where
@@ -18,7 +18,7 @@ pub record Flat : Type 0 where
   pub dropped : List DroppedRegion
   pub delays : List Delay
 
-abbrev pub with_works : List Stop → Works → Flat
+abbrev pub with_works : List Placement → Works → Flat
 with_works all works =
     record {
       signals = flat_map signals_at all;
@@ -29,5 +29,5 @@ with_works all works =
     }
 
 -- the design of these instances
-abbrev pub flat_of : Library → List Stop → Flat
-flat_of library all = with_works all (with_stops library no_works all)
+abbrev pub flat_of : Library → List Placement → Flat
+flat_of library all = with_works all (with_placements library no_works all)

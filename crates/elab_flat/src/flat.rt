@@ -2,8 +2,8 @@
 
 ghost use Rattle.std.specs.Prelude.{◌≡◌, ◌++◌, IfOk, OnOk, map};
 ghost use Rattle.std.specs.List.{flat_map};
-ghost use Rattle.elab_walk.specs.Stops.{instance_of, region, regions_at, signals_at};
-ghost use Rattle.elab_walk.specs.Trails.{stop};
+ghost use Rattle.elab_walk.specs.Placements.{instance_of, region, regions_at, signals_at};
+ghost use Rattle.elab_walk.specs.Trails.{placement};
 ghost use Rattle.elab_walk.specs.Visits.{library};
 ghost use Rattle.elab_flat.specs.Flats.{flat_of};
 ghost use Rattle.elab_flat.specs.Views.{flat};
@@ -12,7 +12,7 @@ use crate::works::Works;
 use elab_items::declare::declare;
 use elab_items::signals::{Home, push_signals};
 use elab_walk::library::Library;
-use elab_walk::trail::Stop;
+use elab_walk::trail::Placement;
 use elab_walk::visit::file_of;
 use rtl_flat::instance::{DroppedRegion, Instance};
 use rtl_flat::signal::Signal;
@@ -30,8 +30,8 @@ pub struct Flat {
 }
 
 /// An instance of the design. One that is deeper than can be counted fits into no memory.
-fn instance_of(alloc: Global, at: &Stop<'_>) -> Result<Instance, Memory>
-    ensures { IfOk result (λ made. made ≡ instance_of (stop at.now)) }
+fn instance_of(alloc: Global, at: &Placement<'_>) -> Result<Instance, Memory>
+    ensures { IfOk result (λ made. made ≡ instance_of (placement at.now)) }
 {
     let Ok(depth) = u32::try_from(at.visit.way.len()) else {
         return Err(Memory);
@@ -43,19 +43,19 @@ fn instance_of(alloc: Global, at: &Stop<'_>) -> Result<Instance, Memory>
     })
 }
 
-fn instances_of(alloc: Global, stops: &[Stop<'_>]) -> Result<Vec<Instance>, Memory>
-    ensures { IfOk result (λ made. made.items ≡ map instance_of (map stop stops.now)) }
+fn instances_of(alloc: Global, placements: &[Placement<'_>]) -> Result<Vec<Instance>, Memory>
+    ensures { IfOk result (λ made. made.items ≡ map instance_of (map placement placements.now)) }
 {
     let mut made = Vec::new(alloc);
-    for at in stops {
+    for at in placements {
         made.push(instance_of(alloc, at)?)?;
     }
     Ok(made)
 }
 
 /// The signals of an instance, behind others.
-fn push_own(alloc: Global, at: &Stop<'_>, signals: &mut Vec<Signal>) -> Result<(), Memory>
-    ensures { OnOk result (signals.new.items ≡ signals.old.items ++ signals_at (stop at.now)) }
+fn push_own(alloc: Global, at: &Placement<'_>, signals: &mut Vec<Signal>) -> Result<(), Memory>
+    ensures { OnOk result (signals.new.items ≡ signals.old.items ++ signals_at (placement at.now)) }
 {
     let declared = declare(alloc, at.visit.written, &at.visit.overrides, 0, None)?;
     let home = Home {
@@ -68,19 +68,19 @@ fn push_own(alloc: Global, at: &Stop<'_>, signals: &mut Vec<Signal>) -> Result<(
     push_signals(home, &declared.signals, signals)
 }
 
-fn signals_of(alloc: Global, stops: &[Stop<'_>]) -> Result<Vec<Signal>, Memory>
-    ensures { IfOk result (λ made. made.items ≡ flat_map signals_at (map stop stops.now)) }
+fn signals_of(alloc: Global, placements: &[Placement<'_>]) -> Result<Vec<Signal>, Memory>
+    ensures { IfOk result (λ made. made.items ≡ flat_map signals_at (map placement placements.now)) }
 {
     let mut made = Vec::new(alloc);
-    for at in stops {
+    for at in placements {
         push_own(alloc, at, &mut made)?;
     }
     Ok(made)
 }
 
 /// The regions of an instance's module that have no meaning, behind others.
-fn push_regions(at: &Stop<'_>, dropped: &mut Vec<DroppedRegion>) -> Result<(), Memory>
-    ensures { OnOk result (dropped.new.items ≡ dropped.old.items ++ regions_at (stop at.now)) }
+fn push_regions(at: &Placement<'_>, dropped: &mut Vec<DroppedRegion>) -> Result<(), Memory>
+    ensures { OnOk result (dropped.new.items ≡ dropped.old.items ++ regions_at (placement at.now)) }
 {
     let file = file_of(at.visit.place)?;
     for one in &at.visit.written.dropped {
@@ -94,24 +94,24 @@ fn push_regions(at: &Stop<'_>, dropped: &mut Vec<DroppedRegion>) -> Result<(), M
     Ok(())
 }
 
-fn regions_of(alloc: Global, stops: &[Stop<'_>]) -> Result<Vec<DroppedRegion>, Memory>
-    ensures { IfOk result (λ made. made.items ≡ flat_map regions_at (map stop stops.now)) }
+fn regions_of(alloc: Global, placements: &[Placement<'_>]) -> Result<Vec<DroppedRegion>, Memory>
+    ensures { IfOk result (λ made. made.items ≡ flat_map regions_at (map placement placements.now)) }
 {
     let mut made = Vec::new(alloc);
-    for at in stops {
+    for at in placements {
         push_regions(at, &mut made)?;
     }
     Ok(made)
 }
 
 /// The design of these instances.
-pub fn flat_of(alloc: Global, all: Library<'_>, stops: &[Stop<'_>]) -> Result<Flat, Memory>
-    ensures { IfOk result (λ made. flat made ≡ flat_of (library all.entry) (map stop stops.now)) }
+pub fn flat_of(alloc: Global, all: Library<'_>, placements: &[Placement<'_>]) -> Result<Flat, Memory>
+    ensures { IfOk result (λ made. flat made ≡ flat_of (library all.entry) (map placement placements.now)) }
 {
     Ok(Flat {
-        signals: signals_of(alloc, stops)?,
-        works: Works::of(alloc, all, stops)?,
-        instances: instances_of(alloc, stops)?,
-        dropped: regions_of(alloc, stops)?,
+        signals: signals_of(alloc, placements)?,
+        works: Works::of(alloc, all, placements)?,
+        instances: instances_of(alloc, placements)?,
+        dropped: regions_of(alloc, placements)?,
     })
 }

@@ -1,7 +1,7 @@
 use crate::flat::{Flat, flat_of};
 use elab_links::module_set::{ModuleSet, Place};
 use elab_walk::library::Library;
-use elab_walk::top::{all_stops, top_visit};
+use elab_walk::top::{all_placements, top_visit};
 use rtl_flat::act::{Does, ProcId, Process};
 use rtl_flat::expr::{Node, Select, SigId};
 use rtl_flat::signal::Kind;
@@ -159,10 +159,10 @@ fn check(
 fn made_of(alloc: Global, files: &[Vec<Module>], set: &ModuleSet) -> Result<Flat, Fail> {
     let all = Library { files, set };
     let met = top_visit(alloc, Place { file: 0, index: 0 }, top(files)?)?;
-    let Ok(stops) = all_stops(alloc, all, met) else {
+    let Ok(placements) = all_placements(alloc, all, met) else {
         return Err(Fail::new("refused"));
     };
-    Ok(flat_of(alloc, all, &stops)?)
+    Ok(flat_of(alloc, all, &placements)?)
 }
 
 #[test]

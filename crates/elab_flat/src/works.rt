@@ -3,16 +3,16 @@
 ghost use Rattle.std.specs.Prelude.{◌≡◌, ◌++◌, IfOk, OnOk, drop, map};
 ghost use Rattle.std.specs.Option.{option_map};
 ghost use Rattle.rtl_flat.specs.Process.{task};
-ghost use Rattle.rtl_tree.specs.TreeItem.{association, module_item, placement};
+ghost use Rattle.rtl_tree.specs.TreeItem.{association, module_item, instantiation};
 ghost use Rattle.elab_scope.specs.Names.{meanings};
 ghost use Rattle.elab_links.specs.Groups.{group};
 ghost use Rattle.elab_links.specs.Ports.{sockets};
 ghost use Rattle.elab_flat.specs.Links.{link_tasks, sides};
-ghost use Rattle.elab_walk.specs.Trails.{stop};
+ghost use Rattle.elab_walk.specs.Trails.{placement};
 ghost use Rattle.elab_walk.specs.Visits.{library, scope_in};
 ghost use Rattle.elab_flat.specs.Held.{bases_under, depth_of};
 ghost use Rattle.elab_flat.specs.Views.{works};
-ghost use Rattle.elab_flat.specs.Works.{first_base, group_in, group_tasks, no_works, placed, placements_tasks, sides_of, with_part, with_parts, with_stop, with_stops};
+ghost use Rattle.elab_flat.specs.Works.{first_base, group_in, group_tasks, no_works, placed, instantiations_tasks, sides_of, with_part, with_parts, with_placement, with_placements};
 
 use elab_items::declare::declare;
 use elab_items::entries::entries_of;
@@ -24,7 +24,7 @@ use elab_parts::tasks::push_processes;
 use elab_scope::names::Names;
 use elab_scope::size::Site;
 use elab_walk::library::Library;
-use elab_walk::trail::Stop;
+use elab_walk::trail::Placement;
 use elab_walk::visit::file_of;
 use crate::links::{Ends, push_links};
 use rtl_flat::act::Process;
@@ -44,9 +44,9 @@ pub struct Works {
 }
 
 /// Where the items of an instance stand.
-fn site_of(alloc: Global, at: &Stop<'_>) -> Result<Site, Memory>
-    ensures file { IfOk result (λ site. site.file ≡ (stop at.now).visit.place.file) }
-    ensures base { IfOk result (λ site. site.base ≡ (stop at.now).base) }
+fn site_of(alloc: Global, at: &Placement<'_>) -> Result<Site, Memory>
+    ensures file { IfOk result (λ site. site.file ≡ (placement at.now).visit.place.file) }
+    ensures base { IfOk result (λ site. site.base ≡ (placement at.now).base) }
 {
     Ok(Site {
         alloc,
@@ -57,8 +57,8 @@ fn site_of(alloc: Global, at: &Stop<'_>) -> Result<Site, Memory>
 
 /// How many signals come before those of each instance right under one, of those behind it. An instance is looked at for
 /// each that holds it, so at most 32 times.
-fn bases_under(alloc: Global, at: &Stop<'_>, behind: &[Stop<'_>]) -> Result<Vec<u16>, Memory>
-    ensures { IfOk result (λ made. made.items ≡ bases_under (depth_of (stop at.now)) (map stop behind.now)) }
+fn bases_under(alloc: Global, at: &Placement<'_>, behind: &[Placement<'_>]) -> Result<Vec<u16>, Memory>
+    ensures { IfOk result (λ made. made.items ≡ bases_under (depth_of (placement at.now)) (map placement behind.now)) }
 {
     let depth = at.visit.way.len();
     let mut made = Vec::new(alloc);
@@ -94,9 +94,9 @@ fn behind(bases: &[u16], count: usize) -> &[u16]
 }
 
 /// The connections of an instance that has so many signals before its own.
-fn push_placement(
+fn push_instantiation(
     site: Site,
-    at: &Stop<'_>,
+    at: &Placement<'_>,
     names: &Names,
     ports: &Ports<'_>,
     inner: &Names,
@@ -104,10 +104,10 @@ fn push_placement(
     instance: &Instance,
     made: &mut Vec<Process>,
 ) -> Result<(), Memory>
-    requires file { site.file ≡ (stop at.now).visit.place.file }
-    requires base { site.base ≡ (stop at.now).base }
-    requires names { meanings names.now ≡ scope_in (stop at.now).visit }
-    ensures { OnOk result (map task made.new.items ≡ map task made.old.items ++ link_tasks (sockets ports.now) (sides_of (stop at.now) (meanings inner.now) inner_base) (association instance.now.connections)) }
+    requires file { site.file ≡ (placement at.now).visit.place.file }
+    requires base { site.base ≡ (placement at.now).base }
+    requires names { meanings names.now ≡ scope_in (placement at.now).visit }
+    ensures { OnOk result (map task made.new.items ≡ map task made.old.items ++ link_tasks (sockets ports.now) (sides_of (placement at.now) (meanings inner.now) inner_base) (association instance.now.connections)) }
 {
     let ends = Ends {
         site,
@@ -121,9 +121,9 @@ fn push_placement(
 
 /// The connections of instances of one module with the same parameters, where `bases` has of each how many signals come
 /// before its own.
-fn push_placements(
+fn push_instantiations(
     site: Site,
-    at: &Stop<'_>,
+    at: &Placement<'_>,
     names: &Names,
     ports: &Ports<'_>,
     inner: &Names,
@@ -131,15 +131,15 @@ fn push_placements(
     instances: &[Instance],
     made: &mut Vec<Process>,
 ) -> Result<(), Memory>
-    requires file { site.file ≡ (stop at.now).visit.place.file }
-    requires base { site.base ≡ (stop at.now).base }
-    requires names { meanings names.now ≡ scope_in (stop at.now).visit }
-    ensures { OnOk result (map task made.new.items ≡ map task made.old.items ++ placements_tasks (stop at.now) (sockets ports.now) (meanings inner.now) bases.now (map placement instances.now)) }
+    requires file { site.file ≡ (placement at.now).visit.place.file }
+    requires base { site.base ≡ (placement at.now).base }
+    requires names { meanings names.now ≡ scope_in (placement at.now).visit }
+    ensures { OnOk result (map task made.new.items ≡ map task made.old.items ++ instantiations_tasks (placement at.now) (sockets ports.now) (meanings inner.now) bases.now (map instantiation instances.now)) }
 {
     let mut bases = bases;
     for instance in instances {
         let inner_base = first_base(bases);
-        push_placement(site, at, names, ports, inner, inner_base, instance, made)?;
+        push_instantiation(site, at, names, ports, inner, inner_base, instance, made)?;
         bases = behind(bases, 1);
     }
     Ok(())
@@ -148,16 +148,16 @@ fn push_placements(
 /// The same, by what an item places.
 fn push_group(
     site: Site,
-    at: &Stop<'_>,
+    at: &Placement<'_>,
     names: &Names,
     bases: &[u16],
     found: Option<Group<'_>>,
     made: &mut Vec<Process>,
 ) -> Result<(), Memory>
-    requires file { site.file ≡ (stop at.now).visit.place.file }
-    requires base { site.base ≡ (stop at.now).base }
-    requires names { meanings names.now ≡ scope_in (stop at.now).visit }
-    ensures { OnOk result (map task made.new.items ≡ map task made.old.items ++ group_tasks (stop at.now) bases.now (option_map group found.entry)) }
+    requires file { site.file ≡ (placement at.now).visit.place.file }
+    requires base { site.base ≡ (placement at.now).base }
+    requires names { meanings names.now ≡ scope_in (placement at.now).visit }
+    ensures { OnOk result (map task made.new.items ≡ map task made.old.items ++ group_tasks (placement at.now) bases.now (option_map group found.entry)) }
 {
     let Some(found) = found else {
         return Ok(());
@@ -165,7 +165,7 @@ fn push_group(
     let entries = entries_of(site.alloc, found.written)?;
     let ports = Ports::new(site.alloc, found.written, &entries)?;
     let inner = declare(site.alloc, found.written, &found.overrides, 0, None)?.names;
-    push_placements(
+    push_instantiations(
         site,
         at,
         names,
@@ -194,16 +194,16 @@ impl Works {
         &mut self,
         all: Library<'_>,
         site: Site,
-        at: &Stop<'_>,
+        at: &Placement<'_>,
         names: &mut Names,
         bases: &'b [u16],
         item: &Item,
     ) -> Result<&'b [u16], Memory>
-        requires file { site.file ≡ (stop at.now).visit.place.file }
-        requires base { site.base ≡ (stop at.now).base }
-        requires names { meanings names.old ≡ scope_in (stop at.now).visit }
-        ensures made { OnOk result (works self.new ≡ with_part (library all.entry) (stop at.now) bases.now (works self.old) (module_item item.now)) }
-        ensures left { IfOk result (λ left. left.now ≡ drop (placed (group_in (library all.entry) (stop at.now) (module_item item.now))) bases.now) }
+        requires file { site.file ≡ (placement at.now).visit.place.file }
+        requires base { site.base ≡ (placement at.now).base }
+        requires names { meanings names.old ≡ scope_in (placement at.now).visit }
+        ensures made { OnOk result (works self.new ≡ with_part (library all.entry) (placement at.now) bases.now (works self.old) (module_item item.now)) }
+        ensures left { IfOk result (λ left. left.now ≡ drop (placed (group_in (library all.entry) (placement at.now) (module_item item.now))) bases.now) }
         ensures same { meanings names.new ≡ meanings names.old }
     {
         let first = self.processes.len();
@@ -223,15 +223,15 @@ impl Works {
         &mut self,
         all: Library<'_>,
         site: Site,
-        at: &Stop<'_>,
+        at: &Placement<'_>,
         names: &mut Names,
         bases: &[u16],
         items: &[Item],
     ) -> Result<(), Memory>
-        requires file { site.file ≡ (stop at.now).visit.place.file }
-        requires base { site.base ≡ (stop at.now).base }
-        requires names { meanings names.old ≡ scope_in (stop at.now).visit }
-        ensures { OnOk result (works self.new ≡ with_parts (library all.entry) (stop at.now) bases.now (works self.old) (map module_item items.now)) }
+        requires file { site.file ≡ (placement at.now).visit.place.file }
+        requires base { site.base ≡ (placement at.now).base }
+        requires names { meanings names.old ≡ scope_in (placement at.now).visit }
+        ensures { OnOk result (works self.new ≡ with_parts (library all.entry) (placement at.now) bases.now (works self.old) (map module_item items.now)) }
     {
         let mut bases = bases;
         for item in items {
@@ -241,14 +241,14 @@ impl Works {
     }
 
     /// Those of an instance, where `behind` has the instances behind it.
-    fn add_stop(
+    fn add_placement(
         &mut self,
         alloc: Global,
         all: Library<'_>,
-        at: &Stop<'_>,
-        behind: &[Stop<'_>],
+        at: &Placement<'_>,
+        behind: &[Placement<'_>],
     ) -> Result<(), Memory>
-        ensures { OnOk result (works self.new ≡ with_stop (library all.entry) (works self.old) (stop at.now) (map stop behind.now)) }
+        ensures { OnOk result (works self.new ≡ with_placement (library all.entry) (works self.old) (placement at.now) (map placement behind.now)) }
     {
         let site = site_of(alloc, at)?;
         let written = at.visit.written;
@@ -258,15 +258,15 @@ impl Works {
     }
 
     /// The processes of instances with their delays.
-    pub fn of(alloc: Global, all: Library<'_>, stops: &[Stop<'_>]) -> Result<Works, Memory>
-        ensures { IfOk result (λ made. works made ≡ with_stops (library all.entry) no_works (map stop stops.now)) }
+    pub fn of(alloc: Global, all: Library<'_>, placements: &[Placement<'_>]) -> Result<Works, Memory>
+        ensures { IfOk result (λ made. works made ≡ with_placements (library all.entry) no_works (map placement placements.now)) }
     {
         let mut made = Works {
             processes: Vec::new(alloc),
             delays: Vec::new(alloc),
         };
-        for index in 0..stops.len() {
-            made.add_stop(alloc, all, &stops[index], &stops[index + 1..])?;
+        for index in 0..placements.len() {
+            made.add_placement(alloc, all, &placements[index], &placements[index + 1..])?;
         }
         Ok(made)
     }

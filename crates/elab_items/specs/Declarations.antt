@@ -5,7 +5,7 @@ use Rattle.std.specs.Option.{option_map}
 use Rattle.rtl_tree.specs.declared.tree.item.ParameterKind.{ParameterKind}
 use Rattle.rtl_tree.specs.declared.tree.item.ParameterKind.TheVariants as kind
 use Rattle.rtl_tree.specs.TreeExpr.{Bounds, Formula, Identifier, bounds, formula, identifier}
-use Rattle.rtl_tree.specs.TreeItem.{Head, ModuleItem, Net, Placement, Valuation, Variable}
+use Rattle.rtl_tree.specs.TreeItem.{Head, ModuleItem, Net, Instantiation, Valuation, Variable}
 use Rattle.rtl_tree.specs.TreeItem as item
 use Rattle.rtl_tree.specs.TreeModule.{Circuit, Header, HeaderParameter, HeaderPort, Heading}
 use Rattle.rtl_tree.specs.TreeModule as tree
@@ -69,8 +69,8 @@ declared_variable signed variable = Signal form.Reg signed variable.name
 abbrev pub declared_parameter : ParameterKind → Valuation → Declaration
 declared_parameter kind valuation = Parameter kind valuation.name valuation.value
 
-abbrev pub declared_instance : Placement → Declaration
-declared_instance placement = Instance placement.name
+abbrev pub declared_instance : Instantiation → Declaration
+declared_instance instantiation = Instance instantiation.name
 
 abbrev pub item_declarations : ModuleItem → List Declaration
 item_declarations (item.Ports head names) =
@@ -83,7 +83,7 @@ item_declarations (item.Parameters at kind bounds values) =
     ParameterRange bounds ∷ map (declared_parameter kind) values
 item_declarations (item.Drives at pause drives) = []
 item_declarations (item.Always at sensitivity body) = []
-item_declarations (item.Instances child parameters placements) = map declared_instance placements
+item_declarations (item.Instances child parameters instantiations) = map declared_instance instantiations
 
 abbrev pub items_declarations : List ModuleItem → List Declaration
 items_declarations [] = []

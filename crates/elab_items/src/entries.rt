@@ -3,7 +3,7 @@
 ghost use Rattle.std.specs.Prelude.{◌≡◌, ◌++◌, IfOk, OnOk, map, None};
 ghost use Rattle.std.specs.Option.{option_map};
 ghost use Rattle.rtl_tree.specs.TreeExpr.{identifier};
-ghost use Rattle.rtl_tree.specs.TreeItem.{head, module_item, net, placement, valuation, variable};
+ghost use Rattle.rtl_tree.specs.TreeItem.{head, module_item, net, instantiation, valuation, variable};
 ghost use Rattle.rtl_tree.specs.TreeModule.{circuit, header, header_parameter, header_port};
 ghost use Rattle.elab_items.specs.declared.entries.Form.TheVariants as form;
 ghost use Rattle.elab_items.specs.Declarations.{headed, Integer, Listed, Signal, declaration, declarations, declared_instance, declared_net, declared_parameter, declared_variable, head_parameters, head_ports, header_declarations, item_declarations, items_declarations};
@@ -182,7 +182,7 @@ fn push_settings<'a>(
 }
 
 fn push_instances<'a>(instances: &'a [Instance], entries: &mut Vec<Entry<'a>>) -> Result<(), Memory>
-    ensures { OnOk result (map declaration entries.new.items ≡ map declaration entries.old.items ++ map declared_instance (map placement instances.now)) }
+    ensures { OnOk result (map declaration entries.new.items ≡ map declaration entries.old.items ++ map declared_instance (map instantiation instances.now)) }
 {
     for instance in instances {
         entries.push(Entry::Instance(&instance.name))?;

@@ -32,7 +32,7 @@ use Rattle.elab_scope.proofs.Fitting.{fitted_is, no_cons}
 use Rattle.elab_scope.proofs.Sound.{nil_left, nil_right}
 use Rattle.elab_laws.specs.Scopes.{IsScopeOf}
 use Rattle.elab_laws.proofs.Assignments.{input_connection, output_connection}
-use Rattle.elab_links.specs.Connections.{argument_faults, connection_faults, driven_faults, named_link_faults, ordered_link_faults, placed_faults, placement_faults}
+use Rattle.elab_links.specs.Connections.{argument_faults, connection_faults, driven_faults, named_link_faults, ordered_link_faults, placed_faults, instantiation_faults}
 use Rattle.elab_links.specs.Drivable.{drivable, link_pieces}
 use Rattle.elab_links.specs.Marks.{Marks, no_marks, with_mark}
 use Rattle.elab_links.specs.Parameters.{name_faults, surplus_faults}
@@ -153,7 +153,7 @@ named_lawful sides ports signals count taken (first ∷ others) all h =
     tasks_weaker signals count (p + q) 0 (length (named_places (first ∷ others))) 0 (named_tasks ports sides (first ∷ others)) (omega (arith, length-append (argument_places first.at first.value) (named_places others))) (omega arith) (more_tasks signals count p 0 q 0 (named_port_tasks ports sides first.at name first.value) (named_tasks ports sides others) (value_lawful sides ports first.at signals count name first.value first.name.at all one) (named_lawful sides ports signals count (with_mark taken name) others all rest))
 
 -- the connections of one instance are lawful, and no more than have an argument
-pub links_lawful : (child : List ℕ) (sides : Sides) (ports : Sockets) (signals : List Signal) (count : ℕ) (connections : Association) → AreSides sides ports signals count → placement_faults child ports sides.scope connections ≡ [] → AreTasks signals count (length (connection_places connections)) 0 (link_tasks ports sides connections)
+pub links_lawful : (child : List ℕ) (sides : Sides) (ports : Sockets) (signals : List Signal) (count : ℕ) (connections : Association) → AreSides sides ports signals count → instantiation_faults child ports sides.scope connections ≡ [] → AreTasks signals count (length (connection_places connections)) 0 (link_tasks ports sides connections)
 links_lawful child sides ports signals count (ByPosition arguments) all h =
     ordered_lawful child sides ports signals count 0 arguments all h
 links_lawful child sides ports signals count (ByName arguments) all h =

@@ -111,7 +111,7 @@ item_lawful file base instance scope signals many (Drives at pause drives) d ins
     tasks_weaker signals many p 0 p (statement_count (drive_steps scope pause drives)) (drive_tasks file base instance scope drives) (omega arith) (omega arith) (drives_lawful file base instance scope signals many pause drives d inside h)
 item_lawful file base instance scope signals many (Always at sensitivity body) d inside h =
     always_lawful file base instance scope signals many at sensitivity body d inside h
-item_lawful file base instance scope signals many (Instances child parameters placements) d inside h =
+item_lawful file base instance scope signals many (Instances child parameters instantiations) d inside h =
     no_tasks signals many 0 0
 
 -- ---- delays
@@ -159,5 +159,5 @@ delays_inside file base instance process scope (Drives at (Some pause) drives) =
     subst (λ n. All (IsBefore (process + n)) (repeated file process pause.at (length drives))) (sym (drive_count file base instance scope drives)) (repeated_before file process pause.at (length drives))
 delays_inside file base instance process scope (Always at sensitivity body) =
     mapped_before file process (delays_of (steps body scope))
-delays_inside file base instance process scope (Instances child parameters placements) =
+delays_inside file base instance process scope (Instances child parameters instantiations) =
     All-nil (IsBefore (process + 0))

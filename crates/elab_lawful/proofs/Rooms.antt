@@ -15,7 +15,7 @@ use Rattle.elab_items.proofs.Law.{few_enough}
 use Rattle.elab_walk.specs.declared.room.Room.{Room}
 use Rattle.elab_walk.specs.Refusals.{own_faults, refusal, told_first, told_of, told_where}
 use Rattle.elab_walk.specs.Rooms.{process_faults, process_places, room_after, surplus, visit_steps}
-use Rattle.elab_walk.specs.Stops.{Stop, home_of, signals_at, stops}
+use Rattle.elab_walk.specs.Placements.{Placement, home_of, signals_at, placements}
 use Rattle.elab_walk.specs.Visits.{Library, Visit}
 use Rattle.elab_walk.proofs.Leaving.{nothing_told}
 use Rattle.elab_walk.proofs.Seeking.{short}
@@ -79,17 +79,17 @@ instances_few library room n (v ∷ vs) is less h =
     instances_few library (room_after library room v) (n + 1) vs (ap (λ k. k + 1) is) (omega arith) h.1 in
     omega arith
 
-pub signal_count : (stop : Stop) → length (signals_at stop) ≡ length (listings_of stop.visit.settings stop.visit.circuit)
-signal_count stop = length-map (listings_of stop.visit.settings stop.visit.circuit) (signal_in (home_of stop))
+pub signal_count : (placement : Placement) → length (signals_at placement) ≡ length (listings_of placement.visit.settings placement.visit.circuit)
+signal_count placement = length-map (listings_of placement.visit.settings placement.visit.circuit) (signal_in (home_of placement))
 
-pub signals_few : (library : Library) (room : Room) (n b : ℕ) (vs : List Visit) → room.base ≡ b → b ≤ 20000 → AreClean library room vs → b + length (flat_map signals_at (stops n b vs)) ≤ 20000
+pub signals_few : (library : Library) (room : Room) (n b : ℕ) (vs : List Visit) → room.base ≡ b → b ≤ 20000 → AreClean library room vs → b + length (flat_map signals_at (placements n b vs)) ≤ 20000
 signals_few library room n b [] is less h = omega arith
 signals_few library room n b (v ∷ vs) is less h =
-    let stop : Stop = record { visit = v; number = n; base = b } in
+    let placement : Placement = record { visit = v; number = n; base = b } in
     let few : length (listings_of v.settings v.circuit) ≤ 20000 - room.base =
     few_enough v.settings room.base v.circuit h.0.declared in
-    let own : length (signals_at (record { visit = v; number = n; base = b })) ≡ length (listings_of v.settings v.circuit) = signal_count stop in
+    let own : length (signals_at (record { visit = v; number = n; base = b })) ≡ length (listings_of v.settings v.circuit) = signal_count placement in
     let end : behind_first v b ≤ 20000 = omega arith in
-    let rest : behind_first v b + length (flat_map signals_at (stops (n + 1) (behind_first v b) vs)) ≤ 20000 =
+    let rest : behind_first v b + length (flat_map signals_at (placements (n + 1) (behind_first v b) vs)) ≤ 20000 =
     signals_few library (room_after library room v) (n + 1) (behind_first v b) vs (ap (λ k. k + length (listings_of v.settings v.circuit)) is) end h.1 in
-    omega (arith, length-append (signals_at (record { visit = v; number = n; base = b })) (flat_map signals_at (stops (n + 1) (behind_first v b) vs)))
+    omega (arith, length-append (signals_at (record { visit = v; number = n; base = b })) (flat_map signals_at (placements (n + 1) (behind_first v b) vs)))

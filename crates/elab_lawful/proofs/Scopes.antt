@@ -26,7 +26,7 @@ use Rattle.elab_items.proofs.Law.{describes, few_enough}
 use Rattle.elab_items.proofs.Places.{IsAt, IsListed, Stands, within}
 use Rattle.elab_laws.specs.Scopes.{HasKind, IsScopeOf}
 use Rattle.elab_links.specs.Ports.{Sockets, sockets_of}
-use Rattle.elab_walk.specs.Stops.{Stop, home_of, signals_at}
+use Rattle.elab_walk.specs.Placements.{Placement, home_of, signals_at}
 use Rattle.elab_walk.specs.Visits.{scope_in}
 use Rattle.elab_lawful.proofs.Claimed.{stands}
 use Rattle.elab_lawful.proofs.Entries.{IsPort, port_is}
@@ -108,37 +108,37 @@ AreLinks base signals ports scope =
     (name : List ℕ) → IsLink base signals (ports.direction name) (scope name)
 
 -- an instance whose names stand for signals of the design
-pub record IsFit (signals : List Signal) (stop : Stop) : Type 0 where
-  pub scope : IsScopeOf stop.base signals (scope_in stop.visit)
-  pub links : (stop.number == 0) ≡ false → AreLinks stop.base signals (sockets_of stop.visit.circuit) (scope_in stop.visit)
+pub record IsFit (signals : List Signal) (placement : Placement) : Type 0 where
+  pub scope : IsScopeOf placement.base signals (scope_in placement.visit)
+  pub links : (placement.number == 0) ≡ false → AreLinks placement.base signals (sockets_of placement.visit.circuit) (scope_in placement.visit)
 
 port_of : (settings : Settings) (base : ℕ) (c : Circuit) (name : List ℕ) → declaration_faults settings base c ≡ [] → (direction : Option Direction) → (sockets_of c).direction name ≡ direction → IsPortOf direction (scope_of settings c name)
 port_of settings base c name h None is = tt
 port_of settings base c name h (Some d) is = port_is settings base c name d h is
 
-fit_among : (stop : Stop) (before behind : List Signal) → stop.base ≡ length before → HaveBits (before ++ (signals_at stop ++ behind)) → declaration_faults stop.visit.settings stop.base stop.visit.circuit ≡ [] → IsFit (before ++ (signals_at stop ++ behind)) stop
-fit_among stop before behind is bits h =
-    let settings : Settings = stop.visit.settings in
-    let c : Circuit = stop.visit.circuit in
-    let all : Stands _ = stands settings stop.base c h in
+fit_among : (placement : Placement) (before behind : List Signal) → placement.base ≡ length before → HaveBits (before ++ (signals_at placement ++ behind)) → declaration_faults placement.visit.settings placement.base placement.visit.circuit ≡ [] → IsFit (before ++ (signals_at placement ++ behind)) placement
+fit_among placement before behind is bits h =
+    let settings : Settings = placement.visit.settings in
+    let c : Circuit = placement.visit.circuit in
+    let all : Stands _ = stands settings placement.base c h in
     let listings : List Listing = listings_of settings c in
-    let few : length (listings_of settings c) ≤ 20000 - stop.base = few_enough settings stop.base c h in
-    let told : Describes stop.base (before ++ (signals_at stop ++ behind)) (scope_in stop.visit) =
-    describes settings stop.base c (home_of stop) before behind is h in
+    let few : length (listings_of settings c) ≤ 20000 - placement.base = few_enough settings placement.base c h in
+    let told : Describes placement.base (before ++ (signals_at placement ++ behind)) (scope_in placement.visit) =
+    describes settings placement.base c (home_of placement) before behind is h in
     record {
       scope = record {
         described = told;
-        kinds = λ name. has_kind stop.base (home_of stop) before behind listings name (scope_in stop.visit name) is few (all.names name);
+        kinds = λ name. has_kind placement.base (home_of placement) before behind listings name (scope_in placement.visit name) is few (all.names name);
         bits = bits;
       };
       links = λ inner name. record {
         described = told name;
-        input = input_net stop.base (home_of stop) before behind listings name (scope_in stop.visit name) inner is few (all.names name);
-        port = port_of settings stop.base c name h ((sockets_of c).direction name) refl;
+        input = input_net placement.base (home_of placement) before behind listings name (scope_in placement.visit name) inner is few (all.names name);
+        port = port_of settings placement.base c name h ((sockets_of c).direction name) refl;
       };
     }
 
 -- an instance whose signals stand behind as many as its base says
-pub fit : (signals : List Signal) (stop : Stop) (before behind : List Signal) → signals ≡ before ++ (signals_at stop ++ behind) → stop.base ≡ length before → HaveBits signals → declaration_faults stop.visit.settings stop.base stop.visit.circuit ≡ [] → IsFit signals stop
-fit signals stop before behind is base bits h =
-    subst (λ ss. IsFit ss stop) (sym is) (fit_among stop before behind base (subst HaveBits is bits) h)
+pub fit : (signals : List Signal) (placement : Placement) (before behind : List Signal) → signals ≡ before ++ (signals_at placement ++ behind) → placement.base ≡ length before → HaveBits signals → declaration_faults placement.visit.settings placement.base placement.visit.circuit ≡ [] → IsFit signals placement
+fit signals placement before behind is base bits h =
+    subst (λ ss. IsFit ss placement) (sym is) (fit_among placement before behind base (subst HaveBits is bits) h)

@@ -3,19 +3,19 @@ use Rattle.std.specs.Prelude.{ℕ, zero, suc, ◌+◌, ◌≤◌, ◌<◌, ◌==
 use Rattle.std.specs.List.{flat_map}
 use Rattle.std.proofs.Common.{◌≡◌, ◌∙◌, ap, refl, sym, subst, arith, append_assoc, append-nil, length-append}
 use Rattle.std.proofs.lemmas.Bool.Decides.{nat_tests}
-use Rattle.rtl_tree.specs.TreeItem.{ModuleItem, Ports, Nets, Variables, Integers, Parameters, Drives, Always, Instances, Placement}
+use Rattle.rtl_tree.specs.TreeItem.{ModuleItem, Ports, Nets, Variables, Integers, Parameters, Drives, Always, Instances, Instantiation}
 use Rattle.rtl_flat.specs.WellFormed.{IsHierarchy, IsUnder}
 use Rattle.elab_items.specs.Scopes.{listings_of}
 use Rattle.elab_links.specs.Groups.{Group, group_of}
-use Rattle.elab_walk.specs.Stops.{Stop, instance_of, stops}
+use Rattle.elab_walk.specs.Placements.{Placement, instance_of, placements}
 use Rattle.elab_walk.specs.Visits.{Holder, Library, Visit, child_of, children, holder_of, item_children, placed_children, visits}
 use Rattle.elab_flat.specs.Held.{held_under}
 
 abbrev pub depth_in : Visit → ℕ
 depth_in v = length v.way
 
-abbrev pub visit_of : Stop → Visit
-visit_of stop = stop.visit
+abbrev pub visit_of : Placement → Visit
+visit_of placement = placement.visit
 
 abbrev pub children_of : Library → Visit → List Visit
 children_of library v = children library (holder_of v) v.circuit.items
@@ -33,7 +33,7 @@ child_at : (holder : Holder) (at : ℕ) (name : List ℕ) (group : Option Group)
 child_at holder at name None = tt
 child_at holder at name (Some group) = (length-append holder.way (group.circuit.name.text ∷ []), tt)
 
-placed_at : (holder : Holder) (at : ℕ) (group : Option Group) (placements : List Placement) → AreAt (length holder.way + 1) (placed_children holder at group placements)
+placed_at : (holder : Holder) (at : ℕ) (group : Option Group) (instantiations : List Instantiation) → AreAt (length holder.way + 1) (placed_children holder at group instantiations)
 placed_at holder at group [] = tt
 placed_at holder at group (first ∷ others) =
     at_append (length holder.way + 1) (child_of holder at first.name.text group) (placed_children holder at group others) (child_at holder at first.name.text group) (placed_at holder at group others)
@@ -46,8 +46,8 @@ item_at library holder (Integers at names) = tt
 item_at library holder (Parameters at kind bounds values) = tt
 item_at library holder (Drives at pause drives) = tt
 item_at library holder (Always at sensitivity body) = tt
-item_at library holder (Instances child parameters placements) =
-    placed_at holder child.at (group_of library.lookups library.files holder.scope (Instances child parameters placements)) placements
+item_at library holder (Instances child parameters instantiations) =
+    placed_at holder child.at (group_of library.lookups library.files holder.scope (Instances child parameters instantiations)) instantiations
 
 -- children are one deeper
 children_at : (library : Library) (holder : Holder) (items : List ModuleItem) → AreAt (length holder.way + 1) (children library holder items)
@@ -62,7 +62,7 @@ held_visits d [] = []
 held_visits d (v ∷ vs) =
     cond (nat_lt d (depth_in v)) (cond (depth_in v == d + 1) (v ∷ held_visits d vs) (held_visits d vs)) []
 
-by_tests : (x y : Bool) (s : Stop) (ss : List Stop) (vs : List Visit) → map visit_of ss ≡ vs → map visit_of (cond x (cond y (s ∷ ss) ss) []) ≡ cond x (cond y (s.visit ∷ vs) vs) []
+by_tests : (x y : Bool) (s : Placement) (ss : List Placement) (vs : List Visit) → map visit_of ss ≡ vs → map visit_of (cond x (cond y (s ∷ ss) ss) []) ≡ cond x (cond y (s.visit ∷ vs) vs) []
 by_tests true true s ss vs h = ap (λ vs. s.visit ∷ vs) h
 by_tests true false s ss vs h = h
 by_tests false y s ss vs h = refl
@@ -70,10 +70,10 @@ by_tests false y s ss vs h = refl
 abbrev pub behind_first : Visit → ℕ → ℕ
 behind_first v base = base + length (listings_of v.settings v.circuit)
 
-pub held_are : (d number base : ℕ) (vs : List Visit) → map visit_of (held_under d (stops number base vs)) ≡ held_visits d vs
+pub held_are : (d number base : ℕ) (vs : List Visit) → map visit_of (held_under d (placements number base vs)) ≡ held_visits d vs
 held_are d number base [] = refl
 held_are d number base (v ∷ vs) =
-    by_tests (nat_lt d (depth_in v)) (depth_in v == d + 1) (record { visit = v; number = number; base = base }) (held_under d (stops (number + 1) (behind_first v base) vs)) (held_visits d vs) (held_are d (number + 1) (behind_first v base) vs)
+    by_tests (nat_lt d (depth_in v)) (depth_in v == d + 1) (record { visit = v; number = number; base = base }) (held_under d (placements (number + 1) (behind_first v base) vs)) (held_visits d vs) (held_are d (number + 1) (behind_first v base) vs)
 
 -- all so deep at least
 abbrev AreBelow : ℕ → List Visit → Type 0
@@ -213,12 +213,12 @@ one_under library (suc k) d deep sum v rest e at le h =
       all_under library k (d + 1) (one_under library k (d + 1) (omega arith) next) kids rest kids_at later (depth_in v) (omega arith),
     )
 
-instances_under : (e number base : ℕ) (vs : List Visit) → AreUnder e vs → IsUnder e (map instance_of (stops number base vs))
+instances_under : (e number base : ℕ) (vs : List Visit) → AreUnder e vs → IsUnder e (map instance_of (placements number base vs))
 instances_under e number base [] h = tt
 instances_under e number base (v ∷ vs) h =
     (h.0, h.1, h.2, instances_under (depth_in v) (number + 1) (behind_first v base) vs h.3)
 
-top_under : (library : Library) (k : ℕ) (v : Visit) → k ≡ 31 → depth_in v ≡ 1 → IsHierarchy (map instance_of (stops 0 0 (visits library (suc k) v)))
+top_under : (library : Library) (k : ℕ) (v : Visit) → k ≡ 31 → depth_in v ≡ 1 → IsHierarchy (map instance_of (placements 0 0 (visits library (suc k) v)))
 top_under library k v levels at =
     let kids : List Visit = children_of library v in
     let kids_at : AreAt 2 kids =
@@ -228,5 +228,5 @@ top_under library k v levels at =
     all_under library k 2 (one_under library k 2 (omega arith) (omega arith)) kids [] kids_at none 1 (omega arith) in
     (at, instances_under 1 1 (behind_first v 0) (flat_map (visits library k) kids) (subst (AreUnder 1) (append-nil (flat_map (visits library k) kids)) all))
 
-pub hierarchy : (library : Library) (v : Visit) → depth_in v ≡ 1 → IsHierarchy (map instance_of (stops 0 0 (visits library 32 v)))
+pub hierarchy : (library : Library) (v : Visit) → depth_in v ≡ 1 → IsHierarchy (map instance_of (placements 0 0 (visits library 32 v)))
 hierarchy library v at = top_under library 31 v refl at

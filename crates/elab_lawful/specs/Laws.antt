@@ -3,7 +3,7 @@ use Rattle.std.specs.Prelude.{◌≡◌, length, None}
 use Rattle.rtl_flat.specs.WellFormed.{IsDesign}
 use Rattle.elab_walk.specs.Refusals.{refusal}
 use Rattle.elab_walk.specs.Rooms.{whole_room}
-use Rattle.elab_walk.specs.Stops.{stops}
+use Rattle.elab_walk.specs.Placements.{placements}
 use Rattle.elab_walk.specs.Visits.{Library, Visit, all_visits}
 use Rattle.elab_flat.specs.Flats.{Flat, flat_of}
 
@@ -14,4 +14,4 @@ IsLawful flat = IsDesign flat.signals flat.tasks flat.instances flat.dropped fla
 -- the instances of a top make a lawful design where nothing is told of them
 abbrev pub LawfulLaw : Type 0
 LawfulLaw =
-    (library : Library) (v : Visit) → length v.way ≡ 1 → refusal library whole_room (all_visits library v) ≡ None → IsLawful (flat_of library (stops 0 0 (all_visits library v)))
+    (library : Library) (v : Visit) → length v.way ≡ 1 → refusal library whole_room (all_visits library v) ≡ None → IsLawful (flat_of library (placements 0 0 (all_visits library v)))

@@ -4,7 +4,7 @@ use Rattle.std.specs.List.{slice_get}
 use Rattle.rtl_tree.specs.declared.tree.item.Direction.{Direction}
 use Rattle.rtl_tree.specs.declared.tree.item.Direction.TheVariants.{Input, Output}
 use Rattle.rtl_tree.specs.TreeExpr.{Formula, Identifier}
-use Rattle.rtl_tree.specs.TreeItem.{Association, ByPosition, ByName, Associated, Positional, Placement}
+use Rattle.rtl_tree.specs.TreeItem.{Association, ByPosition, ByName, Associated, Positional, Instantiation}
 use Rattle.elab_scope.specs.Expressions.{faults}
 use Rattle.elab_scope.specs.Faults.{Port, Refusal}
 use Rattle.elab_scope.specs.Names.{Meanings}
@@ -57,12 +57,12 @@ named_link_faults ports scope taken (first ∷ others) =
     ++ named_link_faults ports scope (with_mark taken first.name.text) others
 
 -- the faults of the connections of one instance of a module with these ports
-abbrev pub placement_faults : List ℕ → Sockets → Meanings → Association → List Refusal
-placement_faults child ports scope (ByPosition arguments) = ordered_link_faults child ports scope 0 arguments
-placement_faults child ports scope (ByName arguments) = named_link_faults ports scope no_marks arguments
+abbrev pub instantiation_faults : List ℕ → Sockets → Meanings → Association → List Refusal
+instantiation_faults child ports scope (ByPosition arguments) = ordered_link_faults child ports scope 0 arguments
+instantiation_faults child ports scope (ByName arguments) = named_link_faults ports scope no_marks arguments
 
 -- those of several instances
-abbrev pub placements_faults : List ℕ → Sockets → Meanings → List Placement → List Refusal
-placements_faults child ports scope [] = []
-placements_faults child ports scope (first ∷ others) =
-    placement_faults child ports scope first.connections ++ placements_faults child ports scope others
+abbrev pub instantiations_faults : List ℕ → Sockets → Meanings → List Instantiation → List Refusal
+instantiations_faults child ports scope [] = []
+instantiations_faults child ports scope (first ∷ others) =
+    instantiation_faults child ports scope first.connections ++ instantiations_faults child ports scope others

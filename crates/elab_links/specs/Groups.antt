@@ -1,7 +1,7 @@
 -- The instances that an item places, with what they set their parameters to.
 use Rattle.std.specs.Prelude.{ℕ, List, [], ◌∷◌, Option, None, Some, map}
 use Rattle.rtl_tree.specs.TreeExpr.{Identifier, identifier}
-use Rattle.rtl_tree.specs.TreeItem.{ModuleItem, Ports, Nets, Variables, Integers, Parameters, Drives, Always, Instances, Association, Placement, placement}
+use Rattle.rtl_tree.specs.TreeItem.{ModuleItem, Ports, Nets, Variables, Integers, Parameters, Drives, Always, Instances, Association, Instantiation, instantiation}
 use Rattle.rtl_tree.specs.TreeModule.{Circuit, circuit}
 use Rattle.elab_scope.specs.Names.{Meanings}
 use Rattle.elab_items.specs.Declarations.{declarations}
@@ -19,7 +19,7 @@ pub record Group : Type 0 where
   pub place : Place
   pub circuit : Circuit
   pub settings : Settings
-  pub placements : List Placement
+  pub instantiations : List Instantiation
 
 abbrev pub group : Kept → Group
 group kept =
@@ -27,24 +27,24 @@ group kept =
       place = kept.place;
       circuit = circuit kept.written.now;
       settings = settings_of kept.overrides;
-      placements = map placement kept.instances.now;
+      instantiations = map instantiation kept.instances.now;
     }
 
-abbrev pub group_at : Meanings → Place → Option Circuit → Association → List Placement → Option Group
-group_at scope place None parameters placements = None
-group_at scope place (Some circuit) parameters placements =
-    Some (record { place = place; circuit = circuit; settings = settings_by (settable (declarations circuit)) scope parameters; placements = placements })
+abbrev pub group_at : Meanings → Place → Option Circuit → Association → List Instantiation → Option Group
+group_at scope place None parameters instantiations = None
+group_at scope place (Some circuit) parameters instantiations =
+    Some (record { place = place; circuit = circuit; settings = settings_by (settable (declarations circuit)) scope parameters; instantiations = instantiations })
 
-abbrev pub found_group : List (List Circuit) → Meanings → Lookup → Association → List Placement → Option Group
-found_group files scope Missing parameters placements = None
-found_group files scope Twice parameters placements = None
-found_group files scope (Found place) parameters placements =
-    group_at scope place (circuit_at files place) parameters placements
+abbrev pub found_group : List (List Circuit) → Meanings → Lookup → Association → List Instantiation → Option Group
+found_group files scope Missing parameters instantiations = None
+found_group files scope Twice parameters instantiations = None
+found_group files scope (Found place) parameters instantiations =
+    group_at scope place (circuit_at files place) parameters instantiations
 
 -- the instances that an item places, where their module is found
 abbrev pub group_of : Lookups → List (List Circuit) → Meanings → ModuleItem → Option Group
-group_of lookups files scope (Instances child parameters placements) =
-    found_group files scope (lookups child.text) parameters placements
+group_of lookups files scope (Instances child parameters instantiations) =
+    found_group files scope (lookups child.text) parameters instantiations
 group_of lookups files scope (Ports head names) = None
 group_of lookups files scope (Nets at signed bounds nets) = None
 group_of lookups files scope (Variables at signed bounds variables) = None

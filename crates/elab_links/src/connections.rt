@@ -4,10 +4,10 @@ ghost use Rattle.std.specs.Prelude.{◌≡◌, IfOk, length, map};
 ghost use Rattle.std.specs.List.{slice_get};
 ghost use Rattle.std.specs.Option.{option_map};
 ghost use Rattle.rtl_tree.specs.TreeExpr.{formula};
-ghost use Rattle.rtl_tree.specs.TreeItem.{associated, association, placement, positional};
+ghost use Rattle.rtl_tree.specs.TreeItem.{associated, association, instantiation, positional};
 ghost use Rattle.elab_scope.specs.Faults.{Port, after, refusal};
 ghost use Rattle.elab_scope.specs.Names.{meanings};
-ghost use Rattle.elab_links.specs.Connections.{argument_faults, connection_faults, named_link_faults, ordered_link_faults, placed_faults, placement_faults, placements_faults, spare_faults};
+ghost use Rattle.elab_links.specs.Connections.{argument_faults, connection_faults, named_link_faults, ordered_link_faults, placed_faults, instantiation_faults, instantiations_faults, spare_faults};
 ghost use Rattle.elab_links.specs.Marks.{no_marks};
 ghost use Rattle.elab_links.specs.Parameters.{surplus_faults};
 ghost use Rattle.elab_links.specs.Ports.{sockets};
@@ -184,7 +184,7 @@ fn judge_named<'a>(
 }
 
 /// The faults of the connections of one instance.
-fn judge_placement<'a>(
+fn judge_instantiation<'a>(
     alloc: Global,
     child: &'a Text,
     ports: &Ports<'a>,
@@ -192,7 +192,7 @@ fn judge_placement<'a>(
     names: &Names,
     best: Option<Fault<'a>>,
 ) -> Result<Option<Fault<'a>>, Memory>
-    ensures { IfOk result (λ told. option_map refusal told ≡ after (option_map refusal best.entry) (placement_faults child.now (sockets ports.now) (meanings names.now) (association connections.now))) }
+    ensures { IfOk result (λ told. option_map refusal told ≡ after (option_map refusal best.entry) (instantiation_faults child.now (sockets ports.now) (meanings names.now) (association connections.now))) }
 {
     match connections {
         Arguments::Ordered(arguments) => {
@@ -204,7 +204,7 @@ fn judge_placement<'a>(
 
 /// The faults of the connections of several instances of a module with these ports.
 #[tactic(auto, using(elab_scope::proofs::Least::after_append))]
-pub fn judge_placements<'a>(
+pub fn judge_instantiations<'a>(
     alloc: Global,
     child: &'a Text,
     ports: &Ports<'a>,
@@ -212,11 +212,11 @@ pub fn judge_placements<'a>(
     names: &Names,
     best: Option<Fault<'a>>,
 ) -> Result<Option<Fault<'a>>, Memory>
-    ensures { IfOk result (λ told. option_map refusal told ≡ after (option_map refusal best.entry) (placements_faults child.now (sockets ports.now) (meanings names.now) (map placement instances.now))) }
+    ensures { IfOk result (λ told. option_map refusal told ≡ after (option_map refusal best.entry) (instantiations_faults child.now (sockets ports.now) (meanings names.now) (map instantiation instances.now))) }
 {
     let mut best = best;
     for instance in instances {
-        best = judge_placement(alloc, child, ports, &instance.connections, names, best)?;
+        best = judge_instantiation(alloc, child, ports, &instance.connections, names, best)?;
     }
     Ok(best)
 }

@@ -2,7 +2,7 @@
 
 ghost use Rattle.std.specs.Prelude.{◌≡◌, IfOk, map};
 ghost use Rattle.std.specs.Option.{option_map};
-ghost use Rattle.rtl_tree.specs.TreeItem.{association, module_item, placement};
+ghost use Rattle.rtl_tree.specs.TreeItem.{association, module_item, instantiation};
 ghost use Rattle.elab_scope.specs.Names.{meanings};
 ghost use Rattle.elab_links.specs.Groups.{found_group, group, group_of};
 ghost use Rattle.elab_links.specs.Modules.{circuits_of, lookups_of};
@@ -37,7 +37,7 @@ fn found_group<'a>(
     instances: &'a [Instance],
     names: &Names,
 ) -> Result<Option<Group<'a>>, Memory>
-    ensures { IfOk result (λ made. option_map group made ≡ found_group (circuits_of files.now) (meanings names.now) lookup (association parameters.now) (map placement instances.now)) }
+    ensures { IfOk result (λ made. option_map group made ≡ found_group (circuits_of files.now) (meanings names.now) lookup (association parameters.now) (map instantiation instances.now)) }
 {
     let Lookup::Found(place) = lookup else {
         return Ok(None);

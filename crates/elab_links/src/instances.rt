@@ -5,14 +5,14 @@ ghost use Rattle.std.specs.List.{list_any};
 ghost use Rattle.std.specs.Option.{option_map};
 ghost use Rattle.std.specs.Str.{bytes_eq};
 ghost use Rattle.rtl_tree.specs.TreeExpr.{identifier};
-ghost use Rattle.rtl_tree.specs.TreeItem.{association, module_item, placement};
+ghost use Rattle.rtl_tree.specs.TreeItem.{association, module_item, instantiation};
 ghost use Rattle.rtl_tree.specs.TreeModule.{circuit};
 ghost use Rattle.elab_scope.specs.Faults.{after, refusal};
 ghost use Rattle.elab_scope.specs.Names.{meanings};
 ghost use Rattle.elab_links.specs.Instances.{child_faults, depth_faults, found_faults, link_faults, loop_faults};
 ghost use Rattle.elab_links.specs.Modules.{circuits_of, lookups_of};
 
-use crate::connections::judge_placements;
+use crate::connections::judge_instantiations;
 use crate::module_set::{Lookup, ModuleSet, module_at};
 use crate::parameters::{judge_parameters, settable};
 use crate::ports::Ports;
@@ -94,7 +94,7 @@ fn judge_child<'a>(
     names: &Names,
     best: Option<Fault<'a>>,
 ) -> Result<Option<Fault<'a>>, Memory>
-    ensures { IfOk result (λ told. option_map refusal told ≡ after (option_map refusal best.entry) (child_faults (map (λ text. text.now) way.now) (meanings names.now) (identifier placing.entry.child.now) (circuit written.now) (association placing.entry.parameters.now) (map placement placing.entry.instances.now))) }
+    ensures { IfOk result (λ told. option_map refusal told ≡ after (option_map refusal best.entry) (child_faults (map (λ text. text.now) way.now) (meanings names.now) (identifier placing.entry.child.now) (circuit written.now) (association placing.entry.parameters.now) (map instantiation placing.entry.instances.now))) }
 {
     let Placing {
         child,
@@ -107,7 +107,7 @@ fn judge_child<'a>(
     let settable = settable(alloc, &entries)?;
     let best = judge_parameters(alloc, &child.text, &settable, parameters, names, best)?;
     let ports = Ports::new(alloc, written, &entries)?;
-    judge_placements(alloc, &child.text, &ports, instances, names, best)
+    judge_instantiations(alloc, &child.text, &ports, instances, names, best)
 }
 
 /// The faults of instances, by what the name of their module means.
@@ -120,7 +120,7 @@ fn judge_found<'a>(
     names: &Names,
     best: Option<Fault<'a>>,
 ) -> Result<Option<Fault<'a>>, Memory>
-    ensures { IfOk result (λ told. option_map refusal told ≡ after (option_map refusal best.entry) (found_faults (circuits_of files.now) (map (λ text. text.now) way.now) (meanings names.now) (identifier placing.entry.child.now) lookup (association placing.entry.parameters.now) (map placement placing.entry.instances.now))) }
+    ensures { IfOk result (λ told. option_map refusal told ≡ after (option_map refusal best.entry) (found_faults (circuits_of files.now) (map (λ text. text.now) way.now) (meanings names.now) (identifier placing.entry.child.now) lookup (association placing.entry.parameters.now) (map instantiation placing.entry.instances.now))) }
 {
     let child = placing.child;
     let cause = match lookup {

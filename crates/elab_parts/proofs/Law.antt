@@ -55,7 +55,7 @@ task_spots file base instance scope (Parameters at kind bounds values) = refl
 task_spots file base instance scope (Drives at pause drives) =
     drive_spots file base instance scope drives
 task_spots file base instance scope (Always at sensitivity body) = refl
-task_spots file base instance scope (Instances child parameters placements) = refl
+task_spots file base instance scope (Instances child parameters instantiations) = refl
 
 abbrev places : List Delay → List ℕ
 places delays = map (λ delay. delay.spot.at) delays
@@ -104,4 +104,4 @@ delay_places file process scope (Drives at (Some pause) drives) =
 delay_places file process scope (Always at sensitivity body) =
     places_of file process (delays_of (steps body scope))
     ∙ sym (behind_faults (sensitivity_faults scope sensitivity) (steps body scope))
-delay_places file process scope (Instances child parameters placements) = refl
+delay_places file process scope (Instances child parameters instantiations) = refl

@@ -34,4 +34,4 @@ item_delays file process scope (Parameters at kind bounds values) = []
 item_delays file process scope (Drives at pause drives) = drive_delays file process pause drives
 item_delays file process scope (Always at sensitivity body) =
     map (delay_in file process) (delays_of (steps body scope))
-item_delays file process scope (Instances child parameters placements) = []
+item_delays file process scope (Instances child parameters instantiations) = []

@@ -45,7 +45,7 @@ item_steps scope (Integers at names) = []
 item_steps scope (Parameters at kind bounds values) = []
 item_steps scope (Drives at pause drives) = drive_steps scope pause drives
 item_steps scope (Always at sensitivity body) = always_steps scope sensitivity body
-item_steps scope (Instances child parameters placements) = []
+item_steps scope (Instances child parameters instantiations) = []
 
 abbrev pub items_steps : Meanings → List ModuleItem → List Step
 items_steps scope [] = []
@@ -72,7 +72,7 @@ item_places (Integers at names) = []
 item_places (Parameters at kind bounds values) = []
 item_places (Drives at pause drives) = drive_places drives
 item_places (Always at sensitivity body) = at ∷ []
-item_places (Instances child parameters placements) = []
+item_places (Instances child parameters instantiations) = []
 
 abbrev pub items_places : List ModuleItem → List ℕ
 items_places [] = []

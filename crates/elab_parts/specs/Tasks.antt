@@ -52,4 +52,4 @@ item_tasks file base instance scope (Drives at pause drives) =
     drive_tasks file base instance scope drives
 item_tasks file base instance scope (Always at sensitivity body) =
     always_task file base instance scope at sensitivity body ∷ []
-item_tasks file base instance scope (Instances child parameters placements) = []
+item_tasks file base instance scope (Instances child parameters instantiations) = []

@@ -1,6 +1,6 @@
 pub mod Leavings
 pub mod Refusals
 pub mod Rooms
-pub mod Stops
+pub mod Placements
 pub mod Trails
 pub mod Visits

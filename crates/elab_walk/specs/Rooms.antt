@@ -2,7 +2,7 @@
 use Rattle.std.specs.Prelude.{ℕ, zero, suc, ◌+◌, ◌-◌, List, [], ◌∷◌, ◌++◌, length, Option, None, Some}
 use Rattle.std.specs.List.{slice_get}
 use Rattle.rtl_tree.specs.TreeExpr.{Formula}
-use Rattle.rtl_tree.specs.TreeItem.{ModuleItem, Ports, Nets, Variables, Integers, Parameters, Drives, Always, Instances, Association, ByPosition, ByName, Associated, Positional, Placement}
+use Rattle.rtl_tree.specs.TreeItem.{ModuleItem, Ports, Nets, Variables, Integers, Parameters, Drives, Always, Instances, Association, ByPosition, ByName, Associated, Positional, Instantiation}
 use Rattle.elab_scope.specs.Faults.{Refusal, TooLarge}
 use Rattle.elab_scope.specs.Names.{Meanings}
 use Rattle.elab_scope.specs.Rules.{fault}
@@ -35,13 +35,13 @@ abbrev pub connection_places : Association → List ℕ
 connection_places (ByPosition arguments) = ordered_places arguments
 connection_places (ByName arguments) = named_places arguments
 
-abbrev pub placement_places : List Placement → List ℕ
-placement_places [] = []
-placement_places (first ∷ others) = connection_places first.connections ++ placement_places others
+abbrev pub instantiation_places : List Instantiation → List ℕ
+instantiation_places [] = []
+instantiation_places (first ∷ others) = connection_places first.connections ++ instantiation_places others
 
 -- the places of the connections of an item's instances: each that has an argument is a process
 abbrev pub link_places : ModuleItem → List ℕ
-link_places (Instances child parameters placements) = placement_places placements
+link_places (Instances child parameters instantiations) = instantiation_places instantiations
 link_places (Ports head names) = []
 link_places (Nets at signed bounds nets) = []
 link_places (Variables at signed bounds variables) = []

@@ -3,23 +3,23 @@ use Rattle.std.specs.Prelude.{ℕ, ◌≡◌, List, [], ◌∷◌, ◌++◌, map
 use Rattle.elab_scope.specs.declared.fault.ElabFault.{ElabFault}
 use Rattle.elab_scope.specs.Faults.{Answer, Memory, Named, Placed, answer}
 use Rattle.elab_walk.specs.declared.room.Room.{Room}
-use Rattle.elab_walk.specs.declared.trail.Stop.{Stop as Made}
+use Rattle.elab_walk.specs.declared.trail.Placement.{Placement as Made}
 use Rattle.elab_walk.specs.declared.trail.Trail.{Trail as Kept}
 use Rattle.elab_walk.specs.Refusals.{told_of}
 use Rattle.elab_walk.specs.Rooms.{room_after}
-use Rattle.elab_walk.specs.Stops.{Stop}
+use Rattle.elab_walk.specs.Placements.{Placement}
 use Rattle.elab_walk.specs.Visits.{Library, Visit, visit}
 
 -- the instances so far, and the room that they leave
 pub record Trail : Type 0 where
-  pub stops : List Stop
+  pub placements : List Placement
   pub room : Room
 
-abbrev pub stop : Made → Stop
-stop made = record { visit = visit made.visit; number = made.number; base = made.base }
+abbrev pub placement : Made → Placement
+placement made = record { visit = visit made.visit; number = made.number; base = made.base }
 
 abbrev pub trail : Kept → Trail
-trail kept = record { stops = map stop kept.stops.items; room = kept.room }
+trail kept = record { placements = map placement kept.placements.items; room = kept.room }
 
 -- how far the walk comes
 pub data Gone : Type 0 where
@@ -30,7 +30,7 @@ pub data Gone : Type 0 where
 abbrev pub followed : Trail → Visit → Room → Trail
 followed trail v room =
     record {
-      stops = trail.stops ++ record { visit = v; number = trail.room.number; base = trail.room.base } ∷ [];
+      placements = trail.placements ++ record { visit = v; number = trail.room.number; base = trail.room.base } ∷ [];
       room = room;
     }
 

@@ -3,7 +3,7 @@
 use Rattle.std.specs.Prelude.{ℕ, zero, suc, List, [], ◌∷◌, ◌++◌, map, Option, None, Some}
 use Rattle.std.specs.List.{flat_map}
 use Rattle.rtl_tree.specs.declared.text.Spot.{Spot}
-use Rattle.rtl_tree.specs.TreeItem.{ModuleItem, Ports, Nets, Variables, Integers, Parameters, Drives, Always, Instances, Placement}
+use Rattle.rtl_tree.specs.TreeItem.{ModuleItem, Ports, Nets, Variables, Integers, Parameters, Drives, Always, Instances, Instantiation}
 use Rattle.rtl_tree.specs.TreeModule.{Circuit, circuit}
 use Rattle.elab_scope.specs.Names.{Meanings, meanings}
 use Rattle.elab_items.specs.Scopes.{scope_of}
@@ -99,15 +99,15 @@ abbrev pub child_of : Holder → ℕ → List ℕ → Option Group → List Visi
 child_of holder at name None = []
 child_of holder at name (Some group) = child_in holder at name group ∷ []
 
-abbrev pub placed_children : Holder → ℕ → Option Group → List Placement → List Visit
+abbrev pub placed_children : Holder → ℕ → Option Group → List Instantiation → List Visit
 placed_children holder at group [] = []
 placed_children holder at group (first ∷ others) =
     child_of holder at first.name.text group ++ placed_children holder at group others
 
 -- the instances that an item holds; none where their module isn't found
 abbrev pub item_children : Library → Holder → ModuleItem → List Visit
-item_children library holder (Instances child parameters placements) =
-    placed_children holder child.at (group_of library.lookups library.files holder.scope (Instances child parameters placements)) placements
+item_children library holder (Instances child parameters instantiations) =
+    placed_children holder child.at (group_of library.lookups library.files holder.scope (Instances child parameters instantiations)) instantiations
 item_children library holder (Ports head names) = []
 item_children library holder (Nets at signed bounds nets) = []
 item_children library holder (Variables at signed bounds variables) = []

@@ -3,9 +3,9 @@
 ghost use Rattle.std.specs.Prelude.{◌≡◌, [], ◌∷◌, map};
 ghost use Rattle.std.specs.Option.{option_map};
 ghost use Rattle.rtl_tree.specs.TreeExpr.{formula};
-ghost use Rattle.rtl_tree.specs.TreeItem.{associated, association, module_item, placement, positional};
+ghost use Rattle.rtl_tree.specs.TreeItem.{associated, association, module_item, instantiation, positional};
 ghost use Rattle.elab_parts.specs.Items.{item_places};
-ghost use Rattle.elab_walk.specs.Rooms.{argument_places, connection_places, link_places, named_places, ordered_places, placement_places, process_places, sought_on};
+ghost use Rattle.elab_walk.specs.Rooms.{argument_places, connection_places, link_places, named_places, ordered_places, instantiation_places, process_places, sought_on};
 
 use elab_parts::places::{count_of, place_at};
 use rtl_tree::tree::expr::Expr;
@@ -87,8 +87,8 @@ fn seek_connections(connections: &Arguments, seek: Seek) -> Seek
 }
 
 #[tactic(auto, using(crate::proofs::Seeking::sought_append))]
-fn seek_placements(instances: &[Instance], seek: Seek) -> Seek
-    ensures { result ≡ sought_on seek (placement_places (map placement instances.now)) }
+fn seek_instantiations(instances: &[Instance], seek: Seek) -> Seek
+    ensures { result ≡ sought_on seek (instantiation_places (map instantiation instances.now)) }
 {
     let mut seek = seek;
     for instance in instances {
@@ -101,7 +101,7 @@ fn seek_links(item: &Item, seek: Seek) -> Seek
     ensures { result ≡ sought_on seek (link_places (module_item item.now)) }
 {
     match item {
-        Item::Instances { instances, .. } => seek_placements(instances, seek),
+        Item::Instances { instances, .. } => seek_instantiations(instances, seek),
         Item::Ports(_, _)
         | Item::Wires { .. }
         | Item::Regs { .. }

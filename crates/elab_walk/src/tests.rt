@@ -1,8 +1,8 @@
 use crate::library::Library;
 use crate::places::{Seek, seek_all};
 use crate::room::Room;
-use crate::top::{all_stops, top_visit};
-use crate::trail::{Stop, Trail};
+use crate::top::{all_placements, top_visit};
+use crate::trail::{Placement, Trail};
 use crate::walk::visit;
 use elab_body::progress::Left;
 use elab_links::module_set::{ModuleSet, Place};
@@ -115,7 +115,7 @@ fn top(files: &[Vec<Module>]) -> Result<&Module, Fail> {
     }
 }
 
-fn check(rt: &impl Abort, at: &Stop<'_>, path: &[u8], numbers: (u16, u16, usize), spot: Spot) {
+fn check(rt: &impl Abort, at: &Placement<'_>, path: &[u8], numbers: (u16, u16, usize), spot: Spot) {
     assert_eq!(rt; at.visit.path.as_bytes(), path);
     let (number, base, depth) = numbers;
     assert_eq!(rt; at.number, number);
@@ -132,18 +132,18 @@ fn check_all(
     set: &ModuleSet,
 ) -> Result<(), Fail> {
     let met = top_visit(alloc, TOP, top(files)?)?;
-    let Ok(stops) = all_stops(alloc, Library { files, set }, met) else {
+    let Ok(placements) = all_placements(alloc, Library { files, set }, met) else {
         return Err(Fail::new("refused"));
     };
-    assert_eq!(rt; stops.len(), 4);
+    assert_eq!(rt; placements.len(), 4);
     for (number, path, base, depth, file, at) in [
         (0, b"t".as_slice(), 0, 1, 0, 5),
         (1, b"t.u".as_slice(), 2, 2, 0, 100),
         (2, b"t.u.v".as_slice(), 4, 3, 1, 100),
         (3, b"t.u.w".as_slice(), 6, 3, 1, 100),
     ] {
-        let Some(found) = stops.get(usize::from(number)) else {
-            return Err(Fail::new("no stop"));
+        let Some(found) = placements.get(usize::from(number)) else {
+            return Err(Fail::new("no placement"));
         };
         check(rt, found, path, (number, base, depth), Spot { file, at });
     }
@@ -167,7 +167,7 @@ fn told_of(
 ) -> Result<Option<ElabFault>, Fail> {
     let met = top_visit(alloc, TOP, top(files)?)?;
     let before = Trail {
-        stops: Vec::new(alloc),
+        placements: Vec::new(alloc),
         room,
     };
     match visit(alloc, Library { files, set }, 32, met, before) {

@@ -4,14 +4,14 @@ ghost use Rattle.std.specs.Prelude.{◌≡◌, IfErr, IfOk, map};
 ghost use Rattle.elab_scope.specs.Faults.{answer};
 ghost use Rattle.rtl_tree.specs.TreeModule.{circuit};
 ghost use Rattle.elab_walk.specs.Rooms.{whole_room};
-ghost use Rattle.elab_walk.specs.Stops.{stops};
-ghost use Rattle.elab_walk.specs.Trails.{IsTold, stop};
+ghost use Rattle.elab_walk.specs.Placements.{placements};
+ghost use Rattle.elab_walk.specs.Trails.{IsTold, placement};
 ghost use Rattle.elab_walk.specs.Visits.{all_visits, library, top_visit, visit};
 ghost use Rattle.elab_walk.specs.Refusals.{refusal};
 
 use crate::library::Library;
 use crate::room::Room;
-use crate::trail::{Stop, Trail};
+use crate::trail::{Placement, Trail};
 use crate::visit::{Visit, file_of};
 use crate::walk::visit;
 use elab_body::progress::Left;
@@ -61,21 +61,21 @@ pub fn top_visit(alloc: Global, place: Place, written: &Module) -> Result<Visit<
 }
 
 /// All instances from the top on, each before those that it holds, with their numbers.
-pub fn all_stops<'a>(
+pub fn all_placements<'a>(
     alloc: Global,
     all: Library<'a>,
     met: Visit<'a>,
-) -> Result<Vec<Stop<'a>>, ElabFault>
+) -> Result<Vec<Placement<'a>>, ElabFault>
     ensures nothing { IfOk result (λ made. refusal (library all.entry) whole_room (all_visits (library all.entry) (visit met.entry)) ≡ None) }
-    ensures stops { IfOk result (λ made. map stop made.items ≡ stops 0 0 (all_visits (library all.entry) (visit met.entry))) }
+    ensures placements { IfOk result (λ made. map placement made.items ≡ placements 0 0 (all_visits (library all.entry) (visit met.entry))) }
     ensures told { IfErr result (λ error. IsTold (answer error) (refusal (library all.entry) whole_room (all_visits (library all.entry) (visit met.entry)))) }
 {
     let before = Trail {
-        stops: Vec::new(alloc),
+        placements: Vec::new(alloc),
         room: whole_room(),
     };
     match visit(alloc, all, LEVELS, met, before) {
-        Ok(trail) => Ok(trail.stops),
+        Ok(trail) => Ok(trail.placements),
         Err(error) => Err(error),
     }
 }

@@ -5,7 +5,7 @@ use crate::visit::Visit;
 
 /// An instance, its number, and how many signals come before its own.
 #[derive(Drop)]
-pub struct Stop<'a> {
+pub struct Placement<'a> {
     pub visit: Visit<'a>,
     pub number: u16,
     pub base: u16,
@@ -14,6 +14,6 @@ pub struct Stop<'a> {
 /// The instances so far, and the room that they leave.
 #[derive(Drop)]
 pub struct Trail<'a> {
-    pub stops: Vec<Stop<'a>>,
+    pub placements: Vec<Placement<'a>>,
     pub room: Room,
 }

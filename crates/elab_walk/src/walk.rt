@@ -3,7 +3,7 @@
 ghost use Rattle.std.specs.Prelude.{◌≡◌, IfErr, IfOk, map};
 ghost use Rattle.std.specs.List.{flat_map};
 ghost use Rattle.std.specs.Option.{option_map};
-ghost use Rattle.rtl_tree.specs.TreeItem.{module_item, placement};
+ghost use Rattle.rtl_tree.specs.TreeItem.{module_item, instantiation};
 ghost use Rattle.elab_scope.specs.Faults.{answer, located, refusal};
 ghost use Rattle.elab_scope.specs.Names.{meanings};
 ghost use Rattle.elab_links.specs.Groups.{group, group_of};
@@ -15,7 +15,7 @@ ghost use Rattle.elab_walk.specs.Visits.{child_of, children, holder, item_childr
 use crate::judge::{Judged, judge_visit};
 use crate::library::Library;
 use crate::room::Room;
-use crate::trail::{Stop, Trail};
+use crate::trail::{Placement, Trail};
 use crate::visit::{Holder, Visit, file_of};
 use elab_links::groups::{Group, group_of};
 use elab_links::module_set::Place;
@@ -74,15 +74,15 @@ fn with<'a>(so_far: Trail<'a>, met: Visit<'a>, room: Room) -> Result<Trail<'a>, 
     ensures { IfOk result (λ made. trail made ≡ followed (trail so_far.entry) (visit met.entry) room) }
 {
     let Trail {
-        mut stops,
+        mut placements,
         room: before,
     } = so_far;
-    stops.push(Stop {
+    placements.push(Placement {
         visit: met,
         number: before.number,
         base: before.base,
     })?;
-    Ok(Trail { stops, room })
+    Ok(Trail { placements, room })
 }
 
 /// An instance, and behind it each that it holds with its own, over so many levels.
@@ -151,7 +151,7 @@ fn visit_item<'a>(
             instances,
             ..
         } => {
-            visit_placements(
+            visit_instantiations(
                 alloc, all, levels, within, child.at, item, instances, so_far,
             )
         }
@@ -167,7 +167,7 @@ fn visit_item<'a>(
 
 /// The instances that an item places, in order.
 #[cycle(visit)]
-fn visit_placements<'a>(
+fn visit_instantiations<'a>(
     alloc: Global,
     all: Library<'a>,
     levels: u32,
@@ -177,11 +177,11 @@ fn visit_placements<'a>(
     instances: &'a [Instance],
     so_far: Trail<'a>,
 ) -> Result<Trail<'a>, ElabFault>
-    ensures { Went result (gone (library all.entry) (Going (trail so_far.entry)) (flat_map (visits (library all.entry) levels) (placed_children (holder within.now) at (group_of (library all.entry).lookups (library all.entry).files (holder within.now).scope (module_item item.now)) (map placement instances.now)))) }
+    ensures { Went result (gone (library all.entry) (Going (trail so_far.entry)) (flat_map (visits (library all.entry) levels) (placed_children (holder within.now) at (group_of (library all.entry).lookups (library all.entry).files (holder within.now).scope (module_item item.now)) (map instantiation instances.now)))) }
 {
     let mut so_far = so_far;
     for instance in instances {
-        match visit_placement(alloc, all, levels, within, at, item, instance, so_far) {
+        match visit_instantiation(alloc, all, levels, within, at, item, instance, so_far) {
             Ok(made) => so_far = made,
             Err(error) => return Err(error),
         }
@@ -191,7 +191,7 @@ fn visit_placements<'a>(
 
 /// One instance that an item places.
 #[cycle(visit)]
-fn visit_placement<'a>(
+fn visit_instantiation<'a>(
     alloc: Global,
     all: Library<'a>,
     levels: u32,

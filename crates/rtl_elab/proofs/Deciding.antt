@@ -9,7 +9,7 @@ use Rattle.elab_links.specs.declared.module_set.Place.{Place}
 use Rattle.elab_links.specs.Modules.{circuit_at}
 use Rattle.elab_walk.specs.Refusals.{refusal}
 use Rattle.elab_walk.specs.Rooms.{whole_room}
-use Rattle.elab_walk.specs.Stops.{stops}
+use Rattle.elab_walk.specs.Placements.{placements}
 use Rattle.elab_walk.specs.Visits.{Library, Visit, all_visits, top_visit}
 use Rattle.elab_flat.specs.Flats.{Flat, flat_of}
 use Rattle.elab_lawful.specs.Laws.{IsLawful}
@@ -26,7 +26,7 @@ at_place : (library : Library) (top : List ℕ) (place : Place) (circuit : Optio
 at_place library top place None f is = absurd cc
 at_place library top place (Some circuit) f is =
     let v = top_visit place circuit in
-    by_told (refusal library whole_room (all_visits library v)) (flat_of library (stops 0 0 (all_visits library v))) f (lawful library v refl) is
+    by_told (refusal library whole_room (all_visits library v)) (flat_of library (placements 0 0 (all_visits library v))) f (lawful library v refl) is
 
 found_there : (library : Library) (top : List ℕ) (lookup : Lookup) (f : Flat) → elaborated_found library top lookup ≡ Ok f → IsLawful f
 found_there library top Missing f is = absurd cc

@@ -8,7 +8,7 @@ use Rattle.elab_links.specs.declared.module_set.Place.{Place}
 use Rattle.elab_links.specs.Modules.{circuit_at}
 use Rattle.elab_walk.specs.Refusals.{refusal}
 use Rattle.elab_walk.specs.Rooms.{whole_room}
-use Rattle.elab_walk.specs.Stops.{stops}
+use Rattle.elab_walk.specs.Placements.{placements}
 use Rattle.elab_walk.specs.Visits.{Library, Visit, all_visits, top_visit}
 use Rattle.elab_flat.specs.Flats.{Flat, flat_of}
 
@@ -18,7 +18,7 @@ decided (Some answer) flat = Err answer
 
 abbrev pub elaborated_of : Library → List Visit → Result Flat Answer
 elaborated_of library all =
-    decided (refusal library whole_room all) (flat_of library (stops 0 0 all))
+    decided (refusal library whole_room all) (flat_of library (placements 0 0 all))
 
 abbrev pub elaborated_at : Library → List ℕ → Place → Option Circuit → Result Flat Answer
 elaborated_at library top place None = Err (Named (NoSuchModule top))

@@ -7,7 +7,7 @@ ghost use Rattle.rtl_tree.specs.TreeModule.{circuit};
 ghost use Rattle.rtl_elab.specs.Elaborated.{elaborated, elaborated_of, refused};
 ghost use Rattle.elab_flat.specs.Views.{flat};
 ghost use Rattle.elab_walk.specs.Rooms.{whole_room};
-ghost use Rattle.elab_walk.specs.Stops.{stops};
+ghost use Rattle.elab_walk.specs.Placements.{placements};
 ghost use Rattle.elab_walk.specs.Trails.{IsTold};
 ghost use Rattle.elab_walk.specs.Visits.{Visit, all_visits, library, top_visit, visit};
 ghost use Rattle.elab_walk.specs.Refusals.{refusal};
@@ -16,7 +16,7 @@ use elab_flat::flat::{Flat, flat_of};
 use elab_links::module_set::{Lookup, module_at};
 use elab_scope::fault::ElabFault;
 use elab_walk::library::Library;
-use elab_walk::top::{all_stops, top_visit};
+use elab_walk::top::{all_placements, top_visit};
 use elab_walk::visit::Visit;
 use rtl_tree::memory::Memory;
 use rtl_tree::text::Text;
@@ -27,8 +27,8 @@ fn flat_from<'a>(alloc: Global, all: Library<'a>, met: Visit<'a>) -> Result<Flat
     ensures design { IfOk result (λ made. elaborated_of (library all.entry) (all_visits (library all.entry) (visit met.entry)) ≡ Ok (flat made)) }
     ensures told { IfErr result (λ error. IsTold (answer error) (refused (elaborated_of (library all.entry) (all_visits (library all.entry) (visit met.entry))))) }
 {
-    match all_stops(alloc, all, met) {
-        Ok(stops) => Ok(flat_of(alloc, all, &stops)?),
+    match all_placements(alloc, all, met) {
+        Ok(placements) => Ok(flat_of(alloc, all, &placements)?),
         Err(error) => Err(error),
     }
 }

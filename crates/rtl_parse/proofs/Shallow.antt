@@ -6,8 +6,8 @@ use Rattle.rtl_tree.specs.TreeStmt.{Target, Whole, Bit, Part, Joined, Targets, n
 use Rattle.rtl_tree.specs.TreeItem.{Head, Drive, Happening, Edge, Change, ChangeBit, ChangePart, Sensitivity, Star, StarInParens, Listed, Association, ByPosition, ByName, ModuleItem, Ports, Nets, Variables, Integers, Parameters, Drives, Always, Instances}
 use Rattle.rtl_tree.specs.TreeModule.{Circuit, HeaderParameter, HeaderPort, Header, Absent, Empty, Declared}
 use Rattle.rtl_tree.specs.TreeModule as modules
-use Rattle.rtl_tree.specs.Deeper.{of_any, here, formula_deeper, formulas_deeper, bounds_deeper, target_deeper, targets_deeper, span_deeper, pause_deeper, action_deeper, actions_deeper, branch_deeper, branches_deeper, head_deeper, net_deeper, valuation_deeper, drive_deeper, happening_deeper, sensitivity_deeper, positional_deeper, associated_deeper, association_deeper, placement_deeper, item_deeper, header_parameter_deeper, header_port_deeper, header_deeper, deeper, limit, too_deep}
-use Rattle.rtl_tree.specs.Depth.{greatest, if_any, formula_depth, formulas_depth, bounds_depth, target_depth, targets_depth, span_depth, pause_depth, action_depth, actions_depth, branch_depth, branches_depth, head_depth, net_depth, valuation_depth, drive_depth, happening_depth, sensitivity_depth, positional_depth, associated_depth, association_depth, placement_depth, item_depth, header_parameter_depth, header_port_depth, header_depth, depth}
+use Rattle.rtl_tree.specs.Deeper.{of_any, here, formula_deeper, formulas_deeper, bounds_deeper, target_deeper, targets_deeper, span_deeper, pause_deeper, action_deeper, actions_deeper, branch_deeper, branches_deeper, head_deeper, net_deeper, valuation_deeper, drive_deeper, happening_deeper, sensitivity_deeper, positional_deeper, associated_deeper, association_deeper, instantiation_deeper, item_deeper, header_parameter_deeper, header_port_deeper, header_deeper, deeper, limit, too_deep}
+use Rattle.rtl_tree.specs.Depth.{greatest, if_any, formula_depth, formulas_depth, bounds_depth, target_depth, targets_depth, span_depth, pause_depth, action_depth, actions_depth, branch_depth, branches_depth, head_depth, net_depth, valuation_depth, drive_depth, happening_depth, sensitivity_depth, positional_depth, associated_depth, association_depth, instantiation_depth, item_depth, header_parameter_depth, header_port_depth, header_depth, depth}
 
 left : (xs ys : List ℕ) → xs ++ ys ≡ [] → xs ≡ []
 left [] ys e = refl
@@ -203,9 +203,9 @@ item (Drives at p drives) k e =
 item (Always at s body) k e =
     let v = both (sensitivity_deeper k s) (action_deeper k body) e in
     omega (arith, sensitivity s k v.0, action body k v.1)
-item (Instances child parameters placements) k e =
-    let v = both (association_deeper k parameters) (flat_map (placement_deeper k) placements) e in
-    omega (arith, association parameters k v.0, of_list (placement_deeper k) placement_depth k (λ p h. association p.connections k h) placements v.1)
+item (Instances child parameters instantiations) k e =
+    let v = both (association_deeper k parameters) (flat_map (instantiation_deeper k) instantiations) e in
+    omega (arith, association parameters k v.0, of_list (instantiation_deeper k) instantiation_depth k (λ p h. association p.connections k h) instantiations v.1)
 
 parameter : (p : HeaderParameter) (k : ℕ) → header_parameter_deeper k p ≡ [] → header_parameter_depth p ≤ k
 parameter p k e =

@@ -3,7 +3,7 @@ use Rattle.std.specs.Prelude.{ℕ, zero, suc, ◌-◌, ◌≤◌, List, [], ◌�
 use Rattle.std.specs.List.{All, Contains, flat_map}
 use Rattle.rtl_tree.specs.TreeExpr.{Formula, Number, Read, ReadBit, ReadPart, Parens, Convert, Concat, Repeat, Unary, Binary, Choose, Formulas, no_formulas, more_formulas, Bounds}
 use Rattle.rtl_tree.specs.TreeStmt.{Target, Whole, Bit, Part, Joined, Targets, no_targets, more_targets, Span, Fixed, Named, Valued, Pause, Action, Null, Delayed, Assign, If, IfElse, Case, For, Block, Actions, no_actions, more_actions, Branch, Labelled, Default, Branches, no_branches, more_branches, target_place, action_place}
-use Rattle.rtl_tree.specs.TreeItem.{Head, Net, Valuation, Drive, Happening, Edge, Change, ChangeBit, ChangePart, Sensitivity, Star, StarInParens, Listed, Positional, Associated, Association, ByPosition, ByName, Placement, ModuleItem, Ports, Nets, Variables, Integers, Parameters, Drives, Always, Instances}
+use Rattle.rtl_tree.specs.TreeItem.{Head, Net, Valuation, Drive, Happening, Edge, Change, ChangeBit, ChangePart, Sensitivity, Star, StarInParens, Listed, Positional, Associated, Association, ByPosition, ByName, Instantiation, ModuleItem, Ports, Nets, Variables, Integers, Parameters, Drives, Always, Instances}
 use Rattle.rtl_tree.specs.TreeModule.{Circuit, HeaderParameter, HeaderPort, Header, Absent, Empty, Declared}
 use Rattle.rtl_tree.specs.TreeModule as modules
 
@@ -121,8 +121,8 @@ abbrev pub association_deeper : ℕ → Association → List ℕ
 association_deeper k (ByPosition arguments) = flat_map (positional_deeper k) arguments
 association_deeper k (ByName arguments) = flat_map (associated_deeper k) arguments
 
-abbrev pub placement_deeper : ℕ → Placement → List ℕ
-placement_deeper k placement = association_deeper k placement.connections
+abbrev pub instantiation_deeper : ℕ → Instantiation → List ℕ
+instantiation_deeper k instantiation = association_deeper k instantiation.connections
 
 -- what stands directly in an item has depth 1
 abbrev pub item_deeper : ℕ → ModuleItem → List ℕ
@@ -133,8 +133,8 @@ item_deeper k (Integers at names) = []
 item_deeper k (Parameters at kind bounds values) = of_any (bounds_deeper k) bounds ++ flat_map (valuation_deeper k) values
 item_deeper k (Drives at pause drives) = of_any (pause_deeper k) pause ++ flat_map (drive_deeper k) drives
 item_deeper k (Always at sensitivity body) = sensitivity_deeper k sensitivity ++ action_deeper k body
-item_deeper k (Instances child parameters placements) =
-    association_deeper k parameters ++ flat_map (placement_deeper k) placements
+item_deeper k (Instances child parameters instantiations) =
+    association_deeper k parameters ++ flat_map (instantiation_deeper k) instantiations
 
 abbrev pub header_parameter_deeper : ℕ → HeaderParameter → List ℕ
 header_parameter_deeper k parameter =

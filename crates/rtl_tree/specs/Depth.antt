@@ -2,7 +2,7 @@
 use Rattle.std.specs.Prelude.{ℕ, ◌+◌, max, List, [], ◌∷◌, Option, None, Some}
 use Rattle.rtl_tree.specs.TreeExpr.{Formula, Number, Read, ReadBit, ReadPart, Parens, Convert, Concat, Repeat, Unary, Binary, Choose, Formulas, no_formulas, more_formulas, Bounds}
 use Rattle.rtl_tree.specs.TreeStmt.{Target, Whole, Bit, Part, Joined, Targets, no_targets, more_targets, Span, Fixed, Named, Valued, Pause, Action, Null, Delayed, Assign, If, IfElse, Case, For, Block, Actions, no_actions, more_actions, Branch, Labelled, Default, Branches, no_branches, more_branches}
-use Rattle.rtl_tree.specs.TreeItem.{Head, Net, Valuation, Drive, Happening, Edge, Change, ChangeBit, ChangePart, Sensitivity, Star, StarInParens, Listed, Positional, Associated, Association, ByPosition, ByName, Placement, ModuleItem, Ports, Nets, Variables, Integers, Parameters, Drives, Always, Instances}
+use Rattle.rtl_tree.specs.TreeItem.{Head, Net, Valuation, Drive, Happening, Edge, Change, ChangeBit, ChangePart, Sensitivity, Star, StarInParens, Listed, Positional, Associated, Association, ByPosition, ByName, Instantiation, ModuleItem, Ports, Nets, Variables, Integers, Parameters, Drives, Always, Instances}
 use Rattle.rtl_tree.specs.TreeModule.{Circuit, HeaderParameter, HeaderPort, Header, Absent, Empty, Declared}
 use Rattle.rtl_tree.specs.TreeModule as modules
 
@@ -124,8 +124,8 @@ abbrev pub association_depth : Association → ℕ
 association_depth (ByPosition arguments) = greatest positional_depth arguments
 association_depth (ByName arguments) = greatest associated_depth arguments
 
-abbrev pub placement_depth : Placement → ℕ
-placement_depth placement = association_depth placement.connections
+abbrev pub instantiation_depth : Instantiation → ℕ
+instantiation_depth instantiation = association_depth instantiation.connections
 
 -- what stands directly in an item has depth 1
 abbrev pub item_depth : ModuleItem → ℕ
@@ -137,8 +137,8 @@ item_depth (Parameters at kind bounds values) =
     max (if_any bounds_depth bounds) (greatest valuation_depth values)
 item_depth (Drives at pause drives) = max (if_any pause_depth pause) (greatest drive_depth drives)
 item_depth (Always at sensitivity body) = max (sensitivity_depth sensitivity) (action_depth body)
-item_depth (Instances child parameters placements) =
-    max (association_depth parameters) (greatest placement_depth placements)
+item_depth (Instances child parameters instantiations) =
+    max (association_depth parameters) (greatest instantiation_depth instantiations)
 
 abbrev pub header_parameter_depth : HeaderParameter → ℕ
 header_parameter_depth parameter =

@@ -12,7 +12,7 @@ use Rattle.rtl_tree.specs.declared.symbol.Symbol.{Symbol}
 use Rattle.rtl_tree.specs.declared.symbol.Symbol.TheVariants as symbol
 use Rattle.rtl_tree.specs.Symbols.{Terminal}
 use Rattle.rtl_tree.specs.TreeExpr.{Formula, Identifier}
-use Rattle.rtl_tree.specs.TreeItem.{Head, Net, Variable, Valuation, Drive, Happening, Edge, Change, ChangeBit, ChangePart, Sensitivity, Star, StarInParens, Listed, Positional, Associated, Association, ByPosition, ByName, Placement, ModuleItem, Ports, Nets, Variables, Integers, Parameters, Drives, Always, Instances}
+use Rattle.rtl_tree.specs.TreeItem.{Head, Net, Variable, Valuation, Drive, Happening, Edge, Change, ChangeBit, ChangePart, Sensitivity, Star, StarInParens, Listed, Positional, Associated, Association, ByPosition, ByName, Instantiation, ModuleItem, Ports, Nets, Variables, Integers, Parameters, Drives, Always, Instances}
 use Rattle.rtl_tree.specs.Grammar.{Spelling, ◌⨾◌, Nothing, Never, IsA, IsAt, IsName, IsOptional, IsFlag, AreMore, AreListed}
 use Rattle.rtl_tree.specs.GrammarExpr.{IsExpression, IsBounds}
 use Rattle.rtl_tree.specs.GrammarStmt.{Marked, IsTarget, IsPause, IsStatement}
@@ -129,8 +129,8 @@ AreConnections (ByPosition []) = Nothing
 AreConnections (ByPosition (argument ∷ arguments)) = AreArguments (ByPosition (argument ∷ arguments))
 AreConnections (ByName arguments) = AreArguments (ByName arguments)
 
-abbrev pub IsPlacement : Placement → Spelling
-IsPlacement placement = IsName placement.name ⨾ IsA symbol.OpenParen ⨾ AreConnections placement.connections ⨾ IsA symbol.CloseParen
+abbrev pub IsInstantiation : Instantiation → Spelling
+IsInstantiation instantiation = IsName instantiation.name ⨾ IsA symbol.OpenParen ⨾ AreConnections instantiation.connections ⨾ IsA symbol.CloseParen
 
 -- the parameters that an instance sets
 abbrev pub AreSet : Association → Spelling
@@ -156,8 +156,8 @@ IsItem (Parameters at k bounds values) =
 IsItem (Drives at pause drives) =
     IsAt symbol.Assign at ⨾ IsOptional IsPause pause ⨾ AreListed IsDrive drives ⨾ IsA symbol.Semicolon
 IsItem (Always at sensitivity body) = IsAt symbol.Always at ⨾ IsA symbol.At ⨾ IsSensitivity sensitivity ⨾ IsStatement body
-IsItem (Instances child parameters placements) =
-    IsName child ⨾ AreOverrides parameters ⨾ AreListed IsPlacement placements ⨾ IsA symbol.Semicolon
+IsItem (Instances child parameters instantiations) =
+    IsName child ⨾ AreOverrides parameters ⨾ AreListed IsInstantiation instantiations ⨾ IsA symbol.Semicolon
 
 -- an item with the attributes before it
 abbrev pub IsMarkedItem : ModuleItem → Spelling

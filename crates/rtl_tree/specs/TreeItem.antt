@@ -89,7 +89,7 @@ pub data Association : Type 0 where
   ByName : (arguments : List Associated) → Association
 
 -- an instance of a module
-pub record Placement : Type 0 where
+pub record Instantiation : Type 0 where
   pub name : Identifier
   pub connections : Association
 
@@ -102,7 +102,7 @@ pub data ModuleItem : Type 0 where
   Parameters : (at : ℕ) (kind : ParameterKind) (bounds : Option Bounds) (values : List Valuation) → ModuleItem
   Drives : (at : ℕ) (pause : Option Pause) (drives : List Drive) → ModuleItem
   Always : (at : ℕ) (sensitivity : Sensitivity) (body : Action) → ModuleItem
-  Instances : (child : Identifier) (parameters : Association) (placements : List Placement) → ModuleItem
+  Instances : (child : Identifier) (parameters : Association) (instantiations : List Instantiation) → ModuleItem
 
 abbrev pub head : PortHead → Head
 head written =
@@ -153,8 +153,8 @@ abbrev pub association : Arguments → Association
 association (given.Ordered arguments) = ByPosition (map positional arguments.items)
 association (given.Named arguments) = ByName (map associated arguments.items)
 
-abbrev pub placement : Instance → Placement
-placement instance =
+abbrev pub instantiation : Instance → Instantiation
+instantiation instance =
     record {
       name = identifier instance.name;
       connections = association instance.connections;
@@ -173,4 +173,4 @@ module_item (written.Assigns at delay assignments) =
     Drives at (option_map pause delay) (map drive assignments.items)
 module_item (written.Always at control body) = Always at (sensitivity control) (action body)
 module_item (written.Instances child parameters instances) =
-    Instances (identifier child) (association parameters) (map placement instances.items)
+    Instances (identifier child) (association parameters) (map instantiation instances.items)

@@ -13,7 +13,7 @@ use Rattle.rtl_tree.specs.declared.tree.item.EventEdge.TheVariants as edge
 use Rattle.rtl_tree.specs.Symbols.{Terminal}
 use Rattle.rtl_tree.specs.TreeExpr.{Formula, Identifier, Bounds}
 use Rattle.rtl_tree.specs.TreeStmt.{Target, Action}
-use Rattle.rtl_tree.specs.TreeItem.{Head, Net, Variable, Valuation, Drive, Happening, Edge, Change, ChangeBit, ChangePart, Sensitivity, Star, StarInParens, Listed, Positional, Associated, Association, ByPosition, ByName, Placement, ModuleItem, Ports, Nets, Variables, Integers, Parameters, Drives, Always, Instances}
+use Rattle.rtl_tree.specs.TreeItem.{Head, Net, Variable, Valuation, Drive, Happening, Edge, Change, ChangeBit, ChangePart, Sensitivity, Star, StarInParens, Listed, Positional, Associated, Association, ByPosition, ByName, Instantiation, ModuleItem, Ports, Nets, Variables, Integers, Parameters, Drives, Always, Instances}
 use Rattle.text_build.specs.Reading.{Parser, ◌>>=◌, ◌>>◌, pure, refuse, symbol_at, starts, after, place, advance, mark, name, either, optional, add, links, listed}
 use Rattle.text_build.specs.ReadingExpr.{Reference, whole, bit, part, reference, expression, bounds}
 use Rattle.text_build.specs.ReadingStmt.{after_value, pause, target, statement}
@@ -174,8 +174,8 @@ arguments d = either (starts symbol.Dot) (by_name d) (by_position d)
 unfoldable pub connections : ℕ → Parser Association
 connections d = either (starts symbol.CloseParen) (pure (ByPosition [])) (arguments d)
 
-unfoldable pub placement : ℕ → Parser Placement
-placement d =
+unfoldable pub instantiation : ℕ → Parser Instantiation
+instantiation d =
     name >>= (λ n. mark symbol.OpenParen >> connections d >>= (λ c. mark symbol.CloseParen >> pure (record { name = n; connections = c })))
 
 unfoldable pub overrides_of : ℕ → Parser Association
@@ -186,7 +186,7 @@ overrides d = either (starts symbol.Hash) (overrides_of d) (pure (ByPosition [])
 
 unfoldable pub instances : ℕ → Parser ModuleItem
 instances d =
-    name >>= (λ child. overrides d >>= (λ ps. listed (placement d) >>= (λ all. mark symbol.Semicolon >> pure (Instances child ps all))))
+    name >>= (λ child. overrides d >>= (λ ps. listed (instantiation d) >>= (λ all. mark symbol.Semicolon >> pure (Instances child ps all))))
 
 -- ---- items
 

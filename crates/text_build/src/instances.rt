@@ -4,7 +4,7 @@ ghost use Rattle.std.specs.Prelude.{◌≡◌, ◌||◌, [], map};
 ghost use Rattle.std.specs.Option.{option_map};
 ghost use Rattle.rtl_tree.specs.Symbols.{terminal};
 ghost use Rattle.rtl_tree.specs.TreeExpr.{formula};
-ghost use Rattle.rtl_tree.specs.TreeItem.{positional, associated, association, placement, module_item};
+ghost use Rattle.rtl_tree.specs.TreeItem.{positional, associated, association, instantiation, module_item};
 ghost use Rattle.text_build.specs.Reading as generic;
 ghost use Rattle.text_build.specs.Reading.{Reads};
 ghost use Rattle.text_build.specs.ReadingItem as reading;
@@ -125,9 +125,9 @@ impl<'a> Cursor<'a> {
         }
     }
 
-    #[tactic(auto, unfolding(crate::specs::ReadingItem::placement))]
+    #[tactic(auto, unfolding(crate::specs::ReadingItem::instantiation))]
     fn instance(&mut self) -> Result<Instance, BuildFault>
-        ensures { Reads placement (reading.placement 200 (map terminal self.old.rest.now)) result (map terminal self.new.rest.now) }
+        ensures { Reads instantiation (reading.instantiation 200 (map terminal self.old.rest.now)) result (map terminal self.new.rest.now) }
     {
         let name = self.name()?;
         self.mark(Symbol::OpenParen)?;
@@ -137,7 +137,7 @@ impl<'a> Cursor<'a> {
     }
 
     fn listed_instances(&mut self) -> Result<Vec<Instance>, BuildFault>
-        ensures { Reads (λ all. map placement all.items) (generic.listed (reading.placement 200) (map terminal self.old.rest.now)) result (map terminal self.new.rest.now) }
+        ensures { Reads (λ all. map instantiation all.items) (generic.listed (reading.instantiation 200) (map terminal self.old.rest.now)) result (map terminal self.new.rest.now) }
     {
         let mut all = Vec::new(self.alloc);
         // Each turn takes a token, so these are enough.

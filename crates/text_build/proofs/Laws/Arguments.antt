@@ -4,13 +4,13 @@ use Rattle.rtl_tree.specs.declared.symbol.Symbol.{Symbol}
 use Rattle.rtl_tree.specs.declared.symbol.Symbol.TheVariants as symbol
 use Rattle.rtl_tree.specs.Symbols.{Terminal}
 use Rattle.rtl_tree.specs.TreeExpr.{Identifier, Formula}
-use Rattle.rtl_tree.specs.TreeItem.{Positional, Associated, Association, ByPosition, ByName, Placement}
-use Rattle.rtl_tree.specs.Depth.{greatest, if_any, formula_depth, positional_depth, associated_depth, association_depth, placement_depth}
+use Rattle.rtl_tree.specs.TreeItem.{Positional, Associated, Association, ByPosition, ByName, Instantiation}
+use Rattle.rtl_tree.specs.Depth.{greatest, if_any, formula_depth, positional_depth, associated_depth, association_depth, instantiation_depth}
 use Rattle.rtl_tree.specs.Grammar.{Spelling, ◌⨾◌, IsA, IsAt, IsName, IsOptional, AreMore, AreListed}
 use Rattle.rtl_tree.specs.GrammarExpr.{IsFormula, IsExpression}
-use Rattle.rtl_tree.specs.GrammarItem.{Begins, IsPositional, IsAssociated, IsMoreThanEmpty, AreArguments, AreConnections, IsPlacement, AreSet, AreOverrides}
+use Rattle.rtl_tree.specs.GrammarItem.{Begins, IsPositional, IsAssociated, IsMoreThanEmpty, AreArguments, AreConnections, IsInstantiation, AreSet, AreOverrides}
 use Rattle.text_build.specs.Reading.{Parser, and_then, ◌>>=◌, ◌>>◌, pure, same_symbol, starts, place, name, advance, mark, either, listed}
-use Rattle.text_build.specs.ReadingItem.{any_expression, ends_argument, argument_value, positional, associated, by_position, by_name, arguments, connections, placement, overrides_of, overrides}
+use Rattle.text_build.specs.ReadingItem.{any_expression, ends_argument, argument_value, positional, associated, by_position, by_name, arguments, connections, instantiation, overrides_of, overrides}
 use Rattle.text_build.proofs.Laws.Tokens.{at_is, name_is, mark_at, mark_then, advance_then, place_again, starts_is, starts_not, name_again, bind, either_first, either_second}
 use Rattle.text_build.proofs.Laws.Repeats.{Again, Shrinks, CommaEnds, listed_again}
 use Rattle.text_build.proofs.Laws.Follows.{Stops, is_start, stop_stops, Opens, opens_not, formula_opens, formula_shorter}
@@ -136,9 +136,9 @@ connections_shrink (ByName xs) ts rest w = arguments_shrink (ByName xs) ts rest 
 abbrev Anything : List Terminal → Type 0
 Anything ts = Unit {0}
 
-placement_again : (d : ℕ) → Again placement_depth d (placement d) IsPlacement Anything
-unfolding placement
-placement_again d x ts rest w h s =
+instantiation_again : (d : ℕ) → Again instantiation_depth d (instantiation d) IsInstantiation Anything
+unfolding instantiation
+instantiation_again d x ts rest w h s =
     let a = w.2 in
     let b = a.2 in
     bind (name ts) (λ n. mark symbol.OpenParen >> connections d >>= (λ c. mark symbol.CloseParen >> pure (record { name = n; connections = c }))) x.name w.0 (name_again x.name ts w.0 w.1)
@@ -146,17 +146,17 @@ placement_again d x ts rest w h s =
     (mark_then symbol.OpenParen (connections d) w.0 a.0 a.1 ∙ connections_again d x.connections a.0 b.0 rest b.1 h b.2)
     ∙ mark_then symbol.CloseParen (pure x) b.0 rest b.2
 
-placement_shrinks : (x : Placement) → Shrinks (IsPlacement x)
-placement_shrinks x ts rest w =
+instantiation_shrinks : (x : Instantiation) → Shrinks (IsInstantiation x)
+instantiation_shrinks x ts rest w =
     let a = w.2 in let b = a.2 in omega (arith, ap length w.1.1, ap length a.1.1, connections_shrink x.connections a.0 b.0 b.1, ap length b.2.1)
 
-pub placements_again : (d : ℕ) (xs : List Placement) (ts mid rest : List Terminal) → AreListed IsPlacement xs ts mid → greatest placement_depth xs ≤ d → IsA symbol.Semicolon mid rest → listed (placement d) ts ≡ Some (xs, mid)
+pub instantiations_again : (d : ℕ) (xs : List Instantiation) (ts mid rest : List Terminal) → AreListed IsInstantiation xs ts mid → greatest instantiation_depth xs ≤ d → IsA symbol.Semicolon mid rest → listed (instantiation d) ts ≡ Some (xs, mid)
 unfolding same_symbol
-placements_again d xs ts mid rest w h m =
-    listed_again IsPlacement Anything placement_depth d (placement d) (placement_again d) placement_shrinks (λ us vs v. tt) xs ts mid w h (ends_by Anything symbol.Semicolon mid rest tt refl m)
+instantiations_again d xs ts mid rest w h m =
+    listed_again IsInstantiation Anything instantiation_depth d (instantiation d) (instantiation_again d) instantiation_shrinks (λ us vs v. tt) xs ts mid w h (ends_by Anything symbol.Semicolon mid rest tt refl m)
 
-pub placements_shrink : (xs : List Placement) → Shrinks (AreListed IsPlacement xs)
-placements_shrink xs ts rest w = listed_shrinks IsPlacement placement_shrinks xs ts rest w
+pub instantiations_shrink : (xs : List Instantiation) → Shrinks (AreListed IsInstantiation xs)
+instantiations_shrink xs ts rest w = listed_shrinks IsInstantiation instantiation_shrinks xs ts rest w
 
 set_again : (d : ℕ) (x : Association) (ts rest : List Terminal) → AreSet x ts rest → association_depth x ≤ d → overrides d ts ≡ Some (x, rest)
 unfolding overrides overrides_of

@@ -6,14 +6,14 @@ use Rattle.rtl_tree.specs.declared.tree.item.EventEdge.{EventEdge}
 use Rattle.rtl_tree.specs.declared.tree.item.EventEdge.TheVariants as edge
 use Rattle.rtl_tree.specs.Symbols.{Terminal}
 use Rattle.rtl_tree.specs.TreeExpr.{Identifier, Formula}
-use Rattle.rtl_tree.specs.TreeItem.{Happening, Edge, Change, ChangeBit, ChangePart, Sensitivity, Star, StarInParens, Listed, Positional, Associated, Association, ByPosition, ByName, Placement}
-use Rattle.rtl_tree.specs.Depth.{greatest, if_any, formula_depth, happening_depth, sensitivity_depth, positional_depth, associated_depth, association_depth, placement_depth}
+use Rattle.rtl_tree.specs.TreeItem.{Happening, Edge, Change, ChangeBit, ChangePart, Sensitivity, Star, StarInParens, Listed, Positional, Associated, Association, ByPosition, ByName, Instantiation}
+use Rattle.rtl_tree.specs.Depth.{greatest, if_any, formula_depth, happening_depth, sensitivity_depth, positional_depth, associated_depth, association_depth, instantiation_depth}
 use Rattle.rtl_tree.specs.Grammar.{Spelling, ◌⨾◌, IsA, IsAt, IsName, IsOptional, AreMore, AreListed}
 use Rattle.rtl_tree.specs.GrammarExpr.{IsFormula, IsExpression}
-use Rattle.rtl_tree.specs.GrammarItem.{edge_symbol, IsHappening, IsBetweenEvents, AreMoreEvents, AreEvents, IsSensitivity, Begins, IsPositional, IsAssociated, IsMoreThanEmpty, AreArguments, AreConnections, IsPlacement, AreSet, AreOverrides}
+use Rattle.rtl_tree.specs.GrammarItem.{edge_symbol, IsHappening, IsBetweenEvents, AreMoreEvents, AreEvents, IsSensitivity, Begins, IsPositional, IsAssociated, IsMoreThanEmpty, AreArguments, AreConnections, IsInstantiation, AreSet, AreOverrides}
 use Rattle.text_build.specs.Reading.{Parser, and_then, ◌>>=◌, ◌>>◌, pure, same_symbol, symbol_at, starts, after, place, name, advance, mark, either, add, links, listed}
 use Rattle.text_build.specs.ReadingExpr.{climb, Reference, whole, bit, part, reference}
-use Rattle.text_build.specs.ReadingItem.{any_expression, edge_of, change_of, change, event_by, event, joins_events, after_joint, events, star, star_in_parens, listed_events, in_parens, sensitivity, ends_argument, argument_value, positional, associated, by_position, by_name, arguments, connections, placement, overrides_of, overrides}
+use Rattle.text_build.specs.ReadingItem.{any_expression, edge_of, change_of, change, event_by, event, joins_events, after_joint, events, star, star_in_parens, listed_events, in_parens, sensitivity, ends_argument, argument_value, positional, associated, by_position, by_name, arguments, connections, instantiation, overrides_of, overrides}
 use Rattle.text_build.proofs.Laws.Tokens.{at_is, name_is, mark_at, mark_then, advance_at, advance_then, place_again, symbol_is, starts_is, starts_not, after_is, after_not, name_again, bind, either_first, either_second}
 use Rattle.text_build.proofs.Laws.Repeats.{Again, Shrinks, Separates, Furthers, Ends, CommaEnds, lists_again, listed_again}
 use Rattle.text_build.proofs.Laws.Follows.{Stops, is_start, is_stop, stop_stops, Opens, opens_by, opens_not, formula_opens, formula_shorter}

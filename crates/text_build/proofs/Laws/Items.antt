@@ -9,16 +9,16 @@ use Rattle.rtl_tree.specs.declared.tree.item.ParameterKind.TheVariants as parame
 use Rattle.rtl_tree.specs.Symbols.{Terminal}
 use Rattle.rtl_tree.specs.TreeExpr.{Identifier, Formula, Bounds}
 use Rattle.rtl_tree.specs.TreeStmt.{Pause, Action}
-use Rattle.rtl_tree.specs.TreeItem.{Head, Net, Variable, Valuation, Drive, Sensitivity, Association, ByPosition, ByName, Placement, ModuleItem, Ports, Nets, Variables, Integers, Parameters, Drives, Always, Instances}
+use Rattle.rtl_tree.specs.TreeItem.{Head, Net, Variable, Valuation, Drive, Sensitivity, Association, ByPosition, ByName, Instantiation, ModuleItem, Ports, Nets, Variables, Integers, Parameters, Drives, Always, Instances}
 use Rattle.rtl_tree.specs.Depth.{greatest, if_any, bounds_depth, item_depth}
 use Rattle.rtl_tree.specs.Grammar.{Spelling, ◌⨾◌, IsA, IsAt, IsName, IsOptional, IsFlag, AreMore, AreListed}
 use Rattle.rtl_tree.specs.GrammarExpr.{IsBounds}
 use Rattle.rtl_tree.specs.GrammarStmt.{Marked, AreAttributes, IsPause, IsTarget}
-use Rattle.rtl_tree.specs.GrammarItem.{direction_symbol, IsKind, IsHead, IsNet, IsVariable, parameter_symbol, IsValuation, IsDrive, IsSensitivity, IsPlacement, AreOverrides, AreSet, IsItem, IsMarkedItem}
+use Rattle.rtl_tree.specs.GrammarItem.{direction_symbol, IsKind, IsHead, IsNet, IsVariable, parameter_symbol, IsValuation, IsDrive, IsSensitivity, IsInstantiation, AreOverrides, AreSet, IsItem, IsMarkedItem}
 use Rattle.text_build.specs.Reading.{Parser, and_then, ◌>>=◌, ◌>>◌, pure, same_symbol, symbol_at, starts, name, advance, mark, optional, listed}
 use Rattle.text_build.specs.ReadingExpr.{climb}
 use Rattle.text_build.specs.ReadingStmt.{attributes, pause, statement}
-use Rattle.text_build.specs.ReadingItem.{any_expression, range, flag, port_head, ports, net, nets, variable, variables, integers, valuation, parameters, drive, drives, sensitivity, always, placement, overrides, instances, item_by, item_after}
+use Rattle.text_build.specs.ReadingItem.{any_expression, range, flag, port_head, ports, net, nets, variable, variables, integers, valuation, parameters, drive, drives, sensitivity, always, instantiation, overrides, instances, item_by, item_after}
 use Rattle.text_build.specs.ReadingModule.{item}
 use Rattle.text_build.proofs.Laws.Tokens.{at_is, name_is, mark_then, advance_at, starts_is, starts_not, symbol_is, name_again, bind}
 use Rattle.text_build.proofs.Laws.Repeats.{Again, Shrinks, Consumes, Begins}
@@ -32,7 +32,7 @@ use Rattle.text_build.proofs.Laws.Blocks.{statement_again}
 use Rattle.text_build.proofs.Laws.Heads.{is_name, is_range_or_name, is_direction, wider, name_opens, range_opens, sign_opens, range_again, flag_again, head_again, head_opens}
 use Rattle.text_build.proofs.Laws.Lists.{names_again, nets_again, nets_shrink, variables_again, variables_shrink, valuations_again, valuations_shrink, drives_again, drives_shrink, listed_shrinks, optional_shrinks, flag_shrinks, name_shrinks, bounds_shrinks}
 use Rattle.text_build.proofs.Laws.Events.{sensitivity_again, sensitivity_shrinks}
-use Rattle.text_build.proofs.Laws.Arguments.{placements_again, placements_shrink, overrides_again, overrides_shrink}
+use Rattle.text_build.proofs.Laws.Arguments.{instantiations_again, instantiations_shrink, overrides_again, overrides_shrink}
 
 -- how the first of a list begins
 pub first_opens : {A : Type 0} (Is : A → Spelling) (test : Symbol → Bool) → ((x : A) (ts rest : List Terminal) → Is x ts rest → Opens test ts) → (xs : List A) (ts rest : List Terminal) → AreListed Is xs ts rest → Opens test ts
@@ -51,8 +51,8 @@ variables_open xs ts rest w = first_opens IsVariable is_name (λ x us vs m. name
 valuations_open : (xs : List Valuation) (ts rest : List Terminal) → AreListed IsValuation xs ts rest → Opens is_name ts
 valuations_open xs ts rest w = first_opens IsValuation is_name (λ x us vs m. name_opens x.name us m.0 m.1) xs ts rest w
 
-placements_open : (xs : List Placement) (ts rest : List Terminal) → AreListed IsPlacement xs ts rest → Opens is_name ts
-placements_open xs ts rest w = first_opens IsPlacement is_name (λ x us vs m. name_opens x.name us m.0 m.1) xs ts rest w
+instantiations_open : (xs : List Instantiation) (ts rest : List Terminal) → AreListed IsInstantiation xs ts rest → Opens is_name ts
+instantiations_open xs ts rest w = first_opens IsInstantiation is_name (λ x us vs m. name_opens x.name us m.0 m.1) xs ts rest w
 
 drives_open : (xs : List Drive) (ts rest : List Terminal) → AreListed IsDrive xs ts rest → Opens is_target ts
 drives_open xs ts rest w = first_opens IsDrive is_target (λ x us vs m. target_opens x.target us m.0 m.1) xs ts rest w
@@ -136,16 +136,16 @@ always_item d at s body ts rest w k o =
     ∙ ap (λ q. and_then q (λ w. statement d >>= (λ body. pure (Always at w body)))) (mark_then symbol.At (sensitivity d) w.0 a.0 a.1 ∙ sensitivity_again d s a.0 c.0 c.1 (omega (arith, k)))
     ∙ bind (statement d c.0) (λ body. pure (Always at s body)) body rest (statement_again d body c.0 rest c.2 (omega (arith, k)) (closed body rest o))
 
-instances_item : (d : ℕ) (n : Identifier) (ps : Association) (xs : List Placement) (ts rest : List Terminal) → IsItem (Instances n ps xs) ts rest → item_depth (Instances n ps xs) ≤ d
+instances_item : (d : ℕ) (n : Identifier) (ps : Association) (xs : List Instantiation) (ts rest : List Terminal) → IsItem (Instances n ps xs) ts rest → item_depth (Instances n ps xs) ≤ d
     → instances d ts ≡ Some (Instances n ps xs, rest)
 unfolding instances
 instances_item d n ps xs ts rest w k =
     let a = w.2 in
     let c = a.2 in
-    bind (name ts) (λ child. overrides d >>= (λ ps. listed (placement d) >>= (λ all. mark symbol.Semicolon >> pure (Instances child ps all)))) n w.0 (name_again n ts w.0 w.1)
-    ∙ bind (overrides d w.0) (λ ps. listed (placement d) >>= (λ all. mark symbol.Semicolon >> pure (Instances n ps all))) ps a.0
-    (overrides_again d ps w.0 a.0 a.1 (omega (arith, k)) (opens_not is_name symbol.Hash a.0 refl (placements_open xs a.0 c.0 c.1)))
-    ∙ bind (listed (placement d) a.0) (λ all. mark symbol.Semicolon >> pure (Instances n ps all)) xs c.0 (placements_again d xs a.0 c.0 rest c.1 (omega (arith, k)) c.2)
+    bind (name ts) (λ child. overrides d >>= (λ ps. listed (instantiation d) >>= (λ all. mark symbol.Semicolon >> pure (Instances child ps all)))) n w.0 (name_again n ts w.0 w.1)
+    ∙ bind (overrides d w.0) (λ ps. listed (instantiation d) >>= (λ all. mark symbol.Semicolon >> pure (Instances n ps all))) ps a.0
+    (overrides_again d ps w.0 a.0 a.1 (omega (arith, k)) (opens_not is_name symbol.Hash a.0 refl (instantiations_open xs a.0 c.0 c.1)))
+    ∙ bind (listed (instantiation d) a.0) (λ all. mark symbol.Semicolon >> pure (Instances n ps all)) xs c.0 (instantiations_again d xs a.0 c.0 rest c.1 (omega (arith, k)) c.2)
     ∙ mark_then symbol.Semicolon (pure (Instances n ps xs)) c.0 rest c.2
 
 -- ---- any item
@@ -244,7 +244,7 @@ item_shorter (Drives at p xs) ts rest w =
 item_shorter (Always at s body) ts rest w =
     let a = w.2 in let c = a.2 in omega (arith, ap length w.1.1, ap length a.1.1, sensitivity_shrinks s a.0 c.0 c.1, statement_shorter body c.0 rest c.2)
 item_shorter (Instances n ps xs) ts rest w =
-    let a = w.2 in let c = a.2 in omega (arith, ap length w.1.1, overrides_shrink ps w.0 a.0 a.1, placements_shrink xs a.0 c.0 c.1, ap length c.2.1)
+    let a = w.2 in let c = a.2 in omega (arith, ap length w.1.1, overrides_shrink ps w.0 a.0 a.1, instantiations_shrink xs a.0 c.0 c.1, ap length c.2.1)
 
 pub item_begins : Begins IsMarkedItem symbol.Endmodule NoElse
 item_begins =

@@ -8,10 +8,10 @@ use Rattle.rtl_tree.specs.declared.tree.item.EventEdge.{EventEdge}
 use Rattle.rtl_tree.specs.declared.tree.item.EventEdge.TheVariants as edge
 use Rattle.rtl_tree.specs.Symbols.{Terminal}
 use Rattle.rtl_tree.specs.TreeExpr.{Formula, Identifier, Bounds}
-use Rattle.rtl_tree.specs.TreeItem.{Net, Variable, Valuation, Drive, Happening, Edge, Change, ChangeBit, ChangePart, Sensitivity, Star, StarInParens, Listed, Positional, Associated, Association, ByPosition, ByName, Placement}
+use Rattle.rtl_tree.specs.TreeItem.{Net, Variable, Valuation, Drive, Happening, Edge, Change, ChangeBit, ChangePart, Sensitivity, Star, StarInParens, Listed, Positional, Associated, Association, ByPosition, ByName, Instantiation}
 use Rattle.rtl_tree.specs.Grammar.{◌⨾◌, IsA, IsName, IsOptional, IsFlag, AreMore, AreListed}
 use Rattle.rtl_tree.specs.GrammarExpr.{IsExpression, IsBounds}
-use Rattle.rtl_tree.specs.GrammarItem.{kind_symbol, IsKind, IsValue, IsNet, IsInitial, IsVariable, IsValuation, IsDrive, edge_symbol, IsHappening, AreMoreEvents, IsSensitivity, IsPositional, IsAssociated, IsMoreThanEmpty, AreArguments, AreConnections, IsPlacement, AreOverrides}
+use Rattle.rtl_tree.specs.GrammarItem.{kind_symbol, IsKind, IsValue, IsNet, IsInitial, IsVariable, IsValuation, IsDrive, edge_symbol, IsHappening, AreMoreEvents, IsSensitivity, IsPositional, IsAssociated, IsMoreThanEmpty, AreArguments, AreConnections, IsInstantiation, AreOverrides}
 use Rattle.text_survey.specs.declared.task.Task.{Task}
 use Rattle.text_survey.specs.declared.task.Task.TheVariants as task
 use Rattle.text_survey.specs.declared.task.Taking.TheVariants as taking
@@ -309,9 +309,9 @@ connections_run (ByPosition []) ts mid rest w c =
 connections_run (ByPosition (x ∷ xs)) ts mid rest w c = connected (ByPosition (x ∷ xs)) ts mid rest w c
 connections_run (ByName xs) ts mid rest w c = connected (ByName xs) ts mid rest w c
 
-pub placement_each : Each IsPlacement task.Instance placed
+pub instantiation_each : Each IsInstantiation task.Instance placed
 unfolding same_symbol
-placement_each p ts rest w c =
+instantiation_each p ts rest w c =
     let v = w.2 in
     let u = v.2 in
     token symbol.Name refl (w.1.0, w.1.1, w.1.2.0) (

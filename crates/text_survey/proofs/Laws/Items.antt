@@ -10,11 +10,11 @@ use Rattle.rtl_tree.specs.declared.tree.item.ParameterKind.TheVariants as parame
 use Rattle.rtl_tree.specs.Symbols.{Terminal}
 use Rattle.rtl_tree.specs.TreeExpr.{Formula, Identifier}
 use Rattle.rtl_tree.specs.TreeStmt.{Target, Whole, Bit, Part, Joined, Pause}
-use Rattle.rtl_tree.specs.TreeItem.{Head, Drive, ModuleItem, Ports, Nets, Variables, Integers, Parameters, Drives, Always, Instances, Placement}
+use Rattle.rtl_tree.specs.TreeItem.{Head, Drive, ModuleItem, Ports, Nets, Variables, Integers, Parameters, Drives, Always, Instances, Instantiation}
 use Rattle.rtl_tree.specs.TreeModule.{Heading, HeaderParameter, HeaderPort, Header, Absent, Empty, Declared, Named, Circuit}
 use Rattle.rtl_tree.specs.Grammar.{Spelling, ◌⨾◌, IsA, IsName, IsOptional, AreAll, AreMore, AreListed}
 use Rattle.rtl_tree.specs.GrammarStmt.{AreAttributes, IsTarget}
-use Rattle.rtl_tree.specs.GrammarItem.{direction_symbol, IsHead, IsNet, IsVariable, IsValuation, IsDrive, IsValue, IsPlacement, parameter_symbol, IsItem, IsMarkedItem}
+use Rattle.rtl_tree.specs.GrammarItem.{direction_symbol, IsHead, IsNet, IsVariable, IsValuation, IsDrive, IsValue, IsInstantiation, parameter_symbol, IsItem, IsMarkedItem}
 use Rattle.rtl_tree.specs.GrammarModule.{IsThere, IsHeading, IsParameter, AreParameters, IsPort, IsHeader, IsCircuit, IsMarkedCircuit, AreCircuits}
 use Rattle.text_survey.specs.declared.task.Task.{Task}
 use Rattle.text_survey.specs.declared.task.Task.TheVariants as task
@@ -29,7 +29,7 @@ use Rattle.text_survey.proofs.Laws.Expressions.{head, expect, Not, apart, left_o
 use Rattle.text_survey.proofs.Laws.Starts.{Closes, closes_by}
 use Rattle.text_survey.proofs.Laws.Lists.{Each, Many, listed_run, more_run, marked_run, delay_run}
 use Rattle.text_survey.proofs.Laws.Statements.{statement_runs}
-use Rattle.text_survey.proofs.Laws.Declarations.{name_each, name_run, declares, range_run, range_begins, sign_run, sign_begins, kind_run, net_each, variable_each, setting_run, setting_each, drive_each, sensitivity_run, placement_each, overrides_run}
+use Rattle.text_survey.proofs.Laws.Declarations.{name_each, name_run, declares, range_run, range_begins, sign_run, sign_begins, kind_run, net_each, variable_each, setting_run, setting_each, drive_each, sensitivity_run, instantiation_each, overrides_run}
 
 -- ---- lists that end with a mark
 
@@ -131,12 +131,12 @@ item_run (Always at sensitivity body) ts rest w e =
     let w3 = w2.2 in
     token symbol.Always refl (w.1.0, w.1.1, w.1.2.0) (
     expect symbol.At w.0 w2.0 w2.1 ▸ sensitivity_run sensitivity w2.0 w3.0 w3.1 ▸ statement_runs body w3.0 rest w3.2 e ▸ nothing rest)
-item_run (Instances child parameters placements) ts rest w e =
+item_run (Instances child parameters instantiations) ts rest w e =
     let w2 = w.2 in
     let v = w2.2 in
-    let n = first_name IsPlacement placements w2.0 v.0 (λ x ts' rest' y. (y.0, (y.1.0, y.1.1, y.1.2.0))) v.1 in
+    let n = first_name IsInstantiation instantiations w2.0 v.0 (λ x ts' rest' y. (y.0, (y.1.0, y.1.1, y.1.2.0))) v.1 in
     token symbol.Name refl (w.1.0, w.1.1, w.1.2.0) (
-    overrides_run parameters w.0 w2.0 n.0 w2.1 n.1 ▸ ended IsPlacement task.Instance task.Instances placed ((λ o. refl), (λ d. refl)) placement_each placements w2.0 rest w2.2)
+    overrides_run parameters w.0 w2.0 n.0 w2.1 n.1 ▸ ended IsInstantiation task.Instance task.Instances placed ((λ o. refl), (λ d. refl)) instantiation_each instantiations w2.0 rest w2.2)
 
 -- an item begins here
 abbrev items_begin : Option Symbol → Bool
@@ -186,7 +186,7 @@ item_begins (Integers at names) ts rest w = begins_by symbol.Integer ts w.0 refl
 item_begins (Parameters at k bounds values) ts rest w = begins_by (parameter_symbol k) ts w.0 (begin_parameter k) (w.1.0, w.1.1, w.1.2.0)
 item_begins (Drives at pause drives) ts rest w = begins_by symbol.Assign ts w.0 refl (w.1.0, w.1.1, w.1.2.0)
 item_begins (Always at sensitivity body) ts rest w = begins_by symbol.Always ts w.0 refl (w.1.0, w.1.1, w.1.2.0)
-item_begins (Instances child parameters placements) ts rest w = begins_by symbol.Name ts w.0 refl (w.1.0, w.1.1, w.1.2.0)
+item_begins (Instances child parameters instantiations) ts rest w = begins_by symbol.Name ts w.0 refl (w.1.0, w.1.1, w.1.2.0)
 
 marks_begin : (marks : List (List Identifier)) (ts mid : List Terminal) → AreAttributes marks ts mid → items_begin (symbol_at mid) ≡ true → items_begin (symbol_at ts) ≡ true
 marks_begin [] ts mid w b = ap (λ x. items_begin (symbol_at x)) w ∙ b

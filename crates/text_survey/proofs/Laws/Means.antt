@@ -12,12 +12,12 @@ use Rattle.rtl_tree.specs.declared.tree.item.PortKind.{PortKind}
 use Rattle.rtl_tree.specs.Symbols.{Terminal}
 use Rattle.rtl_tree.specs.TreeExpr.{Formula, Formulas, Identifier, Bounds}
 use Rattle.rtl_tree.specs.TreeStmt.{Target, Targets, Span, Pause, Action, Actions, Branches}
-use Rattle.rtl_tree.specs.TreeItem.{Net, Variable, Valuation, Drive, Happening, Sensitivity, Positional, Associated, Association, Placement, ModuleItem}
+use Rattle.rtl_tree.specs.TreeItem.{Net, Variable, Valuation, Drive, Happening, Sensitivity, Positional, Associated, Association, Instantiation, ModuleItem}
 use Rattle.rtl_tree.specs.TreeModule.{HeaderParameter, HeaderPort, Header, Circuit}
 use Rattle.rtl_tree.specs.Grammar.{Spelling, ◌⨾◌, Nothing, IsA, IsName, IsOptional, IsFlag, AreAll, AreMore}
 use Rattle.rtl_tree.specs.GrammarExpr.{IsFormula, IsExpression, AreFormulas, AreMoreFormulas, IsBounds}
 use Rattle.rtl_tree.specs.GrammarStmt.{IsAttributeValue, IsAttribute, IsTarget, AreMoreTargets, IsSpan, IsPause, assignment_symbol, ends_open, defaults, IsLabel, IsDefaultEnd, IsStatement, AreStatements, AreBranches, AreMoreBranches}
-use Rattle.rtl_tree.specs.GrammarItem.{IsKind, IsValue, IsNet, IsInitial, IsVariable, IsValuation, IsDrive, IsHappening, AreMoreEvents, AreEvents, IsSensitivity, Begins, IsPositional, IsAssociated, AreArguments, AreConnections, IsPlacement, AreOverrides, IsMarkedItem}
+use Rattle.rtl_tree.specs.GrammarItem.{IsKind, IsValue, IsNet, IsInitial, IsVariable, IsValuation, IsDrive, IsHappening, AreMoreEvents, AreEvents, IsSensitivity, Begins, IsPositional, IsAssociated, AreArguments, AreConnections, IsInstantiation, AreOverrides, IsMarkedItem}
 use Rattle.rtl_tree.specs.GrammarModule.{IsThere, IsParameter, AreParameters, IsPort, IsHeader, IsMarkedCircuit, AreCircuits}
 use Rattle.text_survey.specs.declared.task.Task.{Task}
 use Rattle.text_survey.specs.declared.task.Task.TheVariants as task
@@ -95,8 +95,8 @@ Means task.EventList = (IsA symbol.Star ⨾ IsA symbol.CloseParen) ⊎⊎ Any (�
 Means task.Event = Any IsHappening
 Means task.Events = Any AreMoreEvents
 Means task.Overrides = Any AreOverrides
-Means task.Instance = Any IsPlacement
-Means task.Instances = Any (AreMore IsPlacement)
+Means task.Instance = Any IsInstantiation
+Means task.Instances = Any (AreMore IsInstantiation)
 Means task.Connections = Any AreConnections
 Means task.Arguments = Any AreArguments
 Means task.Argument = Any IsPositional

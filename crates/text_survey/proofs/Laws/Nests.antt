@@ -2,7 +2,7 @@
 use Rattle.std.proofs.Common.{ℕ, List, [], ◌∷◌, Option, Some, None}
 use Rattle.rtl_tree.specs.TreeExpr.{Formula, Number, Read, ReadBit, ReadPart, Parens, Convert, Concat, Repeat, Unary, Binary, Choose, Formulas, no_formulas, more_formulas, Bounds}
 use Rattle.rtl_tree.specs.TreeStmt.{Target, Whole, Bit, Part, Joined, Targets, no_targets, more_targets, Span, Fixed, Named, Valued, Pause, Action, Null, Delayed, Assign, If, IfElse, Case, For, Block, Actions, no_actions, more_actions, Branch, Labelled, Default, Branches, no_branches, more_branches, target_place}
-use Rattle.rtl_tree.specs.TreeItem.{Head, Net, Valuation, Drive, Happening, Edge, Change, ChangeBit, ChangePart, Sensitivity, Star, StarInParens, Listed, Positional, Associated, Association, ByPosition, ByName, Placement, ModuleItem, Ports, Nets, Variables, Integers, Parameters, Drives, Always, Instances}
+use Rattle.rtl_tree.specs.TreeItem.{Head, Net, Valuation, Drive, Happening, Edge, Change, ChangeBit, ChangePart, Sensitivity, Star, StarInParens, Listed, Positional, Associated, Association, ByPosition, ByName, Instantiation, ModuleItem, Ports, Nets, Variables, Integers, Parameters, Drives, Always, Instances}
 use Rattle.rtl_tree.specs.TreeModule.{Circuit, Heading, HeaderParameter, HeaderPort, Header, Absent, Empty, Declared}
 use Rattle.rtl_tree.specs.TreeModule as modules
 use Rattle.text_survey.specs.Depths.{Nest, Nothing, Both, Within}
@@ -134,7 +134,7 @@ abbrev pub arguments : Association → Nest → Nest
 arguments (ByPosition xs) before = all_beside positional xs before
 arguments (ByName xs) before = all_beside associated xs before
 
-abbrev pub placed : Placement → Nest → Nest
+abbrev pub placed : Instantiation → Nest → Nest
 placed p before = arguments p.connections before
 
 abbrev pub in_item : ModuleItem → Nest → Nest
@@ -145,7 +145,7 @@ in_item (Integers at names) before = all_beside skip names before
 in_item (Parameters at k bounds values) before = all_beside valuation values (bounded bounds before)
 in_item (Drives at pause drives) before = all_beside drive drives (paused pause before)
 in_item (Always at s body) before = beside_action body (awaited s before)
-in_item (Instances child parameters placements) before = all_beside placed placements (arguments parameters before)
+in_item (Instances child parameters instantiations) before = all_beside placed instantiations (arguments parameters before)
 
 -- ---- modules
 

@@ -3,10 +3,10 @@ use Rattle.std.proofs.Common.{◌≡◌, ℕ, zero, suc, ◌-◌, List, [], ◌�
 use Rattle.std.specs.List.{flat_map}
 use Rattle.rtl_tree.specs.TreeExpr.{Formula, Number, Read, ReadBit, ReadPart, Parens, Convert, Concat, Repeat, Unary, Binary, Choose, Formulas, no_formulas, more_formulas, Bounds}
 use Rattle.rtl_tree.specs.TreeStmt.{Target, Whole, Bit, Part, Joined, Targets, no_targets, more_targets, Span, Fixed, Named, Valued, Pause, Action, Null, Delayed, Assign, If, IfElse, Case, For, Block, Actions, no_actions, more_actions, Branch, Labelled, Default, Branches, no_branches, more_branches, target_place}
-use Rattle.rtl_tree.specs.TreeItem.{Head, Net, Valuation, Drive, Happening, Edge, Change, ChangeBit, ChangePart, Sensitivity, Star, StarInParens, Listed, Positional, Associated, Association, ByPosition, ByName, Placement, ModuleItem, Ports, Nets, Variables, Integers, Parameters, Drives, Always, Instances}
+use Rattle.rtl_tree.specs.TreeItem.{Head, Net, Valuation, Drive, Happening, Edge, Change, ChangeBit, ChangePart, Sensitivity, Star, StarInParens, Listed, Positional, Associated, Association, ByPosition, ByName, Instantiation, ModuleItem, Ports, Nets, Variables, Integers, Parameters, Drives, Always, Instances}
 use Rattle.rtl_tree.specs.TreeModule.{Circuit, Heading, HeaderParameter, HeaderPort, Header, Absent, Empty, Declared}
 use Rattle.rtl_tree.specs.TreeModule as modules
-use Rattle.rtl_tree.specs.Deeper.{of_any, here, formula_deeper, formulas_deeper, bounds_deeper, target_deeper, targets_deeper, span_deeper, pause_deeper, action_deeper, actions_deeper, branch_deeper, branches_deeper, head_deeper, net_deeper, valuation_deeper, drive_deeper, happening_deeper, sensitivity_deeper, positional_deeper, associated_deeper, association_deeper, placement_deeper, item_deeper, header_parameter_deeper, header_port_deeper, header_deeper, deeper, limit, too_deep}
+use Rattle.rtl_tree.specs.Deeper.{of_any, here, formula_deeper, formulas_deeper, bounds_deeper, target_deeper, targets_deeper, span_deeper, pause_deeper, action_deeper, actions_deeper, branch_deeper, branches_deeper, head_deeper, net_deeper, valuation_deeper, drive_deeper, happening_deeper, sensitivity_deeper, positional_deeper, associated_deeper, association_deeper, instantiation_deeper, item_deeper, header_parameter_deeper, header_port_deeper, header_deeper, deeper, limit, too_deep}
 use Rattle.text_survey.specs.Depths.{Nest, Nothing, Both, Within, nest_deeper}
 use Rattle.text_survey.proofs.Laws.Nests.{nest, nest_row, beside, skip, all_beside, valued, bounded, spanned, paused, nest_target, nest_targets, nest_action, nest_actions, nest_branch, nest_branches, net, valuation, drive, happening, awaited, positional, associated, arguments, placed, in_item, headed, heading, head_parameter, head_port, in_header, in_circuit}
 
@@ -237,9 +237,9 @@ puts_item (Drives at pause drives) k =
     puts_then (paused pause) (all_beside drive drives) k (of_any (pause_deeper k) pause) (flat_map (drive_deeper k) drives) (puts_pause pause k) (puts_all drive k (drive_deeper k) (λ d. puts_drive d k) drives)
 puts_item (Always at s body) k =
     puts_then (awaited s) (λ m. Both m (nest_action body)) k (sensitivity_deeper k s) (action_deeper k body) (puts_sensitivity s k) (puts_node (nest_action body) k (action_deeper k body) (action_places body k))
-puts_item (Instances child parameters placements) k =
-    puts_then (arguments parameters) (all_beside placed placements) k (association_deeper k parameters) (flat_map (placement_deeper k) placements) (puts_arguments parameters k)
-    (puts_all placed k (placement_deeper k) (λ p. puts_arguments p.connections k) placements)
+puts_item (Instances child parameters instantiations) k =
+    puts_then (arguments parameters) (all_beside placed instantiations) k (association_deeper k parameters) (flat_map (instantiation_deeper k) instantiations) (puts_arguments parameters k)
+    (puts_all placed k (instantiation_deeper k) (λ p. puts_arguments p.connections k) instantiations)
 
 puts_heading : (h : Option Heading) (k : ℕ) → Puts (heading h) k (of_any (λ x. of_any (bounds_deeper k) x.bounds) h)
 puts_heading None k = puts_nothing (heading None) k (λ m. refl)

@@ -11,11 +11,11 @@ use Rattle.rtl_tree.specs.declared.tree.item.EventEdge.{EventEdge}
 use Rattle.rtl_tree.specs.declared.tree.item.EventEdge.TheVariants as edge
 use Rattle.rtl_tree.specs.Symbols.{Terminal}
 use Rattle.rtl_tree.specs.TreeExpr.{Formula, Identifier}
-use Rattle.rtl_tree.specs.TreeItem.{Happening, Edge, Change, ChangeBit, ChangePart, Star, StarInParens, Listed, Positional, Associated, Association, ByPosition, ByName, Placement, ModuleItem, Ports, Nets, Variables, Integers, Parameters, Drives, Always, Instances}
+use Rattle.rtl_tree.specs.TreeItem.{Happening, Edge, Change, ChangeBit, ChangePart, Star, StarInParens, Listed, Positional, Associated, Association, ByPosition, ByName, Instantiation, ModuleItem, Ports, Nets, Variables, Integers, Parameters, Drives, Always, Instances}
 use Rattle.rtl_tree.specs.Grammar.{Spelling, ◌⨾◌, IsA, IsName, IsOptional, AreAll, AreMore, AreListed, identifier_of}
 use Rattle.rtl_tree.specs.GrammarExpr.{IsExpression, IsBounds}
 use Rattle.rtl_tree.specs.GrammarStmt.{IsAttribute}
-use Rattle.rtl_tree.specs.GrammarItem.{direction_symbol, IsHead, IsKind, IsValue, IsNet, IsInitial, IsVariable, IsValuation, IsDrive, parameter_symbol, edge_symbol, IsHappening, AreMoreEvents, AreEvents, Begins, IsPositional, IsAssociated, AreArguments, AreConnections, IsPlacement, AreOverrides, IsItem, IsMarkedItem}
+use Rattle.rtl_tree.specs.GrammarItem.{direction_symbol, IsHead, IsKind, IsValue, IsNet, IsInitial, IsVariable, IsValuation, IsDrive, parameter_symbol, edge_symbol, IsHappening, AreMoreEvents, AreEvents, Begins, IsPositional, IsAssociated, AreArguments, AreConnections, IsInstantiation, AreOverrides, IsItem, IsMarkedItem}
 use Rattle.text_survey.specs.declared.task.Task.{Task}
 use Rattle.text_survey.specs.declared.task.Task.TheVariants as task
 use Rattle.text_survey.specs.Rule.{rule}

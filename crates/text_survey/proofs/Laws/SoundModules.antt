@@ -10,12 +10,12 @@ use Rattle.rtl_tree.specs.declared.tree.item.ParameterKind.{ParameterKind}
 use Rattle.rtl_tree.specs.declared.tree.item.ParameterKind.TheVariants as parameter
 use Rattle.rtl_tree.specs.Symbols.{Terminal}
 use Rattle.rtl_tree.specs.TreeExpr.{Formula, Identifier}
-use Rattle.rtl_tree.specs.TreeItem.{Head, Positional, Associated, Association, ByPosition, ByName, Placement, ModuleItem, Ports, Nets, Variables, Integers, Parameters, Drives, Always, Instances}
+use Rattle.rtl_tree.specs.TreeItem.{Head, Positional, Associated, Association, ByPosition, ByName, Instantiation, ModuleItem, Ports, Nets, Variables, Integers, Parameters, Drives, Always, Instances}
 use Rattle.rtl_tree.specs.TreeModule.{Heading, HeaderParameter, HeaderPort, Header, Absent, Empty, Declared, Named, Circuit}
 use Rattle.rtl_tree.specs.Grammar.{Spelling, ◌⨾◌, IsA, IsName, IsOptional, AreAll, AreMore, AreListed, identifier_of}
 use Rattle.rtl_tree.specs.GrammarExpr.{IsExpression, IsBounds}
 use Rattle.rtl_tree.specs.GrammarStmt.{IsAttribute, AreAttributes}
-use Rattle.rtl_tree.specs.GrammarItem.{direction_symbol, IsHead, IsValue, parameter_symbol, Begins, IsPositional, IsAssociated, IsMoreThanEmpty, AreArguments, AreConnections, IsPlacement, AreOverrides, IsItem, IsMarkedItem}
+use Rattle.rtl_tree.specs.GrammarItem.{direction_symbol, IsHead, IsValue, parameter_symbol, Begins, IsPositional, IsAssociated, IsMoreThanEmpty, AreArguments, AreConnections, IsInstantiation, AreOverrides, IsItem, IsMarkedItem}
 use Rattle.rtl_tree.specs.GrammarModule.{IsThere, IsHeading, IsParameter, AreParameters, IsPort, IsHeader, is_between, IsCircuit, IsMarkedCircuit, AreCircuits}
 use Rattle.text_survey.specs.declared.task.Task.{Task}
 use Rattle.text_survey.specs.declared.task.Task.TheVariants as task
@@ -155,7 +155,7 @@ sound_instance ts rest n w =
     (record { name = i.0; connections = a.0 }, (v.0, i.1, (u.0, u.1, (z.0, a.1, to symbol.CloseParen z.0 y.0 rest y.1 y.2))))
 
 pub sound_instances : Sound task.Instances
-sound_instances ts rest n w = was_more IsPlacement task.Instance task.Instances (λ a b x. x) (λ a b x. x) ts rest w
+sound_instances ts rest n w = was_more IsInstantiation task.Instance task.Instances (λ a b x. x) (λ a b x. x) ts rest w
 
 -- ---- items
 

@@ -1,7 +1,7 @@
 use Rattle.std.proofs.Common.{◌<◌, ◌≡◌, ◌∙◌, List, ap, arith, map, refl, subst, sym}
 use Rattle.rtl_tree.specs.declared.tree.item.Instance.{Instance}
 use Rattle.rtl_tree.specs.declared.tree.item.Item.{Item}
-use Rattle.rtl_tree.specs.TreeItem.{module_item, placement}
+use Rattle.rtl_tree.specs.TreeItem.{module_item, instantiation}
 use Rattle.elab_scope.specs.Faults.{answer}
 use Rattle.elab_links.specs.Groups.{group_of}
 use Rattle.elab_walk.specs.Trails.{Going, Gone, Trail, Went, extended, followed, trail}
@@ -26,21 +26,21 @@ visit_items-returns-in-Err t c =
     let own : Item → List Visit = λ item. item_children all within (module_item item) in
     more_told all c.args.levels row own (λ item items. refl) (answer c.in-Err.error) (Going (trail c.loop-item.so_far)) c.args.items.now c.loop-item.item-index c.item-item.result _ c.loop-item-test.true c.item-item.is c.in-Err.ensures c.loop-item.invariant
 
-pub visit_placements-loop-instance-preserved : goal.visit_placements-loop-instance-preserved
-visit_placements-loop-instance-preserved t c =
+pub visit_instantiations-loop-instance-preserved : goal.visit_instantiations-loop-instance-preserved
+visit_instantiations-loop-instance-preserved t c =
     let all = library c.args.all in
     let within = holder c.args.within.now in
     let made = group_of all.lookups all.files within.scope (module_item c.args.item.now) in
-    let row : List Instance → List Visit = λ instances. placed_children within c.args.at made (map placement instances) in
+    let row : List Instance → List Visit = λ instances. placed_children within c.args.at made (map instantiation instances) in
     let own : Instance → List Visit = λ instance. child_of within c.args.at instance.name.text made in
     more_gone all c.args.levels row own (λ instance instances. refl) (Going (trail c.loop-instance.so_far)) (Going (trail c.in-Ok.made)) c.args.instances.now c.loop-instance.instance-index c.instance-item.result _ c.loop-instance-test.true c.instance-item.is c.in-Ok.ensures c.loop-instance.invariant
 
-pub visit_placements-returns-in-Err : goal.visit_placements-returns-in-Err
-visit_placements-returns-in-Err t c =
+pub visit_instantiations-returns-in-Err : goal.visit_instantiations-returns-in-Err
+visit_instantiations-returns-in-Err t c =
     let all = library c.args.all in
     let within = holder c.args.within.now in
     let made = group_of all.lookups all.files within.scope (module_item c.args.item.now) in
-    let row : List Instance → List Visit = λ instances. placed_children within c.args.at made (map placement instances) in
+    let row : List Instance → List Visit = λ instances. placed_children within c.args.at made (map instantiation instances) in
     let own : Instance → List Visit = λ instance. child_of within c.args.at instance.name.text made in
     more_told all c.args.levels row own (λ instance instances. refl) (answer c.in-Err.error) (Going (trail c.loop-instance.so_far)) c.args.instances.now c.loop-instance.instance-index c.instance-item.result _ c.loop-instance-test.true c.instance-item.is c.in-Err.ensures c.loop-instance.invariant
 

@@ -2,8 +2,8 @@
 
 ghost use Rattle.std.specs.Prelude.{◌≡◌, ◌-◌, ◌^◌, map, max, min};
 ghost use Rattle.std.specs.Option.{option_map};
-ghost use Rattle.rtl_tree.specs.Depth.{associated_depth, association_depth, drive_depth, greatest, happening_depth, head_depth, if_any, item_depth, net_depth, placement_depth, positional_depth, sensitivity_depth, valuation_depth};
-ghost use Rattle.rtl_tree.specs.TreeItem.{associated, association, drive, happening, head, module_item, net, placement, positional, sensitivity, valuation};
+ghost use Rattle.rtl_tree.specs.Depth.{associated_depth, association_depth, drive_depth, greatest, happening_depth, head_depth, if_any, item_depth, net_depth, instantiation_depth, positional_depth, sensitivity_depth, valuation_depth};
+ghost use Rattle.rtl_tree.specs.TreeItem.{associated, association, drive, happening, head, module_item, net, instantiation, positional, sensitivity, valuation};
 
 use crate::tree::item::{
     Arguments, Assignment, Event, EventControl, Instance, Item, NamedArgument, OrderedArgument,
@@ -112,7 +112,7 @@ fn arguments_depth(arguments: &Arguments) -> u32
 }
 
 fn instances_depth(all: &[Instance]) -> u32
-    ensures { result ≡ min (greatest placement_depth (map placement all.now)) (2 ^ 32 - 1) }
+    ensures { result ≡ min (greatest instantiation_depth (map instantiation all.now)) (2 ^ 32 - 1) }
 {
     let mut most = 0;
     for instance in all {

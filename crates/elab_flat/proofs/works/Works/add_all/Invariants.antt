@@ -1,7 +1,7 @@
 use Rattle.std.proofs.Common.{◌≡◌, map, drop}
 use Rattle.rtl_tree.specs.TreeItem.{module_item}
 use Rattle.elab_scope.specs.Names.{meanings}
-use Rattle.elab_walk.specs.Trails.{stop}
+use Rattle.elab_walk.specs.Trails.{placement}
 use Rattle.elab_walk.specs.Visits.{library}
 use Rattle.elab_flat.specs.Views.{works}
 use Rattle.elab_flat.specs.Works.{with_parts}
@@ -9,6 +9,6 @@ use Rattle.elab_flat.proofs.works.Works.add_all.Given as goal
 
 abbrev pub invariant-loop-item : goal.invariant-loop-item
 invariant-loop-item l =
-    (with_parts (library l.all) (stop l.at) l.bases (works l.self) (map module_item (drop l.item-index l.items))
-    ≡ with_parts (library l.all) (stop l.at) l.initial.bases (works l.initial.self) (map module_item l.items))
+    (with_parts (library l.all) (placement l.at) l.bases (works l.self) (map module_item (drop l.item-index l.items))
+    ≡ with_parts (library l.all) (placement l.at) l.initial.bases (works l.initial.self) (map module_item l.items))
     × (meanings l.names ≡ meanings l.initial.names)

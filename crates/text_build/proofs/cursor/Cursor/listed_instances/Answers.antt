@@ -3,29 +3,29 @@ use Rattle.std.proofs.lemmas.List.{map-append, length-map}
 use Rattle.std.proofs.lemmas.Result.{err_from_is_err_and}
 use Rattle.rtl_tree.specs.declared.tree.item.Instance.{Instance}
 use Rattle.rtl_tree.specs.Symbols.{terminal}
-use Rattle.rtl_tree.specs.TreeItem.{placement}
+use Rattle.rtl_tree.specs.TreeItem.{instantiation}
 use Rattle.text_build.proofs.Steps.{reads_err, lists_fail, lists_stop, lists_turn, links_out, listed_start}
 use Rattle.text_build.proofs.cursor.Cursor.listed_instances.Goals as goal
 
 pub loop-turn-init : goal.loop-turn-init
-loop-turn-init c = listed_start _ _ _ _ (omega (arith, length-map c.args.self.now.rest.now terminal)) (ap (λ ts. map placement ts) c.new-all.ensures.items)
+loop-turn-init c = listed_start _ _ _ _ (omega (arith, length-map c.args.self.now.rest.now terminal)) (ap (λ ts. map instantiation ts) c.new-all.ensures.items)
 
 pub returns-in_err-instance : goal.returns-in_err-instance
 returns-in_err-instance c =
     let p = err_from_is_err_and c.from_residual.result c.from_residual.ensures.1 in
     rw (p.1, p.2)
-    (reads_err placement (λ (v : Vec Instance Global). map placement v.items) _ _ c.in_err-instance.field-0.0 _ _
+    (reads_err instantiation (λ (v : Vec Instance Global). map instantiation v.items) _ _ c.in_err-instance.field-0.0 _ _
     (λ none. sym c.loop-turn.invariant ∙ lists_fail _ _ _ _ _ _ (omega arith) none) c.in_err-instance.ensures)
 
 pub returns-then-not-take_if : goal.returns-then-not-take_if
 returns-then-not-take_if c =
     sym c.loop-turn.invariant
-    ∙ lists_stop _ _ _ _ _ _ _ _ _ _ (omega arith) c.in_ok-instance.ensures (ap (λ ts. map placement ts) c.in_ok-push.ensures.items ∙ map-append placement _ _)
+    ∙ lists_stop _ _ _ _ _ _ _ _ _ _ (omega arith) c.in_ok-instance.ensures (ap (λ ts. map instantiation ts) c.in_ok-push.ensures.items ∙ map-append instantiation _ _)
     (sym c.take_if.ensures.answer ∙ c.if-not-take_if.true) c.take_if.ensures.left
 
 pub loop-turn-preserved : goal.loop-turn-preserved
 loop-turn-preserved c =
-    sym (lists_turn _ _ _ _ _ _ _ _ _ _ _ (omega arith) c.in_ok-instance.ensures (ap (λ ts. map placement ts) c.in_ok-push.ensures.items ∙ map-append placement _ _)
+    sym (lists_turn _ _ _ _ _ _ _ _ _ _ _ (omega arith) c.in_ok-instance.ensures (ap (λ ts. map instantiation ts) c.in_ok-push.ensures.items ∙ map-append instantiation _ _)
     (sym c.take_if.ensures.answer ∙ c.if-not-take_if.false) c.take_if.ensures.left)
     ∙ c.loop-turn.invariant
 

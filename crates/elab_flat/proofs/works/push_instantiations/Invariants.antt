@@ -1,0 +1,13 @@
+use Rattle.std.proofs.Common.{◌≡◌, ◌++◌, map, drop}
+use Rattle.rtl_flat.specs.Process.{task}
+use Rattle.rtl_tree.specs.TreeItem.{instantiation}
+use Rattle.elab_scope.specs.Names.{meanings}
+use Rattle.elab_links.specs.Ports.{sockets}
+use Rattle.elab_walk.specs.Trails.{placement}
+use Rattle.elab_flat.specs.Works.{instantiations_tasks}
+use Rattle.elab_flat.proofs.works.push_instantiations.Given as goal
+
+abbrev pub invariant-loop-instance : goal.invariant-loop-instance
+invariant-loop-instance l =
+    map task l.made.items ++ instantiations_tasks (placement l.at) (sockets l.ports) (meanings l.inner) l.bases (map instantiation (drop l.instance-index l.instances))
+    ≡ map task l.initial.made.items ++ instantiations_tasks (placement l.at) (sockets l.ports) (meanings l.inner) l.initial.bases (map instantiation l.instances)

@@ -1,0 +1,50 @@
+-- The instances of a design with their numbers, and their signals.
+use Rattle.std.specs.Prelude.{ℕ, ◌+◌, ◌==◌, List, [], ◌∷◌, length, map}
+use Rattle.rtl_tree.specs.declared.dropped.Dropped.{Dropped}
+use Rattle.rtl_flat.specs.declared.instance.DroppedRegion.{DroppedRegion}
+use Rattle.rtl_flat.specs.declared.instance.Instance.{Instance}
+use Rattle.rtl_flat.specs.declared.signal.Signal.{Signal}
+use Rattle.elab_scope.specs.Trees.{spot_in}
+use Rattle.elab_items.specs.Scopes.{listings_of}
+use Rattle.elab_items.specs.Signals.{Home, signals_in}
+use Rattle.elab_walk.specs.Visits.{Visit}
+
+-- an instance, its number, and how many signals come before its own
+pub record Placement : Type 0 where
+  pub visit : Visit
+  pub number : ℕ
+  pub base : ℕ
+
+-- instances in a row, of which the first has this number and this many signals before its own
+abbrev pub placements : ℕ → ℕ → List Visit → List Placement
+placements number base [] = []
+placements number base (first ∷ others) =
+    record { visit = first; number = number; base = base }
+    ∷ placements (number + 1) (base + length (listings_of first.settings first.circuit)) others
+
+-- ---- what an instance is in the design
+
+abbrev pub instance_of : Placement → Instance
+instance_of placement =
+    record { path = placement.visit.path; depth = length placement.visit.way; spot = placement.visit.spot }
+
+abbrev pub home_of : Placement → Home
+home_of placement =
+    record {
+      path = placement.visit.path;
+      instance = placement.number;
+      file = placement.visit.place.file;
+      is_top = placement.number == 0;
+    }
+
+abbrev pub signals_at : Placement → List Signal
+signals_at placement =
+    signals_in (home_of placement) (listings_of placement.visit.settings placement.visit.circuit)
+
+abbrev pub region : Placement → Dropped → DroppedRegion
+region placement dropped =
+    record { kind = dropped.kind; instance = placement.number; spot = spot_in placement.visit.place.file dropped.at }
+
+-- the regions of its module that have no meaning
+abbrev pub regions_at : Placement → List DroppedRegion
+regions_at placement = map (region placement) placement.visit.circuit.dropped
