@@ -7,7 +7,7 @@ use Rattle.rtl_tree.specs.declared.text.Spot.{Spot}
 use Rattle.elab_flat.specs.Flats.{Flat}
 use Rattle.sign_off.specs.declared.finding.Finding.{Finding}
 use Rattle.sign_off.specs.Built.{not_built}
-use Rattle.sign_off.specs.Flat.{view}
+use Rattle.sign_off.specs.Circuit.{view}
 use Rattle.sign_off.specs.Findings.{findings}
 use Rattle.desk_steps.specs.Names.{Names, ahead, names_from}
 use Rattle.desk_steps.specs.Steps.{Steps, file_of}

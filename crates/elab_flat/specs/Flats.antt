@@ -11,14 +11,14 @@ use Rattle.elab_walk.specs.Visits.{Library}
 use Rattle.elab_flat.specs.Works.{Works, no_works, with_placements}
 
 -- a flat design
-pub record Flat : Type 0 where
+pub record DesignParts : Type 0 where
   pub signals : List Signal
   pub tasks : List Task
   pub instances : List Instance
   pub dropped : List DroppedRegion
   pub delays : List Delay
 
-abbrev pub with_works : List Placement → Works → Flat
+abbrev pub with_works : List Placement → Works → DesignParts
 with_works all works =
     record {
       signals = flat_map signals_at all;
@@ -29,5 +29,5 @@ with_works all works =
     }
 
 -- the design of these instances
-abbrev pub flat_of : Library → List Placement → Flat
+abbrev pub flat_of : Library → List Placement → DesignParts
 flat_of library all = with_works all (with_placements library no_works all)

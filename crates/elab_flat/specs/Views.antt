@@ -1,15 +1,15 @@
 -- What the code makes, as contracts see it.
 use Rattle.std.specs.Prelude.{map}
 use Rattle.rtl_flat.specs.Process.{task}
-use Rattle.elab_flat.specs.declared.flat.Flat.{Flat as Kept}
+use Rattle.elab_flat.specs.declared.flat.DesignParts.{DesignParts as Kept}
 use Rattle.elab_flat.specs.declared.works.Works.{Works as Made}
-use Rattle.elab_flat.specs.Flats.{Flat}
+use Rattle.elab_flat.specs.Flats.{DesignParts}
 use Rattle.elab_flat.specs.Works.{Works}
 
 abbrev pub works : Made → Works
 works made = record { tasks = map task made.processes.items; delays = made.delays.items }
 
-abbrev pub flat : Kept → Flat
+abbrev pub flat : Kept → DesignParts
 flat made =
     record {
       signals = made.signals.items;

@@ -22,7 +22,7 @@ use std::alloc::Global;
 
 /// A flat design.
 #[derive(Drop)]
-pub struct Flat {
+pub struct DesignParts {
     pub signals: Vec<Signal>,
     pub works: Works,
     pub instances: Vec<Instance>,
@@ -105,10 +105,10 @@ fn regions_of(alloc: Global, placements: &[Placement<'_>]) -> Result<Vec<Dropped
 }
 
 /// The design of these instances.
-pub fn flat_of(alloc: Global, all: Library<'_>, placements: &[Placement<'_>]) -> Result<Flat, Memory>
+pub fn flat_of(alloc: Global, all: Library<'_>, placements: &[Placement<'_>]) -> Result<DesignParts, Memory>
     ensures { IfOk result (λ made. flat made ≡ flat_of (library all.entry) (map placement placements.now)) }
 {
-    Ok(Flat {
+    Ok(DesignParts {
         signals: signals_of(alloc, placements)?,
         works: Works::of(alloc, all, placements)?,
         instances: instances_of(alloc, placements)?,

@@ -1,4 +1,4 @@
-use crate::flat::{Flat, flat_of};
+use crate::flat::{DesignParts, flat_of};
 use elab_links::module_set::{ModuleSet, Place};
 use elab_walk::library::Library;
 use elab_walk::top::{all_placements, top_visit};
@@ -156,7 +156,7 @@ fn check(
 }
 
 // What is made of instances.
-fn made_of(alloc: Global, files: &[Vec<Module>], set: &ModuleSet) -> Result<Flat, Fail> {
+fn made_of(alloc: Global, files: &[Vec<Module>], set: &ModuleSet) -> Result<DesignParts, Fail> {
     let all = Library { files, set };
     let met = top_visit(alloc, Place { file: 0, index: 0 }, top(files)?)?;
     let Ok(placements) = all_placements(alloc, all, met) else {

@@ -5,10 +5,10 @@ use Rattle.elab_walk.specs.Refusals.{refusal}
 use Rattle.elab_walk.specs.Rooms.{whole_room}
 use Rattle.elab_walk.specs.Placements.{placements}
 use Rattle.elab_walk.specs.Visits.{Library, Visit, all_visits}
-use Rattle.elab_flat.specs.Flats.{Flat, flat_of}
+use Rattle.elab_flat.specs.Flats.{DesignParts, flat_of}
 
 -- whether a flat design has what holds of every one
-abbrev pub IsLawful : Flat → Type 0
+abbrev pub IsLawful : DesignParts → Type 0
 IsLawful flat = IsDesign flat.signals flat.tasks flat.instances flat.dropped flat.delays
 
 -- the instances of a top make a lawful design where nothing is told of them

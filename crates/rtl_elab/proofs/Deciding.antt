@@ -11,28 +11,28 @@ use Rattle.elab_walk.specs.Refusals.{refusal}
 use Rattle.elab_walk.specs.Rooms.{whole_room}
 use Rattle.elab_walk.specs.Placements.{placements}
 use Rattle.elab_walk.specs.Visits.{Library, Visit, all_visits, top_visit}
-use Rattle.elab_flat.specs.Flats.{Flat, flat_of}
+use Rattle.elab_flat.specs.Flats.{DesignParts, flat_of}
 use Rattle.elab_lawful.specs.Laws.{IsLawful}
 use Rattle.elab_lawful.proofs.Designs.{lawful}
 use Rattle.rtl_elab.specs.Elaborated.{decided, elaborated, elaborated_at, elaborated_found, elaborated_of}
 
-by_told : (told : Option Answer) (made f : Flat) → (told ≡ None → IsLawful made) → decided told made ≡ Ok f → IsLawful f
+by_told : (told : Option Answer) (made f : DesignParts) → (told ≡ None → IsLawful made) → decided told made ≡ Ok f → IsLawful f
 by_told None made f law is =
     let same : made ≡ f = cc in
     subst IsLawful same (law refl)
 by_told (Some answer) made f law is = absurd cc
 
-at_place : (library : Library) (top : List ℕ) (place : Place) (circuit : Option Circuit) (f : Flat) → elaborated_at library top place circuit ≡ Ok f → IsLawful f
+at_place : (library : Library) (top : List ℕ) (place : Place) (circuit : Option Circuit) (f : DesignParts) → elaborated_at library top place circuit ≡ Ok f → IsLawful f
 at_place library top place None f is = absurd cc
 at_place library top place (Some circuit) f is =
     let v = top_visit place circuit in
     by_told (refusal library whole_room (all_visits library v)) (flat_of library (placements 0 0 (all_visits library v))) f (lawful library v refl) is
 
-found_there : (library : Library) (top : List ℕ) (lookup : Lookup) (f : Flat) → elaborated_found library top lookup ≡ Ok f → IsLawful f
+found_there : (library : Library) (top : List ℕ) (lookup : Lookup) (f : DesignParts) → elaborated_found library top lookup ≡ Ok f → IsLawful f
 found_there library top Missing f is = absurd cc
 found_there library top Twice f is = absurd cc
 found_there library top (Found place) f is =
     at_place library top place (circuit_at library.files place) f is
 
-pub elaborated_lawful : (library : Library) (top : List ℕ) (f : Flat) → elaborated library top ≡ Ok f → IsLawful f
+pub elaborated_lawful : (library : Library) (top : List ℕ) (f : DesignParts) → elaborated library top ≡ Ok f → IsLawful f
 elaborated_lawful library top f is = found_there library top (library.lookups top) f is

@@ -10,32 +10,32 @@ use Rattle.elab_walk.specs.Refusals.{refusal}
 use Rattle.elab_walk.specs.Rooms.{whole_room}
 use Rattle.elab_walk.specs.Placements.{placements}
 use Rattle.elab_walk.specs.Visits.{Library, Visit, all_visits, top_visit}
-use Rattle.elab_flat.specs.Flats.{Flat, flat_of}
+use Rattle.elab_flat.specs.Flats.{DesignParts, flat_of}
 
-abbrev pub decided : Option Answer → Flat → Result Flat Answer
+abbrev pub decided : Option Answer → DesignParts → Result DesignParts Answer
 decided None flat = Ok flat
 decided (Some answer) flat = Err answer
 
-abbrev pub elaborated_of : Library → List Visit → Result Flat Answer
+abbrev pub elaborated_of : Library → List Visit → Result DesignParts Answer
 elaborated_of library all =
     decided (refusal library whole_room all) (flat_of library (placements 0 0 all))
 
-abbrev pub elaborated_at : Library → List ℕ → Place → Option Circuit → Result Flat Answer
+abbrev pub elaborated_at : Library → List ℕ → Place → Option Circuit → Result DesignParts Answer
 elaborated_at library top place None = Err (Named (NoSuchModule top))
 elaborated_at library top place (Some circuit) =
     elaborated_of library (all_visits library (top_visit place circuit))
 
-abbrev pub elaborated_found : Library → List ℕ → Lookup → Result Flat Answer
+abbrev pub elaborated_found : Library → List ℕ → Lookup → Result DesignParts Answer
 elaborated_found library top Missing = Err (Named (NoSuchModule top))
 elaborated_found library top Twice = Err (Named (ModuleTwice top))
 elaborated_found library top (Found place) =
     elaborated_at library top place (circuit_at library.files place)
 
 -- what elaboration makes of the module with a name
-abbrev pub elaborated : Library → List ℕ → Result Flat Answer
+abbrev pub elaborated : Library → List ℕ → Result DesignParts Answer
 elaborated library top = elaborated_found library top (library.lookups top)
 
 -- why there is no design
-abbrev pub refused : Result Flat Answer → Option Answer
+abbrev pub refused : Result DesignParts Answer → Option Answer
 refused (Ok flat) = None
 refused (Err answer) = Some answer

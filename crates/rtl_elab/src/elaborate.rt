@@ -12,7 +12,7 @@ ghost use Rattle.elab_walk.specs.Trails.{IsTold};
 ghost use Rattle.elab_walk.specs.Visits.{Visit, all_visits, library, top_visit, visit};
 ghost use Rattle.elab_walk.specs.Refusals.{refusal};
 
-use elab_flat::flat::{Flat, flat_of};
+use elab_flat::flat::{DesignParts, flat_of};
 use elab_links::module_set::{Lookup, module_at};
 use elab_scope::fault::ElabFault;
 use elab_walk::library::Library;
@@ -23,7 +23,7 @@ use rtl_tree::text::Text;
 use std::alloc::Global;
 
 /// The design from its top on.
-fn flat_from<'a>(alloc: Global, all: Library<'a>, met: Visit<'a>) -> Result<Flat, ElabFault>
+fn flat_from<'a>(alloc: Global, all: Library<'a>, met: Visit<'a>) -> Result<DesignParts, ElabFault>
     ensures design { IfOk result (λ made. elaborated_of (library all.entry) (all_visits (library all.entry) (visit met.entry)) ≡ Ok (flat made)) }
     ensures told { IfErr result (λ error. IsTold (answer error) (refused (elaborated_of (library all.entry) (all_visits (library all.entry) (visit met.entry))))) }
 {
@@ -34,7 +34,7 @@ fn flat_from<'a>(alloc: Global, all: Library<'a>, met: Visit<'a>) -> Result<Flat
 }
 
 /// What elaboration makes of the module with a name, but for the proof that it is lawful.
-pub fn flat_design(alloc: Global, all: Library<'_>, top: &Text) -> Result<Flat, ElabFault>
+pub fn flat_design(alloc: Global, all: Library<'_>, top: &Text) -> Result<DesignParts, ElabFault>
     ensures design { IfOk result (λ made. elaborated (library all.entry) top.now ≡ Ok (flat made)) }
     ensures told { IfErr result (λ error. IsTold (answer error) (refused (elaborated (library all.entry) top.now))) }
 {

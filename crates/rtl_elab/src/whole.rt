@@ -9,7 +9,7 @@ ghost use Rattle.rtl_elab.specs.Designs.{flat_in, library_of};
 ghost use Rattle.rtl_elab.specs.Elaborated.{elaborated, refused};
 
 use crate::elaborate::flat_design;
-use elab_flat::flat::Flat;
+use elab_flat::flat::DesignParts;
 use elab_flat::works::Works;
 use elab_links::module_set::ModuleSet;
 use elab_scope::fault::ElabFault;
@@ -22,11 +22,11 @@ use std::sync::ledger::Ledger;
 use steps::Steps;
 
 /// The design that is made of these parts.
-fn design_of(made: Flat) -> Design
+fn design_of(made: DesignParts) -> Design
     requires { IsLawful (flat made) }
     ensures { flat_in result ≡ flat made }
 {
-    let Flat {
+    let DesignParts {
         signals,
         works,
         instances,

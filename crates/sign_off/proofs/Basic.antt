@@ -6,7 +6,7 @@ use Rattle.rtl_bits.specs.declared.Bit.{Bit}
 use Rattle.rtl_bits.specs.Bit.{known_bit, is_one}
 use Rattle.rtl_bits.specs.Bits.{replaced}
 use Rattle.rtl_flat.specs.declared.signal.Signal.{Signal}
-use Rattle.sign_off.specs.Flat.{Tree, Read, Not, Binary, is_input, reads_inputs}
+use Rattle.sign_off.specs.Circuit.{Tree, Read, Not, Binary, is_input, reads_inputs}
 use Rattle.sign_off.specs.Meaning.{Numbers, num_of}
 
 -- the number of an expression depends on the inputs that it reads alone

@@ -6,12 +6,12 @@ use Rattle.std.proofs.lemmas.Bool.{and_parts, and_cases, or_cases, or_left, or_r
 use Rattle.sign_off.specs.declared.finding.Finding.{Finding}
 use Rattle.rtl_flat.specs.declared.signal.Signal.{Signal}
 use Rattle.event_model.specs.Queue.{is_input_kind}
-use Rattle.sign_off.specs.Flat.{Home, Tree, Process, Assign, Flat, is_some_net, is_net, reads_inputs, is_fitting, is_well_formed}
+use Rattle.sign_off.specs.Circuit.{Home, Tree, Process, Assign, Circuit, is_some_net, is_net, reads_inputs, is_fitting, is_well_formed}
 use Rattle.sign_off.specs.Findings.{may_write, found_if, several_drivers_at, several_drivers, undriven_at, undriven, findings}
 use Rattle.sign_off.proofs.Ordered.{none_ranked}
 
 -- each net has one driver, inputs have none, and expressions read inputs
-pub record IsClean (design : Flat) : Type 0 where
+pub record IsClean (design : Circuit) : Type 0 where
   pub targets : (p target : ℕ) (at : Home) (e : Tree) → slice_get design.processes p ≡ Some (Assign target e at) → IsTrue (is_net design.signals target)
   pub sources : (p target : ℕ) (at : Home) (e : Tree) → slice_get design.processes p ≡ Some (Assign target e at) → IsTrue (reads_inputs design.signals e)
   pub alone : (p q target : ℕ) (at at' : Home) (e e' : Tree) → slice_get design.processes p ≡ Some (Assign target e at) → slice_get design.processes q ≡ Some (Assign target e' at') → p ≡ q
@@ -67,7 +67,7 @@ not_found : (condition : Bool) (finding : Finding) → found_if condition findin
 not_found true finding none = absurd (cc)
 not_found false finding none = refl
 
-module _ (design : Flat) (well_formed : IsTrue (is_well_formed design)) (none : findings design ≡ []) where
+module _ (design : Circuit) (well_formed : IsTrue (is_well_formed design)) (none : findings design ≡ []) where
   fits : (p target : ℕ) (at : Home) (e : Tree) → slice_get design.processes p ≡ Some (Assign target e at) → (IsTrue (is_net design.signals target)) × (IsTrue (reads_inputs design.signals e))
   fits p target at e here =
       and_parts (is_net design.signals target) (reads_inputs design.signals e)

@@ -19,7 +19,7 @@ use Rattle.rtl_flat.specs.Value.{value}
 use Rattle.rtl_flat.specs.WellFormed.{IsFixed, IsProcess, IsSelection}
 use Rattle.event_model.specs.Queue as queue
 use Rattle.event_model.specs.Queue.{Flat, State, Input, Evaluate, Update, doing_at, is_assignment, power_up, CanRun, IsAtRest}
-use Rattle.sign_off.specs.Flat.{Home, Tree, Read, Binary, And, Assign, is_input, is_net}
+use Rattle.sign_off.specs.Circuit.{Home, Tree, Read, Binary, And, Assign, is_input, is_net}
 use Rattle.sign_off.specs.Built.{not_built}
 use Rattle.sign_off.specs.Findings.{findings}
 use Rattle.sign_off.specs.Meaning.{Numbers, drives, num_of, IsSolution, Setting, Step}

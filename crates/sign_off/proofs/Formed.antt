@@ -21,7 +21,7 @@ use Rattle.rtl_flat.specs.Signs.{Has}
 use Rattle.rtl_flat.specs.WellFormed.{IsProcess}
 use Rattle.rtl_flat.proofs.Rows.{concat_at}
 use Rattle.event_model.specs.Queue.{is_input_kind}
-use Rattle.sign_off.specs.Flat.{gates, is_fitting, is_net, is_some_net, is_well_formed, process_of, reads_inputs, target_in, value_in, view}
+use Rattle.sign_off.specs.Circuit.{gates, is_fitting, is_net, is_some_net, is_well_formed, process_of, reads_inputs, target_in, value_in, view}
 use Rattle.sign_off.specs.Built.{is_built, is_complement, is_gate, is_gates, is_one_whole, first_delay, first_dropped, not_built, refused_process, refused_signal}
 
 -- a test of plain forms finds the plain form of what it finds

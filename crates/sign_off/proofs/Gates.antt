@@ -14,7 +14,7 @@ use Rattle.rtl_flat.specs.Expression as sized
 use Rattle.rtl_flat.specs.Sizes.{IsSized}
 use Rattle.rtl_flat.specs.Value.{value, turned, joined}
 use Rattle.event_model.specs.Writes.{Values}
-use Rattle.sign_off.specs.Flat.{gate_of, gates, is_input}
+use Rattle.sign_off.specs.Circuit.{gate_of, gates, is_input}
 use Rattle.sign_off.specs.Meaning.{Numbers, binary_digit, num_of}
 use Rattle.sign_off.specs.Agree.{bits}
 use Rattle.sign_off.specs.Built.{is_complement, is_gate, is_gates}

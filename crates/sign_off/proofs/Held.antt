@@ -13,7 +13,7 @@ use Rattle.event_model.specs.Writes.{Write, put}
 use Rattle.event_model.specs.Queue.{Flat, State, Event, Input, Evaluate, Update, Run, Delayed, Activate, IsThere, CanRun, after, run, after_input, after_evaluate, after_update, after_delayed, drive, doing_at, is_body, is_input, is_input_of, resolved, widths}
 use Rattle.event_laws.specs.Steady.{IsSteady}
 use Rattle.event_laws.proofs.Lengths.{put_at, put_other}
-use Rattle.sign_off.specs.Flat.{is_net, is_some_net, target_in}
+use Rattle.sign_off.specs.Circuit.{is_net, is_some_net, target_in}
 use Rattle.sign_off.specs.Meaning.{Setting, Step}
 use Rattle.sign_off.specs.Agree.{bits, offered}
 use Rattle.sign_off.proofs.Basic.{replaced_one}

@@ -15,7 +15,7 @@ use Rattle.rtl_flat.specs.WellFormed.{IsProcess}
 use Rattle.rtl_tree.specs.declared.text.Spot.{Spot}
 use Rattle.event_model.specs.Queue.{Flat, doing_of, doing_at, widths}
 use Rattle.event_laws.proofs.Steady.{lawful_processes}
-use Rattle.sign_off.specs.Flat.{Home, Tree, Assign, gates, is_net, process_of, reads_inputs}
+use Rattle.sign_off.specs.Circuit.{Home, Tree, Assign, gates, is_net, process_of, reads_inputs}
 use Rattle.sign_off.specs.Agree.{circuit_of}
 use Rattle.sign_off.specs.Built.{is_bit, is_built, is_gates, is_variable, is_whole, refused_process, refused_signal}
 use Rattle.sign_off.proofs.Clean.{IsClean}

@@ -10,7 +10,7 @@ use Rattle.std.proofs.lemmas.Option.{slice_get_within}
 use Rattle.rtl_flat.specs.declared.signal.Signal.{Signal}
 use Rattle.rtl_flat.specs.Process.{Task}
 use Rattle.event_model.specs.Queue.{is_input_kind}
-use Rattle.sign_off.specs.Flat.{Process, Assign, Tree, Home, process_of, target_in, value_in, is_net, is_some_net, is_fitting, reads_inputs}
+use Rattle.sign_off.specs.Circuit.{Process, Assign, Tree, Home, process_of, target_in, value_in, is_net, is_some_net, is_fitting, reads_inputs}
 use Rattle.sign_off.specs.Findings.{may_write, found_if, several_drivers_at, undriven_at}
 use Rattle.sign_off.specs.Marks.{AreDriven, several_finding, undriven_finding}
 

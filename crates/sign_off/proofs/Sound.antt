@@ -16,7 +16,7 @@ use Rattle.event_model.specs.Writes.{Values, put}
 use Rattle.event_model.specs.Queue.{Flat, State, is_assignment, is_input, is_input_kind, is_input_of, doing_at, widths, HasNoActive, IsAtRest}
 use Rattle.event_laws.specs.Steady.{IsWithin}
 use Rattle.event_laws.proofs.Lengths.{put_at, put_other}
-use Rattle.sign_off.specs.Flat.{Home, Tree, Assign, gates, is_some_net, is_net}
+use Rattle.sign_off.specs.Circuit.{Home, Tree, Assign, gates, is_some_net, is_net}
 use Rattle.sign_off.specs.Meaning.{Numbers, num_of, drives, IsSolution, Step, given_after}
 use Rattle.sign_off.specs.Agree.{bits, circuit_of, IsSettled, offered, Round, after_round, Follows, Agree}
 use Rattle.sign_off.proofs.Basic.{num_agrees, one-known}

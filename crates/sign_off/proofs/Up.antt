@@ -14,7 +14,7 @@ use Rattle.event_model.specs.Writes.{put}
 use Rattle.event_model.specs.Queue.{Flat, State, first_bits, first_drive, is_input, is_input_kind, is_input_of, power_up, widths, IsAtRest}
 use Rattle.event_laws.specs.Steady.{IsSteady}
 use Rattle.event_laws.proofs.Lengths.{put_at, put_other}
-use Rattle.sign_off.specs.Flat.{is_some_net}
+use Rattle.sign_off.specs.Circuit.{is_some_net}
 use Rattle.sign_off.specs.Built.{is_variable}
 use Rattle.sign_off.specs.Meaning.{Numbers, Step}
 use Rattle.sign_off.specs.Agree.{IsSettled, offered, Round, after_round, IsRound}

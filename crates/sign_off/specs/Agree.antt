@@ -7,8 +7,8 @@ use Rattle.rtl_flat.specs.Expression.{Tree}
 use Rattle.rtl_flat.specs.Process.{Piece, Assign}
 use Rattle.rtl_flat.specs.Value.{value}
 use Rattle.event_model.specs.Queue.{Flat, State, Event, doing_at, is_input, offer, run, CanRun, IsAtRest}
-use Rattle.sign_off.specs.Flat as circuit
-use Rattle.sign_off.specs.Flat.{is_net, view}
+use Rattle.sign_off.specs.Circuit as circuit
+use Rattle.sign_off.specs.Circuit.{is_net, view}
 use Rattle.sign_off.specs.Meaning.{Numbers, IsSolution, Step, IsTheCycle}
 
 -- the bits of a number: today it has one digit
@@ -16,7 +16,7 @@ abbrev pub bits : Bool → List Bit
 bits digit = known_bit digit ∷ []
 
 -- the assignments of a design, whose equations are its synthesised meaning
-abbrev pub circuit_of : Flat → circuit.Flat
+abbrev pub circuit_of : Flat → circuit.Circuit
 circuit_of design = view design.signals design.tasks
 
 -- a settled state whose values are known, with its numbers: no event is left, each driver gives what its

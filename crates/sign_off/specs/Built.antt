@@ -15,7 +15,7 @@ use Rattle.rtl_flat.specs.declared.expr.Join.TheVariants as join
 use Rattle.rtl_flat.specs.Expression.{Tree, Sized, Whole, Turned, Joined}
 use Rattle.rtl_flat.specs.Process.{Piece, Selection, Doing, Task, Assign, Comb, Edge'}
 use Rattle.rtl_flat.specs.Process as part
-use Rattle.sign_off.specs.Flat.{is_input}
+use Rattle.sign_off.specs.Circuit.{is_input}
 
 abbrev pub is_variable : Kind → Bool
 is_variable TopInput = false

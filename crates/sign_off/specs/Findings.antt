@@ -5,7 +5,7 @@ use Rattle.sign_off.specs.declared.finding.Finding.{Finding}
 use Rattle.sign_off.specs.declared.finding.Rule.TheVariants.{SeveralDrivers, Undriven}
 use Rattle.rtl_flat.specs.declared.signal.Signal.{Signal}
 use Rattle.event_model.specs.Queue.{is_input_kind}
-use Rattle.sign_off.specs.Flat.{Process, Assign, Flat}
+use Rattle.sign_off.specs.Circuit.{Process, Assign, Circuit}
 use Rattle.sign_off.specs.Ranks.{ranked}
 
 -- a process may write this signal
@@ -23,7 +23,7 @@ several_drivers_at processes (number, Assign target value at) =
     found_if (list_any (may_write target) (take number processes))
     (record { rule = SeveralDrivers; signal = record { 0 = target }; instance = at.instance; spot = at.spot })
 
-abbrev pub several_drivers : Flat → List Finding
+abbrev pub several_drivers : Circuit → List Finding
 several_drivers design = filter_map (several_drivers_at design.processes) (enumerate_from 0 design.processes)
 
 -- Undriven: a signal isn't a top input, and no process may write it; it stands at the declaration
@@ -32,9 +32,9 @@ undriven_at processes (number, signal) =
     found_if (not (is_input_kind signal.kind) && not (list_any (may_write number) processes))
     (record { rule = Undriven; signal = record { 0 = number }; instance = signal.instance; spot = signal.spot })
 
-abbrev pub undriven : Flat → List Finding
+abbrev pub undriven : Circuit → List Finding
 undriven design = filter_map (undriven_at design.processes) (enumerate_from 0 design.signals)
 
 -- all findings, in their order
-abbrev pub findings : Flat → List Finding
+abbrev pub findings : Circuit → List Finding
 findings design = ranked (undriven design ++ several_drivers design)

@@ -1,4 +1,4 @@
-pub mod Flat
+pub mod Circuit
 pub mod Built
 pub mod Ranks
 pub mod Findings

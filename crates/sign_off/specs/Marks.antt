@@ -6,7 +6,7 @@ use Rattle.rtl_flat.specs.declared.signal.Signal.{Signal}
 use Rattle.rtl_flat.specs.Process.{Task}
 use Rattle.sign_off.specs.declared.finding.Finding.{Finding}
 use Rattle.sign_off.specs.declared.finding.Rule.TheVariants.{SeveralDrivers, Undriven}
-use Rattle.sign_off.specs.Flat.{Process, target_in}
+use Rattle.sign_off.specs.Circuit.{Process, target_in}
 use Rattle.sign_off.specs.Findings.{may_write}
 
 -- one mark for each of so many signals: whether a process may write it

@@ -6,7 +6,7 @@ ghost use Rattle.std.specs.Option.{option_to_list};
 ghost use Rattle.rtl_tree.specs.declared.text.Spot.{Spot};
 ghost use Rattle.rtl_flat.specs.Process.{doing, task};
 ghost use Rattle.event_model.specs.Queue.{flat, is_input_kind};
-ghost use Rattle.sign_off.specs.Flat.{is_fitting, is_well_formed, process_of, target_in, view};
+ghost use Rattle.sign_off.specs.Circuit.{is_fitting, is_well_formed, process_of, target_in, view};
 ghost use Rattle.sign_off.specs.Built.{not_built};
 ghost use Rattle.sign_off.specs.Findings.{findings, found_if, several_drivers, undriven};
 ghost use Rattle.sign_off.specs.Agree.{Agree};

@@ -1,6 +1,6 @@
 use Rattle.std.proofs.Common.{◌<◌, ◌∙◌, sym, map, length, arith}
 use Rattle.rtl_flat.specs.Process.{doing, task}
-use Rattle.sign_off.specs.Flat.{target_in}
+use Rattle.sign_off.specs.Circuit.{target_in}
 use Rattle.sign_off.proofs.MarkLemmas.{target_below, driven_next, several_next}
 use Rattle.sign_off.proofs.Walks.{at_mapped, below_mapped}
 use Rattle.sign_off.proofs.rule.judge_processes.Goals as goal

@@ -1,6 +1,6 @@
 use Rattle.std.proofs.Common.{◌∙◌, sym, length, map}
 use Rattle.rtl_flat.specs.Process.{task}
-use Rattle.sign_off.specs.Flat.{process_of}
+use Rattle.sign_off.specs.Circuit.{process_of}
 use Rattle.sign_off.proofs.MarkLemmas.{undriven_next}
 use Rattle.sign_off.proofs.rule.judge_signals.Goals as goal
 

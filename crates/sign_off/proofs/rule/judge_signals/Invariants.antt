@@ -1,7 +1,7 @@
 use Rattle.std.proofs.Common.{◌≡◌, map, take}
 use Rattle.std.specs.List.{filter_map, enumerate_from}
 use Rattle.rtl_flat.specs.Process.{task}
-use Rattle.sign_off.specs.Flat.{process_of}
+use Rattle.sign_off.specs.Circuit.{process_of}
 use Rattle.sign_off.specs.Findings.{undriven_at}
 use Rattle.sign_off.proofs.rule.judge_signals.Given as goal
 

@@ -2,7 +2,7 @@ use Rattle.std.proofs.Common.{◌≡◌, ◌∙◌, sym, ap, subst, [], map}
 use Rattle.std.specs.Prelude.{IsTrue}
 use Rattle.rtl_flat.specs.Process.{task}
 use Rattle.event_model.specs.Queue.{flat}
-use Rattle.sign_off.specs.Flat.{is_well_formed, view}
+use Rattle.sign_off.specs.Circuit.{is_well_formed, view}
 use Rattle.sign_off.specs.Findings.{findings}
 use Rattle.sign_off.proofs.Formed.{formed}
 use Rattle.sign_off.proofs.Signed.{agreement_of, bring_up_of}

@@ -31,7 +31,7 @@ pub data Process : Type 0 where
   Assign : (target : ℕ) (value : Tree) (at : Home) → Process
 
 -- a design: its signals by their numbers, its processes by theirs
-pub record Flat : Type 0 where
+pub record Circuit : Type 0 where
   pub signals : List Signal
   pub processes : List Process
 
@@ -68,7 +68,7 @@ abbrev pub process_of : part.Task → Process
 process_of task =
     Assign (target_in task.does) (value_in task.does) (record { instance = task.instance; spot = task.spot })
 
-abbrev pub view : List Signal → List part.Task → Flat
+abbrev pub view : List Signal → List part.Task → Circuit
 view signals tasks = record { signals = signals; processes = map process_of tasks }
 
 -- ---- signals
@@ -97,5 +97,5 @@ abbrev pub is_fitting : List Signal → Process → Bool
 is_fitting signals (Assign target value at) = is_net signals target && reads_inputs signals value
 
 -- what holds of every design that isn't refused: each process fits its signals
-abbrev pub is_well_formed : Flat → Bool
+abbrev pub is_well_formed : Circuit → Bool
 is_well_formed design = list_all (is_fitting design.signals) design.processes
