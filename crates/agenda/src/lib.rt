@@ -15,8 +15,6 @@ use std::alloc::{AllocError, Global};
 use std::marker::Model;
 
 mod ranking;
-#[cfg(test)]
-mod tests;
 
 /// A set of numbers below a size; the size and the levels of the numbers are fixed when the set is made.
 #[derive(Drop)]

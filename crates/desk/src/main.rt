@@ -1,17 +1,8 @@
 // The desk's program: `desk` over the system's arguments, files and standard output.
 #![tactic(auto)]
 
-mod deliver;
-mod files;
-mod front;
-mod sign;
-mod simulate;
-#[cfg(test)]
-mod tests;
-mod top;
-mod words;
-
 use desk_io::{FileShelf, WriterSink};
+use desk_top::top::desk;
 use std::alloc::Global;
 use std::process::ExitCode;
 use std::{env, io};
@@ -24,7 +15,7 @@ fn main(rt: HostRuntime) -> ExitCode {
     };
     let mut shelf = FileShelf::new(&rt);
     let mut out = WriterSink::new(io::writer(&rt));
-    ExitCode::from(top::desk(rt.alloc(), &words, &mut shelf, &mut out))
+    ExitCode::from(desk(rt.alloc(), &words, &mut shelf, &mut out))
 }
 
 // The words after the program's name.

@@ -12,6 +12,3 @@ mod sink;
 pub use failed::Failed;
 pub use shelf::{FileShelf, MAX_FILE_BYTES, MemoryShelf, Shelf, ShelfFault};
 pub use sink::{MemorySink, Sink, WriterSink};
-
-#[cfg(test)]
-mod tests;

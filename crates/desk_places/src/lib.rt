@@ -3,5 +3,3 @@
 
 pub mod lines;
 pub mod sources;
-#[cfg(test)]
-mod tests;

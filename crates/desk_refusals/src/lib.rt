@@ -5,8 +5,6 @@ mod design;
 mod file;
 mod line;
 mod reason;
-#[cfg(test)]
-mod tests;
 
 pub use crate::design::{design_refusal, not_built};
 pub use crate::file::source_refusal;

@@ -2,8 +2,6 @@
 #![tactic(auto)]
 
 mod findings;
-#[cfg(test)]
-mod tests;
 mod value;
 
 pub use crate::findings::report;

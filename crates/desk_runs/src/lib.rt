@@ -3,7 +3,5 @@
 
 mod lines;
 mod run;
-#[cfg(test)]
-mod tests;
 
 pub use crate::run::{Shown, simulate};

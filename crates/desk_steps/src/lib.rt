@@ -5,8 +5,6 @@ mod cut;
 mod file;
 mod line;
 mod names;
-#[cfg(test)]
-mod tests;
 mod value;
 
 pub use crate::file::{Steps, StepsFault, read_steps};

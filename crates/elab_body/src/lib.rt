@@ -8,5 +8,3 @@ pub mod events;
 pub mod head;
 pub mod parts;
 pub mod progress;
-#[cfg(test)]
-mod tests;

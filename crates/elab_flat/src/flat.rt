@@ -105,7 +105,11 @@ fn regions_of(alloc: Global, placements: &[Placement<'_>]) -> Result<Vec<Dropped
 }
 
 /// The design of these instances.
-pub fn flat_of(alloc: Global, all: Library<'_>, placements: &[Placement<'_>]) -> Result<DesignParts, Memory>
+pub fn flat_of(
+    alloc: Global,
+    all: Library<'_>,
+    placements: &[Placement<'_>],
+) -> Result<DesignParts, Memory>
     ensures { IfOk result (λ made. flat made ≡ flat_of (library all.entry) (map placement placements.now)) }
 {
     Ok(DesignParts {

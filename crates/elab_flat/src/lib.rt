@@ -4,5 +4,3 @@
 pub mod flat;
 pub mod links;
 pub mod works;
-#[cfg(test)]
-mod tests;

@@ -14,6 +14,7 @@ ghost use Rattle.elab_flat.specs.Held.{bases_under, depth_of};
 ghost use Rattle.elab_flat.specs.Views.{works};
 ghost use Rattle.elab_flat.specs.Works.{first_base, group_in, group_tasks, no_works, placed, instantiations_tasks, sides_of, with_part, with_parts, with_placement, with_placements};
 
+use crate::links::{Ends, push_links};
 use elab_items::declare::declare;
 use elab_items::entries::entries_of;
 use elab_links::groups::{Group, group_of};
@@ -26,7 +27,6 @@ use elab_scope::size::Site;
 use elab_walk::library::Library;
 use elab_walk::trail::Placement;
 use elab_walk::visit::file_of;
-use crate::links::{Ends, push_links};
 use rtl_flat::act::Process;
 use rtl_flat::instance::Delay;
 use rtl_tree::memory::Memory;
@@ -57,7 +57,11 @@ fn site_of(alloc: Global, at: &Placement<'_>) -> Result<Site, Memory>
 
 /// How many signals come before those of each instance right under one, of those behind it. An instance is looked at for
 /// each that holds it, so at most 32 times.
-fn bases_under(alloc: Global, at: &Placement<'_>, behind: &[Placement<'_>]) -> Result<Vec<u16>, Memory>
+fn bases_under(
+    alloc: Global,
+    at: &Placement<'_>,
+    behind: &[Placement<'_>],
+) -> Result<Vec<u16>, Memory>
     ensures { IfOk result (λ made. made.items ≡ bases_under (depth_of (placement at.now)) (map placement behind.now)) }
 {
     let depth = at.visit.way.len();
@@ -258,7 +262,11 @@ impl Works {
     }
 
     /// The processes of instances with their delays.
-    pub fn of(alloc: Global, all: Library<'_>, placements: &[Placement<'_>]) -> Result<Works, Memory>
+    pub fn of(
+        alloc: Global,
+        all: Library<'_>,
+        placements: &[Placement<'_>],
+    ) -> Result<Works, Memory>
         ensures { IfOk result (λ made. works made ≡ with_placements (library all.entry) no_works (map placement placements.now)) }
     {
         let mut made = Works {

@@ -10,5 +10,3 @@ pub mod overrides;
 pub mod reach;
 pub mod roster;
 pub mod signals;
-#[cfg(test)]
-mod tests;

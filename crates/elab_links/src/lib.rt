@@ -9,5 +9,3 @@ pub mod marks;
 pub mod module_set;
 pub mod parameters;
 pub mod ports;
-#[cfg(test)]
-mod tests;

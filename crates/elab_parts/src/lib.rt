@@ -6,5 +6,3 @@ pub mod judge;
 pub mod pauses;
 pub mod places;
 pub mod tasks;
-#[cfg(test)]
-mod tests;

@@ -14,6 +14,4 @@ pub mod pieces;
 pub mod rules;
 pub mod size;
 pub mod targets;
-#[cfg(test)]
-mod tests;
 pub mod widths;

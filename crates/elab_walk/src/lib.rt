@@ -5,8 +5,6 @@ pub mod judge;
 pub mod library;
 pub mod places;
 pub mod room;
-#[cfg(test)]
-mod tests;
 pub mod top;
 pub mod trail;
 pub mod visit;

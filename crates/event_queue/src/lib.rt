@@ -9,5 +9,3 @@ mod offering;
 pub mod sim;
 pub mod start;
 mod taking;
-#[cfg(test)]
-mod tests;

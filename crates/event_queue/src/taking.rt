@@ -8,10 +8,10 @@ ghost use Rattle.event_take.specs.Lawful.{IsLawful};
 ghost use Rattle.event_take.specs.Taken.{IsAble, event_of};
 ghost use Rattle.event_queue.specs.Rooms.{IsMadeReady, IsTaken, free, is_nil, room_for};
 
-use event_take::choice::Choice;
-use event_take::policies::choose;
 use event_model::policy::Policy;
+use event_take::choice::Choice;
 use event_take::events::{activate, evaluate_driver, make_update, run_body, take_input};
+use event_take::policies::choose;
 use event_take::updates::update_driver;
 use event_write::fanout::Fanout;
 use event_write::queue_state::QueueState;

@@ -5,7 +5,5 @@ mod drivers;
 mod listeners;
 mod rows;
 mod tables;
-#[cfg(test)]
-mod tests;
 
 pub use tables::fanout_of;

@@ -11,6 +11,4 @@ pub mod queue_state;
 pub mod spans;
 pub mod statements;
 pub mod stores;
-#[cfg(test)]
-mod tests;
 pub mod waking;

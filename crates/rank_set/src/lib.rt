@@ -14,8 +14,6 @@ use words::{
     set_with_summary,
 };
 
-#[cfg(test)]
-mod tests;
 mod words;
 
 /// A set of ranks below a size that is fixed when the set is made.

@@ -16,8 +16,6 @@ mod planes;
 mod reduce;
 mod shift;
 mod signed;
-#[cfg(test)]
-mod tests;
 
 /// A value of one bit (IEEE 1364-2001 section 3.1).
 #[derive(Clone, Copy, Debug, PartialEq, Eq)]

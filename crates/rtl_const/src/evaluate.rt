@@ -43,6 +43,3 @@ pub fn constant<L: Lookup>(e: &Expr, params: &L) -> Result<i64, ConstFault>
         _ => Err(ConstFault::NotConstant(e.place())),
     }
 }
-
-#[cfg(test)]
-mod tests;

@@ -2,6 +2,4 @@
 #![tactic(auto)]
 
 pub mod elaborate;
-#[cfg(test)]
-mod tests;
 pub mod whole;

@@ -5,8 +5,6 @@
 mod labels;
 mod operators;
 mod selects;
-#[cfg(test)]
-mod tests;
 mod walk;
 
 pub use labels::is_match;

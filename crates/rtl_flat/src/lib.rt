@@ -7,5 +7,3 @@ pub mod design;
 pub mod expr;
 pub mod instance;
 pub mod signal;
-#[cfg(test)]
-mod tests;

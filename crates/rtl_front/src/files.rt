@@ -7,7 +7,6 @@ ghost use Rattle.rtl_tree.specs.Prepared.{Ready};
 ghost use Rattle.rtl_front.specs.Fronts.{AreRead, IsFaulty, IsFirstFaulty, IsPrepared, IsRead, circuits_of, is_memory, texts_of, told};
 
 use crate::fault::{FileFault, SourceFault};
-use text_build::spelled_once;
 use rtl_parse::{ParseFault, parse};
 use rtl_prep::{PrepFault, prepare};
 use rtl_text::{LexFault, lex};
@@ -16,6 +15,7 @@ use rtl_tree::tree::modules::Module;
 use std::alloc::Global;
 use std::sync::ledger::Ledger;
 use steps::Steps;
+use text_build::spelled_once;
 
 /// A text whose directives are read, without what synthesis doesn't see.
 fn prepared(alloc: Global, text: &[u8]) -> Result<Prepared, FileFault>

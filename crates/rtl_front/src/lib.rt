@@ -4,8 +4,6 @@
 mod fault;
 mod files;
 pub mod law;
-#[cfg(test)]
-mod tests;
 
 pub use crate::fault::{FileFault, SourceFault};
 pub use crate::files::read_files;

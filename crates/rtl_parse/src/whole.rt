@@ -9,8 +9,6 @@ ghost use Rattle.rtl_tree.specs.Deeper.{too_deep};
 ghost use Rattle.rtl_parse.specs.Parses.{IsCause, IsThere, first_outside};
 
 use crate::fault::ParseFault;
-use text_build::build;
-use text_survey::{Surveyed, refused, survey, terminals};
 use rtl_tree::memory::Memory;
 use rtl_tree::prepared::Prepared;
 use rtl_tree::symbol::Terminal;
@@ -18,6 +16,8 @@ use rtl_tree::tree::modules::Module;
 use std::alloc::Global;
 use std::sync::ledger::Ledger;
 use steps::Steps;
+use text_build::build;
+use text_survey::{Surveyed, refused, survey, terminals};
 
 /// The text and the place of a token, or of the end of the text.
 fn place(

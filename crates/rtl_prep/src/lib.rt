@@ -8,8 +8,6 @@ mod macros;
 mod reader;
 mod region;
 mod replace;
-#[cfg(test)]
-mod tests;
 mod whole;
 mod word;
 

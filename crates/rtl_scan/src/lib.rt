@@ -14,8 +14,6 @@ mod sets;
 mod spans;
 mod steps;
 mod targets;
-#[cfg(test)]
-mod tests;
 mod usages;
 
 pub use feeds::levels;

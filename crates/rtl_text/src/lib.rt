@@ -10,8 +10,6 @@ mod literal;
 mod mark;
 mod pragma;
 mod run;
-#[cfg(test)]
-mod tests;
 
 pub use fault::LexFault;
 pub use lexer::lex;

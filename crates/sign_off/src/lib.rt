@@ -5,5 +5,3 @@ pub mod finding;
 pub mod refusal;
 pub mod rule;
 pub mod soundness;
-#[cfg(test)]
-mod tests;

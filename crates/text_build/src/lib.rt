@@ -13,8 +13,6 @@ mod processes;
 mod reference;
 mod statements;
 mod targets;
-#[cfg(test)]
-mod tests;
 mod whole;
 
 pub use fault::BuildFault;

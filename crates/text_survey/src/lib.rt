@@ -6,8 +6,6 @@ mod machine;
 mod symbols;
 mod table;
 mod task;
-#[cfg(test)]
-mod tests;
 
 pub use machine::{Surveyed, survey};
 pub use symbols::{refused, terminals};

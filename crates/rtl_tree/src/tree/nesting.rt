@@ -60,6 +60,3 @@ pub fn depth(m: &Module) -> u32
     let heads = head_parameters_depth(&m.parameters).max(port_list_depth(&m.ports));
     heads.max(items_depth(&m.items))
 }
-
-#[cfg(test)]
-mod tests;

@@ -1,5 +1,0 @@
-use Rattle.std.proofs.Common.{length}
-use Rattle.desk.proofs.words.+all_names.Given as goal
-
-abbrev pub decreases-all_names : goal.decreases-all_names
-decreases-all_names l = length l.files.now

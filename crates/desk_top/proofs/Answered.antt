@@ -1,0 +1,143 @@
+-- From the work of a command to the answer of the desk, and from status 0 to the headline.
+use Rattle.std.proofs.Common.{◌≡◌, ◌≢◌, ℕ, List, [], ◌∷◌, Option, None, Some, Result, Ok, Err, Bool, true, false, cond, refl, sym, ◌∙◌, ap, arith}
+use Rattle.std.specs.Io.KnownBytes.{Appends}
+use Rattle.rtl_tree.specs.declared.text.Spot.{Spot}
+use Rattle.rtl_tree.specs.TreeModule.{Circuit}
+use Rattle.elab_scope.specs.Faults.{Answer}
+use Rattle.elab_flat.specs.Flats.{Flat}
+use Rattle.rtl_elab.specs.Elaborated.{elaborated}
+use Rattle.rtl_elab.proofs.Deciding.{elaborated_lawful}
+use Rattle.sign_off.specs.declared.finding.Finding.{Finding}
+use Rattle.sign_off.proofs.Signed.{agreement_of, bring_up_of}
+use Rattle.desk_top.specs.declared.deliver.Stop.{Stop}
+use Rattle.desk_top.specs.declared.deliver.Stop.TheVariants.{Unread, NoFile, Memory}
+use Rattle.desk_top.specs.declared.deliver.Work.{Work}
+use Rattle.desk_top.specs.Words.{Order, Sign, Simulate, is_sign, order}
+use Rattle.desk_top.specs.Delivery.{Outcome, Delivers, Finishes, IsWork, gave_up, no_file, outcome_of}
+use Rattle.desk_top.specs.Building.{AreSpelled, Front, Modules, Faulty, IsFront, built_of, elaborated_or_not, library}
+use Rattle.desk_top.specs.Outcome.{World, IsDone, IsOutcome, IsSigned, found_in, has_none, judged, not_judged, report_of, ruled_or_not}
+use Rattle.desk_top.specs.Texts.{named, texts_of}
+use Rattle.desk_top.specs.Answers.{IsAnswered, IsSignedClean, queue_of}
+
+-- work that has one outcome has every other that follows from it
+pub work_map : {P Q : Outcome → Type 0} (work : Result Work Stop) → IsWork P work → ((outcome : Outcome) → P outcome → Q outcome) → IsWork Q work
+work_map (Ok work) is more = more (outcome_of work) is
+work_map (Err NoFile) is more = more no_file is
+work_map (Err Unread) is more = tt
+work_map (Err Memory) is more = tt
+
+-- work that is finished answers the words
+pub answered : (words : List (List ℕ)) (world : World) (command : Order) (work : Result Work Stop) (status : ℕ) (before now : Option (List ℕ))
+    → order words ≡ Some command → IsWork (IsDone world (Some command)) work → Finishes work status before now
+    → IsAnswered words status before now world
+answered words world command (Ok work) status before now is wanted finishes =
+    record {
+      answered = λ goes_on. (outcome_of work, rw is wanted, finishes.1);
+      silent = λ gives_up. let same : true ≡ false = sym gives_up ∙ finishes.0 in absurd (cc);
+    }
+answered words world command (Err NoFile) status before now is wanted finishes =
+    record {
+      answered = λ goes_on. (
+        no_file,
+        rw is wanted,
+        record {
+          exact = λ written. finishes.0;
+          whole = λ written. finishes.1;
+          front = record { front = []; rest = []; parts = refl; appended = finishes.1 };
+          some_bytes = λ unwritten. let same : 9 ≡ 5 = sym finishes.0 ∙ unwritten in absurd (omega (arith, same));
+        },
+      );
+      silent = λ gives_up. finishes.1;
+    }
+answered words world command (Err Unread) status before now is wanted finishes =
+    record {
+      answered = λ goes_on. let same : true ≡ false = ap gave_up (sym finishes.0) ∙ goes_on in absurd (cc);
+      silent = λ gives_up. finishes.1;
+    }
+answered words world command (Err Memory) status before now is wanted finishes =
+    record {
+      answered = λ goes_on. let same : true ≡ false = ap gave_up (sym finishes.0) ∙ goes_on in absurd (cc);
+      silent = λ gives_up. finishes.1;
+    }
+
+-- words that are no command are answered by the usage in every world
+pub answered_usage : (words : List (List ℕ)) (world : World) (usage : Outcome) (status : ℕ) (before now : Option (List ℕ))
+    → IsOutcome words world usage → gave_up status ≡ false → Delivers usage status before now → IsAnswered words status before now world
+answered_usage words world usage status before now is done delivers =
+    record {
+      answered = λ goes_on. (usage, is, delivers);
+      silent = λ gives_up. let same : true ≡ false = sym gives_up ∙ done in absurd (cc);
+    }
+
+pub has_none_is : (all : List Finding) → has_none all ≡ true → all ≡ []
+has_none_is [] is = refl
+has_none_is (finding ∷ others) is = absurd (cc)
+
+-- the outcome 0 comes of a design without findings alone
+pub zero_is_clean : (words : List (List ℕ)) (world : World) (wanted : Outcome) (before now : Option (List ℕ))
+    → is_sign (order words) ≡ true → IsOutcome words world wanted → 0 ≡ wanted.status → Appends before now wanted.bytes → IsSignedClean words before now world
+zero_is_clean words world wanted before now asked is zero written = by_order (order words) refl is
+  where
+    clash : {P : Type 0} (status : ℕ) → wanted.status ≡ status → 0 ≢ status → P
+    clash status same other = absurd (other (zero ∙ same))
+
+    by_findings : (top : List ℕ) (files texts : List (List ℕ)) (circuits : List (List Circuit)) (design : Flat) → order words ≡ Some (Sign top files) → texts_of world.files files ≡ Some texts
+        → AreSpelled texts circuits → elaborated (library circuits) top ≡ Ok design → not_judged design ≡ None
+        → (b : Bool) → has_none (found_in design) ≡ b → wanted ≡ record { status = cond b 0 1; bytes = report_of top (named files texts) design } → IsSignedClean words before now world
+    by_findings top files texts circuits design command held spelled made built true none outcome =
+        let clean : found_in design ≡ [] = has_none_is (found_in design) none in
+        let lawful = elaborated_lawful (library circuits) top design made in
+        record {
+          top = top;
+          files = files;
+          texts = texts;
+          circuits = circuits;
+          design = design;
+          command = command;
+          held = held;
+          spelled = spelled;
+          flat = made;
+          judged = built;
+          clean = clean;
+          reported = rw (← ap (λ o. o.bytes) outcome) written;
+          agrees = agreement_of (queue_of design) design.delays design.dropped lawful.each_process built clean;
+          brought_up = bring_up_of (queue_of design) design.delays design.dropped lawful.each_process built clean;
+        }
+    by_findings top files texts circuits design command held spelled made built false some outcome = clash 1 (ap (λ o. o.status) outcome) (λ same. omega (arith, same))
+
+    by_spot : (top : List ℕ) (files texts : List (List ℕ)) (circuits : List (List Circuit)) (design : Flat) → order words ≡ Some (Sign top files) → texts_of world.files files ≡ Some texts
+        → AreSpelled texts circuits → elaborated (library circuits) top ≡ Ok design
+        → (o : Option Spot) → not_judged design ≡ o → wanted ≡ ruled_or_not top (named files texts) design o → IsSignedClean words before now world
+    by_spot top files texts circuits design command held spelled made None built outcome =
+        by_findings top files texts circuits design command held spelled made built (has_none (found_in design)) refl outcome
+    by_spot top files texts circuits design command held spelled made (Some spot) built outcome = clash 2 (ap (λ o. o.status) outcome) (λ same. omega (arith, same))
+
+    by_built : (top : List ℕ) (files texts : List (List ℕ)) (circuits : List (List Circuit)) → order words ≡ Some (Sign top files) → texts_of world.files files ≡ Some texts
+        → AreSpelled texts circuits → (made : Result Flat Answer) → elaborated (library circuits) top ≡ made → wanted ≡ judged top (named files texts) (elaborated_or_not (named files texts) made) → IsSignedClean words before now world
+    by_built top files texts circuits command held spelled (Ok design) made outcome =
+        by_spot top files texts circuits design command held spelled made (not_judged design) refl outcome
+    by_built top files texts circuits command held spelled (Err answer) made outcome = clash 2 (ap (λ o. o.status) outcome) (λ same. omega (arith, same))
+
+    by_front : (top : List ℕ) (files texts : List (List ℕ)) → order words ≡ Some (Sign top files) → texts_of world.files files ≡ Some texts
+        → (front : Front) → IsFront texts front → wanted ≡ judged top (named files texts) (built_of top (named files texts) front) → IsSignedClean words before now world
+    by_front top files texts command held (Modules circuits) spelled outcome =
+        by_built top files texts circuits command held spelled (elaborated (library circuits) top) refl outcome
+    by_front top files texts command held (Faulty file fault) refused outcome = clash 2 (ap (λ o. o.status) outcome) (λ same. omega (arith, same))
+
+    by_texts : (top : List ℕ) (files : List (List ℕ)) → order words ≡ Some (Sign top files) → (o : Option (List (List ℕ))) → texts_of world.files files ≡ o
+        → IsSigned top files o wanted → IsSignedClean words before now world
+    by_texts top files command None held outcome = clash 9 (ap (λ o. o.status) outcome) (λ same. omega (arith, same))
+    by_texts top files command (Some texts) held outcome =
+        by_front top files texts command held outcome.is_built.front outcome.is_built.is_front (outcome.is ∙ ap (judged top (named files texts)) outcome.is_built.is)
+
+    by_order : (o : Option Order) → order words ≡ o → IsDone world o wanted → IsSignedClean words before now world
+    by_order None command outcome = clash 3 (ap (λ o. o.status) outcome) (λ same. omega (arith, same))
+    by_order (Some (Sign top files)) command outcome = by_texts top files command (texts_of world.files files) refl outcome
+    by_order (Some (Simulate top steps files)) command outcome = absurd (let no : false ≡ true = ap is_sign (sym command) ∙ asked in cc)
+
+-- the headline from the answer 0
+pub signed_clean : (words : List (List ℕ)) (world : World) (before now : Option (List ℕ)) → is_sign (order words) ≡ true → IsAnswered words 0 before now world → IsSignedClean words before now world
+signed_clean words world before now asked is =
+    let wanted = is.answered refl in
+    let not_five : 0 ≢ 5 = λ same. omega (arith, same) in
+    zero_is_clean words world wanted.0 before now asked wanted.1 (wanted.2.exact not_five) (wanted.2.whole not_five)

@@ -1,0 +1,35 @@
+-- The answer of the desk, over the world that is told or some world.
+use Rattle.std.proofs.Common.{◌≡◌, ℕ, List, Option, None, Some, Result, true, false, sym, ap, subst}
+use Rattle.desk_io.specs.Shelf.{Files}
+use Rattle.desk_top.specs.declared.deliver.Stop.{Stop}
+use Rattle.desk_top.specs.declared.deliver.Work.{Work}
+use Rattle.desk_top.specs.Words.{Order, is_sign, order}
+use Rattle.desk_top.specs.Delivery.{Delivers, Finishes, IsWork, gave_up}
+use Rattle.desk_top.specs.Outcome.{IsDone, usage}
+use Rattle.desk_top.specs.Answers.{OverWorld, IsAnswered, IsSignedClean}
+use Rattle.desk_top.proofs.Answered.{answered, answered_usage, signed_clean}
+use Rattle.desk_top.proofs.Worlds.{over_map, over_any}
+
+-- a command that is worked and finished is answered
+pub over_answered : (files : Option Files) (words : List (List ℕ)) (command : Order) (work : Result Work Stop) (status : ℕ) (before now : Option (List ℕ))
+    → Some command ≡ order words → OverWorld files (λ world. IsWork (IsDone world (Some command)) work) → Finishes work status before now
+    → OverWorld files (IsAnswered words status before now)
+over_answered files words command work status before now is over finishes =
+    over_map {P = λ world. IsWork (IsDone world (Some command)) work} {Q = IsAnswered words status before now} files over
+    (λ world wanted. answered words world command work status before now (sym is) wanted finishes)
+
+-- words that are no command are answered by the usage
+pub over_usage : (files : Option Files) (words : List (List ℕ)) (bytes : List ℕ) (status : ℕ) (before now : Option (List ℕ))
+    → None ≡ order words → bytes ≡ usage → gave_up status ≡ false → Delivers (record { status = 3; bytes = bytes }) status before now
+    → OverWorld files (IsAnswered words status before now)
+over_usage files words bytes status before now is same done delivers =
+    over_any {P = IsAnswered words status before now} files (λ world.
+    answered_usage words world (record { status = 3; bytes = bytes }) status before now
+    (subst (λ (o : Option Order). IsDone world o (record { status = 3; bytes = bytes })) is (ap (λ b. record { status = 3; bytes = b }) same)) done delivers)
+
+-- the status 0 carries the headline
+pub over_signed_clean : (files : Option Files) (words : List (List ℕ)) (status : ℕ) (before now : Option (List ℕ))
+    → OverWorld files (IsAnswered words status before now) → is_sign (order words) ≡ true → status ≡ 0 → OverWorld files (IsSignedClean words before now)
+over_signed_clean files words status before now over asked zero =
+    over_map {P = IsAnswered words status before now} {Q = IsSignedClean words before now} files over
+    (λ world is. signed_clean words world before now asked (subst (λ (n : ℕ). IsAnswered words n before now world) zero is))

@@ -1,0 +1,223 @@
+-- Facts over the world that is told, or over some world.
+use Rattle.std.proofs.Common.{◌≡◌, ◌≢◌, ℕ, ◌≤◌, List, [], ◌∷◌, length, map, Option, None, Some, Result, Ok, Err, Vec, String, IfOk, vec_len, Bool, true, false, cond, not, refl, sym, ◌∙◌, ap, subst, arith}
+use Rattle.std.specs.Prelude.{IfSome, bytes_eq, nat_le, ◌&&◌, ◌||◌}
+use Rattle.std.specs.List.{All, list_all, list_any}
+use Rattle.std.specs.declared.alloc.Global.{Global}
+use Rattle.std.proofs.lemmas.Bool.{and_parts}
+use Rattle.std.proofs.lemmas.List.Elements.{All-nil, All-cons, All-head, All-tail}
+use Rattle.std.proofs.lemmas.Slice.Eq.{bytes_eq-Decides}
+use Rattle.desk_io.specs.declared.shelf.TheConstants.{MAX_FILE_BYTES}
+use Rattle.desk_io.specs.declared.shelf.ShelfFault.{ShelfFault}
+use Rattle.desk_io.specs.declared.shelf.ShelfFault.TheVariants.{Failed, Memory as NoMemory, NoSuchFile, TooLong}
+use Rattle.desk_io.specs.Shelf.{Files, IsReading, no_files, reading, with_file}
+use Rattle.desk_io.proofs.Readings.{some_reading}
+use Rattle.desk_top.specs.declared.deliver.Stop.{Stop}
+use Rattle.desk_top.specs.declared.deliver.Stop.TheVariants.{Memory, NoFile, Unread}
+use Rattle.desk_top.specs.declared.deliver.Work.{Work}
+use Rattle.desk_top.specs.Answers.{Agrees, OverWorld}
+use Rattle.desk_top.specs.Delivery.{IsWork, stop_of}
+use Rattle.desk_top.specs.Outcome.{World, IsJudged, IsSigned, IsSimulating, IsStepped}
+use Rattle.desk_top.specs.Texts.{named, texts_of, with_text}
+use Rattle.desk_top.specs.Words.{all_different, are_files, is_name, texts}
+
+pub over_map : {P Q : World → Type 0} (files : Option Files) → OverWorld files P → ((world : World) → P world → Q world) → OverWorld files Q
+over_map files over more = record { world = over.world; agrees = over.agrees; agrees_before = over.agrees_before; holds = more over.world over.holds }
+
+-- a fact that holds of every world
+pub over_any : {P : World → Type 0} (files : Option Files) → ((world : World) → P world) → OverWorld files P
+over_any None all =
+    record { world = record { before = no_files; files = no_files }; agrees = tt; agrees_before = tt; holds = all (record { before = no_files; files = no_files }) }
+over_any (Some held) all =
+    record { world = record { before = held; files = held }; agrees = refl; agrees_before = refl; holds = all (record { before = held; files = held }) }
+
+-- the fact holds of the files that are told, or, where they aren't told, of some files
+pub record OverFiles (files : Option Files) (P : Files → Type 0) : Type 0 where
+  pub held : Files
+  pub agrees : Agrees files held
+  pub holds : P held
+
+pub over_files : {P : Files → Type 0} (files : Option Files) → OverFiles files P → OverWorld files (λ world. P world.files)
+over_files files over =
+    record { world = record { before = over.held; files = over.held }; agrees = over.agrees; agrees_before = over.agrees; holds = over.holds }
+
+-- facts of the files at two moments
+pub over_both : {P Q : Files → Type 0} (files : Option Files) → OverFiles files P → OverFiles files Q → OverWorld files (λ world. P world.before × Q world.files)
+over_both files before later =
+    record { world = record { before = before.held; files = later.held }; agrees = later.agrees; agrees_before = before.agrees; holds = (before.holds, later.holds) }
+
+-- ---- a world with given texts
+
+abbrev files_with : List (List ℕ) → List (List ℕ) → Files
+files_with [] texts = no_files
+files_with (name ∷ names) [] = no_files
+files_with (name ∷ names) (text ∷ texts) = with_file (files_with names texts) name text
+
+first_is : (a b : Bool) → (a || b) ≡ false → (a ≡ false) × (b ≡ false)
+first_is true b is = absurd (cc)
+first_is false b is = (refl, is)
+
+is_false : (b : Bool) → not b ≡ true → b ≡ false
+is_false true is = absurd (cc)
+is_false false is = refl
+
+-- a file of another name changes nothing
+unchanged : (files : Files) (name text : List ℕ) (names : List (List ℕ)) → list_any (bytes_eq name) names ≡ false → texts_of (with_file files name text) names ≡ texts_of files names
+unchanged files name text [] other = refl
+unchanged files name text (first ∷ names) other =
+    let parts = first_is (bytes_eq name first) (list_any (bytes_eq name) names) other in
+    ap (λ (b : Bool). with_text (reading (cond b (Some text) (files first))) (texts_of (with_file files name text) names)) parts.0
+    ∙ ap (with_text (reading (files first))) (unchanged files name text names parts.1)
+
+read_short : (text : List ℕ) → length text ≤ MAX_FILE_BYTES → reading (Some text) ≡ Ok text
+read_short text short = by_test (nat_le (length text) MAX_FILE_BYTES) (grind (arith, short))
+  where
+    by_test : (b : Bool) → b ≡ true → cond b (Ok text) (Err TooLong) ≡ Ok text
+    by_test true is = refl
+    by_test false is = absurd (cc)
+
+all_there : (names texts : List (List ℕ)) → all_different names ≡ true → length texts ≡ length names → All (λ text. length text ≤ MAX_FILE_BYTES) texts → texts_of (files_with names texts) names ≡ Some texts
+all_there [] [] different same short = refl
+all_there [] (text ∷ texts) different same short = absurd (omega (arith, same))
+all_there (name ∷ names) [] different same short = absurd (omega (arith, same))
+all_there (name ∷ names) (text ∷ texts) different same short =
+    let parts = and_parts (not (list_any (bytes_eq name) names)) (all_different names) different in
+    let files = files_with names texts in
+    ap (λ (b : Bool). with_text (reading (cond b (Some text) (files name))) (texts_of (with_file files name text) names)) ((bytes_eq-Decides name name).1 refl)
+    ∙ ap (λ (r : Result (List ℕ) ShelfFault). with_text r (texts_of (with_file files name text) names)) (read_short text (All-head (λ (t : List ℕ). length t ≤ MAX_FILE_BYTES) text texts short))
+    ∙ ap (with_text (Ok text)) (unchanged files name text names (is_false (list_any (bytes_eq name) names) parts.0) ∙ all_there names texts parts.1 (omega (arith, same)) (All-tail (λ (t : List ℕ). length t ≤ MAX_FILE_BYTES) text texts short))
+
+-- ---- texts over the world
+
+pub over_texts : (files : Option Files) (names texts : List (List ℕ)) → IfSome files (λ held. texts_of held names ≡ Some texts)
+    → all_different names ≡ true → length texts ≡ length names → All (λ text. length text ≤ MAX_FILE_BYTES) texts → OverFiles files (λ held. texts_of held names ≡ Some texts)
+over_texts None names texts told different same short =
+    record { held = files_with names texts; agrees = tt; holds = all_there names texts different same short }
+over_texts (Some held) names texts told different same short = record { held = held; agrees = refl; holds = told }
+
+some_name : (names : List (List ℕ)) → nat_le 1 (length names) ≡ true → texts_of no_files names ≡ None
+some_name [] some = absurd (cc)
+some_name (name ∷ names) some = refl
+
+pub over_missing : (files : Option Files) (names : List (List ℕ)) → IfSome files (λ held. texts_of held names ≡ None) → nat_le 1 (length names) ≡ true → OverFiles files (λ held. texts_of held names ≡ None)
+over_missing None names told some = record { held = no_files; agrees = tt; holds = some_name names some }
+over_missing (Some held) names told some = record { held = held; agrees = refl; holds = told }
+
+-- ---- what a list of files gives
+
+pub count_texts : (words : List (String Global)) → length (texts words) ≡ length words
+count_texts [] = refl
+count_texts (word ∷ words) = omega (arith, count_texts words)
+
+abbrev items : List (Vec ℕ Global) → List (List ℕ)
+items made = map (λ (text : Vec ℕ Global). text.items) made
+
+short_items : (made : List (Vec ℕ Global)) → All (λ text. vec_len text ≤ MAX_FILE_BYTES) made → All (λ text. length text ≤ MAX_FILE_BYTES) (items made)
+short_items [] short = All-nil (λ (t : List ℕ). length t ≤ MAX_FILE_BYTES)
+short_items (text ∷ made) short =
+    All-cons (λ (t : List ℕ). length t ≤ MAX_FILE_BYTES) text.items (items made) (subst (λ (n : ℕ). n ≤ MAX_FILE_BYTES) text.ok.0 (All-head (λ (t : Vec ℕ Global). vec_len t ≤ MAX_FILE_BYTES) text made short)) (short_items made (All-tail (λ (t : Vec ℕ Global). vec_len t ≤ MAX_FILE_BYTES) text made short))
+
+count_items : (made : List (Vec ℕ Global)) → length (items made) ≡ length made
+count_items [] = refl
+count_items (text ∷ made) = omega (arith, count_items made)
+
+pub different_of : (files : List (List ℕ)) → are_files files ≡ true → all_different files ≡ true
+different_of files are =
+    (and_parts (list_all is_name files) (all_different files) (and_parts (nat_le 1 (length files) && nat_le (length files) 64) (list_all is_name files && all_different files) are).1).1
+
+pub some_of : (files : List (List ℕ)) → are_files files ≡ true → nat_le 1 (length files) ≡ true
+some_of files are =
+    (and_parts (nat_le 1 (length files)) (nat_le (length files) 64) (and_parts (nat_le 1 (length files) && nat_le (length files) 64) (list_all is_name files && all_different files) are).0).0
+
+-- files that were read are signed by their texts
+pub signed_texts : (files : Option Files) (top : List ℕ) (names : List (List ℕ)) (made : List (Vec ℕ Global)) (work : Result Work Stop)
+    → IfSome files (λ held. texts_of held names ≡ Some (items made)) → length made ≡ length names → All (λ text. vec_len text ≤ MAX_FILE_BYTES) made → are_files names ≡ true
+    → IsWork (IsJudged top (named names (items made)) (items made)) work → OverWorld files (λ world. IsWork (IsSigned top names (texts_of world.files names)) work)
+signed_texts files top names made work told count short are is =
+    over_map {P = λ world. texts_of world.files names ≡ Some (items made)} {Q = λ world. IsWork (IsSigned top names (texts_of world.files names)) work}
+    files (over_files files (over_texts files names (items made) told (different_of names are) (count_items made ∙ count) (short_items made short)))
+    (λ world read. subst (λ (o : Option (List (List ℕ))). IsWork (IsSigned top names o) work) (sym read) is)
+
+-- a file that isn't there is signed by that
+pub signed_missing : (files : Option Files) (top : List ℕ) (names : List (List ℕ)) → IfSome files (λ held. texts_of held names ≡ None) → are_files names ≡ true
+    → OverWorld files (λ world. IsWork (IsSigned top names (texts_of world.files names)) (Err NoFile))
+signed_missing files top names told are =
+    over_map {P = λ world. texts_of world.files names ≡ None} {Q = λ world. IsWork (IsSigned top names (texts_of world.files names)) (Err NoFile)}
+    files (over_files files (over_missing files names told (some_of names are)))
+    (λ world read. subst (λ (o : Option (List (List ℕ))). IsWork (IsSigned top names o) (Err NoFile)) (sym read) refl)
+
+-- nothing is said where the work was given up
+pub signed_not : (files : Option Files) (top : List ℕ) (names : List (List ℕ)) (stop : Stop) → (stop ≢ NoFile)
+    → OverWorld files (λ world. IsWork (IsSigned top names (texts_of world.files names)) (Err stop))
+signed_not files top names Unread other = over_any {P = λ world. IsWork (IsSigned top names (texts_of world.files names)) (Err Unread)} files (λ world. tt)
+signed_not files top names Memory other = over_any {P = λ world. IsWork (IsSigned top names (texts_of world.files names)) (Err Memory)} files (λ world. tt)
+signed_not files top names NoFile other = absurd (other refl)
+
+abbrev pub gone : Stop → Result (Vec (Vec ℕ Global) Global) Stop
+gone stop = Err stop
+
+-- the stop of files that weren't read
+pub signed_stop : (files : Option Files) (top : List ℕ) (names : List (List ℕ)) (stop : Stop) → IfSome files (λ held. gone stop ≡ Err NoFile → texts_of held names ≡ None) → are_files names ≡ true
+    → OverWorld files (λ world. IsWork (IsSigned top names (texts_of world.files names)) (Err stop))
+signed_stop files top names NoFile told are = signed_missing files top names (missing files told) are
+  where
+    missing : (files : Option Files) → IfSome files (λ held. gone NoFile ≡ Err NoFile → texts_of held names ≡ None) → IfSome files (λ held. texts_of held names ≡ None)
+    missing None told = tt
+    missing (Some held) told = told refl
+signed_stop files top names Unread told are = signed_not files top names Unread (λ same. absurd cc)
+signed_stop files top names Memory told are = signed_not files top names Memory (λ same. absurd cc)
+
+-- ---- simulations
+
+-- a file that was read, or why it wasn't
+over_reading : (files : Option Files) (name : List ℕ) (answer : Result (Vec ℕ Global) ShelfFault)
+    → IfSome files (λ held. IsReading (reading (held name)) answer) → IfOk answer (λ bytes. vec_len bytes ≤ MAX_FILE_BYTES)
+    → OverFiles files (λ held. IsReading (reading (held name)) answer)
+over_reading None name answer told short =
+    let some = some_reading answer short in
+    record { held = λ wanted. some.0; agrees = tt; holds = some.1 }
+over_reading (Some held) name answer told short = record { held = held; agrees = refl; holds = told }
+
+pub stepped_texts : (files : Option Files) (top steps : List ℕ) (names : List (List ℕ)) (text : Vec ℕ Global) (bytes : List ℕ) (made : List (Vec ℕ Global)) (work : Result Work Stop)
+    → IfSome files (λ held. IsReading (reading (held steps)) (Ok text)) → vec_len text ≤ MAX_FILE_BYTES → bytes ≡ text.items
+    → IfSome files (λ held. texts_of held names ≡ Some (items made)) → length made ≡ length names → All (λ text. vec_len text ≤ MAX_FILE_BYTES) made → are_files names ≡ true
+    → IsWork (IsStepped top (named names (items made)) (items made) bytes) work → OverWorld files (λ world. IsWork (IsSimulating top names (reading (world.before steps)) (texts_of world.files names)) work)
+stepped_texts files top steps names text bytes made work had fits same told count short are is =
+    over_map {P = λ world. IsReading (reading (world.before steps)) (Ok text) × (texts_of world.files names ≡ Some (items made))} {Q = λ world. IsWork (IsSimulating top names (reading (world.before steps)) (texts_of world.files names)) work}
+    files (over_both files (over_reading files steps (Ok text) had fits) (over_texts files names (items made) told (different_of names are) (count_items made ∙ count) (short_items made short)))
+    (λ world both. subst (λ (r : Result (List ℕ) ShelfFault). IsWork (IsSimulating top names r (texts_of world.files names)) work) (sym both.0)
+    (subst (λ (o : Option (List (List ℕ))). IsWork (IsSimulating top names (Ok text.items) o) work) (sym both.1)
+    (subst (λ (all : List ℕ). IsWork (IsStepped top (named names (items made)) (items made) all) work) same is)))
+
+pub stepped_fault : (files : Option Files) (top steps : List ℕ) (names : List (List ℕ)) (fault : ShelfFault) → IfSome files (λ held. IsReading (reading (held steps)) (Err fault))
+    → OverWorld files (λ world. IsWork (IsSimulating top names (reading (world.before steps)) (texts_of world.files names)) (Err (stop_of fault)))
+stepped_fault files top steps names fault had =
+    over_map {P = λ world. IsReading (reading (world.before steps)) (Err fault) × Unit {0}} {Q = λ world. IsWork (IsSimulating top names (reading (world.before steps)) (texts_of world.files names)) (Err (stop_of fault))}
+    files (over_both {Q = λ held. Unit {0}} files (over_reading files steps (Err fault) had tt) (any files)) (by_fault fault)
+  where
+    any : (files : Option Files) → OverFiles files (λ held. Unit {0})
+    any None = record { held = no_files; agrees = tt; holds = tt }
+    any (Some held) = record { held = held; agrees = refl; holds = tt }
+
+    by_fault : (fault : ShelfFault) (world : World) → IsReading (reading (world.before steps)) (Err fault) × Unit {0}
+        → IsWork (IsSimulating top names (reading (world.before steps)) (texts_of world.files names)) (Err (stop_of fault))
+    by_fault Failed world both = tt
+    by_fault NoMemory world both = tt
+    by_fault NoSuchFile world both = rw both.0 refl
+    by_fault TooLong world both = rw both.0 refl
+
+-- the stop of files that weren't read
+pub stepped_stop : (files : Option Files) (top steps : List ℕ) (names : List (List ℕ)) (text : Vec ℕ Global) (stop : Stop)
+    → IfSome files (λ held. IsReading (reading (held steps)) (Ok text)) → vec_len text ≤ MAX_FILE_BYTES
+    → IfSome files (λ held. gone stop ≡ Err NoFile → texts_of held names ≡ None) → are_files names ≡ true
+    → OverWorld files (λ world. IsWork (IsSimulating top names (reading (world.before steps)) (texts_of world.files names)) (Err stop))
+stepped_stop files top steps names text Unread had fits told are = over_any {P = λ world. IsWork (IsSimulating top names (reading (world.before steps)) (texts_of world.files names)) (Err Unread)} files (λ world. tt)
+stepped_stop files top steps names text Memory had fits told are = over_any {P = λ world. IsWork (IsSimulating top names (reading (world.before steps)) (texts_of world.files names)) (Err Memory)} files (λ world. tt)
+stepped_stop files top steps names text NoFile had fits told are =
+    over_map {P = λ world. IsReading (reading (world.before steps)) (Ok text) × (texts_of world.files names ≡ None)} {Q = λ world. IsWork (IsSimulating top names (reading (world.before steps)) (texts_of world.files names)) (Err NoFile)}
+    files (over_both files (over_reading files steps (Ok text) had fits) (over_missing files names (missing files told) (some_of names are)))
+    (λ world both. subst (λ (r : Result (List ℕ) ShelfFault). IsWork (IsSimulating top names r (texts_of world.files names)) (Err NoFile)) (sym both.0)
+    (subst (λ (o : Option (List (List ℕ))). IsWork (IsSimulating top names (Ok text.items) o) (Err NoFile)) (sym both.1) refl))
+  where
+    missing : (files : Option Files) → IfSome files (λ held. gone NoFile ≡ Err NoFile → texts_of held names ≡ None) → IfSome files (λ held. texts_of held names ≡ None)
+    missing None told = tt
+    missing (Some held) told = told refl

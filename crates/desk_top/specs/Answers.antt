@@ -1,0 +1,56 @@
+-- How a call of the desk answers through objects that may fail, and what its status 0 promises.
+use Rattle.std.specs.Prelude.{◌≡◌, ℕ, List, [], Option, None, Some, Ok, Bool, true, false, ⊤}
+use Rattle.std.specs.Io.KnownBytes.{Appends}
+use Rattle.desk_io.specs.Shelf.{Files}
+use Rattle.rtl_tree.specs.TreeModule.{Circuit}
+use Rattle.elab_flat.specs.Flats.{Flat}
+use Rattle.rtl_elab.specs.Elaborated.{elaborated}
+use Rattle.event_model.specs.Queue as queue
+use Rattle.sign_off.specs.Agree.{Agree}
+use Rattle.sign_off.specs.BringUp.{BringsUp}
+use Rattle.desk_top.specs.Delivery.{Outcome, Delivers, gave_up}
+use Rattle.desk_top.specs.Building.{AreSpelled, library}
+use Rattle.desk_top.specs.Outcome.{World, IsOutcome, found_in, not_judged, report_of}
+use Rattle.desk_top.specs.Texts.{named, texts_of}
+use Rattle.desk_top.specs.Words.{Sign, order}
+
+-- what is told is this; an object over the system tells nothing
+abbrev pub Agrees : {A : Type 0} → Option A → A → Type 0
+Agrees None value = ⊤
+Agrees (Some told) value = told ≡ value
+
+-- the fact holds of the world that is told, or, where it isn't told, of some world
+pub record OverWorld (files : Option Files) (P : World → Type 0) : Type 0 where
+  pub world : World
+  pub agrees : Agrees files world.files
+  pub agrees_before : Agrees files world.before
+  pub holds : P world
+
+-- the words' outcome in this world is delivered, or nothing is written where a read failed or memory ran out
+pub record IsAnswered (words : List (List ℕ)) (status : ℕ) (before now : Option (List ℕ)) (world : World) : Type 0 where
+  pub answered : gave_up status ≡ false → (wanted : Outcome) × IsOutcome words world wanted × Delivers wanted status before now
+  pub silent : gave_up status ≡ true → Appends before now []
+
+-- a flat design as the event queue runs it
+abbrev pub queue_of : Flat → queue.Flat
+queue_of design = record { signals = design.signals; tasks = design.tasks }
+
+-- The headline. The words are `sign TOP FILE..`; the files hold texts that spell modules, and no others; of these
+-- the module with the top's name means a flat design; nothing in it is outside what is judged; it has no finding,
+-- which the report says; simulation agrees with synthesis on that design, whatever the order of events and
+-- whatever the fill of what nothing drives; and a bring-up reaches the states from which it does
+pub record IsSignedClean (words : List (List ℕ)) (before now : Option (List ℕ)) (world : World) : Type 0 where
+  pub top : List ℕ
+  pub files : List (List ℕ)
+  pub texts : List (List ℕ)
+  pub circuits : List (List Circuit)
+  pub design : Flat
+  pub command : order words ≡ Some (Sign top files)
+  pub held : texts_of world.files files ≡ Some texts
+  pub spelled : AreSpelled texts circuits
+  pub flat : elaborated (library circuits) top ≡ Ok design
+  pub judged : not_judged design ≡ None
+  pub clean : found_in design ≡ []
+  pub reported : Appends before now (report_of top (named files texts) design)
+  pub agrees : (fill : Bool) → Agree (queue_of design) fill
+  pub brought_up : (fill : Bool) → BringsUp (queue_of design) fill

@@ -1,0 +1,58 @@
+-- What the texts of files make of a top module.
+use Rattle.std.specs.Prelude.{◌≡◌, ℕ, List, Result, Ok, Err}
+use Rattle.rtl_tree.specs.TreeModule.{Circuit}
+use Rattle.rtl_front.specs.declared.fault.FileFault.{FileFault}
+use Rattle.rtl_front.specs.declared.fault.SourceFault.TheVariants as source
+use Rattle.rtl_front.specs.Fronts.{AreRead, IsFirstFaulty}
+use Rattle.elab_scope.specs.Faults.{Answer}
+use Rattle.elab_links.specs.Modules.{all_placed, found}
+use Rattle.elab_walk.specs.Visits.{Library}
+use Rattle.elab_flat.specs.Flats.{Flat}
+use Rattle.rtl_elab.specs.Designs.{flat_in}
+use Rattle.rtl_elab.specs.Elaborated.{elaborated}
+use Rattle.desk_places.specs.Places.{Source}
+use Rattle.desk_refusals.specs.Refusals.{design_line, source_line}
+use Rattle.desk_top.specs.declared.front.Built.{Built as Made}
+use Rattle.desk_top.specs.declared.front.Built.TheVariants as made
+
+-- the modules that texts spell, file by file; or the first file that spells none, and why
+pub data Front : Type 0 where
+  Modules : (circuits : List (List Circuit)) → Front
+  Faulty : (file : ℕ) (fault : FileFault) → Front
+
+-- the modules that texts spell: these, and no others
+pub record AreSpelled (texts : List (List ℕ)) (circuits : List (List Circuit)) : Type 0 where
+  pub read : AreRead texts circuits
+  pub only : (others : List (List Circuit)) → AreRead texts others → others ≡ circuits
+
+abbrev pub IsFront : List (List ℕ) → Front → Type 0
+IsFront texts (Modules circuits) = AreSpelled texts circuits
+IsFront texts (Faulty file fault) = IsFirstFaulty texts (source.Refused file fault)
+
+-- the modules of files, and which of them a name means
+abbrev pub library : List (List Circuit) → Library
+library circuits = record { findings = found (all_placed circuits); files = circuits }
+
+-- the design of a top, or the line that says why there is none
+pub data Built : Type 0 where
+  Designed : (flat : Flat) → Built
+  Refused : (line : List ℕ) → Built
+
+abbrev pub elaborated_or_not : List Source → Result Flat Answer → Built
+elaborated_or_not sources (Ok flat) = Designed flat
+elaborated_or_not sources (Err answer) = Refused (design_line sources answer)
+
+abbrev pub built_of : List ℕ → List Source → Front → Built
+built_of top sources (Modules circuits) = elaborated_or_not sources (elaborated (library circuits) top)
+built_of top sources (Faulty file fault) = Refused (source_line sources file fault)
+
+-- what texts make of a top
+pub record IsBuilt (top : List ℕ) (sources : List Source) (texts : List (List ℕ)) (built : Built) : Type 0 where
+  pub front : Front
+  pub is_front : IsFront texts front
+  pub is : built ≡ built_of top sources front
+
+-- what the code makes
+abbrev pub built : Made → Built
+built (made.Designed design) = Designed (flat_in design)
+built (made.Refused line) = Refused line.items

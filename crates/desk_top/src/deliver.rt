@@ -1,0 +1,148 @@
+// How a command's work ends: an exit status, and bytes that are written to a sink.
+
+ghost use Rattle.std.specs.Prelude.{◌≡◌, ◌≤◌, ◌<◌, length, false, OnOk, OnErr};
+ghost use Rattle.std.specs.Io.KnownBytes.{Appends};
+ghost use Rattle.desk_io.specs.Causes.{HasCause, Rose};
+ghost use Rattle.desk_top.specs.declared.deliver.Stop.TheVariants.{Memory};
+ghost use Rattle.desk_top.specs.Delivery.{Delivers, Finishes, FrontAppended, gave_up, status_of, stop_status};
+
+use desk_io::{Failed, Sink};
+use rtl_tree::memory::Memory as NoMemory;
+use std::alloc::{AllocError, AllocFailed};
+
+/// How work ends that was done.
+#[derive(Clone, Copy, PartialEq, Eq, Debug)]
+pub enum Ending {
+    /// The design is clean.
+    Clean,
+    /// A rule has a finding.
+    Open,
+    /// The source is refused.
+    Refused,
+    /// The words are no command.
+    NoCommand,
+    /// Each step of a simulation came to rest.
+    Settled,
+    /// A step didn't come to rest within its budget.
+    Unsettled,
+    /// The file of steps has a line that is none.
+    Malformed,
+}
+
+/// Why work was not done.
+#[derive(Clone, Copy, PartialEq, Eq, Debug)]
+pub enum Stop {
+    /// A read failed.
+    Unread,
+    /// A file isn't there, or is too long.
+    NoFile,
+    /// Memory ran out.
+    Memory,
+}
+
+impl From<AllocError> for Stop {
+    ghost from_gives = { λ _ stop. stop ≡ Memory };
+
+    fn from(_error: AllocError) -> Stop {
+        Stop::Memory
+    }
+}
+
+impl From<NoMemory> for Stop {
+    ghost from_gives = { λ _ stop. stop ≡ Memory };
+
+    fn from(_error: NoMemory) -> Stop {
+        Stop::Memory
+    }
+}
+
+impl<T: Drop> From<AllocFailed<T>> for Stop {
+    ghost from_gives = { λ _ stop. stop ≡ Memory };
+
+    fn from(_error: AllocFailed<T>) -> Stop {
+        Stop::Memory
+    }
+}
+
+/// Work that was done, with the bytes to be written.
+#[derive(Drop)]
+pub struct Work {
+    pub ending: Ending,
+    pub bytes: Vec<u8>,
+}
+
+impl Ending {
+    /// The exit status.
+    pub fn status(self) -> u8
+        ensures { result ≡ status_of self }
+    {
+        match self {
+            Ending::Clean => 0,
+            Ending::Open => 1,
+            Ending::Refused => 2,
+            Ending::NoCommand => 3,
+            Ending::Settled => 0,
+            Ending::Unsettled => 11,
+            Ending::Malformed => 12,
+        }
+    }
+}
+
+impl Stop {
+    /// The exit status.
+    pub fn status(self) -> u8
+        ensures { result ≡ stop_status self }
+    {
+        match self {
+            Stop::Unread => UNREAD,
+            Stop::NoFile => 9,
+            Stop::Memory => 20,
+        }
+    }
+}
+
+/// The exit status where a write failed.
+pub const UNWRITTEN: u8 = 5;
+
+/// The exit status where a read failed.
+pub const UNREAD: u8 = 4;
+
+/// Writes what the work has to say, and answers the exit status.
+pub fn finish<S: Sink>(work: Result<Work, Stop>, out: &mut S) -> u8
+    ensures finishes { Finishes work result (S.taken out.old) (S.taken out.new) }
+    ensures unwritten { result ≡ UNWRITTEN → Rose (S.faults out.old) (S.faults out.new) }
+    ensures later { S.faults out.old ≤ S.faults out.new }
+{
+    match work {
+        Ok(work) => deliver(work.ending, &work.bytes, out),
+        Err(stop) => stop.status(),
+    }
+}
+
+/// Writes these bytes, and answers the exit status of the ending, or 5 where a write fails.
+pub fn deliver<S: Sink>(ending: Ending, bytes: &[u8], out: &mut S) -> u8
+    ensures done { gave_up result ≡ false }
+    ensures delivers { Delivers (record { status = status_of ending; bytes = bytes.now }) result (S.taken out.old) (S.taken out.new) }
+    ensures unwritten { result ≡ UNWRITTEN → Rose (S.faults out.old) (S.faults out.new) }
+    ensures later { S.faults out.old ≤ S.faults out.new }
+{
+    match write_whole(bytes, out) {
+        Ok(()) => ending.status(),
+        Err(Failed) => UNWRITTEN,
+    }
+}
+
+// Writes until all the bytes are taken.
+fn write_whole<S: Sink>(bytes: &[u8], out: &mut S) -> Result<(), Failed>
+    ensures whole { OnOk result (Appends (S.taken out.old) (S.taken out.new) bytes.now) }
+    ensures front { FrontAppended (S.taken out.old) (S.taken out.new) bytes.now }
+    ensures some_bytes { OnErr result (0 < length bytes.now) }
+    ensures cause { HasCause (S.faults out.old) (S.faults out.new) result }
+{
+    let mut rest = bytes;
+    while !rest.is_empty() {
+        let count = out.write(rest)?;
+        (_, rest) = rest.split_at(count);
+    }
+    Ok(())
+}

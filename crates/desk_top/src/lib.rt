@@ -1,0 +1,10 @@
+//! The desk's one call: what the words of a command line ask for, over any shelf of files and any sink of bytes.
+#![tactic(auto)]
+
+pub mod deliver;
+pub mod files;
+pub mod front;
+pub mod sign;
+pub mod simulate;
+pub mod top;
+pub mod words;

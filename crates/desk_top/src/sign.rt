@@ -1,0 +1,102 @@
+// The command `sign TOP FILE..`.
+
+ghost use Rattle.std.specs.Prelude.{◌≡◌, ◌≢◌, ◌≤◌, if◌then◌else◌, map, length, true, vec_len};
+ghost use Rattle.std.specs.List.{All};
+ghost use Rattle.desk_io.specs.Causes.{Rose};
+ghost use Rattle.desk_io.specs.declared.shelf.TheConstants.{MAX_FILE_BYTES};
+ghost use Rattle.rtl_elab.specs.Designs.{flat_in};
+ghost use Rattle.desk_places.specs.Places.{sources_of};
+ghost use Rattle.desk_top.specs.Answers.{OverWorld};
+ghost use Rattle.desk_top.specs.Delivery.{IsWork, status_of};
+ghost use Rattle.desk_top.specs.Outcome.{IsJudged, IsSigned, not_judged, refused, ruled_or_not};
+ghost use Rattle.desk_top.specs.Texts.{named, texts_of};
+ghost use Rattle.desk_top.specs.Words.{are_files, texts};
+
+use crate::deliver::{Ending, Stop, Work};
+use crate::files::read_texts;
+use crate::front::{Built, build};
+use desk_io::Shelf;
+use desk_places::sources::Sources;
+use desk_refusals::not_built;
+use desk_report::report;
+use rtl_flat::design::Design;
+use sign_off::finding::Ruling;
+use sign_off::rule::{Unruled, rule};
+use std::alloc::Global;
+
+/// Rules the module of this name among those of these files, and writes the report.
+pub fn sign<F: Shelf>(
+    alloc: Global,
+    top: &str,
+    files: &[String],
+    shelf: &mut F,
+) -> Result<Work, Stop>
+    requires { are_files (texts files.now) ≡ true }
+    ensures work { OverWorld (F.files shelf.old) (λ world. IsWork (IsSigned top.now (texts files.now) (texts_of world.files (texts files.now))) result) }
+    ensures unread { result ≡ Err Stop.Unread → Rose (F.faults shelf.old) (F.faults shelf.new) }
+    ensures later { F.faults shelf.old ≤ F.faults shelf.new }
+{
+    match read_texts(alloc, files, shelf) {
+        Ok(made) => judge(alloc, top, files, &made),
+        Err(stop) => Err(stop),
+    }
+}
+
+// The report of the top, or why there is none.
+fn judge(alloc: Global, top: &str, files: &[String], made: &[Vec<u8>]) -> Result<Work, Stop>
+    requires count { length made.now ≡ length files.now }
+    requires short { All (λ text. vec_len text ≤ MAX_FILE_BYTES) made.now }
+    ensures work { IsWork (IsJudged top.now (named (texts files.now) (map (λ text. text.items) made.now)) (map (λ text. text.items) made.now)) result }
+    ensures read { result ≢ Err Stop.Unread }
+{
+    let sources = Sources::new(alloc, files, made)?;
+    match build(alloc, top, &sources, made) {
+        Ok(Built::Designed(design)) => judge_design(alloc, top, &sources, &design),
+        Ok(Built::Refused(line)) => refuse(line),
+        Err(stop) => Err(stop),
+    }
+}
+
+// The report of a design, or where it has what isn't judged.
+fn judge_design(
+    alloc: Global,
+    top: &str,
+    sources: &Sources<'_>,
+    design: &Design,
+) -> Result<Work, Stop>
+    ensures work { IsWork (λ outcome. outcome ≡ ruled_or_not top.now (sources_of sources.now) (flat_in design.now) (not_judged (flat_in design.now))) result }
+    ensures read { result ≢ Err Stop.Unread }
+{
+    match rule(alloc, design) {
+        Ok(ruling) => {
+            let bytes = report(alloc, top.as_bytes(), sources, design, &ruling)?;
+            Ok(Work {
+                ending: ending_of(&ruling),
+                bytes,
+            })
+        }
+        Err(Unruled::NotBuilt(spot)) => refuse(not_built(alloc, sources, spot)?),
+        Err(Unruled::Memory) => Err(Stop::Memory),
+    }
+}
+
+fn ending_of(ruling: &Ruling) -> Ending
+    ensures { status_of result ≡ (if ruling.now.clean then 0 else 1) }
+{
+    if ruling.clean {
+        Ending::Clean
+    } else {
+        Ending::Open
+    }
+}
+
+// The work that is done with a refusal.
+pub fn refuse(line: Vec<u8>) -> Result<Work, Stop>
+    ensures work { IsWork (λ outcome. outcome ≡ refused line.items) result }
+    ensures read { result ≢ Err Stop.Unread }
+{
+    Ok(Work {
+        ending: Ending::Refused,
+        bytes: line,
+    })
+}

@@ -1,0 +1,59 @@
+// The top call: all that the program does.
+
+ghost use Rattle.std.specs.Prelude.{◌≡◌, ◌≤◌, Some, true, IsSome};
+ghost use Rattle.desk_io.specs.Causes.{Rose};
+ghost use Rattle.desk_top.specs.declared.deliver.TheConstants.{UNREAD, UNWRITTEN};
+ghost use Rattle.desk_top.specs.Answers.{IsAnswered, IsSignedClean, OverWorld};
+ghost use Rattle.desk_top.specs.Commands.{HasFiles, order_of};
+ghost use Rattle.desk_top.specs.Delivery.{gave_up, IsWork};
+ghost use Rattle.desk_top.specs.Outcome.{IsDone};
+ghost use Rattle.desk_top.specs.Words.{is_sign, order, texts};
+
+use crate::deliver::{Ending, Stop, Work, deliver, finish};
+use crate::sign::sign;
+use crate::simulate::simulate;
+use crate::words::{Command, read_command};
+use desk_io::{Shelf, Sink};
+use std::alloc::Global;
+
+// What is written where the words are no command.
+const USAGE: &[u8] =
+    b"usage: desk sign TOP FILE.. | simulate TOP STEPS FILE.. | replay TOP DEMO FILE.. | serve PORT COUNT | report TOP | generate N\n";
+
+/// Does what the words of the command line say, with the files of a shelf, writes to a sink, and answers the exit status:
+/// 0 where the module is signed clean, or where each step of a simulation came to rest; 1 where a rule has a finding, 2
+/// where the source is refused, 3 where the words are no command, 4 where a read failed, 5 where a write failed, 9 where a
+/// file isn't there or is too long, 11 where a step didn't come to rest within its budget, 12 where a line of the steps is
+/// none, and 20 where memory ran out.
+pub fn desk<F: Shelf, S: Sink>(alloc: Global, words: &[String], shelf: &mut F, out: &mut S) -> u8
+    // What is answered and written, over the files that are told, or over some files.
+    ensures answer { OverWorld (F.files shelf.old) (IsAnswered (texts words.now) result (S.taken out.old) (S.taken out.new)) }
+
+    // The headline: what is signed clean shows in every simulation what its hardware shows.
+    ensures headline { is_sign (order (texts words.now)) ≡ true → result ≡ 0 → OverWorld (F.files shelf.old) (IsSignedClean (texts words.now) (S.taken out.old) (S.taken out.new)) }
+
+    // Each failure has its cause.
+    ensures unread { result ≡ UNREAD → Rose (F.faults shelf.old) (F.faults shelf.new) }
+    ensures unwritten { result ≡ UNWRITTEN → Rose (S.faults out.old) (S.faults out.new) }
+    ensures a_command { gave_up result ≡ true → IsSome (order (texts words.now)) }
+    ensures shelf_later { F.faults shelf.old ≤ F.faults shelf.new }
+    ensures sink_later { S.faults out.old ≤ S.faults out.new }
+{
+    match read_command(words) {
+        None => deliver(Ending::NoCommand, USAGE, out),
+        Some(command) => finish(run(alloc, command, shelf), out),
+    }
+}
+
+// The work of a command.
+fn run<F: Shelf>(alloc: Global, command: Command<'_>, shelf: &mut F) -> Result<Work, Stop>
+    requires { HasFiles (order_of command) }
+    ensures work { OverWorld (F.files shelf.old) (λ world. IsWork (IsDone world (Some (order_of command.entry))) result) }
+    ensures unread { result ≡ Err Stop.Unread → Rose (F.faults shelf.old) (F.faults shelf.new) }
+    ensures later { F.faults shelf.old ≤ F.faults shelf.new }
+{
+    match command {
+        Command::Sign { top, files } => sign(alloc, top, files, shelf),
+        Command::Simulate { top, steps, files } => simulate(alloc, top, steps, files, shelf),
+    }
+}
