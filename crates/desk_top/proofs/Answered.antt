@@ -4,7 +4,8 @@ use Rattle.std.specs.Io.KnownBytes.{Appends}
 use Rattle.rtl_tree.specs.declared.text.Spot.{Spot}
 use Rattle.rtl_tree.specs.TreeModule.{Circuit}
 use Rattle.elab_scope.specs.Faults.{Answer}
-use Rattle.elab_flat.specs.Flats.{Flat}
+use Rattle.elab_flat.specs.Flats.{DesignParts}
+use Rattle.rtl_elab.specs.Designs.{library_of}
 use Rattle.rtl_elab.specs.Elaborated.{elaborated}
 use Rattle.rtl_elab.proofs.Deciding.{elaborated_lawful}
 use Rattle.sign_off.specs.declared.finding.Finding.{Finding}
@@ -14,7 +15,7 @@ use Rattle.desk_top.specs.declared.deliver.Stop.TheVariants.{Unread, NoFile, Mem
 use Rattle.desk_top.specs.declared.deliver.Work.{Work}
 use Rattle.desk_top.specs.Words.{Order, Sign, Simulate, is_sign, order}
 use Rattle.desk_top.specs.Delivery.{Outcome, Delivers, Finishes, IsWork, gave_up, no_file, outcome_of}
-use Rattle.desk_top.specs.Building.{AreSpelled, Front, Modules, Faulty, IsFront, built_of, elaborated_or_not, library}
+use Rattle.desk_top.specs.Building.{AreSpelled, Front, Modules, Faulty, IsFront, built_of, elaborated_or_not}
 use Rattle.desk_top.specs.Outcome.{World, IsDone, IsOutcome, IsSigned, found_in, has_none, judged, not_judged, report_of, ruled_or_not}
 use Rattle.desk_top.specs.Texts.{named, texts_of}
 use Rattle.desk_top.specs.Answers.{IsAnswered, IsSignedClean, queue_of}
@@ -81,12 +82,12 @@ zero_is_clean words world wanted before now asked is zero written = by_order (or
     clash : {P : Type 0} (status : ℕ) → wanted.status ≡ status → 0 ≢ status → P
     clash status same other = absurd (other (zero ∙ same))
 
-    by_findings : (top : List ℕ) (files texts : List (List ℕ)) (circuits : List (List Circuit)) (design : Flat) → order words ≡ Some (Sign top files) → texts_of world.files files ≡ Some texts
-        → AreSpelled texts circuits → elaborated (library circuits) top ≡ Ok design → not_judged design ≡ None
+    by_findings : (top : List ℕ) (files texts : List (List ℕ)) (circuits : List (List Circuit)) (design : DesignParts) → order words ≡ Some (Sign top files) → texts_of world.files files ≡ Some texts
+        → AreSpelled texts circuits → elaborated (library_of circuits) top ≡ Ok design → not_judged design ≡ None
         → (b : Bool) → has_none (found_in design) ≡ b → wanted ≡ record { status = cond b 0 1; bytes = report_of top (named files texts) design } → IsSignedClean words before now world
     by_findings top files texts circuits design command held spelled made built true none outcome =
         let clean : found_in design ≡ [] = has_none_is (found_in design) none in
-        let lawful = elaborated_lawful (library circuits) top design made in
+        let lawful = elaborated_lawful (library_of circuits) top design made in
         record {
           top = top;
           files = files;
@@ -105,15 +106,15 @@ zero_is_clean words world wanted before now asked is zero written = by_order (or
         }
     by_findings top files texts circuits design command held spelled made built false some outcome = clash 1 (ap (λ o. o.status) outcome) (λ same. omega (arith, same))
 
-    by_spot : (top : List ℕ) (files texts : List (List ℕ)) (circuits : List (List Circuit)) (design : Flat) → order words ≡ Some (Sign top files) → texts_of world.files files ≡ Some texts
-        → AreSpelled texts circuits → elaborated (library circuits) top ≡ Ok design
+    by_spot : (top : List ℕ) (files texts : List (List ℕ)) (circuits : List (List Circuit)) (design : DesignParts) → order words ≡ Some (Sign top files) → texts_of world.files files ≡ Some texts
+        → AreSpelled texts circuits → elaborated (library_of circuits) top ≡ Ok design
         → (o : Option Spot) → not_judged design ≡ o → wanted ≡ ruled_or_not top (named files texts) design o → IsSignedClean words before now world
     by_spot top files texts circuits design command held spelled made None built outcome =
         by_findings top files texts circuits design command held spelled made built (has_none (found_in design)) refl outcome
     by_spot top files texts circuits design command held spelled made (Some spot) built outcome = clash 2 (ap (λ o. o.status) outcome) (λ same. omega (arith, same))
 
     by_built : (top : List ℕ) (files texts : List (List ℕ)) (circuits : List (List Circuit)) → order words ≡ Some (Sign top files) → texts_of world.files files ≡ Some texts
-        → AreSpelled texts circuits → (made : Result Flat Answer) → elaborated (library circuits) top ≡ made → wanted ≡ judged top (named files texts) (elaborated_or_not (named files texts) made) → IsSignedClean words before now world
+        → AreSpelled texts circuits → (made : Result DesignParts Answer) → elaborated (library_of circuits) top ≡ made → wanted ≡ judged top (named files texts) (elaborated_or_not (named files texts) made) → IsSignedClean words before now world
     by_built top files texts circuits command held spelled (Ok design) made outcome =
         by_spot top files texts circuits design command held spelled made (not_judged design) refl outcome
     by_built top files texts circuits command held spelled (Err answer) made outcome = clash 2 (ap (λ o. o.status) outcome) (λ same. omega (arith, same))
@@ -121,7 +122,7 @@ zero_is_clean words world wanted before now asked is zero written = by_order (or
     by_front : (top : List ℕ) (files texts : List (List ℕ)) → order words ≡ Some (Sign top files) → texts_of world.files files ≡ Some texts
         → (front : Front) → IsFront texts front → wanted ≡ judged top (named files texts) (built_of top (named files texts) front) → IsSignedClean words before now world
     by_front top files texts command held (Modules circuits) spelled outcome =
-        by_built top files texts circuits command held spelled (elaborated (library circuits) top) refl outcome
+        by_built top files texts circuits command held spelled (elaborated (library_of circuits) top) refl outcome
     by_front top files texts command held (Faulty file fault) refused outcome = clash 2 (ap (λ o. o.status) outcome) (λ same. omega (arith, same))
 
     by_texts : (top : List ℕ) (files : List (List ℕ)) → order words ≡ Some (Sign top files) → (o : Option (List (List ℕ))) → texts_of world.files files ≡ o

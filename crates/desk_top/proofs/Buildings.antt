@@ -5,9 +5,7 @@ use Rattle.std.specs.declared.alloc.Global.{Global}
 use Rattle.rtl_tree.specs.declared.text.Spot.{Spot}
 use Rattle.rtl_tree.specs.declared.tree.modules.Module.{Module}
 use Rattle.rtl_tree.specs.TreeModule.{Circuit}
-use Rattle.elab_links.specs.declared.module_set.ModuleSet.{ModuleSet}
-use Rattle.elab_links.specs.Modules.{Findings, all_placed, circuits_of, findings_of, found}
-use Rattle.elab_flat.specs.Flats.{Flat}
+use Rattle.elab_flat.specs.Flats.{DesignParts}
 use Rattle.rtl_elab.specs.Designs.{library_of}
 use Rattle.rtl_elab.specs.Elaborated.{elaborated}
 use Rattle.sign_off.specs.declared.finding.Finding.{Finding}
@@ -20,17 +18,14 @@ use Rattle.desk_report.specs.Reports.{report_text}
 use Rattle.desk_top.specs.declared.deliver.Stop.{Stop}
 use Rattle.desk_top.specs.declared.deliver.Work.{Work}
 use Rattle.desk_top.specs.declared.front.Built.{Built as Made}
-use Rattle.desk_top.specs.Building.{AreSpelled, Built, Modules, IsBuilt, built, elaborated_or_not, library}
+use Rattle.desk_top.specs.Building.{AreSpelled, Built, Modules, IsBuilt, built, elaborated_or_not}
 use Rattle.desk_top.specs.Delivery.{Outcome, IsWork}
 use Rattle.desk_top.specs.Outcome.{IsJudged, IsStepped, IsTried, found_in, has_none, judged, not_judged, refused, ruled, ruled_or_not}
 use Rattle.desk_top.proofs.Answered.{work_map}
 
-pub library_is : (files : List (Vec Module Global)) (set : ModuleSet) → findings_of set ≡ found (all_placed (circuits_of files)) → library_of files set ≡ library (circuits_of files)
-library_is files set is = ap (λ (f : Findings). record { findings = f; files = circuits_of files }) is
-
 -- what modules make
 pub built_ok : (top : List ℕ) (sources : List Source) (texts : List (List ℕ)) (circuits : List (List Circuit)) (r : Result Made Stop) → AreSpelled texts circuits
-    → IfOk r (λ made. built made ≡ elaborated_or_not sources (elaborated (library circuits) top)) → IfOk r (λ made. IsBuilt top sources texts (built made))
+    → IfOk r (λ made. built made ≡ elaborated_or_not sources (elaborated (library_of circuits) top)) → IfOk r (λ made. IsBuilt top sources texts (built made))
 built_ok top sources texts circuits (Ok made) read is = record { front = Modules circuits; is_front = read; is = is }
 built_ok top sources texts circuits (Err stop) read is = tt
 
@@ -60,7 +55,7 @@ none_of false [] iff = absurd (let no : IsTrue false = iff.1 refl in cc)
 none_of false (finding ∷ others) iff = refl
 
 -- the work of a ruling
-pub ruled_is : (top : List ℕ) (sources : List Source) (flat : Flat) (fs : List Finding) (clean firm : Bool) (status : ℕ) (bytes : List ℕ) → fs ≡ found_in flat
+pub ruled_is : (top : List ℕ) (sources : List Source) (flat : DesignParts) (fs : List Finding) (clean firm : Bool) (status : ℕ) (bytes : List ℕ) → fs ≡ found_in flat
     → (IsTrue clean ↔ (fs ≡ [])) → (IsTrue firm ↔ (fs ≡ [])) → status ≡ cond clean 0 1 → bytes ≡ report_text top sources flat.signals fs clean firm
     → record { status = status; bytes = bytes } ≡ ruled top sources flat
 ruled_is top sources flat fs clean firm status bytes same is_clean is_firm status_is bytes_is =
@@ -72,12 +67,12 @@ ruled_is top sources flat fs clean firm status bytes same is_clean is_firm statu
     (bytes_is ∙ ap (λ (b : Bool). report_text top sources flat.signals fs b firm) c ∙ ap (λ (b : Bool). report_text top sources flat.signals fs (has_none (found_in flat)) b) f
     ∙ ap (λ (all : List Finding). report_text top sources flat.signals all (has_none (found_in flat)) (has_none (found_in flat))) same)
 
-pub is_ruled : (top : List ℕ) (sources : List Source) (flat : Flat) (outcome : Outcome) (r : Result Ruling Unruled) (ruling : Ruling) → r ≡ Ok ruling
+pub is_ruled : (top : List ℕ) (sources : List Source) (flat : DesignParts) (outcome : Outcome) (r : Result Ruling Unruled) (ruling : Ruling) → r ≡ Ok ruling
     → ((spot : Spot) → (not_judged flat ≡ Some spot) ↔ (r ≡ Err (NotBuilt spot))) → outcome ≡ ruled top sources flat → outcome ≡ ruled_or_not top sources flat (not_judged flat)
 is_ruled top sources flat outcome r ruling ok iff is =
     is ∙ sym (ap (ruled_or_not top sources flat) (none_not_judged (not_judged flat) r ruling ok iff))
 
-pub is_refused : (top : List ℕ) (sources : List Source) (flat : Flat) (line : List ℕ) (spot : Spot) (work : Result Work Stop) → not_judged flat ≡ Some spot → line ≡ not_built_line sources spot
+pub is_refused : (top : List ℕ) (sources : List Source) (flat : DesignParts) (line : List ℕ) (spot : Spot) (work : Result Work Stop) → not_judged flat ≡ Some spot → line ≡ not_built_line sources spot
     → IsWork (λ outcome. outcome ≡ refused line) work → IsWork (λ outcome. outcome ≡ ruled_or_not top sources flat (not_judged flat)) work
 is_refused top sources flat line spot work there line_is is =
     work_map {P = λ outcome. outcome ≡ refused line} {Q = λ outcome. outcome ≡ ruled_or_not top sources flat (not_judged flat)} work is

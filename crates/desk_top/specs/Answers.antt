@@ -3,13 +3,14 @@ use Rattle.std.specs.Prelude.{◌≡◌, ℕ, List, [], Option, None, Some, Ok, 
 use Rattle.std.specs.Io.KnownBytes.{Appends}
 use Rattle.desk_io.specs.Shelf.{Files}
 use Rattle.rtl_tree.specs.TreeModule.{Circuit}
-use Rattle.elab_flat.specs.Flats.{Flat}
+use Rattle.elab_flat.specs.Flats.{DesignParts}
+use Rattle.rtl_elab.specs.Designs.{library_of}
 use Rattle.rtl_elab.specs.Elaborated.{elaborated}
 use Rattle.event_model.specs.Queue as queue
 use Rattle.sign_off.specs.Agree.{Agree}
 use Rattle.sign_off.specs.BringUp.{BringsUp}
 use Rattle.desk_top.specs.Delivery.{Outcome, Delivers, gave_up}
-use Rattle.desk_top.specs.Building.{AreSpelled, library}
+use Rattle.desk_top.specs.Building.{AreSpelled}
 use Rattle.desk_top.specs.Outcome.{World, IsOutcome, found_in, not_judged, report_of}
 use Rattle.desk_top.specs.Texts.{named, texts_of}
 use Rattle.desk_top.specs.Words.{Sign, order}
@@ -32,7 +33,7 @@ pub record IsAnswered (words : List (List ℕ)) (status : ℕ) (before now : Opt
   pub silent : gave_up status ≡ true → Appends before now []
 
 -- a flat design as the event queue runs it
-abbrev pub queue_of : Flat → queue.Flat
+abbrev pub queue_of : DesignParts → queue.Flat
 queue_of design = record { signals = design.signals; tasks = design.tasks }
 
 -- The headline. The words are `sign TOP FILE..`; the files hold texts that spell modules, and no others; of these
@@ -44,11 +45,11 @@ pub record IsSignedClean (words : List (List ℕ)) (before now : Option (List �
   pub files : List (List ℕ)
   pub texts : List (List ℕ)
   pub circuits : List (List Circuit)
-  pub design : Flat
+  pub design : DesignParts
   pub command : order words ≡ Some (Sign top files)
   pub held : texts_of world.files files ≡ Some texts
   pub spelled : AreSpelled texts circuits
-  pub flat : elaborated (library circuits) top ≡ Ok design
+  pub flat : elaborated (library_of circuits) top ≡ Ok design
   pub judged : not_judged design ≡ None
   pub clean : found_in design ≡ []
   pub reported : Appends before now (report_of top (named files texts) design)

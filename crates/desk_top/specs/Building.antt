@@ -5,10 +5,8 @@ use Rattle.rtl_front.specs.declared.fault.FileFault.{FileFault}
 use Rattle.rtl_front.specs.declared.fault.SourceFault.TheVariants as source
 use Rattle.rtl_front.specs.Fronts.{AreRead, IsFirstFaulty}
 use Rattle.elab_scope.specs.Faults.{Answer}
-use Rattle.elab_links.specs.Modules.{all_placed, found}
-use Rattle.elab_walk.specs.Visits.{Library}
-use Rattle.elab_flat.specs.Flats.{Flat}
-use Rattle.rtl_elab.specs.Designs.{flat_in}
+use Rattle.elab_flat.specs.Flats.{DesignParts}
+use Rattle.rtl_elab.specs.Designs.{flat_in, library_of}
 use Rattle.rtl_elab.specs.Elaborated.{elaborated}
 use Rattle.desk_places.specs.Places.{Source}
 use Rattle.desk_refusals.specs.Refusals.{design_line, source_line}
@@ -29,21 +27,17 @@ abbrev pub IsFront : List (List ℕ) → Front → Type 0
 IsFront texts (Modules circuits) = AreSpelled texts circuits
 IsFront texts (Faulty file fault) = IsFirstFaulty texts (source.Refused file fault)
 
--- the modules of files, and which of them a name means
-abbrev pub library : List (List Circuit) → Library
-library circuits = record { findings = found (all_placed circuits); files = circuits }
-
 -- the design of a top, or the line that says why there is none
 pub data Built : Type 0 where
-  Designed : (flat : Flat) → Built
+  Designed : (flat : DesignParts) → Built
   Refused : (line : List ℕ) → Built
 
-abbrev pub elaborated_or_not : List Source → Result Flat Answer → Built
+abbrev pub elaborated_or_not : List Source → Result DesignParts Answer → Built
 elaborated_or_not sources (Ok flat) = Designed flat
 elaborated_or_not sources (Err answer) = Refused (design_line sources answer)
 
 abbrev pub built_of : List ℕ → List Source → Front → Built
-built_of top sources (Modules circuits) = elaborated_or_not sources (elaborated (library circuits) top)
+built_of top sources (Modules circuits) = elaborated_or_not sources (elaborated (library_of circuits) top)
 built_of top sources (Faulty file fault) = Refused (source_line sources file fault)
 
 -- what texts make of a top

@@ -4,7 +4,7 @@ use Rattle.std.specs.Fmt.{decimal}
 use Rattle.desk_io.specs.declared.shelf.ShelfFault.{ShelfFault}
 use Rattle.desk_io.specs.Shelf.{Files, reading}
 use Rattle.rtl_tree.specs.declared.text.Spot.{Spot}
-use Rattle.elab_flat.specs.Flats.{Flat}
+use Rattle.elab_flat.specs.Flats.{DesignParts}
 use Rattle.sign_off.specs.declared.finding.Finding.{Finding}
 use Rattle.sign_off.specs.Built.{not_built}
 use Rattle.sign_off.specs.Circuit.{view}
@@ -31,16 +31,16 @@ has_none [] = true
 has_none (finding ∷ others) = false
 
 -- the findings of the rules
-abbrev pub found_in : Flat → List Finding
+abbrev pub found_in : DesignParts → List Finding
 found_in flat = findings (view flat.signals flat.tasks)
 
 -- the report of a design; every rule of today is of the first grade, so that a clean design is firm
-abbrev pub report_of : List ℕ → List Source → Flat → List ℕ
+abbrev pub report_of : List ℕ → List Source → DesignParts → List ℕ
 report_of top sources flat =
     report_text top sources flat.signals (found_in flat) (has_none (found_in flat)) (has_none (found_in flat))
 
 -- 0 where the design is clean, 1 where it has a finding
-abbrev pub ruled : List ℕ → List Source → Flat → Outcome
+abbrev pub ruled : List ℕ → List Source → DesignParts → Outcome
 ruled top sources flat =
     record { status = if has_none (found_in flat) then 0 else 1; bytes = report_of top sources flat }
 
@@ -49,12 +49,12 @@ abbrev pub refused : List ℕ → Outcome
 refused line = record { status = 2; bytes = line }
 
 -- a design that has what isn't judged today is refused at its place
-abbrev pub ruled_or_not : List ℕ → List Source → Flat → Option Spot → Outcome
+abbrev pub ruled_or_not : List ℕ → List Source → DesignParts → Option Spot → Outcome
 ruled_or_not top sources flat None = ruled top sources flat
 ruled_or_not top sources flat (Some spot) = refused (not_built_line sources spot)
 
 -- where a design has what isn't judged today
-abbrev pub not_judged : Flat → Option Spot
+abbrev pub not_judged : DesignParts → Option Spot
 not_judged flat = not_built flat.signals flat.tasks flat.delays flat.dropped
 
 -- a report of the design of the top, or a refusal
@@ -84,13 +84,13 @@ abbrev pub run : Shown → Outcome
 run shown = record { status = if shown.settled then 0 else 11; bytes = shown.bytes }
 
 -- the answer for the steps of a design
-abbrev pub IsRun : Flat → Result Steps ℕ → Outcome → Type 0
+abbrev pub IsRun : DesignParts → Result Steps ℕ → Outcome → Type 0
 IsRun flat (Ok steps) outcome =
     (shown : Shown) × IsSimulated flat.signals flat.tasks flat.instances steps shown × (outcome ≡ run shown)
 IsRun flat (Err number) outcome = outcome ≡ malformed number
 
 -- the inputs of a design's top by their names
-abbrev pub names_in : Flat → Names
+abbrev pub names_in : DesignParts → Names
 names_in flat = names_from (ahead flat.instances) 0 flat.signals
 
 abbrev pub IsTried : List ℕ → Built → Outcome → Type 0

@@ -1,2 +1,3 @@
 pub mod Deciding
 mod Examples
+pub mod Libraries

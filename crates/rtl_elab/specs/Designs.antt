@@ -1,17 +1,15 @@
 -- What elaboration is given and what it makes, as contracts see it.
-use Rattle.std.specs.Prelude.{List, map, Vec}
-use Rattle.std.specs.declared.alloc.Global.{Global}
-use Rattle.rtl_tree.specs.declared.tree.modules.Module.{Module}
+use Rattle.std.specs.Prelude.{List, map}
+use Rattle.rtl_tree.specs.TreeModule.{Circuit}
 use Rattle.rtl_flat.specs.declared.design.Design.{Design}
 use Rattle.rtl_flat.specs.Process.{task}
-use Rattle.elab_links.specs.declared.module_set.ModuleSet.{ModuleSet}
-use Rattle.elab_links.specs.Modules.{circuits_of, lookups_of}
+use Rattle.elab_links.specs.Modules.{all_placed, found}
 use Rattle.elab_walk.specs.Visits.{Library}
 use Rattle.elab_flat.specs.Flats.{DesignParts}
 
--- the modules of files, and which of them a name means by a set
-abbrev pub library_of : List (Vec Module Global) → ModuleSet → Library
-library_of files set = record { lookups = lookups_of set; files = circuits_of files }
+-- the modules of files, and which of them a name means
+abbrev pub library_of : List (List Circuit) → Library
+library_of files = record { lookups = found (all_placed files); files = files }
 
 -- what a design is made of
 abbrev pub flat_in : Design → DesignParts

@@ -3,7 +3,9 @@
 ghost use Rattle.std.specs.Prelude.{◌≡◌, ◌+◌, IfErr, IfOk, Ok};
 ghost use Rattle.elab_scope.specs.Faults.{answer};
 ghost use Rattle.elab_flat.specs.Views.{flat};
+ghost use Rattle.elab_links.specs.Modules.{all_placed, circuits_of, found, lookups_of};
 ghost use Rattle.elab_walk.specs.Trails.{IsTold};
+ghost use Rattle.elab_walk.specs.Visits.{library};
 ghost use Rattle.elab_lawful.specs.Laws.{IsLawful};
 ghost use Rattle.rtl_elab.specs.Designs.{flat_in, library_of};
 ghost use Rattle.rtl_elab.specs.Elaborated.{elaborated, refused};
@@ -42,7 +44,18 @@ fn design_of(made: DesignParts) -> Design
     }
 }
 
-/// The flat design of the module with a name among those of all files, which `set` has. Each call is one step.
+/// The design of the module with a name, of modules and any set of them.
+fn design_in(alloc: Global, all: Library<'_>, top: &Text) -> Result<Design, ElabFault>
+    ensures design { IfOk result (λ design. elaborated (library all.entry) top.now ≡ Ok (flat_in design)) }
+    ensures told { IfErr result (λ error. IsTold (answer error) (refused (elaborated (library all.entry) top.now))) }
+{
+    match flat_design(alloc, all, top) {
+        Ok(made) => Ok(design_of(made)),
+        Err(error) => Err(error),
+    }
+}
+
+/// The flat design of the module with a name among those of all files, of which `set` is made. Each call is one step.
 ///
 /// # Errors
 ///
@@ -55,13 +68,11 @@ pub fn elaborate<L: Ledger>(
     top: &Text,
     steps: &mut Steps<L>,
 ) -> Result<Design, ElabFault>
+    requires { lookups_of set.now ≡ found (all_placed (circuits_of files.now)) }
     ensures counted { steps.new ≡ steps.old + 1 }
-    ensures design { IfOk result (λ design. elaborated (library_of files.now set.now) top.now ≡ Ok (flat_in design)) }
-    ensures told { IfErr result (λ error. IsTold (answer error) (refused (elaborated (library_of files.now set.now) top.now))) }
+    ensures design { IfOk result (λ design. elaborated (library_of (circuits_of files.now)) top.now ≡ Ok (flat_in design)) }
+    ensures told { IfErr result (λ error. IsTold (answer error) (refused (elaborated (library_of (circuits_of files.now)) top.now))) }
 {
     steps.tick();
-    match flat_design(alloc, Library { files, set }, top) {
-        Ok(made) => Ok(design_of(made)),
-        Err(error) => Err(error),
-    }
+    design_in(alloc, Library { files, set }, top)
 }

@@ -1,8 +1,17 @@
-use Rattle.elab_flat.specs.Views.{flat}
-use Rattle.rtl_elab.specs.Designs.{library_of}
-use Rattle.rtl_elab.proofs.Deciding.{elaborated_lawful}
+use Rattle.std.proofs.Common.{◌≡◌, Ok, subst}
+use Rattle.std.specs.Prelude.{IfErr, IfOk}
+use Rattle.elab_scope.specs.Faults.{answer}
+use Rattle.elab_walk.specs.Trails.{IsTold}
+use Rattle.elab_walk.specs.Visits.{Library}
+use Rattle.rtl_elab.specs.Designs.{flat_in}
+use Rattle.rtl_elab.specs.Elaborated.{elaborated, refused}
+use Rattle.rtl_elab.proofs.Libraries.{library_is}
 use Rattle.rtl_elab.proofs.whole.elaborate.Goals as goal
 
-pub design_of-requires : goal.design_of-requires
-design_of-requires g c =
-    elaborated_lawful (library_of c.args.files.now c.args.set.now) c.args.top.now (flat c.in-Ok.made) c.in-Ok.ensures.design
+pub returns-clause-design : goal.returns-clause-design
+returns-clause-design g c =
+    subst (λ (all : Library). IfOk c.design_in.result (λ design. elaborated all c.args.top.now ≡ Ok (flat_in design))) (library_is c.args.files.now c.args.set.now c.requires) c.design_in.ensures.design
+
+pub returns-clause-told : goal.returns-clause-told
+returns-clause-told g c =
+    subst (λ (all : Library). IfErr c.design_in.result (λ error. IsTold (answer error) (refused (elaborated all c.args.top.now)))) (library_is c.args.files.now c.args.set.now c.requires) c.design_in.ensures.told
