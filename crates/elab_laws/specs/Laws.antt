@@ -12,14 +12,16 @@ use Rattle.rtl_flat.specs.Expression.{Sized}
 use Rattle.rtl_flat.specs.Expression as tree
 use Rattle.rtl_flat.specs.Process.{Assign, Comb, Edge', Whole, body_of}
 use Rattle.rtl_flat.specs.Signs.{Has, IsExpression, width_in}
-use Rattle.rtl_flat.specs.Sizing.{HaveBits, signed_in}
+use Rattle.rtl_flat.specs.Sizing.{HaveBits, signed_in, sized}
 use Rattle.rtl_flat.specs.WellFormed.{IsAssignment, IsBody, IsList, IsProcess, IsSignal, IsWatched, has_edge, statements_of}
+use Rattle.elab_scope.specs.declared.context.Context.{Context}
 use Rattle.elab_scope.specs.declared.rules.Writer.TheVariants.{Continuous, Procedural}
 use Rattle.elab_scope.specs.declared.widths.Breadth.{Breadth}
 use Rattle.elab_scope.specs.declared.widths.Breadth.TheVariants.{Bits}
 use Rattle.elab_scope.specs.Expressions.{faults}
 use Rattle.elab_scope.specs.Names.{Meanings, indexed}
 use Rattle.elab_scope.specs.Own.{breadth, sign}
+use Rattle.elab_scope.specs.Sources.{Describes, source}
 use Rattle.elab_scope.specs.Targets.{assigned_context, pieces_of, target_breadth, target_faults}
 use Rattle.elab_scope.specs.Trees.{tree_of}
 use Rattle.elab_scope.specs.Widths.{bits, wider}
@@ -36,6 +38,14 @@ use Rattle.elab_laws.specs.Scopes.{IsScopeOf}
 abbrev pub SignalsLaw : Type 0
 SignalsLaw =
     (instances : List Instance) (signals : List Signal) → All (IsSignal instances) signals → HaveBits signals × ((i : ℕ) → i < length signals → width_in signals i ≤ 128)
+
+-- ---- expressions
+
+-- an expression without faults has the sizes and the signs of the standard, in each context (IEEE 1364-2001 sections 4.4
+-- and 4.5)
+abbrev pub SizesLaw : Type 0
+SizesLaw =
+    (file base : ℕ) (scope : Meanings) (signals : List Signal) → Describes base signals scope → (e : Formula) → faults scope e ≡ [] → (c : Context) → tree_of file base scope e c ≡ sized signals c.width c.signed (source file base scope e)
 
 -- ---- assignments
 

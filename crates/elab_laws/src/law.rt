@@ -1,10 +1,15 @@
 //! Laws of elaboration: in a scope whose names stand for signals of a design, what is without faults is lawful there.
 
-ghost use Rattle.elab_laws.specs.Laws.{BodyLaw, CombLaw, ContinuousLaw, CountLaw, EdgeLaw, EventsLaw, InputLaw, LimitLaw, ListLaw, OutputLaw, ProceduralLaw, ReadLaw, SignalsLaw, TurnLaw};
+ghost use Rattle.elab_laws.specs.Laws.{BodyLaw, CombLaw, ContinuousLaw, CountLaw, EdgeLaw, EventsLaw, InputLaw, LimitLaw, ListLaw, OutputLaw, ProceduralLaw, ReadLaw, SignalsLaw, SizesLaw, TurnLaw};
 
 /// Signals of a design have from 1 to 128 bits.
 pub fn signals()
     ensures { SignalsLaw }
+{}
+
+/// An expression without faults has the sizes and the signs of the standard.
+pub fn sizes()
+    ensures { SizesLaw }
 {}
 
 /// A continuous assignment without faults is a process of the design.

@@ -1,0 +1,5 @@
+use Rattle.elab_scope.proofs.Law.{tree_is_sized}
+use Rattle.elab_laws.proofs.law.sizes.Goals as goal
+
+pub returns : goal.returns
+returns c = tree_is_sized
