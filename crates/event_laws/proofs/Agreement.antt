@@ -115,8 +115,8 @@ module _ (n : ℕ) (ws : ℕ → ℕ) (v u : Values) (sizes : (i : ℕ) → i < 
       ap (λ x. folded operator x ∷ []) (value_agrees a sized same)
   value_agrees (Shifted operator signed a amount) sized same =
       both (shifted operator signed) (value v a) (value u a) (value v amount) (value u amount)
-      (value_agrees a sized.0 (on_left (reads ws a) (reads ws amount) same))
-      (value_agrees amount sized.1 (on_right (reads ws a) (reads ws amount) same))
+      (value_agrees a sized.1 (on_left (reads ws a) (reads ws amount) same))
+      (value_agrees amount sized.2 (on_right (reads ws a) (reads ws amount) same))
   value_agrees (Chosen c a b) sized same =
       let arms = on_right (reads ws c) (either (reads ws a) (reads ws b)) same in
       ap (λ x. chosen (truth_bit x) (value v a) (value v b)) (value_agrees c sized.1 (on_left (reads ws c) (either (reads ws a) (reads ws b)) same))

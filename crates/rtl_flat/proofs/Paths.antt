@@ -3,7 +3,7 @@ use Rattle.std.proofs.Common.{ℕ, ◌≡◌, ◌∙◌, Bool, true, false, not,
 use Rattle.std.specs.Prelude.{◌⊎◌, ◌↔◌}
 use Rattle.std.specs.List.{list_any}
 use Rattle.std.proofs.lemmas.Bool.{cases_Bool, or_cases, or_left, or_right, or_parts, or_from, and_parts, and_from, and_cases, false≢true, true≢false, both_ways, not-true, not_from_false, true_from_ne_false}
-use Rattle.rtl_flat.specs.Paths.{Step, Read, Write, Flow, End, Do, Fork, Ways, Last, More, IsPath, IsWay, reads_bit, may_write_bit, may_write_late, writes_bit, writes_now, MayWrite, MayWriteLate, IsSure, MayRead, ReadsOutside, some, some_way, every, every_way, first, first_way, may_write, may_write_delayed, is_sure, may_read, reads_outside, AreDecided}
+use Rattle.rtl_flat.specs.Paths.{Step, Read, Write, Flow, End, Do, Fork, Ways, Last, More, IsPath, IsWay, reads_bit, may_write_bit, may_write_late, may_write_now, writes_bit, writes_now, MayWrite, MayWriteLate, MayWriteNow, IsSure, MayRead, ReadsOutside, some, some_way, every, every_way, first, first_way, may_write, may_write_delayed, may_write_blocking, is_sure, may_read, reads_outside, AreDecided}
 
 -- ---- tests of two lists one after the other
 
@@ -227,6 +227,10 @@ decided b s k = record {
   late = (
     λ h. let (p, is, hit) = some_to (may_write_late s k) b h in record { path = p; is_path = is; written = hit },
     λ w. some_from (may_write_late s k) b w.path w.is_path w.written,
+  );
+  now = (
+    λ h. let (p, is, hit) = some_to (may_write_now s k) b h in record { path = p; is_path = is; written = hit },
+    λ w. some_from (may_write_now s k) b w.path w.is_path w.written,
   );
   sure = (
     λ h. record { written = λ p is. every_to (writes_bit s k) b p is h },

@@ -138,7 +138,7 @@ mutual
       (top, by_itself _ w _ refl (omega arith) below, is_sized ss has (own_width ss a) (own_sign ss a) a h.0 (omega arith) h.1)
   is_sized ss has w s (Shifted spot o a b) h below top =
       let one = some_bit ss has a h.0 in
-      (top, in_context _ w _ (omega arith) (width-sized ss w s a h.0), (is_sized ss has w s a h.0 below top, is_sized ss has (own_width ss b) (own_sign ss b) b h.1 (omega arith) h.2))
+      (top, in_context _ w _ (omega arith) (width-sized ss w s a h.0), (rw (width-sized ss w s a h.0) (omega arith), is_sized ss has w s a h.0 below top, is_sized ss has (own_width ss b) (own_sign ss b) b h.1 (omega arith) h.2))
   is_sized ss has w s (Chosen spot c a b) h below top =
       let one = some_bit ss has a h.1 in
       (top, in_context _ w _ (omega arith) (width-sized ss w s a h.1), (width-sized ss w s a h.1 ∙ sym (width-sized ss w s b h.2), is_sized ss has (own_width ss c) (own_sign ss c) c h.0 (omega arith) h.3, is_sized ss has w s a h.1 (omega arith) top, is_sized ss has w s b h.2 (omega arith) top))

@@ -59,6 +59,11 @@ abbrev pub may_write_late : ℕ → ℕ → Step → Bool
 may_write_late s k (Read bits) = false
 may_write_late s k (Write delayed may sure) = delayed && may s k
 
+-- by a blocking assignment
+abbrev pub may_write_now : ℕ → ℕ → Step → Bool
+may_write_now s k (Read bits) = false
+may_write_now s k (Write delayed may sure) = not delayed && may s k
+
 -- whichever index there is
 abbrev pub writes_bit : ℕ → ℕ → Step → Bool
 writes_bit s k (Read bits) = false
@@ -82,6 +87,12 @@ pub record MayWriteLate (flow : Flow) (s k : ℕ) : Type 0 where
   pub path : List Step
   pub is_path : IsPath flow path
   pub written : list_any (may_write_late s k) path ≡ true
+
+-- a bit that a blocking assignment writes on some path
+pub record MayWriteNow (flow : Flow) (s k : ℕ) : Type 0 where
+  pub path : List Step
+  pub is_path : IsPath flow path
+  pub written : list_any (may_write_now s k) path ≡ true
 
 -- a bit that every path writes
 pub record IsSure (flow : Flow) (s k : ℕ) : Type 0 where
@@ -143,6 +154,9 @@ may_write flow s k = some (may_write_bit s k) flow
 abbrev pub may_write_delayed : Flow → BitSet
 may_write_delayed flow s k = some (may_write_late s k) flow
 
+abbrev pub may_write_blocking : Flow → BitSet
+may_write_blocking flow s k = some (may_write_now s k) flow
+
 abbrev pub is_sure : Flow → BitSet
 is_sure flow s k = every (writes_bit s k) flow
 
@@ -156,6 +170,7 @@ reads_outside flow s k = first (reads_bit s k) (writes_now s k) flow
 pub record AreDecided (flow : Flow) (s k : ℕ) : Type 0 where
   pub writes : may_write flow s k ≡ true ↔ MayWrite flow s k
   pub late : may_write_delayed flow s k ≡ true ↔ MayWriteLate flow s k
+  pub now : may_write_blocking flow s k ≡ true ↔ MayWriteNow flow s k
   pub sure : is_sure flow s k ≡ true ↔ IsSure flow s k
   pub reads : may_read flow s k ≡ true ↔ MayRead flow s k
   pub outside : reads_outside flow s k ≡ true ↔ ReadsOutside flow s k

@@ -41,7 +41,7 @@ pub record FitsWidth (ws : ℕ → ℕ) (width : ℕ) (e : Tree) : Type 0 where
   pub whole : IsTrue (takes_context e) → width_of ws e ≡ width
 
 -- whether an expression over n signals is sized: each width is 1 to 128, operands in one context
--- have one width, and parts lie inside their signals
+-- have one width, parts lie inside their signals, and what is shifted has a bit
 abbrev pub IsSized : ℕ → (ℕ → ℕ) → Tree → Type 0
 IsSized n ws (Sized width signed spot e) =
     (width ≤ 128) × FitsWidth ws width e × IsSized n ws e
@@ -57,7 +57,8 @@ IsSized n ws (Compared operator signed a b) =
     (width_of ws a ≡ width_of ws b) × IsSized n ws a × IsSized n ws b
 IsSized n ws (Linked operator a b) = IsSized n ws a × IsSized n ws b
 IsSized n ws (Folded operator a) = IsSized n ws a
-IsSized n ws (Shifted operator signed a amount) = IsSized n ws a × IsSized n ws amount
+IsSized n ws (Shifted operator signed a amount) =
+    (1 ≤ width_of ws a) × IsSized n ws a × IsSized n ws amount
 IsSized n ws (Chosen c a b) =
     (width_of ws a ≡ width_of ws b) × IsSized n ws c × IsSized n ws a × IsSized n ws b
 IsSized n ws Empty = Unit {0}
