@@ -157,21 +157,21 @@ none_of b None e f = refl
 none_of true (Some x) e f = absurd (true≢false f)
 none_of false (Some x) e f = absurd (false≢true e)
 
-signal_there : (d : Flat) (i : ℕ) → is_input d i ≡ true → i < length d.signals
+pub signal_there : (d : Flat) (i : ℕ) → is_input d i ≡ true → i < length d.signals
 signal_there d i e =
     elim (slice_get_cases d.signals i).1 [
       | inl found ↦ found.1
       | inr past ↦ absurd (false≢true (ap is_input_of (sym past.1) ∙ e))
     ]
 
-task_there : (d : Flat) (p : ℕ) → IsSome (doing_at d p) → p < length d.tasks
+pub task_there : (d : Flat) (p : ℕ) → IsSome (doing_at d p) → p < length d.tasks
 task_there d p e =
     elim (slice_get_cases d.tasks p).1 [
       | inl found ↦ found.1
       | inr past ↦ absurd (false≢true (ap (λ o. is_some (doing_of o)) (sym past.1) ∙ e))
     ]
 
-assignment_is : (o : Option Doing) → is_assignment o ≡ true → IsSome o
+pub assignment_is : (o : Option Doing) → is_assignment o ≡ true → IsSome o
 assignment_is (Some does) e = refl
 assignment_is None e = absurd (false≢true e)
 

@@ -1,4 +1,5 @@
-mod Active
+pub mod Active
+pub mod Choices
 mod Example
-mod Runs
+pub mod Runs
 mod Wires

@@ -1,8 +1,8 @@
 -- The active events of a state in their order.
-use Rattle.std.specs.Prelude.{◌≡◌, ℕ, List, [], ◌∷◌, ◌++◌, map, length, is_some, Bool, ◌&&◌, cond}
-use Rattle.std.specs.List.{filter, range_with_len}
+use Rattle.std.specs.Prelude.{◌≡◌, ◌≢◌, ◌↔◌, ℕ, List, [], ◌∷◌, ◌++◌, map, length, is_some, Bool, ◌&&◌, cond}
+use Rattle.std.specs.List.{filter, range_with_len, Contains}
 use Rattle.event_model.specs.Writes.{Write}
-use Rattle.event_model.specs.Queue.{Flat, State, Event, Input, Evaluate, Update, Run, Delayed, Activate, after, doing_at, is_input, is_assignment}
+use Rattle.event_model.specs.Queue.{Flat, State, Event, Input, Evaluate, Update, Run, Delayed, Activate, after, doing_at, is_input, is_assignment, IsThere}
 
 -- the numbers below a limit that pass a test, in order
 abbrev pub numbers : ℕ → (ℕ → Bool) → List ℕ
@@ -34,6 +34,14 @@ abbrev pub active : Flat → State → List Event
 active d s =
     map Input (inputs d s) ++ map Update (updates d s) ++ map (woken_event d) (woken d s) ++ first_delayed s.activated
 
+-- an event that may be taken and is active: each but the one that makes nonblocking updates active
+abbrev pub IsActive : Flat → State → Event → Type 0
+IsActive d s event = IsThere d s event × (event ≢ Activate)
+
+-- the list of active events has just those that are so
+abbrev pub HasAllActive : Flat → State → Type 0
+HasAllActive d s = (event : Event) → Contains (active d s) event ↔ IsActive d s event
+
 -- where no active event is left, the nonblocking updates become active
 abbrev pub ready_where : Flat → State → List Event → State
 ready_where d s [] = after d s Activate
@@ -45,3 +53,7 @@ ready d s = ready_where d s (active d s)
 -- whether nonblocking updates wait only behind active events
 abbrev pub IsReady : Flat → State → Type 0
 IsReady d s = active d s ≡ [] → s.delayed ≡ []
+
+-- whether the list has just the events that may be taken
+abbrev pub HasAll : Flat → State → Type 0
+HasAll d s = (event : Event) → Contains (active d s) event ↔ IsThere d s event
