@@ -26,13 +26,13 @@ abbrev HasRoom : (ℕ → ℕ) → ℕ → Option Span → ℕ → Type 0
 HasRoom ws i None n = Unit {0}
 HasRoom ws i (Some span) n = span.at + n ≤ ws i
 
-has_width : (n : ℕ) (signals : List Signal) (i : ℕ) → Has (λ s. n ≤ s.width) signals i → n ≤ width_in signals i
+pub has_width : (n : ℕ) (signals : List Signal) (i : ℕ) → Has (λ s. n ≤ s.width) signals i → n ≤ width_in signals i
 has_width n [] i h = absurd h
 has_width n (s ∷ signals) zero h = h
 has_width n (s ∷ signals) (suc i) h = has_width n signals i h
 
 -- what is selected has no more bits than were asked for
-at_most : (at count : ℕ) (bits : List Bit) → length (selected at count bits) ≤ count
+pub at_most : (at count : ℕ) (bits : List Bit) → length (selected at count bits) ≤ count
 at_most at count bits = let e = length-take count (drop at bits) in omega (arith, e)
 
 bit_room : (ws : ℕ → ℕ) (i : ℕ) (index : ℤ) → HasRoom ws i (bit_inside (ws i) index) 1
@@ -91,7 +91,7 @@ known_count :
 known_count true span bits n h = omega arith
 known_count false span bits n h = h
 
-part_count :
+pub part_count :
     (ws : ℕ → ℕ) (v : Values) (i : ℕ) (selection : Selection) (bits : List Bit) →
     length (bits_in (span_of ws v i selection) bits) ≤ count_of ws i selection
 part_count ws v i Whole bits = at_most 0 (ws i) bits

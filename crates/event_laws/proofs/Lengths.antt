@@ -1,9 +1,8 @@
 -- A write that ends inside its signal keeps the length of its value.
 use Rattle.std.proofs.Common.{◌≡◌, ◌∙◌, ◌+◌, ◌<◌, ◌≤◌, ℕ, zero}
-use Rattle.std.proofs.Common.{suc, List, [], ◌∷◌, ◌++◌, length, take, drop, Option, None, Some, refl, sym, ap, inl, inr, arith}
+use Rattle.std.proofs.Common.{suc, List, [], ◌∷◌, ◌++◌, length, take, drop, None, refl, sym, ap, inl, inr, arith}
 use Rattle.std.specs.Prelude.{◌≢◌, IsSome}
 use Rattle.std.specs.List.{slice_get}
-use Rattle.std.specs.Option.{is_some}
 use Rattle.std.proofs.lemmas.Bool.{cases_eq, eq-eqb, ne_eqb}
 use Rattle.std.proofs.lemmas.List.{length-append, length-drop, length-take}
 use Rattle.rtl_bits.specs.declared.Bit.{Bit}
@@ -30,7 +29,7 @@ replaced_length at part a inside =
     same
 
 -- no signal, no bits
-no_width : (signals : List Signal) (i : ℕ) → slice_get signals i ≡ None → width_in signals i ≡ 0
+pub no_width : (signals : List Signal) (i : ℕ) → slice_get signals i ≡ None → width_in signals i ≡ 0
 no_width [] i e = refl
 no_width (s ∷ signals) zero e = absurd (cc)
 no_width (s ∷ signals) (suc i) e = no_width signals i e
@@ -41,12 +40,8 @@ is_there (s ∷ signals) zero h = refl
 is_there (s ∷ signals) (suc i) h = is_there signals i (omega (arith, h))
 
 -- a write ends inside the value of its signal
-fits : (d : Flat) (v : Values) (w : Write) → HaveWidths d v → IsWithin (widths d) w → w.at + length w.bits ≤ length (v w.signal)
-fits d v w have inside = by_signal (slice_get d.signals w.signal) refl
-  where
-    by_signal : (o : Option Signal) → slice_get d.signals w.signal ≡ o → w.at + length w.bits ≤ length (v w.signal)
-    by_signal None e = let none = no_width d.signals w.signal e in omega (arith, inside, none)
-    by_signal (Some signal) e = let size = have w.signal (ap is_some e) in omega (arith, inside, size)
+pub fits : (d : Flat) (v : Values) (w : Write) → HaveWidths d v → IsWithin (widths d) w → w.at + length w.bits ≤ length (v w.signal)
+fits d v w have inside = let size = have w.signal in omega (arith, inside, size)
 
 pub written_length : (d : Flat) (v : Values) (w : Write) → HaveWidths d v → IsWithin (widths d) w → (i : ℕ) → length (written v w i) ≡ length (v i)
 written_length d v w have inside i =
@@ -59,4 +54,4 @@ written_length d v w have inside i =
     ]
 
 pub have_written : (d : Flat) (v : Values) (w : Write) → HaveWidths d v → IsWithin (widths d) w → HaveWidths d (written v w)
-have_written d v w have inside i there = written_length d v w have inside i ∙ have i there
+have_written d v w have inside i = written_length d v w have inside i ∙ have i

@@ -23,7 +23,7 @@ abbrev pub IsMadeWithin : (ℕ → ℕ) → Made → Type 0
 IsMadeWithin ws (Now w) = IsWithin ws w
 IsMadeWithin ws (Later us) = All (IsWithin ws) us
 
-assigned_within : (ws : ℕ → ℕ) (delayed : Bool) (us : List Write) → All (IsWithin ws) us → All (IsMadeWithin ws) (assigned delayed us)
+pub assigned_within : (ws : ℕ → ℕ) (delayed : Bool) (us : List Write) → All (IsWithin ws) us → All (IsMadeWithin ws) (assigned delayed us)
 assigned_within ws false us h = All-map (IsMadeWithin ws) Now us h
 assigned_within ws true us h = All-cons (IsMadeWithin ws) (Later us) [] h (All-nil (IsMadeWithin ws))
 
@@ -32,7 +32,7 @@ either_within ws true xs ys on_true on_false = on_true
 either_within ws false xs ys on_true on_false = on_false
 
 mutual
-  made_within : (signals : List Signal) (v : Values) (a : Action) → IsAction signals a → All (IsMadeWithin (width_in signals)) (made (width_in signals) v a)
+  pub made_within : (signals : List Signal) (v : Values) (a : Action) → IsAction signals a → All (IsMadeWithin (width_in signals)) (made (width_in signals) v a)
   made_within signals v (Set target e delayed spot) h =
       assigned_within (width_in signals) delayed (writes (width_in signals) v target (value v e)) (writes_within signals v target (value v e) h.parts)
   made_within signals v (If test taken other spot) h =

@@ -1,6 +1,5 @@
 -- Every run of a lawful design keeps a state steady, and runs begin in steady states.
 use Rattle.std.proofs.Common.{◌≡◌, ◌∙◌, ◌≤◌, ℕ, zero, suc, List, [], ◌∷◌, length, Some, refl, sym, ap, subst}
-use Rattle.std.specs.Prelude.{IsSome}
 use Rattle.std.specs.List.{slice_get, All}
 use Rattle.std.proofs.lemmas.Bool.{true≢false}
 use Rattle.std.proofs.lemmas.List.{length-replicate}
@@ -33,10 +32,10 @@ steady_run d lawful s (event ∷ events) can h =
 
 -- ---- where runs begin
 
-first_length : (signals : List Signal) (i : ℕ) → IsSome (slice_get signals i) → length (first_bits (slice_get signals i)) ≡ width_in signals i
-first_length [] i there = absurd (cc)
-first_length (s ∷ signals) zero there = length-replicate s.width _
-first_length (s ∷ signals) (suc i) there = first_length signals i there
+first_length : (signals : List Signal) (i : ℕ) → length (first_bits (slice_get signals i)) ≡ width_in signals i
+first_length [] i = refl
+first_length (s ∷ signals) zero = length-replicate s.width _
+first_length (s ∷ signals) (suc i) = first_length signals i
 
 pub steady_power_up : (d : Flat) → IsSteady d (power_up d)
 steady_power_up d =

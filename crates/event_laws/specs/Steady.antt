@@ -1,6 +1,6 @@
 -- What every run of a lawful design keeps.
-use Rattle.std.specs.Prelude.{◌≡◌, ℕ, ◌+◌, ◌≤◌, false, List, length, Some, IsSome, IsTrue, unwrap_or}
-use Rattle.std.specs.List.{slice_get, All}
+use Rattle.std.specs.Prelude.{◌≡◌, ℕ, ◌+◌, ◌≤◌, false, List, length, Some, IsTrue, unwrap_or}
+use Rattle.std.specs.List.{All}
 use Rattle.rtl_bits.specs.declared.Bit.{Bit}
 use Rattle.rtl_flat.specs.Expression.{Tree}
 use Rattle.rtl_flat.specs.Process.{Piece, Doing, Assign}
@@ -24,9 +24,9 @@ pub record AreWithin (d : Flat) (s : State) : Type 0 where
   pub activated : All (All (IsWithin (widths d))) s.activated
   pub delayed : All (All (IsWithin (widths d))) s.delayed
 
--- each signal's value has as many bits as the signal
+-- each signal's value has as many bits as the signal; where there is no signal there are no bits
 abbrev pub HaveWidths : Flat → Values → Type 0
-HaveWidths d v = (i : ℕ) → IsSome (slice_get d.signals i) → length (v i) ≡ widths d i
+HaveWidths d v = (i : ℕ) → length (v i) ≡ widths d i
 
 -- each continuous assignment that waits has its value pending, or drives it with nothing pending
 abbrev pub AreUpToDate : Flat → State → Type 0
