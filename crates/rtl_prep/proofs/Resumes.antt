@@ -10,7 +10,9 @@ use Rattle.rtl_tree.specs.declared.token.Token.{Token}
 use Rattle.rtl_prep.specs.declared.directive.Known.{Known}
 use Rattle.rtl_prep.specs.Stops.{Stop, Loops, Full, and_then}
 use Rattle.rtl_prep.specs.Directives.{name_of, directive_of}
-use Rattle.rtl_prep.specs.Macros.{Macro, Macros, set_busy, marked, limit, Gained, with_kept, keep, one_more, moved, is_directive, replaced, begun_as, begun, used}
+use Rattle.rtl_tree.specs.declared.token.TheConstants.{MAX_TOKENS}
+use Rattle.rtl_prep.specs.declared.replace.TheConstants.{MAX_REPLACEMENTS}
+use Rattle.rtl_prep.specs.Macros.{Macro, Macros, set_busy, marked, Gained, with_kept, keep, one_more, moved, is_directive, replaced, begun_as, begun, used}
 use Rattle.rtl_prep.specs.Tables.{Frame, Held, frame, begins, keeps_on, goes_on}
 use mathlib.Core.Logic.{⊎_elim}
 
@@ -41,20 +43,20 @@ marks_back macros name m there idle =
     (cases_Bool (bytes_eq name other)))
 
 abbrev Begins : Option Macro → Macro → Gained → Type 0
-Begins o m g = (o ≡ Some m) × (m.busy ≡ false) × (g.used < limit)
+Begins o m g = (o ≡ Some m) × (m.busy ≡ false) × (g.used < MAX_REPLACEMENTS)
 
-begins_if : (m' m : Macro) (name : List ℕ) (at : ℕ) (g : Gained) (b c : Bool) → m'.busy ≡ b → nat_lt g.used limit ≡ c
+begins_if : (m' m : Macro) (name : List ℕ) (at : ℕ) (g : Gained) (b c : Bool) → m'.busy ≡ b → nat_lt g.used MAX_REPLACEMENTS ≡ c
     → cond b (Err (Loops name at)) (cond c (Ok m') (Err (Full at))) ≡ Ok m → Begins (Some m') m g
 begins_if m' m name at g true c e f h = cc
 begins_if m' m name at g false false e f h = cc
 begins_if m' m name at g false true e f h =
     let s : m' ≡ m = ok_is {E = Stop} m' m h in
-    (ap (λ x. Some x) s, ap (λ x. x.busy) (sym s) ∙ e, ltb-true g.used limit f)
+    (ap (λ x. Some x) s, ap (λ x. x.busy) (sym s) ∙ e, ltb-true g.used MAX_REPLACEMENTS f)
 
 begins_as : (k : Option Known) (o : Option Macro) (m : Macro) (name : List ℕ) (at : ℕ) (g : Gained) → begun_as k o name at g ≡ Ok m → Begins o m g
 begins_as (Some known) o m name at g h = cc
 begins_as None None m name at g h = cc
-begins_as None (Some m') m name at g h = begins_if m' m name at g m'.busy (nat_lt g.used limit) refl refl h
+begins_as None (Some m') m name at g h = begins_if m' m name at g m'.busy (nat_lt g.used MAX_REPLACEMENTS) refl refl h
 
 pub begun_is : (macros : Macros) (name : List ℕ) (at : ℕ) (g : Gained) (m : Macro) → begun macros name at g ≡ Ok m → Begins (macros name) m g
 unfolding begun
@@ -83,7 +85,7 @@ used_fails (suc n) text macros at name g stop h =
 
 -- how many may still be nested in a replacement, where this many are being read
 abbrev pub spare : List Frame → ℕ
-spare fs = limit - length fs
+spare fs = MAX_REPLACEMENTS - length fs
 
 abbrev pub Goes : List ℕ → ℕ → Macros → Frame → List Frame → Gained → Held → Type 0
 Goes text at macros f fs g h = resumed (spare (f ∷ fs)) text at macros (f ∷ fs) g ≡ resumed (spare h.frames) text at h.macros h.frames h.gained
@@ -136,14 +138,14 @@ token_step text at macros f t ts fs g h false d e l s =
     (ap (λ b. cond b (used (spare (f ∷ fs)) text macros at (name_of text t) g) (keep g (moved t at))) d)
     ∙ keeps_goes text at macros (frame f.name ts ∷ fs) g h (keep g (moved t at)) s
 
-end_step : (text : List ℕ) (at : ℕ) (macros : Macros) (f : Frame) (fs : List Frame) (g : Gained) → f.rest ≡ [] → suc (length fs) ≤ limit
+end_step : (text : List ℕ) (at : ℕ) (macros : Macros) (f : Frame) (fs : List Frame) (g : Gained) → f.rest ≡ [] → suc (length fs) ≤ MAX_REPLACEMENTS
     → Goes text at macros f fs g (without (marked false macros f.name) fs g)
 unfolding resumed replaced
 end_step text at macros f fs g e l =
     ap (λ rest. and_then (replaced text (used (spare (f ∷ fs)) text macros at) at rest g) (λ g'. resumed (suc (spare (f ∷ fs))) text at (marked false macros f.name) fs g')) e
     ∙ ap (λ n. resumed n text at (marked false macros f.name) fs g) (let s : suc (spare (f ∷ fs)) ≡ spare fs = omega (arith, l) in s)
 
-pub step : (text : List ℕ) (at : ℕ) (macros : Macros) (f : Frame) (fs : List Frame) (g : Gained) (h : Held) (rest : List Token) → f.rest ≡ rest → suc (length fs) ≤ g.used → g.used ≤ limit
+pub step : (text : List ℕ) (at : ℕ) (macros : Macros) (f : Frame) (fs : List Frame) (g : Gained) (h : Held) (rest : List Token) → f.rest ≡ rest → suc (length fs) ≤ g.used → g.used ≤ MAX_REPLACEMENTS
     → goes_on text at rest f.name (without macros fs g) ≡ Ok h → Goes text at macros f fs g h
 unfolding goes_on
 step text at macros f fs g h [] e l u s =
@@ -154,50 +156,50 @@ step text at macros f fs g h (t ∷ ts) e l u s = token_step text at macros f t 
 
 -- how much is left to be gained, and to be read
 abbrev pub weight : Held → ℕ
-weight h = 2 * (limit - h.gained.used) + (limit - length h.gained.kept) + length h.frames
+weight h = 2 * (MAX_REPLACEMENTS - h.gained.used) + (MAX_TOKENS - length h.gained.kept) + length h.frames
 
 pub record IsWithin (h : Held) : Type 0 where
   pub nested : length h.frames ≤ h.gained.used
-  pub made : h.gained.used ≤ limit
+  pub made : h.gained.used ≤ MAX_REPLACEMENTS
 
 abbrev pub Nearer : List Frame → Gained → Held → Type 0
-Nearer fs g h = IsWithin h × (weight h < 2 * (limit - g.used) + (limit - length g.kept) + suc (length fs))
+Nearer fs g h = IsWithin h × (weight h < 2 * (MAX_REPLACEMENTS - g.used) + (MAX_TOKENS - length g.kept) + suc (length fs))
 
 begins_near : (macros : Macros) (name : List ℕ) (at : ℕ) (fs : List Frame) (g : Gained) (h : Held) (o : Result Macro Stop) → begun macros name at g ≡ o → length fs ≤ g.used
-    → and_then o (λ m. Ok (record { macros = marked true macros name; frames = frame name m.body ∷ fs; gained = one_more g })) ≡ Ok h → IsWithin h × (weight h < 2 * (limit - g.used) + (limit - length g.kept) + length fs)
+    → and_then o (λ m. Ok (record { macros = marked true macros name; frames = frame name m.body ∷ fs; gained = one_more g })) ≡ Ok h → IsWithin h × (weight h < 2 * (MAX_REPLACEMENTS - g.used) + (MAX_TOKENS - length g.kept) + length fs)
 begins_near macros name at fs g h (Err stop) b l e = cc
 begins_near macros name at fs g h (Ok m) b l e =
     let room = (begun_is macros name at g m b).2 in
-    subst (λ x. IsWithin x × (weight x < 2 * (limit - g.used) + (limit - length g.kept) + length fs))
+    subst (λ x. IsWithin x × (weight x < 2 * (MAX_REPLACEMENTS - g.used) + (MAX_TOKENS - length g.kept) + length fs))
     (ok_is {E = Stop} (record { macros = marked true macros name; frames = frame name m.body ∷ fs; gained = one_more g }) h e)
     (record { nested = omega (arith, l); made = omega (arith, room) }, omega (arith, room))
 
-keep_if : (g g' : Gained) (t : Token) (b : Bool) → nat_lt (length g.kept) limit ≡ b → cond b (Ok (with_kept g t)) (Err (Full t.at)) ≡ Ok g' → (g' ≡ with_kept g t) × (length g.kept < limit)
-keep_if g g' t true e h = (sym (ok_is {E = Stop} (with_kept g t) g' h), ltb-true (length g.kept) limit e)
+keep_if : (g g' : Gained) (t : Token) (b : Bool) → nat_lt (length g.kept) MAX_TOKENS ≡ b → cond b (Ok (with_kept g t)) (Err (Full t.at)) ≡ Ok g' → (g' ≡ with_kept g t) × (length g.kept < MAX_TOKENS)
+keep_if g g' t true e h = (sym (ok_is {E = Stop} (with_kept g t) g' h), ltb-true (length g.kept) MAX_TOKENS e)
 keep_if g g' t false e h = cc
 
-keep_is : (g g' : Gained) (t : Token) → keep g t ≡ Ok g' → (g' ≡ with_kept g t) × (length g.kept < limit)
+keep_is : (g g' : Gained) (t : Token) → keep g t ≡ Ok g' → (g' ≡ with_kept g t) × (length g.kept < MAX_TOKENS)
 unfolding keep
-keep_is g g' t h = keep_if g g' t (nat_lt (length g.kept) limit) refl h
+keep_is g g' t h = keep_if g g' t (nat_lt (length g.kept) MAX_TOKENS) refl h
 
-keeps_near : (macros : Macros) (fs : List Frame) (g : Gained) (t : Token) (h : Held) (o : Result Gained Stop) → keep g t ≡ o → length fs ≤ g.used → g.used ≤ limit
-    → and_then o (λ g'. Ok (without macros fs g')) ≡ Ok h → IsWithin h × (weight h < 2 * (limit - g.used) + (limit - length g.kept) + length fs)
+keeps_near : (macros : Macros) (fs : List Frame) (g : Gained) (t : Token) (h : Held) (o : Result Gained Stop) → keep g t ≡ o → length fs ≤ g.used → g.used ≤ MAX_REPLACEMENTS
+    → and_then o (λ g'. Ok (without macros fs g')) ≡ Ok h → IsWithin h × (weight h < 2 * (MAX_REPLACEMENTS - g.used) + (MAX_TOKENS - length g.kept) + length fs)
 keeps_near macros fs g t h (Err stop) k l u e = cc
 keeps_near macros fs g t h (Ok g') k l u e =
     let p = keep_is g g' t k in
     let same : g' ≡ with_kept g t = p.0 in
-    let room : length g.kept < limit = p.1 in
-    subst (λ x. IsWithin x × (weight x < 2 * (limit - g.used) + (limit - length g.kept) + length fs))
+    let room : length g.kept < MAX_TOKENS = p.1 in
+    subst (λ x. IsWithin x × (weight x < 2 * (MAX_REPLACEMENTS - g.used) + (MAX_TOKENS - length g.kept) + length fs))
     (ap (λ g'. without macros fs g') (sym same) ∙ ok_is {E = Stop} (without macros fs g') h e)
     (record { nested = l; made = u }, omega (arith, room, length-append g.kept (t ∷ [])))
 
-token_near : (text : List ℕ) (at : ℕ) (macros : Macros) (name : List ℕ) (t : Token) (ts : List Token) (fs : List Frame) (g : Gained) (h : Held) (b : Bool) → suc (length fs) ≤ g.used → g.used ≤ limit
+token_near : (text : List ℕ) (at : ℕ) (macros : Macros) (name : List ℕ) (t : Token) (ts : List Token) (fs : List Frame) (g : Gained) (h : Held) (b : Bool) → suc (length fs) ≤ g.used → g.used ≤ MAX_REPLACEMENTS
     → cond b (begins (without macros (frame name ts ∷ fs) g) (name_of text t) at) (keeps_on (without macros (frame name ts ∷ fs) g) (moved t at)) ≡ Ok h → Nearer fs g h
 unfolding begins
 token_near text at macros name t ts fs g h true l u s = begins_near macros (name_of text t) at (frame name ts ∷ fs) g h (begun macros (name_of text t) at g) refl l s
 token_near text at macros name t ts fs g h false l u s = keeps_near macros (frame name ts ∷ fs) g (moved t at) h (keep g (moved t at)) refl l u s
 
-pub near : (text : List ℕ) (at : ℕ) (macros : Macros) (name : List ℕ) (fs : List Frame) (g : Gained) (h : Held) (rest : List Token) → suc (length fs) ≤ g.used → g.used ≤ limit
+pub near : (text : List ℕ) (at : ℕ) (macros : Macros) (name : List ℕ) (fs : List Frame) (g : Gained) (h : Held) (rest : List Token) → suc (length fs) ≤ g.used → g.used ≤ MAX_REPLACEMENTS
     → goes_on text at rest name (without macros fs g) ≡ Ok h → Nearer fs g h
 unfolding goes_on
 near text at macros name fs g h [] l u s =
@@ -217,7 +219,7 @@ first_fails n text at macros name fs g stop h = used_fails n text macros at name
 
 abbrev pub Began : List ℕ → ℕ → Macros → List ℕ → Gained → Held → Type 0
 Began text at macros name g h =
-    IsWithin h × (resumed (spare h.frames) text at h.macros h.frames h.gained ≡ and_then (used limit text macros at name g) (λ g. Ok (without macros [] g)))
+    IsWithin h × (resumed (spare h.frames) text at h.macros h.frames h.gained ≡ and_then (used MAX_REPLACEMENTS text macros at name g) (λ g. Ok (without macros [] g)))
 
 first_at : (text : List ℕ) (at : ℕ) (macros : Macros) (name : List ℕ) (g : Gained) (h : Held) → begins (without macros [] g) name at ≡ Ok h → Began text at macros name g h
 unfolding begins resumed

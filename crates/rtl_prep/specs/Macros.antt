@@ -5,6 +5,8 @@ use Rattle.std.specs.Str.{bytes_eq}
 use Rattle.rtl_tree.specs.declared.token.Tok.{Tok}
 use Rattle.rtl_tree.specs.declared.token.Tok.TheVariants.{Directive}
 use Rattle.rtl_tree.specs.declared.token.Token.{Token}
+use Rattle.rtl_tree.specs.declared.token.TheConstants.{MAX_TOKENS}
+use Rattle.rtl_prep.specs.declared.replace.TheConstants.{MAX_REPLACEMENTS}
 use Rattle.rtl_prep.specs.declared.directive.Known.{Known}
 use Rattle.rtl_prep.specs.Stops.{Stop, Refused, Loops, Full, and_then}
 use Rattle.rtl_prep.specs.Directives.{name_of, directive_of}
@@ -32,10 +34,6 @@ set_busy busy m = record { body = m.body; busy = busy }
 abbrev pub marked : Bool → Macros → List ℕ → Macros
 marked busy macros name = with_macro macros name (option_map (set_busy busy) (macros name))
 
--- how many tokens are kept, and how many replacements are made, at most
-abbrev pub limit : ℕ
-limit = 200000
-
 -- the tokens that are kept, and how many replacements there were
 pub record Gained : Type 0 where
   pub kept : List Token
@@ -46,7 +44,7 @@ with_kept g t = record { kept = g.kept ++ t ∷ []; used = g.used }
 
 -- one more token is kept
 unfoldable pub keep : Gained → Token → Result Gained Stop
-keep g t = if nat_lt (length g.kept) limit then Ok (with_kept g t) else Err (Full t.at)
+keep g t = if nat_lt (length g.kept) MAX_TOKENS then Ok (with_kept g t) else Err (Full t.at)
 
 abbrev pub one_more : Gained → Gained
 one_more g = record { kept = g.kept; used = g.used + 1 }
@@ -69,7 +67,7 @@ abbrev pub begun_as : Option Known → Option Macro → List ℕ → ℕ → Gai
 begun_as (Some known) m name at g = Err (Refused name at)
 begun_as None None name at g = Err (Refused name at)
 begun_as None (Some m) name at g =
-    if m.busy then Err (Loops name at) else if nat_lt g.used limit then Ok m else Err (Full at)
+    if m.busy then Err (Loops name at) else if nat_lt g.used MAX_REPLACEMENTS then Ok m else Err (Full at)
 
 -- the macro whose replacement begins at the use of a name
 unfoldable pub begun : Macros → List ℕ → ℕ → Gained → Result Macro Stop

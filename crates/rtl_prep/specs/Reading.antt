@@ -6,11 +6,12 @@ use Rattle.rtl_prep.specs.declared.directive.Known.TheVariants.{Define, Undef, I
 use Rattle.rtl_prep.specs.declared.directive.Group.{Group}
 use Rattle.rtl_prep.specs.declared.directive.Group.TheVariants.{Before, Kept, After}
 use Rattle.rtl_prep.specs.declared.directive.Chain.{Chain}
+use Rattle.rtl_prep.specs.declared.replace.TheConstants.{MAX_REPLACEMENTS}
 use Rattle.rtl_tree.specs.Symbols.{slice}
 use Rattle.rtl_prep.specs.Stops.{Stop, Refused, Alone, and_then}
 use Rattle.rtl_prep.specs.Initials.{is_mark}
 use Rattle.rtl_prep.specs.Directives.{name_of, directive_of, line_len, named, free}
-use Rattle.rtl_prep.specs.Macros.{Macro, Macros, with_macro, limit, Gained, keep, is_directive, used}
+use Rattle.rtl_prep.specs.Macros.{Macro, Macros, with_macro, Gained, keep, is_directive, used}
 
 -- how many of the next tokens were read with a directive, the chains that are open (the innermost first), the macros, and what was
 -- gained
@@ -129,7 +130,7 @@ ignored text rest p t = Ok (with_passed p (line_len text t rest))
 -- a macro's replacement
 unfoldable pub replaces : List ℕ → Place → Token → Result Place Stop
 replaces text p t =
-    and_then (used limit text p.macros t.at (name_of text t) p.gained) (λ g. Ok (with_gained p g))
+    and_then (used MAX_REPLACEMENTS text p.macros t.at (name_of text t) p.gained) (λ g. Ok (with_gained p g))
 
 -- ---- tokens
 

@@ -9,12 +9,12 @@ ghost use Rattle.rtl_prep.specs.Tables.{held, gained, seen_macro};
 use crate::directive::{directive_of, name_of, refused};
 use crate::fault::PrepFault;
 use crate::macros::{Macro, Macros};
-use rtl_tree::token::{Tok, Token};
+use rtl_tree::token::{MAX_TOKENS, Tok, Token};
 use std::alloc::Global;
 use std::collections::LinkedList;
 
-/// How many tokens are kept, and how many replacements are made, at most.
-const LIMIT: usize = 200_000;
+/// How many replacements of macros there may be in a file.
+pub const MAX_REPLACEMENTS: usize = 200_000;
 
 /// A replacement that is being read.
 #[derive(Clone, Copy)]
@@ -42,7 +42,7 @@ impl<'a> Replacer<'a> {
         ensures macros { table.table self.new.macros ≡ table.table self.old.macros }
         ensures step { Tells (λ _. gained self.new) (spec.keep (gained self.old) token) result }
     {
-        if self.kept.len() < LIMIT {
+        if self.kept.len() < MAX_TOKENS {
             self.kept.push(token)?;
             Ok(())
         } else {
@@ -54,7 +54,7 @@ impl<'a> Replacer<'a> {
     #[tactic(auto, unfolding(crate::specs::Macros::begun))]
     fn begun(&self, name: &[u8], at: u32) -> Result<Macro<'a>, PrepFault>
         ensures step { Tells seen_macro (spec.begun (table.table self.now.macros) name.now at (gained self.now)) result }
-        ensures room { OnOk result (self.now.used < 200000) }
+        ensures room { OnOk result (self.now.used < MAX_REPLACEMENTS) }
     {
         if directive_of(name).is_some() {
             return Err(refused(self.alloc, name, at));
@@ -65,7 +65,7 @@ impl<'a> Replacer<'a> {
         if found.busy {
             return Err(looped(self.alloc, name, at));
         }
-        if self.used >= LIMIT {
+        if self.used >= MAX_REPLACEMENTS {
             return Err(PrepFault::TooManyTokens(at));
         }
         Ok(found)
@@ -126,7 +126,7 @@ impl<'a> Replacer<'a> {
     pub fn replace(&mut self, name: &'a [u8], at: u32) -> Result<(), PrepFault>
         ensures text { self.new.text.now ≡ self.old.text.now }
         ensures macros { OnOk result (table.table self.new.macros ≡ table.table self.old.macros) }
-        ensures step { Tells (λ _. gained self.new) (spec.used 200000 self.old.text.now (table.table self.old.macros) at name.now (gained self.old)) result }
+        ensures step { Tells (λ _. gained self.new) (spec.used MAX_REPLACEMENTS self.old.text.now (table.table self.old.macros) at name.now (gained self.old)) result }
     {
         let mut frames = LinkedList::new(self.alloc);
         self.begin(&mut frames, name, at)?;

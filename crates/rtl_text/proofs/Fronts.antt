@@ -1,8 +1,10 @@
 -- What the code finds at the front of a text is the piece or the fault that stands there.
-use Rattle.std.proofs.Common.{◌≡◌, ℕ, ◌+◌, ◌<◌, ◌≤◌, Bool, true, false, cond, ◌&&◌, ◌||◌, ◌==◌, IsTrue, List, [], ◌∷◌, ◌++◌, length, take, drop, Option, Some, None, refl, sym, ap, ap₂, subst, ◌∙◌, arith, eqb-true, take-append-drop}
+use Rattle.std.proofs.Common.{◌≡◌, ℕ, ◌+◌, ◌<◌, ◌≤◌, nat_le, Bool, true, false, cond, inl, inr, ◌&&◌, ◌||◌, ◌==◌, IsTrue, List, [], ◌∷◌, ◌++◌, length, take, drop, Option, Some, None, refl, sym, ap, ap₂, subst, ◌∙◌, arith, eqb-true, take-append-drop}
 use Rattle.std.proofs.lemmas.List.{length-take-le}
 use Rattle.std.proofs.lemmas.List.Sums.{prefix_len-le-length}
+use Rattle.std.proofs.lemmas.Bool.Decides.{nat_tests}
 use Rattle.std.specs.List.{prefix_len}
+use Rattle.rtl_tree.specs.declared.token.TheConstants.{MAX_WORD}
 use Rattle.rtl_tree.specs.declared.token.Tok.{Tok}
 use Rattle.rtl_tree.specs.declared.token.Tok.TheVariants.{Word, Number, Str, Mark, Directive}
 use Rattle.rtl_tree.specs.declared.token.Form.{Form}
@@ -15,7 +17,7 @@ use Rattle.rtl_text.specs.declared.front.Front.{Front}
 use Rattle.rtl_text.specs.declared.front.Front.TheVariants as fronts
 use Rattle.rtl_text.specs.Forms.{first, form_at}
 use Rattle.rtl_text.specs.Fronts.{without_blanks, pragma_at, noted, end_at, line_at, block_of, block_at, valued, judged, token_of, token_at, star_at, front}
-use Rattle.rtl_text.specs.Faults.{IsBadNumber, IsBadCharacter, IsOpenComment, IsNotAscii}
+use Rattle.rtl_text.specs.Faults.{IsBadNumber, IsBadCharacter, IsLongWord, IsOpenComment, IsNotAscii}
 use Rattle.rtl_text.proofs.Runs.{drop_front, each_prefix, stops_prefix, prefix_exact}
 use Rattle.rtl_text.proofs.Chains.{pick}
 use Rattle.rtl_text.proofs.FormTakes.{TakesForm, form_takes}
@@ -60,6 +62,7 @@ stands_found form body text h =
 abbrev pub Shows : List ℕ → Front → Type 0
 Shows text fronts.BadNumber = IsBadNumber text
 Shows text fronts.BadCharacter = IsBadCharacter text
+Shows text fronts.LongWord = IsLongWord text
 Shows text fronts.OpenComment = IsOpenComment text
 Shows text fronts.NotAscii = IsNotAscii text
 Shows text front = (piece : Piece) × IsPiece text piece × (front ≡ front_of piece)
@@ -152,6 +155,12 @@ stands_there text r e c s =
     let t : TakesForm text r = form_takes text r e in
     (drop r.1 text, sym (take-append-drop r.1 text), t.form, found_longest text r e, c, s)
 
+within_word : (n : ℕ) → nat_le n MAX_WORD ≡ true → n ≤ MAX_WORD
+within_word n h = grind (arith, nat_tests)
+
+beyond_word : (n : ℕ) → nat_le n MAX_WORD ≡ false → MAX_WORD < n
+beyond_word n h = grind (arith, nat_tests)
+
 one_shows : (text : List ℕ) (form : Form) (n : ℕ) (kind : Tok) → n ≤ length text → Stands form (take n text) text → IsKind kind form (take n text) → Shows text (fronts.One kind n)
 one_shows text form n kind l h k = (One kind (take n text), (form, h, k), ap (λ m. fronts.One kind m) (sym (length-take-le n text l)))
 
@@ -159,13 +168,21 @@ valued_shows : (text : List ℕ) (n : ℕ) (o : Option Literal) → literal (tak
 valued_shows text n None e l h = (take n text, h, e)
 valued_shows text n (Some value) e l h = one_shows text Numeral n (Number value) l h (refl, e)
 
+word_shows : (text : List ℕ) (n : ℕ) (o : Bool) → nat_le n MAX_WORD ≡ o → n ≤ length text → Stands Name (take n text) text → Shows text (cond o (fronts.One Word n) fronts.LongWord)
+word_shows text n true o l h = one_shows text Name n Word l h (refl, omega (arith, within_word n o, length-take-le n text l))
+word_shows text n false o l h = (take n text, inl h, omega (arith, beyond_word n o, length-take-le n text l))
+
+ticked_shows : (text : List ℕ) (n : ℕ) (o : Bool) → nat_le n MAX_WORD ≡ o → n ≤ length text → Stands Ticked (take n text) text → Shows text (cond o (fronts.One Directive n) fronts.LongWord)
+ticked_shows text n true o l h = one_shows text Ticked n Directive l h (refl, omega (arith, within_word n o, length-take-le n text l))
+ticked_shows text n false o l h = (take n text, inr h, omega (arith, beyond_word n o, length-take-le n text l))
+
 judged_shows : (text : List ℕ) (form : Form) (n : ℕ) → n ≤ length text → Stands form (take n text) text → Shows text (judged text form n)
 unfolding judged
-judged_shows text Name n l h = one_shows text Name n Word l h refl
+judged_shows text Name n l h = word_shows text n (nat_le n MAX_WORD) refl l h
 judged_shows text Numeral n l h = valued_shows text n (literal (take n text)) refl l h
 judged_shows text Quoted n l h = one_shows text Quoted n Str l h refl
 judged_shows text Sign n l h = one_shows text Sign n Mark l h refl
-judged_shows text Ticked n l h = one_shows text Ticked n Directive l h refl
+judged_shows text Ticked n l h = ticked_shows text n (nat_le n MAX_WORD) refl l h
 
 no_form : (text : List ℕ) → form_at text ≡ None → (form : Form) (body tail : List ℕ) → text ≡ body ++ tail → HasForm form body → ⊥
 no_form text e form body tail s h =

@@ -1,18 +1,19 @@
 -- The piece or the fault that stands at the front of a text is what the code finds there.
-use Rattle.std.proofs.Common.{◌≡◌, ℕ, ◌+◌, Bool, true, false, cond, not, ◌&&◌, ◌==◌, List, [], ◌∷◌, ◌++◌, length, take, drop, codes, Option, Some, None, refl, sym, ap, ap₂, ◌∙◌, arith, eqb-true, take-append-drop}
+use Rattle.std.proofs.Common.{◌≡◌, ℕ, ◌+◌, ◌<◌, ◌≤◌, nat_le, ◌⊎◌, inl, inr, Bool, true, false, cond, not, ◌&&◌, ◌==◌, List, [], ◌∷◌, ◌++◌, length, take, drop, codes, Option, Some, None, refl, sym, ap, ap₂, ◌∙◌, arith, eqb-true, take-append-drop}
 use Rattle.std.proofs.lemmas.Bool.Decides.{nat_tests}
 use Rattle.rtl_tree.specs.declared.token.Tok.{Tok}
 use Rattle.rtl_tree.specs.declared.token.Tok.TheVariants.{Word, Number, Str, Mark, Directive}
 use Rattle.rtl_tree.specs.declared.token.Tok.TheVariants as kinds
+use Rattle.rtl_tree.specs.declared.token.TheConstants.{MAX_WORD}
 use Rattle.rtl_tree.specs.declared.token.Form.{Form}
-use Rattle.rtl_tree.specs.declared.token.Form.TheVariants.{Numeral, Sign}
+use Rattle.rtl_tree.specs.declared.token.Form.TheVariants.{Name, Numeral, Sign, Ticked}
 use Rattle.rtl_tree.specs.Literal.{literal}
 use Rattle.rtl_tree.specs.Lexemes.{is_blank, is_in_line, is_ascii, opens_word, is_decimal, is_single, Each, Stops, HasForm, has_end}
 use Rattle.rtl_tree.specs.Splits.{pragma, Piece, Blank, Line, Block, Star, One, IsKind, BeginsComment, BeginsStar, Stands, IsPiece}
 use Rattle.rtl_text.specs.declared.front.Front.TheVariants as fronts
 use Rattle.rtl_text.specs.Forms.{first, form_at}
 use Rattle.rtl_text.specs.Fronts.{without_blanks, pragma_at, noted, line_at, block_of, block_at, valued, judged, token_of, token_at, star_at, front}
-use Rattle.rtl_text.specs.Faults.{IsBadNumber, IsBadCharacter, IsOpenComment, IsNotAscii}
+use Rattle.rtl_text.specs.Faults.{IsBadNumber, IsBadCharacter, IsLongWord, IsOpenComment, IsNotAscii}
 use Rattle.rtl_text.proofs.Runs.{take_front, prefix_exact}
 use Rattle.rtl_text.proofs.FormTakes.{TakesForm, form_takes}
 use Rattle.rtl_text.proofs.FormAgain.{when, unless, all_have}
@@ -85,14 +86,20 @@ stands_front form body text h =
 taken : (body text : List ℕ) → (form : Form) → Stands form body text → take (length body) text ≡ body
 taken body text form h = ap (λ xs. take (length body) xs) h.1 ∙ take_front body h.0
 
+short_word : (n : ℕ) → n ≤ MAX_WORD → nat_le n MAX_WORD ≡ true
+short_word n h = grind (arith, nat_tests)
+
+long_word : (n : ℕ) → MAX_WORD < n → nat_le n MAX_WORD ≡ false
+long_word n h = grind (arith, nat_tests)
+
 kind_front : (kind : Tok) (form : Form) (body text : List ℕ) → Stands form body text → IsKind kind form body → judged text form (length body) ≡ fronts.One kind (length body)
 unfolding judged
-kind_front Word form body text h k = ap (λ f. judged text f (length body)) k
+kind_front Word form body text h k = ap (λ f. judged text f (length body)) k.0 ∙ ap (λ o. cond o (fronts.One Word (length body)) fronts.LongWord) (short_word (length body) k.1)
 kind_front (Number value) form body text h k =
     ap (λ f. judged text f (length body)) k.0 ∙ ap (λ xs. valued (length body) (literal xs)) (taken body text form h) ∙ ap (λ o. valued (length body) o) k.1
 kind_front Str form body text h k = ap (λ f. judged text f (length body)) k
 kind_front Mark form body text h k = ap (λ f. judged text f (length body)) k
-kind_front Directive form body text h k = ap (λ f. judged text f (length body)) k
+kind_front Directive form body text h k = ap (λ f. judged text f (length body)) k.0 ∙ ap (λ o. cond o (fronts.One Directive (length body)) fronts.LongWord) (short_word (length body) k.1)
 kind_front (kinds.Pragma p) form body text h k = absurd k
 
 line_front : (inside rest : List ℕ) → Each is_in_line inside → Stops is_in_line rest → front (47 ∷ 47 ∷ inside ++ rest) ≡ noted (2 + length inside) (pragma inside)
@@ -134,6 +141,14 @@ number_again text h =
     stands_front Numeral h.0 text h.1
     ∙ ap (λ xs. valued (length h.0) (literal xs)) (taken h.0 text Numeral h.1)
     ∙ ap (λ o. valued (length h.0) o) h.2
+
+word_front : (text body : List ℕ) → Stands Name body text ⊎ Stands Ticked body text → MAX_WORD < length body → front text ≡ fronts.LongWord
+unfolding judged
+word_front text body (inl h) l = stands_front Name body text h ∙ ap (λ o. cond o (fronts.One Word (length body)) fronts.LongWord) (long_word (length body) l)
+word_front text body (inr h) l = stands_front Ticked body text h ∙ ap (λ o. cond o (fronts.One Directive (length body)) fronts.LongWord) (long_word (length body) l)
+
+pub word_again : (text : List ℕ) → IsLongWord text → front text ≡ fronts.LongWord
+word_again text h = word_front text h.0 h.1 h.2
 
 open_front : (inside : List ℕ) → has_end inside ≡ false → front (47 ∷ 42 ∷ inside) ≡ fronts.OpenComment
 unfolding front block_at

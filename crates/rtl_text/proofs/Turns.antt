@@ -6,6 +6,7 @@ use Rattle.rtl_tree.specs.declared.token.Tok.{Tok}
 use Rattle.rtl_tree.specs.declared.token.Tok.TheVariants.{Mark}
 use Rattle.rtl_tree.specs.declared.token.Tok.TheVariants as kinds
 use Rattle.rtl_tree.specs.declared.token.Token.{Token}
+use Rattle.rtl_tree.specs.declared.token.TheConstants.{MAX_WORD, MAX_TOKENS}
 use Rattle.rtl_tree.specs.declared.token.Pragma.{Pragma}
 use Rattle.rtl_tree.specs.Token.{token}
 use Rattle.rtl_tree.specs.Lexemes.{is_ascii, Each}
@@ -15,7 +16,7 @@ use Rattle.rtl_text.specs.declared.front.Front.TheVariants as fronts
 use Rattle.rtl_text.specs.declared.fault.LexFault.{LexFault}
 use Rattle.rtl_text.specs.declared.fault.LexFault.TheVariants.{NotAscii, BadNumber, BadCharacter, OpenComment, TooManyTokens, Memory}
 use Rattle.rtl_text.specs.Fronts.{noted, front}
-use Rattle.rtl_text.specs.Faults.{limit, IsForeign, Halts, IsFirst, Refuses, IsFull, Turn}
+use Rattle.rtl_text.specs.Faults.{IsForeign, Halts, IsFirst, Refuses, IsFull, Turn}
 use Rattle.rtl_text.proofs.Runs.{take_front, take_all, each_prefix}
 use Rattle.rtl_text.proofs.FormTakes.{TakesForm, form_takes}
 use Rattle.rtl_text.proofs.Fronts.{front_of, stands_found, Shows, shows}
@@ -131,12 +132,12 @@ moves text ts at rest n kept out ts' at' rest' u h a e f g =
     subst (λ r. Upto text ts' at' r) z (subst (λ m. Upto text ts' m (drop (size h.piece) rest)) y (subst (λ k. Upto text k (at + size h.piece) (drop (size h.piece) rest)) x v))
 
 pub passes : (text : List ℕ) (ts : List Token) (at : ℕ) (rest : List ℕ) (n : ℕ) (kept : ℕ → List Token) (out : List ℕ) (before after : List Token) (t : Token) (place : ℕ)
-    → Upto text ts at rest → length ts ≤ limit → Fits rest n kept out → ts ++ kept at ≡ before ++ t ∷ after → length before ≡ limit → place ≡ t.at → IsFirst text (TooManyTokens place)
+    → Upto text ts at rest → length ts ≤ MAX_TOKENS → Fits rest n kept out → ts ++ kept at ≡ before ++ t ∷ after → length before ≡ MAX_TOKENS → place ≡ t.at → IsFirst text (TooManyTokens place)
 passes text ts at rest n kept out before after t place u l h e c p =
     (ts, at, rest, u, l, (h.piece, h.is, (before, after, t, ap (λ k. ts ++ k) (h.tokens at) ∙ e, c, p)))
 
 pub strays : (text : List ℕ) (ts : List Token) (at : ℕ) (rest : List ℕ) (n : ℕ) (kept : ℕ → List Token) (out : List ℕ)
-    → Upto text ts at rest → length ts ≤ limit → Fits rest n kept out → length (ts ++ kept at) ≤ limit → prefix_len is_ascii out < length out → IsFirst text (NotAscii (at + prefix_len is_ascii out))
+    → Upto text ts at rest → length ts ≤ MAX_TOKENS → Fits rest n kept out → length (ts ++ kept at) ≤ MAX_TOKENS → prefix_len is_ascii out < length out → IsFirst text (NotAscii (at + prefix_len is_ascii out))
 strays text ts at rest n kept out u l h c f = (
   ts,
   at,
@@ -146,12 +147,12 @@ strays text ts at rest n kept out u l h c f = (
   inr (
     h.piece,
     h.is,
-    subst (λ k. length (ts ++ k) ≤ limit) (sym (h.tokens at)) c,
+    subst (λ k. length (ts ++ k) ≤ MAX_TOKENS) (sym (h.tokens at)) c,
     subst (λ xs. IsForeign at h.piece (at + prefix_len is_ascii xs)) h.out_is (subst (λ xs. prefix_len is_ascii xs < length xs) (sym h.out_is) f, refl),
   ),
 )
 
-pub stops : (text : List ℕ) (ts : List Token) (at : ℕ) (rest : List ℕ) → Upto text ts at rest → length ts ≤ limit → (fault : LexFault) → Halts fault ts at rest → IsFirst text fault
+pub stops : (text : List ℕ) (ts : List Token) (at : ℕ) (rest : List ℕ) → Upto text ts at rest → length ts ≤ MAX_TOKENS → (fault : LexFault) → Halts fault ts at rest → IsFirst text fault
 stops text ts at rest u l fault h = (ts, at, rest, u, l, h)
 
 -- ---- the same, in the words of the code
@@ -166,7 +167,7 @@ goes ts at rest n kept out ts' at' rest' u h a e f g = (shorter rest rest' n kep
 
 -- the first token of a piece isn't taken
 pub full : (ts : List Token) (at : ℕ) (rest : List ℕ) (n : ℕ) (kept : ℕ → List Token) (out : List ℕ) (t : Token) (after : List Token) (fault : LexFault)
-    → length ts ≤ limit → Fits rest n kept out → kept at ≡ t ∷ after → t.at ≡ at → IsFull (length ts) at fault → (text : List ℕ) → Upto text ts at rest → Refuses text fault
+    → length ts ≤ MAX_TOKENS → Fits rest n kept out → kept at ≡ t ∷ after → t.at ≡ at → IsFull (length ts) at fault → (text : List ℕ) → Upto text ts at rest → Refuses text fault
 full ts at rest n kept out t after (NotAscii place) l h k p f text u = absurd f
 full ts at rest n kept out t after (BadNumber place) l h k p f text u = absurd f
 full ts at rest n kept out t after (BadCharacter place) l h k p f text u = absurd f
@@ -175,14 +176,14 @@ full ts at rest n kept out t after (TooManyTokens place) l h k p f text u =
     passes text ts at rest n kept out ts after t place u l h (ap (λ x. ts ++ x) k) (omega (arith, l, f.0)) (f.1 ∙ sym p)
 full ts at rest n kept out t after Memory l h k p f text u = tt
 
-pub note_turn : (r : Result (Unit {0}) LexFault) (ts ts' : List Token) (at at' : ℕ) (rest rest' : List ℕ) (p : Pragma) (n : ℕ) → 0 < length rest → length ts ≤ limit → front rest ≡ fronts.Note p n
+pub note_turn : (r : Result (Unit {0}) LexFault) (ts ts' : List Token) (at at' : ℕ) (rest rest' : List ℕ) (p : Pragma) (n : ℕ) → 0 < length rest → length ts ≤ MAX_TOKENS → front rest ≡ fronts.Note p n
     → OnOk r (ts' ≡ ts ++ token (kinds.Pragma p) at n ∷ []) → OnOk r (at' ≡ at + n) → OnOk r (rest' ≡ drop n rest) → IfErr r (λ e. IsFull (length ts) at e) → Turn ts at rest r ts' at' rest'
 note_turn (Ok u) ts ts' at at' rest rest' p n l c e a b d f = goes ts at rest n (λ at. token (kinds.Pragma p) at n ∷ []) [] ts' at' rest' u (note_fits rest p n l e) tt a b d
 note_turn (Err fault) ts ts' at at' rest rest' p n l c e a b d f =
     full ts at rest n (λ at. token (kinds.Pragma p) at n ∷ []) [] (token (kinds.Pragma p) at n) [] fault c (note_fits rest p n l e) refl refl f
 
 -- the second mark of a `(*` isn't taken
-second_full : (ts ts₁ : List Token) (at at₁ : ℕ) (rest : List ℕ) (fault : LexFault) → length ts ≤ limit → length ts₁ ≤ limit → Fits rest 2 (λ at. token Mark at 1 ∷ token Mark (at + 1) 1 ∷ []) []
+second_full : (ts ts₁ : List Token) (at at₁ : ℕ) (rest : List ℕ) (fault : LexFault) → length ts ≤ MAX_TOKENS → length ts₁ ≤ MAX_TOKENS → Fits rest 2 (λ at. token Mark at 1 ∷ token Mark (at + 1) 1 ∷ []) []
     → ts₁ ≡ ts ++ token Mark at 1 ∷ [] → at₁ ≡ at + 1 → IsFull (length ts₁) at₁ fault → (text : List ℕ) → Upto text ts at rest → Refuses text fault
 second_full ts ts₁ at at₁ rest (NotAscii place) l l₁ h k p f text u = absurd f
 second_full ts ts₁ at at₁ rest (BadNumber place) l l₁ h k p f text u = absurd f
@@ -193,7 +194,7 @@ second_full ts ts₁ at at₁ rest (TooManyTokens place) l l₁ h k p f text u =
     (sym (append_assoc ts (token Mark at 1 ∷ []) (token Mark (at + 1) 1 ∷ [])) ∙ ap (λ x. x ++ token Mark (at + 1) 1 ∷ []) (sym k)) (omega (arith, l₁, f.0)) (f.1 ∙ p)
 second_full ts ts₁ at at₁ rest Memory l l₁ h k p f text u = tt
 
-pub star_turn : (r : Result (Unit {0}) LexFault) (ts ts₁ ts' : List Token) (at at₁ at' : ℕ) (rest rest₁ rest' : List ℕ) → 0 < length rest → length ts ≤ limit → length ts₁ ≤ limit → front rest ≡ fronts.Star
+pub star_turn : (r : Result (Unit {0}) LexFault) (ts ts₁ ts' : List Token) (at at₁ at' : ℕ) (rest rest₁ rest' : List ℕ) → 0 < length rest → length ts ≤ MAX_TOKENS → length ts₁ ≤ MAX_TOKENS → front rest ≡ fronts.Star
     → ts₁ ≡ ts ++ token Mark at 1 ∷ [] → at₁ ≡ at + 1 → rest₁ ≡ drop 1 rest
     → OnOk r (ts' ≡ ts₁ ++ token Mark at₁ 1 ∷ []) → OnOk r (at' ≡ at₁ + 1) → OnOk r (rest' ≡ drop 1 rest₁) → IfErr r (λ e. IsFull (length ts₁) at₁ e) → Turn ts at rest r ts' at' rest'
 star_turn (Ok u) ts ts₁ ts' at at₁ at' rest rest₁ rest' l c c₁ e a₁ b₁ d₁ a b d f =
@@ -203,7 +204,7 @@ star_turn (Ok u) ts ts₁ ts' at at₁ at' rest rest₁ rest' l c c₁ e a₁ b�
 star_turn (Err fault) ts ts₁ ts' at at₁ at' rest rest₁ rest' l c c₁ e a₁ b₁ d₁ a b d f =
     second_full ts ts₁ at at₁ rest fault c c₁ (star_fits rest l e) a₁ b₁ f
 
-pub star_full : (ts : List Token) (at : ℕ) (rest : List ℕ) (fault : LexFault) → 0 < length rest → length ts ≤ limit → front rest ≡ fronts.Star → IsFull (length ts) at fault → (text : List ℕ) → Upto text ts at rest → Refuses text fault
+pub star_full : (ts : List Token) (at : ℕ) (rest : List ℕ) (fault : LexFault) → 0 < length rest → length ts ≤ MAX_TOKENS → front rest ≡ fronts.Star → IsFull (length ts) at fault → (text : List ℕ) → Upto text ts at rest → Refuses text fault
 star_full ts at rest fault l c e f =
     full ts at rest 2 (λ at. token Mark at 1 ∷ token Mark (at + 1) 1 ∷ []) [] (token Mark at 1) (token Mark (at + 1) 1 ∷ []) fault c (star_fits rest l e) refl refl f
 
@@ -211,7 +212,7 @@ pub gap_turn : (ts ts' : List Token) (at at' : ℕ) (rest rest' : List ℕ) (n :
     → ts' ≡ ts → at' ≡ at + n → rest' ≡ drop n rest → Turn ts at rest (Ok u) ts' at' rest'
 gap_turn ts ts' at at' rest rest' n u l e a b d = goes ts at rest n (λ at. []) [] ts' at' rest' u (gap_fits rest n l e) tt (a ∙ sym (append-nil ts)) b d
 
-pub token_full : (ts : List Token) (at : ℕ) (rest : List ℕ) (k : Tok) (n : ℕ) (fault : LexFault) → 0 < length rest → length ts ≤ limit → front rest ≡ fronts.One k n → IsFull (length ts) at fault → (text : List ℕ) → Upto text ts at rest → Refuses text fault
+pub token_full : (ts : List Token) (at : ℕ) (rest : List ℕ) (k : Tok) (n : ℕ) (fault : LexFault) → 0 < length rest → length ts ≤ MAX_TOKENS → front rest ≡ fronts.One k n → IsFull (length ts) at fault → (text : List ℕ) → Upto text ts at rest → Refuses text fault
 token_full ts at rest k n fault l c e f = full ts at rest n (λ at. token k at n ∷ []) (take n rest) (token k at n) [] fault c (one_fits rest k n l e) refl refl f
 
 all_ascii : (out : List ℕ) → length out ≤ prefix_len is_ascii out → Each is_ascii out
@@ -226,13 +227,13 @@ token_turn ts ts' at at' rest rest' k n good u l e a b d g m =
     let w = within rest n (λ at. token k at n ∷ []) (take n rest) h in
     goes ts at rest n (λ at. token k at n ∷ []) (take n rest) ts' at' rest' u h (all_ascii (take n rest) (omega (arith, g, m, length-take-le n rest w.1))) a b d
 
-pub token_strays : (ts ts' : List Token) (at : ℕ) (rest : List ℕ) (k : Tok) (n good : ℕ) → 0 < length rest → length ts ≤ limit → length ts' ≤ limit → front rest ≡ fronts.One k n
+pub token_strays : (ts ts' : List Token) (at : ℕ) (rest : List ℕ) (k : Tok) (n good : ℕ) → 0 < length rest → length ts ≤ MAX_TOKENS → length ts' ≤ MAX_TOKENS → front rest ≡ fronts.One k n
     → ts' ≡ ts ++ token k at n ∷ [] → good ≡ prefix_len is_ascii (take n rest) → good < n → (text : List ℕ) → Upto text ts at rest → Refuses text (NotAscii (at + good))
 token_strays ts ts' at rest k n good l c c' e a g m text u =
     let h = one_fits rest k n l e in
     let w = within rest n (λ at. token k at n ∷ []) (take n rest) h in
     subst (λ x. IsFirst text (NotAscii (at + x))) (sym g)
-    (strays text ts at rest n (λ at. token k at n ∷ []) (take n rest) u c h (subst (λ x. length x ≤ limit) a c') (omega (arith, g, m, length-take-le n rest w.1)))
+    (strays text ts at rest n (λ at. token k at n ∷ []) (take n rest) u c h (subst (λ x. length x ≤ MAX_TOKENS) a c') (omega (arith, g, m, length-take-le n rest w.1)))
 
 pub note_within : (rest : List ℕ) (p : Pragma) (n : ℕ) → 0 < length rest → front rest ≡ fronts.Note p n → n ≤ length rest
 note_within rest p n l e = (within rest n (λ at. token (kinds.Pragma p) at n ∷ []) [] (note_fits rest p n l e)).1
@@ -246,16 +247,19 @@ token_within rest k n l e = (within rest n (λ at. token k at n ∷ []) (take n 
 pub star_within : (rest : List ℕ) → 0 < length rest → front rest ≡ fronts.Star → 2 ≤ length rest
 star_within rest l e = (within rest 2 (λ at. token Mark at 1 ∷ token Mark (at + 1) 1 ∷ []) [] (star_fits rest l e)).1
 
-pub foreign_stops : (ts : List Token) (at : ℕ) (rest : List ℕ) → 0 < length rest → length ts ≤ limit → front rest ≡ fronts.NotAscii → (text : List ℕ) → Upto text ts at rest → Refuses text (NotAscii at)
+pub foreign_stops : (ts : List Token) (at : ℕ) (rest : List ℕ) → 0 < length rest → length ts ≤ MAX_TOKENS → front rest ≡ fronts.NotAscii → (text : List ℕ) → Upto text ts at rest → Refuses text (NotAscii at)
 foreign_stops ts at rest l c e text u = stops text ts at rest u c (NotAscii at) (inl (refl, shown rest fronts.NotAscii l e))
 
-pub number_stops : (ts : List Token) (at : ℕ) (rest : List ℕ) → 0 < length rest → length ts ≤ limit → front rest ≡ fronts.BadNumber → (text : List ℕ) → Upto text ts at rest → Refuses text (BadNumber at)
+pub number_stops : (ts : List Token) (at : ℕ) (rest : List ℕ) → 0 < length rest → length ts ≤ MAX_TOKENS → front rest ≡ fronts.BadNumber → (text : List ℕ) → Upto text ts at rest → Refuses text (BadNumber at)
 number_stops ts at rest l c e text u = stops text ts at rest u c (BadNumber at) (refl, shown rest fronts.BadNumber l e)
 
-pub character_stops : (ts : List Token) (at : ℕ) (rest : List ℕ) → 0 < length rest → length ts ≤ limit → front rest ≡ fronts.BadCharacter → (text : List ℕ) → Upto text ts at rest → Refuses text (BadCharacter at)
-character_stops ts at rest l c e text u = stops text ts at rest u c (BadCharacter at) (refl, shown rest fronts.BadCharacter l e)
+pub character_stops : (ts : List Token) (at : ℕ) (rest : List ℕ) → 0 < length rest → length ts ≤ MAX_TOKENS → front rest ≡ fronts.BadCharacter → (text : List ℕ) → Upto text ts at rest → Refuses text (BadCharacter at)
+character_stops ts at rest l c e text u = stops text ts at rest u c (BadCharacter at) (inl (refl, shown rest fronts.BadCharacter l e))
 
-pub open_stops : (ts : List Token) (at : ℕ) (rest : List ℕ) → 0 < length rest → length ts ≤ limit → front rest ≡ fronts.OpenComment → (text : List ℕ) → Upto text ts at rest → Refuses text (OpenComment at)
+pub word_stops : (ts : List Token) (at : ℕ) (rest : List ℕ) → 0 < length rest → length ts ≤ MAX_TOKENS → front rest ≡ fronts.LongWord → (text : List ℕ) → Upto text ts at rest → Refuses text (BadCharacter (at + MAX_WORD))
+word_stops ts at rest l c e text u = stops text ts at rest u c (BadCharacter (at + MAX_WORD)) (inr (refl, shown rest fronts.LongWord l e))
+
+pub open_stops : (ts : List Token) (at : ℕ) (rest : List ℕ) → 0 < length rest → length ts ≤ MAX_TOKENS → front rest ≡ fronts.OpenComment → (text : List ℕ) → Upto text ts at rest → Refuses text (OpenComment at)
 open_stops ts at rest l c e text u = stops text ts at rest u c (OpenComment at) (refl, shown rest fronts.OpenComment l e)
 
 -- ---- the whole text
@@ -273,10 +277,10 @@ no_rest : (rest : List ℕ) → (length rest == 0) ≡ true → rest ≡ []
 no_rest [] h = refl
 no_rest (b ∷ bs) h = absurd (omega (arith, eqb-true (length (b ∷ bs)) 0 h))
 
-pub splits_at_end : (text : List ℕ) (ts tokens : List Token) (at : ℕ) (rest : List ℕ) → tokens ≡ ts → Upto text ts at rest → length ts ≤ limit → true ≡ (length rest == 0) → Splits text tokens × (length tokens ≤ limit)
+pub splits_at_end : (text : List ℕ) (ts tokens : List Token) (at : ℕ) (rest : List ℕ) → tokens ≡ ts → Upto text ts at rest → length ts ≤ MAX_TOKENS → true ≡ (length rest == 0) → Splits text tokens × (length tokens ≤ MAX_TOKENS)
 splits_at_end text ts tokens at rest e u l h =
     let none : rest ≡ [] = no_rest rest (sym h) in
     let all : at ≡ length text = omega (arith, upto_length text ts at rest u, ap length none) in (
       subst (λ x. Splits text x) (sym e) (subst (λ r. Upto text ts (length text) r) none (subst (λ n. Upto text ts n rest) all u)),
-      subst (λ x. length x ≤ limit) (sym e) l,
+      subst (λ x. length x ≤ MAX_TOKENS) (sym e) l,
     )

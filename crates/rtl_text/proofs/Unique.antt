@@ -6,6 +6,7 @@ use Rattle.std.specs.List.{prefix_len}
 use Rattle.rtl_tree.specs.declared.token.Tok.TheVariants.{Mark}
 use Rattle.rtl_tree.specs.declared.token.Tok.TheVariants as kinds
 use Rattle.rtl_tree.specs.declared.token.Token.{Token}
+use Rattle.rtl_tree.specs.declared.token.TheConstants.{MAX_WORD, MAX_TOKENS}
 use Rattle.rtl_tree.specs.declared.token.Pragma.{Pragma}
 use Rattle.rtl_tree.specs.Token.{token}
 use Rattle.rtl_tree.specs.Lexemes.{is_ascii, Each}
@@ -16,11 +17,11 @@ use Rattle.rtl_text.specs.declared.fault.LexFault.{LexFault}
 use Rattle.rtl_text.specs.declared.fault.LexFault.TheVariants.{NotAscii, BadNumber, BadCharacter, OpenComment, TooManyTokens, Memory}
 use Rattle.rtl_text.specs.Forms.{form_at}
 use Rattle.rtl_text.specs.Fronts.{noted, front, token_at, star_at}
-use Rattle.rtl_text.specs.Faults.{limit, IsForeign, IsPassed, Halts, Answers, Refuses, Says}
+use Rattle.rtl_text.specs.Faults.{IsForeign, IsPassed, Halts, Answers, Refuses, Says}
 use Rattle.rtl_tree.specs.Lexemes.{is_single}
 use Rattle.rtl_text.proofs.Runs.{take_front, prefix_all}
 use Rattle.rtl_text.proofs.Fronts.{front_of}
-use Rattle.rtl_text.proofs.FrontsAgain.{piece_again, number_again, open_again, character_again, foreign_again}
+use Rattle.rtl_text.proofs.FrontsAgain.{piece_again, number_again, word_again, open_again, character_again, foreign_again}
 use Rattle.rtl_text.proofs.Turns.{piece_within}
 
 -- where the lexer is
@@ -201,12 +202,13 @@ passed_at (t ∷ ts) = t.at
 
 abbrev piece_fault : State → Front → LexFault
 piece_fault s f =
-    cond (has_room limit (s.tokens ++ kept f s.at)) (NotAscii (s.at + prefix_len is_ascii (bare f s.rest))) (TooManyTokens (passed_at (drop limit (s.tokens ++ kept f s.at))))
+    cond (has_room MAX_TOKENS (s.tokens ++ kept f s.at)) (NotAscii (s.at + prefix_len is_ascii (bare f s.rest))) (TooManyTokens (passed_at (drop MAX_TOKENS (s.tokens ++ kept f s.at))))
 
 abbrev fault_at : State → Front → LexFault
 fault_at s fronts.NotAscii = NotAscii s.at
 fault_at s fronts.BadNumber = BadNumber s.at
 fault_at s fronts.BadCharacter = BadCharacter s.at
+fault_at s fronts.LongWord = BadCharacter (s.at + MAX_WORD)
 fault_at s fronts.OpenComment = OpenComment s.at
 fault_at s f = piece_fault s f
 
@@ -219,7 +221,7 @@ final s = unless_done s.rest s.tokens (fault_at s (front s.rest))
 
 -- a state at which the lexer stays, and what it answers there
 record Rests (s : State) (o : Result (List Token) LexFault) : Type 0 where
-  still : step limit s ≡ s
+  still : step MAX_TOKENS s ≡ s
   answer : final s ≡ o
 
 not_done : (rest : List ℕ) (ts : List Token) (e : LexFault) → 0 < length rest → unless_done rest ts e ≡ Err e
@@ -229,7 +231,7 @@ not_done (b ∷ bs) ts e h = refl
 plain_rests : (ts : List Token) (at : ℕ) (rest : List ℕ) (f : Front) (fault : LexFault) → 0 < length rest → front rest ≡ f → is_piece f ≡ false → fault_at (state ts at rest) f ≡ fault → Rests (state ts at rest) (Err fault)
 unfolding final
 plain_rests ts at rest f fault l e p q = record {
-  still = no_piece limit (state ts at rest) f e p;
+  still = no_piece MAX_TOKENS (state ts at rest) f e p;
   answer = not_done rest ts (fault_at (state ts at rest) (front rest)) l ∙ ap (λ x. Err (fault_at (state ts at rest) x)) e ∙ ap (λ x. Err x) q;
 }
 
@@ -237,6 +239,7 @@ fault_of_piece : (s : State) (f : Front) → is_piece f ≡ true → fault_at s 
 fault_of_piece s fronts.NotAscii h = cc
 fault_of_piece s fronts.BadNumber h = cc
 fault_of_piece s fronts.BadCharacter h = cc
+fault_of_piece s fronts.LongWord h = cc
 fault_of_piece s fronts.OpenComment h = cc
 fault_of_piece s f h = refl
 
@@ -251,15 +254,15 @@ no_ascii A true true true x y e = cc
 no_ascii A true false q x y e = refl
 no_ascii A false p q x y e = refl
 
-still_full : (s : State) (f : Front) → front s.rest ≡ f → has_room limit (s.tokens ++ kept f s.at) ≡ false → step limit s ≡ s
+still_full : (s : State) (f : Front) → front s.rest ≡ f → has_room MAX_TOKENS (s.tokens ++ kept f s.at) ≡ false → step MAX_TOKENS s ≡ s
 unfolding step
 still_full s f e h =
-    ap (λ x. by limit s x) e ∙ no_room State (is_piece f) (has_room limit (s.tokens ++ kept f s.at)) (has_ascii (bare f s.rest)) _ _ h
+    ap (λ x. by MAX_TOKENS s x) e ∙ no_room State (is_piece f) (has_room MAX_TOKENS (s.tokens ++ kept f s.at)) (has_ascii (bare f s.rest)) _ _ h
 
-still_foreign : (s : State) (f : Front) → front s.rest ≡ f → has_ascii (bare f s.rest) ≡ false → step limit s ≡ s
+still_foreign : (s : State) (f : Front) → front s.rest ≡ f → has_ascii (bare f s.rest) ≡ false → step MAX_TOKENS s ≡ s
 unfolding step
 still_foreign s f e h =
-    ap (λ x. by limit s x) e ∙ no_ascii State (is_piece f) (has_room limit (s.tokens ++ kept f s.at)) (has_ascii (bare f s.rest)) _ _ h
+    ap (λ x. by MAX_TOKENS s x) e ∙ no_ascii State (is_piece f) (has_room MAX_TOKENS (s.tokens ++ kept f s.at)) (has_ascii (bare f s.rest)) _ _ h
 
 final_piece : (ts : List Token) (at : ℕ) (rest : List ℕ) (piece : Piece) → IsPiece rest piece → final (state ts at rest) ≡ Err (piece_fault (state ts at rest) (front_of piece))
 unfolding final
@@ -269,15 +272,15 @@ final_piece ts at rest piece h =
     ∙ ap (λ x. Err (fault_at (state ts at rest) x)) (piece_again rest piece h)
     ∙ ap (λ x. Err x) (fault_of_piece (state ts at rest) (front_of piece) (piece_is piece))
 
-stray_rests : (ts : List Token) (at place : ℕ) (rest : List ℕ) (piece : Piece) → IsPiece rest piece → length (ts ++ tokens_of at piece) ≤ limit → IsForeign at piece place → Rests (state ts at rest) (Err (NotAscii place))
+stray_rests : (ts : List Token) (at place : ℕ) (rest : List ℕ) (piece : Piece) → IsPiece rest piece → length (ts ++ tokens_of at piece) ≤ MAX_TOKENS → IsForeign at piece place → Rests (state ts at rest) (Err (NotAscii place))
 stray_rests ts at place rest piece h l w =
     let f = front_of piece in
     record {
       still = still_foreign (state ts at rest) f (piece_again rest piece h)
           (ap (λ x. has_ascii x) (bare_is rest piece h) ∙ le_false (length (outside piece)) (prefix_len is_ascii (outside piece)) w.0);
       answer = final_piece ts at rest piece h
-          ∙ ap (λ x. Err (cond x (NotAscii (at + prefix_len is_ascii (bare f rest))) (TooManyTokens (passed_at (drop limit (ts ++ kept f at))))))
-          (ap (λ x. has_room limit (ts ++ x)) (kept_is at piece) ∙ le_true (length (ts ++ tokens_of at piece)) limit l)
+          ∙ ap (λ x. Err (cond x (NotAscii (at + prefix_len is_ascii (bare f rest))) (TooManyTokens (passed_at (drop MAX_TOKENS (ts ++ kept f at))))))
+          (ap (λ x. has_room MAX_TOKENS (ts ++ x)) (kept_is at piece) ∙ le_true (length (ts ++ tokens_of at piece)) MAX_TOKENS l)
           ∙ ap (λ x. Err (NotAscii (at + prefix_len is_ascii x))) (bare_is rest piece h)
           ∙ ap (λ x. Err (NotAscii x)) (sym w.1);
     }
@@ -288,15 +291,15 @@ drop_passed before after n e = ap (λ k. drop k (before ++ after)) (sym e) ∙ d
 passed_rests : (ts : List Token) (at place : ℕ) (rest : List ℕ) (piece : Piece) → IsPiece rest piece → IsPassed (ts ++ tokens_of at piece) place → Rests (state ts at rest) (Err (TooManyTokens place))
 passed_rests ts at place rest piece h w =
     let f = front_of piece in
-    let many : limit < length (ts ++ tokens_of at piece) = omega (arith, ap length w.3, length-append w.0 (w.2 ∷ w.1), w.4) in
-    let none : has_room limit (ts ++ kept f at) ≡ false = ap (λ x. has_room limit (ts ++ x)) (kept_is at piece) ∙ le_false (length (ts ++ tokens_of at piece)) limit many in
+    let many : MAX_TOKENS < length (ts ++ tokens_of at piece) = omega (arith, ap length w.3, length-append w.0 (w.2 ∷ w.1), w.4) in
+    let none : has_room MAX_TOKENS (ts ++ kept f at) ≡ false = ap (λ x. has_room MAX_TOKENS (ts ++ x)) (kept_is at piece) ∙ le_false (length (ts ++ tokens_of at piece)) MAX_TOKENS many in
     record {
       still = still_full (state ts at rest) f (piece_again rest piece h) none;
       answer = final_piece ts at rest piece h
-          ∙ ap (λ x. Err (cond x (NotAscii (at + prefix_len is_ascii (bare f rest))) (TooManyTokens (passed_at (drop limit (ts ++ kept f at)))))) none
-          ∙ ap (λ x. Err (TooManyTokens (passed_at (drop limit (ts ++ x))))) (kept_is at piece)
-          ∙ ap (λ x. Err (TooManyTokens (passed_at (drop limit x)))) w.3
-          ∙ ap (λ x. Err (TooManyTokens (passed_at x))) (drop_passed w.0 (w.2 ∷ w.1) limit w.4)
+          ∙ ap (λ x. Err (cond x (NotAscii (at + prefix_len is_ascii (bare f rest))) (TooManyTokens (passed_at (drop MAX_TOKENS (ts ++ kept f at)))))) none
+          ∙ ap (λ x. Err (TooManyTokens (passed_at (drop MAX_TOKENS (ts ++ x))))) (kept_is at piece)
+          ∙ ap (λ x. Err (TooManyTokens (passed_at (drop MAX_TOKENS x)))) w.3
+          ∙ ap (λ x. Err (TooManyTokens (passed_at x))) (drop_passed w.0 (w.2 ∷ w.1) MAX_TOKENS w.4)
           ∙ ap (λ x. Err (TooManyTokens x)) (sym w.5);
     }
 
@@ -304,13 +307,20 @@ some_rest : (rest : List ℕ) → front rest ≡ fronts.BadNumber → 0 < length
 some_rest [] e = let no : fronts.BadCharacter ≡ fronts.BadNumber = sym front_of_nothing ∙ e in cc
 some_rest (b ∷ bs) e = omega arith
 
+word_rest : (rest : List ℕ) → front rest ≡ fronts.LongWord → 0 < length rest
+word_rest [] e = let no : fronts.BadCharacter ≡ fronts.LongWord = sym front_of_nothing ∙ e in cc
+word_rest (b ∷ bs) e = omega arith
+
 halted : (fault : LexFault) (ts : List Token) (at : ℕ) (rest : List ℕ) → Halts fault ts at rest → Rests (state ts at rest) (Err fault)
 halted (NotAscii place) ts at rest (inl h) = plain_rests ts at rest fronts.NotAscii (NotAscii place) (omega (arith, ap length h.1.2)) (foreign_again rest h.1) refl (ap (λ x. NotAscii x) (sym h.0))
 halted (NotAscii place) ts at rest (inr h) = stray_rests ts at place rest h.0 h.1 h.2 h.3
 halted (BadNumber place) ts at rest h =
     let e = number_again rest h.1 in
     plain_rests ts at rest fronts.BadNumber (BadNumber place) (some_rest rest e) e refl (ap (λ x. BadNumber x) (sym h.0))
-halted (BadCharacter place) ts at rest h = plain_rests ts at rest fronts.BadCharacter (BadCharacter place) (omega (arith, ap length h.1.2)) (character_again rest h.1) refl (ap (λ x. BadCharacter x) (sym h.0))
+halted (BadCharacter place) ts at rest (inl h) = plain_rests ts at rest fronts.BadCharacter (BadCharacter place) (omega (arith, ap length h.1.2)) (character_again rest h.1) refl (ap (λ x. BadCharacter x) (sym h.0))
+halted (BadCharacter place) ts at rest (inr h) =
+    let e = word_again rest h.1 in
+    plain_rests ts at rest fronts.LongWord (BadCharacter place) (word_rest rest e) e refl (ap (λ x. BadCharacter x) (sym h.0))
 halted (OpenComment place) ts at rest h = plain_rests ts at rest fronts.OpenComment (OpenComment place) (omega (arith, ap length h.1.1)) (open_again rest h.1) refl (ap (λ x. OpenComment x) (sym h.0))
 halted (TooManyTokens place) ts at rest h = passed_rests ts at place rest h.0 h.1 h.2
 halted Memory ts at rest h = absurd h
@@ -321,12 +331,12 @@ record Found (text : List ℕ) (o : Result (List Token) LexFault) : Type 0 where
   at : ℕ
   rest : List ℕ
   upto : Upto text tokens at rest
-  few : length tokens ≤ limit
+  few : length tokens ≤ MAX_TOKENS
   rests : Rests (state tokens at rest) o
 
 done_rests : (ts : List Token) (at : ℕ) → Rests (state ts at []) (Ok ts)
 unfolding final
-done_rests ts at = record { still = at_end limit ts at; answer = refl }
+done_rests ts at = record { still = at_end MAX_TOKENS ts at; answer = refl }
 
 found : (text : List ℕ) (o : Result (List Token) LexFault) → Answers text o → Found text o
 found text (Ok tokens) h = record { tokens = tokens; at = length text; rest = []; upto = h.0; few = h.1; rests = done_rests tokens (length text) }
@@ -337,7 +347,7 @@ one_answer text a b g h =
     let u = found text a g in
     let v = found text b h in
     sym u.rests.answer
-    ∙ ap final (one_end limit text u.tokens v.tokens u.at v.at u.rest v.rest u.upto v.upto u.few v.few u.rests.still v.rests.still)
+    ∙ ap final (one_end MAX_TOKENS text u.tokens v.tokens u.at v.at u.rest v.rest u.upto v.upto u.few v.few u.rests.still v.rests.still)
     ∙ v.rests.answer
 
 pub says_fault : (text : List ℕ) (fault : LexFault) → Refuses text fault → (answer : Result (List Token) LexFault) → Answers text answer → Says answer (Err fault)

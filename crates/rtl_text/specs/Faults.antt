@@ -2,17 +2,14 @@
 use Rattle.std.specs.Prelude.{◌≡◌, ℕ, ◌+◌, ◌<◌, ◌≤◌, ◌⊎◌, false, IsTrue, List, ◌∷◌, ◌++◌, length, codes, None, Result, Ok, Err}
 use Rattle.std.specs.List.{prefix_len}
 use Rattle.rtl_tree.specs.declared.token.Token.{Token}
+use Rattle.rtl_tree.specs.declared.token.TheConstants.{MAX_WORD, MAX_TOKENS}
 use Rattle.rtl_tree.specs.declared.token.Form.{Form}
-use Rattle.rtl_tree.specs.declared.token.Form.TheVariants.{Numeral}
+use Rattle.rtl_tree.specs.declared.token.Form.TheVariants.{Name, Numeral, Ticked}
 use Rattle.rtl_tree.specs.Literal.{literal}
 use Rattle.rtl_tree.specs.Lexemes.{is_blank, is_ascii, HasForm, has_end}
 use Rattle.rtl_tree.specs.Splits.{Piece, tokens_of, outside, Stands, IsPiece, Upto, Splits}
 use Rattle.rtl_text.specs.declared.fault.LexFault.{LexFault}
 use Rattle.rtl_text.specs.declared.fault.LexFault.TheVariants.{NotAscii, BadNumber, BadCharacter, OpenComment, TooManyTokens, Memory}
-
--- how many tokens a text may have
-abbrev pub limit : ℕ
-limit = 200000
 
 -- a number by its form stands there and has no value
 abbrev pub IsBadNumber : List ℕ → Type 0
@@ -23,6 +20,10 @@ abbrev pub IsBadCharacter : List ℕ → Type 0
 IsBadCharacter text =
     (b : ℕ) × (rest : List ℕ) × (text ≡ b ∷ rest) × IsTrue (is_ascii b) × (is_blank b ≡ false)
     × ((form : Form) (body tail : List ℕ) → text ≡ body ++ tail → HasForm form body → ⊥)
+
+-- a word with more bytes than a word may have
+abbrev pub IsLongWord : List ℕ → Type 0
+IsLongWord text = (body : List ℕ) × (Stands Name body text ⊎ Stands Ticked body text) × (MAX_WORD < length body)
 
 abbrev pub IsOpenComment : List ℕ → Type 0
 IsOpenComment text = (inside : List ℕ) × (text ≡ codes "/*" ++ inside) × (has_end inside ≡ false)
@@ -36,26 +37,26 @@ IsForeign at piece place = (prefix_len is_ascii (outside piece) < length (outsid
 
 -- the token that is one too many, and its place
 abbrev pub IsPassed : List Token → ℕ → Type 0
-IsPassed tokens place = (front : List Token) × (back : List Token) × (t : Token) × (tokens ≡ front ++ t ∷ back) × (length front ≡ limit) × (place ≡ t.at)
+IsPassed tokens place = (front : List Token) × (back : List Token) × (t : Token) × (tokens ≡ front ++ t ∷ back) × (length front ≡ MAX_TOKENS) × (place ≡ t.at)
 
 -- what stops the lexer where the text up to the place `at` splits into these tokens and `rest` follows
 abbrev pub Halts : LexFault → List Token → ℕ → List ℕ → Type 0
 Halts (NotAscii place) tokens at rest =
     ((place ≡ at) × IsNotAscii rest)
-    ⊎ ((piece : Piece) × IsPiece rest piece × (length (tokens ++ tokens_of at piece) ≤ limit) × IsForeign at piece place)
+    ⊎ ((piece : Piece) × IsPiece rest piece × (length (tokens ++ tokens_of at piece) ≤ MAX_TOKENS) × IsForeign at piece place)
 Halts (BadNumber place) tokens at rest = (place ≡ at) × IsBadNumber rest
-Halts (BadCharacter place) tokens at rest = (place ≡ at) × IsBadCharacter rest
+Halts (BadCharacter place) tokens at rest = ((place ≡ at) × IsBadCharacter rest) ⊎ ((place ≡ at + MAX_WORD) × IsLongWord rest)
 Halts (OpenComment place) tokens at rest = (place ≡ at) × IsOpenComment rest
 Halts (TooManyTokens place) tokens at rest = (piece : Piece) × IsPiece rest piece × IsPassed (tokens ++ tokens_of at piece) place
 Halts Memory tokens at rest = ⊥
 
 -- the fault at the least place: up to it the text splits, into no more tokens than it may have
 abbrev pub IsFirst : List ℕ → LexFault → Type 0
-IsFirst text fault = (tokens : List Token) × (at : ℕ) × (rest : List ℕ) × Upto text tokens at rest × (length tokens ≤ limit) × Halts fault tokens at rest
+IsFirst text fault = (tokens : List Token) × (at : ℕ) × (rest : List ℕ) × Upto text tokens at rest × (length tokens ≤ MAX_TOKENS) × Halts fault tokens at rest
 
 -- the answer for a text, but for want of memory: its tokens, or its first fault
 abbrev pub Answers : List ℕ → Result (List Token) LexFault → Type 0
-Answers text (Ok tokens) = Splits text tokens × (length tokens ≤ limit)
+Answers text (Ok tokens) = Splits text tokens × (length tokens ≤ MAX_TOKENS)
 Answers text (Err fault) = IsFirst text fault
 
 -- a refusal: the first fault, or want of memory, which may come at any time
@@ -65,7 +66,7 @@ Refuses text fault = IsFirst text fault
 
 -- why one more token isn't taken: there are as many as there may be, or memory ran out
 abbrev pub IsFull : ℕ → ℕ → LexFault → Type 0
-IsFull count at (TooManyTokens place) = (limit ≤ count) × (place ≡ at)
+IsFull count at (TooManyTokens place) = (MAX_TOKENS ≤ count) × (place ≡ at)
 IsFull count at Memory = Unit {0}
 IsFull count at fault = ⊥
 

@@ -1,8 +1,10 @@
 -- What stands at the front of a text, as the code finds it.
-use Rattle.std.specs.Prelude.{ℕ, ◌+◌, Bool, ◌&&◌, not, if◌then◌else◌, ◌==◌, List, [], ◌∷◌, length, take, drop, Option, Some, None}
+use Rattle.std.specs.Prelude.{ℕ, ◌+◌, nat_le, Bool, ◌&&◌, not, if◌then◌else◌, ◌==◌, List, [], ◌∷◌, length, take, drop, Option, Some, None}
 use Rattle.std.specs.Option.{option_map}
 use Rattle.std.specs.List.{prefix_len}
+use Rattle.rtl_tree.specs.declared.token.Tok.{Tok}
 use Rattle.rtl_tree.specs.declared.token.Tok.TheVariants.{Word, Number, Str, Mark, Directive}
+use Rattle.rtl_tree.specs.declared.token.TheConstants.{MAX_WORD}
 use Rattle.rtl_tree.specs.declared.token.Form.{Form}
 use Rattle.rtl_tree.specs.declared.token.Form.TheVariants.{Name, Numeral, Quoted, Sign, Ticked}
 use Rattle.rtl_tree.specs.declared.token.Pragma.{Pragma}
@@ -12,7 +14,7 @@ use Rattle.rtl_tree.specs.Lexemes.{is_blank, is_in_line, is_ascii}
 use Rattle.rtl_tree.specs.Splits.{is_vendor, told_by_one, told_by_two}
 use Rattle.rtl_text.specs.Forms.{first, form_at}
 use Rattle.rtl_text.specs.declared.front.Front.{Front}
-use Rattle.rtl_text.specs.declared.front.Front.TheVariants.{Gap, Note, Star, One, NotAscii, BadNumber, BadCharacter, OpenComment}
+use Rattle.rtl_text.specs.declared.front.Front.TheVariants.{Gap, Note, Star, One, NotAscii, BadNumber, BadCharacter, LongWord, OpenComment}
 
 -- ---- comments
 
@@ -64,12 +66,16 @@ abbrev pub valued : ℕ → Option Literal → Front
 valued size None = BadNumber
 valued size (Some value) = One (Number value) size
 
+-- a word, where it isn't too long
+abbrev pub worded : Tok → ℕ → Front
+worded kind size = if nat_le size MAX_WORD then One kind size else LongWord
+
 unfoldable pub judged : List ℕ → Form → ℕ → Front
-judged text Name size = One Word size
+judged text Name size = worded Word size
 judged text Numeral size = valued size (literal (take size text))
 judged text Quoted size = One Str size
 judged text Sign size = One Mark size
-judged text Ticked size = One Directive size
+judged text Ticked size = worded Directive size
 
 abbrev pub token_of : List ℕ → Option (Form × ℕ) → Front
 token_of text None = if is_ascii (first text) then BadCharacter else NotAscii

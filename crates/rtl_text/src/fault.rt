@@ -13,7 +13,8 @@ pub enum LexFault {
     /// unsized value that is too large.
     #[error("bad number")]
     BadNumber(u32),
-    /// A character that begins no token, or a string that isn't closed on its line.
+    /// A character that begins no token, a string that isn't closed on its line, or the first byte of a word that is
+    /// one too many.
     #[error("bad character")]
     BadCharacter(u32),
     /// A block comment without an end.

@@ -7,7 +7,7 @@ use crate::form::form;
 use crate::literal::literal;
 use crate::pragma::pragma;
 use crate::run::{blanks, first, is_ascii, is_blank, line_len, skip, take};
-use rtl_tree::token::{Form, Pragma, Tok};
+use rtl_tree::token::{Form, MAX_WORD, Pragma, Tok};
 
 /// What stands at the front of a text. Sizes are in bytes.
 pub enum Front {
@@ -22,6 +22,8 @@ pub enum Front {
     NotAscii,
     BadNumber,
     BadCharacter,
+    /// A word with more bytes than a word may have.
+    LongWord,
     OpenComment,
 }
 
@@ -67,20 +69,31 @@ fn block(text: &[u8]) -> Front
     }
 }
 
+/// A word, where it isn't too long.
+fn worded(kind: Tok, size: usize) -> Front
+    ensures { result ≡ spec.worded kind size }
+{
+    if size <= MAX_WORD {
+        Front::One(kind, size)
+    } else {
+        Front::LongWord
+    }
+}
+
 #[tactic(auto, unfolding(crate::specs::Fronts::judged))]
 /// The token of this form and size.
 fn judged(text: &[u8], form: Form, size: usize) -> Front
     ensures { result ≡ spec.judged text.now form size }
 {
     match form {
-        Form::Name => Front::One(Tok::Word, size),
+        Form::Name => worded(Tok::Word, size),
         Form::Numeral => match literal(take(text, size)) {
             Some(value) => Front::One(Tok::Number(value), size),
             None => Front::BadNumber,
         },
         Form::Quoted => Front::One(Tok::Str, size),
         Form::Sign => Front::One(Tok::Mark, size),
-        Form::Ticked => Front::One(Tok::Directive, size),
+        Form::Ticked => worded(Tok::Directive, size),
     }
 }
 

@@ -2,28 +2,27 @@
 
 ghost use Rattle.std.specs.Prelude.{◌≡◌, ℕ, Result, ◌+◌, ◌<◌, ◌≤◌, List, [], ◌∷◌, ◌++◌, length, drop, IfOk, IfErr, OnOk};
 ghost use Rattle.rtl_text.specs.Fronts.{front};
+ghost use Rattle.rtl_tree.specs.declared.text.TheConstants.{MAX_BYTES};
+ghost use Rattle.rtl_tree.specs.declared.token.TheConstants.{MAX_TOKENS};
 ghost use Rattle.rtl_tree.specs.Token.{token};
 ghost use Rattle.rtl_tree.specs.Splits.{Upto, Splits};
-ghost use Rattle.rtl_text.specs.Faults.{limit, Answers, Refuses, IsFull, Says, Turn};
+ghost use Rattle.rtl_text.specs.Faults.{Answers, Refuses, IsFull, Says, Turn};
 ghost use Rattle.rtl_tree.specs.declared.token.Token.{Token};
 ghost use Rattle.rtl_text.specs.declared.fault.LexFault.{LexFault};
 
 use crate::fault::LexFault;
 use crate::front::{Front, front_of};
 use crate::run::{ascii_len, skip, take};
-use rtl_tree::token::{Pragma, Tok, Token, Tokens};
+use rtl_tree::token::{MAX_TOKENS, MAX_WORD, Pragma, Tok, Token, Tokens};
 use std::alloc::Global;
-
-/// How many tokens a text may have.
-const LIMIT: usize = 200_000;
 
 #[derive(Drop)]
 struct Lexer<'a> {
     rest: &'a [u8],
     at: u32,
     tokens: Vec<Token>,
-    ghost fits: { at + length rest.now ≤ 1048576 },
-    ghost few: { length tokens.items ≤ 200000 },
+    ghost fits: { at + length rest.now ≤ MAX_BYTES },
+    ghost few: { length tokens.items ≤ MAX_TOKENS },
 }
 
 impl<'a> Lexer<'a> {
@@ -45,7 +44,7 @@ impl<'a> Lexer<'a> {
         ensures rest { OnOk result (self.new.rest.now ≡ drop size self.old.rest.now) }
         ensures full { IfErr result (λ e. IsFull (length self.old.tokens.items) self.old.at e) }
     {
-        if self.tokens.len() >= LIMIT {
+        if self.tokens.len() >= MAX_TOKENS {
             return Err(LexFault::TooManyTokens(self.at));
         }
         let token = Token {
@@ -117,6 +116,7 @@ impl<'a> Lexer<'a> {
             Front::NotAscii => Err(LexFault::NotAscii(self.at)),
             Front::BadNumber => Err(LexFault::BadNumber(self.at)),
             Front::BadCharacter => Err(LexFault::BadCharacter(self.at)),
+            Front::LongWord => Err(LexFault::BadCharacter(self.at + MAX_WORD as u32)),
             Front::OpenComment => Err(LexFault::OpenComment(self.at)),
         }
     }
@@ -124,7 +124,7 @@ impl<'a> Lexer<'a> {
 
 /// The tokens of a text of at most 1,048,576 bytes: the one list into which it splits, or its first fault.
 pub fn lex(alloc: Global, text: &[u8]) -> Result<Tokens, LexFault>
-    requires { length text.now ≤ 1048576 }
+    requires { length text.now ≤ MAX_BYTES }
     ensures tokens { IfOk result (λ tokens. Answers text.now (Ok tokens)) }
     ensures fault { IfErr result (λ fault. Refuses text.now fault) }
     ensures only { (answer : Result (List Token) LexFault) → Answers text.now answer → Says answer result }

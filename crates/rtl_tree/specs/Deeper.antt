@@ -6,6 +6,7 @@ use Rattle.rtl_tree.specs.TreeStmt.{Target, Whole, Bit, Part, Joined, Targets, n
 use Rattle.rtl_tree.specs.TreeItem.{Head, Net, Valuation, Drive, Happening, Edge, Change, ChangeBit, ChangePart, Sensitivity, Star, StarInParens, Listed, Positional, Associated, Association, ByPosition, ByName, Instantiation, ModuleItem, Ports, Nets, Variables, Integers, Parameters, Drives, Always, Instances}
 use Rattle.rtl_tree.specs.TreeModule.{Circuit, HeaderParameter, HeaderPort, Header, Absent, Empty, Declared}
 use Rattle.rtl_tree.specs.TreeModule as modules
+use Rattle.rtl_tree.specs.declared.tree.nesting.TheConstants.{MAX_NESTING}
 
 -- the places of what may be there
 abbrev pub of_any : {A : Type 0} → (A → List ℕ) → Option A → List ℕ
@@ -154,13 +155,9 @@ abbrev pub deeper : ℕ → Circuit → List ℕ
 deeper k circuit =
     flat_map (header_parameter_deeper k) circuit.parameters ++ header_deeper k circuit.header ++ flat_map (item_deeper k) circuit.items
 
--- how deep expressions and statements may be nested
-abbrev pub limit : ℕ
-limit = 200
-
 -- the places in these modules, of all that is nested too deep
 abbrev pub too_deep : List Circuit → List ℕ
-too_deep circuits = flat_map (deeper limit) circuits
+too_deep circuits = flat_map (deeper MAX_NESTING) circuits
 
 -- a place of a list, and none of them is less
 pub record IsLeastPlace (places : List ℕ) (place : ℕ) : Type 0 where

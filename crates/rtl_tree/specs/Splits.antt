@@ -1,10 +1,11 @@
 -- Which tokens a text splits into (IEEE 1364-2001 clause 2).
-use Rattle.std.specs.Prelude.{◌≡◌, ℕ, ◌+◌, Bool, true, false, ◌||◌, ◌&&◌, if◌then◌else◌, IsTrue, Option, Some, None, List, [], ◌∷◌, ◌++◌, length, drop, codes}
+use Rattle.std.specs.Prelude.{◌≡◌, ℕ, ◌+◌, ◌≤◌, Bool, true, false, ◌||◌, ◌&&◌, if◌then◌else◌, IsTrue, Option, Some, None, List, [], ◌∷◌, ◌++◌, length, drop, codes}
 use Rattle.std.specs.Str.{bytes_eq}
 use Rattle.rtl_tree.specs.declared.token.Tok.{Tok}
 use Rattle.rtl_tree.specs.declared.token.Tok.TheVariants.{Word, Number, Str, Mark, Directive}
 use Rattle.rtl_tree.specs.declared.token.Tok.TheVariants as kinds
 use Rattle.rtl_tree.specs.declared.token.Token.{Token}
+use Rattle.rtl_tree.specs.declared.token.TheConstants.{MAX_WORD}
 use Rattle.rtl_tree.specs.declared.token.Pragma.{Pragma}
 use Rattle.rtl_tree.specs.declared.token.Pragma.TheVariants.{TranslateOff, TranslateOn, Case}
 use Rattle.rtl_tree.specs.Token.{token}
@@ -90,13 +91,13 @@ abbrev pub outside : Piece → List ℕ
 outside (One kind body) = body
 outside piece = []
 
--- the kind of a token of a form; a number has the value of its text
+-- the kind of a token of a form; a word is only so long, and a number has the value of its text
 abbrev pub IsKind : Tok → Form → List ℕ → Type 0
-IsKind Word form body = form ≡ Name
+IsKind Word form body = (form ≡ Name) × (length body ≤ MAX_WORD)
 IsKind (Number value) form body = (form ≡ Numeral) × (literal body ≡ Some value)
 IsKind Str form body = form ≡ Quoted
 IsKind Mark form body = form ≡ Sign
-IsKind Directive form body = form ≡ Ticked
+IsKind Directive form body = (form ≡ Ticked) × (length body ≤ MAX_WORD)
 IsKind (kinds.Pragma p) form body = ⊥
 
 -- `//` or `/*` begins a text

@@ -5,6 +5,9 @@ ghost use Rattle.std.specs.Prelude.{◌≡◌, IfOk};
 use std::alloc::{AllocError, Global};
 use std::marker::Model;
 
+/// How many bytes a file may have.
+pub const MAX_BYTES: usize = 1_048_576;
+
 /// A text of bytes.
 #[derive(Drop)]
 pub struct Text {

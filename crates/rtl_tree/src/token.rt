@@ -6,6 +6,12 @@ use crate::literal::Literal;
 use std::alloc::Global;
 use std::marker::Model;
 
+/// How many bytes a name, a keyword, a system name or a directive may have, its `$` or backquote counted.
+pub const MAX_WORD: usize = 1_024;
+
+/// How many tokens a text may have, and how many may be kept of it.
+pub const MAX_TOKENS: usize = 200_000;
+
 /// What a token is.
 #[derive(Clone, Copy, PartialEq, Eq, Debug)]
 pub enum Tok {

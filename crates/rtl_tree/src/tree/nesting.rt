@@ -9,6 +9,9 @@ use crate::tree::modules::{HeadParameter, HeadPort, Module, PortList};
 use crate::tree::nesting::exprs::{expr_depth, range_depth};
 use crate::tree::nesting::items::{items_depth, optional_head_depth};
 
+/// How deep expressions and statements may be nested.
+pub const MAX_NESTING: u32 = 200;
+
 pub(crate) mod exprs;
 pub(crate) mod items;
 pub(crate) mod stmts;

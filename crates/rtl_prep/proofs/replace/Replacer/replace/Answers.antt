@@ -1,6 +1,7 @@
 use Rattle.std.proofs.Common.{◌≡◌, [], rules, map, ap, sym, ◌∙◌}
 use Rattle.std.proofs.lemmas.Result.{err_from_is_err_and}
 use Rattle.rtl_prep.specs.Tables.{table, held, gained, seen_frame}
+use Rattle.rtl_prep.specs.declared.replace.TheConstants.{MAX_REPLACEMENTS}
 use Rattle.rtl_prep.proofs.Each.{tells_err}
 use Rattle.rtl_prep.proofs.Resumes.{spare, first_fails, first_step, loop_step, loop_fails, loop_ends, fails_back}
 use Rattle.rtl_prep.proofs.replace.Replacer.replace.Goals as goal
@@ -10,7 +11,7 @@ returns-in_err-begin-clause-step c =
     let p = err_from_is_err_and c.from_residual.result c.from_residual.ensures.1 in
     rw (p.1, p.2)
     (tells_err (λ (_ : Unit {0}). held c.begin.new.self c.begin.new.frames) (λ (_ : Unit {0}). gained c.args.self.now) _ _ c.in_err-begin.field-0.0
-    (λ stop e. first_fails 200000 c.args.self.now.text.now c.args.at (table c.args.self.now.macros) c.args.name.now (map seen_frame c.new-frames.result) (gained c.args.self.now) stop e)
+    (λ stop e. first_fails MAX_REPLACEMENTS c.args.self.now.text.now c.args.at (table c.args.self.now.macros) c.args.name.now (map seen_frame c.new-frames.result) (gained c.args.self.now) stop e)
     c.in_err-begin.ensures.step)
 
 pub loop-frame-init : goal.loop-frame-init
