@@ -20,7 +20,7 @@ use Rattle.elab_scope.specs.Expressions.{faults, row_faults}
 use Rattle.elab_scope.specs.Names.{Meanings, numbers_in}
 use Rattle.elab_scope.specs.Operators.{operation, prefix}
 use Rattle.elab_scope.specs.Own.{breadth, row_breadth, sign}
-use Rattle.elab_scope.specs.Rules.{width_faults, number_faults, select_faults, part_faults}
+use Rattle.elab_scope.specs.Rules.{width_faults, number_faults, times_faults, select_faults, part_faults}
 use Rattle.elab_scope.specs.Sources.{Describes, source, row_source}
 use Rattle.elab_scope.specs.Trees.{tree_of, row_tree, own_context, spot_in, copies_of}
 use Rattle.elab_scope.specs.Widths.{bits, beside, fit, fitted, copied, repeated}
@@ -89,29 +89,33 @@ copied_row at k n low high h =
       | inr no' ↦ absurd (no_cons _ _ (rw no' at h))
     ]
 
-copies_fit : (at k n : ℕ) → width_faults at (repeated (Ok (pos k)) (fit (summed n))) ≡ [] → Copies k n
-copies_fit at k n h =
-    elim (cases_Bool (nat_le 1 k && nat_le k 128)) [
-      | inl fine ↦ copied_row at k n (grind (arith, nat_tests)) (grind (arith, nat_tests)) (rw fine at h)
-      | inr no' ↦ absurd (no_cons _ _ (rw no' at h))
+copies_fit : (at k n : ℕ) → times_faults at (Ok (pos k)) ≡ [] → width_faults at (repeated (Ok (pos k)) (fit (summed n))) ≡ [] → Copies k n
+copies_fit at k n p h =
+    elim (cases_Bool (nat_le 1 k)) [
+      | inl some ↦ elim (cases_Bool (nat_le k 128)) [
+        | inl few ↦ copied_row at k n (grind (arith, nat_tests)) (grind (arith, nat_tests)) (rw (some, few) at h)
+        | inr many ↦ absurd (no_cons _ _ (rw (some, many) at h))
+      ]
+      | inr none ↦ absurd (no_cons _ _ (rw none at p))
     ]
 
 times_is : (k n : ℕ) → Copies k n → repeated (Ok (pos k)) (Bits n) ≡ Bits (k * n)
 times_is k n c =
     let low : 1 ≤ k = c.times_some in
     let high : k ≤ 128 = c.times_most in
-    let fine : (nat_le 1 k && nat_le k 128) ≡ true = grind (arith, nat_tests) in
-    rw fine (fitted_is (k * n) c.all_some c.all_most)
+    let some : nat_le 1 k ≡ true = grind (arith, nat_tests) in
+    let few : nat_le k 128 ≡ true = grind (arith, nat_tests) in
+    rw (some, few) (fitted_is (k * n) c.all_some c.all_most)
 
 clamped : (n : ℕ) → 1 ≤ n → n ≤ 128 → min (max n 1) 128 ≡ n
 clamped n low high = omega arith
 
-repeats : (ss : List Signal) (spot : Spot) (at : ℕ) (o : Outcome) (b : Breadth) (t : Tree) (e : Source) → SoundRow ss b t e → number_faults o ≡ [] → width_faults at (repeated o (fit b)) ≡ [] → Sound ss (repeated o (fit b)) false (λ c. Sized c.width c.signed spot (tree.Repeated (copies_of o) (Sized (bits (fit b)) false spot t))) (sizing.Repeated spot (copies_of o) (sizing.Concat spot e))
+repeats : (ss : List Signal) (spot : Spot) (at : ℕ) (o : Outcome) (b : Breadth) (t : Tree) (e : Source) → SoundRow ss b t e → times_faults at o ≡ [] → width_faults at (repeated o (fit b)) ≡ [] → Sound ss (repeated o (fit b)) false (λ c. Sized c.width c.signed spot (tree.Repeated (copies_of o) (Sized (bits (fit b)) false spot t))) (sizing.Repeated spot (copies_of o) (sizing.Concat spot e))
 repeats ss spot at (Err fault) b t e r p h = absurd (no_cons _ _ p)
-repeats ss spot at (Ok (negsuc k)) b t e r p h = absurd (no_cons _ _ h)
+repeats ss spot at (Ok (negsuc k)) b t e r p h = absurd (no_cons _ _ p)
 repeats ss spot at (Ok (pos k)) b t e r p h =
     let n = own_width ss e in
-    let c : Copies k n = copies_fit at k n (sym (ap (λ b. width_faults at (repeated (Ok (pos k)) (fit b))) r.width) ∙ h) in
+    let c : Copies k n = copies_fit at k n p (sym (ap (λ b. width_faults at (repeated (Ok (pos k)) (fit b))) r.width) ∙ h) in
     let copies : min k 128 ≡ k = omega (arith, c.times_most) in
     let fit_b : fit b ≡ Bits n = ap fit r.width ∙ fit_is n c.some c.most in
     record {
@@ -159,7 +163,7 @@ mutual
   sound file base scope ss d (Concat at parts) h =
       joined ss (spot_in file at) at (row_breadth scope parts) (row_tree file base scope parts) (row_source file base scope parts) (sound_row file base scope ss d parts (nil_left (row_faults scope parts) _ h)) (nil_right (row_faults scope parts) _ h)
   sound file base scope ss d (Repeat at times parts) h =
-      let first = faults scope times ++ number_faults (constant (numbers_in scope) times) in
+      let first = faults scope times ++ times_faults at (constant (numbers_in scope) times) in
       let last = width_faults at (breadth scope (Repeat at times parts)) in
       let front : first ++ row_faults scope parts ≡ [] = nil_left (first ++ row_faults scope parts) last h in
       repeats ss (spot_in file at) at (constant (numbers_in scope) times) (row_breadth scope parts) (row_tree file base scope parts) (row_source file base scope parts) (sound_row file base scope ss d parts (nil_right first _ front)) (nil_right (faults scope times) _ (nil_left first _ front)) (nil_right (first ++ row_faults scope parts) last h)

@@ -12,9 +12,9 @@ use Rattle.elab_scope.specs.declared.widths.Breadth.{Breadth}
 use Rattle.elab_scope.specs.declared.widths.Breadth.TheVariants.{Bits, Unfit, Hidden}
 use Rattle.elab_scope.specs.Names.{Meanings, numbers_in}
 use Rattle.elab_scope.specs.Own.{breadth, row_breadth}
-use Rattle.elab_scope.specs.Expressions.{faults, row_faults, constant_faults}
+use Rattle.elab_scope.specs.Expressions.{faults, row_faults}
 use Rattle.elab_scope.specs.Faults.{Refusal, after}
-use Rattle.elab_scope.specs.Rules.{width_faults}
+use Rattle.elab_scope.specs.Rules.{times_faults, width_faults}
 use Rattle.elab_scope.proofs.Least.{after_append}
 use Rattle.elab_scope.specs.Widths.{fit, repeated, beside}
 
@@ -76,11 +76,13 @@ concat_told scope best at parts e is =
     ∙ ap (λ e. after best (faults scope e)) (concat_is at parts)
     ∙ after_append best (row_faults scope row) (width_faults at (fit (row_breadth scope row)))
 
-pub repeat_told : (scope : Meanings) (best : Option Refusal) (at : ℕ) (times : Box Expr Global) (parts : Vec Expr Global) (e : Expr) → e ≡ expr.Repeat at times parts → after best (faults scope (formula e)) ≡ after (after (after best (constant_faults scope (formula times.value))) (row_faults scope (formula_row (map formula parts.items)))) (width_faults at (repeated (constant (numbers_in scope) (formula times.value)) (fit (row_breadth scope (formula_row (map formula parts.items))))))
+pub repeat_told : (scope : Meanings) (best : Option Refusal) (at : ℕ) (times : Box Expr Global) (parts : Vec Expr Global) (e : Expr) → e ≡ expr.Repeat at times parts → after best (faults scope (formula e)) ≡ after (after (after (after best (faults scope (formula times.value))) (times_faults at (constant (numbers_in scope) (formula times.value)))) (row_faults scope (formula_row (map formula parts.items)))) (width_faults at (repeated (constant (numbers_in scope) (formula times.value)) (fit (row_breadth scope (formula_row (map formula parts.items))))))
 repeat_told scope best at times parts e is =
     let row : Formulas = formula_row (map formula parts.items) in
+    let count : List Refusal = times_faults at (constant (numbers_in scope) (formula times.value)) in
     let own : List Refusal = width_faults at (repeated (constant (numbers_in scope) (formula times.value)) (fit (row_breadth scope row))) in
     ap (λ e. after best (faults scope (formula e))) is
     ∙ ap (λ e. after best (faults scope e)) (repeat_is at times parts)
-    ∙ after_append best (constant_faults scope (formula times.value) ++ row_faults scope row) own
-    ∙ ap (λ best. after best own) (after_append best (constant_faults scope (formula times.value)) (row_faults scope row))
+    ∙ after_append best ((faults scope (formula times.value) ++ count) ++ row_faults scope row) own
+    ∙ ap (λ best. after best own) (after_append best (faults scope (formula times.value) ++ count) (row_faults scope row))
+    ∙ ap (λ best. after (after best (row_faults scope row)) own) (after_append best (faults scope (formula times.value)) count)

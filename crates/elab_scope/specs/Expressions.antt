@@ -6,7 +6,7 @@ use Rattle.rtl_tree.specs.TreeExpr.{Formula, Number, Read, ReadBit, ReadPart, Pa
 use Rattle.elab_scope.specs.Faults.{Refusal}
 use Rattle.elab_scope.specs.Names.{Meanings, numbers_in}
 use Rattle.elab_scope.specs.Own.{breadth}
-use Rattle.elab_scope.specs.Rules.{read_faults, select_faults, number_faults, part_faults, width_faults}
+use Rattle.elab_scope.specs.Rules.{read_faults, select_faults, number_faults, times_faults, part_faults, width_faults}
 
 abbrev mutual
   -- the faults of an expression: each name is declared and may be read, each part that has to be constant has a
@@ -25,7 +25,7 @@ abbrev mutual
   faults scope (Concat at parts) =
       row_faults scope parts ++ width_faults at (breadth scope (Concat at parts))
   faults scope (Repeat at times parts) =
-      (faults scope times ++ number_faults (constant (numbers_in scope) times))
+      (faults scope times ++ times_faults at (constant (numbers_in scope) times))
       ++ row_faults scope parts
       ++ width_faults at (breadth scope (Repeat at times parts))
   faults scope (Unary operator at operand) =

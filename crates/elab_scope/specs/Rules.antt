@@ -47,6 +47,11 @@ abbrev pub number_faults : Outcome → List Refusal
 number_faults (Ok number) = []
 number_faults (Err cause) = fault (const_place cause) (Const cause) ∷ []
 
+-- how often a repetition is made is constant, and at least once (IEEE 1364-2001 section 4.1.14)
+abbrev pub times_faults : ℕ → Outcome → List Refusal
+times_faults at (Ok times) = if int_le (pos 1) times then [] else fault at Width ∷ []
+times_faults at (Err cause) = fault (const_place cause) (Const cause) ∷ []
+
 -- a part that isn't there
 abbrev pub missing : ℕ → Option Field → List Refusal
 missing at None = fault at Range ∷ []

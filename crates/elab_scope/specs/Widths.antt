@@ -40,11 +40,12 @@ copied times (Bits n) = fitted (times * n)
 copied times Unfit = Unfit
 copied times Hidden = Hidden
 
--- copies of a concatenation (section 4.1.14): at least one, and of more than 128 there is no lawful one
+-- copies of a concatenation (section 4.1.14): without one there is nothing to go on with, and more than 128 don't fit
 abbrev pub repeated : Outcome → Breadth → Breadth
 repeated (Err fault) b = Hidden
 repeated (Ok times) b =
-    if int_le (pos 1) times && int_le times (pos 128) then copied (unsigned_abs times) b else Unfit
+    if int_le (pos 1) times
+    then (if int_le times (pos 128) then copied (unsigned_abs times) b else Unfit) else Hidden
 
 -- a width to go on with: where there is none that fits, the nearest or 1
 abbrev pub bits : Breadth → ℕ

@@ -82,10 +82,10 @@ pub fn judge<'a>(e: &'a Expr, names: &Names, best: Option<Fault<'a>>) -> Judged<
             whole(*at, parts.breadth.fit(), parts.best)
         }
         Expr::Repeat(at, times, parts) => {
-            let best = judge_constant(times, names, best);
-            let parts = judge_row(parts, names, best);
-            let breadth = parts.breadth.fit().repeated(constant(times, names));
-            whole(*at, breadth, parts.best)
+            let best = judge(times, names, best).best;
+            let times = constant(times, names);
+            let parts = judge_row(parts, names, rules::times(*at, times, best));
+            whole(*at, parts.breadth.fit().repeated(times), parts.best)
         }
         Expr::Unary(operator, at, operand) => {
             let operand = judge(operand, names, best);

@@ -5,7 +5,7 @@ ghost use Rattle.std.specs.Prelude.{◌≡◌};
 ghost use Rattle.std.specs.Option.{option_map};
 ghost use Rattle.rtl_tree.specs.TreeExpr.{identifier};
 ghost use Rattle.elab_scope.specs.Faults.{after, keep, refusal};
-ghost use Rattle.elab_scope.specs.Rules.{const_place, index_faults, may_write, number_faults, part_faults, range_faults, read_faults, select_faults, width_faults, write_faults};
+ghost use Rattle.elab_scope.specs.Rules.{const_place, index_faults, may_write, number_faults, part_faults, range_faults, read_faults, select_faults, times_faults, width_faults, write_faults};
 
 use crate::fault::{Cause, Fault};
 use crate::known::{Known, Role};
@@ -75,6 +75,21 @@ pub fn number<'a>(number: Result<i64, ConstFault>, best: Option<Fault<'a>>) -> O
     ensures { option_map refusal result ≡ after (option_map refusal best.entry) (number_faults number) }
 {
     match number {
+        Ok(_) => best,
+        Err(cause) => at(best, const_place(cause), Cause::Const(cause)),
+    }
+}
+
+/// A repetition at a place is made a constant number of times, and at least once.
+pub fn times<'a>(
+    place: u32,
+    times: Result<i64, ConstFault>,
+    best: Option<Fault<'a>>,
+) -> Option<Fault<'a>>
+    ensures { option_map refusal result ≡ after (option_map refusal best.entry) (times_faults place times) }
+{
+    match times {
+        Ok(times) if times < 1 => at(best, place, Cause::Width),
         Ok(_) => best,
         Err(cause) => at(best, const_place(cause), Cause::Const(cause)),
     }

@@ -75,7 +75,10 @@ impl Breadth {
         match times {
             Err(_) => Breadth::Hidden,
             Ok(times) => {
-                if times < 1 || times > 128 {
+                if times < 1 {
+                    return Breadth::Hidden;
+                }
+                if times > 128 {
                     return Breadth::Unfit;
                 }
                 match self {
