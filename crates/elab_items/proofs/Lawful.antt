@@ -1,11 +1,10 @@
 -- Declarations without faults have ranges that fit.
-use Rattle.std.specs.Prelude.{ℕ, ◌+◌, ◌≤◌, ℤ, pos, ◌-ℤ◌, int_le, int_lt, unsigned_abs, true, List, [], ◌∷◌, Option, None, Some, Ok, Err}
+use Rattle.std.specs.Prelude.{ℕ, ◌+◌, ◌≤◌, ℤ, ◌-ℤ◌, nat_lt, unsigned_abs, true, List, [], ◌∷◌, Option, None, Some, Ok, Err}
 use Rattle.std.specs.Option.{is_some}
 use Rattle.std.specs.Str.{bytes_eq}
 use Rattle.std.proofs.Common.{◌≡◌, arith, inl, inr}
 use Rattle.std.proofs.lemmas.Bool.{cases_Bool}
 use Rattle.std.proofs.lemmas.Bool.Decides.{nat_tests}
-use Rattle.std.proofs.lemmas.Int.{ints}
 use Rattle.rtl_const.specs.Constant.{Outcome, constant}
 use Rattle.rtl_const.specs.Numbers.{Numbers}
 use Rattle.rtl_tree.specs.TreeExpr.{Bounds}
@@ -39,20 +38,17 @@ IsLawful most Scalar = Unit {0}
 IsLawful most (Bits width low) = (1 ≤ width) × (width ≤ most)
 IsLawful most Hidden = ⊥
 
-few_bits : (z : ℤ) (most : ℕ) → int_le (pos 0) z ≡ true → int_lt z (pos most) ≡ true → unsigned_abs z + 1 ≤ most
-few_bits z most low high = grind (arith, nat_tests, ints)
-
-not_negative : (m l : ℤ) → descends m l ≡ true → int_le (pos 0) (m -ℤ l) ≡ true
-not_negative m l down = grind (arith, nat_tests, ints)
+few_bits : (n most : ℕ) → nat_lt n most ≡ true → n + 1 ≤ most
+few_bits n most few = grind (arith, nat_tests)
 
 span_lawful : (most at : ℕ) (m l : ℤ) → span_faults most at (Ok m) (Ok l) ≡ [] → IsLawful most (spanned most (Ok m) (Ok l))
 span_lawful most at m l h =
-    elim (cases_Bool (descends m l)) [
-      | inl down ↦ elim (cases_Bool (fits most m l)) [
-        | inl few ↦ rw (down, few) (omega arith, few_bits (m -ℤ l) most (not_negative m l down) few)
-        | inr many ↦ absurd (no_cons _ _ (rw (down, many) at h))
+    elim (cases_Bool (fits most m l)) [
+      | inl few ↦ elim (cases_Bool (descends m l)) [
+        | inl down ↦ rw (down, few) (omega arith, few_bits (unsigned_abs (m -ℤ l)) most few)
+        | inr up ↦ absurd (no_cons _ _ (rw (few, up) at h))
       ]
-      | inr up ↦ absurd (no_cons _ _ (rw up at h))
+      | inr many ↦ absurd (no_cons _ _ (rw many at h))
     ]
 
 ends_lawful : (most at : ℕ) (m l : Outcome) → end_faults most at m l ≡ [] → IsLawful most (spanned most m l)

@@ -1,5 +1,5 @@
 -- The ranges of declarations (IEEE 1364-2001 section 3.3.1).
-use Rattle.std.specs.Prelude.{ℕ, ◌+◌, ◌==◌, ℤ, pos, ◌-ℤ◌, min, int_le, int_lt, unsigned_abs, Bool, true, false, ◌&&◌, if◌then◌else◌, List, [], ◌∷◌, ◌++◌, Option, None, Some, Ok}
+use Rattle.std.specs.Prelude.{ℕ, ◌+◌, ◌==◌, ℤ, pos, ◌-ℤ◌, min, nat_lt, int_le, unsigned_abs, Bool, true, false, ◌&&◌, if◌then◌else◌, List, [], ◌∷◌, ◌++◌, Option, None, Some, Ok}
 use Rattle.rtl_const.specs.Constant.{Outcome, constant}
 use Rattle.rtl_const.specs.Numbers.{Numbers}
 use Rattle.rtl_tree.specs.TreeExpr.{Bounds}
@@ -13,9 +13,9 @@ use Rattle.elab_items.specs.declared.reach.Reach.TheVariants.{Scalar, Bits, Hidd
 abbrev pub descends : ℤ → ℤ → Bool
 descends msb lsb = int_le (pos 0) lsb && int_le lsb msb
 
--- whether it has at most so many bits
+-- whether there are at most so many bits from one end to the other
 abbrev pub fits : ℕ → ℤ → ℤ → Bool
-fits most msb lsb = int_lt (msb -ℤ lsb) (pos most)
+fits most msb lsb = nat_lt (unsigned_abs (msb -ℤ lsb)) most
 
 -- the bits between two ends, where they are lawful and at most so many; no constant is above 4294967295
 abbrev pub spanned : ℕ → Outcome → Outcome → Reach
@@ -30,11 +30,11 @@ reach_of most numbers None = Scalar
 reach_of most numbers (Some bounds) =
     spanned most (constant numbers bounds.msb) (constant numbers bounds.lsb)
 
--- a range that doesn't descend, and then one of too many bits, at its bracket
+-- a range of too many bits, and one that doesn't descend, at its bracket
 abbrev pub span_faults : ℕ → ℕ → Outcome → Outcome → List Refusal
 span_faults most at (Ok msb) (Ok lsb) =
-    if descends msb lsb
-    then (if fits most msb lsb then [] else fault at Width ∷ []) else fault at Range ∷ []
+    (if fits most msb lsb then [] else fault at Width ∷ [])
+    ++ (if descends msb lsb then [] else fault at Range ∷ [])
 span_faults most at _ _ = []
 
 -- both ends of a range have a number

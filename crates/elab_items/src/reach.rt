@@ -1,10 +1,11 @@
 //! The ranges of declarations.
 
-ghost use Rattle.std.specs.Prelude.{◌≡◌, ◌≤◌, ◌+◌, ◌-ℤ◌, min, unsigned_abs, IsTrue};
+ghost use Rattle.std.specs.Prelude.{◌≡◌, ◌≤◌, ◌+◌, ◌-ℤ◌, min, unsigned_abs, IsTrue, if◌then◌else◌, [], ◌∷◌};
 ghost use Rattle.std.specs.Option.{option_map};
 ghost use Rattle.rtl_tree.specs.TreeExpr.{bounds};
-ghost use Rattle.elab_scope.specs.Faults.{after, refusal};
+ghost use Rattle.elab_scope.specs.Faults.{after, breach, refusal};
 ghost use Rattle.elab_scope.specs.Names.{meanings, numbers_in};
+ghost use Rattle.elab_scope.specs.Rules.{fault};
 ghost use Rattle.elab_items.specs.Reaches.{agree, descends, fits, range_faults, reach_of, shape_of, span_faults, spanned};
 ghost use Rattle.elab_items.specs.Scopes.{bounds_name_faults};
 
@@ -38,22 +39,20 @@ fn descends(msb: i64, lsb: i64) -> bool
     0 <= lsb && lsb <= msb
 }
 
-/// Whether a descending range has at most so many bits.
+/// Whether there are at most so many bits from one end of a range to the other.
 fn fits(most: u8, msb: i64, lsb: i64) -> bool
-    requires { IsTrue (descends msb lsb) }
     ensures { result ≡ fits most msb lsb }
 {
-    msb - lsb < i64::from(most)
+    msb.abs_diff(lsb) < u64::from(most)
 }
 
 /// How many bits a range has, where they are at most so many.
 fn width_between(most: u8, msb: i64, lsb: i64) -> u8
-    requires descends { IsTrue (descends msb lsb) }
     requires fits { IsTrue (fits most msb lsb) }
     requires most { most ≤ 128 }
     ensures { result ≡ unsigned_abs (msb -ℤ lsb) + 1 }
 {
-    (msb - lsb + 1) as u8
+    (msb.abs_diff(lsb) + 1) as u8
 }
 
 /// The number of the least significant bit; no constant is above the greatest `u32`.
@@ -97,7 +96,24 @@ pub fn reach_of(most: u8, range: Option<&Range>, names: &Names) -> Reach
     }
 }
 
-/// A range that doesn't descend, and one of too many bits.
+/// What is told where a rule doesn't hold.
+fn judge_unless<'a>(
+    holds: bool,
+    at: u32,
+    cause: Cause<'a>,
+    best: Option<Fault<'a>>,
+) -> Option<Fault<'a>>
+    ensures { option_map refusal result ≡ after (option_map refusal best.entry) (if holds then [] else fault at (breach cause.entry) ∷ []) }
+{
+    if holds {
+        best
+    } else {
+        Fault::keep(best, Fault { at, cause })
+    }
+}
+
+/// A range of too many bits, and one that doesn't descend.
+#[tactic(auto, using(elab_scope::proofs::Least::after_append))]
 fn judge_span<'a>(
     most: u8,
     at: u32,
@@ -110,14 +126,8 @@ fn judge_span<'a>(
     let (Ok(msb), Ok(lsb)) = (msb, lsb) else {
         return best;
     };
-    let cause = if !descends(msb, lsb) {
-        Cause::Range
-    } else if !fits(most, msb, lsb) {
-        Cause::Width
-    } else {
-        return best;
-    };
-    Fault::keep(best, Fault { at, cause })
+    let best = judge_unless(fits(most, msb, lsb), at, Cause::Width, best);
+    judge_unless(descends(msb, lsb), at, Cause::Range, best)
 }
 
 /// The faults of a range with the numbers that hold for it.
