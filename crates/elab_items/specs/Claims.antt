@@ -3,6 +3,7 @@
 use Rattle.std.specs.Prelude.{ℕ, Bool, true, false, ◌||◌, if◌then◌else◌, List, [], ◌∷◌, ◌++◌, Option, None, Some}
 use Rattle.std.specs.BTreeMap.{get_by}
 use Rattle.std.specs.Cmp.Lexicographic.{slice_cmp}
+use Rattle.std.specs.Option.{is_some}
 use Rattle.std.specs.Ordering.{nat_cmp}
 use Rattle.std.specs.Str.{bytes_eq}
 use Rattle.rtl_const.specs.Numbers.{Numbers}
@@ -173,11 +174,15 @@ abbrev pub reg_faults : Identifier → Option Direction → Option PortKind → 
 reg_faults name (Some Input) (Some port.Reg) = fault name.at (Port name.text) ∷ []
 reg_faults name _ _ = []
 
+-- the name in the one of two declarations that says `wire` or `reg`
+abbrev pub kind_name : Identifier → Line → Identifier
+kind_name name old = record { text = name.text; at = if is_some old.kind then old.at else name.at }
+
 -- the two declarations of a port have equal ranges
 abbrev pub pair_faults : Identifier → Line → Line → List Refusal
 pair_faults name old line =
     (if agree old.reach line.reach then [] else fault name.at (DeclaredTwice name.text) ∷ [])
-    ++ reg_faults name (joined old line).direction (joined old line).kind
+    ++ reg_faults (kind_name name old) (joined old line).direction (joined old line).kind
 
 abbrev pub signal_faults : Identifier → Option Sense → Line → List Refusal
 signal_faults name None line = reg_faults name line.direction line.kind

@@ -219,14 +219,14 @@ fn declared_twice<'a>(name: &'a Name, best: Option<Fault<'a>>) -> Option<Fault<'
     Fault::keep(best, Fault { at: name.at, cause })
 }
 
-/// A port that is declared `reg` is an output.
-fn judge_reg<'a>(name: &'a Name, line: Line, best: Option<Fault<'a>>) -> Option<Fault<'a>>
-    ensures { option_map refusal result ≡ after (option_map refusal best.entry) (reg_faults (identifier name.now) line.direction line.kind) }
+/// A port that is declared `reg` at this place is an output.
+fn judge_reg<'a>(name: &'a Name, at: u32, line: Line, best: Option<Fault<'a>>) -> Option<Fault<'a>>
+    ensures { option_map refusal result ≡ after (option_map refusal best.entry) (reg_faults (record { text = name.now.text; at = at }) line.direction line.kind) }
 {
     match (line.direction, line.kind) {
         (Some(Direction::Input), Some(PortKind::Reg)) => {
             let cause = Cause::Port(&name.text);
-            Fault::keep(best, Fault { at: name.at, cause })
+            Fault::keep(best, Fault { at, cause })
         }
         _ => best,
     }
@@ -247,7 +247,8 @@ fn judge_pair<'a>(
     } else {
         declared_twice(name, best)
     };
-    judge_reg(name, old.joined(line), best)
+    let at = if old.kind.is_some() { old.at } else { name.at };
+    judge_reg(name, at, old.joined(line), best)
 }
 
 /// The declaration of a signal, where the name has a sense already or not.
@@ -260,7 +261,7 @@ pub fn judge_signal<'a>(
     ensures { option_map refusal result ≡ after (option_map refusal best.entry) (signal_faults (identifier name.now) sense line) }
 {
     match sense {
-        None => judge_reg(name, line, best),
+        None => judge_reg(name, name.at, line, best),
         Some(Sense::Signal(old)) if old.joins(line) => judge_pair(name, old, line, best),
         Some(_) => declared_twice(name, best),
     }
