@@ -17,7 +17,7 @@ use Rattle.elab_scope.proofs.Sound.{nil_left, nil_right}
 use Rattle.elab_body.specs.Steps.{Step, faulty}
 use Rattle.elab_items.specs.Declarations.{declarations}
 use Rattle.elab_items.specs.Scopes.{scope_of}
-use Rattle.elab_laws.specs.Faultless.{AreFaultless, statement_count}
+use Rattle.elab_body.specs.Faultless.{AreFaultless, statement_count}
 use Rattle.elab_laws.specs.Scopes.{IsScopeOf}
 use Rattle.elab_laws.proofs.Steps.{count_append, faultless_left, faultless_right, no_faults}
 use Rattle.elab_links.specs.declared.module_set.Lookup.{Lookup}

@@ -18,7 +18,7 @@ use Rattle.elab_body.specs.Acts.{acts}
 use Rattle.elab_body.specs.Bodies.{pause_steps, steps}
 use Rattle.elab_body.specs.Events.{is_clocked_by, listing_of, sensitivity_faults, watched_of}
 use Rattle.elab_body.specs.Steps.{Step, delays_of, faulty}
-use Rattle.elab_laws.specs.Faultless.{AreFaultless, statement_count}
+use Rattle.elab_body.specs.Faultless.{AreFaultless, statement_count}
 use Rattle.elab_laws.specs.Scopes.{IsScopeOf}
 use Rattle.elab_laws.proofs.Always.{comb, count, edge}
 use Rattle.elab_laws.proofs.Assignments.{continuous}

@@ -13,7 +13,7 @@ use Rattle.rtl_flat.specs.Process.{Task}
 use Rattle.rtl_flat.specs.WellFormed.{IsProcess, process_statements}
 use Rattle.elab_scope.specs.Faults.{Refusal}
 use Rattle.elab_body.specs.Steps.{Step, delays_of, faulty}
-use Rattle.elab_laws.specs.Faultless.{AreFaultless, statement_count}
+use Rattle.elab_body.specs.Faultless.{AreFaultless, statement_count}
 use Rattle.elab_laws.proofs.Always.{limit}
 use Rattle.elab_laws.proofs.Steps.{count_append, faultless_left, faultless_right}
 use Rattle.elab_links.specs.Instances.{link_faults}

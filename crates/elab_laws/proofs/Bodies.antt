@@ -23,7 +23,7 @@ use Rattle.elab_scope.proofs.Law.{tree_is_expression}
 use Rattle.elab_body.specs.Acts.{acts, body_acts, branches_breadth, case_branches, case_context, fallback, first_fallback, with_branch}
 use Rattle.elab_body.specs.Bodies.{all_faults, body_steps, branch_item_steps, branches_steps, pause_steps, steps}
 use Rattle.elab_body.specs.Steps.{Step, faulty}
-use Rattle.elab_laws.specs.Faultless.{AreFaultless, statement_count}
+use Rattle.elab_body.specs.Faultless.{AreFaultless, statement_count}
 use Rattle.elab_laws.specs.Scopes.{IsScopeOf}
 use Rattle.elab_laws.proofs.Assignments.{assignment}
 use Rattle.elab_laws.proofs.Labels.{AllBelow, AllSigned, IsBelow, IsSignedBranch, WidestBranches, labels_lawful, same_signs, same_widths, signed_branches, widest_branches}

@@ -20,7 +20,7 @@ use Rattle.elab_scope.specs.Targets.{assigned_context, pieces_of}
 use Rattle.elab_scope.specs.Trees.{tree_of}
 use Rattle.elab_body.specs.Acts.{acts}
 use Rattle.elab_body.specs.Bodies.{all_turns, loop_faults, steps, turns}
-use Rattle.elab_laws.specs.Faultless.{AreFaultless}
+use Rattle.elab_body.specs.Faultless.{AreFaultless}
 use Rattle.elab_laws.specs.Scopes.{HasKind, IsScopeOf}
 use Rattle.elab_laws.proofs.Always.{body}
 use Rattle.elab_laws.proofs.Assignments.{continuous}

@@ -21,7 +21,7 @@ use Rattle.elab_scope.proofs.Sound.{nil_left, nil_right}
 use Rattle.elab_body.specs.Acts.{labels_breadth, labels_sign, branches_breadth, branches_sign}
 use Rattle.elab_body.specs.Bodies.{all_faults, branches_steps, steps}
 use Rattle.elab_body.specs.Steps.{faulty}
-use Rattle.elab_laws.specs.Faultless.{AreFaultless}
+use Rattle.elab_body.specs.Faultless.{AreFaultless}
 use Rattle.elab_laws.specs.Scopes.{IsScopeOf}
 use Rattle.elab_laws.proofs.Steps.{faultless_left, faultless_right, no_faults}
 use Rattle.elab_laws.proofs.Values.{Fits, bits_of_fit, own_bits, own_fits, tree_sign, tree_width, wider_fits}

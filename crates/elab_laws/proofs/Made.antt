@@ -12,7 +12,7 @@ use Rattle.elab_scope.specs.Faults.{Refusal}
 use Rattle.elab_body.specs.Acts.{branch_acts, acts_if, acts_with}
 use Rattle.elab_body.specs.Bodies.{branch_steps, counted, where_true, with_number}
 use Rattle.elab_body.specs.Steps.{Step, Statement, faulty, has_statement}
-use Rattle.elab_laws.specs.Faultless.{AreFaultless, statement_count}
+use Rattle.elab_body.specs.Faultless.{AreFaultless, statement_count}
 use Rattle.elab_laws.proofs.Steps.{count_append, count_faulty, faultless_left, faultless_right, no_faults}
 
 pub record Made (ss : List Signal) (steps : List Step) (acts : List Action) : Type 0 where

@@ -4,7 +4,7 @@ use Rattle.std.proofs.Common.{◌≡◌, refl, arith}
 use Rattle.elab_scope.specs.Faults.{Refusal}
 use Rattle.elab_scope.proofs.Fitting.{no_cons}
 use Rattle.elab_body.specs.Steps.{Step, Faulty, Statement, Delay, faulty, checked, delays_of}
-use Rattle.elab_laws.specs.Faultless.{AreFaultless, statement_count}
+use Rattle.elab_body.specs.Faultless.{AreFaultless, statement_count}
 
 pub faultless_left : (xs ys : List Step) → AreFaultless (xs ++ ys) → AreFaultless xs
 faultless_left [] ys h = tt

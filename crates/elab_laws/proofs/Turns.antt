@@ -16,7 +16,7 @@ use Rattle.elab_scope.proofs.Sound.{nil_left}
 use Rattle.elab_body.specs.Acts.{act_turns, acts_with, loop_acts}
 use Rattle.elab_body.specs.Bodies.{Head, all_turns, counted, first_turns, head_faults, in_head, in_turn, index_faults, loop_faults, loop_steps, loop_turns, turns, with_number}
 use Rattle.elab_body.specs.Steps.{Step, faulty}
-use Rattle.elab_laws.specs.Faultless.{AreFaultless}
+use Rattle.elab_body.specs.Faultless.{AreFaultless}
 use Rattle.elab_laws.specs.Scopes.{HasKind, IsScopeOf}
 use Rattle.elab_laws.proofs.Made.{Made, made_append, made_behind, made_counted, made_none, made_where, made_with}
 use Rattle.elab_laws.proofs.Steps.{faultless_left, faultless_right, no_faults}

@@ -29,7 +29,7 @@ use Rattle.elab_body.specs.Acts.{acts}
 use Rattle.elab_body.specs.Bodies.{steps}
 use Rattle.elab_body.specs.Events.{is_clocked_by, listing_of, sensitivity_faults, watched_of}
 use Rattle.elab_body.specs.Steps.{Step, checked, delays_of}
-use Rattle.elab_laws.specs.Faultless.{AreFaultless, statement_count}
+use Rattle.elab_body.specs.Faultless.{AreFaultless, statement_count}
 use Rattle.elab_laws.specs.Scopes.{IsScopeOf}
 
 -- ---- signals

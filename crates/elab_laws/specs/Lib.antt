@@ -1,3 +1,2 @@
-pub mod Faultless
 pub mod Laws
 pub mod Scopes

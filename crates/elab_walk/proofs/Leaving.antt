@@ -13,7 +13,7 @@ use Rattle.elab_body.specs.Steps.{Step, Faulty, Statement, Delay, Course, checke
 use Rattle.elab_body.proofs.Passing.{passed_checked}
 use Rattle.elab_items.specs.Scopes.{declaration_faults, listings_of}
 use Rattle.elab_items.proofs.Law.{few_enough}
-use Rattle.elab_laws.specs.Faultless.{statement_count}
+use Rattle.elab_body.specs.Faultless.{statement_count}
 use Rattle.elab_walk.specs.declared.places.Seek.{Seek}
 use Rattle.elab_walk.specs.declared.places.Seek.TheVariants as seek
 use Rattle.elab_walk.specs.declared.room.Room.{Room}

@@ -8,7 +8,7 @@ use Rattle.elab_scope.specs.Names.{Meanings}
 use Rattle.elab_scope.specs.Rules.{fault}
 use Rattle.elab_body.specs.Steps.{Step, delays_of, faulty}
 use Rattle.elab_items.specs.Scopes.{listings_of}
-use Rattle.elab_laws.specs.Faultless.{statement_count}
+use Rattle.elab_body.specs.Faultless.{statement_count}
 use Rattle.elab_links.specs.Instances.{link_faults}
 use Rattle.elab_parts.specs.Items.{item_places, item_steps}
 use Rattle.elab_walk.specs.declared.places.Seek.{Seek}
