@@ -12,13 +12,14 @@ use Rattle.elab_scope.specs.Faults.{TooLarge, NotAssignable}
 use Rattle.elab_scope.specs.Names.{Meanings}
 use Rattle.elab_scope.specs.Rules.{fault}
 use Rattle.elab_body.specs.Bodies.{all_turns, loop_faults, steps, turns}
-use Rattle.elab_body.specs.Steps.{Statement, Faulty, checked, delays_of}
+use Rattle.elab_body.specs.Steps.{Statement, Turn, Faulty, checked, delays_of}
 
--- a variable d of two bits and an integer i
+-- a variable d of two bits and integers i and j
 abbrev scope : Meanings
 scope name =
     if bytes_eq name (100 ∷ []) then Some (Signal 0 Variable (Some (record { width = 2; signed = false; low = 0 })))
-    else if bytes_eq name (105 ∷ []) then Some (Integer None) else None
+    else if bytes_eq name (105 ∷ []) then Some (Integer None)
+    else if bytes_eq name (106 ∷ []) then Some (Integer None) else None
 
 abbrev d : ℕ → Identifier
 d at = record { text = 100 ∷ []; at = at }
@@ -33,6 +34,14 @@ whole n at = Number (record { width = 32; val = n; unk = 0; signed = true; sized
 abbrev twice : Action → Action
 twice body =
     For 10 (i 15) (whole 0 19) (Binary Less 24 (Read (i 22)) (whole 2 26)) (i 29) (Binary Add 35 (Read (i 33)) (whole 1 37)) body
+
+-- for (j = 0; j < 2; j = j + 1) body
+abbrev j : ℕ → Identifier
+j at = record { text = 106 ∷ []; at = at }
+
+abbrev outer_twice : Action → Action
+outer_twice body =
+    For 2 (j 3) (whole 0 4) (Binary Less 5 (Read (j 5)) (whole 2 6)) (j 7) (Binary Add 8 (Read (j 8)) (whole 1 9)) body
 
 -- d[i] = d;
 abbrev one_bit : Action
@@ -49,9 +58,14 @@ unfolding turns all_turns loop_faults
 one_left = refl
 
 -- a turn that leaves no statement counts as one
-empty_turns : steps (twice (Null 50)) scope ≡ Statement 10 ∷ Statement 10 ∷ []
+empty_turns : steps (twice (Null 50)) scope ≡ Turn 10 ∷ Turn 10 ∷ []
 unfolding turns all_turns loop_faults
 empty_turns = refl
+
+-- so does one around it: an empty turn is no statement
+empty_around : steps (outer_twice (twice (Null 50))) scope ≡ Turn 10 ∷ Turn 10 ∷ Turn 2 ∷ Turn 10 ∷ Turn 10 ∷ Turn 2 ∷ []
+unfolding turns all_turns loop_faults
+empty_around = refl
 
 -- a delay counts in each turn
 two_delays : delays_of (steps (twice (Delayed (record { at = 45; span = Valued (whole 5 47) }) one_bit)) scope) ≡ 45 ∷ 45 ∷ []

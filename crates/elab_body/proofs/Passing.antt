@@ -1,5 +1,5 @@
 -- Steps one after the other.
-use Rattle.std.specs.Prelude.{ℕ, zero, suc, ◌+◌, ◌<◌, length, drop, map, true, List, [], ◌∷◌, ◌++◌, Option, None, Some}
+use Rattle.std.specs.Prelude.{ℕ, zero, suc, ◌+◌, ◌<◌, length, drop, map, Bool, true, List, [], ◌∷◌, ◌++◌, Option, None, Some}
 use Rattle.std.proofs.Common.{◌≡◌, ◌∙◌, ap, refl, sym, get_or}
 use Rattle.std.proofs.lemmas.List.{at_drop_more}
 use Rattle.rtl_tree.specs.declared.tree.stmt.CaseItem.{CaseItem}
@@ -10,37 +10,42 @@ use Rattle.elab_body.specs.declared.progress.Left.{Left}
 use Rattle.elab_scope.specs.Names.{Meanings}
 use Rattle.elab_body.specs.Bodies.{body_steps, branch_item_steps, branches_steps, steps}
 use Rattle.elab_body.specs.Courses.{is_over}
-use Rattle.elab_body.specs.Steps.{Step, Faulty, Statement, Delay, Course, faulty, checked, passed, stepped}
-
-abbrev at_course : Option Refusal → Option Left → Course
-at_course best left = record { best = best; left = left }
+use Rattle.elab_body.specs.Steps.{Step, Faulty, Statement, Turn, Delay, Course, faulty, checked, passed, stepped}
 
 -- faults where nothing ended the body
-pub passed_faulty : (best : Option Refusal) (left : Left) (faults : List Refusal) → passed (record { best = best; left = Some left }) (faulty faults) ≡ record { best = after best faults; left = Some left }
-passed_faulty best left [] = refl
-passed_faulty best left (x ∷ faults) = passed_faulty (keep best x) left faults
+pub passed_faulty : (best : Option Refusal) (left : Left) (filled : Bool) (faults : List Refusal) → passed (record { best = best; left = Some left; filled = filled }) (faulty faults) ≡ record { best = after best faults; left = Some left; filled = filled }
+passed_faulty best left filled [] = refl
+passed_faulty best left filled (x ∷ faults) = passed_faulty (keep best x) left filled faults
 
 -- nothing behind the end counts
-pub passed_cut : (best : Option Refusal) (steps : List Step) → passed (record { best = best; left = None }) steps ≡ record { best = best; left = None }
-passed_cut best [] = refl
-passed_cut best (Faulty x ∷ steps) = passed_cut best steps
-passed_cut best (Statement at ∷ steps) = passed_cut best steps
-passed_cut best (Delay at ∷ steps) = passed_cut best steps
+pub passed_cut : (best : Option Refusal) (filled : Bool) (steps : List Step) → passed (record { best = best; left = None; filled = filled }) steps ≡ record { best = best; left = None; filled = filled }
+passed_cut best filled [] = refl
+passed_cut best filled (Faulty x ∷ steps) = passed_cut best filled steps
+passed_cut best filled (Statement at ∷ steps) = passed_cut best filled steps
+passed_cut best filled (Turn at ∷ steps) = passed_cut best filled steps
+passed_cut best filled (Delay at ∷ steps) = passed_cut best filled steps
 
 pub passed_append : (course : Course) (xs ys : List Step) → passed course (xs ++ ys) ≡ passed (passed course xs) ys
 passed_append course [] ys = refl
 passed_append course (x ∷ xs) ys = passed_append (stepped course x) xs ys
 
 -- what is told on the way is the least of the faults of the steps
-pub passed_checked : (best : Option Refusal) (statements delays : ℕ) (steps : List Step) → (passed (record { best = best; left = Some (record { statements = statements; delays = delays }) }) steps).best ≡ after best (checked statements delays steps)
-passed_checked best statements delays [] = refl
-passed_checked best statements delays (Faulty x ∷ steps) = passed_checked (keep best x) statements delays steps
-passed_checked best zero delays (Statement at ∷ steps) = ap (λ c. c.best) (passed_cut _ steps)
-passed_checked best (suc n) delays (Statement at ∷ steps) = passed_checked best n delays steps
-passed_checked best zero zero (Delay at ∷ steps) = ap (λ c. c.best) (passed_cut _ steps)
-passed_checked best (suc n) zero (Delay at ∷ steps) = ap (λ c. c.best) (passed_cut _ steps)
-passed_checked best zero (suc d) (Delay at ∷ steps) = passed_checked best zero d steps
-passed_checked best (suc n) (suc d) (Delay at ∷ steps) = passed_checked best (suc n) d steps
+pub passed_checked : (best : Option Refusal) (statements delays : ℕ) (filled : Bool) (steps : List Step) → (passed (record { best = best; left = Some (record { statements = statements; delays = delays }); filled = filled }) steps).best ≡ after best (checked statements delays steps)
+passed_checked best statements delays filled [] = refl
+passed_checked best statements delays filled (Faulty x ∷ steps) =
+    passed_checked (keep best x) statements delays filled steps
+passed_checked best zero delays filled (Statement at ∷ steps) =
+    ap (λ c. c.best) (passed_cut _ _ steps)
+passed_checked best (suc n) delays filled (Statement at ∷ steps) =
+    passed_checked best n delays true steps
+passed_checked best zero delays filled (Turn at ∷ steps) = ap (λ c. c.best) (passed_cut _ _ steps)
+passed_checked best (suc n) delays filled (Turn at ∷ steps) =
+    passed_checked best n delays filled steps
+passed_checked best zero zero filled (Delay at ∷ steps) = ap (λ c. c.best) (passed_cut _ _ steps)
+passed_checked best (suc n) zero filled (Delay at ∷ steps) = ap (λ c. c.best) (passed_cut _ _ steps)
+passed_checked best zero (suc d) filled (Delay at ∷ steps) = passed_checked best zero d filled steps
+passed_checked best (suc n) (suc d) filled (Delay at ∷ steps) =
+    passed_checked best (suc n) d filled steps
 
 pub passed_faults : (course : Course) (xs ys : List Refusal) → passed course (faulty (xs ++ ys)) ≡ passed (passed course (faulty xs)) (faulty ys)
 passed_faults course [] ys = refl
@@ -75,10 +80,10 @@ passed_item c c1 scope held all i item r inside is told same earlier =
     ∙ sym (at_drop_more (λ xs. passed c (row xs)) all i item inside)
     ∙ earlier
 
-over_of : (best : Option Refusal) (left : Option Left) (steps : List Step) → is_over (record { best = best; left = left }) ≡ true → passed (record { best = best; left = left }) steps ≡ record { best = best; left = left }
-over_of best None steps over = passed_cut best steps
-over_of best (Some l) steps over = absurd cc
+over_of : (best : Option Refusal) (left : Option Left) (filled : Bool) (steps : List Step) → is_over (record { best = best; left = left; filled = filled }) ≡ true → passed (record { best = best; left = left; filled = filled }) steps ≡ record { best = best; left = left; filled = filled }
+over_of best None filled steps over = passed_cut best filled steps
+over_of best (Some l) filled steps over = absurd cc
 
 -- nothing counts where a limit is passed
 pub passed_over : (course : Course) (steps : List Step) → is_over course ≡ true → passed course steps ≡ course
-passed_over course steps over = over_of course.best course.left steps over
+passed_over course steps over = over_of course.best course.left course.filled steps over

@@ -13,7 +13,7 @@ use Rattle.elab_scope.specs.Faults.{Undeclared, NotAssignable, TooLarge, Refusal
 use Rattle.elab_scope.specs.Names.{Meanings, indexed, numbers_in}
 use Rattle.elab_scope.specs.Rules.{fault, number_faults}
 use Rattle.elab_scope.specs.Targets.{target_faults}
-use Rattle.elab_body.specs.Steps.{Step, Statement, Delay, faulty, has_statement}
+use Rattle.elab_body.specs.Steps.{Step, Statement, Turn, Delay, faulty, has_statement}
 
 -- the faults of several expressions
 abbrev pub all_faults : Meanings → List Formula → List Refusal
@@ -65,7 +65,7 @@ with_number (Ok number) next = next number
 
 -- a turn that leaves no statement counts as one
 abbrev pub counted : ℕ → List Step → List Step
-counted at steps = if has_statement steps then steps else steps ++ Statement at ∷ []
+counted at steps = if has_statement steps then steps else steps ++ Turn at ∷ []
 
 -- the turns of a loop from a number on, where so many may follow
 unfoldable pub turns : (Meanings → List Step) → Meanings → Head → ℕ → ℤ → List Step

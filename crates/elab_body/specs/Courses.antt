@@ -1,5 +1,5 @@
 -- The course of a body, and the head of a loop, from what the code keeps of them.
-use Rattle.std.specs.Prelude.{not, ℕ, ℤ, Bool, false, if◌then◌else◌, List, ◌∷◌, ◌++◌, Option, None, Some, Ok, Err}
+use Rattle.std.specs.Prelude.{not, ℕ, ℤ, Bool, false, ◌||◌, if◌then◌else◌, List, ◌∷◌, ◌++◌, Option, None, Some, Ok, Err}
 use Rattle.std.specs.Option.{is_some, option_map}
 use Rattle.rtl_const.specs.Constant.{Outcome, is_true}
 use Rattle.rtl_tree.specs.TreeExpr.{formula, identifier}
@@ -11,14 +11,28 @@ use Rattle.elab_body.specs.declared.branches.Chosen.TheVariants.{Taken, Otherwis
 use Rattle.elab_body.specs.declared.head.Head.{Head as Written}
 use Rattle.elab_body.specs.declared.progress.Progress.{Progress}
 use Rattle.elab_body.specs.Bodies.{Head}
-use Rattle.elab_body.specs.Steps.{Course, Step, Statement, faulty}
+use Rattle.elab_body.specs.Steps.{Course, Step, Statement, Turn, faulty, stepped}
 
 abbrev pub course : Progress → Course
-course progress = record { best = option_map refusal progress.best; left = progress.left }
+course progress =
+    record { best = option_map refusal progress.best; left = progress.left; filled = progress.filled }
 
--- how many statements may still come, where no limit is passed
-abbrev pub statements_left : Course → Option ℕ
-statements_left course = option_map (λ left. left.statements) course.left
+-- a turn of a loop begins: no statement has come in it
+abbrev pub begun : Course → Course
+begun course = record { best = course.best; left = course.left; filled = false }
+
+-- whether a statement has come before a turn or in it
+abbrev pub filled_by : Bool → Course → Course
+filled_by before course =
+    record { best = course.best; left = course.left; filled = before || course.filled }
+
+-- a turn without a statement counts as one
+abbrev pub turned : ℕ → Course → Course
+turned at course = if course.filled then course else stepped course (Turn at)
+
+-- a turn of a loop at this place ends, where a statement has come before it or not
+abbrev pub ended : Bool → ℕ → Course → Course
+ended before at course = filled_by before (turned at course)
 
 -- whether a limit is passed
 abbrev pub is_over : Course → Bool

@@ -4,20 +4,22 @@ use Rattle.elab_scope.specs.Faults.{Refusal, TooLarge, keep}
 use Rattle.elab_scope.specs.Rules.{fault}
 use Rattle.elab_body.specs.declared.progress.Left.{Left}
 
--- a fault; or a statement or a delay that counts, with its place
+-- a fault; or what counts, with its place: a statement, a turn of a loop that leaves none, or a delay
 pub data Step : Type 0 where
   Faulty : (told : Refusal) → Step
   Statement : (at : ℕ) → Step
+  Turn : (at : ℕ) → Step
   Delay : (at : ℕ) → Step
 
 -- faults as steps
 abbrev pub faulty : List Refusal → List Step
 faulty faults = map Faulty faults
 
--- whether a statement is among steps
+-- whether a statement is among steps; a turn that leaves none is none
 abbrev pub has_statement : List Step → Bool
 has_statement [] = false
 has_statement (Statement at ∷ steps) = true
+has_statement (Turn at ∷ steps) = has_statement steps
 has_statement (Faulty told ∷ steps) = has_statement steps
 has_statement (Delay at ∷ steps) = has_statement steps
 
@@ -26,6 +28,7 @@ abbrev pub delays_of : List Step → List ℕ
 delays_of [] = []
 delays_of (Delay at ∷ steps) = at ∷ delays_of steps
 delays_of (Statement at ∷ steps) = delays_of steps
+delays_of (Turn at ∷ steps) = delays_of steps
 delays_of (Faulty told ∷ steps) = delays_of steps
 
 -- the faults of steps where so many statements and delays are left: the one that is one too many ends them
@@ -34,45 +37,51 @@ checked statements delays [] = []
 checked statements delays (Faulty told ∷ steps) = told ∷ checked statements delays steps
 checked zero delays (Statement at ∷ steps) = fault at TooLarge ∷ []
 checked (suc statements) delays (Statement at ∷ steps) = checked statements delays steps
+checked zero delays (Turn at ∷ steps) = fault at TooLarge ∷ []
+checked (suc statements) delays (Turn at ∷ steps) = checked statements delays steps
 checked statements zero (Delay at ∷ steps) = fault at TooLarge ∷ []
 checked statements (suc delays) (Delay at ∷ steps) = checked statements delays steps
 
--- the same step by step: the fault that is told so far, and how many statements and delays are left; none of them
--- where a limit is passed
+-- the same step by step: the fault that is told so far, how many statements and delays are left, none of them where a
+-- limit is passed, and whether a statement has come
 pub record Course : Type 0 where
   pub best : Option Refusal
   pub left : Option Left
+  pub filled : Bool
 
 -- a fault more
-abbrev pub told_in : Option Refusal → Option Left → Refusal → Course
-told_in best None found = record { best = best; left = None }
-told_in best (Some left) found = record { best = keep best found; left = Some left }
+abbrev pub told_in : Option Refusal → Option Left → Bool → Refusal → Course
+told_in best None filled found = record { best = best; left = None; filled = filled }
+told_in best (Some left) filled found = record { best = keep best found; left = Some left; filled = filled }
 
-abbrev pub with_statements : Option Refusal → ℕ → ℕ → ℕ → Course
-with_statements best at zero delays = record { best = keep best (fault at TooLarge); left = None }
-with_statements best at (suc n) delays =
-    record { best = best; left = Some (record { statements = n; delays = delays }) }
+abbrev pub with_statements : Option Refusal → ℕ → Bool → ℕ → ℕ → Course
+with_statements best at filled zero delays =
+    record { best = keep best (fault at TooLarge); left = None; filled = filled }
+with_statements best at filled (suc n) delays =
+    record { best = best; left = Some (record { statements = n; delays = delays }); filled = filled }
 
--- a statement more
-abbrev pub counted_in : Option Refusal → ℕ → Option Left → Course
-counted_in best at None = record { best = best; left = None }
-counted_in best at (Some left) = with_statements best at left.statements left.delays
+-- a statement more, or a turn that counts as one, and whether a statement has come before it and with it
+abbrev pub counted_in : Option Refusal → ℕ → Bool → Bool → Option Left → Course
+counted_in best at before filled None = record { best = best; left = None; filled = before }
+counted_in best at before filled (Some left) = with_statements best at filled left.statements left.delays
 
-abbrev pub with_delays : Option Refusal → ℕ → ℕ → ℕ → Course
-with_delays best at statements zero = record { best = keep best (fault at TooLarge); left = None }
-with_delays best at statements (suc n) =
-    record { best = best; left = Some (record { statements = statements; delays = n }) }
+abbrev pub with_delays : Option Refusal → ℕ → Bool → ℕ → ℕ → Course
+with_delays best at filled statements zero =
+    record { best = keep best (fault at TooLarge); left = None; filled = filled }
+with_delays best at filled statements (suc n) =
+    record { best = best; left = Some (record { statements = statements; delays = n }); filled = filled }
 
 -- a delay more
-abbrev pub paused_in : Option Refusal → ℕ → Option Left → Course
-paused_in best at None = record { best = best; left = None }
-paused_in best at (Some left) = with_delays best at left.statements left.delays
+abbrev pub paused_in : Option Refusal → ℕ → Bool → Option Left → Course
+paused_in best at filled None = record { best = best; left = None; filled = filled }
+paused_in best at filled (Some left) = with_delays best at filled left.statements left.delays
 
 -- one step more
 abbrev pub stepped : Course → Step → Course
-stepped course (Faulty found) = told_in course.best course.left found
-stepped course (Statement at) = counted_in course.best at course.left
-stepped course (Delay at) = paused_in course.best at course.left
+stepped course (Faulty found) = told_in course.best course.left course.filled found
+stepped course (Statement at) = counted_in course.best at course.filled true course.left
+stepped course (Turn at) = counted_in course.best at course.filled course.filled course.left
+stepped course (Delay at) = paused_in course.best at course.filled course.left
 
 -- all steps
 abbrev pub passed : Course → List Step → Course

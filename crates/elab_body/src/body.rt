@@ -181,15 +181,10 @@ fn judge_turns<'a>(
 
 /// A turn of a loop; one that leaves no statement counts as one.
 #[cycle(judge_body)]
-#[tactic(auto, using(crate::proofs::Counting::counted_again, crate::proofs::Counting::counted_whole))]
 fn judge_turn<'a>(at: u32, body: &'a Stmt, names: &mut Names, so_far: Progress<'a>) -> Progress<'a>
     ensures told { course result ≡ passed (course so_far.entry) (counted at (steps (action body.now) (meanings names.old))) }
     ensures same { meanings names.new ≡ meanings names.old }
 {
-    let after = judge_body(body, names, so_far);
-    if after.statements_left() == so_far.statements_left() {
-        after.count(at)
-    } else {
-        after
-    }
+    let after = judge_body(body, names, so_far.begin_turn());
+    after.end_turn(so_far.filled, at)
 }

@@ -38,6 +38,7 @@ fn assigned<'a>(written: &'a Lvalue, names: &Names, so_far: Progress<'a>) -> Pro
         Some(_) => Progress {
             best: judge_parts(Writer::Procedural, written, names, so_far.best).best,
             left: so_far.left,
+            filled: so_far.filled,
         },
     }
 }

@@ -7,8 +7,8 @@ ghost use Rattle.elab_scope.specs.Expressions.{constant_faults, faults};
 ghost use Rattle.elab_scope.specs.Faults.{TooLarge, keep, refusal};
 ghost use Rattle.elab_scope.specs.Names.{meanings};
 ghost use Rattle.elab_scope.specs.Rules.{fault, number_faults};
-ghost use Rattle.elab_body.specs.Steps.{Delay, Faulty, Statement, faulty, passed, stepped};
-ghost use Rattle.elab_body.specs.Courses.{course, is_over, statements_left};
+ghost use Rattle.elab_body.specs.Steps.{Delay, Faulty, Statement, Turn, counted_in, faulty, passed, stepped};
+ghost use Rattle.elab_body.specs.Courses.{begun, course, ended, is_over, turned};
 
 use elab_scope::fault::{Cause, Fault};
 use elab_scope::judge::{judge, judge_constant};
@@ -31,6 +31,8 @@ pub struct Progress<'a> {
     pub best: Option<Fault<'a>>,
     /// None where a limit is passed: nothing behind it counts.
     pub left: Option<Left>,
+    /// Whether a statement has come, in the turn of a loop or the design that is walked.
+    pub filled: bool,
 }
 
 fn too_large<'a>(at: u32, best: Option<Fault<'a>>) -> Option<Fault<'a>>
@@ -50,6 +52,28 @@ impl<'a> Progress<'a> {
             Some(_) => Progress {
                 best: Fault::keep(self.best, fault),
                 left: self.left,
+                filled: self.filled,
+            },
+        }
+    }
+
+    fn counted(self, at: u32, filled: bool) -> Progress<'a>
+        ensures { course result ≡ counted_in (course self.entry).best at self.entry.filled filled self.entry.left }
+    {
+        match self.left {
+            None => self,
+            Some(Left { statements: 0, .. }) => Progress {
+                best: too_large(at, self.best),
+                left: None,
+                filled,
+            },
+            Some(Left { statements, delays }) => Progress {
+                best: self.best,
+                left: Some(Left {
+                    statements: statements - 1,
+                    delays,
+                }),
+                filled,
             },
         }
     }
@@ -58,19 +82,47 @@ impl<'a> Progress<'a> {
     pub fn count(self, at: u32) -> Progress<'a>
         ensures { course result ≡ stepped (course self.entry) (Statement at) }
     {
-        match self.left {
-            None => self,
-            Some(Left { statements: 0, .. }) => Progress {
-                best: too_large(at, self.best),
-                left: None,
-            },
-            Some(Left { statements, delays }) => Progress {
-                best: self.best,
-                left: Some(Left {
-                    statements: statements - 1,
-                    delays,
-                }),
-            },
+        self.counted(at, true)
+    }
+
+    /// A turn more that leaves no statement.
+    fn count_turn(self, at: u32) -> Progress<'a>
+        ensures { course result ≡ stepped (course self.entry) (Turn at) }
+    {
+        self.counted(at, self.filled)
+    }
+
+    /// A turn of a loop begins.
+    pub fn begin_turn(self) -> Progress<'a>
+        ensures { course result ≡ begun (course self.entry) }
+    {
+        Progress {
+            best: self.best,
+            left: self.left,
+            filled: false,
+        }
+    }
+
+    /// A turn without a statement counts as one.
+    fn turned(self, at: u32) -> Progress<'a>
+        ensures { course result ≡ turned at (course self.entry) }
+    {
+        if self.filled {
+            self
+        } else {
+            self.count_turn(at)
+        }
+    }
+
+    /// A turn of a loop at `at` ends, where a statement has come before it or not.
+    pub fn end_turn(self, before: bool, at: u32) -> Progress<'a>
+        ensures { course result ≡ ended before at (course self.entry) }
+    {
+        let turned = self.turned(at);
+        Progress {
+            best: turned.best,
+            left: turned.left,
+            filled: before || turned.filled,
         }
     }
 
@@ -83,6 +135,7 @@ impl<'a> Progress<'a> {
             Some(Left { delays: 0, .. }) => Progress {
                 best: too_large(at, self.best),
                 left: None,
+                filled: self.filled,
             },
             Some(Left { statements, delays }) => Progress {
                 best: self.best,
@@ -90,6 +143,7 @@ impl<'a> Progress<'a> {
                     statements,
                     delays: delays - 1,
                 }),
+                filled: self.filled,
             },
         }
     }
@@ -104,6 +158,7 @@ impl<'a> Progress<'a> {
             Some(_) => Progress {
                 best: judge(e, names, self.best).best,
                 left: self.left,
+                filled: self.filled,
             },
         }
     }
@@ -118,6 +173,7 @@ impl<'a> Progress<'a> {
             Some(_) => Progress {
                 best: judge_constant(e, names, self.best),
                 left: self.left,
+                filled: self.filled,
             },
         }
     }
@@ -132,15 +188,9 @@ impl<'a> Progress<'a> {
             Some(_) => Progress {
                 best: rules::number(number, self.best),
                 left: self.left,
+                filled: self.filled,
             },
         }
-    }
-
-    /// How many statements may still come; none where a limit is passed.
-    pub fn statements_left(self) -> Option<u32>
-        ensures { result ≡ statements_left (course self.entry) }
-    {
-        Some(self.left?.statements)
     }
 
     /// Whether a limit is passed, so that nothing more counts.

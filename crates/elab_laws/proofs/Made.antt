@@ -11,7 +11,7 @@ use Rattle.rtl_flat.specs.WellFormed.{IsBody, statements_of}
 use Rattle.elab_scope.specs.Faults.{Refusal}
 use Rattle.elab_body.specs.Acts.{branch_acts, acts_if, acts_with}
 use Rattle.elab_body.specs.Bodies.{branch_steps, counted, where_true, with_number}
-use Rattle.elab_body.specs.Steps.{Step, Statement, faulty, has_statement}
+use Rattle.elab_body.specs.Steps.{Step, Statement, Turn, faulty, has_statement}
 use Rattle.elab_body.specs.Faultless.{AreFaultless, statement_count}
 use Rattle.elab_laws.proofs.Steps.{count_append, count_faulty, faultless_left, faultless_right, no_faults}
 
@@ -84,10 +84,10 @@ pub made_with : (ss : List Signal) (o : Outcome) (next : ℤ → List Step) (act
 made_with ss (Err cause) next acts m h = absurd h
 made_with ss (Ok number) next acts m h = m number h
 
-counted_by : (ss : List Signal) (b : Bool) (at : ℕ) (xs : List Step) (acts : List Action) → (AreFaultless xs → Made ss xs acts) → AreFaultless (if b then xs else xs ++ Statement at ∷ []) → Made ss (if b then xs else xs ++ Statement at ∷ []) acts
+counted_by : (ss : List Signal) (b : Bool) (at : ℕ) (xs : List Step) (acts : List Action) → (AreFaultless xs → Made ss xs acts) → AreFaultless (if b then xs else xs ++ Turn at ∷ []) → Made ss (if b then xs else xs ++ Turn at ∷ []) acts
 counted_by ss true at xs acts m h = m h
 counted_by ss false at xs acts m h =
-    made_more ss xs (xs ++ Statement at ∷ []) acts (m (faultless_left xs (Statement at ∷ []) h)) (omega (arith, count_append xs (Statement at ∷ [])))
+    made_more ss xs (xs ++ Turn at ∷ []) acts (m (faultless_left xs (Turn at ∷ []) h)) (omega (arith, count_append xs (Turn at ∷ [])))
 
 pub made_counted : (ss : List Signal) (at : ℕ) (xs : List Step) (acts : List Action) → (AreFaultless xs → Made ss xs acts) → AreFaultless (counted at xs) → Made ss (counted at xs) acts
 made_counted ss at xs acts m h = counted_by ss (has_statement xs) at xs acts m h

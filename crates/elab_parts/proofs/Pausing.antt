@@ -28,12 +28,13 @@ use Rattle.elab_body.specs.declared.branches.Chosen.{Chosen}
 use Rattle.elab_body.specs.declared.branches.Chosen.TheVariants.{Taken, Otherwise, Both}
 use Rattle.elab_body.specs.Bodies.{Head, all_turns, body_steps, branch_item_steps, branch_steps, branches_steps, counted, in_head, in_turn, loop_faults, pause_steps, steps, turns, where_true, with_number}
 use Rattle.elab_body.specs.Courses.{chosen, chosen_steps, goes_on}
-use Rattle.elab_body.specs.Steps.{Step, Faulty, Statement, Delay, delays_of, faulty, has_statement}
+use Rattle.elab_body.specs.Steps.{Step, Faulty, Statement, Turn, Delay, delays_of, faulty, has_statement}
 
 pub pauses_append : (xs ys : List Step) → delays_of (xs ++ ys) ≡ delays_of xs ++ delays_of ys
 pauses_append [] ys = refl
 pauses_append (Faulty x ∷ xs) ys = pauses_append xs ys
 pauses_append (Statement at ∷ xs) ys = pauses_append xs ys
+pauses_append (Turn at ∷ xs) ys = pauses_append xs ys
 pauses_append (Delay at ∷ xs) ys = ap (λ zs. at ∷ zs) (pauses_append xs ys)
 
 pub no_pauses : (faults : List Refusal) → delays_of (faulty faults) ≡ []
@@ -84,7 +85,7 @@ else_pauses at outcome condition taken otherwise =
 whole : (at : ℕ) (xs : List Step) → has_statement xs ≡ true → counted at xs ≡ xs
 whole at xs has = rw has refl
 
-once_more : (at : ℕ) (xs : List Step) → has_statement xs ≡ false → counted at xs ≡ xs ++ Statement at ∷ []
+once_more : (at : ℕ) (xs : List Step) → has_statement xs ≡ false → counted at xs ≡ xs ++ Turn at ∷ []
 once_more at xs has = rw has refl
 
 -- that a turn counts adds no delay
@@ -92,7 +93,7 @@ counted_pauses : (at : ℕ) (xs : List Step) → delays_of (counted at xs) ≡ d
 counted_pauses at xs = elim (cases_Bool (has_statement xs)) [
   | inl has ↦ ap delays_of (whole at xs has)
   | inr has ↦
-      ap delays_of (once_more at xs has) ∙ pauses_append xs (Statement at ∷ []) ∙ append-nil (delays_of xs)
+      ap delays_of (once_more at xs has) ∙ pauses_append xs (Turn at ∷ []) ∙ append-nil (delays_of xs)
 ]
 
 -- a body in a scope

@@ -42,6 +42,7 @@ fn driven<'a>(name: &'a Name, names: &Names, so_far: Progress<'a>) -> Progress<'
                 so_far.best,
             ),
             left: so_far.left,
+            filled: so_far.filled,
         },
     }
 }
@@ -98,6 +99,7 @@ fn judge_written<'a>(
             Ok(Progress {
                 best: judged.best,
                 left: so_far.left,
+                filled: so_far.filled,
             })
         }
     }
@@ -143,6 +145,7 @@ fn judge_list<'a>(control: &'a EventControl, names: &Names, so_far: Progress<'a>
         Some(_) => Progress {
             best: judge_control(control, names, so_far.best),
             left: so_far.left,
+            filled: so_far.filled,
         },
     }
 }

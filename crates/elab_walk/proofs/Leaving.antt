@@ -9,7 +9,7 @@ use Rattle.elab_scope.proofs.Fitting.{no_cons}
 use Rattle.elab_scope.proofs.Least.{after_append}
 use Rattle.elab_scope.proofs.Sound.{nil_left, nil_right}
 use Rattle.elab_body.specs.declared.progress.Left.{Left}
-use Rattle.elab_body.specs.Steps.{Step, Faulty, Statement, Delay, Course, checked, delays_of, passed}
+use Rattle.elab_body.specs.Steps.{Step, Faulty, Statement, Turn, Delay, Course, checked, delays_of, passed}
 use Rattle.elab_body.proofs.Passing.{passed_checked}
 use Rattle.elab_items.specs.Scopes.{declaration_faults, listings_of}
 use Rattle.elab_items.proofs.Law.{few_enough}
@@ -34,38 +34,42 @@ nothing_told [] h = refl
 nothing_told (x ∷ xs) h = absurd (some_after x xs h)
 
 -- what is left behind steps of which nothing is told
-pub passed_left : (best : Option Refusal) (s d : ℕ) (steps : List Step) → checked s d steps ≡ [] → (passed (record { best = best; left = Some (record { statements = s; delays = d }) }) steps).left ≡ Some (record { statements = s - statement_count steps; delays = d - length (delays_of steps) })
-passed_left best s d [] h =
+pub passed_left : (best : Option Refusal) (s d : ℕ) (filled : Bool) (steps : List Step) → checked s d steps ≡ [] → (passed (record { best = best; left = Some (record { statements = s; delays = d }); filled = filled }) steps).left ≡ Some (record { statements = s - statement_count steps; delays = d - length (delays_of steps) })
+passed_left best s d filled [] h =
     let e : s ≡ s - 0 = omega arith in
     let f : d ≡ d - 0 = omega arith in
     cc
-passed_left best s d (Faulty told ∷ steps) h = absurd (no_cons _ _ h)
-passed_left best zero d (Statement at ∷ steps) h = absurd (no_cons _ _ h)
-passed_left best (suc s) d (Statement at ∷ steps) h =
+passed_left best s d filled (Faulty told ∷ steps) h = absurd (no_cons _ _ h)
+passed_left best zero d filled (Statement at ∷ steps) h = absurd (no_cons _ _ h)
+passed_left best (suc s) d filled (Statement at ∷ steps) h =
     let e : s - statement_count steps ≡ suc s - (1 + statement_count steps) = omega arith in
-    let f : (passed (record { best = best; left = Some (record { statements = s; delays = d }) }) steps).left ≡ Some (record { statements = s - statement_count steps; delays = d - length (delays_of steps) }) =
-    passed_left best s d steps h in
+    let f = passed_left best s d true steps h in
     f ∙ ap (λ n. Some (record { statements = n; delays = d - length (delays_of steps) })) e
-passed_left best zero zero (Delay at ∷ steps) h = absurd (no_cons _ _ h)
-passed_left best (suc s) zero (Delay at ∷ steps) h = absurd (no_cons _ _ h)
-passed_left best zero (suc d) (Delay at ∷ steps) h =
+passed_left best zero d filled (Turn at ∷ steps) h = absurd (no_cons _ _ h)
+passed_left best (suc s) d filled (Turn at ∷ steps) h =
+    let e : s - statement_count steps ≡ suc s - (1 + statement_count steps) = omega arith in
+    let f = passed_left best s d filled steps h in
+    f ∙ ap (λ n. Some (record { statements = n; delays = d - length (delays_of steps) })) e
+passed_left best zero zero filled (Delay at ∷ steps) h = absurd (no_cons _ _ h)
+passed_left best (suc s) zero filled (Delay at ∷ steps) h = absurd (no_cons _ _ h)
+passed_left best zero (suc d) filled (Delay at ∷ steps) h =
     let e : d - length (delays_of steps) ≡ suc d - suc (length (delays_of steps)) = omega arith in
-    let f = passed_left best zero d steps h in
+    let f = passed_left best zero d filled steps h in
     f ∙ ap (λ n. Some (record { statements = zero - statement_count steps; delays = n })) e
-passed_left best (suc s) (suc d) (Delay at ∷ steps) h =
+passed_left best (suc s) (suc d) filled (Delay at ∷ steps) h =
     let e : d - length (delays_of steps) ≡ suc d - suc (length (delays_of steps)) = omega arith in
-    let f = passed_left best (suc s) d steps h in
+    let f = passed_left best (suc s) d filled steps h in
     f ∙ ap (λ n. Some (record { statements = suc s - statement_count steps; delays = n })) e
 
 -- the faults of declarations, of items and of the number of processes, one after the other
-pub told : (library : Library) (room : Room) (v : Visit) (first : Option Refusal) (so_far : Course) (seek' : Seek) → first ≡ least (declaration_faults v.settings room.base v.circuit) → so_far ≡ passed (record { best = first; left = Some room.left }) (visit_steps library v) → seek' ≡ sought_on (seek.Left room.processes) (process_places v.circuit.items) → after so_far.best (surplus (place_of seek')) ≡ least (own_faults library room v)
+pub told : (library : Library) (room : Room) (v : Visit) (first : Option Refusal) (so_far : Course) (seek' : Seek) → first ≡ least (declaration_faults v.settings room.base v.circuit) → so_far ≡ passed (record { best = first; left = Some room.left; filled = false }) (visit_steps library v) → seek' ≡ sought_on (seek.Left room.processes) (process_places v.circuit.items) → after so_far.best (surplus (place_of seek')) ≡ least (own_faults library room v)
 told library room v first so_far seek' is_first is_so_far is_seek =
     let declared : List Refusal = declaration_faults v.settings room.base v.circuit in
     let steps : List Step = visit_steps library v in
     let found : List Refusal = checked room.left.statements room.left.delays steps in
     let over : List Refusal = process_faults room.processes (process_places v.circuit.items) in
     let best : so_far.best ≡ after first found =
-    ap (λ c. c.best) is_so_far ∙ passed_checked first room.left.statements room.left.delays steps in
+    ap (λ c. c.best) is_so_far ∙ passed_checked first room.left.statements room.left.delays false steps in
     let place : surplus (place_of seek') ≡ over =
     ap (λ s. surplus (place_of s)) is_seek ∙ ap surplus (found_is room.processes (process_places v.circuit.items)) in
     ap (λ b. after b (surplus (place_of seek'))) best
@@ -79,7 +83,7 @@ no_surplus None h = refl
 no_surplus (Some at) h = absurd (no_cons _ _ h)
 
 -- what an instance leaves of which nothing is told
-pub leaves : (library : Library) (room : Room) (v : Visit) (first : Option Refusal) (so_far : Course) (seek' : Seek) → room.base ≤ 65535 → so_far ≡ passed (record { best = first; left = Some room.left }) (visit_steps library v) → seek' ≡ sought_on (seek.Left room.processes) (process_places v.circuit.items) → least (own_faults library room v) ≡ None → behind room (length (listings_of v.settings v.circuit)) so_far.left seek' ≡ room_after library room v
+pub leaves : (library : Library) (room : Room) (v : Visit) (first : Option Refusal) (so_far : Course) (seek' : Seek) → room.base ≤ 65535 → so_far ≡ passed (record { best = first; left = Some room.left; filled = false }) (visit_steps library v) → seek' ≡ sought_on (seek.Left room.processes) (process_places v.circuit.items) → least (own_faults library room v) ≡ None → behind room (length (listings_of v.settings v.circuit)) so_far.left seek' ≡ room_after library room v
 leaves library room v first so_far seek' small is_so_far is_seek nothing =
     let declared : List Refusal = declaration_faults v.settings room.base v.circuit in
     let steps : List Step = visit_steps library v in
@@ -96,7 +100,7 @@ leaves library room v first so_far seek' small is_so_far is_seek nothing =
     let base : min (room.base + min (length (listings_of v.settings v.circuit)) 20000) 65535 ≡ room.base + length (listings_of v.settings v.circuit) =
     omega arith in
     let left : so_far.left ≡ Some (record { statements = room.left.statements - statement_count steps; delays = room.left.delays - length (delays_of steps) }) =
-    ap (λ c. c.left) is_so_far ∙ passed_left first room.left.statements room.left.delays steps no_found in
+    ap (λ c. c.left) is_so_far ∙ passed_left first room.left.statements room.left.delays false steps no_found in
     let sought_is : seek' ≡ seek.Left (room.processes - length places) =
     is_seek ∙ sought_left room.processes places (no_surplus (slice_get places room.processes) no_over) in
     let one : left_or so_far.left room.left ≡ record { statements = room.left.statements - statement_count steps; delays = room.left.delays - length (delays_of steps) } =

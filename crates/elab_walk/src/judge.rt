@@ -49,6 +49,7 @@ fn judge_links<'a>(
             Ok(Progress {
                 best,
                 left: so_far.left,
+                filled: so_far.filled,
             })
         }
     }
@@ -132,6 +133,7 @@ pub fn judge_visit<'a>(
     let so_far = Progress {
         best: declared.best,
         left: Some(room.left),
+        filled: false,
     };
     let way = met.way.as_slice();
     let items = met.written.items.as_slice();

@@ -4,8 +4,9 @@ use Rattle.std.proofs.lemmas.Grind.{common_steps}
 use Rattle.rtl_tree.specs.TreeStmt.{action}
 use Rattle.elab_scope.specs.Names.{meanings}
 use Rattle.elab_body.specs.Bodies.{in_turn, steps, turns}
-use Rattle.elab_body.specs.Courses.{course, head_of}
+use Rattle.elab_body.specs.Courses.{course, ended, head_of}
 use Rattle.elab_body.specs.Steps.{passed}
+use Rattle.elab_body.proofs.Counting.{turn_ended}
 use Rattle.elab_body.proofs.Deciding.{block_passed, case_passed, for_passed}
 use Rattle.elab_body.proofs.Indices.{indexed_restored, indexed_turned}
 use Rattle.elab_body.proofs.Passing.{passed_body, passed_item, passed_over}
@@ -114,3 +115,10 @@ judge_turns-returns-then-is_over-clause-told t c =
     sym (passed_over (course c.loop-turn.so_far) (turns (steps (action c.args.body.now)) scope (head_of c.args.head) (4096 - c.loop-turn._turn) (to_z w64 c.loop-turn.number-bits)) (sym c.is_over.ensures ∙ c.if-is_over.true))
     ∙ c.loop-turn.invariant.0
     ∙ ap (λ n. passed (course c.args.so_far) (turns (steps (action c.args.body.now)) scope (head_of c.args.head) 4096 n)) (to_z-of_z w64 c.args.first c.ranges.first)
+
+pub judge_turn-returns-clause-told : goal.judge_turn-returns-clause-told
+judge_turn-returns-clause-told t c =
+    let body = steps (action c.args.body.now) (meanings c.args.names.now) in
+    c.end_turn.ensures
+    ∙ ap (λ p. ended c.args.so_far.filled c.args.at p) (c.judge_body-after.ensures.told ∙ ap (λ p. passed p body) c.begin_turn.ensures)
+    ∙ turn_ended (course c.args.so_far) c.args.at body

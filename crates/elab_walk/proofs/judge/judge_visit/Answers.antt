@@ -1,5 +1,5 @@
 use Rattle.std.specs.Option.{option_map}
-use Rattle.std.proofs.Common.{◌∙◌, ◌≡◌, ℕ, List, Option, Some, ap, arith, length, map, sym}
+use Rattle.std.proofs.Common.{◌∙◌, ◌≡◌, ℕ, List, Option, Some, ap, arith, false, length, map, sym}
 use Rattle.std.proofs.lemmas.List.{length-map}
 use Rattle.rtl_tree.specs.TreeItem.{module_item}
 use Rattle.elab_scope.specs.Faults.{Refusal, after, least, refusal}
@@ -22,8 +22,8 @@ returns-clause-told c =
     let first = option_map refusal c.in_ok-declared.declared.best in
     let is_first : first ≡ least (declaration_faults v.settings c.args.room.base v.circuit) =
     c.in_ok-declared.ensures.best ∙ ap (λ b. least (declaration_faults v.settings b v.circuit)) c.from-base.ensures in
-    let is_so_far : course c.in_ok-judged.judged ≡ passed (record { best = first; left = Some c.args.room.left }) (visit_steps all v) =
-    c.in_ok-judged.ensures.told ∙ ap (passed (record { best = first; left = Some c.args.room.left })) (same_steps all _ _ _ _ _ _ (ap (map (λ text. text.now)) c.as_slice-way.ensures.value) c.in_ok-declared.ensures.names (ap (map module_item) c.as_slice-items.ensures.value)) in
+    let is_so_far : course c.in_ok-judged.judged ≡ passed (record { best = first; left = Some c.args.room.left; filled = false }) (visit_steps all v) =
+    c.in_ok-judged.ensures.told ∙ ap (passed (record { best = first; left = Some c.args.room.left; filled = false })) (same_steps all _ _ _ _ _ _ (ap (map (λ text. text.now)) c.as_slice-way.ensures.value) c.in_ok-declared.ensures.names (ap (map module_item) c.as_slice-items.ensures.value)) in
     let is_seek : c.seek_all-seek.result ≡ sought_on (seek.Left c.args.room.processes) (process_places v.circuit.items) =
     c.seek_all-seek.ensures ∙ ap (λ items. sought_on (seek.Left c.args.room.processes) (process_places (map module_item items))) c.as_slice-items.ensures.value in
     c.judge_surplus.ensures
@@ -36,8 +36,8 @@ returns-clause-room c = λ nothing.
     let first = option_map refusal c.in_ok-declared.declared.best in
     let is_first : first ≡ least (declaration_faults v.settings c.args.room.base v.circuit) =
     c.in_ok-declared.ensures.best ∙ ap (λ b. least (declaration_faults v.settings b v.circuit)) c.from-base.ensures in
-    let is_so_far : course c.in_ok-judged.judged ≡ passed (record { best = first; left = Some c.args.room.left }) (visit_steps all v) =
-    c.in_ok-judged.ensures.told ∙ ap (passed (record { best = first; left = Some c.args.room.left })) (same_steps all _ _ _ _ _ _ (ap (map (λ text. text.now)) c.as_slice-way.ensures.value) c.in_ok-declared.ensures.names (ap (map module_item) c.as_slice-items.ensures.value)) in
+    let is_so_far : course c.in_ok-judged.judged ≡ passed (record { best = first; left = Some c.args.room.left; filled = false }) (visit_steps all v) =
+    c.in_ok-judged.ensures.told ∙ ap (passed (record { best = first; left = Some c.args.room.left; filled = false })) (same_steps all _ _ _ _ _ _ (ap (map (λ text. text.now)) c.as_slice-way.ensures.value) c.in_ok-declared.ensures.names (ap (map module_item) c.as_slice-items.ensures.value)) in
     let is_seek : c.seek_all-seek.result ≡ sought_on (seek.Left c.args.room.processes) (process_places v.circuit.items) =
     c.seek_all-seek.ensures ∙ ap (λ items. sought_on (seek.Left c.args.room.processes) (process_places (map module_item items))) c.as_slice-items.ensures.value in
     let is_told : after (course c.in_ok-judged.judged).best (surplus (place_of c.seek_all-seek.result)) ≡ least (own_faults all c.args.room v) =
