@@ -67,6 +67,11 @@ empty_around : steps (outer_twice (twice (Null 50))) scope ≡ Turn 10 ∷ Turn 
 unfolding turns all_turns loop_faults
 empty_around = refl
 
+-- a loop doesn't count by the integer of a loop around it
+same_index : steps (twice (twice one_bit)) scope ≡ Faulty (fault 15 (NotAssignable (105 ∷ []))) ∷ Turn 10 ∷ Faulty (fault 15 (NotAssignable (105 ∷ []))) ∷ Turn 10 ∷ []
+unfolding turns all_turns loop_faults
+same_index = refl
+
 -- a delay counts in each turn
 two_delays : delays_of (steps (twice (Delayed (record { at = 45; span = Valued (whole 5 47) }) one_bit)) scope) ≡ 45 ∷ 45 ∷ []
 unfolding turns all_turns loop_faults

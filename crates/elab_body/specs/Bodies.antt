@@ -33,10 +33,10 @@ pub record Head : Type 0 where
   pub stepped : Identifier
   pub step : Formula
 
--- a loop counts by an `integer`
+-- a loop counts by an `integer` that no loop around it counts by: one that has a number already would be changed
 abbrev pub index_faults : Identifier → Option Known → List Refusal
 index_faults name None = fault name.at (Undeclared name.text) ∷ []
-index_faults name (Some (known.Integer number)) = []
+index_faults name (Some (known.Integer None)) = []
 index_faults name (Some _) = fault name.at (NotAssignable name.text) ∷ []
 
 -- its step assigns what its start assigns
@@ -76,9 +76,9 @@ turns body scope head (suc more) number =
     (counted head.at (body (in_turn scope head number))
     ++ with_number (in_head (in_turn scope head number) head.step) (turns body scope head more))
 
--- the steps of a loop of at most 4096 turns; only one that counts by an `integer` has turns
+-- the steps of a loop of at most 4096 turns; only one that counts by an `integer` of its own has turns
 abbrev pub loop_turns : Option Known → List Step → List Step
-loop_turns (Some (known.Integer number)) steps = steps
+loop_turns (Some (known.Integer None)) steps = steps
 loop_turns _ steps = []
 
 -- the turns from the first number on; a start without one has its fault already

@@ -65,5 +65,5 @@ goes_on (Err cause) = false
 
 -- the number that a loop starts with, where it has turns
 abbrev pub first_of : Option Known → Outcome → Option ℤ
-first_of (Some (known.Integer before)) (Ok first) = Some first
+first_of (Some (known.Integer None)) (Ok first) = Some first
 first_of _ _ = None

@@ -61,12 +61,12 @@ impl<'a> Head<'a> {
         so_far
     }
 
-    /// The number that the loop starts with; only one that counts by an `integer` has turns.
+    /// The number that the loop starts with; only one that counts by an `integer` of its own has turns.
     pub fn first(self, names: &Names) -> Option<i64>
         ensures { result ≡ first_of (meanings names.now self.entry.index.now.text) (in_head (meanings names.now) (formula self.entry.start.now)) }
     {
         match (names.find(&self.index.text), constant(self.start, names)) {
-            (Some(Known::Integer(_)), Ok(first)) => Some(first),
+            (Some(Known::Integer(None)), Ok(first)) => Some(first),
             _ => None,
         }
     }

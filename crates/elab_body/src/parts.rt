@@ -80,16 +80,16 @@ pub fn labels<'a>(all: &'a [Expr], names: &Names, so_far: Progress<'a>) -> Progr
     so_far
 }
 
-/// A loop counts by an `integer`.
+/// A loop counts by an `integer` that no loop around it counts by.
 pub fn index<'a>(name: &'a Name, known: Option<Known>, so_far: Progress<'a>) -> Progress<'a>
     ensures { course result ≡ passed (course so_far.entry) (faulty (index_faults (identifier name.now) known)) }
 {
     let cause = match known {
-        Some(Known::Integer(_)) => return so_far,
+        Some(Known::Integer(None)) => return so_far,
         None => Cause::Undeclared(&name.text),
-        Some(Known::Signal { .. }) | Some(Known::Parameter { .. }) => {
-            Cause::NotAssignable(&name.text)
-        }
+        Some(Known::Signal { .. })
+        | Some(Known::Parameter { .. })
+        | Some(Known::Integer(Some(_))) => Cause::NotAssignable(&name.text),
     };
     so_far.tell(Fault { at: name.at, cause })
 }

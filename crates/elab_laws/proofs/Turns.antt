@@ -71,7 +71,8 @@ made_first ss (Ok number) next acts m h = m number h
 
 made_indexed : (ss : List Signal) (name : Identifier) (k : Option Known) (xs : List Step) (acts : List Action) → index_faults name k ≡ [] → (AreFaultless xs → Made ss xs acts) → AreFaultless (loop_turns k xs) → Made ss (loop_turns k xs) acts
 made_indexed ss name None xs acts h m none = absurd (no_cons _ _ h)
-made_indexed ss name (Some (known.Integer number)) xs acts h m none = m none
+made_indexed ss name (Some (known.Integer None)) xs acts h m none = m none
+made_indexed ss name (Some (known.Integer (Some number))) xs acts h m none = absurd (no_cons _ _ h)
 made_indexed ss name (Some (known.Parameter n width signed)) xs acts h m none = absurd (no_cons _ _ h)
 made_indexed ss name (Some (known.Signal n role shape)) xs acts h m none = absurd (no_cons _ _ h)
 
