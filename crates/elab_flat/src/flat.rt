@@ -8,6 +8,7 @@ ghost use Rattle.elab_walk.specs.Visits.{library};
 ghost use Rattle.elab_flat.specs.Flats.{flat_of};
 ghost use Rattle.elab_flat.specs.Views.{flat};
 
+use crate::regions::dropped_in;
 use crate::works::Works;
 use elab_items::declare::declare;
 use elab_items::signals::{Home, push_signals};
@@ -78,12 +79,17 @@ fn signals_of(alloc: Global, placements: &[Placement<'_>]) -> Result<Vec<Signal>
     Ok(made)
 }
 
-/// The regions of an instance's module that have no meaning, behind others.
-fn push_regions(at: &Placement<'_>, dropped: &mut Vec<DroppedRegion>) -> Result<(), Memory>
+/// What synthesis doesn't see of an instance's module, behind others.
+fn push_regions(
+    alloc: Global,
+    at: &Placement<'_>,
+    dropped: &mut Vec<DroppedRegion>,
+) -> Result<(), Memory>
     ensures { OnOk result (dropped.new.items ≡ dropped.old.items ++ regions_at (placement at.now)) }
 {
     let file = file_of(at.visit.place)?;
-    for one in &at.visit.written.dropped {
+    let regions = dropped_in(alloc, at.visit.written)?;
+    for one in &regions {
         let spot = Spot { file, at: one.at };
         dropped.push(DroppedRegion {
             kind: one.kind,
@@ -99,7 +105,7 @@ fn regions_of(alloc: Global, placements: &[Placement<'_>]) -> Result<Vec<Dropped
 {
     let mut made = Vec::new(alloc);
     for at in placements {
-        push_regions(at, &mut made)?;
+        push_regions(alloc, at, &mut made)?;
     }
     Ok(made)
 }

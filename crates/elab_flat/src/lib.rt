@@ -3,4 +3,5 @@
 
 pub mod flat;
 pub mod links;
+mod regions;
 pub mod works;

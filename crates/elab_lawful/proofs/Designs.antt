@@ -20,6 +20,7 @@ use Rattle.elab_items.proofs.Places.{AreWide, Stands}
 use Rattle.elab_walk.specs.declared.room.Room.{Room}
 use Rattle.elab_walk.specs.Rooms.{room_after, whole_room}
 use Rattle.elab_walk.specs.Placements.{Placement, home_of, instance_of, region, regions_at, signals_at, placements}
+use Rattle.elab_walk.specs.Regions.{dropped_in}
 use Rattle.elab_walk.specs.Visits.{Library, Visit, all_visits, visits}
 use Rattle.elab_flat.specs.Flats.{flat_of}
 use Rattle.elab_flat.specs.Works.{no_works, with_placements}
@@ -72,7 +73,7 @@ each_region count n b (v ∷ vs) inside =
     let placement : Placement = record { visit = v; number = n; base = b } in
     let own : n < count = omega arith in
     let less : n + 1 + length vs ≤ count = omega arith in
-    All-append (IsRegionOf count) (regions_at placement) (flat_map regions_at (placements (n + 1) (behind_first v b) vs)) (own_regions count placement v.circuit.dropped own) (each_region count (n + 1) (behind_first v b) vs less)
+    All-append (IsRegionOf count) (regions_at placement) (flat_map regions_at (placements (n + 1) (behind_first v b) vs)) (own_regions count placement (dropped_in v.circuit) own) (each_region count (n + 1) (behind_first v b) vs less)
 
 -- ---- what the names of each instance stand for
 

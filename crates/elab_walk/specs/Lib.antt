@@ -1,6 +1,7 @@
 pub mod Leavings
-pub mod Refusals
-pub mod Rooms
 pub mod Placements
+pub mod Refusals
+pub mod Regions
+pub mod Rooms
 pub mod Trails
 pub mod Visits

@@ -7,6 +7,7 @@ use Rattle.rtl_flat.specs.declared.signal.Signal.{Signal}
 use Rattle.elab_scope.specs.Trees.{spot_in}
 use Rattle.elab_items.specs.Scopes.{listings_of}
 use Rattle.elab_items.specs.Signals.{Home, signals_in}
+use Rattle.elab_walk.specs.Regions.{dropped_in}
 use Rattle.elab_walk.specs.Visits.{Visit}
 
 -- an instance, its number, and how many signals come before its own
@@ -45,6 +46,6 @@ abbrev pub region : Placement → Dropped → DroppedRegion
 region placement dropped =
     record { kind = dropped.kind; instance = placement.number; spot = spot_in placement.visit.place.file dropped.at }
 
--- the regions of its module that have no meaning
+-- what synthesis doesn't see of its module
 abbrev pub regions_at : Placement → List DroppedRegion
-regions_at placement = map (region placement) placement.visit.circuit.dropped
+regions_at placement = map (region placement) (dropped_in placement.visit.circuit)
