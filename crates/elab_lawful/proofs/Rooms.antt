@@ -1,5 +1,5 @@
 -- Where nothing is told of instances, each has room in the design.
-use Rattle.std.specs.Prelude.{ℕ, ◌+◌, ◌-◌, ◌<◌, ◌≤◌, nat_lt, Bool, true, false, List, [], ◌∷◌, ◌++◌, length, Option, None, Some}
+use Rattle.std.specs.Prelude.{ℕ, ◌+◌, ◌-◌, ◌<◌, ◌≤◌, nat_lt, nat_le, ◌&&◌, Bool, true, false, List, [], ◌∷◌, ◌++◌, length, Option, None, Some}
 use Rattle.std.specs.List.{flat_map, slice_get}
 use Rattle.std.specs.Option.{option_map}
 use Rattle.std.proofs.Common.{◌≡◌, ap, refl, arith, length-append}
@@ -14,7 +14,7 @@ use Rattle.elab_items.specs.Signals.{signal_in}
 use Rattle.elab_items.proofs.Law.{few_enough}
 use Rattle.elab_walk.specs.declared.room.Room.{Room}
 use Rattle.elab_walk.specs.Refusals.{own_faults, refusal, told_first, told_of, told_where}
-use Rattle.elab_walk.specs.Rooms.{process_faults, process_places, room_after, surplus, visit_steps}
+use Rattle.elab_walk.specs.Rooms.{has_room, parameter_count, process_faults, process_places, room_after, surplus, visit_steps}
 use Rattle.elab_walk.specs.Placements.{Placement, home_of, signals_at, placements}
 use Rattle.elab_walk.specs.Visits.{Library, Visit}
 use Rattle.elab_walk.proofs.Leaving.{nothing_told}
@@ -48,10 +48,14 @@ no_surplus : (place : Option ℕ) → surplus place ≡ [] → place ≡ None
 no_surplus None h = refl
 no_surplus (Some at) h = absurd (no_cons _ _ h)
 
+first_holds : (a b : Bool) → a && b ≡ true → a ≡ true
+first_holds true b h = refl
+first_holds false b h = absurd cc
+
 clean_one : (library : Library) (room : Room) (v : Visit) → told_of library room v ≡ None → IsClean library room v
 clean_one library room v h =
-    let both = none_where (nat_lt room.number 20000) v (own_faults library room v) h in
-    let few : nat_lt room.number 20000 ≡ true = both.0 in
+    let both = none_where (has_room room v.circuit) v (own_faults library room v) h in
+    let few : nat_lt room.number 20000 ≡ true = first_holds (nat_lt room.number 20000) (nat_le (parameter_count v.circuit) room.parameters) both.0 in
     let declared : List Refusal = declaration_faults v.settings room.base v.circuit in
     let found : List Refusal = checked room.left.statements room.left.delays (visit_steps library v) in
     let over : List Refusal = process_faults room.processes (process_places v.circuit.items) in

@@ -4,9 +4,10 @@ use Rattle.std.proofs.Common.{◌≡◌, refl}
 use Rattle.rtl_tree.specs.declared.text.Spot.{Spot}
 use Rattle.rtl_tree.specs.declared.tree.item.Direction.{Direction}
 use Rattle.rtl_tree.specs.declared.tree.item.Direction.TheVariants.{Input, Output}
+use Rattle.rtl_tree.specs.declared.tree.item.ParameterKind.TheVariants.{Local}
 use Rattle.rtl_tree.specs.TreeExpr.{Identifier, Read}
 use Rattle.rtl_tree.specs.TreeStmt.{Whole}
-use Rattle.rtl_tree.specs.TreeItem.{ModuleItem, Drives, Instances, ByName}
+use Rattle.rtl_tree.specs.TreeItem.{ModuleItem, Drives, Instances, Parameters, ByName}
 use Rattle.rtl_tree.specs.TreeModule.{Circuit, HeaderPort, Declared}
 use Rattle.elab_scope.specs.Faults.{InstanceLoop, Named, NoSuchModule, Placed, TooLarge, Undeclared}
 use Rattle.elab_items.specs.Settings.{no_settings}
@@ -67,16 +68,28 @@ nothing : refusal two whole_room met ≡ None
 nothing = refl
 
 -- one instance too many is told where its module is named
-crowded : refusal two (record { base = 0; number = 19999; processes = 20000; left = record { statements = 9; delays = 9 } }) met ≡ Some (Placed TooLarge (record { file = 0; at = 20 }))
+crowded : refusal two (record { base = 0; number = 19999; processes = 20000; left = record { statements = 9; delays = 9 }; parameters = 9 }) met ≡ Some (Placed TooLarge (record { file = 0; at = 20 }))
 crowded = refl
 
 -- one process too many, at its place
-busy : refusal two (record { base = 0; number = 0; processes = 2; left = record { statements = 9; delays = 9 } }) met ≡ Some (Placed TooLarge (record { file = 0; at = 127 }))
+busy : refusal two (record { base = 0; number = 0; processes = 2; left = record { statements = 9; delays = 9 }; parameters = 9 }) met ≡ Some (Placed TooLarge (record { file = 0; at = 127 }))
 busy = refl
 
 -- one signal too many
-wide : refusal two (record { base = 19997; number = 0; processes = 9; left = record { statements = 9; delays = 9 } }) met ≡ Some (Placed TooLarge (record { file = 0; at = 112 }))
+wide : refusal two (record { base = 19997; number = 0; processes = 9; left = record { statements = 9; delays = 9 }; parameters = 9 }) met ≡ Some (Placed TooLarge (record { file = 0; at = 112 }))
 wide = refl
+
+-- t, which holds as u a module with a localparam
+abbrev counted : Circuit
+counted =
+    with_items 108 100 (Parameters 120 Local None (record { name = named 76 122; value = Read (named 76 122) } ∷ []) ∷ [])
+
+abbrev with_one : Library
+with_one = library_of (with_items 116 0 (holds 108 ∷ []) ∷ counted ∷ [])
+
+-- one parameter too many is told where the module of its instance is named
+loaded : refusal with_one (record { base = 0; number = 0; processes = 9; left = record { statements = 9; delays = 9 }; parameters = 0 }) (visits with_one 2 (top with_one (with_items 116 0 (holds 108 ∷ [])))) ≡ Some (Placed TooLarge (record { file = 0; at = 20 }))
+loaded = refl
 
 -- a module that isn't there is told without a place
 lost : refusal (library_of []) whole_room (visits (library_of []) 2 (top two (with_items 116 0 (holds 108 ∷ [])))) ≡ Some (Named (NoSuchModule (108 ∷ [])))

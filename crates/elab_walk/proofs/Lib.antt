@@ -3,4 +3,5 @@ mod Examples
 pub mod Leaving
 pub mod Rows
 pub mod Seeking
+pub mod Sparing
 pub mod Telling

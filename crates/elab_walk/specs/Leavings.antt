@@ -13,11 +13,16 @@ abbrev pub left_or : Option Left → Left → Left
 left_or None former = former
 left_or (Some left) former = left
 
-abbrev pub behind : Room → ℕ → Option Left → Seek → Room
-behind room signals left seek =
+abbrev pub spare_or : Option ℕ → ℕ
+spare_or None = 0
+spare_or (Some left) = left
+
+abbrev pub behind : Room → ℕ → Option Left → Seek → Option ℕ → Room
+behind room signals left seek spare =
     record {
       base = min (room.base + min signals 20000) 65535;
       number = room.number + 1;
       processes = most_of seek;
       left = left_or left room.left;
+      parameters = spare_or spare;
     }

@@ -1,11 +1,11 @@
 -- Why a design isn't elaborated: the first instance at fault, and the least of its faults.
-use Rattle.std.specs.Prelude.{ℕ, nat_lt, Bool, true, false, List, [], ◌∷◌, ◌++◌, Option, None, Some}
+use Rattle.std.specs.Prelude.{ℕ, Bool, true, false, List, [], ◌∷◌, ◌++◌, Option, None, Some}
 use Rattle.std.specs.Option.{option_map}
 use Rattle.elab_scope.specs.Faults.{Answer, Named, Placed, Memory, Refusal, TooLarge, least, located}
 use Rattle.elab_body.specs.Steps.{checked}
 use Rattle.elab_items.specs.Scopes.{declaration_faults}
 use Rattle.elab_walk.specs.declared.room.Room.{Room}
-use Rattle.elab_walk.specs.Rooms.{process_faults, process_places, room_after, visit_steps}
+use Rattle.elab_walk.specs.Rooms.{has_room, process_faults, process_places, room_after, visit_steps}
 use Rattle.elab_walk.specs.Visits.{Library, Visit}
 
 -- the faults of an instance: of its declarations, of its items up to the statement or the delay that is one too many,
@@ -16,14 +16,15 @@ own_faults library room v =
     ++ checked room.left.statements room.left.delays (visit_steps library v)
     ++ process_faults room.processes (process_places v.circuit.items)
 
--- an instance that is one too many is told where its module is named, and nothing in it counts
+-- an instance that is one too many, or whose parameters are too many, is told where its module is named, and nothing in
+-- it counts
 abbrev pub told_where : Bool → Visit → List Refusal → Option Answer
 told_where false v faults = Some (Placed TooLarge v.spot)
 told_where true v faults = option_map (located v.place.file) (least faults)
 
 -- what is told of an instance
 abbrev pub told_of : Library → Room → Visit → Option Answer
-told_of library room v = told_where (nat_lt room.number 20000) v (own_faults library room v)
+told_of library room v = told_where (has_room room v.circuit) v (own_faults library room v)
 
 abbrev pub told_first : Option Answer → Option Answer → Option Answer
 told_first None later = later

@@ -1,8 +1,9 @@
 -- How far instances go towards the limits on the size of a design.
-use Rattle.std.specs.Prelude.{ℕ, zero, suc, ◌+◌, ◌-◌, List, [], ◌∷◌, ◌++◌, length, Option, None, Some}
+use Rattle.std.specs.Prelude.{ℕ, zero, suc, ◌+◌, ◌-◌, nat_le, nat_lt, Bool, ◌&&◌, if◌then◌else◌, List, [], ◌∷◌, ◌++◌, length, Option, None, Some}
 use Rattle.std.specs.List.{slice_get}
 use Rattle.rtl_tree.specs.TreeExpr.{Formula}
 use Rattle.rtl_tree.specs.TreeItem.{ModuleItem, Ports, Nets, Variables, Integers, Parameters, Drives, Always, Instances, Association, ByPosition, ByName, Associated, Positional, Instantiation}
+use Rattle.rtl_tree.specs.TreeModule.{Circuit}
 use Rattle.elab_scope.specs.Faults.{Refusal, TooLarge}
 use Rattle.elab_scope.specs.Names.{Meanings}
 use Rattle.elab_scope.specs.Rules.{fault}
@@ -72,9 +73,35 @@ parts_steps library way scope (first ∷ others) =
 abbrev pub visit_steps : Library → Visit → List Step
 visit_steps library v = parts_steps library v.way (scope_in v) v.circuit.items
 
+-- ---- parameters
+
+-- each `parameter` and `localparam` of an item
+abbrev pub item_parameters : ModuleItem → ℕ
+item_parameters (Parameters at kind bounds values) = length values
+item_parameters (Ports head names) = 0
+item_parameters (Nets at signed bounds nets) = 0
+item_parameters (Variables at signed bounds variables) = 0
+item_parameters (Integers at names) = 0
+item_parameters (Drives at pause drives) = 0
+item_parameters (Always at sensitivity body) = 0
+item_parameters (Instances child parameters instantiations) = 0
+
+abbrev pub items_parameters : List ModuleItem → ℕ
+items_parameters [] = 0
+items_parameters (first ∷ others) = item_parameters first + items_parameters others
+
+-- those of a module's head and of its items
+abbrev pub parameter_count : Circuit → ℕ
+parameter_count circuit = length circuit.parameters + items_parameters circuit.items
+
+-- how many of so many are left behind a number of them; none where there are fewer
+abbrev pub spared : ℕ → ℕ → Option ℕ
+spared most count = if nat_le count most then Some (most - count) else None
+
 -- ---- limits
 
--- a design has at most 20,000 instances, 20,000 signals, 20,000 processes, 100,000 statements and 100,000 delays
+-- a design has at most 20,000 instances, 200,000 parameters in all of them, 20,000 signals, 20,000 processes, 100,000
+-- statements and 100,000 delays
 abbrev pub whole_room : Room
 whole_room =
     record {
@@ -82,6 +109,7 @@ whole_room =
       processes = 20000;
       left = record { statements = 100000; delays = 100000 };
       number = 0;
+      parameters = 200000;
     }
 
 -- what an instance leaves
@@ -95,7 +123,13 @@ room_after library room v =
         delays = room.left.delays - length (delays_of (visit_steps library v));
       };
       number = room.number + 1;
+      parameters = room.parameters - parameter_count v.circuit;
     }
+
+-- whether a design has room for one instance more, of this module
+abbrev pub has_room : Room → Circuit → Bool
+has_room room circuit =
+    nat_lt room.number 20000 && nat_le (parameter_count circuit) room.parameters
 
 -- a process that is one too many
 abbrev pub surplus : Option ℕ → List Refusal

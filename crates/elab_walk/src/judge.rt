@@ -16,6 +16,7 @@ ghost use Rattle.elab_walk.specs.Visits.{library, scope_in, visit};
 ghost use Rattle.elab_scope.specs.Faults.{least};
 
 use crate::library::Library;
+use crate::parameters::spare;
 use crate::places::{Seek, seek_all};
 use crate::room::Room;
 use crate::visit::Visit;
@@ -139,11 +140,12 @@ pub fn judge_visit<'a>(
     let items = met.written.items.as_slice();
     let judged = judge_parts(alloc, all, way, items, &mut names, so_far)?;
     let seek = seek_all(items, Seek::Left(room.processes));
+    let spare = spare(met.written, room.parameters);
     let listed = declared.signals.as_slice();
     let signals = listed.len();
     Ok(Judged {
         names,
         best: judge_surplus(seek, judged.best),
-        room: room.behind(signals, judged.left, seek),
+        room: room.behind(signals, judged.left, seek, spare),
     })
 }

@@ -3,6 +3,7 @@
 
 pub mod judge;
 pub mod library;
+pub mod parameters;
 pub mod places;
 pub mod room;
 pub mod top;

@@ -38,6 +38,7 @@ fn whole_room() -> Room
             statements: 100_000,
             delays: 100_000,
         },
+        parameters: 200_000,
     }
 }
 

@@ -8,12 +8,14 @@ ghost use Rattle.elab_scope.specs.Faults.{answer, located, refusal};
 ghost use Rattle.elab_scope.specs.Names.{meanings};
 ghost use Rattle.elab_links.specs.Groups.{group, group_of};
 ghost use Rattle.elab_walk.specs.Refusals.{told_of};
-ghost use Rattle.elab_walk.specs.Rooms.{room_after};
+ghost use Rattle.rtl_tree.specs.TreeModule.{circuit};
+ghost use Rattle.elab_walk.specs.Rooms.{has_room, room_after};
 ghost use Rattle.elab_walk.specs.Trails.{Going, IsTold, Went, followed, gone, trail};
 ghost use Rattle.elab_walk.specs.Visits.{child_of, children, holder, item_children, library, placed_children, scope_in, visit, visits};
 
 use crate::judge::{Judged, judge_visit};
 use crate::library::Library;
+use crate::parameters::spare;
 use crate::room::Room;
 use crate::trail::{Placement, Trail};
 use crate::visit::{Holder, Visit, file_of};
@@ -23,6 +25,7 @@ use elab_scope::fault::{ElabFault, Fault};
 use elab_scope::names::Names;
 use rtl_tree::memory::Memory;
 use rtl_tree::tree::item::{Instance, Item};
+use rtl_tree::tree::modules::Module;
 use std::alloc::Global;
 
 /// The most instances of a design.
@@ -50,6 +53,14 @@ struct Left {
     room: Room,
 }
 
+/// Whether a design has room for one instance more, of this module.
+#[tactic(auto, using(crate::proofs::Sparing::some_spared))]
+fn has_room(room: Room, written: &Module) -> bool
+    ensures { result ≡ has_room room (circuit written.now) }
+{
+    room.number < INSTANCES && spare(written, room.parameters).is_some()
+}
+
 /// An instance of which nothing is told.
 fn pass<'a>(alloc: Global, all: Library<'a>, met: &Visit<'a>, room: Room) -> Result<Left, ElabFault>
     ensures names { IfOk result (λ left. meanings left.names ≡ scope_in (visit met.now)) }
@@ -57,7 +68,7 @@ fn pass<'a>(alloc: Global, all: Library<'a>, met: &Visit<'a>, room: Room) -> Res
     ensures room { IfOk result (λ left. left.room ≡ room_after (library all.entry) room (visit met.now)) }
     ensures told { IfErr result (λ error. IsTold (answer error) (told_of (library all.entry) room (visit met.now))) }
 {
-    if room.number >= INSTANCES {
+    if !has_room(room, met.written) {
         return Err(ElabFault::TooLarge(met.spot));
     }
     match judge_visit(alloc, all, met, room) {

@@ -1,0 +1,10 @@
+use Rattle.std.proofs.Common.{◌≡◌, map, drop}
+use Rattle.rtl_tree.specs.TreeItem.{module_item}
+use Rattle.rtl_tree.specs.TreeModule.{circuit}
+use Rattle.elab_walk.specs.Rooms.{items_parameters, parameter_count, spared}
+use Rattle.elab_walk.proofs.parameters.spare.Given as goal
+
+abbrev pub invariant-loop-item : goal.invariant-loop-item
+invariant-loop-item l =
+    spared l.left (items_parameters (map module_item (drop l.item-index l.written.items.items)))
+    ≡ spared l.most (parameter_count (circuit l.written))
