@@ -1,9 +1,10 @@
 -- The rows of the level graph, from what each process adds to them.
-use Rattle.std.proofs.Common.{ℕ, zero, suc, ◌≡◌, ◌∙◌, ◌<◌, ◌+◌, ◌^◌, arith, Bool, true, false, List, [], ◌∷◌, ◌++◌, map, length, get_or, Option, Some, None, refl, sym, ap, subst, inl, inr}
+use Rattle.std.proofs.Common.{ℕ, zero, suc, ◌≡◌, ◌∙◌, ◌<◌, ◌≤◌, ◌+◌, replicate, ◌^◌, arith, Bool, true, false, List, [], ◌∷◌, ◌++◌, map, length, get_or, Option, Some, None, refl, sym, ap, subst, inl, inr}
 use Rattle.std.specs.Prelude.{Vec, ◌⊎◌, ◌↔◌}
 use Rattle.std.specs.declared.alloc.Global.{Global}
 use Rattle.std.specs.List.{slice_get}
 use Rattle.std.specs.Option.{IsSomeAnd}
+use Rattle.std.proofs.lemmas.Bool.{cases_eq}
 use Rattle.std.proofs.lemmas.Option.{slice_get_within, slice_get_read}
 use Rattle.std.proofs.lemmas.List.{length-append, get_or_append_left, get_or_push, get_or_default}
 use Rattle.rtl_flat.specs.declared.signal.Signal.{Signal}
@@ -17,117 +18,149 @@ use Rattle.rtl_flat.proofs.Paths.{decided}
 use Rattle.rtl_flat.specs.declared.act.Process.{Process}
 use Rattle.rtl_scan.proofs.Processes.{below_next, there, back, length-tasks}
 use Rattle.rtl_scan.specs.Graph.{row, ArrowIn, AreRows, AreDepths}
-use Rattle.rtl_scan.specs.Arrows.{Among, InTable, Grows, IsNotedAt, MayCome, ArePulled, place_of, IsPlaceOf, AddsPlaces, is_node, WritesPlace, IsNoted, IsWritten, AreWriters, Waits, IsFed, Feeds, AreFed, AreArrows, level_of, AreKept, AreLevels}
-use Rattle.rtl_scan.proofs.Tables.{grows_none, grows_same, grows_then, among_at}
-
-same_places : (a b : BitSet) → ((s k : ℕ) → a s k ≡ b s k) → (x : ℕ) → IsPlaceOf a x → IsPlaceOf b x
-same_places a b same x (s, k, less, is, bit) = (s, k, less, is, sym (same s k) ∙ bit)
-
--- places of a set of bits
-among_places : (rows bits : BitSet) (places : List ℕ) → AddsPlaces rows [] places → ((s k : ℕ) → rows s k ≡ bits s k) → (x : ℕ) → Among places x ↔ IsPlaceOf bits x
-among_places rows bits places h same x = (
-  λ i. elim ((h.each x).0 i) [ inl none ↦ absurd none | inr one ↦ same_places rows bits same x one ],
-  λ i. (h.each x).1 (inr (same_places bits rows (λ s k. sym (same s k)) x i)),
-)
+use Rattle.rtl_scan.specs.declared.bits.Row.{Row}
+use Rattle.rtl_scan.specs.declared.arrows.Writer.{Writer}
+use Rattle.rtl_scan.specs.declared.arrows.Feeders.{Feeders}
+use Rattle.rtl_scan.specs.Sets.{has_rows}
+use Rattle.rtl_scan.specs.Arrows.{Among, InTable, Grows, IsNotedAt, MayCome, FedBy, AreSeen, Gathers, is_node, IsWriting, IsNoted, AreWriters, Waits, IsFed, AreFeeders, AreFed, AreArrows, level_of, AreKept, AreLevels}
+use Rattle.rtl_scan.proofs.Tables.{grows_none, grows_same, gathers_none, gathers_then, among_at}
 
 not_node : (b : Bool) → b ≡ false → b ≡ true → ⊥
 not_node true h e = cc
 not_node false h e = cc
 
-module _ (ws : ℕ → ℕ) (task : Task) (number : ℕ) where
-  pub no_writes : (node : Bool) → node ≡ is_node task.does → node ≡ false → (table : List (Vec ℕ Global)) → IsWritten ws task number table table
-  no_writes node is none table = record {
-    grows = grows_none (IsNoted ws task number) table (λ p x h. not_node node none (is ∙ h.0.0));
-    small = λ e s k bit. absurd (not_node node none (is ∙ e));
-  }
+module _ (ws : ℕ → ℕ) (task : Task) where
+  pub no_writes : (number : ℕ) (node : Bool) → node ≡ is_node task.does → node ≡ false → (table : List (Vec Writer Global)) → Grows (IsNoted ws task number) table table
+  no_writes number node is none table =
+      grows_none (IsNoted ws task number) table (λ p s k h. not_node node none (is ∙ h.0.0))
 
-  pub writes_noted : (node : Bool) → node ≡ is_node task.does → node ≡ true → (rows : BitSet) (places : List ℕ) → AddsPlaces rows [] places → ((s k : ℕ) → rows s k ≡ may_write (flow_of ws task.does) s k) → (slice : List ℕ) → slice ≡ places → (old new : List (Vec ℕ Global)) → Grows (IsNotedAt slice number) old new → IsWritten ws task number old new
-  writes_noted node is some rows places h same slice there old new grows =
-      let at = among_places rows (may_write (flow_of ws task.does)) places h same in record {
-        small = λ e s k bit. h.small s k (same s k ∙ bit);
-        grows = grows_same (IsNotedAt slice number) (IsNoted ws task number) old new (λ p x. (
-          λ i. ((sym is ∙ some, (at x).0 (subst (λ (xs : List ℕ). Among xs x) there i.0)), i.1),
-          λ i. (subst (λ (xs : List ℕ). Among xs x) (sym there) ((at x).1 i.0.1), i.1),
-        )) grows;
-      }
+  pub writes_noted : (number : ℕ) (node : Bool) → node ≡ is_node task.does → node ≡ true → (rows slice : List Row) → slice ≡ rows → ((s k : ℕ) → has_rows rows s k ≡ may_write (flow_of ws task.does) s k) → (old new : List (Vec Writer Global)) → Grows (IsNotedAt slice number) old new → Grows (IsNoted ws task number) old new
+  writes_noted number node is some rows slice there same old new grows =
+      grows_same (IsNotedAt slice number) (IsNoted ws task number) old new (λ p s k.
+      let at : has_rows slice s k ≡ may_write (flow_of ws task.does) s k
+      = ap (λ xs. has_rows xs s k) there ∙ same s k in (
+        λ i. ((sym is ∙ some, sym at ∙ i.0), i.1),
+        λ i. (at ∙ i.0.1, i.1),
+      )) grows
 
-  pub no_feeds : (table : List (Vec ℕ Global)) (node : Bool) → node ≡ is_node task.does → node ≡ false → (rows : List (Vec ℕ Global)) → Grows (Feeds ws table task number) rows rows
-  no_feeds table node is none rows =
-      grows_none (Feeds ws table task number) rows (λ p q h. not_node node none (is ∙ h.1.0))
+  pub no_feeds : (table : List (Vec Writer Global)) (node : Bool) → node ≡ is_node task.does → node ≡ false → (found : Feeders) → Gathers (λ p. IsFed ws table p found.process task) found found
+  no_feeds table node is none found =
+      gathers_none (λ p. IsFed ws table p found.process task) found (λ p h. not_node node none (is ∙ h.0))
 
-  pub feeds_noted : (table : List (Vec ℕ Global)) (node : Bool) → node ≡ is_node task.does → node ≡ true → (a b : BitSet) (reads lists : List ℕ) → AddsPlaces a [] reads → AddsPlaces b [] lists → ((s k : ℕ) → a s k ≡ reads_outside (flow_of ws task.does) s k) → ((s k : ℕ) → b s k ≡ listed ws task.does s k) → (slice slice' : List ℕ) → slice ≡ reads → slice' ≡ lists → (old mid new : List (Vec ℕ Global)) → Grows (ArePulled number true table slice) old mid → Grows (ArePulled number false table slice') mid new → Grows (Feeds ws table task number) old new
-  feeds_noted table node is some a b reads lists ha hb sa sb slice slice' there there' old mid new one two =
-      let at = among_places a (reads_outside (flow_of ws task.does)) reads ha sa in
-      let at' = among_places b (listed ws task.does) lists hb sb in
-      let is_one = sym is ∙ some in
-      grows_then (ArePulled number true table slice) (ArePulled number false table slice') (Feeds ws table task number) old mid new (λ p q. (
+  pub feeds_noted : (table : List (Vec Writer Global)) (node : Bool) → node ≡ is_node task.does → node ≡ true → (reads lists slice slice' : List Row) → slice ≡ reads → slice' ≡ lists → ((s k : ℕ) → has_rows reads s k ≡ reads_outside (flow_of ws task.does) s k) → ((s k : ℕ) → has_rows lists s k ≡ listed ws task.does s k) → (old mid new : Feeders) → Gathers (FedBy table (has_rows slice) true old.process) old mid → Gathers (FedBy table (has_rows slice') false mid.process) mid new → Gathers (λ p. IsFed ws table p old.process task) old new
+  feeds_noted table node is some reads lists slice slice' there there' sa sb old mid new one two =
+      let at : (s k : ℕ) → has_rows slice s k ≡ reads_outside (flow_of ws task.does) s k
+      = λ s k. ap (λ xs. has_rows xs s k) there ∙ sa s k in
+      let at' : (s k : ℕ) → has_rows slice' s k ≡ listed ws task.does s k
+      = λ s k. ap (λ xs. has_rows xs s k) there' ∙ sb s k in
+      gathers_then (FedBy table (has_rows slice) true old.process) (FedBy table (has_rows slice') false mid.process) (λ p. IsFed ws table p old.process task) old mid new (λ p. (
         λ h. elim h [
-          | inl (e, (x, among, in_table), come) ↦ (e, (is_one, inl (x, (at x).0 (subst (λ (xs : List ℕ). Among xs x) there among), in_table)))
-          | inr (e, (x, among, in_table), come) ↦ (e, (is_one, inr ((x, (at' x).0 (subst (λ (xs : List ℕ). Among xs x) there' among), in_table), λ same. apart come (same ∙ e))))
+          | inl ((s, k, bit, writes), come) ↦ (sym is ∙ some, inl (s, k, sym (at s k) ∙ bit, writes))
+          | inr ((s, k, bit, writes), come) ↦ (sym is ∙ some, inr ((s, k, sym (at' s k) ∙ bit, writes), λ e. apart mid.process p come (e ∙ sym one.same)))
         ],
-        λ h. elim h.1.1 [
-          | inl (x, place, in_table) ↦ inl (h.0, (x, subst (λ (xs : List ℕ). Among xs x) (sym there) ((at x).1 place), in_table), inl refl)
-          | inr ((x, place, in_table), other) ↦ inr (h.0, (x, subst (λ (xs : List ℕ). Among xs x) (sym there') ((at' x).1 place), in_table), inr (λ same. other (same ∙ sym h.0)))
+        λ h. elim h.1 [
+          | inl (s, k, bit, writes) ↦ inl ((s, k, at s k ∙ bit, writes), inl refl)
+          | inr ((s, k, bit, writes), other) ↦ inr ((s, k, at' s k ∙ bit, writes), inr (λ e. other (e ∙ one.same)))
         ],
       )) one two
     where
-      apart : {p : ℕ} → MayCome false number p → p ≡ number → ⊥
-      apart {p} (inl e) same = cc
-      apart {p} (inr other) same = other same
+      apart : (q p : ℕ) → MayCome false q p → p ≡ q → ⊥
+      apart q p (inl e) same = cc
+      apart q p (inr other) same = other same
 
-no_row : (p x : ℕ) → InTable [] p x → ⊥
-no_row p x h = h
+  -- from none
+  pub feeders_are : (table : List (Vec Writer Global)) (number : ℕ) (old new : Feeders) → old.process ≡ number → old.row.items ≡ [] → Gathers (λ p. IsFed ws table p old.process task) old new → AreFeeders ws table task number old.seen.items new
+  feeders_are table number old new is empty h = record {
+    each = λ most p. (
+      λ i. elim ((h.each (start most) p).0 i) [
+        | inl was ↦ absurd (subst (λ (xs : List ℕ). Among xs p) empty was)
+        | inr fed ↦ subst (λ (q : ℕ). IsFed ws table p q task) is fed
+      ],
+      λ fed. (h.each (start most) p).1 (inr (subst (λ (q : ℕ). IsFed ws table p q task) (sym is) fed)),
+    );
+    most = λ most p. subst (λ (q : ℕ). get_or new.seen.items p 0 ≤ q + 1) (h.same ∙ is) ((h.seen (start most)).most p);
+  }
+    where
+      start : ((p : ℕ) → get_or old.seen.items p 0 ≤ number) → AreSeen old
+      start most = record {
+        most = λ p. let fits = most p in omega arith;
+        there = λ p e. absurd (let fits = most p in omega arith);
+      }
 
-pub writers_none : (ws : ℕ → ℕ) (tasks : List Task) (table : List (Vec ℕ Global)) → table ≡ [] → AreWriters ws tasks 0 table
+pub writers_none : (ws : ℕ → ℕ) (tasks : List Task) (table : List (Vec Writer Global)) → table ≡ [] → AreWriters ws tasks 0 table
 writers_none ws tasks table empty = record {
-  each = λ p x. (
-    λ h. absurd (no_row p x (subst (λ (t : List (Vec ℕ Global)). InTable t p x) empty h)),
+  each = λ p s k. (
+    λ h. absurd (subst (λ (t : List (Vec Writer Global)). InTable t p s k) empty h),
     λ h. absurd (let less = h.0 in omega arith),
   );
-  small = λ p s k less h. absurd (omega arith);
 }
 
-pub writers_more : (ws : ℕ → ℕ) (tasks : List Task) (n : ℕ) (task : Task) → slice_get tasks n ≡ Some task → (old new : List (Vec ℕ Global)) → AreWriters ws tasks n old → IsWritten ws task n old new → AreWriters ws tasks (n + 1) new
-writers_more ws tasks n task at old new h w = record {
-  each = λ p x. (
-    λ i. elim ((w.grows.each p x).0 i) [
-      | inl was ↦ let (less, one) = (h.each p x).0 was in (omega arith, one)
-      | inr here ↦ (let e = here.1 in omega arith, subst (λ (j : ℕ). IsSomeAnd (slice_get tasks j) (WritesPlace ws x)) (sym here.1) (there (WritesPlace ws x) tasks n task at here.0))
+pub writers_more : (ws : ℕ → ℕ) (tasks : List Task) (n : ℕ) (task : Task) → slice_get tasks n ≡ Some task → (old new : List (Vec Writer Global)) → AreWriters ws tasks n old → Grows (IsNoted ws task n) old new → AreWriters ws tasks (n + 1) new
+writers_more ws tasks n task at old new h grows = record {
+  each = λ p s k. (
+    λ i. elim ((grows.each p s k).0 i) [
+      | inl was ↦ let (less, one) = (h.each p s k).0 was in (omega arith, one)
+      | inr here ↦ (let e = here.1 in omega arith, subst (λ (j : ℕ). IsSomeAnd (slice_get tasks j) (IsWriting ws s k)) (sym here.1) (there (IsWriting ws s k) tasks n task at here.0))
     ],
     λ i. elim (below_next p n i.0) [
-      | inl before ↦ (w.grows.each p x).1 (inl ((h.each p x).1 (before, i.1)))
-      | inr last ↦ (w.grows.each p x).1 (inr (back (WritesPlace ws x) tasks n p task at last i.1, last))
+      | inl before ↦ (grows.each p s k).1 (inl ((h.each p s k).1 (before, i.1)))
+      | inr last ↦ (grows.each p s k).1 (inr (back (IsWriting ws s k) tasks n p task at last i.1, last))
     ],
   );
-  small = λ p s k less i. elim (below_next p n less) [
-    | inl before ↦ h.small p s k before i
-    | inr last ↦ let (node, bit) = back (λ t. (is_node t.does ≡ true) × (may_write (flow_of ws t.does) s k ≡ true)) tasks n p task at last i in w.small node s k bit
-  ];
 }
 
-pub fed_none : (ws : ℕ → ℕ) (tasks : List Task) (table rows : List (Vec ℕ Global)) → rows ≡ [] → AreFed ws tasks table 0 rows
-fed_none ws tasks table rows empty = record {
-  each = λ p q. (
-    λ h. absurd (no_row p q (subst (λ (t : List (Vec ℕ Global)). InTable t p q) empty h)),
-    λ h. absurd (let less = h.0 in omega arith),
-  );
-  within = let none : length rows ≡ 0 = ap length empty in omega arith;
-}
+-- ---- rows that are pushed
 
-pub fed_more : (ws : ℕ → ℕ) (tasks : List Task) (table : List (Vec ℕ Global)) (n : ℕ) (task : Task) → slice_get tasks n ≡ Some task → (old new : List (Vec ℕ Global)) → AreFed ws tasks table n old → Grows (Feeds ws table task n) old new → AreFed ws tasks table (n + 1) new
-fed_more ws tasks table n task at old new h grows = record {
-  each = λ p q. (
-    λ i. elim ((grows.each p q).0 i) [
-      | inl was ↦ let (less, one) = (h.each p q).0 was in (omega arith, one)
-      | inr here ↦ (let e = here.0 in omega arith, subst (λ (j : ℕ). IsSomeAnd (slice_get tasks j) (IsFed ws table p q)) (sym here.0) (there (IsFed ws table p q) tasks n task at here.1))
-    ],
-    λ i. elim (below_next q n i.0) [
-      | inl before ↦ (grows.each p q).1 (inl ((h.each p q).1 (before, i.1)))
-      | inr last ↦ (grows.each p q).1 (inr (last, back (IsFed ws table p q) tasks n q task at last i.1))
-    ],
-  );
-  within = let old_within = h.within in grows.within (n + 1) (omega arith) (λ p q i. let e = i.0 in omega arith);
-}
+row_last : (rows : List (Vec ℕ Global)) (v : Vec ℕ Global) (q : ℕ) → q ≡ length rows → row (rows ++ v ∷ []) q ≡ v.items
+row_last [] v zero e = refl
+row_last [] v (suc q) e = absurd (omega arith)
+row_last (x ∷ rows) v zero e = absurd (omega arith)
+row_last (x ∷ rows) v (suc q) e = row_last rows v q (omega arith)
+
+row_other : (rows : List (Vec ℕ Global)) (v : Vec ℕ Global) (q : ℕ) → (q ≡ length rows → ⊥) → row (rows ++ v ∷ []) q ≡ row rows q
+row_other [] v zero other = absurd (other refl)
+row_other [] v (suc q) other = refl
+row_other (x ∷ rows) v zero other = refl
+row_other (x ∷ rows) v (suc q) other = row_other rows v q (λ e. other (ap suc e))
+
+zeros_most : (n x : ℕ) → get_or (replicate n 0) x 0 ≤ 0
+zeros_most zero x = omega arith
+zeros_most (suc n) zero = omega arith
+zeros_most (suc n) (suc x) = zeros_most n x
+
+pub fed_none : (ws : ℕ → ℕ) (tasks : List Task) (table : List (Vec Writer Global)) (rows : List (Vec ℕ Global)) (seen : List ℕ) (n : ℕ) → rows ≡ [] → seen ≡ replicate n 0 → AreFed ws tasks table 0 rows × ((p : ℕ) → get_or seen p 0 ≤ 0)
+fed_none ws tasks table rows seen n empty zeros = (
+  record {
+    each = λ p q. (
+      λ h. absurd (subst (λ (t : List (Vec ℕ Global)). Among (row t q) p) empty h),
+      λ h. absurd (let less = h.0 in omega arith),
+    );
+    same_length = ap length empty;
+  },
+  λ p. subst (λ (xs : List ℕ). get_or xs p 0 ≤ 0) (sym zeros) (zeros_most n p),
+)
+
+pub fed_more : (ws : ℕ → ℕ) (tasks : List Task) (table : List (Vec Writer Global)) (n : ℕ) (task : Task) → slice_get tasks n ≡ Some task → (old new : List (Vec ℕ Global)) (seen : List ℕ) (found : Feeders) → AreFed ws tasks table n old × ((p : ℕ) → get_or seen p 0 ≤ n) → AreFeeders ws table task n seen found → new ≡ old ++ found.row ∷ [] → AreFed ws tasks table (n + 1) new × ((p : ℕ) → get_or found.seen.items p 0 ≤ n + 1)
+fed_more ws tasks table n task at old new seen found (h, most) are pushed = (
+  record {
+    each = λ p q. elim (cases_eq q n) [
+      | inl e ↦
+          let is : row new q ≡ found.row.items
+          = ap (λ t. row t q) pushed ∙ row_last old found.row q (e ∙ sym h.same_length) in (
+            λ i. (omega arith, subst (λ (j : ℕ). IsSomeAnd (slice_get tasks j) (IsFed ws table p j)) (sym e) (there (IsFed ws table p n) tasks n task at ((are.each most p).0 (subst (λ (xs : List ℕ). Among xs p) is i)))),
+            λ i. subst (λ (xs : List ℕ). Among xs p) (sym is) ((are.each most p).1 (back (IsFed ws table p n) tasks n n task at refl (subst (λ (j : ℕ). IsSomeAnd (slice_get tasks j) (IsFed ws table p j)) e i.1))),
+          )
+      | inr other ↦
+          let is : row new q ≡ row old q
+          = ap (λ t. row t q) pushed ∙ row_other old found.row q (λ e. other (e ∙ h.same_length)) in (
+            λ i. let (less, one) = (h.each p q).0 (subst (λ (xs : List ℕ). Among xs p) is i) in (omega arith, one),
+            λ i. subst (λ (xs : List ℕ). Among xs p) (sym is) ((h.each p q).1 (let less = i.0 in omega arith, i.1)),
+          )
+    ];
+    same_length = ap length pushed ∙ length-append old (found.row ∷ []) ∙ ap (λ m. m + 1) h.same_length;
+  },
+  are.most most,
+)
 
 -- ---- arrows
 
@@ -153,32 +186,21 @@ out_of : (P : Task → Type 0) (o : Option Task) → IsSomeAnd o P → (t : Task
 out_of P None h = absurd h
 out_of P (Some t) h = (t, refl, h)
 
-module _ (signals : List Signal) (tasks : List Task) (table rows : List (Vec ℕ Global)) (w : AreWriters (width_in signals) tasks (length tasks) table) (each : (p q : ℕ) → InTable rows p q ↔ ((q < length tasks) × IsSomeAnd (slice_get tasks q) (IsFed (width_in signals) table p q))) where
+module _ (signals : List Signal) (tasks : List Task) (table : List (Vec Writer Global)) (rows : List (Vec ℕ Global)) (w : AreWriters (width_in signals) tasks (length tasks) table) (each : (p q : ℕ) → Among (row rows q) p ↔ ((q < length tasks) × IsSomeAnd (slice_get tasks q) (IsFed (width_in signals) table p q))) where
   abbrev ws : ℕ → ℕ
   ws = width_in signals
 
-  -- who writes what is waited for
-  writer : (p s k : ℕ) → k < 128 → InTable table p (place_of s k) → IsSomeAnd (slice_get tasks p) (λ t. (is_node t.does ≡ true) × (may_write (flow_of ws t.does) s k ≡ true))
-  writer p s k less h =
-      weaker (WritesPlace ws (place_of s k)) (λ t. (is_node t.does ≡ true) × (may_write (flow_of ws t.does) s k ≡ true)) (slice_get tasks p)
-      (λ t i. let (node, (s', k', less', is, bit)) = i in
-      let same_k : k' ≡ k = omega arith in
-      let same_s : s' ≡ s = omega arith in
-      (node, ap (λ j. may_write (flow_of ws t.does) j k) (sym same_s) ∙ ap (may_write (flow_of ws t.does) s') (sym same_k) ∙ bit))
-      ((w.each p (place_of s k)).0 h).1
-
   module _ (p q : ℕ) where
-    waits_arrow : (bits : BitSet) → Waits table bits p → (s k : ℕ) × (bits s k ≡ true) × IsSomeAnd (slice_get tasks p) (λ t. (is_node t.does ≡ true) × (may_write (flow_of ws t.does) s k ≡ true))
-    waits_arrow bits (x, (s, k, less, is, bit), in_table) =
-        (s, k, bit, writer p s k less (subst (λ (y : ℕ). InTable table p y) is in_table))
+    waits_arrow : (bits : BitSet) → Waits table bits p → (s k : ℕ) × (bits s k ≡ true) × IsSomeAnd (slice_get tasks p) (IsWriting ws s k)
+    waits_arrow bits (s, k, bit, writes) = (s, k, bit, ((w.each p s k).0 writes).1)
 
-    node_p : (s k : ℕ) → IsSomeAnd (slice_get tasks p) (λ t. (is_node t.does ≡ true) × (may_write (flow_of ws t.does) s k ≡ true)) → IsNode tasks p
-    node_p s k = weaker (λ t. (is_node t.does ≡ true) × (may_write (flow_of ws t.does) s k ≡ true)) (λ t. HasNoEdge t.does) (slice_get tasks p) (λ t i. edge_node t.does i.0)
+    node_p : (s k : ℕ) → IsSomeAnd (slice_get tasks p) (IsWriting ws s k) → IsNode tasks p
+    node_p s k = weaker (IsWriting ws s k) (λ t. HasNoEdge t.does) (slice_get tasks p) (λ t i. edge_node t.does i.0)
 
-    written_p : (s k : ℕ) → IsSomeAnd (slice_get tasks p) (λ t. (is_node t.does ≡ true) × (may_write (flow_of ws t.does) s k ≡ true)) → OfProcess MayWrite signals tasks p s k
-    written_p s k = weaker (λ t. (is_node t.does ≡ true) × (may_write (flow_of ws t.does) s k ≡ true)) (λ t. MayWrite (flow_of ws t.does) s k) (slice_get tasks p) (λ t i. (decided (flow_of ws t.does) s k).writes.0 i.1)
+    written_p : (s k : ℕ) → IsSomeAnd (slice_get tasks p) (IsWriting ws s k) → OfProcess MayWrite signals tasks p s k
+    written_p s k = weaker (IsWriting ws s k) (λ t. MayWrite (flow_of ws t.does) s k) (slice_get tasks p) (λ t i. (decided (flow_of ws t.does) s k).writes.0 i.1)
 
-    to_arrow : InTable rows p q → IsArrow signals tasks p q
+    to_arrow : Among (row rows q) p → IsArrow signals tasks p q
     to_arrow h =
         let (task, at, (node, wants)) = out_of (IsFed ws table p q) (slice_get tasks q) ((each p q).0 h).1 in
         let node_q : IsNode tasks q = there (λ t. HasNoEdge t.does) tasks q task at (edge_node task.does node) in
@@ -203,25 +225,22 @@ module _ (signals : List Signal) (tasks : List Task) (table rows : List (Vec ℕ
               }
         ]
 
-    of_arrow : IsArrow signals tasks p q → InTable rows p q
+    of_arrow : IsArrow signals tasks p q → Among (row rows q) p
     of_arrow a =
         let s = a.signal in
         let k = a.bit in
         let (writer', at_p, (edge_p, may)) = out_of (λ t. HasNoEdge t.does × MayWrite (flow_of ws t.does) s k) (slice_get tasks p) (both_hold (λ t. HasNoEdge t.does) (λ t. MayWrite (flow_of ws t.does) s k) (slice_get tasks p) a.«from» a.written) in
-        let node = node_edge writer'.does edge_p in
         let bit = (decided (flow_of ws writer'.does) s k).writes.1 may in
-        let below = slice_get_within tasks p writer' at_p in
-        let less : k < 128 = w.small p s k below (there (λ t. (is_node t.does ≡ true) × (may_write (flow_of ws t.does) s k ≡ true)) tasks p writer' at_p (node, bit)) in
-        let in_table : InTable table p (place_of s k) = (w.each p (place_of s k)).1 (below, there (WritesPlace ws (place_of s k)) tasks p writer' at_p (node, (s, k, less, refl, bit))) in
+        let in_table : InTable table p s k = (w.each p s k).1 (slice_get_within tasks p writer' at_p, there (IsWriting ws s k) tasks p writer' at_p (node_edge writer'.does edge_p, bit)) in
         let (reader, at_q, edge_q) = out_of (λ t. HasNoEdge t.does) (slice_get tasks q) a.to in
         let wants : Waits table (reads_outside (flow_of ws reader.does)) p ⊎ (Waits table (listed ws reader.does) p × (p ≡ q → ⊥))
         = elim a.wanted [
-          | inl reads ↦ inl (place_of s k, (s, k, less, refl, (decided (flow_of ws reader.does) s k).outside.1 (back (λ t. ReadsOutside (flow_of ws t.does) s k) tasks q q reader at_q refl reads)), in_table)
-          | inr (other, lists) ↦ inr ((place_of s k, (s, k, less, refl, back (λ t. listed ws t.does s k ≡ true) tasks q q reader at_q refl lists), in_table), other)
+          | inl reads ↦ inl (s, k, (decided (flow_of ws reader.does) s k).outside.1 (back (λ t. ReadsOutside (flow_of ws t.does) s k) tasks q q reader at_q refl reads), in_table)
+          | inr (other, lists) ↦ inr ((s, k, back (λ t. listed ws t.does s k ≡ true) tasks q q reader at_q refl lists, in_table), other)
         ] in
         (each p q).1 (slice_get_within tasks q reader at_q, there (IsFed ws table p q) tasks q reader at_q (node_edge reader.does edge_q, wants))
 
-  pub arrows_are : length rows ≡ length tasks → AreArrows signals tasks rows
+  arrows_are : length rows ≡ length tasks → AreArrows signals tasks rows
   arrows_are same = record {
     same_length = same;
     each = λ p q. (
@@ -230,16 +249,13 @@ module _ (signals : List Signal) (tasks : List Task) (table rows : List (Vec ℕ
     );
   }
 
-pub arrows_padded : (signals : List Signal) (tasks : List Task) (n : ℕ) (table slice rows padded : List (Vec ℕ Global)) → n ≡ length tasks → slice ≡ table → AreWriters (width_in signals) tasks n table → AreFed (width_in signals) tasks slice n rows → length padded ≡ n → ((q : ℕ) → row padded q ≡ row rows q) → AreArrows signals tasks padded
-arrows_padded signals tasks n table slice rows padded is there' w fed size same =
+pub arrows_fed : (signals : List Signal) (tasks : List Task) (n : ℕ) (table slice : List (Vec Writer Global)) → n ≡ length tasks → slice ≡ table → AreWriters (width_in signals) tasks n table → (rows : List (Vec ℕ Global)) → AreFed (width_in signals) tasks slice n rows → AreArrows signals tasks rows
+arrows_fed signals tasks n table slice is there' w rows fed =
     let all : AreWriters (width_in signals) tasks (length tasks) table
     = subst (λ (m : ℕ). AreWriters (width_in signals) tasks m table) is w in
     let fed' : AreFed (width_in signals) tasks table (length tasks) rows
-    = subst (λ (m : ℕ). AreFed (width_in signals) tasks table m rows) is (subst (λ (t : List (Vec ℕ Global)). AreFed (width_in signals) tasks t n rows) there' fed) in
-    arrows_are signals tasks table padded all (λ p q. (
-      λ h. (fed'.each p q).0 (subst (λ (xs : List ℕ). Among xs p) (same q) h),
-      λ h. subst (λ (xs : List ℕ). Among xs p) (sym (same q)) ((fed'.each p q).1 h),
-    )) (size ∙ is)
+    = subst (λ (m : ℕ). AreFed (width_in signals) tasks table m rows) is (subst (λ (t : List (Vec Writer Global)). AreFed (width_in signals) tasks t n rows) there' fed) in
+    arrows_are signals tasks table rows all fed'.each fed'.same_length
 
 pub rows_of_arrows : (signals : List Signal) (tasks : List Task) (rows : List (Vec ℕ Global)) → AreArrows signals tasks rows → length tasks < 2 ^ 32 → AreRows rows
 rows_of_arrows signals tasks rows h few = record {

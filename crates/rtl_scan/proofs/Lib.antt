@@ -14,6 +14,6 @@ pub mod Processes
 pub mod Chains
 pub mod Searches
 pub mod Users
-pub mod Advances
 pub mod Tables
+pub mod Advances
 pub mod Feeding

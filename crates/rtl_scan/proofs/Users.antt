@@ -1,6 +1,6 @@
 -- What is known of the processes that use a signal, from one process to the next.
-use Rattle.std.proofs.Common.{ℕ, zero, suc, ◌≡◌, ◌∙◌, ◌+◌, ◌/◌, ◌%◌, ◌<◌, ◌≤◌, arith, Bool, true, false, not, cond, ◌&&◌, ◌||◌, List, [], ◌∷◌, ◌++◌, map, length, drop, take, append-nil, get_or, set, Some, None, Option, refl, sym, ap, subst, inl, inr}
-use Rattle.std.specs.Prelude.{◌==◌, ◌⊎◌, ◌↔◌}
+use Rattle.std.proofs.Common.{ℕ, zero, suc, ◌≡◌, ◌∙◌, ◌+◌, ◌/◌, ◌%◌, ◌<◌, ◌≤◌, arith, Bool, true, false, not, cond, ◌&&◌, ◌||◌, List, [], ◌∷◌, ◌++◌, length, drop, take, append-nil, get_or, set, Some, None, Option, refl, sym, ap, subst, inl, inr}
+use Rattle.std.specs.Prelude.{◌==◌, ◌↔◌}
 use Rattle.std.specs.List.{slice_get}
 use Rattle.std.specs.Option.{IsSomeAnd}
 use Rattle.std.specs.BTreeMap.{BTreeMap}
@@ -13,7 +13,6 @@ use Rattle.rtl_flat.specs.declared.signal.Signal.{Signal}
 use Rattle.rtl_flat.specs.declared.signal.Kind.{Kind}
 use Rattle.rtl_flat.specs.declared.signal.Kind.TheVariants.{TopInput, Net, Var}
 use Rattle.rtl_flat.specs.Signs.{Has, width_in}
-use Rattle.rtl_flat.specs.declared.act.Process.{Process}
 use Rattle.rtl_flat.specs.Process.{Task, task}
 use Rattle.rtl_flat.specs.Paths.{BitSet, Flow, MayWriteLate, ReadsOutside, may_write, may_write_delayed, may_read, reads_outside}
 use Rattle.rtl_flat.specs.Flows.{flow_of}
@@ -58,8 +57,9 @@ some_one m some = some_within m m (omega arith) some
 abbrev AnyOf : BitSet → ℕ → Type 0
 AnyOf bits s = (k : ℕ) × (bits s k ≡ true)
 
-has_some_is : (masks : BTreeMap ℕ ℕ) (s : ℕ) → has_some masks s ≡ true ↔ AnyOf (has masks) s
-has_some_is masks s = (to (mask_of masks s), from (mask_of masks s))
+-- a mask that isn't 0 has a bit
+pub some_bit_is : (m : ℕ) → not (m == 0) ≡ true ↔ ((k : ℕ) × (is_one_at m k ≡ true))
+some_bit_is m = (to m, from m)
   where
     to : (m : ℕ) → not (m == 0) ≡ true → (k : ℕ) × (is_one_at m k ≡ true)
     to zero h = absurd (cc)
@@ -68,6 +68,9 @@ has_some_is masks s = (to (mask_of masks s), from (mask_of masks s))
     from : (m : ℕ) → (k : ℕ) × (is_one_at m k ≡ true) → not (m == 0) ≡ true
     from zero (k, one) = absurd (not_both (is_one_at 0 k) one (one_at-zero k))
     from (suc m) h = ap not (ne_eqb (suc m) 0 (λ e. omega arith))
+
+has_some_is : (masks : BTreeMap ℕ ℕ) (s : ℕ) → has_some masks s ≡ true ↔ AnyOf (has masks) s
+has_some_is masks s = some_bit_is (mask_of masks s)
 
 has_row_of_is : (rows : List Row) → IsInOrder rows → (s : ℕ) → has_row_of rows s ≡ true ↔ AnyOf (has_rows rows) s
 has_row_of_is rows order s = (to rows order, from rows)

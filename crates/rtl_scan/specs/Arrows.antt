@@ -1,5 +1,5 @@
--- Tables of numbers: a row for each number, with the numbers that were put into it.
-use Rattle.std.specs.Prelude.{ℕ, ◌≡◌, ◌<◌, ◌≤◌, ◌+◌, ◌*◌, ◌⊎◌, ◌↔◌, Bool, true, false, List, [], ◌∷◌, length, Vec, Option, Some, None, slice_index_or}
+-- The arrows of the level graph, from tables: who writes each signal, and who feeds each process.
+use Rattle.std.specs.Prelude.{ℕ, zero, suc, ◌≡◌, ◌<◌, ◌≤◌, ◌+◌, ◌⊎◌, ◌↔◌, Bool, true, false, not, ◌&&◌, ◌||◌, ◌==◌, bit_and, List, [], ◌∷◌, length, Vec, Option, Some, None, slice_index_or}
 use Rattle.std.specs.declared.alloc.Global.{Global}
 use Rattle.std.specs.List.{slice_get}
 use Rattle.std.specs.Option.{IsSomeAnd}
@@ -10,54 +10,77 @@ use Rattle.rtl_flat.specs.Paths.{BitSet, may_write, reads_outside}
 use Rattle.rtl_flat.specs.Flows.{flow_of}
 use Rattle.rtl_flat.specs.PathSets.{listed}
 use Rattle.rtl_flat.specs.Levels.{IsArrow, IsLevel}
+use Rattle.rtl_bits.specs.Bits.{is_one_at}
+use Rattle.rtl_scan.specs.declared.bits.Row.{Row}
+use Rattle.rtl_scan.specs.declared.arrows.Writer.{Writer}
+use Rattle.rtl_scan.specs.declared.arrows.Feeders.{Feeders}
+use Rattle.rtl_scan.specs.Sets.{has_rows}
 use Rattle.rtl_scan.specs.Graph.{row, ArrowIn}
 
 abbrev pub Among : List ℕ → ℕ → Type 0
 Among [] x = ⊥
 Among (y ∷ ys) x = (x ≡ y) ⊎ Among ys x
 
-abbrev pub InTable : List (Vec ℕ Global) → ℕ → ℕ → Type 0
-InTable table p b = Among (row table b) p
+-- ---- who writes bits of each signal
 
--- a table gets pairs besides its own, and no rows but for them
-pub record Grows (P : ℕ → ℕ → Type 0) (old new : List (Vec ℕ Global)) : Type 0 where
-  pub each : (p b : ℕ) → InTable new p b ↔ (InTable old p b ⊎ P p b)
-  pub longer : length old ≤ length new
-  pub within : (n : ℕ) → length old ≤ n → ((p b : ℕ) → P p b → b < n) → length new ≤ n
+-- the writers in the row of a signal
+abbrev pub bucket : List (Vec Writer Global) → ℕ → List Writer
+bucket [] s = []
+bucket (writers ∷ table) zero = writers.items
+bucket (writers ∷ table) (suc s) = bucket table s
 
-abbrev pub IsPut : ℕ → ℕ → ℕ → ℕ → Type 0
-IsPut place process p b = (b ≡ place) × (p ≡ process)
+-- a process writes a bit by one of some writers
+abbrev pub WritesIn : List Writer → ℕ → ℕ → Type 0
+WritesIn [] p k = ⊥
+WritesIn (writer ∷ writers) p k =
+    ((p ≡ writer.process) × (is_one_at writer.mask k ≡ true)) ⊎ WritesIn writers p k
 
--- a process is put into the rows of some places
-abbrev pub IsNotedAt : List ℕ → ℕ → ℕ → ℕ → Type 0
-IsNotedAt places process p b = Among places b × (p ≡ process)
+abbrev pub InTable : List (Vec Writer Global) → ℕ → ℕ → ℕ → Type 0
+InTable table p s k = WritesIn (bucket table s) p k
 
--- what one row has goes into another, but for its own number where that doesn't count
+-- a table gets writers besides its own
+pub record Grows (P : ℕ → ℕ → ℕ → Type 0) (old new : List (Vec Writer Global)) : Type 0 where
+  pub each : (p s k : ℕ) → InTable new p s k ↔ (InTable old p s k ⊎ P p s k)
+
+abbrev pub IsPut : ℕ → Writer → ℕ → ℕ → ℕ → Type 0
+IsPut place writer p s k = (s ≡ place) × (p ≡ writer.process) × (is_one_at writer.mask k ≡ true)
+
+-- a process is put into the rows of the signals of some rows
+abbrev pub IsNotedAt : List Row → ℕ → ℕ → ℕ → ℕ → Type 0
+IsNotedAt rows process p s k = (has_rows rows s k ≡ true) × (p ≡ process)
+
+-- ---- who feeds a process
+
+-- a process feeds another by what it writes, and itself where that counts
 abbrev pub MayCome : Bool → ℕ → ℕ → Type 0
 MayCome itself q p = (itself ≡ true) ⊎ (p ≡ q → ⊥)
 
-abbrev pub IsPulled : ℕ → Bool → List ℕ → ℕ → ℕ → Type 0
-IsPulled q itself bucket p b = (b ≡ q) × Among bucket p × MayCome itself q p
+abbrev pub comes : Writer → ℕ → Bool → ℕ → Bool
+comes writer mask itself q =
+    not (bit_and writer.mask mask == 0) && (itself || not (writer.process == q))
 
-abbrev pub PulledFrom : List (Vec ℕ Global) → List ℕ → ℕ → Type 0
-PulledFrom table places p = (x : ℕ) × Among places x × InTable table p x
+-- a process is one of some writers of bits in a mask
+abbrev pub MeetsIn : List Writer → ℕ → Bool → ℕ → ℕ → Type 0
+MeetsIn writers mask itself q p =
+    ((k : ℕ) × (is_one_at mask k ≡ true) × WritesIn writers p k) × MayCome itself q p
 
-abbrev pub ArePulled : ℕ → Bool → List (Vec ℕ Global) → List ℕ → ℕ → ℕ → Type 0
-ArePulled q itself table places p b =
-    (b ≡ q) × PulledFrom table places p × MayCome itself q p
+-- a process waits for a bit that another writes
+abbrev pub Waits : List (Vec Writer Global) → BitSet → ℕ → Type 0
+Waits table bits p = (s k : ℕ) × (bits s k ≡ true) × InTable table p s k
 
--- ---- bits as places
+abbrev pub FedBy : List (Vec Writer Global) → BitSet → Bool → ℕ → ℕ → Type 0
+FedBy table bits itself q p = Waits table bits p × MayCome itself q p
 
-abbrev pub place_of : ℕ → ℕ → ℕ
-place_of s k = s * 128 + k
+-- what is marked as seen is in the row, and no mark is for a later process
+pub record AreSeen (found : Feeders) : Type 0 where
+  pub most : (p : ℕ) → slice_index_or found.seen.items p 0 ≤ found.process + 1
+  pub there : (p : ℕ) → slice_index_or found.seen.items p 0 ≡ found.process + 1 → Among found.row.items p
 
-abbrev pub IsPlaceOf : BitSet → ℕ → Type 0
-IsPlaceOf bits x = (s k : ℕ) × (k < 128) × (x ≡ place_of s k) × (bits s k ≡ true)
-
--- places get those of some bits
-pub record AddsPlaces (bits : BitSet) (old new : List ℕ) : Type 0 where
-  pub each : (x : ℕ) → Among new x ↔ (Among old x ⊎ IsPlaceOf bits x)
-  pub small : (s k : ℕ) → bits s k ≡ true → k < 128
+-- processes are added to those that feed one
+pub record Gathers (P : ℕ → Type 0) (old new : Feeders) : Type 0 where
+  pub same : new.process ≡ old.process
+  pub seen : AreSeen old → AreSeen new
+  pub each : AreSeen old → (p : ℕ) → Among new.row.items p ↔ (Among old.row.items p ⊎ P p)
 
 -- ---- the arrows of the level graph
 
@@ -66,38 +89,30 @@ is_node (Assign target value) = true
 is_node (Comb list body) = true
 is_node (Edge' events body) = false
 
--- a process writes the bit of a place
-abbrev pub WritesPlace : (ℕ → ℕ) → ℕ → Task → Type 0
-WritesPlace ws x task =
-    (is_node task.does ≡ true) × IsPlaceOf (may_write (flow_of ws task.does)) x
+-- a process without an edge writes a bit
+abbrev pub IsWriting : (ℕ → ℕ) → ℕ → ℕ → Task → Type 0
+IsWriting ws s k task =
+    (is_node task.does ≡ true) × (may_write (flow_of ws task.does) s k ≡ true)
 
-abbrev pub IsNoted : (ℕ → ℕ) → Task → ℕ → ℕ → ℕ → Type 0
-IsNoted ws task number p x = WritesPlace ws x task × (p ≡ number)
+abbrev pub IsNoted : (ℕ → ℕ) → Task → ℕ → ℕ → ℕ → ℕ → Type 0
+IsNoted ws task number p s k = IsWriting ws s k task × (p ≡ number)
 
--- a process is put into the rows of the bits that it writes, each of which is one of 128
-pub record IsWritten (ws : ℕ → ℕ) (task : Task) (number : ℕ) (old new : List (Vec ℕ Global)) : Type 0 where
-  pub grows : Grows (IsNoted ws task number) old new
-  pub small : is_node task.does ≡ true → (s k : ℕ) → may_write (flow_of ws task.does) s k ≡ true → k < 128
+-- the processes below a number that write each bit
+pub record AreWriters (ws : ℕ → ℕ) (tasks : List Task) (n : ℕ) (table : List (Vec Writer Global)) : Type 0 where
+  pub each : (p s k : ℕ) → InTable table p s k ↔ ((p < n) × IsSomeAnd (slice_get tasks p) (IsWriting ws s k))
 
--- the processes below a number that write the bit of a place
-pub record AreWriters (ws : ℕ → ℕ) (tasks : List Task) (n : ℕ) (table : List (Vec ℕ Global)) : Type 0 where
-  pub each : (p x : ℕ) → InTable table p x ↔ ((p < n) × IsSomeAnd (slice_get tasks p) (WritesPlace ws x))
-  pub small : (p s k : ℕ) → p < n → IsSomeAnd (slice_get tasks p) (λ task. (is_node task.does ≡ true) × (may_write (flow_of ws task.does) s k ≡ true)) → k < 128
-
--- a process waits for a bit that is in the row of a place
-abbrev pub Waits : List (Vec ℕ Global) → BitSet → ℕ → Type 0
-Waits table bits p = (x : ℕ) × IsPlaceOf bits x × InTable table p x
-
-abbrev pub IsFed : (ℕ → ℕ) → List (Vec ℕ Global) → ℕ → ℕ → Task → Type 0
+abbrev pub IsFed : (ℕ → ℕ) → List (Vec Writer Global) → ℕ → ℕ → Task → Type 0
 IsFed ws table p q task =
     (is_node task.does ≡ true) × (Waits table (reads_outside (flow_of ws task.does)) p ⊎ (Waits table (listed ws task.does) p × (p ≡ q → ⊥)))
 
-abbrev pub Feeds : (ℕ → ℕ) → List (Vec ℕ Global) → Task → ℕ → ℕ → ℕ → Type 0
-Feeds ws table task number p q = (q ≡ number) × IsFed ws table p q task
+-- the processes that feed one, if none of them was seen of a later one
+pub record AreFeeders (ws : ℕ → ℕ) (table : List (Vec Writer Global)) (task : Task) (q : ℕ) (seen : List ℕ) (found : Feeders) : Type 0 where
+  pub each : ((p : ℕ) → slice_index_or seen p 0 ≤ q) → (p : ℕ) → Among found.row.items p ↔ IsFed ws table p q task
+  pub most : ((p : ℕ) → slice_index_or seen p 0 ≤ q) → (p : ℕ) → slice_index_or found.seen.items p 0 ≤ q + 1
 
-pub record AreFed (ws : ℕ → ℕ) (tasks : List Task) (table : List (Vec ℕ Global)) (n : ℕ) (rows : List (Vec ℕ Global)) : Type 0 where
-  pub each : (p q : ℕ) → InTable rows p q ↔ ((q < n) × IsSomeAnd (slice_get tasks q) (IsFed ws table p q))
-  pub within : length rows ≤ n
+pub record AreFed (ws : ℕ → ℕ) (tasks : List Task) (table : List (Vec Writer Global)) (n : ℕ) (rows : List (Vec ℕ Global)) : Type 0 where
+  pub each : (p q : ℕ) → Among (row rows q) p ↔ ((q < n) × IsSomeAnd (slice_get tasks q) (IsFed ws table p q))
+  pub same_length : length rows ≡ n
 
 -- the rows of all arrows
 pub record AreArrows (signals : List Signal) (tasks : List Task) (rows : List (Vec ℕ Global)) : Type 0 where

@@ -1,18 +1,23 @@
-// The arrows of the level graph.
+// The arrows of the level graph: who writes bits of each signal, and who thereby feeds a process.
 
-ghost use Rattle.std.specs.Prelude.{ℕ, ◌≡◌, ◌<◌, ◌≤◌, ◌+◌, ◌*◌, ◌&&◌, ◌==◌, ◌^◌, not, ◌⊎◌, ◌↔◌, true, [], ◌∷◌, length, max, IfOk, OnOk};
-ghost use Rattle.rtl_bits.specs.Bits.{is_one_at};
+ghost use Rattle.std.specs.Prelude.{ℕ, ◌≡◌, ◌+◌, ◌&&◌, ◌==◌, not, ◌∷◌, [], max, length, bit_and, slice_set, slice_index_or, OnOk};
 ghost use Rattle.rtl_scan.specs.Sets.{has_row, has_rows};
-ghost use Rattle.rtl_scan.specs.Graph.{row};
-ghost use Rattle.rtl_scan.specs.Arrows.{Among, Grows, IsPut, IsNotedAt, IsPulled, ArePulled, AddsPlaces};
+ghost use Rattle.rtl_scan.specs.Arrows.{bucket, comes, Grows, IsPut, IsNotedAt, Gathers, MeetsIn, FedBy};
 
-use crate::bits::{Bits, Row};
+use crate::bits::Row;
 use rtl_tree::memory::Memory;
 use std::alloc::Global;
 
+/// A process that writes bits of a signal: those whose digits in `mask` are 1.
+#[derive(Clone, Copy)]
+pub(crate) struct Writer {
+    pub(crate) process: u32,
+    pub(crate) mask: u128,
+}
+
 /// Gives a table a row at a place.
-pub(crate) fn grow(alloc: Global, table: &mut Vec<Vec<u32>>, place: usize) -> Result<(), Memory>
-    ensures { OnOk result ((length table.new.items ≡ max (length table.old.items) (place + 1)) × ((b : ℕ) → row table.new.items b ≡ row table.old.items b)) }
+fn grow(alloc: Global, table: &mut Vec<Vec<Writer>>, place: usize) -> Result<(), Memory>
+    ensures { OnOk result ((length table.new.items ≡ max (length table.old.items) (place + 1)) × ((s : ℕ) → bucket table.new.items s ≡ bucket table.old.items s)) }
 {
     while table.len() <= place {
         table.push(Vec::new(alloc))?;
@@ -20,134 +25,131 @@ pub(crate) fn grow(alloc: Global, table: &mut Vec<Vec<u32>>, place: usize) -> Re
     Ok(())
 }
 
-/// Puts a process into a row.
+/// Puts a process into the row of a signal.
 fn push_at(
     alloc: Global,
-    table: &mut Vec<Vec<u32>>,
+    table: &mut Vec<Vec<Writer>>,
     place: usize,
-    process: u32,
+    writer: Writer,
 ) -> Result<(), Memory>
-    ensures { OnOk result (Grows (IsPut place process) table.old.items table.new.items) }
+    ensures { OnOk result (Grows (IsPut place writer) table.old.items table.new.items) }
 {
     grow(alloc, table, place)?;
-    table[place].push(process)?;
+    table[place].push(writer)?;
     Ok(())
 }
 
-/// Puts a process into the rows of places.
-pub(crate) fn note_places(
+/// Puts a process into the rows of the signals that it writes.
+pub(crate) fn note_rows(
     alloc: Global,
-    table: &mut Vec<Vec<u32>>,
-    places: &[usize],
+    table: &mut Vec<Vec<Writer>>,
+    rows: &[Row],
     process: u32,
 ) -> Result<(), Memory>
-    ensures { OnOk result (Grows (IsNotedAt places.now process) table.old.items table.new.items) }
+    ensures { OnOk result (Grows (IsNotedAt rows.now process) table.old.items table.new.items) }
 {
-    for place in places {
-        push_at(alloc, table, *place, process)?;
+    for row in rows {
+        let writer = Writer {
+            process,
+            mask: row.mask,
+        };
+        push_at(alloc, table, row.signal.0 as usize, writer)?;
     }
     Ok(())
 }
 
-fn is_left_out(itself: bool, p: u32, q: u32) -> bool
-    ensures { result ≡ (not itself && (p == q)) }
+/// Whether a process that writes bits of a signal feeds one that waits for bits of it.
+fn comes(writer: Writer, mask: u128, itself: bool, process: u32) -> bool
+    ensures { result ≡ comes writer mask itself process }
 {
-    !itself && p == q
+    (writer.mask & mask) != 0 && (itself || writer.process != process)
 }
 
-/// Puts a process into the row of another, or into its own where that counts.
-fn pull_one(
-    alloc: Global,
-    rows: &mut Vec<Vec<u32>>,
-    q: u32,
-    itself: bool,
-    p: u32,
-) -> Result<(), Memory>
-    ensures { OnOk result (Grows (IsPulled q itself (p ∷ [])) rows.old.items rows.new.items) }
-{
-    if is_left_out(itself, p, q) {
-        return Ok(());
-    }
-    push_at(alloc, rows, q as usize, p)
+/// The processes that feed one process, each once.
+#[derive(Drop)]
+pub(crate) struct Feeders {
+    /// The process that is fed.
+    pub(crate) process: u32,
+    pub(crate) row: Vec<u32>,
+    /// One more than the last process of which each process is known to feed it.
+    pub(crate) seen: Vec<u64>,
 }
 
-fn pull_bucket(
-    alloc: Global,
-    rows: &mut Vec<Vec<u32>>,
-    q: u32,
-    itself: bool,
-    bucket: &[u32],
-) -> Result<(), Memory>
-    ensures { OnOk result (Grows (IsPulled q itself bucket.now) rows.old.items rows.new.items) }
-{
-    for p in bucket {
-        pull_one(alloc, rows, q, itself, *p)?;
+impl Feeders {
+    /// Whether a process is among them.
+    fn has(&self, p: u32) -> bool
+        ensures { result ≡ (slice_index_or self.now.seen.items p 0 == self.now.process + 1) }
+    {
+        match self.seen.get(p as usize) {
+            Some(last) => *last == u64::from(self.process) + 1,
+            None => false,
+        }
     }
-    Ok(())
-}
 
-fn pull_place(
-    alloc: Global,
-    rows: &mut Vec<Vec<u32>>,
-    q: u32,
-    itself: bool,
-    table: &[Vec<u32>],
-    place: usize,
-) -> Result<(), Memory>
-    ensures { OnOk result (Grows (IsPulled q itself (row table.now place)) rows.old.items rows.new.items) }
-{
-    if place >= table.len() {
-        return Ok(());
+    /// Notes that a process is among them.
+    fn see(&mut self, p: u32)
+        ensures process { self.new.process ≡ self.old.process }
+        ensures row { self.new.row.items ≡ self.old.row.items }
+        ensures seen { self.new.seen.items ≡ slice_set self.old.seen.items p (self.old.process + 1) }
+    {
+        if (p as usize) < self.seen.len() {
+            self.seen[p as usize] = u64::from(self.process) + 1;
+        }
     }
-    pull_bucket(alloc, rows, q, itself, &table[place])
-}
 
-/// Puts the processes in the rows of places into the row of a process.
-pub(crate) fn pull(
-    alloc: Global,
-    rows: &mut Vec<Vec<u32>>,
-    q: u32,
-    itself: bool,
-    table: &[Vec<u32>],
-    places: &[usize],
-) -> Result<(), Memory>
-    ensures { OnOk result (Grows (ArePulled q itself table.now places.now) rows.old.items rows.new.items) }
-{
-    for place in places {
-        pull_place(alloc, rows, q, itself, table, *place)?;
+    fn add(&mut self, p: u32) -> Result<(), Memory>
+        ensures { OnOk result (Gathers (λ x. x ≡ p) self.old self.new) }
+    {
+        if self.has(p) {
+            return Ok(());
+        }
+        self.see(p);
+        self.row.push(p)?;
+        Ok(())
     }
-    Ok(())
-}
 
-fn push_place(row: &Row, bit: u8, places: &mut Vec<usize>) -> Result<(), Memory>
-    requires { bit < 128 }
-    ensures { OnOk result ((x : ℕ) → Among places.new.items x ↔ (Among places.old.items x ⊎ ((x ≡ row.now.signal.0 * 128 + bit) × (is_one_at row.now.mask bit ≡ true)))) }
-{
-    if (row.mask >> bit) % 2 != 1 {
-        return Ok(());
+    fn add_one(&mut self, writer: Writer, mask: u128, itself: bool) -> Result<(), Memory>
+        ensures { OnOk result (Gathers (MeetsIn (writer ∷ []) mask itself self.old.process) self.old self.new) }
+    {
+        if !comes(writer, mask, itself, self.process) {
+            return Ok(());
+        }
+        self.add(writer.process)
     }
-    places.push(row.signal.0 as usize * 128 + bit as usize)?;
-    Ok(())
-}
 
-/// Adds the places of the bits of a row.
-fn push_row(row: &Row, places: &mut Vec<usize>) -> Result<(), Memory>
-    ensures { OnOk result (AddsPlaces (has_row row.now) places.old.items places.new.items) }
-{
-    let _row = *row;
-    for bit in 0..128u8 {
-        push_place(row, bit, places)?;
+    /// Adds those of some processes that write bits of a mask.
+    fn add_all(&mut self, writers: &[Writer], mask: u128, itself: bool) -> Result<(), Memory>
+        ensures { OnOk result (Gathers (MeetsIn writers.now mask itself self.old.process) self.old self.new) }
+    {
+        for writer in writers {
+            self.add_one(*writer, mask, itself)?;
+        }
+        Ok(())
     }
-    Ok(())
-}
 
-/// The places of bits.
-pub(crate) fn places_of(alloc: Global, bits: &Bits) -> Result<Vec<usize>, Memory>
-    ensures { IfOk result (λ places. AddsPlaces (has_rows bits.now.rows.items) [] places.items) }
-{
-    let mut places = Vec::new(alloc);
-    for row in &bits.rows {
-        push_row(row, &mut places)?;
+    /// Adds the processes that write bits of a row.
+    fn add_row(&mut self, table: &[Vec<Writer>], row: &Row, itself: bool) -> Result<(), Memory>
+        ensures { OnOk result (Gathers (FedBy table.now (has_row row.now) itself self.old.process) self.old self.new) }
+    {
+        let place = row.signal.0 as usize;
+        if place >= table.len() {
+            return Ok(());
+        }
+        self.add_all(&table[place], row.mask, itself)
     }
-    Ok(places)
+
+    /// Adds the processes that write bits of rows, or itself where that counts.
+    pub(crate) fn add_rows(
+        &mut self,
+        table: &[Vec<Writer>],
+        rows: &[Row],
+        itself: bool,
+    ) -> Result<(), Memory>
+        ensures { OnOk result (Gathers (FedBy table.now (has_rows rows.now) itself self.old.process) self.old self.new) }
+    {
+        for row in rows {
+            self.add_row(table, row, itself)?;
+        }
+        Ok(())
+    }
 }

@@ -1,14 +1,13 @@
 // The levels of processes.
 
-ghost use Rattle.std.specs.Prelude.{ℕ, ◌≡◌, ◌<◌, ◌≤◌, ◌^◌, map, length, max, None, IfOk, OnOk};
+ghost use Rattle.std.specs.Prelude.{ℕ, ◌≡◌, ◌<◌, ◌≤◌, ◌^◌, map, length, None, IfOk, OnOk};
 ghost use Rattle.std.specs.Prelude.{slice_index_or};
 ghost use Rattle.rtl_flat.specs.Signs.{width_in};
 ghost use Rattle.rtl_flat.specs.Process.{task, doing};
 ghost use Rattle.rtl_flat.specs.Levels.{IsLevel};
-ghost use Rattle.rtl_scan.specs.Graph.{row};
 ghost use Rattle.rtl_scan.specs.Arrows as spec;
 
-use crate::arrows::{grow, note_places, places_of, pull};
+use crate::arrows::{Feeders, Writer, note_rows};
 use crate::graph::depths;
 use crate::scan::Counted;
 use crate::sets::{list, scan, widths_of};
@@ -32,27 +31,26 @@ fn is_node(does: &Does) -> bool
     }
 }
 
-/// Puts a process into the rows of the bits that it writes.
+/// Puts a process into the rows of the signals that it writes.
 fn note_writes(
     alloc: Global,
     widths: Widths,
     process: &Process,
     number: u32,
-    table: &mut Vec<Vec<u32>>,
+    table: &mut Vec<Vec<Writer>>,
 ) -> Result<(), Memory>
-    ensures { OnOk result (spec.IsWritten (width_in widths.entry.signals.now) (task process.now) number table.old.items table.new.items) }
+    ensures { OnOk result (spec.Grows (spec.IsNoted (width_in widths.entry.signals.now) (task process.now) number) table.old.items table.new.items) }
 {
     if !is_node(&process.does) {
         return Ok(());
     }
     let found = scan(alloc, widths, &process.does, Counted::Blocking)?;
     let written = found.writes.to_bits(alloc)?;
-    let places = places_of(alloc, &written)?;
-    note_places(alloc, table, &places, number)
+    note_rows(alloc, table, &written.rows, number)
 }
 
-/// The processes that write each bit.
-fn writers(alloc: Global, widths: Widths, processes: &[Process]) -> Result<Vec<Vec<u32>>, Memory>
+/// The processes that write bits of each signal.
+fn writers(alloc: Global, widths: Widths, processes: &[Process]) -> Result<Vec<Vec<Writer>>, Memory>
     requires { length processes.now < 2 ^ 32 }
     ensures { IfOk result (λ table. spec.AreWriters (width_in widths.entry.signals.now) (map task processes.now) (length processes.now) table.items) }
 {
@@ -63,28 +61,46 @@ fn writers(alloc: Global, widths: Widths, processes: &[Process]) -> Result<Vec<V
     Ok(table)
 }
 
-/// Puts the processes that feed a process into its row.
+/// Adds the processes that feed one by a bit that it reads, and those others that do by one that it
+/// lists.
 fn note_feeds(
     alloc: Global,
     widths: Widths,
     process: &Process,
-    number: u32,
-    table: &[Vec<u32>],
-    rows: &mut Vec<Vec<u32>>,
+    table: &[Vec<Writer>],
+    found: &mut Feeders,
 ) -> Result<(), Memory>
-    ensures { OnOk result (spec.Grows (spec.Feeds (width_in widths.entry.signals.now) table.now (task process.now) number) rows.old.items rows.new.items) }
+    ensures { OnOk result (spec.Gathers (λ p. spec.IsFed (width_in widths.entry.signals.now) table.now p found.old.process (task process.now)) found.old found.new) }
 {
     if !is_node(&process.does) {
         return Ok(());
     }
-    let found = scan(alloc, widths, &process.does, Counted::Blocking)?;
-    let read = found.reads.to_bits(alloc)?;
-    let read = places_of(alloc, &read)?;
+    let sets = scan(alloc, widths, &process.does, Counted::Blocking)?;
+    let read = sets.reads.to_bits(alloc)?;
     let listed = list(alloc, widths, &process.does)?;
     let listed = listed.to_bits(alloc)?;
-    let listed = places_of(alloc, &listed)?;
-    pull(alloc, rows, number, true, table, &read)?;
-    pull(alloc, rows, number, false, table, &listed)
+    found.add_rows(table, &read.rows, true)?;
+    found.add_rows(table, &listed.rows, false)
+}
+
+/// The processes that feed one.
+fn feeders(
+    alloc: Global,
+    widths: Widths,
+    process: &Process,
+    number: u32,
+    table: &[Vec<Writer>],
+    seen: Vec<u64>,
+) -> Result<Feeders, Memory>
+    ensures { IfOk result (λ found. spec.AreFeeders (width_in widths.entry.signals.now) table.now (task process.now) number seen.items found) }
+{
+    let mut found = Feeders {
+        process: number,
+        row: Vec::new(alloc),
+        seen,
+    };
+    note_feeds(alloc, widths, process, table, &mut found)?;
+    Ok(found)
 }
 
 /// The processes that feed each process.
@@ -92,34 +108,26 @@ fn feeds_of(
     alloc: Global,
     widths: Widths,
     processes: &[Process],
-    table: &[Vec<u32>],
+    table: &[Vec<Writer>],
 ) -> Result<Vec<Vec<u32>>, Memory>
     requires { length processes.now < 2 ^ 32 }
     ensures { IfOk result (λ rows. spec.AreFed (width_in widths.entry.signals.now) (map task processes.now) table.now (length processes.now) rows.items) }
 {
     let mut rows = Vec::new(alloc);
+    let mut seen = vec![in alloc; 0u64; processes.len()]?;
     for number in 0..processes.len() {
-        note_feeds(
+        let found = feeders(
             alloc,
             widths,
             &processes[number],
             number as u32,
             table,
-            &mut rows,
+            seen,
         )?;
+        rows.push(found.row)?;
+        seen = found.seen;
     }
     Ok(rows)
-}
-
-/// Gives all processes rows.
-fn pad(alloc: Global, rows: &mut Vec<Vec<u32>>, size: usize) -> Result<(), Memory>
-    requires { length rows.old.items ≤ size }
-    ensures { OnOk result ((length rows.new.items ≡ size) × ((q : ℕ) → row rows.new.items q ≡ row rows.old.items q)) }
-{
-    if size == 0 {
-        return Ok(());
-    }
-    grow(alloc, rows, size - 1)
 }
 
 /// The rows of the level graph.
@@ -128,9 +136,7 @@ fn arrows_of(alloc: Global, widths: Widths, processes: &[Process]) -> Result<Vec
     ensures { IfOk result (λ rows. spec.AreArrows widths.entry.signals.now (map task processes.now) rows.items) }
 {
     let table = writers(alloc, widths, processes)?;
-    let mut rows = feeds_of(alloc, widths, processes, &table)?;
-    pad(alloc, &mut rows, processes.len())?;
-    Ok(rows)
+    feeds_of(alloc, widths, processes, &table)
 }
 
 /// The level of a process, from its depth.

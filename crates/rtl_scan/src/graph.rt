@@ -8,7 +8,7 @@ use rtl_tree::memory::Memory;
 use std::alloc::Global;
 
 /// How far a node is searched.
-#[derive(Clone, Copy, PartialEq, Eq, Debug)]
+#[derive(Clone, Copy)]
 pub(crate) enum Mark {
     New,
     /// It is on the stack.
@@ -20,7 +20,7 @@ pub(crate) enum Mark {
 }
 
 /// A node of a search.
-#[derive(Clone, Copy, PartialEq, Eq, Debug)]
+#[derive(Clone, Copy)]
 pub(crate) struct Vertex {
     pub(crate) mark: Mark,
     /// How many of the arrows into it are still to be followed.

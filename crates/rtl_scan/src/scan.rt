@@ -14,7 +14,7 @@ use rtl_tree::memory::Memory;
 use std::alloc::Global;
 
 /// Which writes count as sure.
-#[derive(Clone, Copy, PartialEq, Eq, Debug)]
+#[derive(Clone, Copy)]
 pub(crate) enum Counted {
     /// None, so that each read counts.
     Nothing,

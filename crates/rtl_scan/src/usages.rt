@@ -19,7 +19,7 @@ use rtl_tree::memory::Memory;
 use std::alloc::Global;
 
 /// Which processes use a signal, of those that were looked at.
-#[derive(Clone, Copy, PartialEq, Eq, Debug)]
+#[derive(Clone, Copy)]
 pub(crate) enum Usage {
     Unused,
     /// One process uses it.
