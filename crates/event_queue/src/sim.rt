@@ -92,7 +92,7 @@ impl<'d> EventSim<'d> {
             Choice::Input(_) => 1,
             Choice::Evaluate(_) => 1,
             Choice::Update(_) => 1,
-            Choice::Run(process) => self.costs.runs[process as usize],
+            Choice::Run(process) => self.costs.runs[process.0 as usize],
             Choice::Delayed => 0,
         }
     }

@@ -9,6 +9,7 @@ use Rattle.std.proofs.lemmas.List.Elements.{All-push}
 use Rattle.rtl_bits.specs.declared.Bit.{Bit}
 use Rattle.rtl_bits.specs.declared.Edge.{Edge}
 use Rattle.rtl_bits.specs.Bits.{is_one_at}
+use Rattle.rtl_flat.specs.declared.act.ProcId.{ProcId}
 use Rattle.rtl_flat.specs.Process.{Doing}
 use Rattle.rtl_scan.specs.declared.bits.Row.{Row}
 use Rattle.rtl_scan.specs.Sets.{has_row}
@@ -80,21 +81,21 @@ hears_is ws s old new (Some does) = does_hear ws s 0 old new does
 abbrev pub bits_ear : Row → Edge → Ear
 bits_ear bits edge s k a b = has_row bits s k && happens edge a b
 
-abbrev pub listener : ℕ → Edge → Row → Listener
+abbrev pub listener : ProcId → Edge → Row → Listener
 listener process edge bits = record { process = process; edge = edge; mask = bits.mask }
 
-listener_hears : (process : ℕ) (edge : Edge) (bits : Row) (s k : ℕ) (old new : List Bit) → (s == bits.signal.0) ≡ true → hears_from (listener process edge bits) k old new ≡ ear_from (bits_ear bits edge) s k old new
+listener_hears : (process : ProcId) (edge : Edge) (bits : Row) (s k : ℕ) (old new : List Bit) → (s == bits.signal.0) ≡ true → hears_from (listener process edge bits) k old new ≡ ear_from (bits_ear bits edge) s k old new
 listener_hears process edge bits s k [] new e = refl
 listener_hears process edge bits s k (a ∷ old) [] e = refl
 listener_hears process edge bits s k (a ∷ old) (b ∷ new) e =
     ap (λ t. (is_one_at bits.mask k && happens edge a b) || t) (listener_hears process edge bits s (k + 1) old new e)
     ∙ ap (λ t. ((t && is_one_at bits.mask k) && happens edge a b) || ear_from (bits_ear bits edge) s (k + 1) old new) (sym e)
 
-heard_push : (ls : List Listener) (l : Listener) (p : ℕ) (old new : List Bit) → heard_by (ls ++ l ∷ []) p old new ≡ (heard_by ls p old new || ((l.process == p) && hears_from l 0 old new))
-heard_push [] l p old new = or_none ((l.process == p) && hears_from l 0 old new) false refl
+heard_push : (ls : List Listener) (l : Listener) (p : ℕ) (old new : List Bit) → heard_by (ls ++ l ∷ []) p old new ≡ (heard_by ls p old new || ((l.process.0 == p) && hears_from l 0 old new))
+heard_push [] l p old new = or_none ((l.process.0 == p) && hears_from l 0 old new) false refl
 heard_push (x ∷ ls) l p old new =
-    ap (λ t. ((x.process == p) && hears_from x 0 old new) || t) (heard_push ls l p old new)
-    ∙ sym (or_assoc ((x.process == p) && hears_from x 0 old new) (heard_by ls p old new) ((l.process == p) && hears_from l 0 old new))
+    ap (λ t. ((x.process.0 == p) && hears_from x 0 old new) || t) (heard_push ls l p old new)
+    ∙ sym (or_assoc ((x.process.0 == p) && hears_from x 0 old new) (heard_by ls p old new) ((l.process.0 == p) && hears_from l 0 old new))
 
 -- ---- rows
 
@@ -138,7 +139,7 @@ left (x ∷ xs) (suc i) d h =
 -- ---- what a process hears in tables
 
 abbrev Inside : ℕ → List Listener → Type 0
-Inside n ls = All (λ l. l.process < n) ls
+Inside n ls = All (λ l. l.process.0 < n) ls
 
 pub hears_nothing : (process : ℕ) (ear : Ear) (rows : List (Vec Listener Global)) → ((s : ℕ) → s < length rows → (k : ℕ) (a b : Bit) → ear s k a b ≡ false) → Hears process ear rows rows
 hears_nothing process ear rows none = record {
@@ -168,18 +169,18 @@ hears_same process f g x y is one = record {
 }
 
 -- a listener more in the row of a signal
-pub hears_pushed : (process : ℕ) (edge : Edge) (bits : Row) (old : List (Vec Listener Global)) (v : Vec Listener Global) → bits.signal.0 < length old → v.items ≡ row old bits.signal.0 ++ listener process edge bits ∷ [] → Hears process (bits_ear bits edge) old (set old bits.signal.0 v)
+pub hears_pushed : (process : ProcId) (edge : Edge) (bits : Row) (old : List (Vec Listener Global)) (v : Vec Listener Global) → bits.signal.0 < length old → v.items ≡ row old bits.signal.0 ++ listener process edge bits ∷ [] → Hears process.0 (bits_ear bits edge) old (set old bits.signal.0 v)
 hears_pushed process edge bits old v within is = record {
   same_length = length-set old bits.signal.0 v;
   inside = λ n i below all. elim (cases_eq i bits.signal.0) [
-    | inl e ↦ subst (λ (xs : List Listener). Inside n xs) (sym (here i e)) (All-push (λ l. l.process < n) (row old i) (listener process edge bits) all below)
+    | inl e ↦ subst (λ (xs : List Listener). Inside n xs) (sym (here i e)) (All-push (λ l. l.process.0 < n) (row old i) (listener process edge bits) all below)
     | inr apart ↦ subst (λ (xs : List Listener). Inside n xs) (sym (row_other old bits.signal.0 v i apart)) all
   ];
   heard = λ i p a b inside. elim (cases_eq i bits.signal.0) [
     | inl e ↦ ap (λ xs. heard_by xs p a b) (here i e) ∙ heard_push (row old i) (listener process edge bits) p a b
-        ∙ ap (λ t. heard_by (row old i) p a b || ((process == p) && t)) (listener_hears process edge bits i 0 a b (eq-eqb i bits.signal.0 e))
+        ∙ ap (λ t. heard_by (row old i) p a b || ((process.0 == p) && t)) (listener_hears process edge bits i 0 a b (eq-eqb i bits.signal.0 e))
     | inr apart ↦ ap (λ xs. heard_by xs p a b) (row_other old bits.signal.0 v i apart)
-        ∙ sym (or_none (heard_by (row old i) p a b) ((process == p) && ear_from (bits_ear bits edge) i 0 a b) (and_none (process == p) (ear_from (bits_ear bits edge) i 0 a b) (silent (bits_ear bits edge) i 0 a b (λ j x y. ap (λ t. (t && is_one_at bits.mask j) && happens edge x y) (ne_eqb i bits.signal.0 apart)))))
+        ∙ sym (or_none (heard_by (row old i) p a b) ((process.0 == p) && ear_from (bits_ear bits edge) i 0 a b) (and_none (process.0 == p) (ear_from (bits_ear bits edge) i 0 a b) (silent (bits_ear bits edge) i 0 a b (λ j x y. ap (λ t. (t && is_one_at bits.mask j) && happens edge x y) (ne_eqb i bits.signal.0 apart)))))
   ];
 }
   where

@@ -6,6 +6,7 @@ use Rattle.std.proofs.lemmas.Bool.{cases_Bool, cases_lt, ne_eqb, cond-true, cond
 use Rattle.std.proofs.lemmas.List.{drop_all}
 use Rattle.std.proofs.lemmas.List.Elements.{All-nil, All-head, All-tail, All-push, All-weaker}
 use Rattle.rtl_bits.specs.declared.Bit.{Bit}
+use Rattle.rtl_flat.specs.declared.act.ProcId.{ProcId}
 use Rattle.rtl_flat.specs.Process.{Task}
 use Rattle.rtl_scan.proofs.Places.{width_past}
 use Rattle.event_model.specs.Writes.{no_drive}
@@ -15,23 +16,27 @@ use Rattle.event_tables.specs.Driving.{drives, drives_of, ends_in, entered, Ente
 use Rattle.event_tables.proofs.Ears.{row_past}
 use Rattle.event_tables.proofs.Lengths.{resolved_length, undriven}
 
-given_push : (d : Flat) (ps : List ℕ) (p : ℕ) (driver : ℕ → List Bit) (i : ℕ) (others : List Bit) → given_by d (ps ++ p ∷ []) driver i others ≡ given_by d ps driver i (driven_with (widths d) (doing_at d p) (driver p) i others)
+-- the process with a number
+abbrev pub number : ℕ → ProcId
+number n = record { 0 = n }
+
+given_push : (d : Flat) (ps : List ProcId) (p : ProcId) (driver : ℕ → List Bit) (i : ℕ) (others : List Bit) → given_by d (ps ++ p ∷ []) driver i others ≡ given_by d ps driver i (driven_with (widths d) (doing_at d p.0) (driver p.0) i others)
 given_push d [] p driver i others = refl
 given_push d (q ∷ ps) p driver i others =
-    ap (driven_with (widths d) (doing_at d q) (driver q) i) (given_push d ps p driver i others)
+    ap (driven_with (widths d) (doing_at d q.0) (driver q.0) i) (given_push d ps p driver i others)
 
-given_alone : (d : Flat) (ps : List ℕ) (driver : ℕ → List Bit) (i : ℕ) → given_by d ps driver i (no_drive (widths d) i) ≡ resolved_by d ps driver i
+given_alone : (d : Flat) (ps : List ProcId) (driver : ℕ → List Bit) (i : ℕ) → given_by d ps driver i (no_drive (widths d) i) ≡ resolved_by d ps driver i
 given_alone d [] driver i = refl
 given_alone d (p ∷ ps) driver i =
-    ap (driven_with (widths d) (doing_at d p) (driver p) i) (given_alone d ps driver i)
+    ap (driven_with (widths d) (doing_at d p.0) (driver p.0) i) (given_alone d ps driver i)
 
 -- a number isn't the last of smaller ones
-not_last : (xs : List ℕ) (n : ℕ) → All (λ p. p < n) xs → ends_in xs n ≡ false
+not_last : (xs : List ProcId) (n : ℕ) → All (λ p. p.0 < n) xs → ends_in xs n ≡ false
 not_last [] n below = refl
 not_last (x ∷ []) n below =
-    let less = All-head (λ p. p < n) x [] below in
-    ne_eqb x n (λ e. omega (arith, less, e))
-not_last (x ∷ y ∷ xs) n below = not_last (y ∷ xs) n (All-tail (λ p. p < n) x (y ∷ xs) below)
+    let less = All-head (λ p. p.0 < n) x [] below in
+    ne_eqb x.0 n (λ e. omega (arith, less, e))
+not_last (x ∷ y ∷ xs) n below = not_last (y ∷ xs) n (All-tail (λ p. p.0 < n) x (y ∷ xs) below)
 
 pub task_there : (tasks : List Task) (n : ℕ) → n < length tasks → (t : Task) × (slice_get tasks n ≡ Some t) × (drop n tasks ≡ t ∷ drop (n + 1) tasks)
 task_there [] n h = absurd (omega (arith, h))
@@ -41,39 +46,39 @@ task_there (t ∷ tasks) (suc n) h =
     let next : suc (n + 1) ≡ suc n + 1 = omega arith in
     (u, at, rest ∙ ap (λ m. u ∷ drop m (t ∷ tasks)) next)
 
-pub driven_none : (d : Flat) (rows : List (Vec ℕ Global)) → length rows ≡ length d.signals → ((i : ℕ) → row rows i ≡ []) → AreDriven d 0 rows
+pub driven_none : (d : Flat) (rows : List (Vec ProcId Global)) → length rows ≡ length d.signals → ((i : ℕ) → row rows i ≡ []) → AreDriven d 0 rows
 driven_none d rows same empty = record {
   same_length = same;
-  below = λ i. subst (λ (xs : List ℕ). All (λ p. p < 0) xs) (sym (empty i)) (All-nil (λ p. p < 0));
+  below = λ i. subst (λ (xs : List ProcId). All (λ p. p.0 < 0) xs) (sym (empty i)) (All-nil (λ p. p.0 < 0));
   given = λ driver i within. ap (λ xs. given_by d xs driver i (resolved d driver i)) (empty i);
 }
 
 -- ---- one process more
 
-module _ (d : Flat) (n : ℕ) (old new : List (Vec ℕ Global)) (was : AreDriven d n old) (more : Enters n (drives d n) old new) where
+module _ (d : Flat) (n : ℕ) (old new : List (Vec ProcId Global)) (was : AreDriven d n old) (more : Enters (number n) (drives d n) old new) where
   within_old : (i : ℕ) → i < length d.signals → i < length old
   within_old i within = let same = was.same_length in omega (arith, within, same)
 
-  row_more : (i : ℕ) → i < length d.signals → drives d n i ≡ true → row new i ≡ row old i ++ n ∷ []
+  row_more : (i : ℕ) → i < length d.signals → drives d n i ≡ true → row new i ≡ row old i ++ number n ∷ []
   row_more i within e =
-      more.rows i (within_old i within) ∙ cond-true (drives d n i) (entered n (row old i)) (row old i) e
-      ∙ cond-false (ends_in (row old i) n) (row old i) (row old i ++ n ∷ []) (not_last (row old i) n (was.below i))
+      more.rows i (within_old i within) ∙ cond-true (drives d n i) (entered (number n) (row old i)) (row old i) e
+      ∙ cond-false (ends_in (row old i) n) (row old i) (row old i ++ number n ∷ []) (not_last (row old i) n (was.below i))
 
   row_same : (i : ℕ) → i < length d.signals → drives d n i ≡ false → row new i ≡ row old i
   row_same i within e =
-      more.rows i (within_old i within) ∙ cond-false (drives d n i) (entered n (row old i)) (row old i) e
+      more.rows i (within_old i within) ∙ cond-false (drives d n i) (entered (number n) (row old i)) (row old i) e
 
-  below_next : (xs : List ℕ) → All (λ p. p < n) xs → All (λ p. p < n + 1) xs
-  below_next xs h = All-weaker (λ p. p < n) (λ p. p < n + 1) (λ p less. omega (arith, less)) xs h
+  below_next : (xs : List ProcId) → All (λ p. p.0 < n) xs → All (λ p. p.0 < n + 1) xs
+  below_next xs h = All-weaker (λ p. p.0 < n) (λ p. p.0 < n + 1) (λ p less. omega (arith, less)) xs h
 
-  new_below : (i : ℕ) → All (λ p. p < n + 1) (row new i)
+  new_below : (i : ℕ) → All (λ p. p.0 < n + 1) (row new i)
   new_below i =
       elim (cases_lt i (length d.signals)) [
         | inl within ↦ elim (cases_Bool (drives d n i)) [
-          | inl e ↦ subst (λ (xs : List ℕ). All (λ p. p < n + 1) xs) (sym (row_more i within e)) (All-push (λ p. p < n + 1) (row old i) n (below_next (row old i) (was.below i)) (omega arith))
-          | inr e ↦ subst (λ (xs : List ℕ). All (λ p. p < n + 1) xs) (sym (row_same i within e)) (below_next (row old i) (was.below i))
+          | inl e ↦ subst (λ (xs : List ProcId). All (λ p. p.0 < n + 1) xs) (sym (row_more i within e)) (All-push (λ p. p.0 < n + 1) (row old i) (number n) (below_next (row old i) (was.below i)) (omega arith))
+          | inr e ↦ subst (λ (xs : List ProcId). All (λ p. p.0 < n + 1) xs) (sym (row_same i within e)) (below_next (row old i) (was.below i))
         ]
-        | inr past ↦ subst (λ (xs : List ℕ). All (λ p. p < n + 1) xs) (sym (row_past new i (let same = more.same_length in let first = was.same_length in omega (arith, past, same, first)))) (All-nil (λ p. p < n + 1))
+        | inr past ↦ subst (λ (xs : List ProcId). All (λ p. p.0 < n + 1) xs) (sym (row_past new i (let same = more.same_length in let first = was.same_length in omega (arith, past, same, first)))) (All-nil (λ p. p.0 < n + 1))
       ]
 
   module _ (t : Task) (at : slice_get d.tasks n ≡ Some t) (here : drop n d.tasks ≡ t ∷ drop (n + 1) d.tasks) where
@@ -96,7 +101,7 @@ module _ (d : Flat) (n : ℕ) (old new : List (Vec ℕ Global)) (was : AreDriven
         elim (cases_Bool (drives d n i)) [
           | inl e ↦
               ap (λ xs. given_by d xs driver i (rest driver i)) (row_more i within e)
-              ∙ given_push d (row old i) n driver i (rest driver i)
+              ∙ given_push d (row old i) (number n) driver i (rest driver i)
               ∙ ap (λ o. given_by d (row old i) driver i (driven_with (widths d) o (driver n) i (rest driver i))) does_at
               ∙ before driver i within
           | inr e ↦
@@ -105,7 +110,7 @@ module _ (d : Flat) (n : ℕ) (old new : List (Vec ℕ Global)) (was : AreDriven
               ∙ before driver i within
         ]
 
-pub driven_more : (d : Flat) (n : ℕ) (old new : List (Vec ℕ Global)) → n < length d.tasks → AreDriven d n old → Enters n (drives d n) old new → AreDriven d (n + 1) new
+pub driven_more : (d : Flat) (n : ℕ) (old new : List (Vec ProcId Global)) → n < length d.tasks → AreDriven d n old → Enters (number n) (drives d n) old new → AreDriven d (n + 1) new
 unfolding rest
 driven_more d n old new few was more =
     let (t, at, here) = task_there d.tasks n few in
@@ -121,7 +126,7 @@ empty_list : {A : Type 0} (xs : List A) → length xs ≡ 0 → xs ≡ []
 empty_list [] h = refl
 empty_list (x ∷ xs) h = absurd (omega (arith, h))
 
-pub all_drive : (d : Flat) (rows : List (Vec ℕ Global)) → AreDriven d (length d.tasks) rows → (driver : ℕ → List Bit) (i : ℕ) → resolved_by d (row rows i) driver i ≡ resolved d driver i
+pub all_drive : (d : Flat) (rows : List (Vec ProcId Global)) → AreDriven d (length d.tasks) rows → (driver : ℕ → List Bit) (i : ℕ) → resolved_by d (row rows i) driver i ≡ resolved d driver i
 all_drive d rows are driver i =
     elim (cases_lt i (length d.signals)) [
       | inl within ↦

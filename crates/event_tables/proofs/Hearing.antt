@@ -131,7 +131,7 @@ module _ (d : Flat) (p : ℕ) (t : Task) (at : slice_get d.tasks p ≡ Some t) w
 pub heard_none : (d : Flat) (rows : List (Vec Listener Global)) → length rows ≡ length d.signals → ((i : ℕ) → row rows i ≡ []) → AreHeard d 0 rows
 heard_none d rows same empty = record {
   same_length = same;
-  inside = λ i. subst (λ (xs : List Listener). All (λ l. l.process < length d.tasks) xs) (sym (empty i)) (All-nil (λ l. l.process < length d.tasks));
+  inside = λ i. subst (λ (xs : List Listener). All (λ l. l.process.0 < length d.tasks) xs) (sym (empty i)) (All-nil (λ l. l.process.0 < length d.tasks));
   heard = λ i p a b within. ap (λ xs. heard_by xs p a b) (empty i) ∙ ap (λ t. t && hears (widths d) i a b (doing_at d p)) (sym (le-ltb p 0 (omega arith)));
 }
 

@@ -29,11 +29,11 @@ listens_at d p = listens_of (widths d) (doing_at d p)
 -- a process hears in tables what it is sensitive to, besides what was heard before
 pub record Hears (process : ℕ) (ear : Ear) (old new : List (Vec Listener Global)) : Type 0 where
   pub same_length : length new ≡ length old
-  pub inside : (n i : ℕ) → process < n → All (λ listener. listener.process < n) (row old i) → All (λ listener. listener.process < n) (row new i)
+  pub inside : (n i : ℕ) → process < n → All (λ listener. listener.process.0 < n) (row old i) → All (λ listener. listener.process.0 < n) (row new i)
   pub heard : (i p : ℕ) (a b : List Bit) → i < length old → heard_by (row new i) p a b ≡ (heard_by (row old i) p a b || ((process == p) && ear_from ear i 0 a b))
 
 -- the processes below a number hear in tables what they are sensitive to
 pub record AreHeard (d : Flat) (n : ℕ) (listeners : List (Vec Listener Global)) : Type 0 where
   pub same_length : length listeners ≡ length d.signals
-  pub inside : (i : ℕ) → All (λ listener. listener.process < length d.tasks) (row listeners i)
+  pub inside : (i : ℕ) → All (λ listener. listener.process.0 < length d.tasks) (row listeners i)
   pub heard : (i p : ℕ) (a b : List Bit) → i < length d.signals → heard_by (row listeners i) p a b ≡ (nat_lt p n && hears (widths d) i a b (doing_at d p))

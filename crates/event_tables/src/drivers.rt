@@ -13,17 +13,17 @@ use rtl_tree::memory::Memory;
 use std::alloc::Global;
 
 /// Whether a process is the last one in a row.
-fn ends_in(row: &[u32], process: u32) -> bool
-    ensures { result ≡ ends_in row.now process }
+fn ends_in(row: &[ProcId], process: ProcId) -> bool
+    ensures { result ≡ ends_in row.now process.0 }
 {
     match row.last() {
-        Some(last) => *last == process,
+        Some(last) => last.0 == process.0,
         None => false,
     }
 }
 
 /// Puts a process into the row of a signal, unless it is the last one there.
-fn enter(drivers: &mut Vec<Vec<u32>>, process: u32, signal: SigId) -> Result<(), Memory>
+fn enter(drivers: &mut Vec<Vec<ProcId>>, process: ProcId, signal: SigId) -> Result<(), Memory>
     ensures { OnOk result (Enters process (λ i. i == signal.0) drivers.old.items drivers.new.items) }
 {
     let place = signal.0 as usize;
@@ -40,8 +40,8 @@ fn enter(drivers: &mut Vec<Vec<u32>>, process: u32, signal: SigId) -> Result<(),
 
 /// Puts a process into the rows of the signals that its target names.
 fn enter_parts(
-    drivers: &mut Vec<Vec<u32>>,
-    process: u32,
+    drivers: &mut Vec<Vec<ProcId>>,
+    process: ProcId,
     parts: &[TargetPart],
 ) -> Result<(), Memory>
     ensures { OnOk result (Enters process (names (map piece parts.now)) drivers.old.items drivers.new.items) }
@@ -53,19 +53,19 @@ fn enter_parts(
 }
 
 /// Puts a process into the rows of the signals that it drives: a body drives none.
-fn drive(drivers: &mut Vec<Vec<u32>>, design: &Design, process: ProcId) -> Result<(), Memory>
+fn drive(drivers: &mut Vec<Vec<ProcId>>, design: &Design, process: ProcId) -> Result<(), Memory>
     requires { process.0 < length design.now.processes.items }
-    ensures { OnOk result (Enters process.0 (drives (flat design.now) process.0) drivers.old.items drivers.new.items) }
+    ensures { OnOk result (Enters process (drives (flat design.now) process.0) drivers.old.items drivers.new.items) }
 {
     match &design.processes[process.0 as usize].does {
-        Does::Assign { target, value: _ } => enter_parts(drivers, process.0, &target.parts),
+        Does::Assign { target, value: _ } => enter_parts(drivers, process, &target.parts),
         Does::Comb { list: _, body: _ } => Ok(()),
         Does::Edge { events: _, body: _ } => Ok(()),
     }
 }
 
 /// The continuous assignments that drive each signal.
-pub(crate) fn drivers_of(alloc: Global, design: &Design) -> Result<Vec<Vec<u32>>, Memory>
+pub(crate) fn drivers_of(alloc: Global, design: &Design) -> Result<Vec<Vec<ProcId>>, Memory>
     ensures { IfOk result (λ drivers. AreDriven (flat design.now) (length design.now.processes.items) drivers.items) }
 {
     let mut drivers = empty_rows(alloc, design.signals.len())?;

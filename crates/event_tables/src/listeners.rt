@@ -21,11 +21,11 @@ use std::alloc::Global;
 /// Lets a process hear bits of a signal.
 fn hear_bits(
     listeners: &mut Vec<Vec<Listener>>,
-    process: u32,
+    process: ProcId,
     edge: Edge,
     bits: Row,
 ) -> Result<(), Memory>
-    ensures { OnOk result (Hears process (λ s k old new. has_row bits s k && happens edge old new) listeners.old.items listeners.new.items) }
+    ensures { OnOk result (Hears process.0 (λ s k old new. has_row bits s k && happens edge old new) listeners.old.items listeners.new.items) }
 {
     let place = bits.signal.0 as usize;
     if place >= listeners.len() {
@@ -41,8 +41,12 @@ fn hear_bits(
 }
 
 /// Lets a process hear any change of bits.
-fn hear_rows(listeners: &mut Vec<Vec<Listener>>, process: u32, rows: &[Row]) -> Result<(), Memory>
-    ensures { OnOk result (Hears process (λ s k old new. has_rows rows.now s k && happens No old new) listeners.old.items listeners.new.items) }
+fn hear_rows(
+    listeners: &mut Vec<Vec<Listener>>,
+    process: ProcId,
+    rows: &[Row],
+) -> Result<(), Memory>
+    ensures { OnOk result (Hears process.0 (λ s k old new. has_rows rows.now s k && happens No old new) listeners.old.items listeners.new.items) }
 {
     for row in rows {
         hear_bits(listeners, process, Edge::No, *row)?;
@@ -54,10 +58,10 @@ fn hear_rows(listeners: &mut Vec<Vec<Listener>>, process: u32, rows: &[Row]) -> 
 fn hear_items(
     listeners: &mut Vec<Vec<Listener>>,
     design: &Design,
-    process: u32,
+    process: ProcId,
     items: &[EventItem],
 ) -> Result<(), Memory>
-    ensures { OnOk result (Hears process (λ s k old new. list_any (item_hears (widths (flat design.now)) s k old new) (map watched items.now)) listeners.old.items listeners.new.items) }
+    ensures { OnOk result (Hears process.0 (λ s k old new. list_any (item_hears (widths (flat design.now)) s k old new) (map watched items.now)) listeners.old.items listeners.new.items) }
 {
     for item in items {
         let bits = selected(design, item.signal, &item.select);
@@ -82,16 +86,16 @@ fn hear(
             value: _,
         } => {
             let bits = reads(alloc, design, process)?;
-            hear_rows(listeners, process.0, &bits.rows)
+            hear_rows(listeners, process, &bits.rows)
         }
         Does::Comb { list, body: _ } => match list {
             Listed::Star => {
                 let bits = lists(alloc, design, process)?;
-                hear_rows(listeners, process.0, &bits.rows)
+                hear_rows(listeners, process, &bits.rows)
             }
-            Listed::Items(items) => hear_items(listeners, design, process.0, items),
+            Listed::Items(items) => hear_items(listeners, design, process, items),
         },
-        Does::Edge { events, body: _ } => hear_items(listeners, design, process.0, events),
+        Does::Edge { events, body: _ } => hear_items(listeners, design, process, events),
     }
 }
 

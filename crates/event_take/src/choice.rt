@@ -9,7 +9,7 @@ ghost use Rattle.event_take.specs.Taken.{IsAble, event_of};
 
 use event_write::fanout::Fanout;
 use event_write::queue_state::QueueState;
-use rtl_flat::act::Does;
+use rtl_flat::act::{Does, ProcId};
 use rtl_flat::expr::SigId;
 
 /// An active event: a top input takes the value that is offered to it, a continuous assignment is evaluated, its driver
@@ -17,19 +17,19 @@ use rtl_flat::expr::SigId;
 #[derive(Clone, Copy, PartialEq, Eq, Debug)]
 pub enum Choice {
     Input(SigId),
-    Evaluate(u32),
-    Update(u32),
-    Run(u32),
+    Evaluate(ProcId),
+    Update(ProcId),
+    Run(ProcId),
     Delayed,
 }
 
 /// What a woken process does.
-pub(crate) fn woken_choice(fanout: &Fanout, process: u32) -> Choice
-    requires { process < length fanout.now.design.now.processes.items }
-    ensures event { event_of result ≡ woken_event (design_of fanout.now) process }
+pub(crate) fn woken_choice(fanout: &Fanout, process: ProcId) -> Choice
+    requires { process.0 < length fanout.now.design.now.processes.items }
+    ensures event { event_of result ≡ woken_event (design_of fanout.now) process.0 }
     ensures able { (m : QueueState) → IsAble (design_of fanout.now) m result }
 {
-    match &fanout.design.processes[process as usize].does {
+    match &fanout.design.processes[process.0 as usize].does {
         Does::Assign {
             target: _,
             value: _,

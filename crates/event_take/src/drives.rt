@@ -18,7 +18,7 @@ use event_write::queue_state::QueueState;
 use event_write::spans::count_of;
 use event_write::stores::width_of;
 use rtl_bits::{Bit, Vec4};
-use rtl_flat::act::{Does, TargetPart};
+use rtl_flat::act::{Does, ProcId, TargetPart};
 use rtl_flat::expr::SigId;
 use rtl_flat::signal::Signal;
 
@@ -41,18 +41,24 @@ pub fn resolve(fanout: &Fanout, queue: &QueueState, net: SigId) -> Vec4
 }
 
 /// What a driver gives to a net beside what others give.
-fn drive_with(fanout: &Fanout, queue: &QueueState, process: u32, net: SigId, others: Vec4) -> Vec4
+fn drive_with(
+    fanout: &Fanout,
+    queue: &QueueState,
+    process: ProcId,
+    net: SigId,
+    others: Vec4,
+) -> Vec4
     requires queue { IsQueueState (design_of fanout.now) queue.now }
-    requires inside { process < length fanout.now.design.now.processes.items }
+    requires inside { process.0 < length fanout.now.design.now.processes.items }
     requires there { net.0 < length fanout.now.design.now.signals.items }
     requires width { length others ≡ width_in fanout.now.design.now.signals.items net.0 }
-    ensures bits { result ≡ driven_with (widths (design_of fanout.now)) (doing_at (design_of fanout.now) process) ((state queue.now).driver process) net.0 others }
+    ensures bits { result ≡ driven_with (widths (design_of fanout.now)) (doing_at (design_of fanout.now) process.0) ((state queue.now).driver process.0) net.0 others }
     ensures width { length result ≡ width_in fanout.now.design.now.signals.items net.0 }
 {
-    let Does::Assign { target, value: _ } = &fanout.design.processes[process as usize].does else {
+    let Does::Assign { target, value: _ } = &fanout.design.processes[process.0 as usize].does else {
         return others;
     };
-    let Some(bits) = queue.drivers[process as usize] else {
+    let Some(bits) = queue.drivers[process.0 as usize] else {
         return others;
     };
     let signals = &fanout.design.signals;

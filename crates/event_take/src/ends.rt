@@ -11,6 +11,7 @@ ghost use Rattle.event_take.specs.Taken.{IsAble, event_of};
 use crate::choice::{Choice, has_delayed, woken_choice};
 use event_write::fanout::Fanout;
 use event_write::queue_state::QueueState;
+use rtl_flat::act::ProcId;
 use rtl_flat::expr::SigId;
 
 /// The first of the active events.
@@ -24,10 +25,10 @@ pub(crate) fn first(fanout: &Fanout, queue: &QueueState) -> Option<Choice>
         return Some(Choice::Input(SigId(signal as u32)));
     }
     if let Some(process) = queue.pending.least() {
-        return Some(Choice::Update(process as u32));
+        return Some(Choice::Update(ProcId(process as u32)));
     }
     if let Some(process) = queue.woken.least() {
-        return Some(woken_choice(fanout, process as u32));
+        return Some(woken_choice(fanout, ProcId(process as u32)));
     }
     if has_delayed(queue) {
         return Some(Choice::Delayed);
@@ -46,10 +47,10 @@ pub(crate) fn last(fanout: &Fanout, queue: &QueueState) -> Option<Choice>
         return Some(Choice::Delayed);
     }
     if let Some(process) = queue.woken.greatest() {
-        return Some(woken_choice(fanout, process as u32));
+        return Some(woken_choice(fanout, ProcId(process as u32)));
     }
     if let Some(process) = queue.pending.greatest() {
-        return Some(Choice::Update(process as u32));
+        return Some(Choice::Update(ProcId(process as u32)));
     }
     let signal = queue.offered.greatest()?;
     Some(Choice::Input(SigId(signal as u32)))

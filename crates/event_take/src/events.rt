@@ -19,7 +19,7 @@ use event_write::statements::make_all;
 use event_write::stores::evaluate;
 use event_write::waking::write;
 use rtl_bits::Vec4;
-use rtl_flat::act::{Act, Does};
+use rtl_flat::act::{Act, Does, ProcId};
 use rtl_flat::expr::SigId;
 use std::mem;
 
@@ -38,20 +38,20 @@ pub fn take_input(fanout: &Fanout, queue: &mut QueueState, signal: SigId)
 }
 
 /// A continuous assignment evaluates its expression.
-pub fn evaluate_driver(fanout: &Fanout, queue: &mut QueueState, process: u32)
+pub fn evaluate_driver(fanout: &Fanout, queue: &mut QueueState, process: ProcId)
     requires fanout { IsFanout fanout.now }
     requires queue { IsQueueState (design_of fanout.now) queue.old }
-    requires there { process < length fanout.now.design.now.processes.items }
-    ensures state { state queue.new ≡ after (design_of fanout.now) (state queue.old) (Evaluate process) }
+    requires there { process.0 < length fanout.now.design.now.processes.items }
+    ensures state { state queue.new ≡ after (design_of fanout.now) (state queue.old) (Evaluate process.0) }
     ensures queue { IsQueueState (design_of fanout.now) queue.new }
     ensures still { IsStill queue.old queue.new }
 {
-    match &fanout.design.processes[process as usize].does {
+    match &fanout.design.processes[process.0 as usize].does {
         Does::Assign { target: _, value } => {
             let bits = evaluate(&fanout.design.signals, &queue.values, value);
-            queue.pending_values[process as usize] = bits;
-            queue.pending.insert(process as usize);
-            queue.woken.remove(process as usize);
+            queue.pending_values[process.0 as usize] = bits;
+            queue.pending.insert(process.0 as usize);
+            queue.woken.remove(process.0 as usize);
         }
         Does::Comb { list: _, body: _ } => {}
         Does::Edge { events: _, body: _ } => {}
@@ -59,17 +59,17 @@ pub fn evaluate_driver(fanout: &Fanout, queue: &mut QueueState, process: u32)
 }
 
 /// The body of an `always` runs.
-pub fn run_body(fanout: &Fanout, queue: &mut QueueState, process: u32)
+pub fn run_body(fanout: &Fanout, queue: &mut QueueState, process: ProcId)
     requires fanout { IsFanout fanout.now }
     requires queue { IsQueueState (design_of fanout.now) queue.old }
-    requires there { process < length fanout.now.design.now.processes.items }
+    requires there { process.0 < length fanout.now.design.now.processes.items }
     requires scratch { 128 ≤ vec_capacity queue.old.scratch }
-    requires room { length queue.old.waiting.items + room_of (doing_at (design_of fanout.now) process) ≤ vec_capacity queue.old.waiting }
-    ensures state { state queue.new ≡ after (design_of fanout.now) (state queue.old) (Run process) }
+    requires room { length queue.old.waiting.items + room_of (doing_at (design_of fanout.now) process.0) ≤ vec_capacity queue.old.waiting }
+    ensures state { state queue.new ≡ after (design_of fanout.now) (state queue.old) (Run process.0) }
     ensures queue { IsQueueState (design_of fanout.now) queue.new }
-    ensures kept { IsKept (room_of (doing_at (design_of fanout.now) process)) queue.old queue.new }
+    ensures kept { IsKept (room_of (doing_at (design_of fanout.now) process.0)) queue.old queue.new }
 {
-    match &fanout.design.processes[process as usize].does {
+    match &fanout.design.processes[process.0 as usize].does {
         Does::Assign {
             target: _,
             value: _,
@@ -80,19 +80,19 @@ pub fn run_body(fanout: &Fanout, queue: &mut QueueState, process: u32)
 }
 
 /// Statements run, and their process waits again.
-fn run_statements(fanout: &Fanout, queue: &mut QueueState, process: u32, body: &[Act])
+fn run_statements(fanout: &Fanout, queue: &mut QueueState, process: ProcId, body: &[Act])
     requires fanout { IsFanout fanout.now }
     requires queue { IsQueueState (design_of fanout.now) queue.old }
-    requires there { process < length fanout.now.design.now.processes.items }
+    requires there { process.0 < length fanout.now.design.now.processes.items }
     requires body { IsBody fanout.now.design.now.signals.items (body_of (map action body.now)) }
     requires scratch { 128 ≤ vec_capacity queue.old.scratch }
     requires room { length queue.old.waiting.items + rooms (body_of (map action body.now)) ≤ vec_capacity queue.old.waiting }
-    ensures state { state queue.new ≡ wait (perform_all (design_of fanout.now) (state queue.old) (body_made (width_in fanout.now.design.now.signals.items) (store queue.old.values.items) (body_of (map action body.now)))) process }
+    ensures state { state queue.new ≡ wait (perform_all (design_of fanout.now) (state queue.old) (body_made (width_in fanout.now.design.now.signals.items) (store queue.old.values.items) (body_of (map action body.now)))) process.0 }
     ensures queue { IsQueueState (design_of fanout.now) queue.new }
     ensures kept { IsKept (rooms (body_of (map action body.now))) queue.old queue.new }
 {
     make_all(fanout, queue, body);
-    queue.woken.remove(process as usize);
+    queue.woken.remove(process.0 as usize);
 }
 
 /// The first of the activated nonblocking updates is made.

@@ -10,6 +10,7 @@ ghost use Rattle.event_take.specs.Taken.{IsAble, event_of, level_in};
 use crate::choice::{Choice, has_delayed, woken_choice};
 use event_write::fanout::Fanout;
 use event_write::queue_state::QueueState;
+use rtl_flat::act::ProcId;
 use rtl_flat::expr::SigId;
 
 /// The first update, or else the woken process of least level.
@@ -23,11 +24,11 @@ pub(crate) fn lowest(fanout: &Fanout, queue: &QueueState) -> Option<Choice>
         return Some(Choice::Input(SigId(signal as u32)));
     }
     if let Some(process) = queue.pending.least() {
-        return Some(Choice::Update(process as u32));
+        return Some(Choice::Update(ProcId(process as u32)));
     }
     if has_delayed(queue) {
         return Some(Choice::Delayed);
     }
     let process = queue.woken.lowest()?;
-    Some(woken_choice(fanout, process as u32))
+    Some(woken_choice(fanout, ProcId(process as u32)))
 }

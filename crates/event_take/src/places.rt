@@ -10,6 +10,7 @@ ghost use Rattle.event_take.specs.Taken.{IsAble, event_of};
 use crate::choice::{Choice, has_delayed, woken_choice};
 use event_write::fanout::Fanout;
 use event_write::queue_state::QueueState;
+use rtl_flat::act::ProcId;
 use rtl_flat::expr::SigId;
 
 /// How many events are active.
@@ -45,13 +46,13 @@ pub fn nth(fanout: &Fanout, queue: &QueueState, place: usize) -> Choice
     let updates = queue.pending.count();
     if behind < updates {
         let assignment = queue.pending.nth(behind);
-        return Choice::Update(assignment as u32);
+        return Choice::Update(ProcId(assignment as u32));
     }
     let rest = behind - updates;
     let woken = queue.woken.count();
     if rest < woken {
         let process = queue.woken.nth(rest);
-        return woken_choice(fanout, process as u32);
+        return woken_choice(fanout, ProcId(process as u32));
     }
     Choice::Delayed
 }

@@ -17,22 +17,22 @@ use event_write::fanout::Fanout;
 use event_write::queue_state::QueueState;
 use event_write::spans::span_of;
 use event_write::waking::write;
-use rtl_flat::act::{Does, TargetPart};
+use rtl_flat::act::{Does, ProcId, TargetPart};
 
 /// The driver of a continuous assignment takes its pending value, and its nets follow.
-pub fn update_driver(fanout: &Fanout, queue: &mut QueueState, process: u32)
+pub fn update_driver(fanout: &Fanout, queue: &mut QueueState, process: ProcId)
     requires fanout { IsFanout fanout.now }
     requires queue { IsQueueState (design_of fanout.now) queue.old }
-    requires pending { flag queue.old.pending process ≡ true }
-    ensures state { state queue.new ≡ after (design_of fanout.now) (state queue.old) (Update process) }
+    requires pending { flag queue.old.pending process.0 ≡ true }
+    ensures state { state queue.new ≡ after (design_of fanout.now) (state queue.old) (Update process.0) }
     ensures queue { IsQueueState (design_of fanout.now) queue.new }
     ensures still { IsStill queue.old queue.new }
 {
-    match &fanout.design.processes[process as usize].does {
+    match &fanout.design.processes[process.0 as usize].does {
         Does::Assign { target, value: _ } => {
-            let bits = queue.pending_values[process as usize];
-            queue.pending.remove(process as usize);
-            queue.drivers[process as usize] = Some(bits);
+            let bits = queue.pending_values[process.0 as usize];
+            queue.pending.remove(process.0 as usize);
+            queue.drivers[process.0 as usize] = Some(bits);
             write_nets(fanout, queue, &target.parts);
         }
         Does::Comb { list: _, body: _ } => {}

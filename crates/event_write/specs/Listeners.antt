@@ -15,4 +15,4 @@ hears_from l k _ _ = false
 abbrev pub heard_by : List Listener → ℕ → List Bit → List Bit → Bool
 heard_by [] p old new = false
 heard_by (l ∷ ls) p old new =
-    ((l.process == p) && hears_from l 0 old new) || heard_by ls p old new
+    ((l.process.0 == p) && hears_from l 0 old new) || heard_by ls p old new

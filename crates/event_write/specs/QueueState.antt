@@ -3,6 +3,7 @@ use Rattle.std.specs.Prelude.{◌≡◌, ◌<◌, ◌≤◌, ℕ, ◌+◌, Bool,
 use Rattle.std.specs.List.{All, slice_get}
 use Rattle.std.specs.declared.alloc.Global.{Global}
 use Rattle.rtl_bits.specs.declared.Bit.{Bit}
+use Rattle.rtl_flat.specs.declared.act.ProcId.{ProcId}
 use Rattle.rtl_flat.specs.declared.design.Design.{Design}
 use Rattle.rtl_flat.specs.declared.signal.Signal.{Signal}
 use Rattle.rtl_flat.specs.Process.{Doing, Assign}
@@ -57,18 +58,18 @@ abbrev pub driven_with : (ℕ → ℕ) → Option Doing → List Bit → ℕ →
 driven_with ws None bits net others = others
 driven_with ws (Some does) bits net others = drive_with ws does bits net others
 
-abbrev pub resolved_by : Flat → List ℕ → (ℕ → List Bit) → Values
+abbrev pub resolved_by : Flat → List ProcId → (ℕ → List Bit) → Values
 resolved_by d [] driver net = no_drive (widths d) net
 resolved_by d (p ∷ ps) driver net =
-    driven_with (widths d) (doing_at d p) (driver p) net (resolved_by d ps driver net)
+    driven_with (widths d) (doing_at d p.0) (driver p.0) net (resolved_by d ps driver net)
 
 -- whether tables of listeners and drivers are those of a design
-pub record AreTables (d : Flat) (listeners : List (Vec Listener Global)) (drivers : List (Vec ℕ Global)) : Type 0 where
+pub record AreTables (d : Flat) (listeners : List (Vec Listener Global)) (drivers : List (Vec ProcId Global)) : Type 0 where
   pub listened : length listeners ≡ length d.signals
   pub driven : length drivers ≡ length d.signals
-  pub inside : (i : ℕ) → All (λ listener. listener.process < length d.tasks) (row listeners i)
+  pub inside : (i : ℕ) → All (λ listener. listener.process.0 < length d.tasks) (row listeners i)
   pub hear : (i p : ℕ) (old new : List Bit) → heard_by (row listeners i) p old new ≡ hears (widths d) i old new (doing_at d p)
-  pub drivers_inside : (i : ℕ) → All (λ p. p < length d.tasks) (row drivers i)
+  pub drivers_inside : (i : ℕ) → All (λ p. p.0 < length d.tasks) (row drivers i)
   pub drive : (driver : ℕ → List Bit) (i : ℕ) → resolved_by d (row drivers i) driver i ≡ resolved d driver i
 
 abbrev pub design_of : Fanout → Flat

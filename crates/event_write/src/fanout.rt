@@ -1,6 +1,7 @@
 //! Who hears changes of signals, and who drives them.
 
 use crate::listener::Listener;
+use rtl_flat::act::ProcId;
 use rtl_flat::design::Design;
 
 /// What follows from changes in a design; it stays the same while a simulator runs.
@@ -10,5 +11,5 @@ pub struct Fanout<'d> {
     /// For each signal who hears changes of it.
     pub listeners: Vec<Vec<Listener>>,
     /// For each signal the continuous assignments that drive a part of it, in order.
-    pub drivers: Vec<Vec<u32>>,
+    pub drivers: Vec<Vec<ProcId>>,
 }

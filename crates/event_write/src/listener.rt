@@ -7,11 +7,12 @@ ghost use Rattle.event_write.specs.Listeners.{hears_from};
 
 use crate::changes::Changes;
 use rtl_bits::Edge;
+use rtl_flat::act::ProcId;
 
 /// A process that is sensitive to some bits of a signal.
 #[derive(Clone, Copy)]
 pub struct Listener {
-    pub process: u32,
+    pub process: ProcId,
     pub edge: Edge,
     /// The bits, each a digit.
     pub mask: u128,

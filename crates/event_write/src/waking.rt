@@ -16,11 +16,12 @@ use crate::listener::Listener;
 use crate::queue_state::QueueState;
 use agenda::Agenda;
 use rtl_bits::Vec4;
+use rtl_flat::act::ProcId;
 use rtl_flat::expr::SigId;
 
 /// Wakes the processes that hear changes of a signal.
 pub(crate) fn wake(listeners: &[Listener], changes: Changes, woken: &mut Agenda)
-    requires { All (λ listener. listener.process < length woken.old.flags) listeners.now }
+    requires { All (λ listener. listener.process.0 < length woken.old.flags) listeners.now }
     ensures size { length woken.new.flags ≡ length woken.old.flags }
     ensures levels { woken.new.levels ≡ woken.old.levels }
     ensures woken { (old new : List Bit) → length old ≡ length new → AreChanges old new changes → (p : ℕ) → flag woken.new.flags p ≡ (flag woken.old.flags p || heard_by listeners.now p old new) }
@@ -33,14 +34,14 @@ pub(crate) fn wake(listeners: &[Listener], changes: Changes, woken: &mut Agenda)
 
 /// Adds a process where it hears something.
 #[tactic(auto, using(crate::proofs::Woken::inserted, crate::proofs::Woken::not_inserted))]
-fn insert_if(woken: &mut Agenda, process: u32, hears: bool)
-    requires { process < length woken.old.flags }
+fn insert_if(woken: &mut Agenda, process: ProcId, hears: bool)
+    requires { process.0 < length woken.old.flags }
     ensures size { length woken.new.flags ≡ length woken.old.flags }
     ensures levels { woken.new.levels ≡ woken.old.levels }
-    ensures flags { (p : ℕ) → flag woken.new.flags p ≡ (flag woken.old.flags p || ((process == p) && hears)) }
+    ensures flags { (p : ℕ) → flag woken.new.flags p ≡ (flag woken.old.flags p || ((process.0 == p) && hears)) }
 {
     if hears {
-        woken.insert(process as usize);
+        woken.insert(process.0 as usize);
     }
 }
 

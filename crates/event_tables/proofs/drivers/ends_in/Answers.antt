@@ -4,4 +4,4 @@ use Rattle.event_tables.proofs.drivers.ends_in.Goals as goal
 
 pub returns-in-Some : goal.returns-in-Some
 returns-in-Some c =
-    last_is c.args.row.now (length c.args.row.now - 1) c.in-Some.last.now c.args.process refl c.in-Some.ensures.value
+    last_is c.args.row.now (length c.args.row.now - 1) c.in-Some.last.now c.args.process.0 refl c.in-Some.ensures.value

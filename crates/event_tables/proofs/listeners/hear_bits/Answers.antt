@@ -4,7 +4,7 @@ use Rattle.event_tables.proofs.listeners.hear_bits.Goals as goal
 
 pub returns-then-place-len : goal.returns-then-place-len
 returns-then-place-len c =
-    hears_past c.args.process c.args.edge c.args.bits c.args.listeners.now.items (omega arith)
+    hears_past c.args.process.0 c.args.edge c.args.bits c.args.listeners.now.items (omega arith)
 
 pub returns : goal.returns
 returns c =

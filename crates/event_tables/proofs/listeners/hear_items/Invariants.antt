@@ -9,4 +9,4 @@ use Rattle.event_tables.proofs.listeners.hear_items.Given as goal
 
 abbrev pub invariant-loop-item : goal.invariant-loop-item
 invariant-loop-item l =
-    (new : List (Vec Listener Global)) → Hears l.process (items_ear (widths (flat l.design)) (drop l.item-index l.items)) l.listeners.items new → Hears l.fn.process (items_ear (widths (flat l.fn.design)) l.fn.items) l.fn.listeners.items new
+    (new : List (Vec Listener Global)) → Hears l.process.0 (items_ear (widths (flat l.design)) (drop l.item-index l.items)) l.listeners.items new → Hears l.fn.process.0 (items_ear (widths (flat l.fn.design)) l.fn.items) l.fn.listeners.items new

@@ -8,4 +8,4 @@ use Rattle.event_tables.proofs.listeners.hear_rows.Given as goal
 
 abbrev pub invariant-loop-row : goal.invariant-loop-row
 invariant-loop-row l =
-    (new : List (Vec Listener Global)) → Hears l.process (rows_ear (drop l.row-index l.rows)) l.listeners.items new → Hears l.fn.process (rows_ear l.fn.rows) l.fn.listeners.items new
+    (new : List (Vec Listener Global)) → Hears l.process.0 (rows_ear (drop l.row-index l.rows)) l.listeners.items new → Hears l.fn.process.0 (rows_ear l.fn.rows) l.fn.listeners.items new

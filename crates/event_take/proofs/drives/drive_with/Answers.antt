@@ -30,7 +30,7 @@ pub driven-requires-clause-selected : goal.driven-requires-clause-selected
 driven-requires-clause-selected c =
     let design = c.args.fanout.now.design.now in
     let signals = design.signals.items in
-    let one = task_has (λ one. IsProcess signals one.does) design.processes.items c.args.process c.index.result.now design.is_design.each_process c.requires.inside c.index.ensures in
+    let one = task_has (λ one. IsProcess signals one.does) design.processes.items c.args.process.0 c.index.result.now design.is_design.each_process c.requires.inside c.index.ensures in
     let lawful = subst (IsProcess signals) (ap doing c.in-Assign.is) one in
     let parts = c.in-Assign.target.parts.items in
     subst (λ (ss : List Signal). AreSelected ss (map piece c.deref-3.result.now)) (sym c.deref.ensures.value)
@@ -40,7 +40,7 @@ driven-requires-clause-selected c =
 pub driven-requires-clause-fixed : goal.driven-requires-clause-fixed
 driven-requires-clause-fixed c =
     let design = c.args.fanout.now.design.now in
-    let one = task_has (λ one. IsProcess design.signals.items one.does) design.processes.items c.args.process c.index.result.now design.is_design.each_process c.requires.inside c.index.ensures in
+    let one = task_has (λ one. IsProcess design.signals.items one.does) design.processes.items c.args.process.0 c.index.result.now design.is_design.each_process c.requires.inside c.index.ensures in
     let lawful = subst (IsProcess design.signals.items) (ap doing c.in-Assign.is) one in
     subst (λ (ps : List TargetPart). All (λ (p : Piece). IsFixed p.selection) (map piece ps)) (sym c.deref-3.ensures.value) lawful.1
 
@@ -48,7 +48,7 @@ pub driven-requires-clause-covered : goal.driven-requires-clause-covered
 driven-requires-clause-covered c =
     let design = c.args.fanout.now.design.now in
     let signals = design.signals.items in
-    let p = c.args.process in
+    let p = c.args.process.0 in
     let drivers = c.args.queue.now.drivers.items in
     let one = task_has (λ one. IsProcess signals one.does) design.processes.items p c.index.result.now design.is_design.each_process c.requires.inside c.index.ensures in
     let lawful = subst (IsProcess signals) (ap doing c.in-Assign.is) one in
@@ -71,7 +71,7 @@ pub returns-clause-bits : goal.returns-clause-bits
 returns-clause-bits c =
     let design = c.args.fanout.now.design.now in
     let ws = width_in design.signals.items in
-    let p = c.args.process in
+    let p = c.args.process.0 in
     let net = c.args.net.0 in
     let others = c.args.others in
     let drivers = c.args.queue.now.drivers.items in

@@ -2,6 +2,7 @@ use Rattle.std.proofs.Common.{ℕ, ◌≡◌, ◌≤◌, ◌<◌, ◌+◌, ◌-�
 use Rattle.std.proofs.lemmas.List.{drop_all, length-map}
 use Rattle.rtl_bits.specs.declared.Bit.{Bit}
 use Rattle.rtl_bits.specs.declared.Bit.TheVariants.{Z}
+use Rattle.rtl_flat.specs.declared.act.ProcId.{ProcId}
 use Rattle.rtl_flat.specs.declared.signal.Signal.{Signal}
 use Rattle.rtl_flat.specs.Process.{task}
 use Rattle.rtl_flat.specs.Signs.{width_in}
@@ -42,7 +43,7 @@ loop-behind-init c =
     let same = ap length is in
     let width = c.width_of.ensures ∙ ap (λ (ss : List Signal). width_in ss net) c.deref.ensures.value in
     let none = drop_all (c.len-count.result - 0) (row rows net) (omega (arith, len, fits, same)) in (
-      c.filled-given.ensures.bits ∙ ap (λ n. replicate n Z) width ∙ ap (λ (ps : List ℕ). resolved_by d ps (state c.args.queue.now).driver net) (sym none),
+      c.filled-given.ensures.bits ∙ ap (λ n. replicate n Z) width ∙ ap (λ (ps : List ProcId). resolved_by d ps (state c.args.queue.now).driver net) (sym none),
       c.filled-given.ensures.width ∙ width,
     )
 
@@ -61,10 +62,11 @@ drive_with-given-requires-clause-inside c =
     let k = c.len-count.result - 1 - c.loop-behind.behind in
     let within : k < length (row rows net) = omega (arith, len, fits, same, test) in
     let here : c.index-process.result.now ≡ get_or (row rows net) k c.index-process.result.now =
-    c.index-process.ensures ∙ ap (λ (ps : List ℕ). get_or ps k c.index-process.result.now) (sym is) in
+    c.index-process.ensures ∙ ap (λ (ps : List ProcId). get_or ps k c.index-process.result.now) (sym is) in
     let inside = c.requires.fanout.drivers_inside net k c.index-process.result.now within in
     let all = length-map processes task in
-    omega (arith, here, inside, all)
+    let same_number : c.index-process.result.now.0 ≡ (get_or (row rows net) k c.index-process.result.now).0 = ap (λ (q : ProcId). q.0) here in
+    omega (arith, same_number, inside, all)
 
 pub loop-behind-preserved : goal.loop-behind-preserved
 loop-behind-preserved c =
@@ -82,13 +84,13 @@ loop-behind-preserved c =
     let driver = (state c.args.queue.now).driver in
     let k = c.len-count.result - 1 - c.loop-behind.behind in
     let within : k < length (row rows net) = omega (arith, len, fits, same, test) in
-    let here : process ≡ get_or (row rows net) k process = c.index-process.ensures ∙ ap (λ (ps : List ℕ). get_or ps k process) (sym is) in
+    let here : process ≡ get_or (row rows net) k process = c.index-process.ensures ∙ ap (λ (ps : List ProcId). get_or ps k process) (sym is) in
     let left : drop k (row rows net) ≡ process ∷ drop (k + 1) (row rows net) = left_at (row rows net) k process within here in
     let next : k + 1 ≡ c.len-count.result - c.loop-behind.behind = omega (arith, len, fits, same, test) in
     let now : k ≡ c.len-count.result - (c.loop-behind.behind + 1) = omega (arith, len, fits, same, test) in (
       c.drive_with-given.ensures.bits
-          ∙ ap (λ (bs : List Bit). driven_with (widths d) (doing_at d process) (driver process) net bs) (c.loop-behind.invariant.0 ∙ ap (λ n. resolved_by d (drop n (row rows net)) driver net) (sym next))
-          ∙ ap (λ (ps : List ℕ). resolved_by d ps driver net) (sym left)
+          ∙ ap (λ (bs : List Bit). driven_with (widths d) (doing_at d process.0) (driver process.0) net bs) (c.loop-behind.invariant.0 ∙ ap (λ n. resolved_by d (drop n (row rows net)) driver net) (sym next))
+          ∙ ap (λ (ps : List ProcId). resolved_by d ps driver net) (sym left)
           ∙ ap (λ n. resolved_by d (drop n (row rows net)) driver net) now,
       c.drive_with-given.ensures.width,
     )

@@ -20,14 +20,14 @@ use Rattle.event_take.proofs.events.evaluate_driver.Goals as goal
 pub evaluate-bits-requires-clause-expression : goal.evaluate-bits-requires-clause-expression
 evaluate-bits-requires-clause-expression c =
     let design = c.args.fanout.now.design.now in
-    let one = task_has (λ one. IsProcess design.signals.items one.does) design.processes.items c.args.process c.index.result.now design.is_design.each_process c.requires.there c.index.ensures in
+    let one = task_has (λ one. IsProcess design.signals.items one.does) design.processes.items c.args.process.0 c.index.result.now design.is_design.each_process c.requires.there c.index.ensures in
     let lawful = subst (IsProcess design.signals.items) (ap doing c.in-Assign.is) one in
     subst (λ (ss : List Signal). IsExpression ss (tree c.in-Assign.value)) (sym c.deref.ensures.value) lawful.0.sized
 
 pub returns-in-Assign-clause-state : goal.returns-in-Assign-clause-state
 returns-in-Assign-clause-state c =
     let s = state c.args.queue.now in
-    let p = c.args.process in
+    let p = c.args.process.0 in
     let processes = c.args.fanout.now.design.now.processes.items in
     let flags = c.args.queue.now.pending in
     let woken = c.args.queue.now.woken.flags in
@@ -55,7 +55,7 @@ returns-in-Assign-clause-state c =
 pub returns-in-Assign-clause-queue : goal.returns-in-Assign-clause-queue
 returns-in-Assign-clause-queue c =
     let d = design_of c.args.fanout.now in
-    let p = c.args.process in
+    let p = c.args.process.0 in
     let processes = c.args.fanout.now.design.now.processes.items in
     let values = c.args.queue.now.pending_values.items in
     let is = c.requires.queue in

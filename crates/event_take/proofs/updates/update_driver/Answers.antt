@@ -23,11 +23,11 @@ pub write_nets-requires-clause-selected : goal.write_nets-requires-clause-select
 write_nets-requires-clause-selected c =
     let design = c.args.fanout.now.design.now in
     let signals = design.signals.items in
-    let flagged = member_within c.args.queue.now.pending c.args.process c.requires.pending in
+    let flagged = member_within c.args.queue.now.pending c.args.process.0 c.requires.pending in
     let count = length-map design.processes.items task in
     let known = c.requires.queue.pending in
-    let there : c.args.process < length design.processes.items = omega (arith, flagged, count, known) in
-    let one = task_has (λ one. IsProcess signals one.does) design.processes.items c.args.process c.index.result.now design.is_design.each_process there c.index.ensures in
+    let there : c.args.process.0 < length design.processes.items = omega (arith, flagged, count, known) in
+    let one = task_has (λ one. IsProcess signals one.does) design.processes.items c.args.process.0 c.index.result.now design.is_design.each_process there c.index.ensures in
     let lawful = subst (IsProcess signals) (ap doing c.in-Assign.is) one in
     subst (λ (ps : List TargetPart). AreSelected signals (map piece ps)) (sym c.deref.ensures.value)
     (are_selected signals (some_bits design.instances.items signals design.is_design.each_signal) (map piece c.in-Assign.target.parts.items) lawful.0.parts)
@@ -35,11 +35,11 @@ write_nets-requires-clause-selected c =
 pub write_nets-requires-clause-fixed : goal.write_nets-requires-clause-fixed
 write_nets-requires-clause-fixed c =
     let design = c.args.fanout.now.design.now in
-    let flagged = member_within c.args.queue.now.pending c.args.process c.requires.pending in
+    let flagged = member_within c.args.queue.now.pending c.args.process.0 c.requires.pending in
     let count = length-map design.processes.items task in
     let known = c.requires.queue.pending in
-    let there : c.args.process < length design.processes.items = omega (arith, flagged, count, known) in
-    let one = task_has (λ one. IsProcess design.signals.items one.does) design.processes.items c.args.process c.index.result.now design.is_design.each_process there c.index.ensures in
+    let there : c.args.process.0 < length design.processes.items = omega (arith, flagged, count, known) in
+    let one = task_has (λ one. IsProcess design.signals.items one.does) design.processes.items c.args.process.0 c.index.result.now design.is_design.each_process there c.index.ensures in
     let lawful = subst (IsProcess design.signals.items) (ap doing c.in-Assign.is) one in
     subst (λ (ps : List TargetPart). All (λ (p : Piece). IsFixed p.selection) (map piece ps)) (sym c.deref.ensures.value) lawful.1
 
@@ -50,7 +50,7 @@ returns-in-Assign-clause-state c =
     let ws = width_in design.signals.items in
     let m = c.args.queue.now in
     let s = state m in
-    let p = c.args.process in
+    let p = c.args.process.0 in
     let flags = m.pending in
     let values = m.pending_values.items in
     let flagged = member_within flags p c.requires.pending in
@@ -80,17 +80,17 @@ returns-in-Assign-clause-state c =
 pub returns-in-Comb-clause-state : goal.returns-in-Comb-clause-state
 returns-in-Comb-clause-state c =
     let processes = c.args.fanout.now.design.now.processes.items in
-    let flagged = member_within c.args.queue.now.pending c.args.process c.requires.pending in
+    let flagged = member_within c.args.queue.now.pending c.args.process.0 c.requires.pending in
     let count = length-map processes task in
     let known = c.requires.queue.pending in
-    let there : c.args.process < length processes = omega (arith, flagged, count, known) in
-    sym (ap (after_update (design_of c.args.fanout.now) (state c.args.queue.now) c.args.process) (doing_here processes c.args.process c.index.result.now there c.index.ensures ∙ ap (λ x. Some (doing x)) c.in-Comb.is))
+    let there : c.args.process.0 < length processes = omega (arith, flagged, count, known) in
+    sym (ap (after_update (design_of c.args.fanout.now) (state c.args.queue.now) c.args.process.0) (doing_here processes c.args.process.0 c.index.result.now there c.index.ensures ∙ ap (λ x. Some (doing x)) c.in-Comb.is))
 
 pub returns-in-Edge-clause-state : goal.returns-in-Edge-clause-state
 returns-in-Edge-clause-state c =
     let processes = c.args.fanout.now.design.now.processes.items in
-    let flagged = member_within c.args.queue.now.pending c.args.process c.requires.pending in
+    let flagged = member_within c.args.queue.now.pending c.args.process.0 c.requires.pending in
     let count = length-map processes task in
     let known = c.requires.queue.pending in
-    let there : c.args.process < length processes = omega (arith, flagged, count, known) in
-    sym (ap (after_update (design_of c.args.fanout.now) (state c.args.queue.now) c.args.process) (doing_here processes c.args.process c.index.result.now there c.index.ensures ∙ ap (λ x. Some (doing x)) c.in-Edge.is))
+    let there : c.args.process.0 < length processes = omega (arith, flagged, count, known) in
+    sym (ap (after_update (design_of c.args.fanout.now) (state c.args.queue.now) c.args.process.0) (doing_here processes c.args.process.0 c.index.result.now there c.index.ensures ∙ ap (λ x. Some (doing x)) c.in-Edge.is))

@@ -20,8 +20,8 @@ wake-requires c =
     let listened = c.requires.fanout.listened in
     let within : c.args.signal.0 < length c.args.fanout.now.listeners.items = omega (arith, there, listened) in
     let is = row_at c.args.fanout.now.listeners.items c.args.signal.0 c.index-listeners.result.now within c.index-listeners.ensures in
-    subst (λ (xs : List Listener). All (λ listener. listener.process < length c.args.queue.now.woken.flags) xs) (is ∙ sym c.deref.ensures.value)
-    (subst (λ (n : ℕ). All (λ listener. listener.process < n) (row c.args.fanout.now.listeners.items c.args.signal.0)) (sym c.requires.queue.woken) (c.requires.fanout.inside c.args.signal.0))
+    subst (λ (xs : List Listener). All (λ listener. listener.process.0 < length c.args.queue.now.woken.flags) xs) (is ∙ sym c.deref.ensures.value)
+    (subst (λ (n : ℕ). All (λ listener. listener.process.0 < n) (row c.args.fanout.now.listeners.items c.args.signal.0)) (sym c.requires.queue.woken) (c.requires.fanout.inside c.args.signal.0))
 
 pub returns-clause-state : goal.returns-clause-state
 returns-clause-state c =
