@@ -1,5 +1,5 @@
 -- Files by name, and what a shelf answers where one of them is read.
-use Rattle.std.specs.Prelude.{◌≡◌, ℕ, List, length, nat_le, bytes_eq, if◌then◌else◌, ⊤, Some, None, Ok, Err, Vec, Option, Result}
+use Rattle.std.specs.Prelude.{◌≡◌, ℕ, List, length, nat_le, bytes_eq, if◌then◌else◌, ⊤, Some, None, Ok, Err, Vec, Option, Result, IfSome}
 use Rattle.std.specs.declared.alloc.Global.{Global}
 use Rattle.desk_io.specs.declared.shelf.TheConstants.{MAX_FILE_BYTES}
 use Rattle.desk_io.specs.declared.shelf.ShelfFault.{ShelfFault}
@@ -36,3 +36,11 @@ IsFreeFault Failed = ⊤
 IsFreeFault Memory = ⊤
 IsFreeFault NoSuchFile = ⊥
 IsFreeFault TooLong = ⊥
+
+-- the count of faults stays where the call didn't fail; a shelf that tells nothing may count a missing file too
+abbrev pub IsCalm : Option Files → Result (Vec ℕ Global) ShelfFault → ℕ → ℕ → Type 0
+IsCalm files (Ok bytes) before now = now ≡ before
+IsCalm files (Err Failed) before now = ⊤
+IsCalm files (Err NoSuchFile) before now = IfSome files (λ held. now ≡ before)
+IsCalm files (Err TooLong) before now = now ≡ before
+IsCalm files (Err Memory) before now = now ≡ before

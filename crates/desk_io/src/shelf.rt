@@ -2,7 +2,7 @@
 ghost use Rattle.std.specs.Prelude.{◌≡◌, ◌≤◌, ℕ, Option, vec_len, IfOk, IfSome, IfNone, IsErrOf};
 ghost use Rattle.desk_io.specs.declared.shelf.ShelfFault.TheVariants.{Memory};
 ghost use Rattle.desk_io.specs.Causes.{Rose};
-ghost use Rattle.desk_io.specs.Shelf.{Files, IsReading, reading};
+ghost use Rattle.desk_io.specs.Shelf.{Files, IsCalm, IsReading, reading};
 
 mod files;
 mod lengths;
@@ -60,5 +60,8 @@ pub trait Shelf {
         // An error for which no file speaks is counted.
         ensures later { faults self.old ≤ faults self.new }
         ensures failed { IsErrOf result ShelfFault.Failed → Rose (faults self.old) (faults self.new) }
-        ensures missing { IfNone (files self.old) (IsErrOf result ShelfFault.NoSuchFile → Rose (faults self.old) (faults self.new)) };
+        ensures missing { IfNone (files self.old) (IsErrOf result ShelfFault.NoSuchFile → Rose (faults self.old) (faults self.new)) }
+
+        // Nothing else is.
+        ensures calm { IsCalm (files self.old) result (faults self.old) (faults self.new) };
 }
