@@ -10,5 +10,5 @@ mod shelf;
 mod sink;
 
 pub use failed::Failed;
-pub use shelf::{FileShelf, MAX_FILE_BYTES, MemoryShelf, Shelf, ShelfFault};
+pub use shelf::{FileShelf, MAX_FILE_BYTES, MemoryShelf, Opener, Shelf, ShelfFault, SystemFiles};
 pub use sink::{MemorySink, Sink, WriterSink};

@@ -7,9 +7,11 @@ ghost use Rattle.desk_io.specs.Shelf.{Files, IsCalm, IsReading, reading};
 mod files;
 mod lengths;
 mod memory;
+mod opening;
 
 pub use files::FileShelf;
 pub use memory::MemoryShelf;
+pub use opening::{Opener, SystemFiles};
 use std::alloc::AllocError;
 use thiserror::Error;
 

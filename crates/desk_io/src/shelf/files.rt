@@ -1,34 +1,37 @@
-// A shelf over the files of the system.
-ghost use Rattle.std.specs.Prelude.{◌≡◌, ◌≢◌, ◌≤◌, ◌↔◌, None, Err, vec_len, IfOk, IsErrOf};
-ghost use Rattle.std.specs.IoError.{error_kind};
+// A shelf over files that are opened and read.
+ghost use Rattle.std.specs.Prelude.{◌≡◌, ◌≢◌, ◌≤◌, None, Err, vec_len, IfOk, IfSome, IsErrOf};
 ghost use Rattle.desk_io.specs.Causes.{Rose};
-ghost use Rattle.desk_io.specs.FileShelf.{fault_count};
+ghost use Rattle.desk_io.specs.FileShelf.{fault_count, opener_of};
+ghost use Rattle.desk_io.specs.Shelf.{IsReading, reading};
 ghost use Rattle.desk_io.specs.declared.shelf.TheConstants.{MAX_FILE_BYTES};
 
 use super::lengths::read_whole;
+use super::opening::Opener;
 use super::{Shelf, ShelfFault};
 use std::alloc::Global;
-use std::io::ErrorKind;
-use std::rt::Files;
-use std::{fs, io};
 
-/// A shelf over the files that a runtime opens, by their paths. It tells nothing of them. A folder can't be read.
+/// A shelf over files that are opened and read. It tells nothing of them as a shelf. A folder can't be read.
 #[derive(Drop)]
-pub struct FileShelf<R: Drop> {
-    runtime: R,
+pub struct FileShelf<O: Drop> {
+    alloc: Global,
+    opener: O,
     faults: u64,
 }
 
-impl<R: Files + AllocGlobal + Drop> FileShelf<R> {
+impl<O: Opener + Drop> FileShelf<O> {
     ghost use Rattle.std.specs.Prelude.{◌≡◌, ◌+◌, ◌-◌, ◌^◌, min};
-    ghost use Rattle.desk_io.specs.FileShelf.{fault_count, runtime_of};
+    ghost use Rattle.desk_io.specs.FileShelf.{fault_count, opener_of};
 
-    /// A shelf over the runtime's files, with no fault yet.
-    pub fn new(runtime: R) -> Self
+    /// A shelf over the opener's files, with no fault yet.
+    pub fn new(alloc: Global, opener: O) -> Self
         ensures faults { fault_count result ≡ 0 }
-        ensures runtime { runtime_of result ≡ runtime }
+        ensures opener { opener_of result ≡ opener }
     {
-        FileShelf { runtime, faults: 0 }
+        FileShelf {
+            alloc,
+            opener,
+            faults: 0,
+        }
     }
 
     /// How many reads have failed.
@@ -43,49 +46,42 @@ impl<R: Files + AllocGlobal + Drop> FileShelf<R> {
         ensures fault { result ≡ fault }
         ensures counted { fault_count self.new ≡ min (fault_count self.old + 1) (2 ^ 64 - 1) }
         ensures later { fault_count self.old ≤ fault_count self.new }
+        ensures opener { opener_of self.new ≡ opener_of self.old }
     {
         self.faults = self.faults.saturating_add(1);
         fault
     }
 }
 
-// Why a file isn't opened.
-fn open_fault(error: &io::Error) -> ShelfFault
-    ensures missing { (result ≡ ShelfFault.NoSuchFile) ↔ (error_kind error.now ≡ ErrorKind.NotFound) }
-    ensures unread { result ≢ ShelfFault.TooLong }
+// Opens the file of this name, and reads it whole.
+fn read_file<O: Opener>(alloc: Global, opener: &O, name: &str) -> Result<Vec<u8>, ShelfFault>
+    ensures told { IfSome (O.files opener.now) (λ held. IsReading (reading (held name.now)) result) }
+    ensures short { IfOk result (λ bytes. vec_len bytes ≤ MAX_FILE_BYTES) }
 {
-    match error.kind() {
-        ErrorKind::NotFound => ShelfFault::NoSuchFile,
-        ErrorKind::OutOfMemory => ShelfFault::Memory,
-        _ => ShelfFault::Failed,
+    match opener.open(name) {
+        Ok(file) => read_whole(alloc, file),
+        Err(fault) => Err(fault),
     }
 }
 
-fn read_file<R: Files + AllocGlobal>(runtime: &R, name: &str) -> Result<Vec<u8>, ShelfFault>
-    ensures { IfOk result (λ bytes. vec_len bytes ≤ MAX_FILE_BYTES) }
-{
-    match fs::open(runtime, name) {
-        Ok(file) => read_whole(runtime.alloc(), file),
-        Err(error) => Err(open_fault(&error)),
-    }
-}
-
-impl<R: Files + AllocGlobal + Drop> Shelf for FileShelf<R> {
+impl<O: Opener + Drop> Shelf for FileShelf<O> {
     ghost files = { λ _. None };
 
     ghost faults = { λ shelf. fault_count shelf };
 
-    /// The file at this path, which is opened as it is given. Each failure of the system is counted, and so is a
-    /// missing file. Nothing else is.
+    /// The file of this name. Each failure is counted, and so is a missing file. Nothing else is. The answer is exact
+    /// where the opener tells its files.
     fn read(&mut self, name: &str) -> Result<Vec<u8>, ShelfFault>
+        ensures exact { IfSome (O.files (opener_of self.old)) (λ held. IsReading (reading (held name.now)) result) }
         ensures short { IfOk result (λ bytes. vec_len bytes ≤ MAX_FILE_BYTES) }
+        ensures opener { opener_of self.new ≡ opener_of self.old }
         ensures later { fault_count self.old ≤ fault_count self.new }
         ensures failed { IsErrOf result ShelfFault.Failed → Rose (fault_count self.old) (fault_count self.new) }
         ensures missing { IsErrOf result ShelfFault.NoSuchFile → Rose (fault_count self.old) (fault_count self.new) }
-        ensures calm { result ≢ Err ShelfFault.Failed → result ≢ Err ShelfFault.NoSuchFile
+        ensures still { result ≢ Err ShelfFault.Failed → result ≢ Err ShelfFault.NoSuchFile
             → fault_count self.new ≡ fault_count self.old }
     {
-        match read_file(&self.runtime, name) {
+        match read_file(self.alloc, &self.opener, name) {
             Err(ShelfFault::Failed) => Err(self.counted(ShelfFault::Failed)),
             Err(ShelfFault::NoSuchFile) => Err(self.counted(ShelfFault::NoSuchFile)),
             answer => answer,
