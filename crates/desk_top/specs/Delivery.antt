@@ -1,8 +1,10 @@
 -- How a command's work ends, and how its bytes reach a sink.
-use Rattle.std.specs.Prelude.{◌≡◌, ◌≢◌, ℕ, ◌==◌, List, [], ◌++◌, Option, Result, Ok, Err, Bool, false, ◌||◌, ⊤}
+use Rattle.std.specs.Prelude.{◌≡◌, ◌≢◌, ℕ, ◌==◌, List, [], ◌++◌, Option, Result, Ok, Err, Bool, false, ◌||◌, ⊤, IfSome}
 use Rattle.std.specs.Io.KnownBytes.{Appends}
 use Rattle.desk_io.specs.declared.shelf.ShelfFault.{ShelfFault}
 use Rattle.desk_io.specs.declared.shelf.ShelfFault.TheVariants as fault
+use Rattle.desk_io.specs.Shelf.{Files}
+use Rattle.desk_top.specs.declared.deliver.TheConstants.{DONE, OPEN, REFUSED, NO_COMMAND, UNREAD, UNWRITTEN, NO_FILE, UNSETTLED, MALFORMED, NO_MEMORY}
 use Rattle.desk_top.specs.declared.deliver.Ending.{Ending}
 use Rattle.desk_top.specs.declared.deliver.Ending.TheVariants.{Clean, Open, Refused, NoCommand, Settled, Unsettled, Malformed}
 use Rattle.desk_top.specs.declared.deliver.Stop.{Stop}
@@ -15,18 +17,18 @@ pub record Outcome : Type 0 where
   pub bytes : List ℕ
 
 abbrev pub status_of : Ending → ℕ
-status_of Clean = 0
-status_of Open = 1
-status_of Refused = 2
-status_of NoCommand = 3
-status_of Settled = 0
-status_of Unsettled = 11
-status_of Malformed = 12
+status_of Clean = DONE
+status_of Open = OPEN
+status_of Refused = REFUSED
+status_of NoCommand = NO_COMMAND
+status_of Settled = DONE
+status_of Unsettled = UNSETTLED
+status_of Malformed = MALFORMED
 
 abbrev pub stop_status : Stop → ℕ
-stop_status Unread = 4
-stop_status NoFile = 9
-stop_status Memory = 20
+stop_status Unread = UNREAD
+stop_status NoFile = NO_FILE
+stop_status Memory = NO_MEMORY
 
 -- how a file that wasn't read stops the work
 abbrev pub stop_of : ShelfFault → Stop
@@ -41,7 +43,7 @@ outcome_of work = record { status = status_of work.ending; bytes = work.bytes.it
 
 -- the outcome where a file isn't there or is too long: nothing is written
 abbrev pub no_file : Outcome
-no_file = record { status = 9; bytes = [] }
+no_file = record { status = NO_FILE; bytes = [] }
 
 -- the work has this outcome, unless a read failed or memory ran out
 abbrev pub IsWork : (Outcome → Type 0) → Result Work Stop → Type 0
@@ -50,6 +52,13 @@ IsWork IsWanted (Err NoFile) = IsWanted no_file
 IsWork IsWanted (Err Unread) = ⊤
 IsWork IsWanted (Err Memory) = ⊤
 
+-- the shelf's count of faults stays unless a read failed; a shelf that tells nothing may count a missing file too
+abbrev pub IsCalmWork : {T : Type 0} → Option Files → Result T Stop → ℕ → ℕ → Type 0
+IsCalmWork files (Ok work) before now = now ≡ before
+IsCalmWork files (Err Unread) before now = ⊤
+IsCalmWork files (Err NoFile) before now = IfSome files (λ held. now ≡ before)
+IsCalmWork files (Err Memory) before now = now ≡ before
+
 -- a front of the bytes was appended, where the bytes before and now are told
 pub record FrontAppended (before now : Option (List ℕ)) (bytes : List ℕ) : Type 0 where
   pub front : List ℕ
@@ -57,17 +66,17 @@ pub record FrontAppended (before now : Option (List ℕ)) (bytes : List ℕ) : T
   pub parts : bytes ≡ front ++ rest
   pub appended : Appends before now front
 
--- the outcome's status is answered and all its bytes were written, or 5 where a write failed, and a front of them was.
+-- the outcome's status is answered and all its bytes were written, or a write failed, and a front of them was.
 -- No write can fail where there is nothing to be written
 pub record Delivers (wanted : Outcome) (status : ℕ) (before now : Option (List ℕ)) : Type 0 where
-  pub exact : status ≢ 5 → status ≡ wanted.status
-  pub whole : status ≢ 5 → Appends before now wanted.bytes
+  pub exact : status ≢ UNWRITTEN → status ≡ wanted.status
+  pub whole : status ≢ UNWRITTEN → Appends before now wanted.bytes
   pub front : FrontAppended before now wanted.bytes
-  pub some_bytes : status ≡ 5 → wanted.bytes ≢ []
+  pub some_bytes : status ≡ UNWRITTEN → wanted.bytes ≢ []
 
 -- the statuses where a read failed or memory ran out
 abbrev pub gave_up : ℕ → Bool
-gave_up status = status == 4 || status == 20
+gave_up status = status == UNREAD || status == NO_MEMORY
 
 -- the work is delivered, or nothing is written where it was given up
 abbrev pub Finishes : Result Work Stop → ℕ → Option (List ℕ) → Option (List ℕ) → Type 0

@@ -17,6 +17,7 @@ use Rattle.desk_refusals.specs.Refusals.{not_built_line}
 use Rattle.desk_report.specs.Reports.{report_text}
 use Rattle.desk_top.specs.Building.{Built, Designed, Refused, IsBuilt}
 use Rattle.desk_top.specs.Delivery.{Outcome, no_file}
+use Rattle.desk_top.specs.declared.deliver.TheConstants.{DONE, OPEN, REFUSED, NO_COMMAND, UNSETTLED, MALFORMED}
 use Rattle.desk_top.specs.Texts.{named, texts_of}
 use Rattle.desk_top.specs.Words.{Order, Sign, Simulate, order}
 
@@ -39,14 +40,14 @@ abbrev pub report_of : List ℕ → List Source → DesignParts → List ℕ
 report_of top sources flat =
     report_text top sources flat.signals (found_in flat) (has_none (found_in flat)) (has_none (found_in flat))
 
--- 0 where the design is clean, 1 where it has a finding
+-- the design is clean, or has a finding
 abbrev pub ruled : List ℕ → List Source → DesignParts → Outcome
 ruled top sources flat =
-    record { status = if has_none (found_in flat) then 0 else 1; bytes = report_of top sources flat }
+    record { status = if has_none (found_in flat) then DONE else OPEN; bytes = report_of top sources flat }
 
--- 2 where the source is refused
+-- the source is refused
 abbrev pub refused : List ℕ → Outcome
-refused line = record { status = 2; bytes = line }
+refused line = record { status = REFUSED; bytes = line }
 
 -- a design that has what isn't judged today is refused at its place
 abbrev pub ruled_or_not : List ℕ → List Source → DesignParts → Option Spot → Outcome
@@ -68,20 +69,20 @@ pub record IsJudged (top : List ℕ) (sources : List Source) (texts : List (List
   pub is_built : IsBuilt top sources texts built
   pub is : outcome ≡ judged top sources built
 
--- the answer for files; 9 where one of them isn't there or is too long
+-- the answer for files; none of it where one of them isn't there or is too long
 abbrev pub IsSigned : List ℕ → List (List ℕ) → Option (List (List ℕ)) → Outcome → Type 0
 IsSigned top files None outcome = outcome ≡ no_file
 IsSigned top files (Some texts) outcome = IsJudged top (named files texts) texts outcome
 
 -- ---- simulations
 
--- 12 where a line of the steps is none
+-- a line of the steps is none
 abbrev pub malformed : ℕ → Outcome
-malformed number = record { status = 12; bytes = codes "malformed line " ++ decimal number ++ 10 ∷ [] }
+malformed number = record { status = MALFORMED; bytes = codes "malformed line " ++ decimal number ++ 10 ∷ [] }
 
--- 0 where all steps came to rest, 11 where one didn't
+-- all steps came to rest, or one didn't
 abbrev pub run : Shown → Outcome
-run shown = record { status = if shown.settled then 0 else 11; bytes = shown.bytes }
+run shown = record { status = if shown.settled then DONE else UNSETTLED; bytes = shown.bytes }
 
 -- the answer for the steps of a design
 abbrev pub IsRun : DesignParts → Result Steps ℕ → Outcome → Type 0
@@ -103,7 +104,7 @@ pub record IsStepped (top : List ℕ) (sources : List Source) (texts : List (Lis
   pub is_built : IsBuilt top sources texts built
   pub is : IsTried steps built outcome
 
--- the answer for files; 9 where one of them, or the one with the steps, isn't there or is too long
+-- the answer for files; none of it where one of them, or the one with the steps, isn't there or is too long
 abbrev pub IsSimulating : List ℕ → List (List ℕ) → Result (List ℕ) ShelfFault → Option (List (List ℕ)) → Outcome → Type 0
 IsSimulating top files (Err fault) texts outcome = outcome ≡ no_file
 IsSimulating top files (Ok steps) None outcome = outcome ≡ no_file
@@ -114,9 +115,9 @@ abbrev pub usage : List ℕ
 usage =
     codes "usage: desk sign TOP FILE.. | simulate TOP STEPS FILE.. | replay TOP DEMO FILE.. | serve PORT COUNT | report TOP | generate N" ++ 10 ∷ []
 
--- the outcome of a command, and 3 with the usage where the words are none
+-- the outcome of a command, and the usage where the words are none
 abbrev pub IsDone : World → Option Order → Outcome → Type 0
-IsDone world None outcome = outcome ≡ record { status = 3; bytes = usage }
+IsDone world None outcome = outcome ≡ record { status = NO_COMMAND; bytes = usage }
 IsDone world (Some (Sign top files)) outcome = IsSigned top files (texts_of world.files files) outcome
 IsDone world (Some (Simulate top steps files)) outcome =
     IsSimulating top files (reading (world.before steps)) (texts_of world.files files) outcome

@@ -10,6 +10,36 @@ use desk_io::{Failed, Sink};
 use rtl_tree::memory::Memory as NoMemory;
 use std::alloc::{AllocError, AllocFailed};
 
+/// The exit status where the work was done: after `sign` the design is clean, after `simulate` each step came to rest.
+pub const DONE: u8 = 0;
+
+/// The exit status where a rule has a finding.
+pub const OPEN: u8 = 1;
+
+/// The exit status where the source is refused.
+pub const REFUSED: u8 = 2;
+
+/// The exit status where the words are no command.
+pub const NO_COMMAND: u8 = 3;
+
+/// The exit status where a read failed.
+pub const UNREAD: u8 = 4;
+
+/// The exit status where a write failed.
+pub const UNWRITTEN: u8 = 5;
+
+/// The exit status where a file isn't there or is too long.
+pub const NO_FILE: u8 = 9;
+
+/// The exit status where a step didn't come to rest within its budget.
+pub const UNSETTLED: u8 = 11;
+
+/// The exit status where the file of steps has a line that is none.
+pub const MALFORMED: u8 = 12;
+
+/// The exit status where memory ran out.
+pub const NO_MEMORY: u8 = 20;
+
 /// How work ends that was done.
 #[derive(Clone, Copy, PartialEq, Eq, Debug)]
 pub enum Ending {
@@ -77,13 +107,13 @@ impl Ending {
         ensures { result ≡ status_of self }
     {
         match self {
-            Ending::Clean => 0,
-            Ending::Open => 1,
-            Ending::Refused => 2,
-            Ending::NoCommand => 3,
-            Ending::Settled => 0,
-            Ending::Unsettled => 11,
-            Ending::Malformed => 12,
+            Ending::Clean => DONE,
+            Ending::Open => OPEN,
+            Ending::Refused => REFUSED,
+            Ending::NoCommand => NO_COMMAND,
+            Ending::Settled => DONE,
+            Ending::Unsettled => UNSETTLED,
+            Ending::Malformed => MALFORMED,
         }
     }
 }
@@ -95,22 +125,17 @@ impl Stop {
     {
         match self {
             Stop::Unread => UNREAD,
-            Stop::NoFile => 9,
-            Stop::Memory => 20,
+            Stop::NoFile => NO_FILE,
+            Stop::Memory => NO_MEMORY,
         }
     }
 }
-
-/// The exit status where a write failed.
-pub const UNWRITTEN: u8 = 5;
-
-/// The exit status where a read failed.
-pub const UNREAD: u8 = 4;
 
 /// Writes what the work has to say, and answers the exit status.
 pub fn finish<S: Sink>(work: Result<Work, Stop>, out: &mut S) -> u8
     ensures finishes { Finishes work result (S.taken out.old) (S.taken out.new) }
     ensures unwritten { result ≡ UNWRITTEN → Rose (S.faults out.old) (S.faults out.new) }
+    ensures failed { S.faults out.old < S.faults out.new → result ≡ UNWRITTEN }
     ensures later { S.faults out.old ≤ S.faults out.new }
 {
     match work {
@@ -119,11 +144,12 @@ pub fn finish<S: Sink>(work: Result<Work, Stop>, out: &mut S) -> u8
     }
 }
 
-/// Writes these bytes, and answers the exit status of the ending, or 5 where a write fails.
+/// Writes these bytes, and answers the exit status of the ending, or [`UNWRITTEN`] where a write fails.
 pub fn deliver<S: Sink>(ending: Ending, bytes: &[u8], out: &mut S) -> u8
     ensures done { gave_up result ≡ false }
     ensures delivers { Delivers (record { status = status_of ending; bytes = bytes.now }) result (S.taken out.old) (S.taken out.new) }
     ensures unwritten { result ≡ UNWRITTEN → Rose (S.faults out.old) (S.faults out.new) }
+    ensures failed { S.faults out.old < S.faults out.new → result ≡ UNWRITTEN }
     ensures later { S.faults out.old ≤ S.faults out.new }
 {
     match write_whole(bytes, out) {
@@ -138,6 +164,7 @@ fn write_whole<S: Sink>(bytes: &[u8], out: &mut S) -> Result<(), Failed>
     ensures front { FrontAppended (S.taken out.old) (S.taken out.new) bytes.now }
     ensures some_bytes { OnErr result (0 < length bytes.now) }
     ensures cause { HasCause (S.faults out.old) (S.faults out.new) result }
+    ensures calm { OnOk result (S.faults out.new ≡ S.faults out.old) }
 {
     let mut rest = bytes;
     while !rest.is_empty() {

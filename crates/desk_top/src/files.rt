@@ -4,7 +4,7 @@ ghost use Rattle.std.specs.Prelude.{◌≡◌, ◌≤◌, IfOk, IfSome, None, So
 ghost use Rattle.std.specs.List.{All};
 ghost use Rattle.desk_io.specs.Causes.{Rose};
 ghost use Rattle.desk_io.specs.declared.shelf.TheConstants.{MAX_FILE_BYTES};
-ghost use Rattle.desk_top.specs.Delivery.{stop_of};
+ghost use Rattle.desk_top.specs.Delivery.{IsCalmWork, stop_of};
 ghost use Rattle.desk_top.specs.Texts.{texts_of};
 ghost use Rattle.desk_top.specs.Words.{texts};
 
@@ -24,6 +24,7 @@ pub fn read_texts<F: Shelf>(
     ensures short { IfOk result (λ made. All (λ text. vec_len text ≤ MAX_FILE_BYTES) made.items) }
     ensures unread { result ≡ Err Stop.Unread → Rose (F.faults shelf.old) (F.faults shelf.new) }
     ensures later { F.faults shelf.old ≤ F.faults shelf.new }
+    ensures calm { IsCalmWork (F.files shelf.old) result (F.faults shelf.old) (F.faults shelf.new) }
 {
     let mut made = Vec::new(alloc);
     for name in names {

@@ -7,7 +7,8 @@ ghost use Rattle.desk_io.specs.declared.shelf.TheConstants.{MAX_FILE_BYTES};
 ghost use Rattle.rtl_elab.specs.Designs.{flat_in};
 ghost use Rattle.desk_places.specs.Places.{sources_of};
 ghost use Rattle.desk_top.specs.Answers.{OverWorld};
-ghost use Rattle.desk_top.specs.Delivery.{IsWork, status_of};
+ghost use Rattle.desk_top.specs.Delivery.{IsCalmWork, IsWork, status_of};
+ghost use Rattle.desk_top.specs.declared.deliver.TheConstants.{DONE, OPEN};
 ghost use Rattle.desk_top.specs.Outcome.{IsJudged, IsSigned, not_judged, refused, ruled_or_not};
 ghost use Rattle.desk_top.specs.Texts.{named, texts_of};
 ghost use Rattle.desk_top.specs.Words.{are_files, texts};
@@ -35,6 +36,7 @@ pub fn sign<F: Shelf>(
     ensures work { OverWorld (F.files shelf.old) (λ world. IsWork (IsSigned top.now (texts files.now) (texts_of world.files (texts files.now))) result) }
     ensures unread { result ≡ Err Stop.Unread → Rose (F.faults shelf.old) (F.faults shelf.new) }
     ensures later { F.faults shelf.old ≤ F.faults shelf.new }
+    ensures calm { IsCalmWork (F.files shelf.old) result (F.faults shelf.old) (F.faults shelf.new) }
 {
     match read_texts(alloc, files, shelf) {
         Ok(made) => judge(alloc, top, files, &made),
@@ -81,7 +83,7 @@ fn judge_design(
 }
 
 fn ending_of(ruling: &Ruling) -> Ending
-    ensures { status_of result ≡ (if ruling.now.clean then 0 else 1) }
+    ensures { status_of result ≡ (if ruling.now.clean then DONE else OPEN) }
 {
     if ruling.clean {
         Ending::Clean

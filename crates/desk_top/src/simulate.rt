@@ -8,7 +8,8 @@ ghost use Rattle.desk_io.specs.declared.shelf.TheConstants.{MAX_FILE_BYTES};
 ghost use Rattle.rtl_elab.specs.Designs.{flat_in};
 ghost use Rattle.desk_steps.specs.Steps.{file_of};
 ghost use Rattle.desk_top.specs.Answers.{OverWorld};
-ghost use Rattle.desk_top.specs.Delivery.{IsWork, status_of};
+ghost use Rattle.desk_top.specs.Delivery.{IsCalmWork, IsWork, status_of};
+ghost use Rattle.desk_top.specs.declared.deliver.TheConstants.{DONE, UNSETTLED};
 ghost use Rattle.desk_top.specs.Outcome.{IsRun, IsSimulating, IsStepped, malformed, names_in};
 ghost use Rattle.desk_top.specs.Texts.{named, texts_of};
 ghost use Rattle.desk_top.specs.Words.{are_files, texts};
@@ -37,6 +38,7 @@ pub fn simulate<F: Shelf>(
     ensures work { OverWorld (F.files shelf.old) (λ world. IsWork (IsSimulating top.now (texts files.now) (reading (world.before steps.now)) (texts_of world.files (texts files.now))) result) }
     ensures unread { result ≡ Err Stop.Unread → Rose (F.faults shelf.old) (F.faults shelf.new) }
     ensures later { F.faults shelf.old ≤ F.faults shelf.new }
+    ensures calm { IsCalmWork (F.files shelf.old) result (F.faults shelf.old) (F.faults shelf.new) }
 {
     let text = match shelf.read(steps) {
         Ok(text) => text,
@@ -88,7 +90,7 @@ fn run(alloc: Global, text: &[u8], design: &Design) -> Result<Work, Stop>
 }
 
 fn ending_of(shown: &Shown) -> Ending
-    ensures { status_of result ≡ (if shown.now.settled then 0 else 11) }
+    ensures { status_of result ≡ (if shown.now.settled then DONE else UNSETTLED) }
 {
     if shown.settled {
         Ending::Settled

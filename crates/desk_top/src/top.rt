@@ -1,11 +1,11 @@
 // The top call: all that the program does.
 
-ghost use Rattle.std.specs.Prelude.{◌≡◌, ◌≤◌, Some, true, IsSome};
+ghost use Rattle.std.specs.Prelude.{◌≡◌, ◌≢◌, ◌≤◌, ◌<◌, Some, true, IsSome};
 ghost use Rattle.desk_io.specs.Causes.{Rose};
-ghost use Rattle.desk_top.specs.declared.deliver.TheConstants.{UNREAD, UNWRITTEN};
+ghost use Rattle.desk_top.specs.declared.deliver.TheConstants.{DONE, NO_FILE, UNREAD, UNWRITTEN};
 ghost use Rattle.desk_top.specs.Answers.{IsAnswered, IsSignedClean, OverWorld};
 ghost use Rattle.desk_top.specs.Commands.{HasFiles, order_of};
-ghost use Rattle.desk_top.specs.Delivery.{gave_up, IsWork};
+ghost use Rattle.desk_top.specs.Delivery.{gave_up, IsCalmWork, IsWork};
 ghost use Rattle.desk_top.specs.Outcome.{IsDone};
 ghost use Rattle.desk_top.specs.Words.{is_sign, order, texts};
 
@@ -30,12 +30,17 @@ pub fn desk<F: Shelf, S: Sink>(alloc: Global, words: &[String], shelf: &mut F, o
     ensures answer { OverWorld (F.files shelf.old) (IsAnswered (texts words.now) result (S.taken out.old) (S.taken out.new)) }
 
     // The headline: what is signed clean shows in every simulation what its hardware shows.
-    ensures headline { is_sign (order (texts words.now)) ≡ true → result ≡ 0 → OverWorld (F.files shelf.old) (IsSignedClean (texts words.now) (S.taken out.old) (S.taken out.new)) }
+    ensures headline { is_sign (order (texts words.now)) ≡ true → result ≡ DONE → OverWorld (F.files shelf.old) (IsSignedClean (texts words.now) (S.taken out.old) (S.taken out.new)) }
 
     // Each failure has its cause.
     ensures unread { result ≡ UNREAD → Rose (F.faults shelf.old) (F.faults shelf.new) }
     ensures unwritten { result ≡ UNWRITTEN → Rose (S.faults out.old) (S.faults out.new) }
     ensures a_command { gave_up result ≡ true → IsSome (order (texts words.now)) }
+
+    // No failure is passed over. A shelf that tells nothing counts a missing file too.
+    ensures read_failed { IsSome (F.files shelf.old) → F.faults shelf.old < F.faults shelf.new → result ≡ UNREAD }
+    ensures untold_failed { F.faults shelf.old < F.faults shelf.new → result ≢ NO_FILE → result ≡ UNREAD }
+    ensures write_failed { S.faults out.old < S.faults out.new → result ≡ UNWRITTEN }
     ensures shelf_later { F.faults shelf.old ≤ F.faults shelf.new }
     ensures sink_later { S.faults out.old ≤ S.faults out.new }
 {
@@ -51,6 +56,7 @@ fn run<F: Shelf>(alloc: Global, command: Command<'_>, shelf: &mut F) -> Result<W
     ensures work { OverWorld (F.files shelf.old) (λ world. IsWork (IsDone world (Some (order_of command.entry))) result) }
     ensures unread { result ≡ Err Stop.Unread → Rose (F.faults shelf.old) (F.faults shelf.new) }
     ensures later { F.faults shelf.old ≤ F.faults shelf.new }
+    ensures calm { IsCalmWork (F.files shelf.old) result (F.faults shelf.old) (F.faults shelf.new) }
 {
     match command {
         Command::Sign { top, files } => sign(alloc, top, files, shelf),

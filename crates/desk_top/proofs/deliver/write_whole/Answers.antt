@@ -8,5 +8,5 @@ loop-rest-preserved g c =
       so_far = rw c.split_at.ensures.back
           (goes_on (g.S.Sink.taken c.args.out.now) (g.S.Sink.taken c.loop-rest.out) (g.S.Sink.taken c.write.new.self) c.args.bytes.now c.loop-rest.rest.now c.in_ok-count.count
           c.loop-rest.invariant.so_far c.in_ok-count.ensures.told);
-      later = omega (arith, c.loop-rest.invariant.later, c.in_ok-count.ensures.cause.later);
+      still = omega (arith, c.loop-rest.invariant.still, c.in_ok-count.ensures.calm);
     }

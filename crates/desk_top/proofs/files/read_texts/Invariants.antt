@@ -13,5 +13,5 @@ invariant-loop-name g l =
       count : length l.made.items ≡ l.name-index;
       short : All (λ text. vec_len text ≤ MAX_FILE_BYTES) l.made.items;
       same : g.F.Shelf.files l.shelf ≡ g.F.Shelf.files l.fn.shelf;
-      later : g.F.Shelf.faults l.fn.shelf ≤ g.F.Shelf.faults l.shelf;
+      still : g.F.Shelf.faults l.shelf ≡ g.F.Shelf.faults l.fn.shelf;
     }
