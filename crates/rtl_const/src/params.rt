@@ -1,12 +1,12 @@
 // The numbers that names stand for.
 
-ghost use Rattle.std.specs.Prelude.{◌≡◌, IsTrue, IsFalse, ◌↔◌, IsSome, IsOk, OnOk, OnErr};
+ghost use Rattle.std.specs.Prelude.{◌≡◌, IsSome, IsOk, OnOk, OnErr};
 ghost use Rattle.rtl_const.specs.Numbers.{no_numbers, numbers_of, with_number};
 
+use name_map::NameMap;
 use rtl_tree::memory::Memory;
 use rtl_tree::text::Text;
 use std::alloc::Global;
-use std::collections::BTreeMap;
 
 /// What gives names their numbers.
 pub trait Lookup {
@@ -23,8 +23,7 @@ pub trait Lookup {
 /// A map from names to numbers.
 #[derive(Drop)]
 pub struct Params {
-    alloc: Global,
-    numbers: BTreeMap<Vec<u8>, i64>,
+    numbers: NameMap<i64>,
 }
 
 impl Params {
@@ -33,8 +32,7 @@ impl Params {
         ensures { numbers_of result ≡ no_numbers }
     {
         Params {
-            alloc,
-            numbers: BTreeMap::new(alloc),
+            numbers: NameMap::new(alloc),
         }
     }
 
@@ -44,34 +42,11 @@ impl Params {
         ensures replaced { IsSome (numbers_of self.old name.now) → IsOk result }
         ensures err { OnErr result (numbers_of self.new ≡ numbers_of self.old) }
     {
-        if self.replace(name, n) {
+        if self.numbers.find(name).is_some() {
+            self.numbers.replace(name, n);
             return Ok(());
         }
-        self.add(name, n)
-    }
-
-    /// Gives the name this number if it has one.
-    fn replace(&mut self, name: &Text, n: i64) -> bool
-        ensures had { IsTrue result ↔ IsSome (numbers_of self.old name.now) }
-        ensures replaced { IsTrue result → numbers_of self.new ≡ with_number (numbers_of self.old) name.now n }
-        ensures kept { IsFalse result → numbers_of self.new ≡ numbers_of self.old }
-    {
-        match self.numbers.get_mut(name.as_bytes()) {
-            Some(number) => {
-                *number = n;
-                true
-            }
-            None => false,
-        }
-    }
-
-    fn add(&mut self, name: &Text, n: i64) -> Result<(), Memory>
-        ensures ok { OnOk result (numbers_of self.new ≡ with_number (numbers_of self.old) name.now n) }
-        ensures err { OnErr result (numbers_of self.new ≡ numbers_of self.old) }
-    {
-        let key = Vec::from_slice(self.alloc, name.as_bytes())?;
-        self.numbers.insert(key, n)?;
-        Ok(())
+        self.numbers.put(name, n)
     }
 }
 
@@ -79,6 +54,6 @@ impl Lookup for Params {
     ghost numbers = { numbers_of };
 
     fn get(&self, name: &Text) -> Option<i64> {
-        self.numbers.get(name.as_bytes()).copied()
+        self.numbers.find(name)
     }
 }

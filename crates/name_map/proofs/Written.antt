@@ -1,5 +1,5 @@
--- A map from names to numbers after a write, as a function.
-use Rattle.std.specs.Prelude.{ℕ, ℤ, List, Vec, Some, None, IsSome, Bool, true, false}
+-- A map of names after a write, as a function.
+use Rattle.std.specs.Prelude.{ℕ, List, Vec, Some, Bool, true, false}
 use Rattle.std.specs.declared.alloc.Global.{Global}
 use Rattle.std.specs.BTreeMap.{BTreeMap, get_by, UpdatesBy}
 use Rattle.std.specs.Map.{lookup, IsKeyTest, AreApart, KeepsOthers}
@@ -7,18 +7,18 @@ use Rattle.std.specs.Cmp.{eq_by_cmp_equiv}
 use Rattle.std.specs.Cmp.Lexicographic.{slice_cmp, bytes_decides, nat_list_cmp_total, nat_list_eq_equiv}
 use Rattle.std.specs.Ordering.{is_eq, nat_cmp}
 use Rattle.std.specs.Str.{bytes_eq}
-use Rattle.std.proofs.Common.{◌≡◌, sym, ◌∙◌, ap, subst}
+use Rattle.std.proofs.Common.{◌≡◌, sym, ◌∙◌, subst}
 use Rattle.std.proofs.Math.Path.{fun_ext}
 use Rattle.std.proofs.lemmas.Bool.{cases_Bool, cond-true, cond-false}
 use Rattle.std.proofs.lemmas.Map.Text.{is_eq-slice_cmp}
-use Rattle.rtl_const.specs.Numbers.{Numbers, with_number}
+use Rattle.name_map.specs.Values.{Values, with_value}
 use mathlib.Core.Logic.{⊎_elim}
 
--- a map from names to numbers, and what it holds
-abbrev Map : Type 0
-Map = BTreeMap (Vec ℕ Global) ℤ
+-- a map of names, and what it holds
+abbrev Map : Type 0 → Type 0
+Map V = BTreeMap (Vec ℕ Global) V
 
-abbrev read : Map → Numbers
+abbrev read : {V : Type 0} → Map V → Values V
 read m = λ name. get_by (λ key. slice_cmp nat_cmp name key.items) m
 
 -- a key that is one name is no other name
@@ -29,16 +29,16 @@ apart name other key differ same =
     ∙ sym (nat_list_eq_equiv.congr name key other (sym (is_eq-slice_cmp name key) ∙ same))
     ∙ differ)
 
-others : (test : Vec ℕ Global → Bool) (eq : Vec ℕ Global → Vec ℕ Global → Bool) (old new : List (Vec ℕ Global × ℤ)) → KeepsOthers eq test old new → (other : Vec ℕ Global → Bool) → IsKeyTest eq other → AreApart test other → lookup other new ≡ lookup other old
+others : {V : Type 0} (test : Vec ℕ Global → Bool) (eq : Vec ℕ Global → Vec ℕ Global → Bool) (old new : List (Vec ℕ Global × V)) → KeepsOthers eq test old new → (other : Vec ℕ Global → Bool) → IsKeyTest eq other → AreApart test other → lookup other new ≡ lookup other old
 unfolding KeepsOthers
 others test eq old new kept = kept
 
-pub written : (old new : Map) (name : List ℕ) (n : ℤ) → UpdatesBy (λ x y. slice_cmp nat_cmp x.items y.items) (λ k. slice_cmp nat_cmp name k.items) old new (Some n) → read new ≡ with_number (read old) name n
-written old new name n updates =
+pub written : {V : Type 0} (old new : Map V) (name : List ℕ) (value : V) → UpdatesBy (λ x y. slice_cmp nat_cmp x.items y.items) (λ k. slice_cmp nat_cmp name k.items) old new (Some value) → read new ≡ with_value (read old) name value
+written old new name value updates =
     fun_ext
     (λ other. ⊎_elim
-    (λ same. subst (λ l. read new l ≡ Some n) ((bytes_decides name other).0 same) updates.1
-    ∙ sym (cond-true (bytes_eq name other) (Some n) (read old other) same))
+    (λ same. subst (λ l. read new l ≡ Some value) ((bytes_decides name other).0 same) updates.1
+    ∙ sym (cond-true (bytes_eq name other) (Some value) (read old other) same))
     (λ differ. others
     (λ k. is_eq (slice_cmp nat_cmp name k.items))
     _
@@ -48,9 +48,5 @@ written old new name n updates =
     (λ k. is_eq (slice_cmp nat_cmp other k.items))
     (λ x y. (eq_by_cmp_equiv nat_list_cmp_total).congr other x.items y.items)
     (λ k. apart name other k.items differ)
-    ∙ sym (cond-false (bytes_eq name other) (Some n) (read old other) differ))
+    ∙ sym (cond-false (bytes_eq name other) (Some value) (read old other) differ))
     (cases_Bool (bytes_eq name other)))
-
-pub none_there : (m : Map) (query name : List ℕ) → query ≡ name → None ≡ read m query → IsSome (read m name) → ⊥
-none_there m query name same none some =
-    let there : IsSome {T = ℤ} None = subst IsSome (sym (none ∙ ap (read m) same)) some in cc

@@ -1,0 +1,67 @@
+//! A map from names to values, as contracts see it: a function of the name.
+#![tactic(auto)]
+
+ghost use Rattle.std.specs.Prelude.{◌≡◌, IsSome, OnErr, OnOk};
+ghost use Rattle.name_map.specs.Values.{entered, no_values, values_of, with_value};
+
+use rtl_tree::memory::Memory;
+use rtl_tree::text::Text;
+use std::alloc::Global;
+use std::collections::BTreeMap;
+
+/// A map from names to values. The order of its keys can't be made slow by a choice of names.
+#[derive(Drop)]
+pub struct NameMap<V> {
+    alloc: Global,
+    known: BTreeMap<Vec<u8>, V>,
+}
+
+impl<V: Copy> NameMap<V> {
+    /// No name has a value yet.
+    pub fn new(alloc: Global) -> NameMap<V>
+        ensures { values_of result ≡ no_values }
+    {
+        NameMap {
+            alloc,
+            known: BTreeMap::new(alloc),
+        }
+    }
+
+    /// The value of the name, where it has one.
+    pub fn find(&self, name: &Text) -> Option<V>
+        ensures { result ≡ values_of self.now name.now }
+    {
+        self.known.get(name.as_bytes()).copied()
+    }
+
+    /// Gives the name this value, in place of the one that it may have. Where memory runs out, nothing has changed.
+    pub fn put(&mut self, name: &Text, value: V) -> Result<(), Memory>
+        ensures ok { OnOk result (values_of self.new ≡ with_value (values_of self.old) name.now value) }
+        ensures err { OnErr result (values_of self.new ≡ values_of self.old) }
+    {
+        let key = Vec::from_slice(self.alloc, name.as_bytes())?;
+        self.known.insert(key, value)?;
+        Ok(())
+    }
+
+    /// Gives the name this value where it has none: of several values the first holds.
+    pub fn enter(&mut self, name: &Text, value: V) -> Result<(), Memory>
+        ensures ok { OnOk result (values_of self.new ≡ entered (values_of self.old) name.now value) }
+        ensures err { OnErr result (values_of self.new ≡ values_of self.old) }
+    {
+        if self.find(name).is_some() {
+            return Ok(());
+        }
+        self.put(name, value)
+    }
+
+    /// Gives a name that has a value another one. It takes no memory.
+    pub fn replace(&mut self, name: &Text, value: V)
+        requires { IsSome (values_of self.old name.now) }
+        ensures { values_of self.new ≡ with_value (values_of self.old) name.now value }
+    {
+        if let Some(place) = self.known.get_mut(name.as_bytes()) {
+            *place = value;
+        }
+    }
+}
