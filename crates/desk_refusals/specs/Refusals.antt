@@ -7,11 +7,8 @@ use Rattle.rtl_front.specs.declared.fault.FileFault.{FileFault}
 use Rattle.elab_scope.specs.Faults.{Answer}
 use Rattle.desk_refusals.specs.Notices as notices
 use Rattle.desk_refusals.specs.Notices.{Notice}
+use Rattle.desk_refusals.specs.Words.{word_part}
 use Rattle.desk_refusals.specs.declared.reason.Reason.{Reason}
-
-abbrev pub word_part : Option (List ℕ) → List ℕ
-word_part None = []
-word_part (Some word) = codes " " ++ word
 
 abbrev pub place_part : List Source → Option Spot → List ℕ
 place_part sources None = []

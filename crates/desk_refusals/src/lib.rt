@@ -5,6 +5,7 @@ mod design;
 mod file;
 mod line;
 mod reason;
+mod word;
 
 pub use crate::design::{design_refusal, not_built};
 pub use crate::file::source_refusal;

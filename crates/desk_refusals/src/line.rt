@@ -3,24 +3,14 @@
 ghost use Rattle.std.specs.Prelude.{◌≡◌, ◌++◌, IfOk, IsSome, OnOk};
 ghost use Rattle.std.specs.Option.{option_map};
 ghost use Rattle.desk_places.specs.Places.{sources_of};
-ghost use Rattle.desk_refusals.specs.Refusals.{line, notice, notice_line, place_part, word_part};
+ghost use Rattle.desk_refusals.specs.Refusals.{line, notice, notice_line, place_part};
 
 use crate::reason::Reason;
+use crate::word::push_word;
 use desk_places::sources::Sources;
 use rtl_tree::memory::Memory;
 use rtl_tree::text::Spot;
 use std::alloc::Global;
-
-fn push_word(word: Option<&[u8]>, out: &mut Vec<u8>) -> Result<(), Memory>
-    ensures { OnOk result (out.new.items ≡ out.old.items ++ word_part (option_map (λ text. text.now) word.entry)) }
-{
-    let Some(text) = word else {
-        return Ok(());
-    };
-    out.push(b' ')?;
-    out.extend_from_slice(text)?;
-    Ok(())
-}
 
 fn push_spot(sources: &Sources<'_>, spot: Option<Spot>, out: &mut Vec<u8>) -> Result<(), Memory>
     ensures { OnOk result (out.new.items ≡ out.old.items ++ place_part (sources_of sources.now) spot) }
