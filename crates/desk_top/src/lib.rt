@@ -6,5 +6,6 @@ pub mod files;
 pub mod front;
 pub mod sign;
 pub mod simulate;
+pub mod start;
 pub mod top;
 pub mod words;

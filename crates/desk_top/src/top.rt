@@ -16,8 +16,8 @@ use crate::words::{Command, read_command};
 use desk_io::{Shelf, Sink};
 use std::alloc::Global;
 
-// What is written where the words are no command.
-const USAGE: &[u8] =
+/// What is written where the words are no command.
+pub const USAGE: &[u8] =
     b"usage: desk sign TOP FILE.. | simulate TOP STEPS FILE.. | replay TOP DEMO FILE.. | serve PORT COUNT | report TOP | generate N\n";
 
 /// Does what the words of the command line say, with the files of a shelf, writes to a sink, and answers the exit status:
