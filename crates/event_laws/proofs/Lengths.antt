@@ -1,8 +1,9 @@
 -- A write that ends inside its signal keeps the length of its value.
 use Rattle.std.proofs.Common.{◌≡◌, ◌∙◌, ◌+◌, ◌<◌, ◌≤◌, ℕ, zero}
-use Rattle.std.proofs.Common.{suc, List, [], ◌∷◌, ◌++◌, length, take, drop, None, refl, sym, ap, inl, inr, arith}
+use Rattle.std.proofs.Common.{suc, List, [], ◌∷◌, ◌++◌, length, take, drop, Option, None, Some, refl, sym, ap, inl, inr, arith}
 use Rattle.std.specs.Prelude.{◌≢◌, IsSome}
 use Rattle.std.specs.List.{slice_get}
+use Rattle.std.specs.Option.{is_some}
 use Rattle.std.proofs.lemmas.Bool.{cases_eq, eq-eqb, ne_eqb}
 use Rattle.std.proofs.lemmas.List.{length-append, length-drop, length-take}
 use Rattle.rtl_bits.specs.declared.Bit.{Bit}
@@ -11,7 +12,7 @@ use Rattle.rtl_flat.specs.declared.signal.Signal.{Signal}
 use Rattle.rtl_flat.specs.Signs.{width_in}
 use Rattle.event_model.specs.Writes.{Values, Write, put, written}
 use Rattle.event_model.specs.Queue.{Flat, widths}
-use Rattle.event_laws.specs.Steady.{HaveWidths, IsWithin}
+use Rattle.event_laws.specs.Steady.{HaveWidths, IsWithin, SignalsHaveWidths}
 
 pub put_at : {A : Type 0} (f : ℕ → A) (k j : ℕ) (a : A) → j ≡ k → put f k a j ≡ a
 put_at f k j a here = rw (eq-eqb j k here) refl
@@ -43,15 +44,24 @@ is_there (s ∷ signals) (suc i) h = is_there signals i (omega (arith, h))
 pub fits : (d : Flat) (v : Values) (w : Write) → HaveWidths d v → IsWithin (widths d) w → w.at + length w.bits ≤ length (v w.signal)
 fits d v w have inside = let size = have w.signal in omega (arith, inside, size)
 
-pub written_length : (d : Flat) (v : Values) (w : Write) → HaveWidths d v → IsWithin (widths d) w → (i : ℕ) → length (written v w i) ≡ length (v i)
-written_length d v w have inside i =
+pub signal_fits : (d : Flat) (v : Values) (w : Write) → SignalsHaveWidths d v → IsWithin (widths d) w → w.at + length w.bits ≤ length (v w.signal)
+signal_fits d v w have inside = by_signal (slice_get d.signals w.signal) refl
+  where
+    by_signal : (o : Option Signal) → slice_get d.signals w.signal ≡ o → w.at + length w.bits ≤ length (v w.signal)
+    by_signal None e = let none = no_width d.signals w.signal e in omega (arith, inside, none)
+    by_signal (Some signal) e = let size = have w.signal (ap is_some e) in omega (arith, inside, size)
+
+pub written_length : (v : Values) (w : Write) → w.at + length w.bits ≤ length (v w.signal) → (i : ℕ) → length (written v w i) ≡ length (v i)
+written_length v w inside i =
     elim (cases_eq i w.signal) [
       | inl here ↦
           ap length (put_at v w.signal i (replaced w.at w.bits (v w.signal)) here)
-          ∙ replaced_length w.at w.bits (v w.signal) (fits d v w have inside)
-          ∙ ap (λ j. length (v j)) (sym here)
+          ∙ replaced_length w.at w.bits (v w.signal) inside ∙ ap (λ j. length (v j)) (sym here)
       | inr other ↦ ap length (put_other v w.signal i (replaced w.at w.bits (v w.signal)) other)
     ]
 
 pub have_written : (d : Flat) (v : Values) (w : Write) → HaveWidths d v → IsWithin (widths d) w → HaveWidths d (written v w)
-have_written d v w have inside i = written_length d v w have inside i ∙ have i
+have_written d v w have inside i = written_length v w (fits d v w have inside) i ∙ have i
+
+pub signals_written : (d : Flat) (v : Values) (w : Write) → SignalsHaveWidths d v → IsWithin (widths d) w → SignalsHaveWidths d (written v w)
+signals_written d v w have inside i there = written_length v w (signal_fits d v w have inside) i ∙ have i there

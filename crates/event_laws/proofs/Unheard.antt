@@ -21,9 +21,9 @@ use Rattle.rtl_flat.specs.WellFormed.{has_edge, IsList}
 use Rattle.event_model.specs.Traces.{Same}
 use Rattle.event_model.specs.Writes.{Values, Write, written}
 use Rattle.event_model.specs.Queue.{Flat, happens, hears, hears_from, item_hears, listens, widths}
-use Rattle.event_laws.specs.Steady.{HaveWidths, IsWithin}
+use Rattle.event_laws.specs.Steady.{HaveWidths, IsWithin, SignalsHaveWidths}
 use Rattle.event_laws.proofs.Agreement.{value_agrees}
-use Rattle.event_laws.proofs.Lengths.{have_written, put_other, written_length}
+use Rattle.event_laws.proofs.Lengths.{fits, have_written, is_there, put_other, signal_fits, signals_written, written_length}
 
 pub same_bits : (a b : Bit) → same_bit a b ≡ true → a ≡ b
 same_bits Zero Zero h = refl
@@ -108,11 +108,11 @@ listed_heard signals ws (Some items) body lawful s k a b deaf is = items_heard w
 
 -- it leaves each bit that the process listens to
 pub unheard_bits :
-    (d : Flat) (v : Values) (w : Write) (does : Doing) (bits : BitSet) → HaveWidths d v → IsWithin (widths d) w →
-    hears (widths d) w.signal (v w.signal) (written v w w.signal) (Some does) ≡ false →
-    ((s k : ℕ) (a b : Bit) → listens (widths d) s k a b does ≡ false → bits s k ≡ true → a ≡ b) →
+    (ws : ℕ → ℕ) (v : Values) (w : Write) (does : Doing) (bits : BitSet) → w.at + length w.bits ≤ length (v w.signal) →
+    hears ws w.signal (v w.signal) (written v w w.signal) (Some does) ≡ false →
+    ((s k : ℕ) (a b : Bit) → listens ws s k a b does ≡ false → bits s k ≡ true → a ≡ b) →
     (i k : ℕ) → bits i k ≡ true → Same (written v w) v i k
-unheard_bits d v w does bits have inside deaf heard i k is =
+unheard_bits ws v w does bits inside deaf heard i k is =
     elim (cases_eq i w.signal) [
       | inl here ↦
           ap (λ j. get_or (written v w j) k X) here
@@ -122,15 +122,14 @@ unheard_bits d v w does bits have inside deaf heard i k is =
     ]
   where
     size : length (written v w w.signal) ≡ length (v w.signal)
-    size = written_length d v w have inside w.signal
+    size = written_length v w inside w.signal
 
     at_it : (k < length (v w.signal)) ⊎ (length (v w.signal) ≤ k) → bits w.signal k ≡ true → get_or (v w.signal) k X ≡ get_or (written v w w.signal) k X
     at_it (inl below) listens_to =
         let there : 0 + k ≡ k = omega arith in
-        let quiet = unheard_from (widths d) w.signal does 0 (v w.signal) (written v w w.signal) (sym size) deaf k below in
+        let quiet = unheard_from ws w.signal does 0 (v w.signal) (written v w w.signal) (sym size) deaf k below in
         heard w.signal k (get_or (v w.signal) k X) (get_or (written v w w.signal) k X)
-        (ap (λ place. listens (widths d) w.signal place (get_or (v w.signal) k X) (get_or (written v w w.signal) k X) does) (sym there) ∙ quiet)
-        listens_to
+        (ap (λ place. listens ws w.signal place (get_or (v w.signal) k X) (get_or (written v w w.signal) k X) does) (sym there) ∙ quiet) listens_to
     at_it (inr past) listens_to =
         get_or_past (v w.signal) k X past ∙ sym (get_or_past (written v w w.signal) k X (omega (arith, size, past)))
 
@@ -141,7 +140,16 @@ pub unheard :
     value (written v w) e ≡ value v e
 unheard d v w target e have inside sized deaf =
     value_agrees (length d.signals) (widths d) (written v w) v (λ i below. have_written d v w have inside i) (λ i below. have i) e sized
-    (unheard_bits d v w (Assign target e) (reads (widths d) e) have inside deaf (read_heard (widths d) target e))
+    (unheard_bits (widths d) v w (Assign target e) (reads (widths d) e) (fits d v w have inside) deaf (read_heard (widths d) target e))
+
+pub signals_unheard :
+    (d : Flat) (v : Values) (w : Write) (target : List Piece) (e : Tree) → SignalsHaveWidths d v → IsWithin (widths d) w →
+    IsSized (length d.signals) (widths d) e → hears (widths d) w.signal (v w.signal) (written v w w.signal) (Some (Assign target e)) ≡ false →
+    value (written v w) e ≡ value v e
+signals_unheard d v w target e have inside sized deaf =
+    value_agrees (length d.signals) (widths d) (written v w) v (λ i below. signals_written d v w have inside i (is_there d.signals i below))
+    (λ i below. have i (is_there d.signals i below)) e sized
+    (unheard_bits (widths d) v w (Assign target e) (reads (widths d) e) (signal_fits d v w have inside) deaf (read_heard (widths d) target e))
 
 -- it leaves what a body lists that waits for levels alone
 pub unheard_list :
@@ -149,4 +157,5 @@ pub unheard_list :
     IsList d.signals list → hears (widths d) w.signal (v w.signal) (written v w w.signal) (Some (Comb list body)) ≡ false →
     (i k : ℕ) → listed (widths d) (Comb list body) i k ≡ true → Same (written v w) v i k
 unheard_list d v w list body have inside lawful deaf =
-    unheard_bits d v w (Comb list body) (listed (widths d) (Comb list body)) have inside deaf (listed_heard d.signals (widths d) list body lawful)
+    unheard_bits (widths d) v w (Comb list body) (listed (widths d) (Comb list body)) (fits d v w have inside) deaf
+    (listed_heard d.signals (widths d) list body lawful)

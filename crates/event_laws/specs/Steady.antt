@@ -1,6 +1,6 @@
 -- What every run of a lawful design keeps.
-use Rattle.std.specs.Prelude.{◌≡◌, ℕ, ◌+◌, ◌≤◌, false, List, length, Some, IsTrue, unwrap_or}
-use Rattle.std.specs.List.{All}
+use Rattle.std.specs.Prelude.{◌≡◌, ℕ, ◌+◌, ◌≤◌, false, List, length, Some, IsSome, IsTrue, unwrap_or}
+use Rattle.std.specs.List.{slice_get, All}
 use Rattle.rtl_bits.specs.declared.Bit.{Bit}
 use Rattle.rtl_flat.specs.Expression.{Tree}
 use Rattle.rtl_flat.specs.Process.{Piece, Doing, Assign}
@@ -28,6 +28,10 @@ pub record AreWithin (d : Flat) (s : State) : Type 0 where
 abbrev pub HaveWidths : Flat → Values → Type 0
 HaveWidths d v = (i : ℕ) → length (v i) ≡ widths d i
 
+-- the same of signals alone, whatever values have where there is none
+abbrev pub SignalsHaveWidths : Flat → Values → Type 0
+SignalsHaveWidths d v = (i : ℕ) → IsSome (slice_get d.signals i) → length (v i) ≡ widths d i
+
 -- each continuous assignment that waits has its value pending, or drives it with nothing pending
 abbrev pub AreUpToDate : Flat → State → Type 0
 AreUpToDate d s =
@@ -35,8 +39,12 @@ AreUpToDate d s =
     doing_at d p ≡ Some (Assign target e) →
     s.woken p ≡ false → unwrap_or (s.pending p) (s.driver p) ≡ value s.value e
 
--- what every run keeps
-pub record IsSteady (d : Flat) (s : State) : Type 0 where
+-- what every run keeps, of values with widths of one kind or the other
+pub record IsSteadyIn (d : Flat) (Wide : Values → Type 0) (s : State) : Type 0 where
   pub within : AreWithin d s
-  pub widths : HaveWidths d s.value
+  pub widths : Wide s.value
   pub up_to_date : AreUpToDate d s
+
+-- what every run keeps
+abbrev pub IsSteady : Flat → State → Type 0
+IsSteady d s = IsSteadyIn d (HaveWidths d) s

@@ -11,7 +11,7 @@ use Rattle.rtl_flat.specs.Expression.{Tree}
 use Rattle.rtl_flat.specs.Process.{Doing, Assign, Comb, Edge'}
 use Rattle.event_model.specs.Writes.{Write, put}
 use Rattle.event_model.specs.Queue.{Flat, State, Event, Input, Evaluate, Update, Run, Delayed, Activate, IsThere, CanRun, after, run, after_input, after_evaluate, after_update, after_delayed, drive, doing_at, is_body, is_input, is_input_of, resolved, widths}
-use Rattle.event_laws.specs.Steady.{IsSteady}
+use Rattle.event_laws.specs.Steady.{IsSteadyIn, SignalsHaveWidths}
 use Rattle.event_laws.proofs.Lengths.{put_at, put_other}
 use Rattle.sign_off.specs.Circuit.{is_net, is_some_net, target_in}
 use Rattle.sign_off.specs.Meaning.{Setting, Step}
@@ -43,7 +43,7 @@ target_at (Some does) = target_in does
 
 -- what holds after a step was offered, until the next one is
 pub record IsGoing (d : Flat) (given : ℕ → Bit) (s : State) : Type 0 where
-  pub steady : IsSteady d s
+  pub steady : IsSteadyIn d (SignalsHaveWidths d) s
   -- each net has what it takes of its driver
   pub held : (p target : ℕ) (spot : Spot) (e : Tree) → IsDriver d p target spot e → s.value target ≡ taken (s.driver p)
   -- each input has the value that it was given last, or is offered it
@@ -56,7 +56,7 @@ module _ (d : Flat) (judged : IsJudged d) (given : ℕ → Bit) (s : State) (goi
   one_value : (i : ℕ) → IsSome (slice_get d.signals i) → length (s.value i) ≡ 1
   one_value i some = going.steady.widths i some ∙ judged.one_bit i some
 
-  going_input : (i : ℕ) → IsTrue (is_input d i) → (o : Option (List Bit)) → s.offered i ≡ o → IsSteady d (after_input d s i o) → IsGoing d given (after_input d s i o)
+  going_input : (i : ℕ) → IsTrue (is_input d i) → (o : Option (List Bit)) → s.offered i ≡ o → IsSteadyIn d (SignalsHaveWidths d) (after_input d s i o) → IsGoing d given (after_input d s i o)
   going_input i input None is steady = going
   going_input i input (Some all) is steady =
       let offered : all ≡ given i ∷ [] = ap (λ o. unwrap_or o (s.value i)) (sym is) ∙ going.inputs i input in
@@ -82,7 +82,7 @@ module _ (d : Flat) (judged : IsJudged d) (given : ℕ → Bit) (s : State) (goi
         none_delayed = going.none_delayed;
       }
 
-  going_evaluate : (p : ℕ) (does : Doing) → IsToWhole does → IsSteady d (after_evaluate s p (Some does)) → IsGoing d given (after_evaluate s p (Some does))
+  going_evaluate : (p : ℕ) (does : Doing) → IsToWhole does → IsSteadyIn d (SignalsHaveWidths d) (after_evaluate s p (Some does)) → IsGoing d given (after_evaluate s p (Some does))
   going_evaluate p (Assign target e) form steady =
       record {
         steady = steady;
@@ -107,7 +107,7 @@ module _ (d : Flat) (judged : IsJudged d) (given : ℕ → Bit) (s : State) (goi
       ∙ ap (λ all. replaced 0 (selected 0 1 all) (s.value target)) (alone ∙ ap (λ m. taken (driver m)) number ∙ is)
       ∙ replaced_one (s.value target) b (one_value target some) ∙ sym is
 
-  going_drive : (p target : ℕ) (spot : Spot) (e : Tree) → IsDriver d p target spot e → (new : Option (List Bit)) → IsSteady d (drive d s p (whole target spot) new) → IsGoing d given (drive d s p (whole target spot) new)
+  going_drive : (p target : ℕ) (spot : Spot) (e : Tree) → IsDriver d p target spot e → (new : Option (List Bit)) → IsSteadyIn d (SignalsHaveWidths d) (drive d s p (whole target spot) new) → IsGoing d given (drive d s p (whole target spot) new)
   going_drive p target spot e here None steady = going
   going_drive p target spot e here (Some all) steady =
       let driver = put s.driver p all in
@@ -134,7 +134,7 @@ module _ (d : Flat) (judged : IsJudged d) (given : ℕ → Bit) (s : State) (goi
         none_delayed = going.none_delayed;
       }
 
-  going_update : (p : ℕ) (does : Doing) → doing_at d p ≡ Some does → (form : IsToWhole does) → IsSteady d (after_update d s p (Some does)) → IsGoing d given (after_update d s p (Some does))
+  going_update : (p : ℕ) (does : Doing) → doing_at d p ≡ Some does → (form : IsToWhole does) → IsSteadyIn d (SignalsHaveWidths d) (after_update d s p (Some does)) → IsGoing d given (after_update d s p (Some does))
   going_update p does is form steady =
       let same : after_update d s p (Some does) ≡ drive d s p (whole form.target form.spot) (s.pending p) = ap (λ x. after_update d s p (Some x)) form.is in
       rw same (going_drive p form.target form.spot form.e (is ∙ ap Some form.is) (s.pending p) (rw (← same) steady))
@@ -144,11 +144,11 @@ module _ (d : Flat) (judged : IsJudged d) (given : ℕ → Bit) (s : State) (goi
   going_delayed (ws ∷ us) is = absurd (let none = going.none_activated in cc)
 
   -- a process that is there does something
-  at_some : (p : ℕ) → (o : Option Doing) → doing_at d p ≡ o → IsSteady d (after_evaluate s p o) → IsGoing d given (after_evaluate s p o)
+  at_some : (p : ℕ) → (o : Option Doing) → doing_at d p ≡ o → IsSteadyIn d (SignalsHaveWidths d) (after_evaluate s p o) → IsGoing d given (after_evaluate s p o)
   at_some p None is steady = going
   at_some p (Some does) is steady = going_evaluate p does (judged.wholes p does is) steady
 
-  at_update : (p : ℕ) → (o : Option Doing) → doing_at d p ≡ o → IsSteady d (after_update d s p o) → IsGoing d given (after_update d s p o)
+  at_update : (p : ℕ) → (o : Option Doing) → doing_at d p ≡ o → IsSteadyIn d (SignalsHaveWidths d) (after_update d s p o) → IsGoing d given (after_update d s p o)
   at_update p None is steady = going
   at_update p (Some does) is steady = going_update p does is (judged.wholes p does is) steady
 
@@ -158,7 +158,7 @@ module _ (d : Flat) (judged : IsJudged d) (given : ℕ → Bit) (s : State) (goi
       let form = judged.wholes p does is in
       absurd (let other = ap (λ x. is_body (Some x)) (sym form.is) ∙ body in cc)
 
-  pub going_after : (event : Event) → IsThere d s event → IsSteady d (after d s event) → IsGoing d given (after d s event)
+  pub going_after : (event : Event) → IsThere d s event → IsSteadyIn d (SignalsHaveWidths d) (after d s event) → IsGoing d given (after d s event)
   going_after (Input i) there steady = going_input i there.0 (s.offered i) refl steady
   going_after (Evaluate p) there steady = at_some p (doing_at d p) refl steady
   going_after (Update p) there steady = at_update p (doing_at d p) refl steady
@@ -175,7 +175,7 @@ module _ (d : Flat) (judged : IsJudged d) (given : ℕ → Bit) (s : State) (goi
 
 -- what every event keeps
 abbrev pub KeepsSteady : Flat → Type 0
-KeepsSteady d = (s : State) (event : Event) → IsThere d s event → IsSteady d s → IsSteady d (after d s event)
+KeepsSteady d = (s : State) (event : Event) → IsThere d s event → IsSteadyIn d (SignalsHaveWidths d) s → IsSteadyIn d (SignalsHaveWidths d) (after d s event)
 
 pub going_run : (d : Flat) (judged : IsJudged d) (keeps : KeepsSteady d) (given : ℕ → Bit) (s : State) (events : List Event) → IsGoing d given s → CanRun d s events → IsGoing d given (run d s events)
 going_run d judged keeps given s [] going can = going

@@ -6,7 +6,7 @@ use Rattle.rtl_flat.specs.declared.instance.Delay.{Delay}
 use Rattle.rtl_flat.specs.declared.instance.DroppedRegion.{DroppedRegion}
 use Rattle.rtl_flat.specs.WellFormed.{IsProcess}
 use Rattle.event_model.specs.Queue.{Flat}
-use Rattle.event_laws.proofs.Steady.{lawful_processes, steady_after, steady_power_up}
+use Rattle.event_laws.proofs.Steady.{lawful_processes, signals_power_up, signals_steady_after}
 use Rattle.sign_off.specs.Built.{first_delay, first_dropped, not_built, refused_process, refused_signal}
 use Rattle.sign_off.specs.Findings.{findings}
 use Rattle.sign_off.specs.Agree.{Agree, circuit_of}
@@ -26,8 +26,8 @@ module _ (d : Flat) (delays : List Delay) (dropped : List DroppedRegion) (lawful
 
   -- it agrees, for either fill
   pub agreement_of : (fill : Bool) → Agree d fill
-  agreement_of = agreement_of_judged d judged (λ s event there. steady_after d (lawful_processes d lawful) s event there)
+  agreement_of = agreement_of_judged d judged (λ s event there. signals_steady_after d (lawful_processes d lawful) s event there)
 
   -- it is brought up, for either fill
   pub bring_up_of : (fill : Bool) → BringsUp d fill
-  bring_up_of = bring_up_of_judged d judged (λ s event there. steady_after d (lawful_processes d lawful) s event there) (steady_power_up d)
+  bring_up_of = bring_up_of_judged d judged (λ s event there. signals_steady_after d (lawful_processes d lawful) s event there) (signals_power_up d)

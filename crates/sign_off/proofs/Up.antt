@@ -12,7 +12,7 @@ use Rattle.rtl_flat.specs.declared.signal.Signal.{Signal}
 use Rattle.rtl_flat.specs.Sizes.{width_of}
 use Rattle.event_model.specs.Writes.{put}
 use Rattle.event_model.specs.Queue.{Flat, State, first_bits, first_drive, is_input, is_input_kind, is_input_of, power_up, widths, IsAtRest}
-use Rattle.event_laws.specs.Steady.{IsSteady}
+use Rattle.event_laws.specs.Steady.{IsSteadyIn, SignalsHaveWidths}
 use Rattle.event_laws.proofs.Lengths.{put_at, put_other}
 use Rattle.sign_off.specs.Circuit.{is_some_net}
 use Rattle.sign_off.specs.Built.{is_variable}
@@ -60,7 +60,7 @@ module _ (d : Flat) (judged : IsJudged d) where
   first_input i (Some signal) here input = first_of_input signal (one_wide i signal here) input
 
   -- power-up: what isn't evaluated yet is woken
-  going_up : IsSteady d (power_up d) → IsGoing d (λ i. X) (power_up d)
+  going_up : IsSteadyIn d (SignalsHaveWidths d) (power_up d) → IsGoing d (λ i. X) (power_up d)
   going_up steady =
       record {
         steady = steady;
@@ -135,7 +135,7 @@ known_set (round ∷ rounds) values i set =
       | inr later ↦ known_set rounds next i later
     ]
 
-brought_up : (d : Flat) → IsJudged d → KeepsSteady d → IsSteady d (power_up d) → (fill : Bool) (rounds : List Round) → IsBringUp d rounds → (n : Numbers) × IsSettled d fill (after_rounds d (power_up d) rounds) n
+brought_up : (d : Flat) → IsJudged d → KeepsSteady d → IsSteadyIn d (SignalsHaveWidths d) (power_up d) → (fill : Bool) (rounds : List Round) → IsBringUp d rounds → (n : Numbers) × IsSettled d fill (after_rounds d (power_up d) rounds) n
 brought_up d judged keeps steady fill [] is = absurd (is.some_round refl)
 brought_up d judged keeps steady fill (round ∷ rounds) is =
     let last = after_rounds d (power_up d) (round ∷ rounds) in
@@ -148,5 +148,5 @@ brought_up d judged keeps steady fill (round ∷ rounds) is =
     (numbers_of last, settled_again d judged (λ i. is_one (values i)) values known last going rest fill)
 
 -- a judged design is brought up, for either fill
-pub bring_up_of_judged : (d : Flat) → IsJudged d → KeepsSteady d → IsSteady d (power_up d) → (fill : Bool) → BringsUp d fill
+pub bring_up_of_judged : (d : Flat) → IsJudged d → KeepsSteady d → IsSteadyIn d (SignalsHaveWidths d) (power_up d) → (fill : Bool) → BringsUp d fill
 bring_up_of_judged d judged keeps steady fill = record { settles = brought_up d judged keeps steady fill }
