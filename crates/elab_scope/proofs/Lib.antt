@@ -6,4 +6,3 @@ pub mod Nodes
 pub mod Sound
 pub mod TargetViews
 pub mod Views
-pub mod Written

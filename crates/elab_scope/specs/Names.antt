@@ -1,10 +1,7 @@
 -- What the names of a module stand for, as a function of the name.
 use Rattle.std.specs.Prelude.{ℕ, ℤ, List, Bool, true, false, Option, None, Some, if◌then◌else◌}
-use Rattle.std.specs.Option.{is_some}
-use Rattle.std.specs.BTreeMap.{get_by}
-use Rattle.std.specs.Cmp.Lexicographic.{slice_cmp}
-use Rattle.std.specs.Ordering.{nat_cmp}
-use Rattle.std.specs.Str.{bytes_eq}
+use Rattle.name_map.specs.Values as map
+use Rattle.name_map.specs.Values.{Values, no_values, values_of, with_value}
 use Rattle.rtl_const.specs.Numbers.{Numbers}
 use Rattle.elab_scope.specs.declared.known.Known.{Known}
 use Rattle.elab_scope.specs.declared.known.Known.TheVariants.{Parameter, Integer}
@@ -12,19 +9,19 @@ use Rattle.elab_scope.specs.declared.names.Names.{Names}
 
 -- what each name stands for that is declared
 abbrev pub Meanings : Type 0
-Meanings = List ℕ → Option Known
+Meanings = Values Known
 
 -- nothing is declared
 abbrev pub no_meanings : Meanings
-no_meanings name = None
+no_meanings = no_values
 
 -- the same, but that one name stands for this
 abbrev pub with_meaning : Meanings → List ℕ → Known → Meanings
-with_meaning scope name known = λ other. if bytes_eq name other then Some known else scope other
+with_meaning scope name known = with_value scope name known
 
 -- one declaration more; of a name that is declared already the first declaration holds
 abbrev pub entered : Meanings → List ℕ → Known → Meanings
-entered scope name known = if is_some (scope name) then scope else with_meaning scope name known
+entered scope name known = map.entered scope name known
 
 -- whether a name is an `integer`
 abbrev pub is_integer : Option Known → Bool
@@ -48,4 +45,4 @@ numbers_in scope = λ name. number_of (scope name)
 
 -- what a map of names holds
 abbrev pub meanings : Names → Meanings
-meanings names = λ name. get_by (λ key. slice_cmp nat_cmp name key.items) names.known
+meanings names = values_of names.known

@@ -1,20 +1,19 @@
 //! The names of a module.
 
-ghost use Rattle.std.specs.Prelude.{◌≡◌, IsTrue, IsFalse, ◌↔◌, IsSome, OnOk, OnErr};
-ghost use Rattle.elab_scope.specs.Names.{entered, indexed, meanings, no_meanings, numbers_in, with_meaning};
+ghost use Rattle.std.specs.Prelude.{◌≡◌, OnOk, OnErr};
+ghost use Rattle.elab_scope.specs.Names.{entered, indexed, meanings, no_meanings, numbers_in};
 
 use crate::known::Known;
+use name_map::NameMap;
 use rtl_const::params::Lookup;
 use rtl_tree::memory::Memory;
 use rtl_tree::text::Text;
 use std::alloc::Global;
-use std::collections::BTreeMap;
 
 /// What the names of a module stand for.
 #[derive(Drop)]
 pub struct Names {
-    alloc: Global,
-    known: BTreeMap<Vec<u8>, Known>,
+    known: NameMap<Known>,
 }
 
 impl Names {
@@ -23,8 +22,7 @@ impl Names {
         ensures { meanings result ≡ no_meanings }
     {
         Names {
-            alloc,
-            known: BTreeMap::new(alloc),
+            known: NameMap::new(alloc),
         }
     }
 
@@ -32,7 +30,7 @@ impl Names {
     pub fn find(&self, name: &Text) -> Option<Known>
         ensures { result ≡ meanings self.now name.now }
     {
-        self.known.get(name.as_bytes()).copied()
+        self.known.find(name)
     }
 
     /// Declares the name; of a name that is there already the first declaration holds.
@@ -40,19 +38,7 @@ impl Names {
         ensures ok { OnOk result (meanings self.new ≡ entered (meanings self.old) name.now known) }
         ensures err { OnErr result (meanings self.new ≡ meanings self.old) }
     {
-        if self.find(name).is_some() {
-            return Ok(());
-        }
-        self.add(name, known)
-    }
-
-    fn add(&mut self, name: &Text, known: Known) -> Result<(), Memory>
-        ensures ok { OnOk result (meanings self.new ≡ with_meaning (meanings self.old) name.now known) }
-        ensures err { OnErr result (meanings self.new ≡ meanings self.old) }
-    {
-        let key = Vec::from_slice(self.alloc, name.as_bytes())?;
-        self.known.insert(key, known)?;
-        Ok(())
+        self.known.enter(name, known)
     }
 
     /// Gives an `integer` its number in a turn of its loop, or takes it away again. It takes no memory.
@@ -60,17 +46,7 @@ impl Names {
         ensures { meanings self.new ≡ indexed (meanings self.old) name.now number }
     {
         if let Some(Known::Integer(_)) = self.find(name) {
-            self.replace(name, Known::Integer(number));
-        }
-    }
-
-    /// Gives a declared name another meaning.
-    fn replace(&mut self, name: &Text, known: Known)
-        requires { IsSome (meanings self.old name.now) }
-        ensures { meanings self.new ≡ with_meaning (meanings self.old) name.now known }
-    {
-        if let Some(place) = self.known.get_mut(name.as_bytes()) {
-            *place = known;
+            self.known.replace(name, Known::Integer(number));
         }
     }
 }
