@@ -35,7 +35,7 @@ pub struct Cover {
 
 impl Cover {
     /// Whether both have a bit in common.
-    fn overlaps(self, other: Cover) -> bool
+    pub fn overlaps(self, other: Cover) -> bool
         ensures { result ≡ overlap self other }
     {
         let end = u16::from(self.low) + u16::from(self.count);
@@ -44,7 +44,8 @@ impl Cover {
     }
 }
 
-fn whole_cover(known: Option<Known>) -> Option<Cover>
+/// All bits of a signal.
+pub fn whole_cover(known: Option<Known>) -> Option<Cover>
     ensures { result ≡ whole_cover known }
 {
     match known {
@@ -63,7 +64,8 @@ fn whole_cover(known: Option<Known>) -> Option<Cover>
     }
 }
 
-fn bit_cover(known: Option<Known>, index: Result<i64, ConstFault>) -> Option<Cover>
+/// One bit of a signal, where it has it.
+pub fn bit_cover(known: Option<Known>, index: Result<i64, ConstFault>) -> Option<Cover>
     ensures { result ≡ bit_cover known index }
 {
     match (known, index) {
@@ -92,7 +94,8 @@ fn bit_cover(known: Option<Known>, index: Result<i64, ConstFault>) -> Option<Cov
     }
 }
 
-fn part_cover(known: Option<Known>, field: Option<Field>) -> Option<Cover>
+/// A part of a signal.
+pub fn part_cover(known: Option<Known>, field: Option<Field>) -> Option<Cover>
     ensures { result ≡ part_cover known field }
 {
     match (known, field) {
@@ -112,7 +115,8 @@ struct Covered<'a> {
     best: Option<Fault<'a>>,
 }
 
-fn is_covered(cover: Cover, earlier: &[Cover]) -> bool
+/// Whether a bit stands in one of some others too.
+pub fn is_covered(cover: Cover, earlier: &[Cover]) -> bool
     ensures { result ≡ list_any (overlap cover) earlier.now }
 {
     earlier.iter().any(|other| cover.overlaps(*other))

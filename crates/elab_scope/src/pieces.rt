@@ -1,6 +1,6 @@
 //! The parts of targets in the design.
 
-ghost use Rattle.std.specs.Prelude.{◌≡◌, ◌++◌, IfOk, map};
+ghost use Rattle.std.specs.Prelude.{◌≡◌, ◌++◌, IfOk, OnOk, map};
 ghost use Rattle.rtl_const.specs.Constant.{constant};
 ghost use Rattle.rtl_flat.specs.Process.{piece, selection};
 ghost use Rattle.rtl_tree.specs.TreeExpr.{formula};
@@ -54,7 +54,7 @@ pub fn part(field: Option<Field>) -> Select
 }
 
 /// What is selected of a name.
-fn part_of(name: &Name, known: Option<Known>, select: Select, site: Site) -> TargetPart
+pub fn part_of(name: &Name, known: Option<Known>, select: Select, site: Site) -> TargetPart
     ensures { piece result ≡ record { signal = signal_of site.base known; selection = selection select; spot = spot_in site.file name.now.at } }
 {
     TargetPart {
@@ -74,30 +74,28 @@ fn push_parts(
     written: &Lvalue,
     names: &Names,
     site: Site,
-    mut made: Vec<TargetPart>,
-) -> Result<Vec<TargetPart>, Memory>
-    ensures { IfOk result (λ all. map piece all.items ≡ map piece made.items ++ pieces_of site.file site.base (meanings names.now) (target written.now)) }
+    made: &mut Vec<TargetPart>,
+) -> Result<(), Memory>
+    ensures { OnOk result (map piece made.new.items ≡ map piece made.old.items ++ pieces_of site.file site.base (meanings names.now) (target written.now)) }
 {
     match written {
         Lvalue::Whole(name) => {
             let known = names.find(&name.text);
             made.push(part_of(name, known, Select::Whole, site))?;
-            Ok(made)
         }
         Lvalue::Bit(name, index) => {
             let known = names.find(&name.text);
             let select = bit(index, known, names, site)?;
             made.push(part_of(name, known, select, site))?;
-            Ok(made)
         }
         Lvalue::Part(name, msb, lsb) => {
             let known = names.find(&name.text);
             let field = field_in(known, constant(msb, names), constant(lsb, names));
             made.push(part_of(name, known, part(field), site))?;
-            Ok(made)
         }
-        Lvalue::Concat(_, parts) => push_all(parts, names, site, made),
+        Lvalue::Concat(_, parts) => push_all(parts, names, site, made)?,
     }
+    Ok(())
 }
 
 /// The parts of several targets, behind others.
@@ -107,21 +105,21 @@ fn push_all(
     parts: &[Lvalue],
     names: &Names,
     site: Site,
-    made: Vec<TargetPart>,
-) -> Result<Vec<TargetPart>, Memory>
-    ensures { IfOk result (λ all. map piece all.items ≡ map piece made.items ++ all_pieces_of site.file site.base (meanings names.now) (target_row (map target parts.now))) }
+    made: &mut Vec<TargetPart>,
+) -> Result<(), Memory>
+    ensures { OnOk result (map piece made.new.items ≡ map piece made.old.items ++ all_pieces_of site.file site.base (meanings names.now) (target_row (map target parts.now))) }
 {
-    let mut made = made;
     for part in parts {
-        made = push_parts(part, names, site, made)?;
+        push_parts(part, names, site, made)?;
     }
-    Ok(made)
+    Ok(())
 }
 
 /// A target in the design.
 pub fn target_of(written: &Lvalue, names: &Names, site: Site) -> Result<Target, Memory>
     ensures { IfOk result (λ made. map piece made.parts.items ≡ pieces_of site.file site.base (meanings names.now) (target written.now)) }
 {
-    let parts = push_parts(written, names, site, Vec::new(site.alloc))?;
+    let mut parts = Vec::new(site.alloc);
+    push_parts(written, names, site, &mut parts)?;
     Ok(Target { parts })
 }
