@@ -4,9 +4,10 @@ pub mod Places
 pub mod Adding
 pub mod Parts
 pub mod Bodies
-pub mod Labels
+pub mod Items
 pub mod Passes
 pub mod Covers
+pub mod Values
 pub mod Weights
 pub mod Statements
 pub mod Rows

@@ -2,16 +2,15 @@
 
 ghost use Rattle.std.specs.Prelude.{ℕ, ◌≡◌, ◌++◌, min, map, OnOk, IfOk, length};
 ghost use Rattle.std.specs.List.{list_any, list_all};
-ghost use Rattle.rtl_bits.specs.Bits.{bits_of, extended};
 ghost use Rattle.rtl_flat.specs.Signs.{width_in};
 ghost use Rattle.rtl_flat.specs.Sizes.{width_of};
 ghost use Rattle.rtl_flat.specs.Expression.{tree, form, read, beside};
-ghost use Rattle.rtl_flat.specs.Flows.{literal, literals, labels_of, is_wild, literal_matches, each_below, cover, covers, complete_by_labels, is_complete};
+ghost use Rattle.rtl_flat.specs.Flows.{literal, literals, labels_of, is_wild, cover, covers, complete_by_labels, is_complete};
 ghost use Rattle.rtl_scan.specs.Bodies.{branches_of};
 
+use crate::labels::Labels;
 use crate::spans::Widths;
 use rtl_bits::{Bit, Vec4};
-use rtl_expr::is_match;
 use rtl_flat::act::{CaseItem, CaseKind};
 use rtl_flat::expr::{Index, Node, Select, SigId, SizedExpr};
 use rtl_tree::memory::Memory;
@@ -87,38 +86,22 @@ fn any_wild(kind: CaseKind, labels: &[Vec4]) -> bool
     false
 }
 
-fn matches_one(kind: CaseKind, value: Vec4, label: Vec4) -> bool
-    ensures { result ≡ literal_matches kind value label }
-{
-    value.width() == label.width() && is_match(kind, value, label)
-}
-
-/// Whether some label matches a value.
-fn any_matches(kind: CaseKind, value: Vec4, labels: &[Vec4]) -> bool
-    ensures { result ≡ list_any (literal_matches kind value) labels.now }
-{
-    for label in labels {
-        if matches_one(kind, value, *label) {
-            return true;
-        }
-    }
-    false
-}
-
 /// Whether labels match each value of `own` bits, extended to a width.
-fn do_cover(kind: CaseKind, own: u8, width: u8, signed: bool, labels: &[Vec4]) -> bool
-    ensures { result ≡ cover kind own width signed labels.now }
+fn do_cover(
+    alloc: Global,
+    kind: CaseKind,
+    own: u8,
+    width: u8,
+    signed: bool,
+    labels: &[Vec4],
+) -> Result<bool, Memory>
+    ensures { IfOk result (λ complete. complete ≡ cover kind own width signed labels.now) }
 {
     if own < 1 || own > width || width > 16 {
-        return false;
+        return Ok(false);
     }
-    for n in 0..1u128 << own {
-        let value = Vec4::of_number(own, n).extend(width, signed);
-        if !any_matches(kind, value, labels) {
-            return false;
-        }
-    }
-    true
+    let labels = Labels::sorted(alloc, width, labels)?;
+    Ok(labels.match_all(kind, own, width, signed))
 }
 
 impl<'d> Widths<'d> {
@@ -195,16 +178,25 @@ fn by_labels(
     ensures { IfOk result (λ complete. complete ≡ complete_by_labels (width_in widths.now.signals.now) kind (tree selector.now) (branches_of items.now)) }
 {
     let labels = literal_labels(alloc, items)?;
-    Ok(any_wild(kind, &labels) || widths.is_covered(kind, selector, &labels))
+    if any_wild(kind, &labels) {
+        return Ok(true);
+    }
+    widths.is_covered(alloc, kind, selector, &labels)
 }
 
 impl<'d> Widths<'d> {
     /// Whether labels match every value over which a selector ranges.
     #[tactic(auto, using(crate::proofs::Covers::cover_capped))]
-    fn is_covered(&self, kind: CaseKind, selector: &SizedExpr, labels: &[Vec4]) -> bool
-        ensures { result ≡ covers (width_in self.now.signals.now) kind (tree selector.now) labels.now }
+    fn is_covered(
+        &self,
+        alloc: Global,
+        kind: CaseKind,
+        selector: &SizedExpr,
+        labels: &[Vec4],
+    ) -> Result<bool, Memory>
+        ensures { IfOk result (λ complete. complete ≡ covers (width_in self.now.signals.now) kind (tree selector.now) labels.now) }
     {
         let own = self.own_width(&selector.node);
-        do_cover(kind, own, selector.width, selector.signed, labels)
+        do_cover(alloc, kind, own, selector.width, selector.signed, labels)
     }
 }

@@ -7,6 +7,7 @@ mod complete;
 mod expressions;
 mod feeds;
 mod graph;
+mod labels;
 pub mod law;
 mod pass;
 mod scan;

@@ -1,0 +1,12 @@
+use Rattle.rtl_scan.proofs.Values.{sorted_step, sorted_end}
+use Rattle.rtl_scan.proofs.labels.Labels.sorted.Goals as goal
+
+pub loop-label-preserved : goal.loop-label-preserved
+loop-label-preserved c = λ kind value fits plain.
+    sorted_step c.args.width c.args.labels.now c.loop-label.label-index c.label-item.result c.loop-label-test.true c.label-item.is c.loop-label.sorted c.add.new.self c.in_ok-add.ensures kind value fits plain _ (c.loop-label.invariant kind value fits plain)
+
+pub returns : goal.returns
+returns c = record {
+  each = λ kind value fits plain.
+      sorted_end c.args.labels.now c.loop-label.label-index c.loop-label.sorted kind value _ c.loop-label-test.false (c.loop-label.invariant kind value fits plain);
+}

@@ -1,0 +1,98 @@
+// The values that labels of a case match.
+
+ghost use Rattle.std.specs.Prelude.{ℕ, ◌≡◌, ◌≤◌, ◌^◌, ◌==◌, cond, true, false, OnOk, IfOk, length};
+ghost use Rattle.std.specs.List.{list_any};
+ghost use Rattle.std.specs.Ordering.{nat_cmp};
+ghost use Rattle.std.specs.BTreeSet.{contains};
+ghost use Rattle.rtl_bits.specs.Bits.{bits_of, extended, has_unknown};
+ghost use Rattle.rtl_flat.specs.Flows.{literal_matches, each_below};
+ghost use Rattle.rtl_scan.specs.Labels.{matches_some, GetsLabel, AreSorted};
+
+use rtl_bits::Vec4;
+use rtl_expr::is_match;
+use rtl_flat::act::CaseKind;
+use rtl_tree::memory::Memory;
+use std::alloc::Global;
+use std::collections::BTreeSet;
+
+fn matches_one(kind: CaseKind, value: Vec4, label: Vec4) -> bool
+    ensures { result ≡ literal_matches kind value label }
+{
+    value.width() == label.width() && is_match(kind, value, label)
+}
+
+/// Whether some label matches a value.
+fn any_matches(kind: CaseKind, value: Vec4, labels: &[Vec4]) -> bool
+    ensures { result ≡ list_any (literal_matches kind value) labels.now }
+{
+    for label in labels {
+        if matches_one(kind, value, *label) {
+            return true;
+        }
+    }
+    false
+}
+
+/// Labels of a case: those of a width without x and z by their numbers, each of which matches one
+/// value, and the others.
+#[derive(Drop)]
+pub(crate) struct Labels {
+    pub(crate) numbers: BTreeSet<u128>,
+    pub(crate) others: Vec<Vec4>,
+}
+
+impl Labels {
+    fn add_number(&mut self, number: u128) -> Result<(), Memory>
+        ensures { OnOk result (((n : ℕ) → contains nat_cmp self.new.numbers n ≡ cond (n == number) true (contains nat_cmp self.old.numbers n)) × (self.new.others.items ≡ self.old.others.items)) }
+    {
+        self.numbers.insert(number)?;
+        Ok(())
+    }
+
+    fn add(&mut self, width: u8, label: Vec4) -> Result<(), Memory>
+        ensures { OnOk result (GetsLabel width label self.old self.new) }
+    {
+        if label.width() == width && label.is_known() {
+            return self.add_number(label.number());
+        }
+        self.others.push(label)?;
+        Ok(())
+    }
+
+    pub(crate) fn sorted(alloc: Global, width: u8, labels: &[Vec4]) -> Result<Labels, Memory>
+        ensures { IfOk result (λ sorted. AreSorted width labels.now sorted) }
+    {
+        let mut sorted = Labels {
+            numbers: BTreeSet::new(alloc),
+            others: Vec::new(alloc),
+        };
+        for label in labels {
+            sorted.add(width, *label)?;
+        }
+        Ok(sorted)
+    }
+
+    /// Whether one of them matches a value.
+    fn match_one(&self, kind: CaseKind, value: Vec4) -> bool
+        requires { has_unknown value ≡ false }
+        ensures { result ≡ matches_some kind value self.now }
+    {
+        self.numbers.contains(&value.number()) || any_matches(kind, value, &self.others)
+    }
+
+    /// Whether they match each value of `own` bits, extended to a width.
+    pub(crate) fn match_all(&self, kind: CaseKind, own: u8, width: u8, signed: bool) -> bool
+        requires some { 1 ≤ own }
+        requires fits { own ≤ width }
+        requires few { width ≤ 16 }
+        ensures { result ≡ each_below (2 ^ own) (λ n. matches_some kind (extended width signed (bits_of own n)) self.now) }
+    {
+        for n in 0..1u128 << own {
+            let value = Vec4::of_number(own, n).extend(width, signed);
+            if !self.match_one(kind, value) {
+                return false;
+            }
+        }
+        true
+    }
+}
