@@ -12,6 +12,7 @@ use Rattle.rtl_tree.specs.Deeper.{too_deep}
 use Rattle.rtl_tree.specs.Depth.{depth}
 use Rattle.rtl_tree.specs.declared.dropped.Dropped.{Dropped}
 use Rattle.rtl_tree.specs.declared.token.Token.{Token}
+use Rattle.rtl_tree.specs.declared.tree.nesting.TheConstants.{MAX_NESTING}
 use Rattle.text_survey.specs.Terminals.{is_refused}
 use Rattle.text_survey.specs.Surveys.{AreNumbered, IsDead, AreClosed, IsSurvey}
 use Rattle.text_survey.specs.declared.machine.Surveyed.{Surveyed}
@@ -84,7 +85,7 @@ depth_cause ready xs s at read inside survey deep =
 -- what is spelled and nowhere too deep is built
 pub built : (ready : Ready) (xs : List code.Terminal) (s : Surveyed) (regions : List Dropped) (result : Result (Vec Module Global) BuildFault)
     (modules : Vec Module Global) → AreRead ready xs → IsSurvey (map terminal xs) s → s ≡ surveyed.Spelled → regions ≡ ready.dropped
-    → ((cs : List Circuit) → AreSpelled regions (map terminal xs) cs → All (λ c. depth c ≤ 200) cs → IsBuilt cs result) → result ≡ Ok modules
+    → ((cs : List Circuit) → AreSpelled regions (map terminal xs) cs → All (λ c. depth c ≤ MAX_NESTING) cs → IsBuilt cs result) → result ≡ Ok modules
     → Spells ready (map circuit modules.items) × (too_deep (map circuit modules.items) ≡ [])
 built ready xs s regions result modules read survey spelled e each ok =
     let some : IsSurvey (map terminal xs) surveyed.Spelled = subst (λ x. IsSurvey (map terminal xs) x) spelled survey in

@@ -6,7 +6,8 @@ use Rattle.rtl_tree.specs.TreeStmt.{Target, Whole, Bit, Part, Joined, Targets, n
 use Rattle.rtl_tree.specs.TreeItem.{Head, Drive, Happening, Edge, Change, ChangeBit, ChangePart, Sensitivity, Star, StarInParens, Listed, Association, ByPosition, ByName, ModuleItem, Ports, Nets, Variables, Integers, Parameters, Drives, Always, Instances}
 use Rattle.rtl_tree.specs.TreeModule.{Circuit, HeaderParameter, HeaderPort, Header, Absent, Empty, Declared}
 use Rattle.rtl_tree.specs.TreeModule as modules
-use Rattle.rtl_tree.specs.Deeper.{of_any, here, formula_deeper, formulas_deeper, bounds_deeper, target_deeper, targets_deeper, span_deeper, pause_deeper, action_deeper, actions_deeper, branch_deeper, branches_deeper, head_deeper, net_deeper, valuation_deeper, drive_deeper, happening_deeper, sensitivity_deeper, positional_deeper, associated_deeper, association_deeper, instantiation_deeper, item_deeper, header_parameter_deeper, header_port_deeper, header_deeper, deeper, limit, too_deep}
+use Rattle.rtl_tree.specs.Deeper.{of_any, here, formula_deeper, formulas_deeper, bounds_deeper, target_deeper, targets_deeper, span_deeper, pause_deeper, action_deeper, actions_deeper, branch_deeper, branches_deeper, head_deeper, net_deeper, valuation_deeper, drive_deeper, happening_deeper, sensitivity_deeper, positional_deeper, associated_deeper, association_deeper, instantiation_deeper, item_deeper, header_parameter_deeper, header_port_deeper, header_deeper, deeper, too_deep}
+use Rattle.rtl_tree.specs.declared.tree.nesting.TheConstants.{MAX_NESTING}
 use Rattle.rtl_tree.specs.Depth.{greatest, if_any, formula_depth, formulas_depth, bounds_depth, target_depth, targets_depth, span_depth, pause_depth, action_depth, actions_depth, branch_depth, branches_depth, head_depth, net_depth, valuation_depth, drive_depth, happening_depth, sensitivity_depth, positional_depth, associated_depth, association_depth, instantiation_depth, item_depth, header_parameter_depth, header_port_depth, header_depth, depth}
 
 left : (xs ys : List ℕ) → xs ++ ys ≡ [] → xs ≡ []
@@ -224,7 +225,7 @@ circuit c k e =
     omega (arith, of_list (header_parameter_deeper k) header_parameter_depth k (λ p h. parameter p k h) c.parameters v.0, header c.header k v.1, of_list (item_deeper k) item_depth k (λ i h. item i k h) c.items v.2)
 
 -- modules without a place that is too deep
-pub shallow : (cs : List Circuit) → too_deep cs ≡ [] → All (λ c. depth c ≤ limit) cs
+pub shallow : (cs : List Circuit) → too_deep cs ≡ [] → All (λ c. depth c ≤ MAX_NESTING) cs
 shallow [] e k d l = absurd (omega (arith, l))
-shallow (c ∷ cs) e zero d l = circuit c limit (left (deeper limit c) (too_deep cs) e)
-shallow (c ∷ cs) e (suc k) d l = shallow cs (right (deeper limit c) (too_deep cs) e) k d (omega (arith, l))
+shallow (c ∷ cs) e zero d l = circuit c MAX_NESTING (left (deeper MAX_NESTING c) (too_deep cs) e)
+shallow (c ∷ cs) e (suc k) d l = shallow cs (right (deeper MAX_NESTING c) (too_deep cs) e) k d (omega (arith, l))

@@ -18,30 +18,36 @@ use rtl_tree::tree::item::{
     Assignment, Direction, Item, ParameterKind, PortHead, PortKind, Reg, Setting, Wire,
 };
 use rtl_tree::tree::names::Name;
-
-/// How deep a spelled text may be nested.
-pub const DEEPEST: u32 = 200;
+use rtl_tree::tree::nesting::MAX_NESTING;
 
 impl<'a> Cursor<'a> {
     /// Any expression that stands in an item.
     #[tactic(auto, unfolding(crate::specs::ReadingItem::any_expression))]
     pub fn any_expression(&mut self) -> Result<Expr, BuildFault>
-        ensures { Reads formula (reading.any_expression 200 (map terminal self.old.rest.now)) result (map terminal self.new.rest.now) }
+        ensures { Reads formula (reading.any_expression MAX_NESTING (map terminal self.old.rest.now)) result (map terminal self.new.rest.now) }
     {
-        self.expression(DEEPEST)
+        self.expression(MAX_NESTING)
     }
 
     /// A range, where one comes next.
     #[tactic(auto, unfolding(crate::specs::ReadingItem::range, crate::specs::ReadingItem::any_expression, crate::specs::Reading::optional, crate::specs::Reading::either))]
     pub fn optional_range(&mut self) -> Result<Option<Range>, BuildFault>
-        ensures { Reads (λ r. option_map bounds r) (reading.range 200 (map terminal self.old.rest.now)) result (map terminal self.new.rest.now) }
+        ensures { Reads (λ r. option_map bounds r) (reading.range MAX_NESTING (map terminal self.old.rest.now)) result (map terminal self.new.rest.now) }
     {
         if self.is_next(Symbol::OpenBracket) {
-            let range = self.range(DEEPEST)?;
+            let range = self.range(MAX_NESTING)?;
             Ok(Some(range))
         } else {
             Ok(None)
         }
+    }
+
+    /// The same in a box: what is held by value while more is read is dear to prove.
+    fn boxed_range(&mut self) -> Result<Box<Option<Range>>, BuildFault>
+        ensures { Reads (λ r. option_map bounds r.value) (reading.range MAX_NESTING (map terminal self.old.rest.now)) result (map terminal self.new.rest.now) }
+    {
+        let read = self.optional_range()?;
+        Ok(Box::new(self.alloc, read)?)
     }
 
     /// One or more names with commas between them.
@@ -92,7 +98,7 @@ impl<'a> Cursor<'a> {
     /// What stands before the names of ports.
     #[tactic(auto, unfolding(crate::specs::ReadingItem::port_head, crate::specs::ReadingItem::flag))]
     pub fn port_head(&mut self) -> Result<PortHead, BuildFault>
-        ensures { Reads head (reading.port_head 200 (map terminal self.old.rest.now)) result (map terminal self.new.rest.now) }
+        ensures { Reads head (reading.port_head MAX_NESTING (map terminal self.old.rest.now)) result (map terminal self.new.rest.now) }
     {
         let direction = self.direction_next()?;
         let at = self.advance()?;
@@ -108,20 +114,27 @@ impl<'a> Cursor<'a> {
         })
     }
 
+    pub fn boxed_port_head(&mut self) -> Result<Box<PortHead>, BuildFault>
+        ensures { Reads (λ h. head h.value) (reading.port_head MAX_NESTING (map terminal self.old.rest.now)) result (map terminal self.new.rest.now) }
+    {
+        let read = self.port_head()?;
+        Ok(Box::new(self.alloc, read)?)
+    }
+
     #[tactic(auto, unfolding(crate::specs::ReadingItem::ports))]
     pub fn ports(&mut self) -> Result<Item, BuildFault>
-        ensures { Reads module_item (reading.ports 200 (map terminal self.old.rest.now)) result (map terminal self.new.rest.now) }
+        ensures { Reads module_item (reading.ports MAX_NESTING (map terminal self.old.rest.now)) result (map terminal self.new.rest.now) }
     {
-        let head = self.port_head()?;
+        let head = self.boxed_port_head()?;
         let names = self.names()?;
         self.mark(Symbol::Semicolon)?;
-        Ok(Item::Ports(head, names))
+        Ok(Item::Ports(Box::into_inner(head), names))
     }
 
     /// `= value`
     #[tactic(auto, unfolding(crate::specs::ReadingItem::value))]
     pub fn value(&mut self) -> Result<Expr, BuildFault>
-        ensures { Reads formula (reading.value 200 (map terminal self.old.rest.now)) result (map terminal self.new.rest.now) }
+        ensures { Reads formula (reading.value MAX_NESTING (map terminal self.old.rest.now)) result (map terminal self.new.rest.now) }
     {
         self.mark(Symbol::Equals)?;
         self.any_expression()
@@ -129,7 +142,7 @@ impl<'a> Cursor<'a> {
 
     #[tactic(auto, unfolding(crate::specs::Reading::optional, crate::specs::Reading::either))]
     fn optional_value(&mut self) -> Result<Option<Expr>, BuildFault>
-        ensures { Reads (λ v. option_map formula v) (generic.optional symbol.Equals (reading.value 200) (map terminal self.old.rest.now)) result (map terminal self.new.rest.now) }
+        ensures { Reads (λ v. option_map formula v) (generic.optional symbol.Equals (reading.value MAX_NESTING) (map terminal self.old.rest.now)) result (map terminal self.new.rest.now) }
     {
         if self.is_next(Symbol::Equals) {
             let value = self.value()?;
@@ -141,7 +154,7 @@ impl<'a> Cursor<'a> {
 
     #[tactic(auto, unfolding(crate::specs::ReadingItem::net))]
     fn wire(&mut self) -> Result<Wire, BuildFault>
-        ensures { Reads net (reading.net 200 (map terminal self.old.rest.now)) result (map terminal self.new.rest.now) }
+        ensures { Reads net (reading.net MAX_NESTING (map terminal self.old.rest.now)) result (map terminal self.new.rest.now) }
     {
         let name = self.name()?;
         let value = self.optional_value()?;
@@ -149,7 +162,7 @@ impl<'a> Cursor<'a> {
     }
 
     fn listed_wires(&mut self) -> Result<Vec<Wire>, BuildFault>
-        ensures { Reads (λ all. map net all.items) (generic.listed (reading.net 200) (map terminal self.old.rest.now)) result (map terminal self.new.rest.now) }
+        ensures { Reads (λ all. map net all.items) (generic.listed (reading.net MAX_NESTING) (map terminal self.old.rest.now)) result (map terminal self.new.rest.now) }
     {
         let mut all = Vec::new(self.alloc);
         // Each turn takes a token, so these are enough.
@@ -164,17 +177,17 @@ impl<'a> Cursor<'a> {
 
     #[tactic(auto, unfolding(crate::specs::ReadingItem::nets, crate::specs::ReadingItem::flag))]
     pub fn wires(&mut self) -> Result<Item, BuildFault>
-        ensures { Reads module_item (reading.nets 200 (map terminal self.old.rest.now)) result (map terminal self.new.rest.now) }
+        ensures { Reads module_item (reading.nets MAX_NESTING (map terminal self.old.rest.now)) result (map terminal self.new.rest.now) }
     {
         let at = self.advance()?;
         let signed = self.take_if(Symbol::Signed);
-        let range = self.optional_range()?;
+        let range = self.boxed_range()?;
         let wires = self.listed_wires()?;
         self.mark(Symbol::Semicolon)?;
         Ok(Item::Wires {
             at,
             signed,
-            range,
+            range: Box::into_inner(range),
             wires,
         })
     }
@@ -205,17 +218,17 @@ impl<'a> Cursor<'a> {
 
     #[tactic(auto, unfolding(crate::specs::ReadingItem::variables, crate::specs::ReadingItem::flag))]
     pub fn regs(&mut self) -> Result<Item, BuildFault>
-        ensures { Reads module_item (reading.variables 200 (map terminal self.old.rest.now)) result (map terminal self.new.rest.now) }
+        ensures { Reads module_item (reading.variables MAX_NESTING (map terminal self.old.rest.now)) result (map terminal self.new.rest.now) }
     {
         let at = self.advance()?;
         let signed = self.take_if(Symbol::Signed);
-        let range = self.optional_range()?;
+        let range = self.boxed_range()?;
         let regs = self.listed_regs()?;
         self.mark(Symbol::Semicolon)?;
         Ok(Item::Regs {
             at,
             signed,
-            range,
+            range: Box::into_inner(range),
             regs,
         })
     }
@@ -232,7 +245,7 @@ impl<'a> Cursor<'a> {
 
     #[tactic(auto, unfolding(crate::specs::ReadingItem::valuation))]
     fn setting(&mut self) -> Result<Setting, BuildFault>
-        ensures { Reads valuation (reading.valuation 200 (map terminal self.old.rest.now)) result (map terminal self.new.rest.now) }
+        ensures { Reads valuation (reading.valuation MAX_NESTING (map terminal self.old.rest.now)) result (map terminal self.new.rest.now) }
     {
         let name = self.name()?;
         let value = self.value()?;
@@ -240,7 +253,7 @@ impl<'a> Cursor<'a> {
     }
 
     fn listed_settings(&mut self) -> Result<Vec<Setting>, BuildFault>
-        ensures { Reads (λ all. map valuation all.items) (generic.listed (reading.valuation 200) (map terminal self.old.rest.now)) result (map terminal self.new.rest.now) }
+        ensures { Reads (λ all. map valuation all.items) (generic.listed (reading.valuation MAX_NESTING) (map terminal self.old.rest.now)) result (map terminal self.new.rest.now) }
     {
         let mut all = Vec::new(self.alloc);
         // Each turn takes a token, so these are enough.
@@ -255,31 +268,34 @@ impl<'a> Cursor<'a> {
 
     #[tactic(auto, unfolding(crate::specs::ReadingItem::parameters))]
     pub fn settings(&mut self, kind: ParameterKind) -> Result<Item, BuildFault>
-        ensures { Reads module_item (reading.parameters 200 kind (map terminal self.old.rest.now)) result (map terminal self.new.rest.now) }
+        ensures { Reads module_item (reading.parameters MAX_NESTING kind (map terminal self.old.rest.now)) result (map terminal self.new.rest.now) }
     {
         let at = self.advance()?;
-        let range = self.optional_range()?;
+        let range = self.boxed_range()?;
         let settings = self.listed_settings()?;
         self.mark(Symbol::Semicolon)?;
         Ok(Item::Parameters {
             at,
             kind,
-            range,
+            range: Box::into_inner(range),
             settings,
         })
     }
 
     #[tactic(auto, unfolding(crate::specs::ReadingItem::drive))]
     fn assignment(&mut self) -> Result<Assignment, BuildFault>
-        ensures { Reads drive (reading.drive 200 (map terminal self.old.rest.now)) result (map terminal self.new.rest.now) }
+        ensures { Reads drive (reading.drive MAX_NESTING (map terminal self.old.rest.now)) result (map terminal self.new.rest.now) }
     {
-        let target = self.target(DEEPEST)?;
+        let target = self.boxed_target(MAX_NESTING)?;
         let value = self.value()?;
-        Ok(Assignment { target, value })
+        Ok(Assignment {
+            target: Box::into_inner(target),
+            value,
+        })
     }
 
     fn listed_assignments(&mut self) -> Result<Vec<Assignment>, BuildFault>
-        ensures { Reads (λ all. map drive all.items) (generic.listed (reading.drive 200) (map terminal self.old.rest.now)) result (map terminal self.new.rest.now) }
+        ensures { Reads (λ all. map drive all.items) (generic.listed (reading.drive MAX_NESTING) (map terminal self.old.rest.now)) result (map terminal self.new.rest.now) }
     {
         let mut all = Vec::new(self.alloc);
         // Each turn takes a token, so these are enough.
@@ -294,12 +310,12 @@ impl<'a> Cursor<'a> {
 
     #[tactic(auto, unfolding(crate::specs::ReadingItem::drives, crate::specs::ReadingItem::any_expression))]
     pub fn assigns(&mut self) -> Result<Item, BuildFault>
-        ensures { Reads module_item (reading.drives 200 (map terminal self.old.rest.now)) result (map terminal self.new.rest.now) }
+        ensures { Reads module_item (reading.drives MAX_NESTING (map terminal self.old.rest.now)) result (map terminal self.new.rest.now) }
     {
         let at = self.advance()?;
-        let delay = self.optional_delay(DEEPEST)?;
+        let delay = self.boxed_optional_delay(MAX_NESTING)?;
         let assignments = self.listed_assignments()?;
         self.mark(Symbol::Semicolon)?;
-        Ok(Item::Assigns(at, delay, assignments))
+        Ok(Item::Assigns(at, Box::into_inner(delay), assignments))
     }
 }

@@ -30,6 +30,13 @@ impl<'a> Cursor<'a> {
         self.climb(depth, LOOSEST)
     }
 
+    /// The same in a box: what is held by value while more is read is dear to prove.
+    pub fn boxed_expression(&mut self, depth: u32) -> Result<Box<Expr>, BuildFault>
+        ensures { Reads (λ e. formula e.value) (reading.expression depth (map terminal self.old.rest.now)) result (map terminal self.new.rest.now) }
+    {
+        self.boxed(depth, LOOSEST)
+    }
+
     /// An expression whose operators outside parentheses bind at most this loosely.
     #[cycle(expression)]
     fn climb(&mut self, depth: u32, loosest: u32) -> Result<Expr, BuildFault>
@@ -39,6 +46,14 @@ impl<'a> Cursor<'a> {
             return Err(BuildFault::NotSpelled);
         }
         self.sequence(depth - 1, loosest)
+    }
+
+    #[cycle(expression)]
+    fn boxed(&mut self, depth: u32, loosest: u32) -> Result<Box<Expr>, BuildFault>
+        ensures { Reads (λ e. formula e.value) (reading.climb depth loosest (map terminal self.old.rest.now)) result (map terminal self.new.rest.now) }
+    {
+        let read = self.climb(depth, loosest)?;
+        Ok(Box::new(self.alloc, read)?)
     }
 
     #[cycle(expression)]
@@ -86,6 +101,7 @@ impl<'a> Cursor<'a> {
     fn link(&mut self, depth: u32, left: Expr) -> Result<Expr, BuildFault>
         ensures { Reads formula (reading.link (reading.climb depth) (formula left) (map terminal self.old.rest.now)) result (map terminal self.new.rest.now) }
     {
+        let left = Box::new(self.alloc, left)?;
         match self.peek() {
             Some(symbol) => self.link_of(depth, binary_of(symbol), left),
             None => Err(BuildFault::NotSpelled),
@@ -97,9 +113,9 @@ impl<'a> Cursor<'a> {
         &mut self,
         depth: u32,
         operator: Option<BinaryOperator>,
-        left: Expr,
+        left: Box<Expr>,
     ) -> Result<Expr, BuildFault>
-        ensures { Reads formula (reading.link_of operator (reading.climb depth) (formula left) (map terminal self.old.rest.now)) result (map terminal self.new.rest.now) }
+        ensures { Reads formula (reading.link_of operator (reading.climb depth) (formula left.value) (map terminal self.old.rest.now)) result (map terminal self.new.rest.now) }
     {
         match operator {
             Some(operator) => self.joint(depth, operator, left),
@@ -113,35 +129,25 @@ impl<'a> Cursor<'a> {
         &mut self,
         depth: u32,
         operator: BinaryOperator,
-        left: Expr,
+        left: Box<Expr>,
     ) -> Result<Expr, BuildFault>
-        ensures { Reads formula (reading.joint operator (reading.climb depth (level operator - 1)) (formula left) (map terminal self.old.rest.now)) result (map terminal self.new.rest.now) }
+        ensures { Reads formula (reading.joint operator (reading.climb depth (level operator - 1)) (formula left.value) (map terminal self.old.rest.now)) result (map terminal self.new.rest.now) }
     {
         let at = self.advance()?;
-        let right = self.climb(depth, level(operator) - 1)?;
-        Ok(Expr::Binary(
-            operator,
-            at,
-            Box::new(self.alloc, left)?,
-            Box::new(self.alloc, right)?,
-        ))
+        let right = self.boxed(depth, level(operator) - 1)?;
+        Ok(Expr::Binary(operator, at, left, right))
     }
 
     #[cycle(expression)]
     #[tactic(auto, unfolding(crate::specs::ReadingExpr::choice))]
-    fn choice(&mut self, depth: u32, condition: Expr) -> Result<Expr, BuildFault>
-        ensures { Reads formula (reading.choice (reading.climb depth 11) (formula condition) (map terminal self.old.rest.now)) result (map terminal self.new.rest.now) }
+    fn choice(&mut self, depth: u32, condition: Box<Expr>) -> Result<Expr, BuildFault>
+        ensures { Reads formula (reading.choice (reading.climb depth 11) (formula condition.value) (map terminal self.old.rest.now)) result (map terminal self.new.rest.now) }
     {
         let at = self.advance()?;
-        let taken = self.climb(depth, LOOSEST)?;
+        let taken = self.boxed(depth, LOOSEST)?;
         self.mark(Symbol::Colon)?;
-        let otherwise = self.climb(depth, LOOSEST)?;
-        Ok(Expr::Choose(
-            at,
-            Box::new(self.alloc, condition)?,
-            Box::new(self.alloc, taken)?,
-            Box::new(self.alloc, otherwise)?,
-        ))
+        let otherwise = self.boxed(depth, LOOSEST)?;
+        Ok(Expr::Choose(at, condition, taken, otherwise))
     }
 
     #[cycle(expression)]
@@ -176,7 +182,7 @@ impl<'a> Cursor<'a> {
         ensures { Reads formula (reading.read (reading.climb depth 11) (map terminal self.old.rest.now)) result (map terminal self.new.rest.now) }
     {
         let reference = self.reference(depth)?;
-        reference.into_expr(self.alloc)
+        Ok(reference.into_expr())
     }
 
     #[cycle(expression)]
@@ -185,9 +191,9 @@ impl<'a> Cursor<'a> {
         ensures { Reads formula (reading.parens (reading.climb depth 11) (map terminal self.old.rest.now)) result (map terminal self.new.rest.now) }
     {
         let at = self.advance()?;
-        let inner = self.climb(depth, LOOSEST)?;
+        let inner = self.boxed(depth, LOOSEST)?;
         self.mark(Symbol::CloseParen)?;
-        Ok(Expr::Parens(at, Box::new(self.alloc, inner)?))
+        Ok(Expr::Parens(at, inner))
     }
 
     #[cycle(expression)]
@@ -197,9 +203,9 @@ impl<'a> Cursor<'a> {
     {
         let at = self.advance()?;
         self.mark(Symbol::OpenParen)?;
-        let inner = self.climb(depth, LOOSEST)?;
+        let inner = self.boxed(depth, LOOSEST)?;
         self.mark(Symbol::CloseParen)?;
-        Ok(Expr::Convert(signedness, at, Box::new(self.alloc, inner)?))
+        Ok(Expr::Convert(signedness, at, inner))
     }
 
     /// A concatenation or a replication.
@@ -231,11 +237,12 @@ impl<'a> Cursor<'a> {
     fn replication(&mut self, depth: u32, at: u32, times: Expr) -> Result<Expr, BuildFault>
         ensures { Reads formula (reading.replication (reading.climb depth 11) at (formula times) (map terminal self.old.rest.now)) result (map terminal self.new.rest.now) }
     {
+        let times = Box::new(self.alloc, times)?;
         self.advance()?;
         let parts = self.listed_expressions(depth)?;
         self.mark(Symbol::CloseBrace)?;
         self.mark(Symbol::CloseBrace)?;
-        Ok(Expr::repeat(at, Box::new(self.alloc, times)?, parts))
+        Ok(Expr::repeat(at, times, parts))
     }
 
     #[cycle(expression)]
@@ -303,8 +310,8 @@ impl<'a> Cursor<'a> {
         ensures { Reads formula (reading.operation operator (reading.climb depth 0) (map terminal self.old.rest.now)) result (map terminal self.new.rest.now) }
     {
         let at = self.advance()?;
-        let operand = self.climb(depth, 0)?;
-        Ok(Expr::Unary(operator, at, Box::new(self.alloc, operand)?))
+        let operand = self.boxed(depth, 0)?;
+        Ok(Expr::Unary(operator, at, operand))
     }
 
     /// A name, one bit of it, or a part of it.
@@ -335,7 +342,7 @@ impl<'a> Cursor<'a> {
         ensures { Reads reference (reading.selection (reading.climb depth 11) (identifier name) (map terminal self.old.rest.now)) result (map terminal self.new.rest.now) }
     {
         self.mark(Symbol::OpenBracket)?;
-        let first = self.climb(depth, LOOSEST)?;
+        let first = self.boxed(depth, LOOSEST)?;
         self.rest_of_selection(depth, name, first)
     }
 
@@ -345,9 +352,9 @@ impl<'a> Cursor<'a> {
         &mut self,
         depth: u32,
         name: Name,
-        first: Expr,
+        first: Box<Expr>,
     ) -> Result<Reference, BuildFault>
-        ensures { Reads reference (generic.either (generic.starts symbol.Colon) (reading.rest_of_part (reading.climb depth 11) (identifier name) (formula first)) (reading.rest_of_bit (identifier name) (formula first)) (map terminal self.old.rest.now)) result (map terminal self.new.rest.now) }
+        ensures { Reads reference (generic.either (generic.starts symbol.Colon) (reading.rest_of_part (reading.climb depth 11) (identifier name) (formula first.value)) (reading.rest_of_bit (identifier name) (formula first.value)) (map terminal self.old.rest.now)) result (map terminal self.new.rest.now) }
     {
         if self.is_next(Symbol::Colon) {
             self.rest_of_part(depth, name, first)
@@ -357,8 +364,8 @@ impl<'a> Cursor<'a> {
     }
 
     #[tactic(auto, unfolding(crate::specs::ReadingExpr::rest_of_bit))]
-    fn rest_of_bit(&mut self, name: Name, index: Expr) -> Result<Reference, BuildFault>
-        ensures { Reads reference (reading.rest_of_bit (identifier name) (formula index) (map terminal self.old.rest.now)) result (map terminal self.new.rest.now) }
+    fn rest_of_bit(&mut self, name: Name, index: Box<Expr>) -> Result<Reference, BuildFault>
+        ensures { Reads reference (reading.rest_of_bit (identifier name) (formula index.value) (map terminal self.old.rest.now)) result (map terminal self.new.rest.now) }
     {
         self.mark(Symbol::CloseBracket)?;
         Ok(Reference::Bit(name, index))
@@ -366,11 +373,16 @@ impl<'a> Cursor<'a> {
 
     #[cycle(expression)]
     #[tactic(auto, unfolding(crate::specs::ReadingExpr::rest_of_part))]
-    fn rest_of_part(&mut self, depth: u32, name: Name, msb: Expr) -> Result<Reference, BuildFault>
-        ensures { Reads reference (reading.rest_of_part (reading.climb depth 11) (identifier name) (formula msb) (map terminal self.old.rest.now)) result (map terminal self.new.rest.now) }
+    fn rest_of_part(
+        &mut self,
+        depth: u32,
+        name: Name,
+        msb: Box<Expr>,
+    ) -> Result<Reference, BuildFault>
+        ensures { Reads reference (reading.rest_of_part (reading.climb depth 11) (identifier name) (formula msb.value) (map terminal self.old.rest.now)) result (map terminal self.new.rest.now) }
     {
         self.mark(Symbol::Colon)?;
-        let lsb = self.climb(depth, LOOSEST)?;
+        let lsb = self.boxed(depth, LOOSEST)?;
         self.mark(Symbol::CloseBracket)?;
         Ok(Reference::Part(name, msb, lsb))
     }
@@ -381,10 +393,14 @@ impl<'a> Cursor<'a> {
         ensures { Reads bounds (reading.bounds (reading.climb depth 11) (map terminal self.old.rest.now)) result (map terminal self.new.rest.now) }
     {
         let at = self.advance()?;
-        let msb = self.climb(depth, LOOSEST)?;
+        let msb = self.boxed(depth, LOOSEST)?;
         self.mark(Symbol::Colon)?;
-        let lsb = self.climb(depth, LOOSEST)?;
+        let lsb = self.boxed(depth, LOOSEST)?;
         self.mark(Symbol::CloseBracket)?;
-        Ok(Range { at, msb, lsb })
+        Ok(Range {
+            at,
+            msb: Box::into_inner(msb),
+            lsb: Box::into_inner(lsb),
+        })
     }
 }

@@ -11,6 +11,7 @@ ghost use Rattle.text_build.specs.Reading as generic;
 ghost use Rattle.text_build.specs.Reading.{Reads};
 ghost use Rattle.text_build.specs.ReadingModule as reading;
 ghost use Rattle.rtl_tree.specs.declared.symbol.Symbol.TheVariants as symbol;
+ghost use Rattle.rtl_tree.specs.declared.tree.nesting.TheConstants.{MAX_NESTING};
 
 use crate::cursor::Cursor;
 use crate::fault::BuildFault;
@@ -48,14 +49,14 @@ fn between(
 impl<'a> Cursor<'a> {
     #[tactic(auto, unfolding(crate::specs::ReadingModule::item))]
     fn item(&mut self) -> Result<Item, BuildFault>
-        ensures { Reads module_item (reading.item 200 (map terminal self.old.rest.now)) result (map terminal self.new.rest.now) }
+        ensures { Reads module_item (reading.item MAX_NESTING (map terminal self.old.rest.now)) result (map terminal self.new.rest.now) }
     {
         self.attributes()?;
         self.item_after()
     }
 
     fn items(&mut self) -> Result<Vec<Item>, BuildFault>
-        ensures { Reads (λ all. map module_item all.items) (generic.until symbol.Endmodule (reading.item 200) (map terminal self.old.rest.now)) result (map terminal self.new.rest.now) }
+        ensures { Reads (λ all. map module_item all.items) (generic.until symbol.Endmodule (reading.item MAX_NESTING) (map terminal self.old.rest.now)) result (map terminal self.new.rest.now) }
     {
         let mut all = Vec::new(self.alloc);
         // Each turn takes a token, so these are enough.
@@ -70,7 +71,7 @@ impl<'a> Cursor<'a> {
 
     #[tactic(auto, unfolding(crate::specs::ReadingModule::heading))]
     fn parameter_head(&mut self) -> Result<ParameterHead, BuildFault>
-        ensures { Reads heading (reading.heading 200 (map terminal self.old.rest.now)) result (map terminal self.new.rest.now) }
+        ensures { Reads heading (reading.heading MAX_NESTING (map terminal self.old.rest.now)) result (map terminal self.new.rest.now) }
     {
         let at = self.advance()?;
         let range = self.optional_range()?;
@@ -79,7 +80,7 @@ impl<'a> Cursor<'a> {
 
     #[tactic(auto, unfolding(crate::specs::Reading::optional, crate::specs::Reading::either))]
     fn optional_parameter_head(&mut self) -> Result<Option<ParameterHead>, BuildFault>
-        ensures { Reads (λ h. option_map heading h) (generic.optional symbol.Parameter (reading.heading 200) (map terminal self.old.rest.now)) result (map terminal self.new.rest.now) }
+        ensures { Reads (λ h. option_map heading h) (generic.optional symbol.Parameter (reading.heading MAX_NESTING) (map terminal self.old.rest.now)) result (map terminal self.new.rest.now) }
     {
         if self.is_next(Symbol::Parameter) {
             let head = self.parameter_head()?;
@@ -89,18 +90,30 @@ impl<'a> Cursor<'a> {
         }
     }
 
+    /// The same in a box: what is held by value while more is read is dear to prove.
+    fn boxed_parameter_head(&mut self) -> Result<Box<Option<ParameterHead>>, BuildFault>
+        ensures { Reads (λ h. option_map heading h.value) (generic.optional symbol.Parameter (reading.heading MAX_NESTING) (map terminal self.old.rest.now)) result (map terminal self.new.rest.now) }
+    {
+        let read = self.optional_parameter_head()?;
+        Ok(Box::new(self.alloc, read)?)
+    }
+
     #[tactic(auto, unfolding(crate::specs::ReadingModule::parameter))]
     fn head_parameter(&mut self) -> Result<HeadParameter, BuildFault>
-        ensures { Reads header_parameter (reading.parameter 200 (map terminal self.old.rest.now)) result (map terminal self.new.rest.now) }
+        ensures { Reads header_parameter (reading.parameter MAX_NESTING (map terminal self.old.rest.now)) result (map terminal self.new.rest.now) }
     {
-        let head = self.optional_parameter_head()?;
+        let head = self.boxed_parameter_head()?;
         let name = self.name()?;
         let value = self.value()?;
-        Ok(HeadParameter { head, name, value })
+        Ok(HeadParameter {
+            head: Box::into_inner(head),
+            name,
+            value,
+        })
     }
 
     fn listed_parameters(&mut self) -> Result<Vec<HeadParameter>, BuildFault>
-        ensures { Reads (λ all. map header_parameter all.items) (generic.listed (reading.parameter 200) (map terminal self.old.rest.now)) result (map terminal self.new.rest.now) }
+        ensures { Reads (λ all. map header_parameter all.items) (generic.listed (reading.parameter MAX_NESTING) (map terminal self.old.rest.now)) result (map terminal self.new.rest.now) }
     {
         let mut all = Vec::new(self.alloc);
         // Each turn takes a token, so these are enough.
@@ -115,7 +128,7 @@ impl<'a> Cursor<'a> {
 
     #[tactic(auto, unfolding(crate::specs::ReadingModule::parameters_of))]
     fn parameters(&mut self) -> Result<Vec<HeadParameter>, BuildFault>
-        ensures { Reads (λ all. map header_parameter all.items) (reading.parameters_of 200 (map terminal self.old.rest.now)) result (map terminal self.new.rest.now) }
+        ensures { Reads (λ all. map header_parameter all.items) (reading.parameters_of MAX_NESTING (map terminal self.old.rest.now)) result (map terminal self.new.rest.now) }
     {
         self.advance()?;
         self.mark(Symbol::OpenParen)?;
@@ -126,7 +139,7 @@ impl<'a> Cursor<'a> {
 
     #[tactic(auto, unfolding(crate::specs::ReadingModule::parameters, crate::specs::Reading::either))]
     fn optional_parameters(&mut self) -> Result<Vec<HeadParameter>, BuildFault>
-        ensures { Reads (λ all. map header_parameter all.items) (reading.parameters 200 (map terminal self.old.rest.now)) result (map terminal self.new.rest.now) }
+        ensures { Reads (λ all. map header_parameter all.items) (reading.parameters MAX_NESTING (map terminal self.old.rest.now)) result (map terminal self.new.rest.now) }
     {
         if self.is_next(Symbol::Hash) {
             self.parameters()
@@ -143,7 +156,7 @@ impl<'a> Cursor<'a> {
 
     #[tactic(auto, unfolding(crate::specs::ReadingModule::own_head, crate::specs::Reading::either))]
     fn own_head(&mut self) -> Result<Option<PortHead>, BuildFault>
-        ensures { Reads (λ h. option_map head h) (reading.own_head 200 (map terminal self.old.rest.now)) result (map terminal self.new.rest.now) }
+        ensures { Reads (λ h. option_map head h) (reading.own_head MAX_NESTING (map terminal self.old.rest.now)) result (map terminal self.new.rest.now) }
     {
         if self.is_head_next() {
             let head = self.port_head()?;
@@ -153,17 +166,27 @@ impl<'a> Cursor<'a> {
         }
     }
 
+    fn boxed_own_head(&mut self) -> Result<Box<Option<PortHead>>, BuildFault>
+        ensures { Reads (λ h. option_map head h.value) (reading.own_head MAX_NESTING (map terminal self.old.rest.now)) result (map terminal self.new.rest.now) }
+    {
+        let read = self.own_head()?;
+        Ok(Box::new(self.alloc, read)?)
+    }
+
     #[tactic(auto, unfolding(crate::specs::ReadingModule::port))]
     fn head_port(&mut self) -> Result<HeadPort, BuildFault>
-        ensures { Reads header_port (reading.port 200 (map terminal self.old.rest.now)) result (map terminal self.new.rest.now) }
+        ensures { Reads header_port (reading.port MAX_NESTING (map terminal self.old.rest.now)) result (map terminal self.new.rest.now) }
     {
-        let head = self.own_head()?;
+        let head = self.boxed_own_head()?;
         let name = self.name()?;
-        Ok(HeadPort { head, name })
+        Ok(HeadPort {
+            head: Box::into_inner(head),
+            name,
+        })
     }
 
     fn listed_ports(&mut self) -> Result<Vec<HeadPort>, BuildFault>
-        ensures { Reads (λ all. map header_port all.items) (generic.listed (reading.port 200) (map terminal self.old.rest.now)) result (map terminal self.new.rest.now) }
+        ensures { Reads (λ all. map header_port all.items) (generic.listed (reading.port MAX_NESTING) (map terminal self.old.rest.now)) result (map terminal self.new.rest.now) }
     {
         let mut all = Vec::new(self.alloc);
         // Each turn takes a token, so these are enough.
@@ -178,7 +201,7 @@ impl<'a> Cursor<'a> {
 
     #[tactic(auto, unfolding(crate::specs::ReadingModule::declared))]
     fn declared_ports(&mut self) -> Result<PortList, BuildFault>
-        ensures { Reads header (reading.declared 200 (map terminal self.old.rest.now)) result (map terminal self.new.rest.now) }
+        ensures { Reads header (reading.declared MAX_NESTING (map terminal self.old.rest.now)) result (map terminal self.new.rest.now) }
     {
         let ports = self.listed_ports()?;
         self.mark(Symbol::CloseParen)?;
@@ -204,7 +227,7 @@ impl<'a> Cursor<'a> {
 
     #[tactic(auto, unfolding(crate::specs::Reading::either))]
     fn some_ports(&mut self) -> Result<PortList, BuildFault>
-        ensures { Reads header (generic.either reading.starts_head (reading.declared 200) reading.named (map terminal self.old.rest.now)) result (map terminal self.new.rest.now) }
+        ensures { Reads header (generic.either reading.starts_head (reading.declared MAX_NESTING) reading.named (map terminal self.old.rest.now)) result (map terminal self.new.rest.now) }
     {
         if self.is_head_next() {
             self.declared_ports()
@@ -215,7 +238,7 @@ impl<'a> Cursor<'a> {
 
     #[tactic(auto, unfolding(crate::specs::Reading::either))]
     fn ports_in_parens(&mut self) -> Result<PortList, BuildFault>
-        ensures { Reads header (generic.either (generic.starts symbol.CloseParen) reading.empty (generic.either reading.starts_head (reading.declared 200) reading.named) (map terminal self.old.rest.now)) result (map terminal self.new.rest.now) }
+        ensures { Reads header (generic.either (generic.starts symbol.CloseParen) reading.empty (generic.either reading.starts_head (reading.declared MAX_NESTING) reading.named) (map terminal self.old.rest.now)) result (map terminal self.new.rest.now) }
     {
         if self.is_next(Symbol::CloseParen) {
             self.no_ports()
@@ -226,7 +249,7 @@ impl<'a> Cursor<'a> {
 
     #[tactic(auto, unfolding(crate::specs::ReadingModule::port_list))]
     fn port_list(&mut self) -> Result<PortList, BuildFault>
-        ensures { Reads header (reading.port_list 200 (map terminal self.old.rest.now)) result (map terminal self.new.rest.now) }
+        ensures { Reads header (reading.port_list MAX_NESTING (map terminal self.old.rest.now)) result (map terminal self.new.rest.now) }
     {
         self.advance()?;
         self.ports_in_parens()
@@ -234,7 +257,7 @@ impl<'a> Cursor<'a> {
 
     #[tactic(auto, unfolding(crate::specs::ReadingModule::header, crate::specs::Reading::either))]
     fn optional_ports(&mut self) -> Result<PortList, BuildFault>
-        ensures { Reads header (reading.header 200 (map terminal self.old.rest.now)) result (map terminal self.new.rest.now) }
+        ensures { Reads header (reading.header MAX_NESTING (map terminal self.old.rest.now)) result (map terminal self.new.rest.now) }
     {
         if self.is_next(Symbol::OpenParen) {
             self.port_list()
@@ -246,7 +269,7 @@ impl<'a> Cursor<'a> {
     /// A module after its attributes.
     #[tactic(auto, unfolding(crate::specs::ReadingModule::circuit_after))]
     fn module_after(&mut self, regions: &[Dropped]) -> Result<Module, BuildFault>
-        ensures { Reads circuit (reading.circuit_after 200 regions.now (map terminal self.old.rest.now)) result (map terminal self.new.rest.now) }
+        ensures { Reads circuit (reading.circuit_after MAX_NESTING regions.now (map terminal self.old.rest.now)) result (map terminal self.new.rest.now) }
     {
         let at = self.mark(Symbol::Module)?;
         let name = self.name()?;
@@ -268,7 +291,7 @@ impl<'a> Cursor<'a> {
 
     #[tactic(auto, unfolding(crate::specs::ReadingModule::circuit))]
     fn module(&mut self, regions: &[Dropped]) -> Result<Module, BuildFault>
-        ensures { Reads circuit (reading.circuit 200 regions.now (map terminal self.old.rest.now)) result (map terminal self.new.rest.now) }
+        ensures { Reads circuit (reading.circuit MAX_NESTING regions.now (map terminal self.old.rest.now)) result (map terminal self.new.rest.now) }
     {
         self.attributes()?;
         self.module_after(regions)
@@ -285,7 +308,7 @@ impl<'a> Cursor<'a> {
 
     /// All modules, to the end of the tokens.
     pub fn modules(&mut self, regions: &[Dropped]) -> Result<Vec<Module>, BuildFault>
-        ensures { Reads (λ all. map circuit all.items) (reading.circuits 200 regions.now (map terminal self.old.rest.now)) result (map terminal self.new.rest.now) }
+        ensures { Reads (λ all. map circuit all.items) (reading.circuits MAX_NESTING regions.now (map terminal self.old.rest.now)) result (map terminal self.new.rest.now) }
     {
         let mut all = Vec::new(self.alloc);
         // Each turn takes a token, so these are enough.

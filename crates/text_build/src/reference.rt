@@ -7,14 +7,12 @@ ghost use Rattle.rtl_tree.specs.TreeItem.{happening};
 ghost use Rattle.text_build.specs.ReadingExpr.{read_of};
 ghost use Rattle.text_build.specs.ReadingStmt.{target_of};
 ghost use Rattle.text_build.specs.ReadingItem.{change_of};
-ghost use Rattle.text_build.specs.References.{reference, IsRead};
+ghost use Rattle.text_build.specs.References.{reference};
 
-use crate::fault::BuildFault;
 use rtl_tree::tree::expr::Expr;
 use rtl_tree::tree::item::Event;
 use rtl_tree::tree::names::Name;
 use rtl_tree::tree::stmt::Lvalue;
-use std::alloc::Global;
 
 /// A name, one bit of it, or a part of it.
 #[derive(Drop)]
@@ -22,23 +20,21 @@ pub enum Reference {
     /// `name`
     Whole(Name),
     /// `name[index]`
-    Bit(Name, Expr),
+    Bit(Name, Box<Expr>),
     /// `name[msb:lsb]`
-    Part(Name, Expr, Expr),
+    Part(Name, Box<Expr>, Box<Expr>),
 }
 
 impl Reference {
     /// As an expression.
-    pub fn into_expr(self, alloc: Global) -> Result<Expr, BuildFault>
-        ensures { IsRead (read_of (reference self)) result }
+    pub fn into_expr(self) -> Expr
+        ensures { formula result ≡ read_of (reference self) }
     {
-        Ok(match self {
+        match self {
             Reference::Whole(name) => Expr::Read(name),
-            Reference::Bit(name, index) => Expr::ReadBit(name, Box::new(alloc, index)?),
-            Reference::Part(name, msb, lsb) => {
-                Expr::ReadPart(name, Box::new(alloc, msb)?, Box::new(alloc, lsb)?)
-            }
-        })
+            Reference::Bit(name, index) => Expr::ReadBit(name, index),
+            Reference::Part(name, msb, lsb) => Expr::ReadPart(name, msb, lsb),
+        }
     }
 
     /// As the target of an assignment.
@@ -47,8 +43,10 @@ impl Reference {
     {
         match self {
             Reference::Whole(name) => Lvalue::Whole(name),
-            Reference::Bit(name, index) => Lvalue::Bit(name, index),
-            Reference::Part(name, msb, lsb) => Lvalue::Part(name, msb, lsb),
+            Reference::Bit(name, index) => Lvalue::Bit(name, Box::into_inner(index)),
+            Reference::Part(name, msb, lsb) => {
+                Lvalue::Part(name, Box::into_inner(msb), Box::into_inner(lsb))
+            }
         }
     }
 
@@ -58,8 +56,10 @@ impl Reference {
     {
         match self {
             Reference::Whole(name) => Event::Whole(name),
-            Reference::Bit(name, index) => Event::Bit(name, index),
-            Reference::Part(name, msb, lsb) => Event::Part(name, msb, lsb),
+            Reference::Bit(name, index) => Event::Bit(name, Box::into_inner(index)),
+            Reference::Part(name, msb, lsb) => {
+                Event::Part(name, Box::into_inner(msb), Box::into_inner(lsb))
+            }
         }
     }
 }
@@ -68,5 +68,5 @@ impl Reference {
 #[derive(Drop)]
 pub struct Step {
     pub name: Name,
-    pub value: Expr,
+    pub value: Box<Expr>,
 }

@@ -34,6 +34,15 @@ impl<'a> Cursor<'a> {
         self.statement_within(depth - 1)
     }
 
+    /// The same in a box: what is held by value while more is read is dear to prove.
+    #[cycle(statement)]
+    fn boxed_statement(&mut self, depth: u32) -> Result<Box<Stmt>, BuildFault>
+        ensures { Reads (λ s. action s.value) (reading.statement depth (map terminal self.old.rest.now)) result (map terminal self.new.rest.now) }
+    {
+        let read = self.statement(depth)?;
+        Ok(Box::new(self.alloc, read)?)
+    }
+
     #[cycle(statement)]
     #[tactic(auto, unfolding(crate::specs::ReadingStmt::statement_within))]
     fn statement_within(&mut self, depth: u32) -> Result<Stmt, BuildFault>
@@ -75,9 +84,9 @@ impl<'a> Cursor<'a> {
     fn delayed(&mut self, depth: u32) -> Result<Stmt, BuildFault>
         ensures { Reads action (reading.delayed (expression depth) (reading.statement depth) (map terminal self.old.rest.now)) result (map terminal self.new.rest.now) }
     {
-        let delay = self.delay(depth)?;
-        let body = self.statement(depth)?;
-        Ok(Stmt::Delayed(delay, Box::new(self.alloc, body)?))
+        let delay = self.boxed_delay(depth)?;
+        let body = self.boxed_statement(depth)?;
+        Ok(Stmt::Delayed(Box::into_inner(delay), body))
     }
 
     #[tactic(auto, unfolding(crate::specs::ReadingStmt::assignment_kind))]
@@ -101,12 +110,17 @@ impl<'a> Cursor<'a> {
     fn assign(&mut self, depth: u32) -> Result<Stmt, BuildFault>
         ensures { Reads action (reading.assign (expression depth) (reading.target depth) (map terminal self.old.rest.now)) result (map terminal self.new.rest.now) }
     {
-        let target = self.target(depth)?;
+        let target = self.boxed_target(depth)?;
         let kind = self.assignment_kind()?;
-        let delay = self.optional_delay(depth)?;
-        let value = self.expression(depth)?;
+        let delay = self.boxed_optional_delay(depth)?;
+        let value = self.boxed_expression(depth)?;
         self.mark(Symbol::Semicolon)?;
-        Ok(Stmt::Assign(target, kind, delay, value))
+        Ok(Stmt::Assign(
+            Box::into_inner(target),
+            kind,
+            Box::into_inner(delay),
+            Box::into_inner(value),
+        ))
     }
 
     #[cycle(statement)]
@@ -116,9 +130,9 @@ impl<'a> Cursor<'a> {
     {
         let at = self.advance()?;
         self.mark(Symbol::OpenParen)?;
-        let condition = self.expression(depth)?;
+        let condition = self.boxed_expression(depth)?;
         self.mark(Symbol::CloseParen)?;
-        let taken = self.statement(depth)?;
+        let taken = self.boxed_statement(depth)?;
         self.after_taken(depth, at, condition, taken)
     }
 
@@ -129,15 +143,15 @@ impl<'a> Cursor<'a> {
         &mut self,
         depth: u32,
         at: u32,
-        condition: Expr,
-        taken: Stmt,
+        condition: Box<Expr>,
+        taken: Box<Stmt>,
     ) -> Result<Stmt, BuildFault>
-        ensures { Reads action (generic.either (generic.starts symbol.Else) (reading.alternative (reading.statement depth) at (formula condition) (action taken)) (generic.pure (tree.If at (formula condition) (action taken))) (map terminal self.old.rest.now)) result (map terminal self.new.rest.now) }
+        ensures { Reads action (generic.either (generic.starts symbol.Else) (reading.alternative (reading.statement depth) at (formula condition.value) (action taken.value)) (generic.pure (tree.If at (formula condition.value) (action taken.value))) (map terminal self.old.rest.now)) result (map terminal self.new.rest.now) }
     {
         if self.is_next(Symbol::Else) {
             self.alternative(depth, at, condition, taken)
         } else {
-            Ok(Stmt::If(at, condition, Box::new(self.alloc, taken)?))
+            Ok(Stmt::If(at, Box::into_inner(condition), taken))
         }
     }
 
@@ -147,19 +161,14 @@ impl<'a> Cursor<'a> {
         &mut self,
         depth: u32,
         at: u32,
-        condition: Expr,
-        taken: Stmt,
+        condition: Box<Expr>,
+        taken: Box<Stmt>,
     ) -> Result<Stmt, BuildFault>
-        ensures { Reads action (reading.alternative (reading.statement depth) at (formula condition) (action taken) (map terminal self.old.rest.now)) result (map terminal self.new.rest.now) }
+        ensures { Reads action (reading.alternative (reading.statement depth) at (formula condition.value) (action taken.value) (map terminal self.old.rest.now)) result (map terminal self.new.rest.now) }
     {
         self.advance()?;
-        let otherwise = self.statement(depth)?;
-        Ok(Stmt::IfElse(
-            at,
-            condition,
-            Box::new(self.alloc, taken)?,
-            Box::new(self.alloc, otherwise)?,
-        ))
+        let otherwise = self.boxed_statement(depth)?;
+        Ok(Stmt::IfElse(at, Box::into_inner(condition), taken, otherwise))
     }
 
     #[cycle(statement)]
@@ -169,12 +178,19 @@ impl<'a> Cursor<'a> {
     {
         let at = self.advance()?;
         self.mark(Symbol::OpenParen)?;
-        let selector = self.expression(depth)?;
+        let selector = self.boxed_expression(depth)?;
         let close = self.token(Symbol::CloseParen)?;
         let items = self.case_items(depth)?;
         self.mark(Symbol::Endcase)?;
         let said = marks.with_pragmas(close.full, close.parallel);
-        Ok(Stmt::case(at, kind, said.full, said.parallel, selector, items))
+        Ok(Stmt::case(
+            at,
+            kind,
+            said.full,
+            said.parallel,
+            Box::into_inner(selector),
+            items,
+        ))
     }
 
     #[cycle(statement)]
@@ -233,7 +249,7 @@ impl<'a> Cursor<'a> {
     {
         let name = self.name()?;
         self.mark(Symbol::Equals)?;
-        let value = self.expression(depth)?;
+        let value = self.boxed_expression(depth)?;
         Ok(Step { name, value })
     }
 
@@ -246,19 +262,19 @@ impl<'a> Cursor<'a> {
         self.mark(Symbol::OpenParen)?;
         let first = self.step(depth)?;
         self.mark(Symbol::Semicolon)?;
-        let condition = self.expression(depth)?;
+        let condition = self.boxed_expression(depth)?;
         self.mark(Symbol::Semicolon)?;
         let next = self.step(depth)?;
         self.mark(Symbol::CloseParen)?;
-        let body = self.statement(depth)?;
+        let body = self.boxed_statement(depth)?;
         Ok(Stmt::For {
             at,
             index: first.name,
-            start: first.value,
-            condition,
+            start: Box::into_inner(first.value),
+            condition: Box::into_inner(condition),
             stepped: next.name,
-            step: next.value,
-            body: Box::new(self.alloc, body)?,
+            step: Box::into_inner(next.value),
+            body,
         })
     }
 

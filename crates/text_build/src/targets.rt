@@ -27,6 +27,14 @@ impl<'a> Cursor<'a> {
         self.target_within(depth - 1)
     }
 
+    /// The same in a box: what is held by value while more is read is dear to prove.
+    pub fn boxed_target(&mut self, depth: u32) -> Result<Box<Lvalue>, BuildFault>
+        ensures { Reads (λ t. target t.value) (reading.target depth (map terminal self.old.rest.now)) result (map terminal self.new.rest.now) }
+    {
+        let read = self.target(depth)?;
+        Ok(Box::new(self.alloc, read)?)
+    }
+
     #[cycle(target)]
     #[tactic(auto, unfolding(crate::specs::Reading::either))]
     fn target_within(&mut self, depth: u32) -> Result<Lvalue, BuildFault>
@@ -94,9 +102,9 @@ impl<'a> Cursor<'a> {
         ensures { Reads span (reading.valued (expression depth) (map terminal self.old.rest.now)) result (map terminal self.new.rest.now) }
     {
         self.mark(Symbol::OpenParen)?;
-        let value = self.expression(depth)?;
+        let value = self.boxed_expression(depth)?;
         self.mark(Symbol::CloseParen)?;
-        Ok(Ticks::Parens(value))
+        Ok(Ticks::Parens(Box::into_inner(value)))
     }
 
     #[tactic(auto, unfolding(crate::specs::ReadingStmt::span))]
@@ -119,6 +127,13 @@ impl<'a> Cursor<'a> {
         Ok(Delay { at, ticks })
     }
 
+    pub fn boxed_delay(&mut self, depth: u32) -> Result<Box<Delay>, BuildFault>
+        ensures { Reads (λ d. pause d.value) (reading.pause (expression depth) (map terminal self.old.rest.now)) result (map terminal self.new.rest.now) }
+    {
+        let read = self.delay(depth)?;
+        Ok(Box::new(self.alloc, read)?)
+    }
+
     /// A delay, where one comes next.
     #[tactic(auto, unfolding(crate::specs::Reading::optional, crate::specs::Reading::either))]
     pub fn optional_delay(&mut self, depth: u32) -> Result<Option<Delay>, BuildFault>
@@ -130,5 +145,12 @@ impl<'a> Cursor<'a> {
         } else {
             Ok(None)
         }
+    }
+
+    pub fn boxed_optional_delay(&mut self, depth: u32) -> Result<Box<Option<Delay>>, BuildFault>
+        ensures { Reads (λ d. option_map pause d.value) (generic.optional symbol.Hash (reading.pause (expression depth)) (map terminal self.old.rest.now)) result (map terminal self.new.rest.now) }
+    {
+        let read = self.optional_delay(depth)?;
+        Ok(Box::new(self.alloc, read)?)
     }
 }

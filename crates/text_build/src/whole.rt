@@ -5,6 +5,7 @@ ghost use Rattle.rtl_tree.specs.Depth.{depth};
 ghost use Rattle.rtl_tree.specs.GrammarModule.{AreSpelled};
 ghost use Rattle.rtl_tree.specs.Symbols.{terminal};
 ghost use Rattle.rtl_tree.specs.TreeModule.{Circuit};
+ghost use Rattle.rtl_tree.specs.declared.tree.nesting.TheConstants.{MAX_NESTING};
 ghost use Rattle.text_build.specs.Built.{IsBuilt, SpelledOnce};
 
 use crate::cursor::Cursor;
@@ -25,7 +26,7 @@ pub fn build(
     tokens: &[Terminal],
     regions: &[Dropped],
 ) -> Result<Vec<Module>, BuildFault>
-    ensures { (cs : List Circuit) → AreSpelled regions.now (map terminal tokens.now) cs → All (λ c. depth c ≤ 200) cs → IsBuilt cs result }
+    ensures { (cs : List Circuit) → AreSpelled regions.now (map terminal tokens.now) cs → All (λ c. depth c ≤ MAX_NESTING) cs → IsBuilt cs result }
 {
     let mut cursor = Cursor {
         rest: tokens,

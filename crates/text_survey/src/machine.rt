@@ -12,10 +12,8 @@ use crate::table::rule;
 use crate::task::{Taking, Task};
 use rtl_tree::memory::Memory;
 use rtl_tree::symbol::{Symbol, Terminal};
+use rtl_tree::tree::nesting::MAX_NESTING;
 use std::alloc::Global;
-
-/// How deep expressions and statements may be nested.
-const LIMIT: usize = 200;
 
 /// What tokens are to the grammar.
 #[derive(Clone, Copy, PartialEq, Eq, Debug)]
@@ -119,7 +117,7 @@ pub fn survey(alloc: Global, tokens: &[Terminal]) -> Result<Surveyed, Memory>
     if !machine.rest.is_empty() {
         return Ok(Surveyed::Stopped(tokens.len() - machine.rest.len()));
     }
-    match machine.depths.deeper(LIMIT) {
+    match machine.depths.deeper(MAX_NESTING as usize) {
         Some(at) => Ok(Surveyed::TooDeep(at)),
         None => Ok(Surveyed::Spelled),
     }

@@ -6,7 +6,8 @@ use Rattle.rtl_tree.specs.Symbols.{Terminal, terminal}
 use Rattle.text_survey.specs.declared.task.Task.{Task}
 use Rattle.text_survey.specs.Rule.{rule}
 use Rattle.text_survey.specs.Machine.{State, at, symbol_at, left, moved, next, Leads, Moves}
-use Rattle.rtl_tree.specs.Deeper.{limit, too_deep, IsLeastPlace}
+use Rattle.rtl_tree.specs.Deeper.{too_deep, IsLeastPlace}
+use Rattle.rtl_tree.specs.declared.tree.nesting.TheConstants.{MAX_NESTING}
 use Rattle.text_survey.specs.Surveys.{start, IsDead, AreClosed, SpellSomeThat}
 use Rattle.text_survey.specs.declared.depths.Depths as kept
 use Rattle.text_survey.specs.declared.task.Task.TheVariants as task
@@ -112,13 +113,13 @@ unfolding advance
 nothing_on d = refl
 
 -- what was read is what the modules are nested like
-read_through : (ts : List Terminal) (s : Depths) → ReadsOn (reading (task.Source ∷ []) ts none_read) (reading [] [] s) → SpellSomeThat (λ cs. nest_deeper limit s.top ≡ too_deep cs) ts
+read_through : (ts : List Terminal) (s : Depths) → ReadsOn (reading (task.Source ∷ []) ts none_read) (reading [] [] s) → SpellSomeThat (λ cs. nest_deeper MAX_NESTING s.top ≡ too_deep cs) ts
 read_through ts s w numbered regions =
     let v = spelled ts (leads (reading (task.Source ∷ []) ts none_read) (reading [] [] s) w) numbered regions in
     let all = grow (all_beside in_circuit v.0) none_read in
     let run = (circuits_run regions v.0 ts v.1.spelled).runs [] none_read in
     let same = one_end_read (reading (task.Source ∷ []) ts none_read) (reading [] [] s) (reading [] [] all) w (nothing_on s) run (nothing_on all) in
-    (v.0, v.1, ap (λ (z : Reading). nest_deeper limit z.read.top) same ∙ places v.0)
+    (v.0, v.1, ap (λ (z : Reading). nest_deeper MAX_NESTING z.read.top) same ∙ places v.0)
 
 at_end : (ts : List code.Terminal) (rest : List code.Terminal) (items : List Task) (d : kept.Depths) → items ≡ [] → length rest ≡ 0 → So (map terminal ts) (reverse items) (map terminal rest) d
     → (s : Depths) × ReadsOn (reading (task.Source ∷ []) (map terminal ts) none_read) (reading [] [] s) × IsKept d s
@@ -127,16 +128,16 @@ at_end ts (t ∷ rest) items d e n w = absurd (omega (arith, n))
 
 -- nothing is nested too deep
 pub through : (ts rest : List code.Terminal) (items : List Task) (d : kept.Depths) (found : Option ℕ) → items ≡ [] → length rest ≡ 0 → So (map terminal ts) (reverse items) (map terminal rest) d
-    → ((s : Depths) → IsKept d s → found ≡ least_of (nest_deeper limit s.top)) → found ≡ None → SpellSomeThat (λ cs. too_deep cs ≡ []) (map terminal ts)
+    → ((s : Depths) → IsKept d s → found ≡ least_of (nest_deeper MAX_NESTING s.top)) → found ≡ None → SpellSomeThat (λ cs. too_deep cs ≡ []) (map terminal ts)
 through ts rest items d found e n w f none numbered regions =
     let a = at_end ts rest items d e n w in
     let v = read_through (map terminal ts) a.0 a.1 numbered regions in
-    (v.0, v.1, sym v.2 ∙ none_found (nest_deeper limit a.0.top) (sym (f a.0 a.2) ∙ none))
+    (v.0, v.1, sym v.2 ∙ none_found (nest_deeper MAX_NESTING a.0.top) (sym (f a.0 a.2) ∙ none))
 
 -- and here something is
 pub through_deep : (ts rest : List code.Terminal) (items : List Task) (d : kept.Depths) (found' : Option ℕ) (place' : ℕ) → items ≡ [] → length rest ≡ 0 → So (map terminal ts) (reverse items) (map terminal rest) d
-    → ((s : Depths) → IsKept d s → found' ≡ least_of (nest_deeper limit s.top)) → found' ≡ Some place' → SpellSomeThat (λ cs. IsLeastPlace (too_deep cs) place') (map terminal ts)
+    → ((s : Depths) → IsKept d s → found' ≡ least_of (nest_deeper MAX_NESTING s.top)) → found' ≡ Some place' → SpellSomeThat (λ cs. IsLeastPlace (too_deep cs) place') (map terminal ts)
 through_deep ts rest items d found' place' e n w f some numbered regions =
     let a = at_end ts rest items d e n w in
     let v = read_through (map terminal ts) a.0 a.1 numbered regions in
-    (v.0, v.1, subst (λ xs. IsLeastPlace xs place') v.2 (found (nest_deeper limit a.0.top) place' (sym (f a.0 a.2) ∙ some)))
+    (v.0, v.1, subst (λ xs. IsLeastPlace xs place') v.2 (found (nest_deeper MAX_NESTING a.0.top) place' (sym (f a.0 a.2) ∙ some)))

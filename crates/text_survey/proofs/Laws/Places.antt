@@ -6,7 +6,8 @@ use Rattle.rtl_tree.specs.TreeStmt.{Target, Whole, Bit, Part, Joined, Targets, n
 use Rattle.rtl_tree.specs.TreeItem.{Head, Net, Valuation, Drive, Happening, Edge, Change, ChangeBit, ChangePart, Sensitivity, Star, StarInParens, Listed, Positional, Associated, Association, ByPosition, ByName, Instantiation, ModuleItem, Ports, Nets, Variables, Integers, Parameters, Drives, Always, Instances}
 use Rattle.rtl_tree.specs.TreeModule.{Circuit, Heading, HeaderParameter, HeaderPort, Header, Absent, Empty, Declared}
 use Rattle.rtl_tree.specs.TreeModule as modules
-use Rattle.rtl_tree.specs.Deeper.{of_any, here, formula_deeper, formulas_deeper, bounds_deeper, target_deeper, targets_deeper, span_deeper, pause_deeper, action_deeper, actions_deeper, branch_deeper, branches_deeper, head_deeper, net_deeper, valuation_deeper, drive_deeper, happening_deeper, sensitivity_deeper, positional_deeper, associated_deeper, association_deeper, instantiation_deeper, item_deeper, header_parameter_deeper, header_port_deeper, header_deeper, deeper, limit, too_deep}
+use Rattle.rtl_tree.specs.Deeper.{of_any, here, formula_deeper, formulas_deeper, bounds_deeper, target_deeper, targets_deeper, span_deeper, pause_deeper, action_deeper, actions_deeper, branch_deeper, branches_deeper, head_deeper, net_deeper, valuation_deeper, drive_deeper, happening_deeper, sensitivity_deeper, positional_deeper, associated_deeper, association_deeper, instantiation_deeper, item_deeper, header_parameter_deeper, header_port_deeper, header_deeper, deeper, too_deep}
+use Rattle.rtl_tree.specs.declared.tree.nesting.TheConstants.{MAX_NESTING}
 use Rattle.text_survey.specs.Depths.{Nest, Nothing, Both, Within, nest_deeper}
 use Rattle.text_survey.proofs.Laws.Nests.{nest, nest_row, beside, skip, all_beside, valued, bounded, spanned, paused, nest_target, nest_targets, nest_action, nest_actions, nest_branch, nest_branches, net, valuation, drive, happening, awaited, positional, associated, arguments, placed, in_item, headed, heading, head_parameter, head_port, in_header, in_circuit}
 
@@ -270,6 +271,6 @@ puts_circuit c k m =
     ∙ front (nest_deeper k m) _ _ (left2 (flat_map (header_parameter_deeper k) c.parameters) (header_deeper k c.header) (flat_map (item_deeper k) c.items))
 
 -- the places of all modules that are nested too deep
-pub places : (cs : List Circuit) → nest_deeper limit (all_beside in_circuit cs Nothing) ≡ too_deep cs
+pub places : (cs : List Circuit) → nest_deeper MAX_NESTING (all_beside in_circuit cs Nothing) ≡ too_deep cs
 unfolding Puts
-places cs = puts_all in_circuit limit (deeper limit) (λ c. puts_circuit c limit) cs Nothing
+places cs = puts_all in_circuit MAX_NESTING (deeper MAX_NESTING) (λ c. puts_circuit c MAX_NESTING) cs Nothing

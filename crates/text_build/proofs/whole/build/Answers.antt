@@ -1,5 +1,6 @@
 use Rattle.std.proofs.Common.{map}
 use Rattle.rtl_tree.specs.Symbols.{terminal}
+use Rattle.rtl_tree.specs.declared.tree.nesting.TheConstants.{MAX_NESTING}
 use Rattle.text_build.proofs.Laws.Modules.{circuits_again, all_below, built}
 use Rattle.text_build.specs.ReadingModule.{circuits}
 use Rattle.text_build.proofs.whole.build.Goals as goal
@@ -7,4 +8,4 @@ use Rattle.text_build.proofs.whole.build.Goals as goal
 pub returns : goal.returns
 returns c cs w k =
     let ts = map terminal c.args.tokens.now in
-    built cs (circuits 200 c.args.regions.now ts) c.modules.result _ (circuits_again 200 c.args.regions.now ts cs w (all_below 200 cs k)) c.modules.ensures
+    built cs (circuits MAX_NESTING c.args.regions.now ts) c.modules.result _ (circuits_again MAX_NESTING c.args.regions.now ts cs w (all_below MAX_NESTING cs k)) c.modules.ensures

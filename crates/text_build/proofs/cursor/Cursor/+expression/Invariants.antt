@@ -11,6 +11,9 @@ use Rattle.text_build.proofs.cursor.Cursor.+expression.Given as goal
 abbrev pub decreases-climb : goal.decreases-climb
 decreases-climb l = 16 * l.depth + 0
 
+abbrev pub decreases-boxed : goal.decreases-boxed
+decreases-boxed l = 16 * l.depth + 1
+
 abbrev pub decreases-expressions_after : goal.decreases-expressions_after
 decreases-expressions_after l = 16 * l.depth + 1
 
@@ -33,55 +36,55 @@ abbrev pub decreases-braces : goal.decreases-braces
 decreases-braces l = 16 * l.depth + 5
 
 abbrev pub decreases-rest_of_part : goal.decreases-rest_of_part
-decreases-rest_of_part l = 16 * l.depth + 1
+decreases-rest_of_part l = 16 * l.depth + 2
 
 abbrev pub decreases-rest_of_selection : goal.decreases-rest_of_selection
-decreases-rest_of_selection l = 16 * l.depth + 2
+decreases-rest_of_selection l = 16 * l.depth + 3
 
 abbrev pub decreases-selection : goal.decreases-selection
-decreases-selection l = 16 * l.depth + 3
+decreases-selection l = 16 * l.depth + 4
 
 abbrev pub decreases-selected : goal.decreases-selected
-decreases-selected l = 16 * l.depth + 4
+decreases-selected l = 16 * l.depth + 5
 
 abbrev pub decreases-reference : goal.decreases-reference
-decreases-reference l = 16 * l.depth + 5
+decreases-reference l = 16 * l.depth + 6
 
 abbrev pub decreases-read : goal.decreases-read
-decreases-read l = 16 * l.depth + 6
+decreases-read l = 16 * l.depth + 7
 
 abbrev pub decreases-parens : goal.decreases-parens
-decreases-parens l = 16 * l.depth + 1
+decreases-parens l = 16 * l.depth + 2
 
 abbrev pub decreases-conversion : goal.decreases-conversion
-decreases-conversion l = 16 * l.depth + 1
+decreases-conversion l = 16 * l.depth + 2
 
 abbrev pub decreases-operation : goal.decreases-operation
-decreases-operation l = 16 * l.depth + 1
+decreases-operation l = 16 * l.depth + 2
 
 abbrev pub decreases-prefixed : goal.decreases-prefixed
-decreases-prefixed l = 16 * l.depth + 2
+decreases-prefixed l = 16 * l.depth + 3
 
 abbrev pub decreases-operand : goal.decreases-operand
-decreases-operand l = 16 * l.depth + 7
+decreases-operand l = 16 * l.depth + 8
 
 abbrev pub decreases-joint : goal.decreases-joint
-decreases-joint l = 16 * l.depth + 1
+decreases-joint l = 16 * l.depth + 2
 
 abbrev pub decreases-choice : goal.decreases-choice
-decreases-choice l = 16 * l.depth + 1
+decreases-choice l = 16 * l.depth + 2
 
 abbrev pub decreases-link_of : goal.decreases-link_of
-decreases-link_of l = 16 * l.depth + 2
+decreases-link_of l = 16 * l.depth + 3
 
 abbrev pub decreases-link : goal.decreases-link
-decreases-link l = 16 * l.depth + 3
+decreases-link l = 16 * l.depth + 4
 
 abbrev pub decreases-chain : goal.decreases-chain
-decreases-chain l = 16 * l.depth + 4
+decreases-chain l = 16 * l.depth + 5
 
 abbrev pub decreases-sequence : goal.decreases-sequence
-decreases-sequence l = 16 * l.depth + 8
+decreases-sequence l = 16 * l.depth + 9
 
 abbrev pub invariant-chain-loop-turn : goal.invariant-chain-loop-turn
 invariant-chain-loop-turn l =

@@ -12,17 +12,20 @@ use Rattle.text_build.proofs.cursor.Cursor.+statement.Given as goal
 abbrev pub decreases-statement : goal.decreases-statement
 decreases-statement l = 8 * l.depth + 0
 
+abbrev pub decreases-boxed_statement : goal.decreases-boxed_statement
+decreases-boxed_statement l = 8 * l.depth + 1
+
 abbrev pub decreases-delayed : goal.decreases-delayed
-decreases-delayed l = 8 * l.depth + 1
+decreases-delayed l = 8 * l.depth + 2
 
 abbrev pub decreases-alternative : goal.decreases-alternative
-decreases-alternative l = 8 * l.depth + 1
+decreases-alternative l = 8 * l.depth + 2
 
 abbrev pub decreases-after_taken : goal.decreases-after_taken
-decreases-after_taken l = 8 * l.depth + 2
+decreases-after_taken l = 8 * l.depth + 3
 
 abbrev pub decreases-conditional : goal.decreases-conditional
-decreases-conditional l = 8 * l.depth + 3
+decreases-conditional l = 8 * l.depth + 4
 
 abbrev pub decreases-default_item : goal.decreases-default_item
 decreases-default_item l = 8 * l.depth + 1
@@ -40,7 +43,7 @@ abbrev pub decreases-case : goal.decreases-case
 decreases-case l = 8 * l.depth + 4
 
 abbrev pub decreases-loop_of : goal.decreases-loop_of
-decreases-loop_of l = 8 * l.depth + 1
+decreases-loop_of l = 8 * l.depth + 2
 
 abbrev pub decreases-statements : goal.decreases-statements
 decreases-statements l = 8 * l.depth + 1

@@ -2,11 +2,12 @@ use Rattle.std.proofs.Common.{◌≡◌, ◌-◌, map}
 use Rattle.rtl_tree.specs.Symbols.{terminal}
 use Rattle.rtl_tree.specs.TreeItem.{associated}
 use Rattle.rtl_tree.specs.declared.symbol.Symbol.TheVariants as symbol
+use Rattle.rtl_tree.specs.declared.tree.nesting.TheConstants.{MAX_NESTING}
 use Rattle.text_build.specs.Reading as generic
 use Rattle.text_build.specs.ReadingItem as reading
 use Rattle.text_build.proofs.cursor.Cursor.listed_named.Given as goal
 
 abbrev pub invariant-loop-turn : goal.invariant-loop-turn
 invariant-loop-turn l =
-    generic.links (l._turn-end - l._turn) (generic.starts symbol.Comma) (generic.after symbol.Comma) (generic.add (reading.associated 200)) (map associated l.all.items) (map terminal l.self.rest.now)
-    ≡ generic.listed (reading.associated 200) (map terminal l.initial.self.rest.now)
+    generic.links (l._turn-end - l._turn) (generic.starts symbol.Comma) (generic.after symbol.Comma) (generic.add (reading.associated MAX_NESTING)) (map associated l.all.items) (map terminal l.self.rest.now)
+    ≡ generic.listed (reading.associated MAX_NESTING) (map terminal l.initial.self.rest.now)

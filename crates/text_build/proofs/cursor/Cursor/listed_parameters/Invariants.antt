@@ -2,11 +2,12 @@ use Rattle.std.proofs.Common.{◌≡◌, ◌-◌, map}
 use Rattle.rtl_tree.specs.Symbols.{terminal}
 use Rattle.rtl_tree.specs.TreeModule.{header_parameter}
 use Rattle.rtl_tree.specs.declared.symbol.Symbol.TheVariants as symbol
+use Rattle.rtl_tree.specs.declared.tree.nesting.TheConstants.{MAX_NESTING}
 use Rattle.text_build.specs.Reading as generic
 use Rattle.text_build.specs.ReadingModule as reading
 use Rattle.text_build.proofs.cursor.Cursor.listed_parameters.Given as goal
 
 abbrev pub invariant-loop-turn : goal.invariant-loop-turn
 invariant-loop-turn l =
-    generic.links (l._turn-end - l._turn) (generic.starts symbol.Comma) (generic.after symbol.Comma) (generic.add (reading.parameter 200)) (map header_parameter l.all.items) (map terminal l.self.rest.now)
-    ≡ generic.listed (reading.parameter 200) (map terminal l.initial.self.rest.now)
+    generic.links (l._turn-end - l._turn) (generic.starts symbol.Comma) (generic.after symbol.Comma) (generic.add (reading.parameter MAX_NESTING)) (map header_parameter l.all.items) (map terminal l.self.rest.now)
+    ≡ generic.listed (reading.parameter MAX_NESTING) (map terminal l.initial.self.rest.now)

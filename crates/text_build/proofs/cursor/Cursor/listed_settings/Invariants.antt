@@ -2,11 +2,12 @@ use Rattle.std.proofs.Common.{◌≡◌, ◌-◌, map}
 use Rattle.rtl_tree.specs.Symbols.{terminal}
 use Rattle.rtl_tree.specs.TreeItem.{valuation}
 use Rattle.rtl_tree.specs.declared.symbol.Symbol.TheVariants as symbol
+use Rattle.rtl_tree.specs.declared.tree.nesting.TheConstants.{MAX_NESTING}
 use Rattle.text_build.specs.Reading as generic
 use Rattle.text_build.specs.ReadingItem as reading
 use Rattle.text_build.proofs.cursor.Cursor.listed_settings.Given as goal
 
 abbrev pub invariant-loop-turn : goal.invariant-loop-turn
 invariant-loop-turn l =
-    generic.links (l._turn-end - l._turn) (generic.starts symbol.Comma) (generic.after symbol.Comma) (generic.add (reading.valuation 200)) (map valuation l.all.items) (map terminal l.self.rest.now)
-    ≡ generic.listed (reading.valuation 200) (map terminal l.initial.self.rest.now)
+    generic.links (l._turn-end - l._turn) (generic.starts symbol.Comma) (generic.after symbol.Comma) (generic.add (reading.valuation MAX_NESTING)) (map valuation l.all.items) (map terminal l.self.rest.now)
+    ≡ generic.listed (reading.valuation MAX_NESTING) (map terminal l.initial.self.rest.now)

@@ -2,11 +2,12 @@ use Rattle.std.proofs.Common.{◌≡◌, ◌-◌, map}
 use Rattle.rtl_tree.specs.Symbols.{terminal}
 use Rattle.rtl_tree.specs.TreeItem.{net}
 use Rattle.rtl_tree.specs.declared.symbol.Symbol.TheVariants as symbol
+use Rattle.rtl_tree.specs.declared.tree.nesting.TheConstants.{MAX_NESTING}
 use Rattle.text_build.specs.Reading as generic
 use Rattle.text_build.specs.ReadingItem as reading
 use Rattle.text_build.proofs.cursor.Cursor.listed_wires.Given as goal
 
 abbrev pub invariant-loop-turn : goal.invariant-loop-turn
 invariant-loop-turn l =
-    generic.links (l._turn-end - l._turn) (generic.starts symbol.Comma) (generic.after symbol.Comma) (generic.add (reading.net 200)) (map net l.all.items) (map terminal l.self.rest.now)
-    ≡ generic.listed (reading.net 200) (map terminal l.initial.self.rest.now)
+    generic.links (l._turn-end - l._turn) (generic.starts symbol.Comma) (generic.after symbol.Comma) (generic.add (reading.net MAX_NESTING)) (map net l.all.items) (map terminal l.self.rest.now)
+    ≡ generic.listed (reading.net MAX_NESTING) (map terminal l.initial.self.rest.now)
