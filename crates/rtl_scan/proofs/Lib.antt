@@ -4,10 +4,10 @@ pub mod Places
 pub mod Adding
 pub mod Parts
 pub mod Bodies
-pub mod Items
+pub mod Labels
 pub mod Passes
 pub mod Covers
-pub mod Values
+pub mod Known
 pub mod Weights
 pub mod Statements
 pub mod Rows

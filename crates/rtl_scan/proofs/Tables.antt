@@ -12,7 +12,7 @@ use Rattle.rtl_scan.specs.declared.arrows.Writer.{Writer}
 use Rattle.rtl_scan.specs.declared.arrows.Feeders.{Feeders}
 use Rattle.rtl_scan.specs.Sets.{has_row, has_rows}
 use Rattle.rtl_scan.proofs.Bools.{or_is, or_left, or_right, and_is}
-use Rattle.rtl_scan.proofs.Items.{left_at}
+use Rattle.rtl_scan.proofs.Labels.{left_at}
 use Rattle.rtl_scan.proofs.Users.{some_bit_is}
 use Rattle.rtl_scan.specs.Graph.{row}
 use Rattle.rtl_scan.specs.Arrows.{Among, bucket, WritesIn, InTable, Grows, IsPut, IsNotedAt, MayCome, comes, MeetsIn, FedBy, Gathers}

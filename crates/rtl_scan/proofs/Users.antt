@@ -24,7 +24,7 @@ use Rattle.rtl_scan.specs.declared.usages.Usage.{Usage}
 use Rattle.rtl_scan.specs.declared.usages.Usage.TheVariants.{Unused, Only, Shared}
 use Rattle.rtl_scan.specs.Sets.{has, has_row, has_rows, mask_of, IsInOrder}
 use Rattle.rtl_scan.proofs.Bools.{or_is, or_left, or_right, and_is}
-use Rattle.rtl_scan.proofs.Items.{left_at}
+use Rattle.rtl_scan.proofs.Labels.{left_at}
 use Rattle.rtl_scan.proofs.Processes.{below_next, there, back}
 use Rattle.rtl_scan.specs.Usage.{has_some, has_row_of, Keeps, used_by, usage_at, noted, AreNoted, IsNotedIn, Of, UsedIn, IsUsage, AreUsages, is_var, is_inner, is_alone, AreAnswers}
 

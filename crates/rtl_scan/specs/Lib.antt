@@ -3,7 +3,7 @@ pub mod Bodies
 pub mod Counting
 pub mod Scan
 pub mod Loads
-pub mod Labels
+pub mod Values
 pub mod Graph
 pub mod Usage
 pub mod Arrows

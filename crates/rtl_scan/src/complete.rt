@@ -8,8 +8,8 @@ ghost use Rattle.rtl_flat.specs.Expression.{tree, form, read, beside};
 ghost use Rattle.rtl_flat.specs.Flows.{literal, literals, labels_of, is_wild, cover, covers, complete_by_labels, is_complete};
 ghost use Rattle.rtl_scan.specs.Bodies.{branches_of};
 
-use crate::labels::Labels;
 use crate::spans::Widths;
+use crate::values::Labels;
 use rtl_bits::{Bit, Vec4};
 use rtl_flat::act::{CaseItem, CaseKind};
 use rtl_flat::expr::{Index, Node, Select, SigId, SizedExpr};

@@ -7,7 +7,6 @@ mod complete;
 mod expressions;
 mod feeds;
 mod graph;
-mod labels;
 pub mod law;
 mod pass;
 mod scan;
@@ -16,6 +15,7 @@ mod spans;
 mod steps;
 mod targets;
 mod usages;
+mod values;
 
 pub use feeds::levels;
 pub use sets::{lists, reads, selected, sure, writes};

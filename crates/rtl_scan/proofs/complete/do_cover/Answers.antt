@@ -1,5 +1,5 @@
 use Rattle.std.proofs.Common.{◌∙◌, arith}
-use Rattle.rtl_scan.proofs.Values.{covers_are}
+use Rattle.rtl_scan.proofs.Known.{covers_are}
 use Rattle.rtl_scan.proofs.complete.do_cover.Goals as goal
 
 pub returns : goal.returns

@@ -1,7 +1,7 @@
 use Rattle.std.proofs.Common.{◌++◌, ◌∙◌, ap, map}
 use Rattle.rtl_flat.specs.Expression.{tree}
 use Rattle.rtl_flat.specs.Flows.{literals}
-use Rattle.rtl_scan.proofs.Items.{left_at}
+use Rattle.rtl_scan.proofs.Labels.{left_at}
 use Rattle.rtl_scan.proofs.Covers.{literals_step}
 use Rattle.rtl_scan.proofs.complete.literal_labels.Goals as goal
 

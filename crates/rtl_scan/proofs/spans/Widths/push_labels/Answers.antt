@@ -3,7 +3,7 @@ use Rattle.rtl_flat.specs.Signs.{width_in}
 use Rattle.rtl_flat.specs.Expression.{tree}
 use Rattle.rtl_flat.specs.Flows.{reads_all}
 use Rattle.rtl_scan.specs.Sets.{Adds}
-use Rattle.rtl_scan.proofs.Items.{left_at, labels_step}
+use Rattle.rtl_scan.proofs.Labels.{left_at, labels_step}
 use Rattle.rtl_scan.proofs.spans.Widths.push_labels.Goals as goal
 
 pub loop-item-preserved : goal.loop-item-preserved

@@ -12,7 +12,7 @@ use Rattle.rtl_flat.specs.Flows.{body_flow, other_flow}
 use Rattle.rtl_scan.specs.Scan.{FlowScanned, FlowAlso, ItemsAlso}
 use Rattle.rtl_scan.specs.Bodies.{branches_of, other_of}
 use Rattle.rtl_scan.specs.Loads.{load, other_load, items_load}
-use Rattle.rtl_scan.proofs.Items.{left_at}
+use Rattle.rtl_scan.proofs.Labels.{left_at}
 use Rattle.rtl_scan.proofs.Passes.{scanned_none, action_scanned, also_none, item_scanned}
 use Rattle.rtl_scan.proofs.Statements.{set_done, block_done, if_done, case_done, default_done, open_done, closed_done, also_is, both_done}
 use Rattle.rtl_scan.proofs.Weights.{if_load, case_load, block_load, act_load, item_load}

@@ -7,7 +7,7 @@ use Rattle.rtl_bits.specs.declared.Bit.{Bit}
 use Rattle.rtl_bits.specs.Bits.{has_unknown, number}
 use Rattle.rtl_flat.specs.declared.act.CaseKind.{CaseKind}
 use Rattle.rtl_flat.specs.Flows.{literal_matches}
-use Rattle.rtl_scan.specs.declared.labels.Labels.{Labels}
+use Rattle.rtl_scan.specs.declared.values.Labels.{Labels}
 
 -- whether one of them matches a value
 abbrev pub matches_some : CaseKind → List Bit → Labels → Bool

@@ -4,8 +4,8 @@ use Rattle.rtl_bits.specs.declared.Bit.{Bit}
 use Rattle.rtl_bits.specs.Bits.{has_unknown}
 use Rattle.rtl_flat.specs.declared.act.CaseKind.{CaseKind}
 use Rattle.rtl_flat.specs.Flows.{literal_matches}
-use Rattle.rtl_scan.specs.Labels.{matches_some}
-use Rattle.rtl_scan.proofs.labels.Labels.sorted.Given as goal
+use Rattle.rtl_scan.specs.Values.{matches_some}
+use Rattle.rtl_scan.proofs.values.Labels.sorted.Given as goal
 
 abbrev pub invariant-loop-label : goal.invariant-loop-label
 invariant-loop-label l =

@@ -1,9 +1,9 @@
 use Rattle.std.proofs.Common.{◌≡◌, ◌∙◌, ◌<◌, ◌^◌, ◌*◌, ◌%◌, false, true, sym, ap, ℕ, Bool, arith}
 use Rattle.rtl_bits.specs.Bits.{bits_of, extended, has_unknown}
-use Rattle.rtl_scan.specs.Labels.{matches_some}
+use Rattle.rtl_scan.specs.Values.{matches_some}
 use Rattle.rtl_scan.proofs.Covers.{each_none, each_more, each_fails, power_small}
-use Rattle.rtl_scan.proofs.Values.{extended_known}
-use Rattle.rtl_scan.proofs.labels.Labels.match_all.Goals as goal
+use Rattle.rtl_scan.proofs.Known.{extended_known}
+use Rattle.rtl_scan.proofs.values.Labels.match_all.Goals as goal
 
 pub loop-n-init : goal.loop-n-init
 loop-n-init c =

@@ -4,8 +4,8 @@ use Rattle.std.specs.Ordering.{nat_cmp}
 use Rattle.std.specs.BTreeSet.{contains}
 use Rattle.std.proofs.lemmas.Result.{on_ok_weaker}
 use Rattle.rtl_bits.specs.Bits.{has_unknown}
-use Rattle.rtl_scan.proofs.Values.{gets_number, gets_other}
-use Rattle.rtl_scan.proofs.labels.Labels.add.Goals as goal
+use Rattle.rtl_scan.proofs.Known.{gets_number, gets_other}
+use Rattle.rtl_scan.proofs.values.Labels.add.Goals as goal
 
 known : (a b : Bool) → b ≡ not a → b ≡ true → a ≡ false
 known true b is h = absurd (let e : true ≡ false = sym h ∙ is in cc)

@@ -6,7 +6,7 @@ ghost use Rattle.std.specs.Ordering.{nat_cmp};
 ghost use Rattle.std.specs.BTreeSet.{contains};
 ghost use Rattle.rtl_bits.specs.Bits.{bits_of, extended, has_unknown};
 ghost use Rattle.rtl_flat.specs.Flows.{literal_matches, each_below};
-ghost use Rattle.rtl_scan.specs.Labels.{matches_some, GetsLabel, AreSorted};
+ghost use Rattle.rtl_scan.specs.Values.{matches_some, GetsLabel, AreSorted};
 
 use rtl_bits::Vec4;
 use rtl_expr::is_match;

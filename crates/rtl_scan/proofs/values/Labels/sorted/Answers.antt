@@ -1,5 +1,5 @@
-use Rattle.rtl_scan.proofs.Values.{sorted_step, sorted_end}
-use Rattle.rtl_scan.proofs.labels.Labels.sorted.Goals as goal
+use Rattle.rtl_scan.proofs.Known.{sorted_step, sorted_end}
+use Rattle.rtl_scan.proofs.values.Labels.sorted.Goals as goal
 
 pub loop-label-preserved : goal.loop-label-preserved
 loop-label-preserved c = λ kind value fits plain.

@@ -1,31 +1,25 @@
 -- Which values known labels match.
-use Rattle.std.proofs.Common.{ℕ, zero, suc, ◌≡◌, ◌∙◌, ◌<◌, ◌≤◌, ◌+◌, ◌-◌, ◌*◌, arith, Bool, true, false, cond, ◌&&◌, ◌||◌, List, [], ◌∷◌, ◌++◌, length, take, drop, get_or, replicate, refl, sym, ap, inl, inr}
-use Rattle.std.specs.Prelude.{◌==◌}
+use Rattle.std.proofs.Common.{ℕ, zero, suc, ◌≡◌, ◌∙◌, ◌<◌, ◌≤◌, ◌+◌, ◌-◌, ◌*◌, arith, Bool, true, false, cond, ◌&&◌, ◌||◌, List, [], ◌∷◌, ◌++◌, length, take, drop, get_or, replicate, refl, sym, ap, inl, inr, min, ◌^◌}
+use Rattle.std.specs.Prelude.{◌==◌, nat_le}
 use Rattle.std.specs.List.{list_any}
-use Rattle.std.proofs.lemmas.Bool.{cases_eq, eq-eqb, ne_eqb}
+use Rattle.std.proofs.lemmas.Bool.{cases_eq, eq-eqb, ne_eqb, le-leb}
+use Rattle.std.proofs.lemmas.List.{drop_all, length-append}
+use Rattle.std.proofs.Math.ListN.{length-take, length-replicate}
+use Rattle.std.specs.Ordering.{nat_cmp}
+use Rattle.std.specs.BTreeSet.{contains}
 use Rattle.rtl_bits.specs.declared.Bit.{Bit}
 use Rattle.rtl_bits.specs.declared.Bit.TheVariants as bit
 use Rattle.rtl_bits.specs.Bit.{is_one, is_unknown}
-use Rattle.rtl_bits.specs.Bits.{has_unknown, number, all_with, same_bit, matches_but_z, may_equal, top_bit, extended}
+use Rattle.rtl_bits.specs.Bits.{has_unknown, number, all_with, same_bit, matches_but_z, may_equal, top_bit, extended, bits_of}
 use Rattle.rtl_flat.specs.declared.act.CaseKind.{CaseKind}
 use Rattle.rtl_flat.specs.declared.act.CaseKind.TheVariants as kind
-use Rattle.rtl_flat.specs.Flows.{literal_matches, each_below}
+use Rattle.rtl_flat.specs.Flows.{literal_matches, each_below, cover}
 use Rattle.rtl_flat.specs.Labels.{label_matches}
-use Rattle.std.proofs.lemmas.Bool.{le-leb}
-use Rattle.std.proofs.lemmas.List.{drop_all, length-append}
-use Rattle.std.proofs.Math.ListN.{length-take, length-replicate}
 use Rattle.rtl_bits.specs.Inside.{length-tabulate}
-use Rattle.std.proofs.Common.{min}
-use Rattle.std.specs.Prelude.{nat_le}
-use Rattle.std.proofs.Common.{◌^◌}
-use Rattle.std.specs.Ordering.{nat_cmp}
-use Rattle.std.specs.BTreeSet.{contains}
-use Rattle.rtl_bits.specs.Bits.{bits_of}
 use Rattle.rtl_bits.proofs.Known.{has_unknown-bits_of}
-use Rattle.rtl_flat.specs.Flows.{cover}
-use Rattle.rtl_scan.specs.declared.labels.Labels.{Labels}
-use Rattle.rtl_scan.specs.Labels.{matches_some, GetsLabel, AreSorted}
-use Rattle.rtl_scan.proofs.Items.{left_at}
+use Rattle.rtl_scan.specs.declared.values.Labels.{Labels}
+use Rattle.rtl_scan.specs.Values.{matches_some, GetsLabel, AreSorted}
+use Rattle.rtl_scan.proofs.Labels.{left_at}
 
 same_test : (a b m n : ℕ) → (a ≡ b → m ≡ n) → (m ≡ n → a ≡ b) → (a == b) ≡ (m == n)
 same_test a b m n to from =
