@@ -1,13 +1,13 @@
 // Where the program starts: the words of its command line.
 
-ghost use Rattle.std.specs.Prelude.{◌≡◌, ◌≢◌, IfErr, IfOk, IfSome, drop};
+ghost use Rattle.std.specs.Prelude.{◌≡◌, ◌≢◌, IfErr, IfOk, IfSome, drop, true};
 ghost use Rattle.std.specs.IoError.{error_kind};
 ghost use Rattle.std.specs.Vec.Iter.{into_iter_items};
-ghost use Rattle.desk_top.specs.declared.deliver.TheConstants.{NO_COMMAND, NO_MEMORY};
-ghost use Rattle.desk_top.specs.Answers.{IsAnswered, OverWorld};
+ghost use Rattle.desk_top.specs.declared.deliver.TheConstants.{DONE, NO_COMMAND, NO_MEMORY};
+ghost use Rattle.desk_top.specs.Answers.{IsAnswered, IsSignedClean, OverWorld};
 ghost use Rattle.desk_top.specs.Delivery.{Delivers};
 ghost use Rattle.desk_top.specs.Outcome.{usage};
-ghost use Rattle.desk_top.specs.Words.{texts};
+ghost use Rattle.desk_top.specs.Words.{is_sign, order, texts};
 
 use crate::deliver::{Ending, NO_MEMORY, deliver};
 use crate::top::{USAGE, desk};
@@ -26,6 +26,9 @@ pub fn start<F: Shelf, S: Sink>(
 ) -> u8
     // The words of the command are those of the command line, all but the first, in their order.
     ensures words { IfOk line (λ all. result ≢ NO_MEMORY → OverWorld (F.files shelf.old) (IsAnswered (texts (drop 1 (into_iter_items all))) result (S.taken out.old) (S.taken out.new))) }
+
+    // The headline, of these words.
+    ensures headline { IfOk line (λ all. is_sign (order (texts (drop 1 (into_iter_items all)))) ≡ true → result ≡ DONE → OverWorld (F.files shelf.old) (IsSignedClean (texts (drop 1 (into_iter_items all))) (S.taken out.old) (S.taken out.new))) }
 
     // Want of memory isn't taken for words that are none.
     ensures no_memory { IfErr line (λ error. error_kind error ≡ ErrorKind.OutOfMemory → result ≡ NO_MEMORY) }
