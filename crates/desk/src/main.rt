@@ -3,7 +3,6 @@
 
 use desk_io::{FileShelf, SystemFiles, WriterSink};
 use desk_top::start::start;
-use std::alloc::Global;
 use std::process::ExitCode;
 use std::{env, io};
 
