@@ -2,6 +2,7 @@
 
 ghost use Rattle.std.specs.Prelude.{◌≡◌, ◌≤◌, ◌+◌, List, IfErr, IfOk, length, map};
 ghost use Rattle.std.specs.List.{All};
+ghost use Rattle.rtl_tree.specs.declared.text.TheConstants.{MAX_BYTES};
 ghost use Rattle.rtl_tree.specs.TreeModule.{Circuit, circuit};
 ghost use Rattle.rtl_tree.specs.Prepared.{Ready};
 ghost use Rattle.rtl_front.specs.Fronts.{AreRead, IsFaulty, IsFirstFaulty, IsPrepared, IsRead, circuits_of, is_memory, texts_of, told};
@@ -19,7 +20,7 @@ use text_build::spelled_once;
 
 /// A text whose directives are read, without what synthesis doesn't see.
 fn prepared(alloc: Global, text: &[u8]) -> Result<Prepared, FileFault>
-    requires { length text.now ≤ 1048576 }
+    requires { length text.now ≤ MAX_BYTES }
     ensures prepared { IfOk result (λ ready. IsPrepared text.now ready) }
     ensures only { IfOk result (λ ready. (other : Ready) → IsPrepared text.now other → other ≡ ready) }
     ensures fault { IfErr result (λ fault. IsFaulty text.now fault) }
@@ -39,7 +40,7 @@ fn read_file<L: Ledger>(
     text: &[u8],
     steps: &mut Steps<L>,
 ) -> Result<Vec<Module>, FileFault>
-    requires { length text.now ≤ 1048576 }
+    requires { length text.now ≤ MAX_BYTES }
     ensures counted { steps.new ≤ steps.old + 1 }
     ensures read { IfOk result (λ modules. IsRead text.now (map circuit modules.items)) }
     ensures only { IfOk result (λ modules. (circuits : List Circuit) → IsRead text.now circuits → circuits ≡ map circuit modules.items) }
@@ -88,7 +89,7 @@ pub fn read_files<L: Ledger>(
     texts: &[Vec<u8>],
     steps: &mut Steps<L>,
 ) -> Result<Vec<Vec<Module>>, SourceFault>
-    requires { All (λ text. length text.items ≤ 1048576) texts.now }
+    requires { All (λ text. length text.items ≤ MAX_BYTES) texts.now }
     ensures counted { steps.new ≤ steps.old + length texts.now }
     ensures read { IfOk result (λ files. AreRead (texts_of texts.now) (circuits_of files.items)) }
     ensures only { IfOk result (λ files. (made : List (List Circuit)) → AreRead (texts_of texts.now) made → made ≡ circuits_of files.items) }
