@@ -1,20 +1,17 @@
 //! Arguments of output ports: what a port may drive.
 
 ghost use Rattle.std.specs.Prelude.{◌≡◌, ◌++◌, IfOk, OnOk, map};
-ghost use Rattle.std.specs.List.{list_any};
 ghost use Rattle.rtl_tree.specs.TreeExpr.{formula, formula_row};
 ghost use Rattle.elab_scope.specs.Names.{meanings};
 ghost use Rattle.elab_scope.specs.Own.{breadth};
-ghost use Rattle.elab_scope.specs.Targets.{bit_cover, overlap, part_cover, whole_cover};
 ghost use Rattle.elab_links.specs.Drivable.{all_covers_of, all_have_nets, cover_list, covers_of, drivable, has_nets, may_link, meet, meets_itself};
 
-use elab_scope::covers::Cover;
+use elab_scope::covers::{Cover, bit_cover, is_covered, part_cover, whole_cover};
 use elab_scope::known::{Known, Role};
 use elab_scope::names::Names;
 use elab_scope::size::field_in;
-use elab_scope::widths::{Breadth, Field};
+use elab_scope::widths::Breadth;
 use rtl_const::evaluate::constant;
-use rtl_const::fault::ConstFault;
 use rtl_tree::memory::Memory;
 use rtl_tree::tree::expr::Expr;
 use std::alloc::Global;
@@ -69,76 +66,6 @@ fn all_have_nets(parts: &[Expr], names: &Names) -> bool
     true
 }
 
-fn whole_cover(known: Option<Known>) -> Option<Cover>
-    ensures { result ≡ whole_cover known }
-{
-    match known {
-        Some(
-            Known::Signal {
-                number,
-                shape: Some(shape),
-                ..
-            },
-        ) => Some(Cover {
-            signal: number,
-            low: 0,
-            count: shape.width,
-        }),
-        _ => None,
-    }
-}
-
-fn bit_cover(known: Option<Known>, index: Result<i64, ConstFault>) -> Option<Cover>
-    ensures { result ≡ bit_cover known index }
-{
-    match (known, index) {
-        (
-            Some(
-                Known::Signal {
-                    number,
-                    shape: Some(shape),
-                    ..
-                },
-            ),
-            Ok(index),
-        ) => {
-            let low = i64::from(shape.low);
-            if low <= index && index < low + i64::from(shape.width) {
-                Some(Cover {
-                    signal: number,
-                    low: (index - low) as u8,
-                    count: 1,
-                })
-            } else {
-                None
-            }
-        }
-        _ => None,
-    }
-}
-
-fn part_cover(known: Option<Known>, field: Option<Field>) -> Option<Cover>
-    ensures { result ≡ part_cover known field }
-{
-    match (known, field) {
-        (Some(Known::Signal { number, .. }), Some(field)) => Some(Cover {
-            signal: number,
-            low: field.low,
-            count: field.width,
-        }),
-        _ => None,
-    }
-}
-
-/// Whether both have a bit in common.
-fn overlap(one: Cover, other: Cover) -> bool
-    ensures { result ≡ overlap one other }
-{
-    let end = u16::from(one.low) + u16::from(one.count);
-    let other_end = u16::from(other.low) + u16::from(other.count);
-    one.signal == other.signal && u16::from(one.low) < other_end && u16::from(other.low) < end
-}
-
 fn push_cover(cover: Option<Cover>, covers: &mut Vec<Cover>) -> Result<(), Memory>
     ensures { OnOk result (covers.new.items ≡ covers.old.items ++ cover_list cover) }
 {
@@ -188,20 +115,13 @@ fn push_all_covers(parts: &[Expr], names: &Names, covers: &mut Vec<Cover>) -> Re
     Ok(())
 }
 
-/// Whether a part has a bit that stands in one of some others too.
-fn meets_one(cover: Cover, others: &[Cover]) -> bool
-    ensures { result ≡ list_any (overlap cover) others.now }
-{
-    others.iter().any(|other| overlap(cover, *other))
-}
-
 /// Whether one of some parts has a bit that stands in a later one too.
 fn meet(covers: &[Cover]) -> bool
     ensures { result ≡ meet covers.now }
 {
     match covers.split_first() {
         None => false,
-        Some((first, others)) => meets_one(*first, others) || meet(others),
+        Some((first, others)) => is_covered(*first, others) || meet(others),
     }
 }
 
