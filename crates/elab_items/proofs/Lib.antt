@@ -4,4 +4,3 @@ pub mod Law
 pub mod Lawful
 pub mod Places
 pub mod Views
-pub mod Written

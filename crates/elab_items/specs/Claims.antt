@@ -1,11 +1,9 @@
 -- What the declarations of a name make together. A port may be declared by its direction and by `wire` or `reg`, once
 -- each and in either order, with equal ranges (IEEE 1364-2001 section 12.3.3).
 use Rattle.std.specs.Prelude.{ℕ, Bool, true, false, ◌||◌, if◌then◌else◌, List, [], ◌∷◌, ◌++◌, Option, None, Some}
-use Rattle.std.specs.BTreeMap.{get_by}
-use Rattle.std.specs.Cmp.Lexicographic.{slice_cmp}
 use Rattle.std.specs.Option.{is_some}
-use Rattle.std.specs.Ordering.{nat_cmp}
 use Rattle.std.specs.Str.{bytes_eq}
+use Rattle.name_map.specs.Values.{values_of}
 use Rattle.rtl_const.specs.Numbers.{Numbers}
 use Rattle.rtl_tree.specs.declared.tree.item.Direction.{Direction}
 use Rattle.rtl_tree.specs.declared.tree.item.Direction.TheVariants.{Input}
@@ -46,7 +44,7 @@ claim_or_none (Some claim) = claim
 
 -- what a map of claims holds
 abbrev pub claims_in : Map → Claims
-claims_in map = λ name. claim_or_none (get_by (λ key. slice_cmp nat_cmp name key.items) map.known)
+claims_in map = λ name. claim_or_none (values_of map.known name)
 
 abbrev pub direction_of : Form → Option Direction
 direction_of (form.Header direction kind) = Some direction

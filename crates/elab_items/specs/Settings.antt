@@ -1,11 +1,8 @@
 -- What instances set parameters to, and what parameters are (IEEE 1364-2001 sections 3.11.1 and 12.2).
 use Rattle.std.specs.Prelude.{ℕ, ◌^◌, min, ℤ, pos, ◌-ℤ◌, int_lt, true, false, if◌then◌else◌, List, Option, None, Some, Ok, Err}
-use Rattle.std.specs.BTreeMap.{get_by}
-use Rattle.std.specs.Cmp.Lexicographic.{slice_cmp}
 use Rattle.std.specs.Int.{int_rem_euclid}
 use Rattle.std.specs.Option.{option_map}
-use Rattle.std.specs.Ordering.{nat_cmp}
-use Rattle.std.specs.Str.{bytes_eq}
+use Rattle.name_map.specs.Values.{Values, no_values, values_of, with_value}
 use Rattle.rtl_const.specs.Constant.{Outcome, constant}
 use Rattle.rtl_const.specs.Numbers.{Numbers}
 use Rattle.rtl_tree.specs.declared.literal.Literal.{Literal}
@@ -23,18 +20,18 @@ use Rattle.elab_items.specs.declared.reach.Reach.TheVariants.{Scalar, Bits, Hidd
 
 -- what each parameter is set to that is set
 abbrev pub Settings : Type 0
-Settings = List ℕ → Option Override
+Settings = Values Override
 
 abbrev pub no_settings : Settings
-no_settings name = None
+no_settings = no_values
 
 -- the same, but that one parameter is set to this
 abbrev pub with_setting : Settings → List ℕ → Override → Settings
-with_setting settings name given = λ other. if bytes_eq name other then Some given else settings other
+with_setting settings name given = with_value settings name given
 
 -- what a map of settings holds
 abbrev pub settings_of : Overrides → Settings
-settings_of overrides = λ name. get_by (λ key. slice_cmp nat_cmp name key.items) overrides.given
+settings_of overrides = values_of overrides.given
 
 abbrev pub number_in : Outcome → Option ℤ
 number_in (Ok number) = Some number

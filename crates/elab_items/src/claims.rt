@@ -9,12 +9,12 @@ ghost use Rattle.elab_items.specs.Claims.{claims_in, direction_of, is_directed, 
 use crate::entries::Form;
 use crate::reach::Reach;
 use elab_scope::fault::{Cause, Fault};
+use name_map::NameMap;
 use rtl_tree::memory::Memory;
 use rtl_tree::text::Text;
 use rtl_tree::tree::item::{Direction, PortKind};
 use rtl_tree::tree::names::Name;
 use std::alloc::Global;
-use std::collections::BTreeMap;
 
 /// A signal as its declarations have it.
 #[derive(Clone, Copy, PartialEq, Eq, Debug)]
@@ -47,11 +47,17 @@ pub struct Claim {
     pub sense: Option<Sense>,
 }
 
+/// Of a name that no declaration has.
+const UNCLAIMED: Claim = Claim {
+    listed: false,
+    directed: false,
+    sense: None,
+};
+
 /// What is claimed of the names of a module.
 #[derive(Drop)]
 pub struct Claims {
-    alloc: Global,
-    known: BTreeMap<Vec<u8>, Claim>,
+    known: NameMap<Claim>,
 }
 
 impl Claims {
@@ -60,36 +66,28 @@ impl Claims {
         ensures { claims_in result ≡ no_claims }
     {
         Claims {
-            alloc,
-            known: BTreeMap::new(alloc),
+            known: NameMap::new(alloc),
         }
     }
 
     pub fn find(&self, name: &Text) -> Claim
         ensures { result ≡ claims_in self.now name.now }
     {
-        match self.known.get(name.as_bytes()) {
-            Some(claim) => *claim,
-            None => Claim {
-                listed: false,
-                directed: false,
-                sense: None,
-            },
-        }
+        self.known.find(name).unwrap_or(UNCLAIMED)
     }
 
     /// Puts a claim in the place of that which is there.
     pub fn put(&mut self, name: &Text, claim: Claim) -> Result<(), Memory>
         ensures { OnOk result (claims_in self.new ≡ with_claim (claims_in self.old) name.now claim) }
     {
-        let key = Vec::from_slice(self.alloc, name.as_bytes())?;
-        self.known.insert(key, claim)?;
+        self.known.put(name, claim)?;
         Ok(())
     }
 }
 
 impl Form {
-    fn direction(self) -> Option<Direction>
+    /// The direction that it gives a port.
+    pub fn direction(self) -> Option<Direction>
         ensures { result ≡ direction_of self }
     {
         match self {

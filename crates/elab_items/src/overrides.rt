@@ -9,6 +9,7 @@ use crate::reach::Reach;
 use elab_scope::known::Known;
 use elab_scope::names::Names;
 use elab_scope::widths::breadth_of;
+use name_map::NameMap;
 use rtl_const::evaluate::constant;
 use rtl_tree::literal::Literal;
 use rtl_tree::memory::Memory;
@@ -16,7 +17,6 @@ use rtl_tree::text::Text;
 use rtl_tree::tree::expr::Expr;
 use rtl_tree::tree::item::ParameterKind;
 use std::alloc::Global;
-use std::collections::BTreeMap;
 
 /// The width and the sign of a sized literal.
 #[derive(Clone, Copy, PartialEq, Eq, Debug)]
@@ -37,8 +37,7 @@ pub struct Override {
 /// What an instance sets parameters to.
 #[derive(Drop)]
 pub struct Overrides {
-    alloc: Global,
-    given: BTreeMap<Vec<u8>, Override>,
+    given: NameMap<Override>,
 }
 
 impl Overrides {
@@ -47,8 +46,7 @@ impl Overrides {
         ensures { settings_of result ≡ no_settings }
     {
         Overrides {
-            alloc,
-            given: BTreeMap::new(alloc),
+            given: NameMap::new(alloc),
         }
     }
 
@@ -56,7 +54,7 @@ impl Overrides {
     pub fn get(&self, name: &Text) -> Option<Override>
         ensures { result ≡ settings_of self.now name.now }
     {
-        self.given.get(name.as_bytes()).copied()
+        self.given.find(name)
     }
 
     /// Sets the parameter, or sets it again. Where memory runs out, nothing has changed.
@@ -64,9 +62,7 @@ impl Overrides {
         ensures ok { OnOk result (settings_of self.new ≡ with_setting (settings_of self.old) name.now given) }
         ensures err { OnErr result (settings_of self.new ≡ settings_of self.old) }
     {
-        let key = Vec::from_slice(self.alloc, name.as_bytes())?;
-        self.given.insert(key, given)?;
-        Ok(())
+        self.given.put(name, given)
     }
 
     /// What a parameter of this kind is set to; a `localparam` keeps its value.

@@ -3,4 +3,3 @@ pub mod Pieces
 pub mod Places
 pub mod Rows
 pub mod Steps
-mod Written

@@ -1,9 +1,8 @@
 -- Sets of names, as functions of the name.
-use Rattle.std.specs.Prelude.{ℕ, List, [], ◌∷◌, Bool, true, false, if◌then◌else◌, Option, None, Some}
-use Rattle.std.specs.BTreeMap.{get_by}
-use Rattle.std.specs.Cmp.Lexicographic.{slice_cmp}
-use Rattle.std.specs.Ordering.{nat_cmp}
+use Rattle.std.specs.Prelude.{ℕ, List, [], ◌∷◌, Bool, true, false, if◌then◌else◌}
+use Rattle.std.specs.Option.{is_some}
 use Rattle.std.specs.Str.{bytes_eq}
+use Rattle.name_map.specs.Values.{values_of}
 use Rattle.rtl_tree.specs.TreeExpr.{Identifier}
 use Rattle.elab_links.specs.declared.marks.NameSet.{NameSet}
 
@@ -23,10 +22,6 @@ abbrev pub with_marks : Marks → List Identifier → Marks
 with_marks marks [] = marks
 with_marks marks (first ∷ others) = with_marks (with_mark marks first.text) others
 
-abbrev pub mark_or_none : Option Bool → Bool
-mark_or_none None = false
-mark_or_none (Some marked) = marked
-
 -- what a set of the code holds
 abbrev pub marks_of : NameSet → Marks
-marks_of set = λ name. mark_or_none (get_by (λ key. slice_cmp nat_cmp name key.items) set.names)
+marks_of set = λ name. is_some (values_of set.names name)

@@ -1,11 +1,9 @@
 -- The modules of all files, and which of them a name means.
 use Rattle.std.specs.Prelude.{ℕ, ◌+◌, if◌then◌else◌, List, [], ◌∷◌, ◌++◌, map, Option, None, Some, Vec}
 use Rattle.std.specs.declared.alloc.Global.{Global}
-use Rattle.std.specs.BTreeMap.{get_by}
-use Rattle.std.specs.Cmp.Lexicographic.{slice_cmp}
 use Rattle.std.specs.List.{slice_get}
-use Rattle.std.specs.Ordering.{nat_cmp}
 use Rattle.std.specs.Str.{bytes_eq}
+use Rattle.name_map.specs.Values.{values_of}
 use Rattle.rtl_tree.specs.TreeModule.{Circuit, circuit}
 use Rattle.rtl_tree.specs.declared.tree.modules.Module.{Module}
 use Rattle.elab_links.specs.declared.module_set.Lookup.{Lookup}
@@ -75,8 +73,7 @@ lookup_or_missing (Some lookup) = lookup
 
 -- what a set of modules answers
 abbrev pub lookups_of : ModuleSet → Lookups
-lookups_of set =
-    λ name. lookup_or_missing (get_by (λ key. slice_cmp nat_cmp name key.items) set.known)
+lookups_of set = λ name. lookup_or_missing (values_of set.known name)
 
 abbrev pub listed_at : Option (List Circuit) → ℕ → Option Circuit
 listed_at None index = None

@@ -1,17 +1,12 @@
 -- The ports of a module (IEEE 1364-2001 section 12.3).
-use Rattle.std.specs.Prelude.{ℕ, if◌then◌else◌, List, [], ◌∷◌, map, Option, None, Some}
-use Rattle.std.specs.BTreeMap.{get_by}
-use Rattle.std.specs.Cmp.Lexicographic.{slice_cmp}
-use Rattle.std.specs.Option.{is_some}
-use Rattle.std.specs.Ordering.{nat_cmp}
-use Rattle.std.specs.Str.{bytes_eq}
+use Rattle.std.specs.Prelude.{ℕ, List, [], ◌∷◌, map, Option, None, Some}
+use Rattle.name_map.specs.Values.{Values, entered, no_values, values_of}
 use Rattle.rtl_tree.specs.declared.tree.item.Direction.{Direction}
 use Rattle.rtl_tree.specs.TreeExpr.{Identifier, identifier}
 use Rattle.rtl_tree.specs.TreeModule.{Circuit, Header, HeaderPort}
 use Rattle.rtl_tree.specs.TreeModule as tree
 use Rattle.elab_items.specs.Claims.{direction_of}
 use Rattle.elab_items.specs.Declarations.{Declaration, ParameterRange, Parameter, SignalRange, Listed, Signal, Integer, Instance, declarations}
-use Rattle.elab_links.specs.declared.ports.Directions.{Directions as Map}
 use Rattle.elab_links.specs.declared.ports.Ports.{Ports as Kept}
 use Rattle.elab_links.specs.Marks.{Marks, marks_of, no_marks, with_marks}
 
@@ -27,20 +22,15 @@ port_names (tree.Named names) = names
 
 -- the direction of each name that has one
 abbrev pub Directions : Type 0
-Directions = List ℕ → Option Direction
+Directions = Values Direction
 
 abbrev pub no_directions : Directions
-no_directions name = None
-
-abbrev pub set_direction : Directions → List ℕ → Direction → Directions
-set_direction directions name direction =
-    λ other. if bytes_eq name other then Some direction else directions other
+no_directions = no_values
 
 -- a name has the first direction that is given to it
 abbrev pub with_direction : Directions → List ℕ → Option Direction → Directions
 with_direction directions name None = directions
-with_direction directions name (Some direction) =
-    if is_some (directions name) then directions else set_direction directions name direction
+with_direction directions name (Some direction) = entered directions name direction
 
 abbrev pub directed : Directions → Declaration → Directions
 directed directions (Signal form signed name) = with_direction directions name.text (direction_of form)
@@ -54,10 +44,6 @@ directed directions (Instance name) = directions
 abbrev pub all_directed : Directions → List Declaration → Directions
 all_directed directions [] = directions
 all_directed directions (first ∷ others) = all_directed (directed directions first) others
-
--- what a map of directions holds
-abbrev pub directions_of : Map → Directions
-directions_of map = λ name. get_by (λ key. slice_cmp nat_cmp name key.items) map.known
 
 -- the ports of a module: their names in order, and the direction of each; one that no declaration gives a direction
 -- has none here
@@ -80,5 +66,5 @@ sockets kept =
     record {
       order = map (λ name. identifier name.now) kept.order.items;
       listed = marks_of kept.listed;
-      direction = directions_of kept.directions;
+      direction = values_of kept.directions;
     }

@@ -3,16 +3,15 @@
 ghost use Rattle.std.specs.Prelude.{◌≡◌, OnOk};
 ghost use Rattle.elab_links.specs.Marks.{marks_of, no_marks, with_mark};
 
+use name_map::NameMap;
 use rtl_tree::memory::Memory;
 use rtl_tree::text::Text;
 use std::alloc::Global;
-use std::collections::BTreeMap;
 
 /// A set of names.
 #[derive(Drop)]
 pub struct NameSet {
-    alloc: Global,
-    names: BTreeMap<Vec<u8>, bool>,
+    names: NameMap<bool>,
 }
 
 impl NameSet {
@@ -21,8 +20,7 @@ impl NameSet {
         ensures { marks_of result ≡ no_marks }
     {
         NameSet {
-            alloc,
-            names: BTreeMap::new(alloc),
+            names: NameMap::new(alloc),
         }
     }
 
@@ -30,18 +28,14 @@ impl NameSet {
     pub fn has(&self, name: &Text) -> bool
         ensures { result ≡ marks_of self.now name.now }
     {
-        match self.names.get(name.as_bytes()) {
-            Some(marked) => *marked,
-            None => false,
-        }
+        self.names.find(name).is_some()
     }
 
     /// Puts the name into the set.
     pub fn add(&mut self, name: &Text) -> Result<(), Memory>
         ensures { OnOk result (marks_of self.new ≡ with_mark (marks_of self.old) name.now) }
     {
-        let key = Vec::from_slice(self.alloc, name.as_bytes())?;
-        self.names.insert(key, true)?;
+        self.names.put(name, true)?;
         Ok(())
     }
 }

@@ -4,13 +4,13 @@ ghost use Rattle.std.specs.Prelude.{◌≡◌, IfOk, OnOk, map};
 ghost use Rattle.std.specs.Option.{option_map};
 ghost use Rattle.rtl_tree.specs.TreeModule.{circuit};
 ghost use Rattle.elab_links.specs.Modules.{all_placed, circuit_at, circuits_of, lookups_of, found, placed_in, with_another};
-ghost use Rattle.elab_links.specs.Modules.{no_lookups, with_all, with_lookup, with_one};
+ghost use Rattle.elab_links.specs.Modules.{no_lookups, with_all, with_one};
 
+use name_map::NameMap;
 use rtl_tree::memory::Memory;
 use rtl_tree::text::Text;
 use rtl_tree::tree::modules::Module;
 use std::alloc::Global;
-use std::collections::BTreeMap;
 
 /// Where a module stands.
 #[derive(Clone, Copy, PartialEq, Eq, Debug)]
@@ -35,8 +35,7 @@ pub enum Lookup {
 /// The modules of all files, by their names.
 #[derive(Drop)]
 pub struct ModuleSet {
-    alloc: Global,
-    known: BTreeMap<Vec<u8>, Lookup>,
+    known: NameMap<Lookup>,
 }
 
 /// What a name means where one module more has it.
@@ -50,15 +49,21 @@ fn with_another(place: Place, lookup: Lookup) -> Lookup
 }
 
 impl ModuleSet {
+    /// No module is there yet.
+    fn empty(alloc: Global) -> ModuleSet
+        ensures { lookups_of result ≡ no_lookups }
+    {
+        ModuleSet {
+            known: NameMap::new(alloc),
+        }
+    }
+
     /// The modules of files.
     #[tactic(auto, using(crate::proofs::Founds::with_all_append, crate::proofs::Founds::found_is))]
     pub fn new(alloc: Global, files: &[Vec<Module>]) -> Result<ModuleSet, Memory>
         ensures { IfOk result (λ set. lookups_of set ≡ found (all_placed (circuits_of files.now))) }
     {
-        let mut set = ModuleSet {
-            alloc,
-            known: BTreeMap::new(alloc),
-        };
+        let mut set = ModuleSet::empty(alloc);
         for (file, modules) in files.iter().enumerate() {
             set.add_file(file, modules)?;
         }
@@ -80,14 +85,7 @@ impl ModuleSet {
         ensures { OnOk result (lookups_of self.new ≡ with_one (lookups_of self.old) (record { place = place; name = name.now })) }
     {
         let lookup = with_another(place, self.find(name));
-        self.put(name, lookup)
-    }
-
-    fn put(&mut self, name: &Text, lookup: Lookup) -> Result<(), Memory>
-        ensures { OnOk result (lookups_of self.new ≡ with_lookup (lookups_of self.old) name.now lookup) }
-    {
-        let key = Vec::from_slice(self.alloc, name.as_bytes())?;
-        self.known.insert(key, lookup)?;
+        self.known.put(name, lookup)?;
         Ok(())
     }
 
@@ -95,10 +93,7 @@ impl ModuleSet {
     pub fn find(&self, name: &Text) -> Lookup
         ensures { result ≡ lookups_of self.now name.now }
     {
-        match self.known.get(name.as_bytes()) {
-            Some(lookup) => *lookup,
-            None => Lookup::Missing,
-        }
+        self.known.find(name).unwrap_or(Lookup::Missing)
     }
 }
 

@@ -1,98 +1,56 @@
 //! The ports of a module.
 
 ghost use Rattle.std.specs.Prelude.{◌≡◌, ◌++◌, IfOk, OnOk, map};
+ghost use Rattle.name_map.specs.Values.{values_of};
 ghost use Rattle.rtl_tree.specs.TreeExpr.{identifier};
 ghost use Rattle.rtl_tree.specs.TreeModule.{circuit, header, header_port};
-ghost use Rattle.elab_items.specs.Claims.{direction_of};
 ghost use Rattle.elab_items.specs.Declarations.{declaration, declarations};
 ghost use Rattle.elab_links.specs.Marks.{marks_of, no_marks, with_marks};
-ghost use Rattle.elab_links.specs.Ports.{all_directed, directed, directions_of, no_directions, port_name, port_names, set_direction, sockets, sockets_of, with_direction};
+ghost use Rattle.elab_links.specs.Ports.{all_directed, directed, no_directions, port_name, port_names, sockets, sockets_of, with_direction};
 
 use crate::marks::NameSet;
-use elab_items::entries::{Entry, Form};
+use elab_items::entries::Entry;
+use name_map::NameMap;
 use rtl_tree::memory::Memory;
 use rtl_tree::text::Text;
 use rtl_tree::tree::item::Direction;
 use rtl_tree::tree::modules::{HeadPort, Module, PortList};
 use rtl_tree::tree::names::Name;
 use std::alloc::Global;
-use std::collections::BTreeMap;
 
-/// The direction of each name that has one.
-#[derive(Drop)]
-pub struct Directions {
-    alloc: Global,
-    known: BTreeMap<Vec<u8>, Direction>,
-}
-
-impl Directions {
-    fn new(alloc: Global) -> Directions
-        ensures { directions_of result ≡ no_directions }
-    {
-        Directions {
-            alloc,
-            known: BTreeMap::new(alloc),
-        }
-    }
-
-    fn find(&self, name: &Text) -> Option<Direction>
-        ensures { result ≡ directions_of self.now name.now }
-    {
-        self.known.get(name.as_bytes()).copied()
-    }
-
-    fn put(&mut self, name: &Text, direction: Direction) -> Result<(), Memory>
-        ensures { OnOk result (directions_of self.new ≡ set_direction (directions_of self.old) name.now direction) }
-    {
-        let key = Vec::from_slice(self.alloc, name.as_bytes())?;
-        self.known.insert(key, direction)?;
-        Ok(())
-    }
-
-    /// A name has the first direction that is given to it.
-    fn enter(&mut self, name: &Text, direction: Option<Direction>) -> Result<(), Memory>
-        ensures { OnOk result (directions_of self.new ≡ with_direction (directions_of self.old) name.now direction) }
-    {
-        match direction {
-            None => Ok(()),
-            Some(direction) => {
-                if self.find(name).is_some() {
-                    return Ok(());
-                }
-                self.put(name, direction)
-            }
-        }
-    }
-
-    fn declare(&mut self, entry: Entry<'_>) -> Result<(), Memory>
-        ensures { OnOk result (directions_of self.new ≡ directed (directions_of self.old) (declaration entry.entry)) }
-    {
-        match entry {
-            Entry::Signal { form, name, .. } => self.enter(&name.text, direction_of(form))?,
-            Entry::ParameterRange(_) | Entry::Parameter(_, _, _) => {}
-            Entry::SignalRange(_) | Entry::Listed(_) => {}
-            Entry::Integer(_) | Entry::Instance(_) => {}
-        }
-        Ok(())
-    }
-}
-
-fn direction_of(form: Form) -> Option<Direction>
-    ensures { result ≡ direction_of form }
+/// A name has the first direction that is given to it.
+fn enter(
+    name: &Text,
+    direction: Option<Direction>,
+    made: &mut NameMap<Direction>,
+) -> Result<(), Memory>
+    ensures { OnOk result (values_of made.new ≡ with_direction (values_of made.old) name.now direction) }
 {
-    match form {
-        Form::Header(direction, _) | Form::Item(direction, _) => Some(direction),
-        Form::Wire | Form::Reg => None,
+    match direction {
+        None => Ok(()),
+        Some(direction) => made.enter(name, direction),
     }
+}
+
+fn declare(entry: Entry<'_>, made: &mut NameMap<Direction>) -> Result<(), Memory>
+    ensures { OnOk result (values_of made.new ≡ directed (values_of made.old) (declaration entry.entry)) }
+{
+    match entry {
+        Entry::Signal { form, name, .. } => enter(&name.text, form.direction(), made)?,
+        Entry::ParameterRange(_) | Entry::Parameter(_, _, _) => {}
+        Entry::SignalRange(_) | Entry::Listed(_) => {}
+        Entry::Integer(_) | Entry::Instance(_) => {}
+    }
+    Ok(())
 }
 
 /// The direction of each name, by the declarations of its module.
-fn directions_by(alloc: Global, entries: &[Entry<'_>]) -> Result<Directions, Memory>
-    ensures { IfOk result (λ made. directions_of made ≡ all_directed no_directions (map declaration entries.now)) }
+fn directions_by(alloc: Global, entries: &[Entry<'_>]) -> Result<NameMap<Direction>, Memory>
+    ensures { IfOk result (λ made. values_of made ≡ all_directed no_directions (map declaration entries.now)) }
 {
-    let mut made = Directions::new(alloc);
+    let mut made = NameMap::new(alloc);
     for entry in entries {
-        made.declare(*entry)?;
+        declare(*entry, &mut made)?;
     }
     Ok(made)
 }
@@ -145,7 +103,7 @@ pub struct Ports<'a> {
     /// Their names, in the order of the head.
     pub order: Vec<&'a Name>,
     listed: NameSet,
-    directions: Directions,
+    directions: NameMap<Direction>,
 }
 
 impl<'a> Ports<'a> {

@@ -1,14 +1,12 @@
+use Rattle.std.specs.Prelude.{ℕ, List}
 use Rattle.std.proofs.Common.{◌∙◌, ap}
-use Rattle.elab_items.specs.Claims.{claims_in, with_claim}
-use Rattle.elab_items.proofs.Written.{claim_written}
+use Rattle.name_map.specs.Values.{Values, values_of}
+use Rattle.name_map.proofs.Reading.{read_with}
+use Rattle.elab_items.specs.declared.claims.Claim.{Claim}
+use Rattle.elab_items.specs.Claims.{claim_or_none}
 use Rattle.elab_items.proofs.claims.Claims.put.Goals as goal
 
 pub returns : goal.returns
 returns c =
-    claim_written
-    c.args.self.now.known
-    c.insert.new.self
-    c.in_ok-key.key.items
-    c.args.claim
-    c.in_ok-insert.ensures.updates
-    ∙ ap (λ name. with_claim (claims_in c.args.self.now) name c.args.claim) (c.in_ok-key.ensures.items ∙ c.as_bytes.ensures)
+    ap (λ (values : Values Claim). (λ (other : List ℕ). claim_or_none (values other))) c.in_ok-put.ensures.ok
+    ∙ read_with claim_or_none (values_of c.args.self.now.known) c.args.name.now c.args.claim

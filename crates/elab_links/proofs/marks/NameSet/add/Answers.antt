@@ -1,9 +1,11 @@
+use Rattle.std.specs.Prelude.{ℕ, List, Bool, true}
+use Rattle.std.specs.Option.{is_some}
 use Rattle.std.proofs.Common.{◌∙◌, ap}
-use Rattle.elab_links.specs.Marks.{marks_of, with_mark}
-use Rattle.elab_links.proofs.Written.{mark_written}
+use Rattle.name_map.specs.Values.{Values, values_of}
+use Rattle.name_map.proofs.Reading.{read_with}
 use Rattle.elab_links.proofs.marks.NameSet.add.Goals as goal
 
 pub returns : goal.returns
 returns c =
-    mark_written c.args.self.now.names c.insert.new.self c.in_ok-key.key.items c.in_ok-insert.ensures.updates
-    ∙ ap (with_mark (marks_of c.args.self.now)) (c.in_ok-key.ensures.items ∙ c.as_bytes.ensures)
+    ap (λ (values : Values Bool). (λ (other : List ℕ). is_some (values other))) c.in_ok-put.ensures.ok
+    ∙ read_with is_some (values_of c.args.self.now.names) c.args.name.now true
