@@ -1,13 +1,10 @@
 //! Where a signal changes.
 
-ghost use Rattle.std.specs.Prelude.{ℕ, ◌≡◌, ◌<◌, ◌&&◌, ◌||◌, ◌==◌, nat_lt, length, slice_index_or};
-ghost use Rattle.rtl_bits.specs.declared.Bit.{Bit};
-ghost use Rattle.rtl_bits.specs.declared.Edge.{Edge};
+ghost use Rattle.std.specs.Prelude.{ℕ, ◌≡◌, ◌&&◌, not, length};
 ghost use Rattle.rtl_bits.specs.Bits.{is_one_at};
-ghost use Rattle.event_model.specs.Queue.{happens};
 ghost use Rattle.event_write.specs.Changes.{mask_of, AreChanges};
 
-use rtl_bits::{Bit, Edge, Vec4, edge_of};
+use rtl_bits::{Edge, Vec4};
 
 /// The places at which a signal changes, each a digit.
 #[derive(Clone, Copy)]
@@ -20,30 +17,26 @@ pub struct Changes {
 }
 
 impl Changes {
-    /// The places at which two values of a signal differ.
+    /// The places at which two values of a signal differ: a posedge where the old bit was 0 or the new one is 1, a
+    /// negedge where the old bit was 1 or the new one is 0.
     pub fn of(old: Vec4, new: Vec4) -> Changes
         requires { length old ≡ length new }
         ensures { AreChanges old new result }
     {
-        let mut changes = Changes {
-            any: 0,
-            rises: 0,
-            falls: 0,
-        };
-        for place in 0..old.width() {
-            changes.note(place, old.bit(place), new.bit(place));
+        let old_val = old.val_digits();
+        let old_unk = old.unk_digits();
+        let new_val = new.val_digits();
+        let new_unk = new.unk_digits();
+        let any = (old_val ^ new_val) | (old_unk ^ new_unk);
+        let was_zero = without(any, old_val | old_unk);
+        let is_zero = without(any, new_val | new_unk);
+        let was_one = any & without(old_val, old_unk);
+        let is_one = any & without(new_val, new_unk);
+        Changes {
+            any,
+            rises: was_zero | is_one,
+            falls: was_one | is_zero,
         }
-        changes
-    }
-
-    /// Adds what a bit at a place does.
-    fn note(&mut self, place: u8, old: Bit, new: Bit)
-        requires { place < 128 }
-        ensures { (edge : Edge) (k : ℕ) → is_one_at (mask_of self.new edge) k ≡ (is_one_at (mask_of self.old edge) k || ((k == place) && happens edge old new)) }
-    {
-        self.any = with_digit(self.any, place, happens(Edge::No, old, new));
-        self.rises = with_digit(self.rises, place, happens(Edge::Pos, old, new));
-        self.falls = with_digit(self.falls, place, happens(Edge::Neg, old, new));
     }
 
     /// The places with an event of a kind.
@@ -58,21 +51,9 @@ impl Changes {
     }
 }
 
-/// Whether a bit's change is an event of a kind.
-fn happens(edge: Edge, old: Bit, new: Bit) -> bool
-    ensures { result ≡ happens edge old new }
+/// The digits that aren't among others.
+fn without(digits: u128, others: u128) -> u128
+    ensures { (k : ℕ) → is_one_at result k ≡ (is_one_at digits k && not (is_one_at others k)) }
 {
-    match edge {
-        Edge::No => old != new,
-        Edge::Pos => matches!(edge_of(old, new), Edge::Pos),
-        Edge::Neg => matches!(edge_of(old, new), Edge::Neg),
-    }
-}
-
-/// A mask with the digit at a place, if it is there.
-fn with_digit(mask: u128, place: u8, is_there: bool) -> u128
-    requires { place < 128 }
-    ensures { (k : ℕ) → is_one_at result k ≡ (is_one_at mask k || ((k == place) && is_there)) }
-{
-    if is_there { mask | (1 << place) } else { mask }
+    (digits | others) ^ others
 }

@@ -8,3 +8,4 @@ pub mod Signs
 pub mod Reductions
 pub mod Wrapping
 pub mod Shifts
+pub mod Stored

@@ -9,13 +9,13 @@ pub length-tabulate : {A : Type 0} → (n : ℕ) (f : ℕ → A) → length (tab
 length-tabulate zero f = refl
 length-tabulate (suc n) f = ap suc (length-tabulate n (λ i. f (suc i)))
 
-in_val-bit_of : (v u : Bool) → in_val (bit_of v u) ≡ v
+pub in_val-bit_of : (v u : Bool) → in_val (bit_of v u) ≡ v
 in_val-bit_of true true = refl
 in_val-bit_of true false = refl
 in_val-bit_of false true = refl
 in_val-bit_of false false = refl
 
-is_unknown-bit_of : (v u : Bool) → is_unknown (bit_of v u) ≡ u
+pub is_unknown-bit_of : (v u : Bool) → is_unknown (bit_of v u) ≡ u
 is_unknown-bit_of true true = refl
 is_unknown-bit_of true false = refl
 is_unknown-bit_of false true = refl

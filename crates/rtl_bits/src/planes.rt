@@ -3,10 +3,10 @@
 //! The bitwise ones keep to `&`, `|` and `^`, so that no digit above the width is set: digits that
 //! are in `a` and not in `b` are `(a | b) ^ b`.
 
-ghost use Rattle.std.specs.Prelude.{◌≡◌, ◌≤◌, ◌<◌, ◌-◌, ◌*◌, ◌^◌, false, length, map, not, nat_lt, slice_index_or};
-ghost use Rattle.rtl_bits.specs.Bit.{and_bit, or_bit, xor_bit, not_bit, resolve_bit, merge_bit};
-ghost use Rattle.rtl_bits.specs.Bits.{zip_with, has_unknown, number, bits_of};
-ghost use Rattle.rtl_bits.specs.Planes.{bits_of_planes};
+ghost use Rattle.std.specs.Prelude.{ℕ, ◌≡◌, ◌≤◌, ◌<◌, ◌-◌, ◌*◌, ◌^◌, false, length, map, not, nat_lt, slice_index_or};
+ghost use Rattle.rtl_bits.specs.Bit.{is_unknown, and_bit, or_bit, xor_bit, not_bit, resolve_bit, merge_bit};
+ghost use Rattle.rtl_bits.specs.Bits.{zip_with, has_unknown, is_one_at, number, bits_of};
+ghost use Rattle.rtl_bits.specs.Planes.{bits_of_planes, in_val};
 
 use crate::{Bit, Vec4};
 
@@ -51,6 +51,20 @@ impl Vec4 {
             (false, true) => Bit::X,
             (true, true) => Bit::Z,
         }
+    }
+
+    /// The digits of the places where there is 1 or z.
+    pub fn val_digits(self) -> u128
+        ensures { (at : ℕ) → is_one_at result at ≡ in_val (slice_index_or self at Bit.Zero) }
+    {
+        self.val
+    }
+
+    /// The digits of the places where there is x or z.
+    pub fn unk_digits(self) -> u128
+        ensures { (at : ℕ) → is_one_at result at ≡ is_unknown (slice_index_or self at Bit.Zero) }
+    {
+        self.unk
     }
 
     /// Whether no bit is x or z.

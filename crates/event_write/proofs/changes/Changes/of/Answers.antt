@@ -1,9 +1,7 @@
-use Rattle.std.proofs.Common.{ℕ, ◌≡◌}
-use Rattle.std.specs.Prelude.{slice_index_or}
-use Rattle.rtl_bits.specs.declared.Bit.TheVariants.{X}
-use Rattle.event_model.specs.Queue.{happens}
-use Rattle.event_write.proofs.Places.{none_yet}
+use Rattle.event_write.proofs.Places.{changes_are}
 use Rattle.event_write.proofs.changes.Changes.of.Goals as goal
 
-pub loop-place-init : goal.loop-place-init
-loop-place-init c = λ edge k. none_yet edge k (happens edge (slice_index_or c.args.old k X) (slice_index_or c.args.new k X))
+pub returns : goal.returns
+returns c =
+    changes_are c.args.old c.args.new c.requires _ _ _ _ c.val_digits-old_val.ensures c.unk_digits-old_unk.ensures c.val_digits-new_val.ensures c.unk_digits-new_unk.ensures
+    _ _ _ _ c.without-was_zero.ensures c.without-is_zero.ensures c.without.ensures c.without-2.ensures
