@@ -5,7 +5,6 @@ use Rattle.std.specs.List.{All}
 use Rattle.std.specs.declared.alloc.Global.{Global}
 use Rattle.std.proofs.lemmas.Bool.{cases_eq, eq-eqb, ne_eqb}
 use Rattle.std.proofs.lemmas.List.{length-set}
-use Rattle.std.proofs.lemmas.List.Elements.{All-push}
 use Rattle.rtl_bits.specs.declared.Bit.{Bit}
 use Rattle.rtl_bits.specs.declared.Edge.{Edge}
 use Rattle.rtl_bits.specs.Bits.{is_one_at}
@@ -15,15 +14,15 @@ use Rattle.rtl_scan.specs.declared.bits.Row.{Row}
 use Rattle.rtl_scan.specs.Sets.{has_row}
 use Rattle.event_model.specs.Queue.{happens, hears, hears_from as listened_from}
 use Rattle.event_write.specs.declared.listener.Listener.{Listener}
-use Rattle.event_write.specs.Listeners.{hears_from, heard_by}
+use Rattle.event_write.specs.Listeners.{AreBelow, hears_from, heard_by}
 use Rattle.event_write.specs.QueueState.{row}
-use Rattle.event_tables.specs.Hearing.{Ear, ear_from, listens_of, Hears}
+use Rattle.event_tables.specs.Hearing.{Ear, ear_from, listens_of, Hears, Joins}
 
 pub or_none : (a b : Bool) → b ≡ false → (a || b) ≡ a
 or_none true b e = refl
 or_none false b e = e
 
-or_assoc : (a b c : Bool) → ((a || b) || c) ≡ (a || (b || c))
+pub or_assoc : (a b c : Bool) → ((a || b) || c) ≡ (a || (b || c))
 or_assoc true b c = refl
 or_assoc false b c = refl
 
@@ -81,21 +80,12 @@ hears_is ws s old new (Some does) = does_hear ws s 0 old new does
 abbrev pub bits_ear : Row → Edge → Ear
 bits_ear bits edge s k a b = has_row bits s k && happens edge a b
 
-abbrev pub listener : ProcId → Edge → Row → Listener
-listener process edge bits = record { process = process; edge = edge; mask = bits.mask }
-
-listener_hears : (process : ProcId) (edge : Edge) (bits : Row) (s k : ℕ) (old new : List Bit) → (s == bits.signal.0) ≡ true → hears_from (listener process edge bits) k old new ≡ ear_from (bits_ear bits edge) s k old new
-listener_hears process edge bits s k [] new e = refl
-listener_hears process edge bits s k (a ∷ old) [] e = refl
-listener_hears process edge bits s k (a ∷ old) (b ∷ new) e =
-    ap (λ t. (is_one_at bits.mask k && happens edge a b) || t) (listener_hears process edge bits s (k + 1) old new e)
+bits_heard : (edge : Edge) (bits : Row) (s k : ℕ) (old new : List Bit) → (s == bits.signal.0) ≡ true → hears_from edge bits.mask k old new ≡ ear_from (bits_ear bits edge) s k old new
+bits_heard edge bits s k [] new e = refl
+bits_heard edge bits s k (a ∷ old) [] e = refl
+bits_heard edge bits s k (a ∷ old) (b ∷ new) e =
+    ap (λ t. (is_one_at bits.mask k && happens edge a b) || t) (bits_heard edge bits s (k + 1) old new e)
     ∙ ap (λ t. ((t && is_one_at bits.mask k) && happens edge a b) || ear_from (bits_ear bits edge) s (k + 1) old new) (sym e)
-
-heard_push : (ls : List Listener) (l : Listener) (p : ℕ) (old new : List Bit) → heard_by (ls ++ l ∷ []) p old new ≡ (heard_by ls p old new || ((l.process.0 == p) && hears_from l 0 old new))
-heard_push [] l p old new = or_none ((l.process.0 == p) && hears_from l 0 old new) false refl
-heard_push (x ∷ ls) l p old new =
-    ap (λ t. ((x.process.0 == p) && hears_from x 0 old new) || t) (heard_push ls l p old new)
-    ∙ sym (or_assoc ((x.process.0 == p) && hears_from x 0 old new) (heard_by ls p old new) ((l.process.0 == p) && hears_from l 0 old new))
 
 -- ---- rows
 
@@ -139,7 +129,7 @@ left (x ∷ xs) (suc i) d h =
 -- ---- what a process hears in tables
 
 abbrev Inside : ℕ → List Listener → Type 0
-Inside n ls = All (λ l. l.process.0 < n) ls
+Inside n ls = All (λ l. AreBelow n l) ls
 
 pub hears_nothing : (process : ℕ) (ear : Ear) (rows : List (Vec Listener Global)) → ((s : ℕ) → s < length rows → (k : ℕ) (a b : Bit) → ear s k a b ≡ false) → Hears process ear rows rows
 hears_nothing process ear rows none = record {
@@ -168,26 +158,25 @@ hears_same process f g x y is one = record {
       ∙ ap (λ t. heard_by (row x i) p a b || ((process == p) && t)) (same_ear f g i 0 a b (is i));
 }
 
--- a listener more in the row of a signal
-pub hears_pushed : (process : ProcId) (edge : Edge) (bits : Row) (old : List (Vec Listener Global)) (v : Vec Listener Global) → bits.signal.0 < length old → v.items ≡ row old bits.signal.0 ++ listener process edge bits ∷ [] → Hears process.0 (bits_ear bits edge) old (set old bits.signal.0 v)
-hears_pushed process edge bits old v within is = record {
+-- a process more that hears by the row of a signal
+pub hears_joined : (process : ProcId) (edge : Edge) (bits : Row) (old : List (Vec Listener Global)) (v : Vec Listener Global) → bits.signal.0 < length old → Joins process edge bits.mask (row old bits.signal.0) v.items → Hears process.0 (bits_ear bits edge) old (set old bits.signal.0 v)
+hears_joined process edge bits old v within more = record {
   same_length = length-set old bits.signal.0 v;
   inside = λ n i below all. elim (cases_eq i bits.signal.0) [
-    | inl e ↦ subst (λ (xs : List Listener). Inside n xs) (sym (here i e)) (All-push (λ l. l.process.0 < n) (row old i) (listener process edge bits) all below)
+    | inl e ↦ subst (λ (xs : List Listener). Inside n xs) (sym (here i e)) (more.inside n below (subst (λ (j : ℕ). Inside n (row old j)) e all))
     | inr apart ↦ subst (λ (xs : List Listener). Inside n xs) (sym (row_other old bits.signal.0 v i apart)) all
   ];
   heard = λ i p a b inside. elim (cases_eq i bits.signal.0) [
-    | inl e ↦ ap (λ xs. heard_by xs p a b) (here i e) ∙ heard_push (row old i) (listener process edge bits) p a b
-        ∙ ap (λ t. heard_by (row old i) p a b || ((process.0 == p) && t)) (listener_hears process edge bits i 0 a b (eq-eqb i bits.signal.0 e))
+    | inl e ↦ ap (λ xs. heard_by xs p a b) (here i e) ∙ more.heard p a b
+        ∙ ap (λ j. heard_by (row old j) p a b || ((process.0 == p) && hears_from edge bits.mask 0 a b)) (sym e)
+        ∙ ap (λ t. heard_by (row old i) p a b || ((process.0 == p) && t)) (bits_heard edge bits i 0 a b (eq-eqb i bits.signal.0 e))
     | inr apart ↦ ap (λ xs. heard_by xs p a b) (row_other old bits.signal.0 v i apart)
         ∙ sym (or_none (heard_by (row old i) p a b) ((process.0 == p) && ear_from (bits_ear bits edge) i 0 a b) (and_none (process.0 == p) (ear_from (bits_ear bits edge) i 0 a b) (silent (bits_ear bits edge) i 0 a b (λ j x y. ap (λ t. (t && is_one_at bits.mask j) && happens edge x y) (ne_eqb i bits.signal.0 apart)))))
   ];
 }
   where
-    here : (i : ℕ) → i ≡ bits.signal.0 → row (set old bits.signal.0 v) i ≡ row old i ++ listener process edge bits ∷ []
-    here i e =
-        ap (row (set old bits.signal.0 v)) e ∙ row_set old bits.signal.0 v within ∙ is
-        ∙ ap (λ j. row old j ++ listener process edge bits ∷ []) (sym e)
+    here : (i : ℕ) → i ≡ bits.signal.0 → row (set old bits.signal.0 v) i ≡ v.items
+    here i e = ap (row (set old bits.signal.0 v)) e ∙ row_set old bits.signal.0 v within
 
 -- a row that isn't there
 pub hears_past : (process : ℕ) (edge : Edge) (bits : Row) (rows : List (Vec Listener Global)) → length rows ≤ bits.signal.0 → Hears process (bits_ear bits edge) rows rows

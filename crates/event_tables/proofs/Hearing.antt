@@ -24,7 +24,7 @@ use Rattle.rtl_scan.specs.Sets.{has_row, has_rows}
 use Rattle.rtl_scan.proofs.Places.{width_past}
 use Rattle.event_model.specs.Queue.{Flat, happens, hears, item_hears, doing_of, doing_at, widths}
 use Rattle.event_write.specs.declared.listener.Listener.{Listener}
-use Rattle.event_write.specs.Listeners.{heard_by}
+use Rattle.event_write.specs.Listeners.{AreBelow, heard_by}
 use Rattle.event_write.specs.QueueState.{row}
 use Rattle.event_tables.specs.Hearing.{Ear, ear_from, listens_of, listens_at, Hears, AreHeard}
 use Rattle.event_tables.proofs.Deaf.{deaf}
@@ -131,7 +131,7 @@ module _ (d : Flat) (p : ℕ) (t : Task) (at : slice_get d.tasks p ≡ Some t) w
 pub heard_none : (d : Flat) (rows : List (Vec Listener Global)) → length rows ≡ length d.signals → ((i : ℕ) → row rows i ≡ []) → AreHeard d 0 rows
 heard_none d rows same empty = record {
   same_length = same;
-  inside = λ i. subst (λ (xs : List Listener). All (λ l. l.process.0 < length d.tasks) xs) (sym (empty i)) (All-nil (λ l. l.process.0 < length d.tasks));
+  inside = λ i. subst (λ (xs : List Listener). All (λ l. AreBelow (length d.tasks) l) xs) (sym (empty i)) (All-nil (λ l. AreBelow (length d.tasks) l));
   heard = λ i p a b within. ap (λ xs. heard_by xs p a b) (empty i) ∙ ap (λ t. t && hears (widths d) i a b (doing_at d p)) (sym (le-ltb p 0 (omega arith)));
 }
 

@@ -1,12 +1,12 @@
 //! Who hears changes of each signal.
 
-ghost use Rattle.std.specs.Prelude.{ℕ, ◌≡◌, ◌<◌, ◌&&◌, [], length, map, IfOk, OnOk};
+ghost use Rattle.std.specs.Prelude.{ℕ, ◌≡◌, ◌<◌, ◌&&◌, [], length, map, IfOk, IfSome, IsTrue, OnOk};
 ghost use Rattle.std.specs.List.{list_any};
 ghost use Rattle.rtl_bits.specs.declared.Edge.TheVariants.{No};
 ghost use Rattle.rtl_flat.specs.Process.{watched};
 ghost use Rattle.event_model.specs.Queue.{flat, happens, item_hears, widths};
 ghost use Rattle.rtl_scan.specs.Sets.{has_row, has_rows};
-ghost use Rattle.event_tables.specs.Hearing.{AreHeard, Hears, listens_at};
+ghost use Rattle.event_tables.specs.Hearing.{AreHeard, Hears, IsLike, Joins, listens_at};
 
 use crate::rows::empty_rows;
 use event_write::listener::Listener;
@@ -18,8 +18,65 @@ use rtl_scan::{lists, reads, selected};
 use rtl_tree::memory::Memory;
 use std::alloc::Global;
 
+/// Where in a row the listener with a kind of event and a mask stands, if there is one.
+fn place_of(row: &[Listener], edge: Edge, mask: u128) -> Option<usize>
+    ensures { IfSome result (λ at. IsLike row.now at edge mask) }
+{
+    for at in 0..row.len() {
+        let listener = &row[at];
+        if is_like(listener, edge, mask) {
+            return Some(at);
+        }
+    }
+    None
+}
+
+/// Whether a listener has a kind of event and a mask.
+fn is_like(listener: &Listener, edge: Edge, mask: u128) -> bool
+    ensures { IsTrue result → (listener.now.edge ≡ edge) × (listener.now.mask ≡ mask) }
+{
+    listener.mask == mask && is_same(listener.edge, edge)
+}
+
+/// Whether two kinds of events are the same.
+fn is_same(one: Edge, other: Edge) -> bool
+    ensures { IsTrue result → one ≡ other }
+{
+    match (one, other) {
+        (Edge::No, Edge::No) => true,
+        (Edge::Pos, Edge::Pos) => true,
+        (Edge::Neg, Edge::Neg) => true,
+        _ => false,
+    }
+}
+
+/// Lets a process hear bits of the signal whose row this is, beside those that hear the same ones.
+fn join(
+    alloc: Global,
+    row: &mut Vec<Listener>,
+    process: ProcId,
+    edge: Edge,
+    mask: u128,
+) -> Result<(), Memory>
+    ensures { OnOk result (Joins process edge mask row.old.items row.new.items) }
+{
+    if let Some(at) = place_of(row, edge, mask) {
+        row[at].processes.push(process)?;
+        return Ok(());
+    }
+    let mut processes = Vec::new(alloc);
+    processes.push(process)?;
+    row.push(Listener {
+        processes,
+        edge,
+        mask,
+    })?;
+    Ok(())
+}
+
 /// Lets a process hear bits of a signal.
 fn hear_bits(
+    alloc: Global,
     listeners: &mut Vec<Vec<Listener>>,
     process: ProcId,
     edge: Edge,
@@ -32,16 +89,12 @@ fn hear_bits(
         // A signal that isn't there has no bit that changes.
         return Ok(());
     }
-    listeners[place].push(Listener {
-        process,
-        edge,
-        mask: bits.mask,
-    })?;
-    Ok(())
+    join(alloc, &mut listeners[place], process, edge, bits.mask)
 }
 
 /// Lets a process hear any change of bits.
 fn hear_rows(
+    alloc: Global,
     listeners: &mut Vec<Vec<Listener>>,
     process: ProcId,
     rows: &[Row],
@@ -49,13 +102,14 @@ fn hear_rows(
     ensures { OnOk result (Hears process.0 (λ s k old new. has_rows rows.now s k && happens No old new) listeners.old.items listeners.new.items) }
 {
     for row in rows {
-        hear_bits(listeners, process, Edge::No, *row)?;
+        hear_bits(alloc, listeners, process, Edge::No, *row)?;
     }
     Ok(())
 }
 
 /// Lets a process hear the items of its list.
 fn hear_items(
+    alloc: Global,
     listeners: &mut Vec<Vec<Listener>>,
     design: &Design,
     process: ProcId,
@@ -65,7 +119,7 @@ fn hear_items(
 {
     for item in items {
         let bits = selected(design, item.signal, &item.select);
-        hear_bits(listeners, process, item.edge, bits)?;
+        hear_bits(alloc, listeners, process, item.edge, bits)?;
     }
     Ok(())
 }
@@ -86,16 +140,16 @@ fn hear(
             value: _,
         } => {
             let bits = reads(alloc, design, process)?;
-            hear_rows(listeners, process, &bits.rows)
+            hear_rows(alloc, listeners, process, &bits.rows)
         }
         Does::Comb { list, body: _ } => match list {
             Listed::Star => {
                 let bits = lists(alloc, design, process)?;
-                hear_rows(listeners, process, &bits.rows)
+                hear_rows(alloc, listeners, process, &bits.rows)
             }
-            Listed::Items(items) => hear_items(listeners, design, process, items),
+            Listed::Items(items) => hear_items(alloc, listeners, design, process, items),
         },
-        Does::Edge { events, body: _ } => hear_items(listeners, design, process, events),
+        Does::Edge { events, body: _ } => hear_items(alloc, listeners, design, process, events),
     }
 }
 

@@ -36,23 +36,23 @@ at l k old new j = is_one_at l.mask (k + j) && happens l.edge (slice_index_or ol
 next_place : (l : Listener) (k j : ℕ) (b : Bool) → (is_one_at l.mask (k + suc j) && b) ≡ (is_one_at l.mask (k + 1 + j) && b)
 next_place l k j b = ap (λ n. is_one_at l.mask n && b) (omega arith)
 
-up : (l : Listener) (k : ℕ) (old new : List Bit) (j : ℕ) → length old ≡ length new → at l k old new j ≡ true → hears_from l k old new ≡ true
+up : (l : Listener) (k : ℕ) (old new : List Bit) (j : ℕ) → length old ≡ length new → at l k old new j ≡ true → hears_from l.edge l.mask k old new ≡ true
 unfolding at
 up l k [] [] j same e = absurd (false≢true (sym (and_right (is_one_at l.mask (k + j)) (happens l.edge X X) (nothing_happens l.edge)) ∙ e))
 up l k [] (b ∷ new) j same e = absurd (omega (arith, same))
 up l k (a ∷ old) [] j same e = absurd (omega (arith, same))
 up l k (a ∷ old) (b ∷ new) zero same e =
-    or_left (is_one_at l.mask k && happens l.edge a b) (hears_from l (k + 1) old new) (ap (λ n. is_one_at l.mask n && happens l.edge a b) (omega arith) ∙ e)
+    or_left (is_one_at l.mask k && happens l.edge a b) (hears_from l.edge l.mask (k + 1) old new) (ap (λ n. is_one_at l.mask n && happens l.edge a b) (omega arith) ∙ e)
 up l k (a ∷ old) (b ∷ new) (suc j) same e =
-    or_right (is_one_at l.mask k && happens l.edge a b) (hears_from l (k + 1) old new)
+    or_right (is_one_at l.mask k && happens l.edge a b) (hears_from l.edge l.mask (k + 1) old new)
     (up l (k + 1) old new j (omega (arith, same)) (sym (next_place l k j (happens l.edge (slice_index_or old j X) (slice_index_or new j X))) ∙ e))
 
-down : (l : Listener) (k : ℕ) (old new : List Bit) → hears_from l k old new ≡ true → (j : ℕ) × (at l k old new j ≡ true)
+down : (l : Listener) (k : ℕ) (old new : List Bit) → hears_from l.edge l.mask k old new ≡ true → (j : ℕ) × (at l k old new j ≡ true)
 unfolding at
 down l k [] new e = absurd (false≢true e)
 down l k (a ∷ old) [] e = absurd (false≢true e)
 down l k (a ∷ old) (b ∷ new) e =
-    elim (or_cases (is_one_at l.mask k && happens l.edge a b) (hears_from l (k + 1) old new) e) [
+    elim (or_cases (is_one_at l.mask k && happens l.edge a b) (hears_from l.edge l.mask (k + 1) old new) e) [
       | inl here ↦ (0, ap (λ n. is_one_at l.mask n && happens l.edge a b) (omega arith) ∙ here)
       | inr later ↦ let (j, f) = down l (k + 1) old new later in
           (suc j, next_place l k j (happens l.edge (slice_index_or old j X) (slice_index_or new j X)) ∙ f)
@@ -66,20 +66,20 @@ common l changes old new k are =
     ∙ ap (λ b. is_one_at l.mask k && b) (are l.edge k)
     ∙ ap (λ n. is_one_at l.mask n && happens l.edge (slice_index_or old k X) (slice_index_or new k X)) (omega arith)
 
-pub heard : (l : Listener) (changes : Changes) (places : ℕ) (old new : List Bit) → places ≡ mask_of changes l.edge → l.mask < 2 ^ 128 → length old ≡ length new → AreChanges old new changes → not (bit_and l.mask places == 0) ≡ hears_from l 0 old new
+pub heard : (l : Listener) (changes : Changes) (places : ℕ) (old new : List Bit) → places ≡ mask_of changes l.edge → l.mask < 2 ^ 128 → length old ≡ length new → AreChanges old new changes → not (bit_and l.mask places == 0) ≡ hears_from l.edge l.mask 0 old new
 heard l changes places old new is fits same are =
     elim (cases_eq (bit_and l.mask places) 0) [
-      | inl none ↦ ap not (eq-eqb (bit_and l.mask places) 0 none) ∙ sym (silent (hears_from l 0 old new) refl none)
+      | inl none ↦ ap not (eq-eqb (bit_and l.mask places) 0 none) ∙ sym (silent (hears_from l.edge l.mask 0 old new) refl none)
       | inr some ↦ ap not (ne_eqb (bit_and l.mask places) 0 some) ∙ sym (loud some)
     ]
   where
-    silent : (b : Bool) → hears_from l 0 old new ≡ b → bit_and l.mask places ≡ 0 → b ≡ false
+    silent : (b : Bool) → hears_from l.edge l.mask 0 old new ≡ b → bit_and l.mask places ≡ 0 → b ≡ false
     silent false e none = refl
     silent true e none =
         let (j, f) = down l 0 old new e in
         absurd (false≢true (sym (one_at-zero j) ∙ ap (λ n. is_one_at n j) (sym none ∙ ap (bit_and l.mask) is) ∙ common l changes old new j are ∙ f))
 
-    loud : (bit_and l.mask places ≡ 0 → ⊥) → hears_from l 0 old new ≡ true
+    loud : (bit_and l.mask places ≡ 0 → ⊥) → hears_from l.edge l.mask 0 old new ≡ true
     loud some =
         let (k, f) = has_digit (bit_and l.mask places) (omega (arith, and_le_l l.mask places, fits)) some in
         up l 0 old new k same (sym (common l changes old new k are) ∙ ap (λ n. is_one_at (bit_and l.mask n) k) (sym is) ∙ f)

@@ -17,7 +17,7 @@ use Rattle.event_write.specs.declared.fanout.Fanout.{Fanout}
 use Rattle.event_write.specs.declared.queue_state.QueueState.{QueueState}
 use Rattle.event_write.specs.declared.listener.Listener.{Listener}
 use Rattle.event_write.specs.Entries.{Entry, entry, updates, IsClosed}
-use Rattle.event_write.specs.Listeners.{heard_by}
+use Rattle.event_write.specs.Listeners.{AreBelow, heard_by}
 use Rattle.event_write.specs.Stored.{AreStored}
 
 -- the value of a flagged number
@@ -67,7 +67,7 @@ resolved_by d (p ∷ ps) driver net =
 pub record AreTables (d : Flat) (listeners : List (Vec Listener Global)) (drivers : List (Vec ProcId Global)) : Type 0 where
   pub listened : length listeners ≡ length d.signals
   pub driven : length drivers ≡ length d.signals
-  pub inside : (i : ℕ) → All (λ listener. listener.process.0 < length d.tasks) (row listeners i)
+  pub inside : (i : ℕ) → All (λ listener. AreBelow (length d.tasks) listener) (row listeners i)
   pub hear : (i p : ℕ) (old new : List Bit) → heard_by (row listeners i) p old new ≡ hears (widths d) i old new (doing_at d p)
   pub drivers_inside : (i : ℕ) → All (λ p. p.0 < length d.tasks) (row drivers i)
   pub drive : (driver : ℕ → List Bit) (i : ℕ) → resolved_by d (row drivers i) driver i ≡ resolved d driver i

@@ -9,19 +9,19 @@ use crate::changes::Changes;
 use rtl_bits::Edge;
 use rtl_flat::act::ProcId;
 
-/// A process that is sensitive to some bits of a signal.
-#[derive(Clone, Copy)]
+/// Processes that are sensitive to the same bits of a signal.
+#[derive(Drop)]
 pub struct Listener {
-    pub process: ProcId,
+    pub processes: Vec<ProcId>,
     pub edge: Edge,
     /// The bits, each a digit.
     pub mask: u128,
 }
 
 impl Listener {
-    /// Whether it hears changes of its signal.
+    /// Whether its processes hear changes of their signal.
     pub fn hears(&self, changes: Changes) -> bool
-        ensures { (old new : List Bit) → length old ≡ length new → AreChanges old new changes → result ≡ hears_from self.now 0 old new }
+        ensures { (old new : List Bit) → length old ≡ length new → AreChanges old new changes → result ≡ hears_from self.now.edge self.now.mask 0 old new }
     {
         self.mask & changes.places(self.edge) != 0
     }

@@ -1,13 +1,13 @@
 //! A write to a signal, and whom it wakes.
 
-ghost use Rattle.std.specs.Prelude.{ℕ, ◌≡◌, ◌<◌, ◌≤◌, ◌+◌, ◌==◌, ◌&&◌, ◌||◌, List, length};
+ghost use Rattle.std.specs.Prelude.{ℕ, ◌≡◌, ◌<◌, ◌≤◌, ◌+◌, ◌&&◌, ◌||◌, List, length};
 ghost use Rattle.std.specs.List.{All};
 ghost use Rattle.rtl_bits.specs.declared.Bit.{Bit};
 ghost use Rattle.rtl_flat.specs.Signs.{width_in};
 ghost use Rattle.rank_set.specs.Ranks.{flag};
 ghost use Rattle.event_model.specs.Queue.{write};
 ghost use Rattle.event_write.specs.Changes.{AreChanges};
-ghost use Rattle.event_write.specs.Listeners.{heard_by};
+ghost use Rattle.event_write.specs.Listeners.{AreBelow, heard_by, is_among};
 ghost use Rattle.event_write.specs.QueueState.{AreSame, IsFanout, IsQueueState, design_of, state};
 
 use crate::changes::Changes;
@@ -21,26 +21,38 @@ use rtl_flat::expr::SigId;
 
 /// Wakes the processes that hear changes of a signal.
 pub(crate) fn wake(listeners: &[Listener], changes: Changes, woken: &mut Agenda)
-    requires { All (λ listener. listener.process.0 < length woken.old.flags) listeners.now }
+    requires { All (λ listener. AreBelow (length woken.old.flags) listener) listeners.now }
     ensures size { length woken.new.flags ≡ length woken.old.flags }
     ensures levels { woken.new.levels ≡ woken.old.levels }
     ensures woken { (old new : List Bit) → length old ≡ length new → AreChanges old new changes → (p : ℕ) → flag woken.new.flags p ≡ (flag woken.old.flags p || heard_by listeners.now p old new) }
 {
     for listener in listeners {
         let hears = listener.hears(changes);
-        insert_if(woken, listener.process, hears);
+        insert_if(woken, &listener.processes, hears);
     }
 }
 
-/// Adds a process where it hears something.
-#[tactic(auto, using(crate::proofs::Woken::inserted, crate::proofs::Woken::not_inserted))]
-fn insert_if(woken: &mut Agenda, process: ProcId, hears: bool)
-    requires { process.0 < length woken.old.flags }
+/// Adds processes where they hear something.
+#[tactic(auto, using(crate::proofs::Woken::all_inserted, crate::proofs::Woken::not_inserted))]
+fn insert_if(woken: &mut Agenda, processes: &[ProcId], hears: bool)
+    requires { All (λ process. process.0 < length woken.old.flags) processes.now }
     ensures size { length woken.new.flags ≡ length woken.old.flags }
     ensures levels { woken.new.levels ≡ woken.old.levels }
-    ensures flags { (p : ℕ) → flag woken.new.flags p ≡ (flag woken.old.flags p || ((process.0 == p) && hears)) }
+    ensures flags { (p : ℕ) → flag woken.new.flags p ≡ (flag woken.old.flags p || (is_among processes.now p && hears)) }
 {
     if hears {
+        insert_all(woken, processes);
+    }
+}
+
+/// Adds processes.
+fn insert_all(woken: &mut Agenda, processes: &[ProcId])
+    requires { All (λ process. process.0 < length woken.old.flags) processes.now }
+    ensures size { length woken.new.flags ≡ length woken.old.flags }
+    ensures levels { woken.new.levels ≡ woken.old.levels }
+    ensures flags { (p : ℕ) → flag woken.new.flags p ≡ (flag woken.old.flags p || is_among processes.now p) }
+{
+    for process in processes {
         woken.insert(process.0 as usize);
     }
 }

@@ -1,4 +1,4 @@
-use Rattle.std.proofs.Common.{ℕ, List, map, drop}
+use Rattle.std.proofs.Common.{List, map, drop}
 use Rattle.std.specs.Prelude.{Vec}
 use Rattle.std.specs.declared.alloc.Global.{Global}
 use Rattle.rtl_flat.specs.declared.act.ProcId.{ProcId}

@@ -1,5 +1,8 @@
-use Rattle.std.proofs.Common.{◌<◌, ◌∙◌, [], ◌∷◌, ◌++◌, length, ap, arith}
-use Rattle.event_tables.proofs.Ears.{row_get, listener, hears_pushed, hears_past}
+use Rattle.std.proofs.Common.{◌<◌, ◌∙◌, ap, length, List, subst, arith}
+use Rattle.std.proofs.lemmas.Result.{on_ok_weaker}
+use Rattle.event_write.specs.declared.listener.Listener.{Listener}
+use Rattle.event_tables.specs.Hearing.{Joins}
+use Rattle.event_tables.proofs.Ears.{row_get, hears_joined, hears_past}
 use Rattle.event_tables.proofs.listeners.hear_bits.Goals as goal
 
 pub returns-then-place-len : goal.returns-then-place-len
@@ -9,7 +12,8 @@ returns-then-place-len c =
 pub returns : goal.returns
 returns c =
     let old = c.args.listeners.now.items in
-    let one = listener c.args.process c.args.edge c.args.bits in
     let within : c.args.bits.signal.0 < length old = omega arith in
-    hears_pushed c.args.process c.args.edge c.args.bits old c.push.new.self within
-    (c.in_ok-push.ensures.items ∙ ap (λ v. v.items ++ one ∷ []) c.index_mut.ensures.value ∙ ap (λ xs. xs ++ one ∷ []) (row_get old c.args.bits.signal.0 _ within))
+    on_ok_weaker c.join.result
+    (λ h. hears_joined c.args.process c.args.edge c.args.bits old c.join.new.row within
+    (subst (λ (xs : List Listener). Joins c.args.process c.args.edge c.args.bits.mask xs c.join.new.row.items) (ap (λ v. v.items) c.index_mut.ensures.value ∙ row_get old c.args.bits.signal.0 _ within) h))
+    c.join.ensures

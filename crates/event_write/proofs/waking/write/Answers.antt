@@ -9,7 +9,7 @@ use Rattle.rank_set.specs.Ranks.{flag}
 use Rattle.event_model.specs.Writes.{Write, put, written}
 use Rattle.event_model.specs.Queue.{hears, doing_at, widths}
 use Rattle.event_write.specs.declared.listener.Listener.{Listener}
-use Rattle.event_write.specs.Listeners.{heard_by}
+use Rattle.event_write.specs.Listeners.{AreBelow, heard_by}
 use Rattle.event_write.specs.QueueState.{design_of, row, state}
 use Rattle.event_write.proofs.Writing.{row_at, store_set, put_at, write_is}
 use Rattle.event_write.proofs.waking.write.Goals as goal
@@ -20,8 +20,8 @@ wake-requires c =
     let listened = c.requires.fanout.listened in
     let within : c.args.signal.0 < length c.args.fanout.now.listeners.items = omega (arith, there, listened) in
     let is = row_at c.args.fanout.now.listeners.items c.args.signal.0 c.index-listeners.result.now within c.index-listeners.ensures in
-    subst (λ (xs : List Listener). All (λ listener. listener.process.0 < length c.args.queue.now.woken.flags) xs) (is ∙ sym c.deref.ensures.value)
-    (subst (λ (n : ℕ). All (λ listener. listener.process.0 < n) (row c.args.fanout.now.listeners.items c.args.signal.0)) (sym c.requires.queue.woken) (c.requires.fanout.inside c.args.signal.0))
+    subst (λ (xs : List Listener). All (λ listener. AreBelow (length c.args.queue.now.woken.flags) listener) xs) (is ∙ sym c.deref.ensures.value)
+    (subst (λ (n : ℕ). All (λ listener. AreBelow n listener) (row c.args.fanout.now.listeners.items c.args.signal.0)) (sym c.requires.queue.woken) (c.requires.fanout.inside c.args.signal.0))
 
 pub returns-clause-state : goal.returns-clause-state
 returns-clause-state c =
