@@ -1,0 +1,9 @@
+//! What no clause of the simulator says: small modules, step by step, worked by hand from IEEE 1364-2001.
+#![tactic(auto)]
+
+#[cfg(test)]
+mod orders;
+#[cfg(test)]
+mod row;
+#[cfg(test)]
+mod steps;
