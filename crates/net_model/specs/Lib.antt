@@ -1,0 +1,4 @@
+pub mod Block
+pub mod Cycle
+pub mod Numbers
+pub mod Solution
