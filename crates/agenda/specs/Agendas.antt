@@ -1,3 +1,4 @@
+-- It serves inner contracts and proofs; no answer of the program is stated by it.
 use Rattle.std.specs.Prelude.{◌≡◌, ◌≢◌, ℕ, ◌⊎◌, ◌<◌, Bool, true, false, List, Option, None, Some, nat_lt, slice_index_or}
 use Rattle.rank_set.specs.Ranks.{flag}
 

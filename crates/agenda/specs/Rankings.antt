@@ -1,3 +1,4 @@
+-- It serves inner contracts and proofs; no answer of the program is stated by it.
 use Rattle.std.specs.Prelude.{◌≡◌, ℕ, ◌<◌, Bool, List, [], ◌∷◌, length, Option, None, Some, slice_index}
 use Rattle.std.specs.List.{Contains}
 use Rattle.rank_set.specs.Ranks.{flag}

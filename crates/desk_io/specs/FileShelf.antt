@@ -1,3 +1,4 @@
+-- It serves inner contracts and proofs; no answer of the program is stated by it.
 -- What a shelf over files stands on.
 use Rattle.std.specs.Prelude.{ℕ}
 use Rattle.desk_io.specs.declared.shelf.files.FileShelf.{FileShelf}

@@ -1,3 +1,4 @@
+-- It serves inner contracts and proofs; no answer of the program is stated by it.
 -- What a shelf in memory holds.
 use Rattle.std.specs.Prelude.{ℕ, option_map, vec_items}
 use Rattle.std.specs.BTreeMap.{get_by_text}

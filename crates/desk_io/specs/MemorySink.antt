@@ -1,3 +1,4 @@
+-- It serves inner contracts and proofs; no answer of the program is stated by it.
 -- What a sink in memory holds.
 use Rattle.std.specs.Prelude.{ℕ, List}
 use Rattle.desk_io.specs.Calls.{Schedule, schedule_of}

@@ -1,3 +1,4 @@
+-- It serves inner contracts and proofs; no answer of the program is stated by it.
 -- What a sink over a writer stands on.
 use Rattle.std.specs.Prelude.{ℕ}
 use Rattle.desk_io.specs.declared.sink.writer.WriterSink.{WriterSink}

@@ -1,3 +1,4 @@
+-- It serves inner contracts and proofs; no answer of the program is stated by it.
 -- How far a simulator is in a file of steps.
 use Rattle.std.specs.Prelude.{◌≡◌, ◌<◌, ◌+◌, ℕ, false, List, [], length, map, Vec}
 use Rattle.std.specs.declared.alloc.Global.{Global}

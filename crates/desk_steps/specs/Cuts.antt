@@ -1,3 +1,4 @@
+-- It serves inner contracts and proofs; no answer of the program is stated by it.
 -- What the code cuts, as contracts see it.
 use Rattle.std.specs.Prelude.{ℕ, suc, ◌+◌, ◌==◌, cond, length, List, [], ◌∷◌, Option, None, Some}
 use Rattle.std.specs.Borrow.{Bor}

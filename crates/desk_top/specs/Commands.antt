@@ -1,3 +1,4 @@
+-- It serves inner contracts and proofs; no answer of the program is stated by it.
 -- What the code's commands mean.
 use Rattle.std.specs.Prelude.{◌≡◌, true}
 use Rattle.desk_top.specs.declared.words.Command.{Command}

@@ -1,3 +1,4 @@
+-- It serves inner contracts and proofs; no answer of the program is stated by it.
 -- The course of a body, and the head of a loop, from what the code keeps of them.
 use Rattle.std.specs.Prelude.{not, ℕ, ℤ, Bool, false, ◌||◌, if◌then◌else◌, List, ◌∷◌, ◌++◌, Option, None, Some, Ok, Err}
 use Rattle.std.specs.Option.{is_some, option_map}

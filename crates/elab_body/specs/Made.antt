@@ -1,3 +1,4 @@
+-- It serves inner contracts and proofs; no answer of the program is stated by it.
 -- What the code makes of bodies, as plain lists and trees.
 use Rattle.std.specs.Prelude.{List, [], ◌∷◌, map, Vec, Option, None, Some}
 use Rattle.std.specs.declared.alloc.Global.{Global}

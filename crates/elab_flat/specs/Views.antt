@@ -1,3 +1,4 @@
+-- It serves inner contracts and proofs; no answer of the program is stated by it.
 -- What the code makes, as contracts see it.
 use Rattle.std.specs.Prelude.{map}
 use Rattle.rtl_flat.specs.Process.{task}

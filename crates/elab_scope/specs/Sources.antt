@@ -1,3 +1,4 @@
+-- It serves inner contracts and proofs; no answer of the program is stated by it.
 -- An expression as the sizing of flat designs takes it: its names are signals and numbers, its parentheses are gone.
 use Rattle.std.specs.Prelude.{ℕ, ◌+◌, ◌<◌, ◌≤◌, ◌≡◌, true, List, length, Option, None, Some, Ok, Err}
 use Rattle.rtl_const.specs.Constant.{Outcome, constant}

@@ -1,3 +1,4 @@
+-- It serves inner contracts and proofs; no answer of the program is stated by it.
 -- What the code takes as left by an instance, whether something is told of it or not.
 use Rattle.std.specs.Prelude.{ℕ, ◌+◌, min, Option, None, Some}
 use Rattle.elab_body.specs.declared.progress.Left.{Left}

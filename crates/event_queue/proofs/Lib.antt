@@ -8,4 +8,3 @@ pub mod Offered
 pub mod Paying
 pub mod Running
 pub mod Beginning
-pub mod Sampled

@@ -1,3 +1,4 @@
+-- It serves inner contracts and proofs; no answer of the program is stated by it.
 -- What the processes of a design cost.
 use Rattle.std.specs.Prelude.{◌≡◌, ◌≤◌, ◌+◌, ◌*◌, suc, List, [], ◌∷◌, ◌++◌, map, sum_by, Some}
 use Rattle.std.specs.List.{All}

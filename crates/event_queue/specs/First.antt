@@ -1,3 +1,4 @@
+-- It serves inner contracts and proofs; no answer of the program is stated by it.
 -- What is kept of each signal and each process where a simulator begins.
 use Rattle.std.specs.Prelude.{◌≡◌, ◌≤◌, ℕ, Bool, List, [], ◌∷◌, replicate, Option, None, Some, false, length, vec_capacity}
 use Rattle.std.specs.List.{slice_get}

@@ -1,3 +1,4 @@
+-- It serves inner contracts and proofs; no answer of the program is stated by it.
 -- The nonblocking assignments of bodies: how many, and how many parts they have.
 use Rattle.std.specs.Prelude.{◌≡◌, ◌≤◌, ℕ, Bool, true, false}
 use Rattle.rtl_flat.specs.Process.{Doing, Assign, Comb, Edge'}

@@ -7,4 +7,3 @@ pub mod Holding
 pub mod Propositions
 pub mod Starts
 pub mod Sims
-pub mod Samples

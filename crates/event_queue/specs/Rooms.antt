@@ -1,3 +1,4 @@
+-- It serves inner contracts and proofs; no answer of the program is stated by it.
 -- The room and the work of delayed updates.
 use Rattle.std.specs.Prelude.{◌≡◌, ◌≤◌, ◌+◌, ◌*◌, ℕ, Bool, true, false, List, [], ◌∷◌, length, vec_capacity}
 use Rattle.event_model.specs.Queue.{Flat, Event, Run, Delayed, doing_at}

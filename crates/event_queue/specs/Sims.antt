@@ -1,3 +1,4 @@
+-- It serves inner contracts and proofs; no answer of the program is stated by it.
 -- What a simulator shows, and what holds of it.
 use Rattle.std.specs.Prelude.{◌≡◌, ◌<◌, ◌+◌, ◌*◌, ℕ, Bool, false, length, Option, Some}
 use Rattle.std.specs.List.{slice_get}

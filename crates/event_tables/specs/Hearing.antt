@@ -1,3 +1,4 @@
+-- It serves inner contracts and proofs; no answer of the program is stated by it.
 -- What processes hear of changes, place by place.
 use Rattle.std.specs.Prelude.{ℕ, ◌≡◌, ◌<◌, ◌+◌, ◌==◌, nat_lt, Bool, false, ◌&&◌, ◌||◌, List, ◌∷◌, length, Option, None, Some, Vec}
 use Rattle.std.specs.List.{All, slice_get}

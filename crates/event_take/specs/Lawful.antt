@@ -1,3 +1,4 @@
+-- It serves inner contracts and proofs; no answer of the program is stated by it.
 -- What holds of each state that events lead to, and sets that tell what is active in it.
 use Rattle.std.specs.Prelude.{◌≡◌, ℕ, Bool, List, length, None, false, is_some}
 use Rattle.rank_set.specs.Ranks.{flag}

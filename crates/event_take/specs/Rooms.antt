@@ -1,3 +1,4 @@
+-- It serves inner contracts and proofs; no answer of the program is stated by it.
 -- How many prepared writes an event makes for later.
 use Rattle.std.specs.Prelude.{◌≡◌, ℕ, Option, None, Some}
 use Rattle.rtl_flat.specs.Process.{Doing, Assign, Comb, Edge'}

@@ -1,3 +1,4 @@
+-- It serves inner contracts and proofs; no answer of the program is stated by it.
 -- The event that a choice is.
 use Rattle.std.specs.Prelude.{◌≡◌, ◌<◌, ℕ, true, Option, None, length, slice_index_or}
 use Rattle.rank_set.specs.Ranks.{flag}

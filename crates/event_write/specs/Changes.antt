@@ -1,3 +1,4 @@
+-- It serves inner contracts and proofs; no answer of the program is stated by it.
 -- The places at which a signal changes, as masks.
 use Rattle.std.specs.Prelude.{ℕ, ◌≡◌, List, slice_index_or}
 use Rattle.rtl_bits.specs.declared.Bit.{Bit}

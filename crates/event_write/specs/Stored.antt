@@ -1,3 +1,4 @@
+-- It serves inner contracts and proofs; no answer of the program is stated by it.
 -- How the simulator keeps values.
 use Rattle.std.specs.Prelude.{◌≡◌, ℕ, List, length}
 use Rattle.rtl_bits.specs.declared.Bit.{Bit}

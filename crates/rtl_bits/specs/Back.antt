@@ -1,3 +1,4 @@
+-- It serves inner contracts and proofs; no answer of the program is stated by it.
 -- A number is the one that its digits spell.
 use Rattle.std.proofs.Common.{◌≡◌, ℕ, zero, suc, ◌*◌, ◌/◌, ◌%◌, ◌^◌, ◌<◌, Bool, cond, ap, ◌∙◌, arith}
 use Rattle.std.proofs.Math.Nat.{pow-suc}

@@ -1,3 +1,4 @@
+-- It serves inner contracts and proofs; no answer of the program is stated by it.
 -- The arrows of the level graph, from tables: who writes each signal, and who feeds each process.
 use Rattle.std.specs.Prelude.{ℕ, zero, suc, ◌≡◌, ◌<◌, ◌≤◌, ◌+◌, ◌⊎◌, ◌↔◌, Bool, true, false, not, ◌&&◌, ◌||◌, ◌==◌, bit_and, List, [], ◌∷◌, length, Vec, Option, Some, None, slice_index_or}
 use Rattle.std.specs.declared.alloc.Global.{Global}

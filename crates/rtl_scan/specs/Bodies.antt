@@ -1,3 +1,4 @@
+-- It serves inner contracts and proofs; no answer of the program is stated by it.
 -- The items of a case, from those of a vector.
 use Rattle.std.specs.Prelude.{List, [], ◌∷◌, map, Vec, Option, Some, None}
 use Rattle.std.specs.declared.alloc.Global.{Global}

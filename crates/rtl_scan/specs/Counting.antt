@@ -1,3 +1,4 @@
+-- It serves inner contracts and proofs; no answer of the program is stated by it.
 -- Which writes count as sure.
 use Rattle.std.specs.Prelude.{ℕ, Bool, true, false, not}
 use Rattle.rtl_flat.specs.Paths.{Step, writes_bit, writes_now}

@@ -1,3 +1,4 @@
+-- It serves inner contracts and proofs; no answer of the program is stated by it.
 -- A search of a graph against its arrows, depth first.
 use Rattle.std.specs.Prelude.{ℕ, zero, suc, ◌≡◌, ◌<◌, ◌≤◌, ◌+◌, ◌^◌, List, [], ◌∷◌, length, Vec, Option, Some, None, slice_index_or}
 use Rattle.std.specs.declared.alloc.Global.{Global}

@@ -1,3 +1,4 @@
+-- It serves inner contracts and proofs; no answer of the program is stated by it.
 -- How many statements bodies have.
 use Rattle.std.specs.Prelude.{ℕ, List, map, Vec, Option}
 use Rattle.std.specs.declared.alloc.Global.{Global}

@@ -1,3 +1,4 @@
+-- It serves inner contracts and proofs; no answer of the program is stated by it.
 -- What a pass over statements adds to its sets, where it begins with some bits surely written.
 use Rattle.std.specs.Prelude.{ℕ, ◌≡◌, Bool, true, false, not, ◌&&◌, ◌||◌, List}
 use Rattle.rtl_flat.specs.Expression.{Tree}

@@ -1,3 +1,4 @@
+-- It serves inner contracts and proofs; no answer of the program is stated by it.
 -- The longest token at the front of a text, as the code finds it. `slice_index text 0` is 0 at the text's end.
 use Rattle.std.specs.Prelude.{ℕ, ◌+◌, Bool, false, ◌&&◌, not, if◌then◌else◌, ◌==◌, List, [], ◌∷◌, drop, slice_index, Option, Some, None}
 use Rattle.std.specs.Option.{option_map}

@@ -50,7 +50,7 @@ pub record IsRound (design : Flat) (s : State) (round : Round) : Type 0 where
   pub runs : CanRun design (offered s round.step) round.events
   pub rests : IsAtRest design (after_round design s round)
 
--- every output shows its number: each of its bits is known, and is the number's digit. Each net is an output today
+-- every net shows its number, outputs among them: each of its bits is known, and is the number's digit
 abbrev pub Shows : Flat → State → Numbers → Type 0
 Shows design s n = (i : ℕ) → IsTrue (is_net design.signals i) → s.value i ≡ bits (n i)
 

@@ -1,3 +1,4 @@
+-- It serves inner contracts and proofs; no answer of the program is stated by it.
 -- What a pass over the processes keeps.
 use Rattle.std.specs.Prelude.{◌≡◌, ℕ, ◌<◌, length, List, Bool, false, slice_index_or}
 use Rattle.std.specs.List.{list_any}

@@ -8,7 +8,7 @@ use Rattle.sign_off.specs.Circuit.{Gate, And, Xor, Or, Home, Tree, Read, Not, Bi
 abbrev pub Numbers : Type 0
 Numbers = ℕ → Bool
 
--- the digit that an gate gives for two digits
+-- the digit that a gate gives for two digits
 abbrev pub binary_digit : Gate → Bool → Bool → Bool
 binary_digit And a b = a && b
 binary_digit Xor a b = if a then not b else b

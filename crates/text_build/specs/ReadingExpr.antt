@@ -1,3 +1,4 @@
+-- It serves inner contracts and proofs; no answer of the program is stated by it.
 -- The builder as functions on tokens: expressions, names with a selection, and ranges.
 use Rattle.std.specs.Prelude.{ℕ, zero, suc, ◌-◌, Bool, false, if◌then◌else◌, nat_le, List, [], ◌∷◌, Option, Some, None}
 use Rattle.rtl_tree.specs.declared.symbol.Symbol.{Symbol}

@@ -1,3 +1,4 @@
+-- It serves inner contracts and proofs; no answer of the program is stated by it.
 -- The plain form of names with a selection, as the code holds them.
 use Rattle.rtl_tree.specs.TreeExpr.{Formula, Identifier, identifier, formula}
 use Rattle.text_build.specs.declared.reference.Reference.{Reference}

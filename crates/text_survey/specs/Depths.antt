@@ -1,3 +1,4 @@
+-- It serves inner contracts and proofs; no answer of the program is stated by it.
 -- How deep what was read is nested, beside the steps of the survey.
 use Rattle.std.specs.Prelude.{◌≡◌, ℕ, zero, suc, ◌-◌, min, List, [], ◌∷◌, ◌++◌, drop, reverse, Option, Some, None}
 use Rattle.rtl_tree.specs.Symbols.{Terminal}

@@ -98,8 +98,8 @@ impl<'a> Machine<'a> {
     }
 }
 
-/// Whether tokens spell modules, else where they stop doing so, and whether these are nested too deep. It takes the time of the
-/// tokens, and no stack. The only error is want of memory.
+/// Of tokens whose numbers have values: whether they spell modules, else where they stop doing so, and whether these are nested
+/// too deep. Of others it is said only that nothing is spelled where they stop. The only error is want of memory.
 pub fn survey(alloc: Global, tokens: &[Terminal]) -> Result<Surveyed, Memory>
     ensures { IfOk result (λ s. surveys.IsSurvey (map terminal tokens.now) s) }
 {
