@@ -6,4 +6,4 @@ mod orders;
 #[cfg(test)]
 mod row;
 #[cfg(test)]
-mod steps;
+mod one_by_one;
