@@ -2,8 +2,8 @@
 #![tactic(auto)]
 
 #[cfg(test)]
+mod one_by_one;
+#[cfg(test)]
 mod orders;
 #[cfg(test)]
 mod row;
-#[cfg(test)]
-mod one_by_one;
