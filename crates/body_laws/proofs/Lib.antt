@@ -1,4 +1,5 @@
 pub mod Alike
+mod Example
 pub mod Laws
 pub mod Sizes
 pub mod Sure
