@@ -17,6 +17,7 @@ use elab_walk::trail::Placement;
 use elab_walk::visit::file_of;
 use rtl_flat::instance::{DroppedRegion, Instance};
 use rtl_flat::signal::Signal;
+use rtl_tree::dropped::Dropped;
 use rtl_tree::memory::Memory;
 use rtl_tree::text::{Spot, Text};
 use std::alloc::Global;
@@ -79,17 +80,16 @@ fn signals_of(alloc: Global, placements: &[Placement<'_>]) -> Result<Vec<Signal>
     Ok(made)
 }
 
-/// What synthesis doesn't see of an instance's module, behind others.
-fn push_regions(
-    alloc: Global,
+/// Regions of an instance's module, behind others.
+fn push_located(
     at: &Placement<'_>,
+    regions: &[Dropped],
     dropped: &mut Vec<DroppedRegion>,
 ) -> Result<(), Memory>
-    ensures { OnOk result (dropped.new.items ≡ dropped.old.items ++ regions_at (placement at.now)) }
+    ensures { OnOk result (dropped.new.items ≡ dropped.old.items ++ map (region (placement at.now)) regions.now) }
 {
     let file = file_of(at.visit.place)?;
-    let regions = dropped_in(alloc, at.visit.written)?;
-    for one in &regions {
+    for one in regions {
         let spot = Spot { file, at: one.at };
         dropped.push(DroppedRegion {
             kind: one.kind,
@@ -98,6 +98,18 @@ fn push_regions(
         })?;
     }
     Ok(())
+}
+
+/// What synthesis doesn't see of an instance's module, behind others.
+fn push_regions(
+    alloc: Global,
+    at: &Placement<'_>,
+    dropped: &mut Vec<DroppedRegion>,
+) -> Result<(), Memory>
+    ensures { OnOk result (dropped.new.items ≡ dropped.old.items ++ regions_at (placement at.now)) }
+{
+    let regions = dropped_in(alloc, at.visit.written)?;
+    push_located(at, &regions, dropped)
 }
 
 fn regions_of(alloc: Global, placements: &[Placement<'_>]) -> Result<Vec<DroppedRegion>, Memory>
