@@ -1,6 +1,5 @@
-// Sets of ranks and agendas, at the edges of their words.
+// Sets of ranks, at the edges of their words.
 
-use agenda::Agenda;
 use rank_set::RankSet;
 use std::alloc::{AllocError, Global};
 use std::process::Abort;
@@ -64,41 +63,6 @@ fn sets_have_the_members_that_are_left(rt: HostRuntime) -> Result<(), Fail> {
         assert_eq!(rt; set.size(), size);
         assert!(rt; !set.contains(usize::MAX));
         assert_members(&rt, &set, members);
-    }
-    Ok(())
-}
-
-const MIXED: &[Option<u32>] = &[Some(2), None, Some(1), Some(2), None, Some(0)];
-
-const AGENDAS: [(&[Option<u32>], &[usize], &[usize]); 5] = [
-    (&[], &[], &[]),
-    (&[Some(7)], &[0, 0], &[0]),
-    (&[Some(4_294_967_295), None], &[1, 0], &[0, 1]),
-    (MIXED, &[0, 1, 2, 3, 4, 5], &[5, 2, 0, 3, 1, 4]),
-    (MIXED, &[4, 3, 0], &[0, 3, 4]),
-];
-
-#[test]
-fn agendas_have_the_lowest_level_and_then_the_least_number(rt: HostRuntime) -> Result<(), Fail> {
-    for (levels, members, order) in AGENDAS {
-        assert!(rt; levels.len() < 1_000);
-        let mut agenda = Agenda::new(rt.alloc(), Vec::from_slice(rt.alloc(), levels)?)?;
-        for number in members {
-            assert!(rt; *number < agenda.size());
-            agenda.insert(*number);
-        }
-        assert_eq!(rt; agenda.count(), order.len());
-        if 0 < agenda.count() {
-            assert_eq!(rt; Some(agenda.nth(0)), agenda.least());
-            assert!(rt; agenda.greatest() >= agenda.least());
-        }
-        for number in order {
-            assert_eq!(rt; agenda.lowest(), Some(*number));
-            assert!(rt; *number < agenda.size());
-            agenda.remove(*number);
-            assert!(rt; !agenda.contains(*number));
-        }
-        assert!(rt; agenda.is_empty() && agenda.lowest().is_none());
     }
     Ok(())
 }
