@@ -112,18 +112,18 @@ fn a_writer_sink_passes_bytes_on_or_fails(rt: HostRuntime) -> Result<(), Fail> {
 #[test]
 fn a_file_shelf_tells_what_it_cannot_read(rt: HostRuntime) -> Result<(), Fail> {
     let alloc = rt.alloc();
-    fs::write(&rt, "empty.v", "")?;
-    fs::write(&rt, "other.v", "module other;")?;
-    fs::create_dir(&rt, "folder")?;
+    fs::write(&rt, "nothing.v", "")?;
+    fs::write(&rt, "written.v", "module other;")?;
+    fs::create_dir(&rt, "drawer")?;
     let mut shelf = FileShelf::new(alloc, SystemFiles::new(&rt));
     let rows = [
-        ("empty.v", Ok(0)),
+        ("nothing.v", Ok(0)),
         ("missing.v", Err(ShelfFault::NoSuchFile)),
-        ("other", Err(ShelfFault::NoSuchFile)),
-        ("folder", Err(ShelfFault::Failed)),
-        ("folder/other.v", Err(ShelfFault::NoSuchFile)),
-        ("other.v/other.v", Err(ShelfFault::Failed)),
-        ("other.v", Ok(13)),
+        ("written", Err(ShelfFault::NoSuchFile)),
+        ("drawer", Err(ShelfFault::Failed)),
+        ("drawer/written.v", Err(ShelfFault::NoSuchFile)),
+        ("written.v/written.v", Err(ShelfFault::Failed)),
+        ("written.v", Ok(13)),
     ];
     check_reads(&rt, &mut shelf, &rows);
     assert_eq!(rt; shelf.faults(), 5);
