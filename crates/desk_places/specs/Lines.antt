@@ -1,4 +1,5 @@
 -- Where the lines of a text begin.
+-- Worked examples: crates/tests_lines/src/places.rt.
 use Rattle.std.specs.Prelude.{ℕ, ◌+◌, ◌==◌, List, [], ◌∷◌, Bool, cond}
 
 abbrev pub is_line_feed : ℕ → Bool

@@ -1,4 +1,5 @@
 -- The report of a ruling. Every line ends with a line feed.
+-- Worked examples: crates/tests_lines/src/report_texts.rt.
 use Rattle.std.specs.Prelude.{ℕ, List, [], ◌∷◌, ◌++◌, length, Option, None, Some, Bool, true, false, codes, slice_get}
 use Rattle.std.specs.List.{flat_map}
 use Rattle.std.specs.Fmt.{decimal}

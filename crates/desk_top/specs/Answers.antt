@@ -1,4 +1,5 @@
 -- How a call of the desk answers through objects that may fail, and what its status 0 promises.
+-- Worked examples: examples/stored/half_adder.out.
 use Rattle.std.specs.Prelude.{◌≡◌, ℕ, List, [], Option, None, Some, Ok, Bool, true, false, ⊤}
 use Rattle.std.specs.Io.KnownBytes.{Appends}
 use Rattle.desk_io.specs.Shelf.{Files}

@@ -1,4 +1,5 @@
 -- What the texts of files make of a top module.
+-- Worked examples: examples/stored/undeclared.out.
 use Rattle.std.specs.Prelude.{◌≡◌, ℕ, List, Result, Ok, Err}
 use Rattle.rtl_tree.specs.TreeModule.{Circuit}
 use Rattle.rtl_front.specs.declared.fault.FileFault.{FileFault}

@@ -1,4 +1,5 @@
 -- What the desk answers to its words, over the files of a shelf.
+-- Worked examples: examples/stored/several_drivers.out, examples/stored/exchange.out.
 use Rattle.std.specs.Prelude.{◌≡◌, ℕ, List, [], ◌∷◌, ◌++◌, Bool, true, false, Option, None, Some, Result, Ok, Err, if◌then◌else◌, codes}
 use Rattle.std.specs.Fmt.{decimal}
 use Rattle.desk_io.specs.declared.shelf.ShelfFault.{ShelfFault}

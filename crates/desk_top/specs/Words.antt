@@ -1,4 +1,5 @@
 -- The words of the command line.
+-- Worked examples: tools/test.
 use Rattle.std.specs.Prelude.{ℕ, ◌==◌, nat_le, List, [], ◌∷◌, length, Option, None, Some, Bool, true, false, not, ◌&&◌, if◌then◌else◌, map, codes, String, string_bytes, bytes_eq}
 use Rattle.std.specs.List.{list_all, list_any}
 use Rattle.std.specs.declared.alloc.Global.{Global}

@@ -12,6 +12,7 @@ use Rattle.elab_scope.specs.Faults.{TooLarge, NotAssignable}
 use Rattle.elab_scope.specs.Names.{Meanings}
 use Rattle.elab_scope.specs.Rules.{fault}
 use Rattle.elab_body.specs.Bodies.{all_turns, loop_faults, steps, turns}
+use Rattle.elab_body.specs.Faultless.{statement_count}
 use Rattle.elab_body.specs.Steps.{Statement, Turn, Faulty, checked, delays_of}
 
 -- a variable d of two bits and integers i and j
@@ -61,6 +62,11 @@ one_left = refl
 empty_turns : steps (twice (Null 50)) scope ≡ Turn 10 ∷ Turn 10 ∷ []
 unfolding turns all_turns loop_faults
 empty_turns = refl
+
+-- and counts as one among statements
+empty_counts : statement_count (steps (twice (Null 50)) scope) ≡ 2
+unfolding turns all_turns loop_faults
+empty_counts = refl
 
 -- so does one around it: an empty turn is no statement
 empty_around : steps (outer_twice (twice (Null 50))) scope ≡ Turn 10 ∷ Turn 10 ∷ Turn 2 ∷ Turn 10 ∷ Turn 10 ∷ Turn 2 ∷ []

@@ -1,5 +1,6 @@
 -- The steps of a body: `for` is its turns, and an `if` whose condition is constant is the branch that it takes
 -- (IEEE 1364-2001 sections 9.4 to 9.6).
+-- Worked examples: proofs/Examples.antt.
 use Rattle.std.specs.Prelude.{ℕ, zero, suc, ℤ, if◌then◌else◌, List, [], ◌∷◌, ◌++◌, Option, None, Some, Ok, Err}
 use Rattle.std.specs.Str.{bytes_eq}
 use Rattle.rtl_const.specs.Constant.{Outcome, constant, is_true}

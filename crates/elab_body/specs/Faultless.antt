@@ -1,4 +1,5 @@
 -- Steps of a body without faults, and how many of them count as statements.
+-- Worked examples: proofs/Examples.antt.
 use Rattle.std.specs.Prelude.{ℕ, ◌+◌, List, [], ◌∷◌}
 use Rattle.elab_body.specs.Steps.{Step, Faulty, Statement, Turn, Delay}
 

@@ -1,4 +1,5 @@
 -- What the unrolling of a body comes upon, in its order, and how far it goes.
+-- Worked examples: proofs/Examples.antt.
 use Rattle.std.specs.Prelude.{ℕ, zero, suc, Bool, true, false, List, [], ◌∷◌, map, Option, None, Some}
 use Rattle.elab_scope.specs.Faults.{Refusal, TooLarge, keep}
 use Rattle.elab_scope.specs.Rules.{fault}

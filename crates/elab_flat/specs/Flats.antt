@@ -1,4 +1,5 @@
 -- The flat design that instances make.
+-- Worked examples: proofs/Examples.antt.
 use Rattle.std.specs.Prelude.{List, map}
 use Rattle.std.specs.List.{flat_map}
 use Rattle.rtl_flat.specs.declared.instance.Delay.{Delay}

@@ -1,4 +1,5 @@
 -- The instances right under one.
+-- Worked examples: proofs/Examples.antt.
 use Rattle.std.specs.Prelude.{ℕ, ◌+◌, ◌==◌, nat_lt, cond, List, [], ◌∷◌, length, map}
 use Rattle.elab_walk.specs.Placements.{Placement}
 

@@ -1,5 +1,6 @@
 -- What the connections of instances do in the design: an input port is assigned its argument, and the argument of an
 -- output port is assigned the port, at all times (IEEE 1364-2001 section 12.3.9).
+-- Worked examples: proofs/Examples.antt.
 use Rattle.std.specs.Prelude.{ℕ, ◌+◌, List, [], ◌∷◌, ◌++◌, Option, None, Some}
 use Rattle.std.specs.List.{slice_get}
 use Rattle.rtl_flat.specs.Expression.{Tree, Sized}

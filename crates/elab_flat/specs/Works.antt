@@ -1,4 +1,5 @@
 -- The processes of a design with their delays, by instance and in the order of the items.
+-- Worked examples: proofs/Examples.antt.
 use Rattle.std.specs.Prelude.{ℕ, List, [], ◌∷◌, ◌++◌, drop, length, Option, None, Some}
 use Rattle.rtl_tree.specs.TreeItem.{ModuleItem, Instantiation}
 use Rattle.rtl_flat.specs.declared.instance.Delay.{Delay}

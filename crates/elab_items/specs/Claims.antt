@@ -1,5 +1,6 @@
 -- What the declarations of a name make together. A port may be declared by its direction and by `wire` or `reg`, once
 -- each and in either order, with equal ranges (IEEE 1364-2001 section 12.3.3).
+-- Worked examples: proofs/Examples.antt.
 use Rattle.std.specs.Prelude.{ℕ, Bool, true, false, ◌||◌, if◌then◌else◌, List, [], ◌∷◌, ◌++◌, Option, None, Some}
 use Rattle.std.specs.Option.{is_some}
 use Rattle.std.specs.Str.{bytes_eq}

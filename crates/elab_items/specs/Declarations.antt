@@ -1,5 +1,6 @@
 -- The declarations of a module, in the order in which they stand: the parameters and the ports of its head, and then
 -- its items (IEEE 1364-2001 sections 3.2, 3.9, 3.11 and 12.3).
+-- Worked examples: proofs/Examples.antt.
 use Rattle.std.specs.Prelude.{Bool, List, [], ◌∷◌, ◌++◌, map, Option, None, Some}
 use Rattle.std.specs.Option.{option_map}
 use Rattle.rtl_tree.specs.declared.tree.item.ParameterKind.{ParameterKind}

@@ -1,5 +1,6 @@
 -- The numbers of parameters, in the order of their declarations: in the value and the range of a parameter only the
 -- parameters before it hold (IEEE 1364-2001 section 3.11).
+-- Worked examples: proofs/Examples.antt.
 use Rattle.std.specs.Prelude.{List, [], ◌∷◌, ◌++◌, Option, None, Some}
 use Rattle.rtl_const.specs.Constant.{constant}
 use Rattle.rtl_tree.specs.TreeExpr.{Formula}

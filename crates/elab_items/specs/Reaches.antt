@@ -1,4 +1,5 @@
 -- The ranges of declarations (IEEE 1364-2001 section 3.3.1).
+-- Worked examples: proofs/Examples.antt.
 use Rattle.std.specs.Prelude.{ℕ, ◌+◌, ◌==◌, ℤ, pos, ◌-ℤ◌, min, nat_lt, int_le, unsigned_abs, Bool, true, false, ◌&&◌, if◌then◌else◌, List, [], ◌∷◌, ◌++◌, Option, None, Some, Ok}
 use Rattle.rtl_const.specs.Constant.{Outcome, constant}
 use Rattle.rtl_const.specs.Numbers.{Numbers}

@@ -1,5 +1,6 @@
 -- The signals of a module, and what its names stand for. Signals are numbered as their names come: ports in the order
 -- of the head, and then by the place of their declaration.
+-- Worked examples: proofs/Examples.antt.
 use Rattle.std.specs.Prelude.{ℕ, ◌-◌, min, if◌then◌else◌, List, [], ◌∷◌, ◌++◌, length, map, Option, None, Some}
 use Rattle.std.specs.List.{slice_get}
 use Rattle.std.specs.Option.{is_some}

@@ -1,4 +1,5 @@
 -- What the names of a module stand for in an instance, its signals, and the faults of its declarations.
+-- Worked examples: proofs/Examples.antt.
 use Rattle.std.specs.Prelude.{ℕ, List, [], ◌∷◌, ◌++◌, Option, None, Some}
 use Rattle.rtl_tree.specs.TreeExpr.{Bounds, Formula}
 use Rattle.rtl_tree.specs.TreeModule.{Circuit}

@@ -1,4 +1,5 @@
 -- What instances set parameters to, and what parameters are (IEEE 1364-2001 sections 3.11.1 and 12.2).
+-- Worked examples: proofs/Examples.antt.
 use Rattle.std.specs.Prelude.{ℕ, ◌^◌, min, ℤ, pos, ◌-ℤ◌, int_lt, true, false, if◌then◌else◌, List, Option, None, Some, Ok, Err}
 use Rattle.std.specs.Int.{int_rem_euclid}
 use Rattle.std.specs.Option.{option_map}

@@ -1,4 +1,5 @@
 -- The modules of all files, and which of them a name means.
+-- Worked examples: crates/rtl_elab/proofs/Examples.antt.
 use Rattle.std.specs.Prelude.{ℕ, ◌+◌, if◌then◌else◌, List, [], ◌∷◌, ◌++◌, map, Option, None, Some, Vec}
 use Rattle.std.specs.declared.alloc.Global.{Global}
 use Rattle.std.specs.List.{slice_get}

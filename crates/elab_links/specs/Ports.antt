@@ -1,4 +1,5 @@
 -- The ports of a module (IEEE 1364-2001 section 12.3).
+-- Worked examples: crates/elab_flat/proofs/Examples.antt.
 use Rattle.std.specs.Prelude.{ℕ, List, [], ◌∷◌, map, Option, None, Some}
 use Rattle.name_map.specs.Values.{Values, entered, no_values, values_of}
 use Rattle.rtl_tree.specs.declared.tree.item.Direction.{Direction}

@@ -1,4 +1,5 @@
 -- The delays of the items of a module, each with the process that it stands in.
+-- Worked examples: proofs/Examples.antt.
 use Rattle.std.specs.Prelude.{ℕ, zero, suc, ◌+◌, length, List, [], ◌∷◌, map, Option, None, Some}
 use Rattle.rtl_tree.specs.TreeStmt.{Pause}
 use Rattle.rtl_tree.specs.TreeItem.{Drive, ModuleItem, Ports, Nets, Variables, Integers, Parameters, Drives, Always, Instances}

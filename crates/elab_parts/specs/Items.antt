@@ -1,5 +1,6 @@
 -- What the items of a module drive its signals by, but for the connections of its instances: their faults, and the
 -- places of their processes (IEEE 1364-2001 sections 6.1 and 9.9).
+-- Worked examples: proofs/Examples.antt.
 use Rattle.std.specs.Prelude.{ℕ, List, [], ◌∷◌, ◌++◌, map, Option, None, Some}
 use Rattle.rtl_tree.specs.TreeExpr.{Identifier, Formula}
 use Rattle.rtl_tree.specs.TreeStmt.{Target, Whole, Pause, Action, target_place}

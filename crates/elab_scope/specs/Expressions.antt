@@ -1,5 +1,6 @@
 -- The faults of expressions, in the order in which equals are told: those of the parts from left to right, and then
 -- those of the whole.
+-- Worked examples: crates/elab_body/proofs/Examples.antt.
 use Rattle.std.specs.Prelude.{List, [], ◌++◌}
 use Rattle.rtl_const.specs.Constant.{constant}
 use Rattle.rtl_tree.specs.TreeExpr.{Formula, Number, Read, ReadBit, ReadPart, Parens, Convert, Concat, Repeat, Unary, Binary, Choose, Formulas, no_formulas, more_formulas}

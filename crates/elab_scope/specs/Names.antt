@@ -1,4 +1,5 @@
 -- What the names of a module stand for, as a function of the name.
+-- Worked examples: crates/elab_body/proofs/Examples.antt.
 use Rattle.std.specs.Prelude.{ℕ, ℤ, List, Bool, true, false, Option, None, Some, if◌then◌else◌}
 use Rattle.name_map.specs.Values as map
 use Rattle.name_map.specs.Values.{Values, no_values, values_of, with_value}

@@ -1,4 +1,5 @@
 -- The faults of targets, and their parts in the design (IEEE 1364-2001 sections 6.1 and 9.2).
+-- Worked examples: crates/elab_laws/proofs/Examples.antt.
 use Rattle.std.specs.Prelude.{ℕ, ◌+◌, nat_lt, ◌==◌, ℤ, pos, ◌-ℤ◌, int_le, int_lt, unsigned_abs, Bool, ◌&&◌, if◌then◌else◌, List, [], ◌∷◌, ◌++◌, Option, None, Some, Ok, Err}
 use Rattle.std.specs.List.{list_any}
 use Rattle.rtl_const.specs.Constant.{Outcome, constant}

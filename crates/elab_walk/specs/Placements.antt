@@ -1,4 +1,5 @@
 -- The instances of a design with their numbers, and their signals.
+-- Worked examples: crates/elab_flat/proofs/Examples.antt.
 use Rattle.std.specs.Prelude.{ℕ, ◌+◌, ◌==◌, List, [], ◌∷◌, length, map}
 use Rattle.rtl_tree.specs.declared.dropped.Dropped.{Dropped}
 use Rattle.rtl_flat.specs.declared.instance.DroppedRegion.{DroppedRegion}

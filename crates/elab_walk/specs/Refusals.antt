@@ -1,4 +1,5 @@
 -- Why a design isn't elaborated: the first instance at fault, and the least of its faults.
+-- Worked examples: proofs/Examples.antt.
 use Rattle.std.specs.Prelude.{ℕ, Bool, true, false, List, [], ◌∷◌, ◌++◌, Option, None, Some}
 use Rattle.std.specs.Option.{option_map}
 use Rattle.elab_scope.specs.Faults.{Answer, Named, Placed, Memory, Refusal, TooLarge, least, located}

@@ -1,5 +1,6 @@
 -- The instances of a design: its top and all that it holds, each before those that it holds itself (IEEE 1364-2001
 -- sections 12.1 and 12.4).
+-- Worked examples: proofs/Examples.antt.
 use Rattle.std.specs.Prelude.{ℕ, zero, suc, List, [], ◌∷◌, ◌++◌, map, Option, None, Some}
 use Rattle.std.specs.List.{flat_map}
 use Rattle.rtl_tree.specs.declared.text.Spot.{Spot}

@@ -1,4 +1,5 @@
 -- What a body does in one run (IEEE 1364-2001 sections 9.2 to 9.5).
+-- Worked examples: proofs/Example.antt.
 use Rattle.std.specs.Prelude.{ℕ, Bool, true, false, if◌then◌else◌, List, [], ◌∷◌, ◌++◌, map}
 use Rattle.std.specs.List.{list_any}
 use Rattle.rtl_bits.specs.declared.Bit.{Bit}

@@ -1,4 +1,5 @@
 -- The active events of a state in their order.
+-- Worked examples: proofs/Example.antt.
 use Rattle.std.specs.Prelude.{◌≡◌, ◌≢◌, ◌↔◌, ℕ, List, [], ◌∷◌, ◌++◌, map, length, is_some, Bool, ◌&&◌, cond}
 use Rattle.std.specs.List.{filter, range_with_len, Contains}
 use Rattle.event_model.specs.Writes.{Write}

@@ -1,4 +1,5 @@
 -- The three orders in which a simulator takes events, and how much it takes in one step.
+-- Worked examples: proofs/Example.antt.
 use Rattle.std.specs.Prelude.{ℕ, suc, ◌+◌, ◌*◌, ◌≡◌, ◌<◌, nat_lt, Bool, true, false, cond, List, [], ◌∷◌, ◌++◌, map, length, sum_by, Option, None, Some}
 use Rattle.rtl_flat.specs.Process.{Action, Set, If, Case, Block, Actions, Done, Then, Otherwise, Without, With, Branches, NoBranch, Branch, Doing, Assign, Comb, Edge'}
 use Rattle.event_model.specs.declared.policy.Policy.{Policy}

@@ -1,4 +1,5 @@
 -- The event queue of IEEE 1364-2001 clause 5: a state, the events on it, and runs of events in any order.
+-- Worked examples: proofs/Example.antt.
 use Rattle.std.specs.Prelude.{◌≡◌, ◌≢◌, ℕ, ◌+◌, List, [], ◌∷◌, ◌++◌, map, replicate, Option, None, Some, IsSome, Bool, true, false, not, ◌&&◌, ◌||◌, IsTrue, ⊤}
 use Rattle.std.specs.List.{slice_get, list_any}
 use Rattle.rtl_bits.specs.declared.Bit.{Bit}

@@ -1,4 +1,5 @@
 -- What assignments write (IEEE 1364-2001 sections 6.1 and 9.2).
+-- Worked examples: proofs/Example.antt.
 use Rattle.std.specs.Prelude.{ℕ, ◌+◌, ◌==◌, nat_lt, ℤ, pos, negsuc, ◌-ℤ◌, cond, if◌then◌else◌, List, [], ◌∷◌, ◌++◌, replicate, Option, None, Some}
 use Rattle.rtl_bits.specs.declared.Bit.{Bit}
 use Rattle.rtl_bits.specs.declared.Bit.TheVariants.{Z}

@@ -1,4 +1,5 @@
 -- The values that names have, as a function of the name.
+-- Worked examples: crates/elab_items/proofs/Examples.antt.
 use Rattle.std.specs.Prelude.{ℕ, List, Option, None, Some, if◌then◌else◌}
 use Rattle.std.specs.Option.{is_some}
 use Rattle.std.specs.BTreeMap.{get_by}

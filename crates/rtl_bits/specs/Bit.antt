@@ -1,4 +1,5 @@
 -- The four values of one bit, and the tables of IEEE 1364-2001 on them.
+-- Worked examples: crates/tests_text/src/bits.rt.
 use Rattle.std.specs.Prelude.{Bool, true, false}
 use Rattle.rtl_bits.specs.declared.Bit.{Bit}
 use Rattle.rtl_bits.specs.declared.Bit.TheVariants.{Zero, One, X, Z}

@@ -1,4 +1,5 @@
 -- How a vector is stored: two numbers whose digits give each bit.
+-- Worked examples: crates/tests_text/src/bits.rt.
 use Rattle.std.specs.Prelude.{ℕ, ◌^◌, ◌<◌, ◌≤◌, Bool, true, false, List}
 use Rattle.rtl_bits.specs.declared.Bit.{Bit}
 use Rattle.rtl_bits.specs.declared.Bit.TheVariants.{Zero, One, X, Z}

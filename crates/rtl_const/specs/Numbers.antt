@@ -1,4 +1,5 @@
 -- The numbers that names stand for, as a function of the name.
+-- Worked examples: crates/elab_items/proofs/Examples.antt.
 use Rattle.std.specs.Prelude.{ℕ, ℤ, List}
 use Rattle.name_map.specs.Values.{Values, no_values, values_of, with_value}
 use Rattle.rtl_const.specs.declared.params.Params.{Params}

@@ -1,4 +1,5 @@
 -- The plain form of sized expressions: lists for vectors, a tree for boxes.
+-- Worked examples: crates/event_laws/proofs/Example.antt.
 use Rattle.std.specs.Prelude.{ℕ, ℤ, Bool, List, [], ◌∷◌}
 use Rattle.rtl_bits.specs.declared.Bit.{Bit}
 use Rattle.rtl_tree.specs.declared.text.Spot.{Spot}

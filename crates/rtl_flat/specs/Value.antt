@@ -1,4 +1,5 @@
 -- The four-valued value of an expression (IEEE 1364-2001 section 4.1).
+-- Worked examples: proofs/Examples.antt.
 use Rattle.std.specs.Prelude.{ℕ, ℤ, pos, negsuc, ◌-ℤ◌, int_div, int_rem, Bool, cond, List, [], ◌∷◌, ◌++◌, length, map, slice_index_or}
 use Rattle.rtl_bits.specs.declared.Bit.{Bit}
 use Rattle.rtl_bits.specs.declared.Bit.TheVariants.{Zero, One, X, Z}

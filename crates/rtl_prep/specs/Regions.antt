@@ -1,4 +1,5 @@
 -- Regions that synthesis is told not to see.
+-- Worked examples: crates/tests_text/src/tokens.rt.
 use Rattle.std.specs.Prelude.{ℕ, Option, Some, None, List, [], ◌∷◌, ◌++◌, Result, Ok, Err}
 use Rattle.rtl_tree.specs.declared.token.Tok.{Tok}
 use Rattle.rtl_tree.specs.declared.token.Tok.TheVariants.{Pragma}

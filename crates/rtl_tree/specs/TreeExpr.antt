@@ -1,4 +1,5 @@
 -- The plain form of expressions: lists for vectors and texts, trees for boxes.
+-- Worked examples: crates/elab_items/proofs/Examples.antt.
 use Rattle.std.specs.Prelude.{ℕ, List, [], ◌∷◌}
 use Rattle.rtl_tree.specs.declared.literal.Literal.{Literal}
 use Rattle.rtl_tree.specs.declared.tree.names.Name.{Name}

@@ -1,4 +1,5 @@
 -- The plain form of the items of a module.
+-- Worked examples: crates/elab_items/proofs/Examples.antt, crates/elab_parts/proofs/Examples.antt.
 use Rattle.std.specs.Prelude.{ℕ, Bool, List, map, Option}
 use Rattle.std.specs.Option.{option_map}
 use Rattle.rtl_tree.specs.TreeExpr.{Identifier, Formula, Bounds, identifier, formula, bounds}

@@ -1,4 +1,5 @@
 -- The plain form of modules.
+-- Worked examples: crates/elab_items/proofs/Examples.antt.
 use Rattle.std.specs.Prelude.{ℕ, List, map, Option}
 use Rattle.std.specs.Option.{option_map}
 use Rattle.rtl_tree.specs.TreeExpr.{Identifier, Formula, Bounds, identifier, formula, bounds}

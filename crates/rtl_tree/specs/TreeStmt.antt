@@ -1,4 +1,5 @@
 -- The plain form of statements, their targets and their delays.
+-- Worked examples: crates/elab_body/proofs/Examples.antt.
 use Rattle.std.specs.Prelude.{ℕ, Bool, List, [], ◌∷◌, map, Option}
 use Rattle.std.specs.Option.{option_map}
 use Rattle.rtl_tree.specs.TreeExpr.{Identifier, Formula, identifier, formula}

@@ -21,7 +21,10 @@ use Rattle.event_model.specs.Queue as queue
 use Rattle.event_model.specs.Queue.{Flat, State, Input, Evaluate, Update, doing_at, is_assignment, power_up, CanRun, IsAtRest}
 use Rattle.sign_off.specs.Circuit.{Home, Tree, Read, Binary, And, Assign, is_input, is_net}
 use Rattle.sign_off.specs.Built.{not_built}
+use Rattle.sign_off.specs.declared.finding.Finding.{Finding}
+use Rattle.sign_off.specs.declared.finding.Rule.TheVariants.{SeveralDrivers}
 use Rattle.sign_off.specs.Findings.{findings}
+use Rattle.sign_off.specs.Ranks.{ranked}
 use Rattle.sign_off.specs.Meaning.{Numbers, drives, num_of, IsSolution, Setting, Step}
 use Rattle.sign_off.specs.Agree.{bits, circuit_of, IsLawful, IsSettled, Round, offered, after_round, Agree}
 use Rattle.sign_off.specs.BringUp.{BringsUp, sets}
@@ -208,6 +211,17 @@ early_number =
 -- `assign y = a; assign y = b;`: the net is x where the drivers differ, and no number is both
 abbrev two_drivers : Flat
 two_drivers = record { signals = ports; tasks = drive 2 (input_bit 0) 41 ∷ drive 2 (input_bit 1) 57 ∷ [] }
+
+-- it is found at the second of them
+abbrev second_driver : ℕ → Finding
+second_driver at = record { rule = SeveralDrivers; signal = record { 0 = 2 }; instance = 0; spot = spot_at at }
+
+two_found : findings (circuit_of two_drivers) ≡ second_driver 57 ∷ []
+two_found = refl
+
+-- findings stand by their places, however they come
+by_place : ranked (second_driver 57 ∷ second_driver 41 ∷ []) ≡ second_driver 41 ∷ second_driver 57 ∷ []
+by_place = refl
 
 two_processes : (p target : ℕ) (at : Home) (value : Tree) → slice_get (circuit_of two_drivers).processes p ≡ Some (Assign target value at) → (target ≡ 2) × ((value ≡ Read 0) ⊎ (value ≡ Read 1))
 two_processes zero target at value is = (cc, inl (cc))

@@ -1,4 +1,5 @@
 -- Agreement: after each step, every run of the event queue that comes to rest shows the synthesised numbers.
+-- Worked examples: proofs/Example.antt.
 use Rattle.std.specs.Prelude.{◌≡◌, ℕ, List, [], ◌∷◌, map, Some, IsSome, Bool, IsTrue, ⊤, slice_get}
 use Rattle.std.specs.List.{All}
 use Rattle.rtl_bits.specs.declared.Bit.{Bit}

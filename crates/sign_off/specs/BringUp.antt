@@ -1,4 +1,5 @@
 -- Bring-up: from power-up to the settled states from which agreement begins.
+-- Worked examples: proofs/Example.antt.
 use Rattle.std.specs.Prelude.{◌≢◌, ℕ, List, [], ◌∷◌, ◌==◌, Bool, IsTrue, ⊤}
 use Rattle.std.specs.List.{list_any}
 use Rattle.event_model.specs.Queue.{Flat, State, is_input, power_up}

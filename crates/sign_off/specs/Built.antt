@@ -1,4 +1,5 @@
 -- Which designs are judged today.
+-- Worked examples: proofs/Example.antt, crates/tests_lines/src/rulings.rt.
 use Rattle.std.specs.Prelude.{List, [], ◌∷◌, Option, None, Some, Bool, true, false, not, ◌&&◌, ◌==◌}
 use Rattle.std.specs.List.{find}
 use Rattle.std.specs.Option.{option_map, option_or}

@@ -1,4 +1,5 @@
 -- A flat design as the rules see it today: numbered signals of one bit, and the assignments that drive them.
+-- Worked examples: proofs/Example.antt.
 use Rattle.std.specs.Prelude.{ℕ, List, [], ◌∷◌, map, Option, None, Some, Bool, false, not, ◌&&◌, slice_get}
 use Rattle.std.specs.List.{list_all}
 use Rattle.rtl_tree.specs.declared.text.Spot.{Spot}

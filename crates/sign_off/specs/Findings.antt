@@ -1,4 +1,5 @@
 -- The findings of a design, rule by rule.
+-- Worked examples: proofs/Example.antt, crates/tests_lines/src/rulings.rt.
 use Rattle.std.specs.Prelude.{ℕ, ◌==◌, ◌++◌, List, take, Option, None, Some, Bool, not, ◌&&◌, if◌then◌else◌}
 use Rattle.std.specs.List.{list_any, enumerate_from, filter_map}
 use Rattle.sign_off.specs.declared.finding.Finding.{Finding}

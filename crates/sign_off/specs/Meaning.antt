@@ -1,4 +1,5 @@
 -- The synthesised meaning of a design (IEEE 1364.1-2002): equations between numbers, with no order of evaluation.
+-- Worked examples: proofs/Example.antt.
 use Rattle.std.specs.Prelude.{◌≡◌, ℕ, ◌==◌, List, [], ◌∷◌, Some, IsSome, Bool, false, not, ◌&&◌, ◌||◌, if◌then◌else◌, IsTrue, slice_get}
 use Rattle.std.specs.List.{list_any}
 use Rattle.event_model.specs.Writes.{put}

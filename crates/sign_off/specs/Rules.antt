@@ -1,4 +1,5 @@
 -- The rules' codes and names.
+-- Worked examples: crates/tests_lines/src/report_texts.rt.
 use Rattle.std.specs.Prelude.{ℕ, List, codes}
 use Rattle.sign_off.specs.declared.finding.Rule.{Rule}
 use Rattle.sign_off.specs.declared.finding.Rule.TheVariants.{SeveralDrivers, Undriven}

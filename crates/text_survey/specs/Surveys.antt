@@ -1,4 +1,5 @@
 -- What a survey says of tokens.
+-- Worked examples: crates/tests_text/src/modules.rt, crates/tests_text/src/limits.rt.
 use Rattle.std.specs.Prelude.{◌≡◌, ◌≤◌, ◌<◌, ◌+◌, ℕ, Some, reverse, map, List, [], ◌∷◌, take, drop, length}
 use Rattle.std.specs.List.{slice_get}
 use Rattle.rtl_tree.specs.declared.dropped.Dropped.{Dropped}

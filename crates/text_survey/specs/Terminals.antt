@@ -1,4 +1,5 @@
 -- Terminal symbols, in the steps in which they are found.
+-- Worked examples: crates/tests_text/src/modules.rt.
 use Rattle.std.specs.Prelude.{ℕ, if◌then◌else◌, Bool, true, false, ◌||◌, List, [], ◌∷◌}
 use Rattle.rtl_tree.specs.declared.token.Token.{Token}
 use Rattle.rtl_tree.specs.declared.symbol.Symbol.{Symbol}
