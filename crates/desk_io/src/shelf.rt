@@ -62,7 +62,8 @@ pub trait Shelf {
         // An error for which no file speaks is counted.
         ensures later { faults self.old ≤ faults self.new }
         ensures failed { IsErrOf result ShelfFault.Failed → Rose (faults self.old) (faults self.new) }
-        ensures missing { IfNone (files self.old) (IsErrOf result ShelfFault.NoSuchFile → Rose (faults self.old) (faults self.new)) }
+        ensures missing { IfNone (files self.old) (IsErrOf result ShelfFault.NoSuchFile
+            → Rose (faults self.old) (faults self.new)) }
 
         // Nothing else is.
         ensures calm { IsCalm (files self.old) result (faults self.old) (faults self.new) };

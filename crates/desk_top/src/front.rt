@@ -64,7 +64,9 @@ fn build_modules(
     sources: &Sources<'_>,
     modules: &[Vec<Module>],
 ) -> Result<Built, Stop>
-    ensures built { IfOk result (λ made. built made ≡ elaborated_or_not (sources_of sources.now) (elaborated (library_of (circuits_of modules.now)) top.now)) }
+    ensures built { IfOk result (λ made. built made
+        ≡ elaborated_or_not (sources_of sources.now)
+        (elaborated (library_of (circuits_of modules.now)) top.now)) }
     ensures stop { IfErr result (λ stop. stop ≡ Stop.Memory) }
 {
     let name = name_of(alloc, top)?;
@@ -104,8 +106,11 @@ fn count_modules<L: Ledger>(
 
 /// The flat design of the module with a name, or why there is none.
 pub fn design_of(alloc: Global, modules: &[Vec<Module>], top: &Text) -> Result<Design, ElabFault>
-    ensures design { IfOk result (λ design. elaborated (library_of (circuits_of modules.now)) top.now ≡ Ok (flat_in design)) }
-    ensures told { IfErr result (λ error. IsTold (answer error) (refused (elaborated (library_of (circuits_of modules.now)) top.now))) }
+    ensures design { IfOk result (λ design.
+        elaborated (library_of (circuits_of modules.now)) top.now ≡ Ok (flat_in design)) }
+    ensures told { IfErr result (λ error.
+        IsTold (answer error)
+        (refused (elaborated (library_of (circuits_of modules.now)) top.now))) }
 {
     count_design::<Brand>(alloc, modules, top, Blank::new(1))
 }
@@ -119,8 +124,11 @@ fn count_design<L: Ledger>(
     requires name { blank.name ≡ L.name }
     requires parts { blank.parts ≡ L.parts }
     requires some { 0 < L.parts }
-    ensures design { IfOk result (λ design. elaborated (library_of (circuits_of modules.now)) top.now ≡ Ok (flat_in design)) }
-    ensures told { IfErr result (λ error. IsTold (answer error) (refused (elaborated (library_of (circuits_of modules.now)) top.now))) }
+    ensures design { IfOk result (λ design.
+        elaborated (library_of (circuits_of modules.now)) top.now ≡ Ok (flat_in design)) }
+    ensures told { IfErr result (λ error.
+        IsTold (answer error)
+        (refused (elaborated (library_of (circuits_of modules.now)) top.now))) }
 {
     let mut steps = Steps::<L>::new(blank);
     let set = ModuleSet::new(alloc, modules)?;

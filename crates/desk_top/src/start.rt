@@ -25,14 +25,22 @@ pub fn start<F: Shelf, S: Sink>(
     out: &mut S,
 ) -> u8
     // The words of the command are those of the command line, all but the first, in their order.
-    ensures words { IfOk line (λ all. result ≢ NO_MEMORY → OverWorld (F.files shelf.old) (IsAnswered (texts (drop 1 (into_iter_items all))) result (S.taken out.old) (S.taken out.new))) }
+    ensures words { IfOk line (λ all. result ≢ NO_MEMORY → OverWorld (F.files shelf.old)
+        (IsAnswered (texts (drop 1 (into_iter_items all))) result
+        (S.taken out.old) (S.taken out.new))) }
 
     // The headline, of these words.
-    ensures headline { IfOk line (λ all. is_sign (order (texts (drop 1 (into_iter_items all)))) ≡ true → result ≡ DONE → OverWorld (F.files shelf.old) (IsSignedClean (texts (drop 1 (into_iter_items all))) (S.taken out.old) (S.taken out.new))) }
+    ensures headline { IfOk line (λ all.
+        is_sign (order (texts (drop 1 (into_iter_items all)))) ≡ true → result ≡ DONE
+        → OverWorld (F.files shelf.old) (IsSignedClean (texts (drop 1 (into_iter_items all)))
+        (S.taken out.old) (S.taken out.new))) }
 
     // Want of memory isn't taken for words that are none.
-    ensures no_memory { IfErr line (λ error. error_kind error ≡ ErrorKind.OutOfMemory → result ≡ NO_MEMORY) }
-    ensures no_text { IfErr line (λ error. error_kind error ≢ ErrorKind.OutOfMemory → Delivers (record { status = NO_COMMAND; bytes = usage }) result (S.taken out.old) (S.taken out.new)) }
+    ensures no_memory { IfErr line (λ error. error_kind error ≡ ErrorKind.OutOfMemory
+        → result ≡ NO_MEMORY) }
+    ensures no_text { IfErr line (λ error. error_kind error ≢ ErrorKind.OutOfMemory
+        → Delivers (record { status = NO_COMMAND; bytes = usage }) result
+        (S.taken out.old) (S.taken out.new)) }
 {
     match line {
         Ok(all) => match words_of(alloc, all) {

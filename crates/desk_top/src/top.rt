@@ -27,10 +27,13 @@ pub const USAGE: &[u8] =
 /// none, and 20 where memory ran out.
 pub fn desk<F: Shelf, S: Sink>(alloc: Global, words: &[String], shelf: &mut F, out: &mut S) -> u8
     // What is answered and written, over the files that are told, or over some files.
-    ensures answer { OverWorld (F.files shelf.old) (IsAnswered (texts words.now) result (S.taken out.old) (S.taken out.new)) }
+    ensures answer { OverWorld (F.files shelf.old)
+        (IsAnswered (texts words.now) result (S.taken out.old) (S.taken out.new)) }
 
     // The headline: what is signed clean shows in every simulation what its hardware shows.
-    ensures headline { is_sign (order (texts words.now)) ≡ true → result ≡ DONE → OverWorld (F.files shelf.old) (IsSignedClean (texts words.now) (S.taken out.old) (S.taken out.new)) }
+    ensures headline { is_sign (order (texts words.now)) ≡ true → result ≡ DONE
+        → OverWorld (F.files shelf.old)
+        (IsSignedClean (texts words.now) (S.taken out.old) (S.taken out.new)) }
 
     // Each failure has its cause.
     ensures unread { result ≡ UNREAD → Rose (F.faults shelf.old) (F.faults shelf.new) }

@@ -111,7 +111,10 @@ fn push_instantiation(
     requires file { site.file ≡ (placement at.now).visit.place.file }
     requires base { site.base ≡ (placement at.now).base }
     requires names { meanings names.now ≡ scope_in (placement at.now).visit }
-    ensures { OnOk result (map task made.new.items ≡ map task made.old.items ++ link_tasks (sockets ports.now) (sides_of (placement at.now) (meanings inner.now) inner_base) (association instance.now.connections)) }
+    ensures { OnOk result (map task made.new.items ≡ map task made.old.items
+        ++ link_tasks (sockets ports.now)
+        (sides_of (placement at.now) (meanings inner.now) inner_base)
+        (association instance.now.connections)) }
 {
     let ends = Ends {
         site,
@@ -138,7 +141,9 @@ fn push_instantiations(
     requires file { site.file ≡ (placement at.now).visit.place.file }
     requires base { site.base ≡ (placement at.now).base }
     requires names { meanings names.now ≡ scope_in (placement at.now).visit }
-    ensures { OnOk result (map task made.new.items ≡ map task made.old.items ++ instantiations_tasks (placement at.now) (sockets ports.now) (meanings inner.now) bases.now (map instantiation instances.now)) }
+    ensures { OnOk result (map task made.new.items ≡ map task made.old.items
+        ++ instantiations_tasks (placement at.now) (sockets ports.now)
+        (meanings inner.now) bases.now (map instantiation instances.now)) }
 {
     let mut bases = bases;
     for instance in instances {
@@ -161,7 +166,8 @@ fn push_group(
     requires file { site.file ≡ (placement at.now).visit.place.file }
     requires base { site.base ≡ (placement at.now).base }
     requires names { meanings names.now ≡ scope_in (placement at.now).visit }
-    ensures { OnOk result (map task made.new.items ≡ map task made.old.items ++ group_tasks (placement at.now) bases.now (option_map group found.entry)) }
+    ensures { OnOk result (map task made.new.items ≡ map task made.old.items
+        ++ group_tasks (placement at.now) bases.now (option_map group found.entry)) }
 {
     let Some(found) = found else {
         return Ok(());
@@ -206,8 +212,12 @@ impl Works {
         requires file { site.file ≡ (placement at.now).visit.place.file }
         requires base { site.base ≡ (placement at.now).base }
         requires names { meanings names.old ≡ scope_in (placement at.now).visit }
-        ensures made { OnOk result (works self.new ≡ with_part (library all.entry) (placement at.now) bases.now (works self.old) (module_item item.now)) }
-        ensures left { IfOk result (λ left. left.now ≡ drop (placed (group_in (library all.entry) (placement at.now) (module_item item.now))) bases.now) }
+        ensures made { OnOk result (works self.new
+            ≡ with_part (library all.entry) (placement at.now) bases.now (works self.old)
+            (module_item item.now)) }
+        ensures left { IfOk result (λ left. left.now ≡ drop
+            (placed (group_in (library all.entry) (placement at.now) (module_item item.now)))
+            bases.now) }
         ensures same { meanings names.new ≡ meanings names.old }
     {
         let first = self.processes.len();
@@ -235,7 +245,9 @@ impl Works {
         requires file { site.file ≡ (placement at.now).visit.place.file }
         requires base { site.base ≡ (placement at.now).base }
         requires names { meanings names.old ≡ scope_in (placement at.now).visit }
-        ensures { OnOk result (works self.new ≡ with_parts (library all.entry) (placement at.now) bases.now (works self.old) (map module_item items.now)) }
+        ensures { OnOk result (works self.new
+            ≡ with_parts (library all.entry) (placement at.now) bases.now (works self.old)
+            (map module_item items.now)) }
     {
         let mut bases = bases;
         for item in items {
@@ -252,7 +264,9 @@ impl Works {
         at: &Placement<'_>,
         behind: &[Placement<'_>],
     ) -> Result<(), Memory>
-        ensures { OnOk result (works self.new ≡ with_placement (library all.entry) (works self.old) (placement at.now) (map placement behind.now)) }
+        ensures { OnOk result (works self.new
+            ≡ with_placement (library all.entry) (works self.old) (placement at.now)
+            (map placement behind.now)) }
     {
         let site = site_of(alloc, at)?;
         let written = at.visit.written;
@@ -267,7 +281,8 @@ impl Works {
         all: Library<'_>,
         placements: &[Placement<'_>],
     ) -> Result<Works, Memory>
-        ensures { IfOk result (λ made. works made ≡ with_placements (library all.entry) no_works (map placement placements.now)) }
+        ensures { IfOk result (λ made. works made
+            ≡ with_placements (library all.entry) no_works (map placement placements.now)) }
     {
         let mut made = Works {
             processes: Vec::new(alloc),

@@ -219,7 +219,9 @@ fn declared_twice<'a>(name: &'a Name, best: Option<Fault<'a>>) -> Option<Fault<'
 
 /// A port that is declared `reg` at this place is an output.
 fn judge_reg<'a>(name: &'a Name, at: u32, line: Line, best: Option<Fault<'a>>) -> Option<Fault<'a>>
-    ensures { option_map refusal result ≡ after (option_map refusal best.entry) (reg_faults (record { text = name.now.text; at = at }) line.direction line.kind) }
+    ensures { option_map refusal result
+        ≡ after (option_map refusal best.entry)
+        (reg_faults (record { text = name.now.text; at = at }) line.direction line.kind) }
 {
     match (line.direction, line.kind) {
         (Some(Direction::Input), Some(PortKind::Reg)) => {

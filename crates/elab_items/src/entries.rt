@@ -182,7 +182,8 @@ fn push_settings<'a>(
 }
 
 fn push_instances<'a>(instances: &'a [Instance], entries: &mut Vec<Entry<'a>>) -> Result<(), Memory>
-    ensures { OnOk result (map declaration entries.new.items ≡ map declaration entries.old.items ++ map declared_instance (map instantiation instances.now)) }
+    ensures { OnOk result (map declaration entries.new.items ≡ map declaration entries.old.items
+        ++ map declared_instance (map instantiation instances.now)) }
 {
     for instance in instances {
         entries.push(Entry::Instance(&instance.name))?;

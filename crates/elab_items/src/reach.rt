@@ -103,7 +103,9 @@ fn judge_unless<'a>(
     cause: Cause<'a>,
     best: Option<Fault<'a>>,
 ) -> Option<Fault<'a>>
-    ensures { option_map refusal result ≡ after (option_map refusal best.entry) (if holds then [] else fault at (breach cause.entry) ∷ []) }
+    ensures { option_map refusal result
+        ≡ after (option_map refusal best.entry)
+        (if holds then [] else fault at (breach cause.entry) ∷ []) }
 {
     if holds {
         best

@@ -192,7 +192,10 @@ fn judge_instantiation<'a>(
     names: &Names,
     best: Option<Fault<'a>>,
 ) -> Result<Option<Fault<'a>>, Memory>
-    ensures { IfOk result (λ told. option_map refusal told ≡ after (option_map refusal best.entry) (instantiation_faults child.now (sockets ports.now) (meanings names.now) (association connections.now))) }
+    ensures { IfOk result (λ told. option_map refusal told
+        ≡ after (option_map refusal best.entry)
+        (instantiation_faults child.now (sockets ports.now) (meanings names.now)
+        (association connections.now))) }
 {
     match connections {
         Arguments::Ordered(arguments) => {
@@ -212,7 +215,10 @@ pub fn judge_instantiations<'a>(
     names: &Names,
     best: Option<Fault<'a>>,
 ) -> Result<Option<Fault<'a>>, Memory>
-    ensures { IfOk result (λ told. option_map refusal told ≡ after (option_map refusal best.entry) (instantiations_faults child.now (sockets ports.now) (meanings names.now) (map instantiation instances.now))) }
+    ensures { IfOk result (λ told. option_map refusal told
+        ≡ after (option_map refusal best.entry)
+        (instantiations_faults child.now (sockets ports.now) (meanings names.now)
+        (map instantiation instances.now))) }
 {
     let mut best = best;
     for instance in instances {

@@ -37,7 +37,9 @@ fn found_group<'a>(
     instances: &'a [Instance],
     names: &Names,
 ) -> Result<Option<Group<'a>>, Memory>
-    ensures { IfOk result (λ made. option_map group made ≡ found_group (circuits_of files.now) (meanings names.now) lookup (association parameters.now) (map instantiation instances.now)) }
+    ensures { IfOk result (λ made. option_map group made
+        ≡ found_group (circuits_of files.now) (meanings names.now) lookup
+        (association parameters.now) (map instantiation instances.now)) }
 {
     let Lookup::Found(place) = lookup else {
         return Ok(None);
@@ -63,7 +65,9 @@ pub fn group_of<'a>(
     item: &'a Item,
     names: &Names,
 ) -> Result<Option<Group<'a>>, Memory>
-    ensures { IfOk result (λ made. option_map group made ≡ group_of (lookups_of set.now) (circuits_of files.now) (meanings names.now) (module_item item.now)) }
+    ensures { IfOk result (λ made. option_map group made
+        ≡ group_of (lookups_of set.now) (circuits_of files.now) (meanings names.now)
+        (module_item item.now)) }
 {
     match item {
         Item::Instances {

@@ -94,7 +94,12 @@ fn judge_child<'a>(
     names: &Names,
     best: Option<Fault<'a>>,
 ) -> Result<Option<Fault<'a>>, Memory>
-    ensures { IfOk result (λ told. option_map refusal told ≡ after (option_map refusal best.entry) (child_faults (map (λ text. text.now) way.now) (meanings names.now) (identifier placing.entry.child.now) (circuit written.now) (association placing.entry.parameters.now) (map instantiation placing.entry.instances.now))) }
+    ensures { IfOk result (λ told. option_map refusal told
+        ≡ after (option_map refusal best.entry)
+        (child_faults (map (λ text. text.now) way.now) (meanings names.now)
+        (identifier placing.entry.child.now) (circuit written.now)
+        (association placing.entry.parameters.now)
+        (map instantiation placing.entry.instances.now))) }
 {
     let Placing {
         child,
@@ -120,7 +125,12 @@ fn judge_found<'a>(
     names: &Names,
     best: Option<Fault<'a>>,
 ) -> Result<Option<Fault<'a>>, Memory>
-    ensures { IfOk result (λ told. option_map refusal told ≡ after (option_map refusal best.entry) (found_faults (circuits_of files.now) (map (λ text. text.now) way.now) (meanings names.now) (identifier placing.entry.child.now) lookup (association placing.entry.parameters.now) (map instantiation placing.entry.instances.now))) }
+    ensures { IfOk result (λ told. option_map refusal told
+        ≡ after (option_map refusal best.entry)
+        (found_faults (circuits_of files.now) (map (λ text. text.now) way.now)
+        (meanings names.now) (identifier placing.entry.child.now) lookup
+        (association placing.entry.parameters.now)
+        (map instantiation placing.entry.instances.now))) }
 {
     let child = placing.child;
     let cause = match lookup {
@@ -153,7 +163,10 @@ pub fn judge_instances<'a>(
     names: &Names,
     best: Option<Fault<'a>>,
 ) -> Result<Option<Fault<'a>>, Memory>
-    ensures { IfOk result (λ told. option_map refusal told ≡ after (option_map refusal best.entry) (link_faults (lookups_of set.now) (circuits_of files.now) (map (λ text. text.now) way.now) (meanings names.now) (module_item item.now))) }
+    ensures { IfOk result (λ told. option_map refusal told
+        ≡ after (option_map refusal best.entry)
+        (link_faults (lookups_of set.now) (circuits_of files.now)
+        (map (λ text. text.now) way.now) (meanings names.now) (module_item item.now))) }
 {
     match item {
         Item::Instances {

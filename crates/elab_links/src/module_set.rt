@@ -72,7 +72,8 @@ impl ModuleSet {
 
     /// The modules of one file more.
     fn add_file(&mut self, file: usize, modules: &[Module]) -> Result<(), Memory>
-        ensures { OnOk result (lookups_of self.new ≡ with_all (lookups_of self.old) (placed_in file 0 (map circuit modules.now))) }
+        ensures { OnOk result (lookups_of self.new
+            ≡ with_all (lookups_of self.old) (placed_in file 0 (map circuit modules.now))) }
     {
         for (index, written) in modules.iter().enumerate() {
             self.add(Place { file, index }, &written.name.text)?;
@@ -82,7 +83,8 @@ impl ModuleSet {
 
     /// One module more.
     fn add(&mut self, place: Place, name: &Text) -> Result<(), Memory>
-        ensures { OnOk result (lookups_of self.new ≡ with_one (lookups_of self.old) (record { place = place; name = name.now })) }
+        ensures { OnOk result (lookups_of self.new
+            ≡ with_one (lookups_of self.old) (record { place = place; name = name.now })) }
     {
         let lookup = with_another(place, self.find(name));
         self.known.put(name, lookup)?;

@@ -76,7 +76,8 @@ fn push_parts(
     site: Site,
     made: &mut Vec<TargetPart>,
 ) -> Result<(), Memory>
-    ensures { OnOk result (map piece made.new.items ≡ map piece made.old.items ++ pieces_of site.file site.base (meanings names.now) (target written.now)) }
+    ensures { OnOk result (map piece made.new.items ≡ map piece made.old.items
+        ++ pieces_of site.file site.base (meanings names.now) (target written.now)) }
 {
     match written {
         Lvalue::Whole(name) => {
@@ -107,7 +108,9 @@ fn push_all(
     site: Site,
     made: &mut Vec<TargetPart>,
 ) -> Result<(), Memory>
-    ensures { OnOk result (map piece made.new.items ≡ map piece made.old.items ++ all_pieces_of site.file site.base (meanings names.now) (target_row (map target parts.now))) }
+    ensures { OnOk result (map piece made.new.items ≡ map piece made.old.items
+        ++ all_pieces_of site.file site.base (meanings names.now)
+        (target_row (map target parts.now))) }
 {
     for part in parts {
         push_parts(part, names, site, made)?;

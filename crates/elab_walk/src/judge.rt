@@ -41,7 +41,10 @@ fn judge_links<'a>(
     names: &Names,
     so_far: Progress<'a>,
 ) -> Result<Progress<'a>, Memory>
-    ensures { IfOk result (λ judged. course judged ≡ passed (course so_far.entry) (faulty (link_faults (library all.entry).lookups (library all.entry).files (map (λ text. text.now) way.now) (meanings names.now) (module_item item.now)))) }
+    ensures { IfOk result (λ judged. course judged
+        ≡ passed (course so_far.entry)
+        (faulty (link_faults (library all.entry).lookups (library all.entry).files
+        (map (λ text. text.now) way.now) (meanings names.now) (module_item item.now)))) }
 {
     match so_far.left {
         None => Ok(so_far),

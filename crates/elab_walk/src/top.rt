@@ -68,7 +68,9 @@ pub fn all_placements<'a>(
     met: Visit<'a>,
 ) -> Result<Vec<Placement<'a>>, ElabFault>
     ensures nothing { IfOk result (λ made. refusal (library all.entry) whole_room (all_visits (library all.entry) (visit met.entry)) ≡ None) }
-    ensures placements { IfOk result (λ made. map placement made.items ≡ placements 0 0 (all_visits (library all.entry) (visit met.entry))) }
+    ensures placements { IfOk result
+        (λ made. map placement made.items
+        ≡ placements 0 0 (all_visits (library all.entry) (visit met.entry))) }
     ensures told { IfErr result (λ error. IsTold (answer error) (refusal (library all.entry) whole_room (all_visits (library all.entry) (visit met.entry)))) }
 {
     let before = Trail {

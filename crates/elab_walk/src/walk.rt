@@ -188,7 +188,11 @@ fn visit_instantiations<'a>(
     instances: &'a [Instance],
     so_far: Trail<'a>,
 ) -> Result<Trail<'a>, ElabFault>
-    ensures { Went result (gone (library all.entry) (Going (trail so_far.entry)) (flat_map (visits (library all.entry) levels) (placed_children (holder within.now) at (group_of (library all.entry).lookups (library all.entry).files (holder within.now).scope (module_item item.now)) (map instantiation instances.now)))) }
+    ensures { Went result (gone (library all.entry) (Going (trail so_far.entry))
+        (flat_map (visits (library all.entry) levels)
+        (placed_children (holder within.now) at
+        (group_of (library all.entry).lookups (library all.entry).files
+        (holder within.now).scope (module_item item.now)) (map instantiation instances.now)))) }
 {
     let mut so_far = so_far;
     for instance in instances {
@@ -212,7 +216,11 @@ fn visit_instantiation<'a>(
     instance: &'a Instance,
     so_far: Trail<'a>,
 ) -> Result<Trail<'a>, ElabFault>
-    ensures { Went result (gone (library all.entry) (Going (trail so_far.entry)) (flat_map (visits (library all.entry) levels) (child_of (holder within.now) at instance.now.name.text (group_of (library all.entry).lookups (library all.entry).files (holder within.now).scope (module_item item.now))))) }
+    ensures { Went result (gone (library all.entry) (Going (trail so_far.entry))
+        (flat_map (visits (library all.entry) levels)
+        (child_of (holder within.now) at instance.now.name.text
+        (group_of (library all.entry).lookups (library all.entry).files
+        (holder within.now).scope (module_item item.now))))) }
 {
     match group_of(alloc, all.files, all.set, item, &within.names)? {
         None => Ok(so_far),

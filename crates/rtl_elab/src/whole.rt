@@ -70,8 +70,10 @@ pub fn elaborate<L: Ledger>(
 ) -> Result<Design, ElabFault>
     requires { lookups_of set.now ≡ found (all_placed (circuits_of files.now)) }
     ensures counted { steps.new ≡ steps.old + 1 }
-    ensures design { IfOk result (λ design. elaborated (library_of (circuits_of files.now)) top.now ≡ Ok (flat_in design)) }
-    ensures told { IfErr result (λ error. IsTold (answer error) (refused (elaborated (library_of (circuits_of files.now)) top.now))) }
+    ensures design { IfOk result (λ design. elaborated (library_of (circuits_of files.now)) top.now
+        ≡ Ok (flat_in design)) }
+    ensures told { IfErr result (λ error.
+        IsTold (answer error) (refused (elaborated (library_of (circuits_of files.now)) top.now))) }
 {
     steps.tick();
     design_in(alloc, Library { files, set }, top)

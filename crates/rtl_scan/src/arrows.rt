@@ -17,7 +17,8 @@ pub(crate) struct Writer {
 
 /// Gives a table a row at a place.
 fn grow(alloc: Global, table: &mut Vec<Vec<Writer>>, place: usize) -> Result<(), Memory>
-    ensures { OnOk result ((length table.new.items ≡ max (length table.old.items) (place + 1)) × ((s : ℕ) → bucket table.new.items s ≡ bucket table.old.items s)) }
+    ensures { OnOk result ((length table.new.items ≡ max (length table.old.items) (place + 1))
+        × ((s : ℕ) → bucket table.new.items s ≡ bucket table.old.items s)) }
 {
     while table.len() <= place {
         table.push(Vec::new(alloc))?;
@@ -145,7 +146,8 @@ impl Feeders {
         rows: &[Row],
         itself: bool,
     ) -> Result<(), Memory>
-        ensures { OnOk result (Gathers (FedBy table.now (has_rows rows.now) itself self.old.process) self.old self.new) }
+        ensures { OnOk result (Gathers
+            (FedBy table.now (has_rows rows.now) itself self.old.process) self.old self.new) }
     {
         for row in rows {
             self.add_row(table, row, itself)?;

@@ -194,7 +194,8 @@ impl<'d> Widths<'d> {
         selector: &SizedExpr,
         labels: &[Vec4],
     ) -> Result<bool, Memory>
-        ensures { IfOk result (λ complete. complete ≡ covers (width_in self.now.signals.now) kind (tree selector.now) labels.now) }
+        ensures { IfOk result (λ complete. complete
+            ≡ covers (width_in self.now.signals.now) kind (tree selector.now) labels.now) }
     {
         let own = self.own_width(&selector.node);
         do_cover(alloc, kind, own, selector.width, selector.signed, labels)

@@ -39,7 +39,9 @@ fn note_writes(
     number: u32,
     table: &mut Vec<Vec<Writer>>,
 ) -> Result<(), Memory>
-    ensures { OnOk result (spec.Grows (spec.IsNoted (width_in widths.entry.signals.now) (task process.now) number) table.old.items table.new.items) }
+    ensures { OnOk result (spec.Grows
+        (spec.IsNoted (width_in widths.entry.signals.now) (task process.now) number)
+        table.old.items table.new.items) }
 {
     if !is_node(&process.does) {
         return Ok(());
@@ -70,7 +72,9 @@ fn note_feeds(
     table: &[Vec<Writer>],
     found: &mut Feeders,
 ) -> Result<(), Memory>
-    ensures { OnOk result (spec.Gathers (λ p. spec.IsFed (width_in widths.entry.signals.now) table.now p found.old.process (task process.now)) found.old found.new) }
+    ensures { OnOk result (spec.Gathers
+        (λ p. spec.IsFed (width_in widths.entry.signals.now) table.now p found.old.process
+        (task process.now)) found.old found.new) }
 {
     if !is_node(&process.does) {
         return Ok(());
@@ -92,7 +96,9 @@ fn feeders(
     table: &[Vec<Writer>],
     seen: Vec<u64>,
 ) -> Result<Feeders, Memory>
-    ensures { IfOk result (λ found. spec.AreFeeders (width_in widths.entry.signals.now) table.now (task process.now) number seen.items found) }
+    ensures { IfOk result (λ found.
+        spec.AreFeeders (width_in widths.entry.signals.now) table.now
+        (task process.now) number seen.items found) }
 {
     let mut found = Feeders {
         process: number,

@@ -43,7 +43,10 @@ pub(crate) struct Labels {
 
 impl Labels {
     fn add_number(&mut self, number: u128) -> Result<(), Memory>
-        ensures { OnOk result (((n : ℕ) → contains nat_cmp self.new.numbers n ≡ cond (n == number) true (contains nat_cmp self.old.numbers n)) × (self.new.others.items ≡ self.old.others.items)) }
+        ensures { OnOk result (((n : ℕ)
+            → contains nat_cmp self.new.numbers n
+            ≡ cond (n == number) true (contains nat_cmp self.old.numbers n))
+            × (self.new.others.items ≡ self.old.others.items)) }
     {
         self.numbers.insert(number)?;
         Ok(())
@@ -85,7 +88,8 @@ impl Labels {
         requires some { 1 ≤ own }
         requires fits { own ≤ width }
         requires few { width ≤ 16 }
-        ensures { result ≡ each_below (2 ^ own) (λ n. matches_some kind (extended width signed (bits_of own n)) self.now) }
+        ensures { result ≡ each_below (2 ^ own)
+            (λ n. matches_some kind (extended width signed (bits_of own n)) self.now) }
     {
         for n in 0..1u128 << own {
             let value = Vec4::of_number(own, n).extend(width, signed);

@@ -19,7 +19,9 @@ pub trait Opener {
     /// Opens the file that has the name. No length is too long for that.
     fn open(&self, name: &str) -> Result<Self::File, ShelfFault>
         // The reader has the bytes of the named file, all of them.
-        ensures opened { IfSome (files self.now) (λ held. IfOk result (λ file. (Self.File.remaining file ≡ held name.now) × IsSome (held name.now))) }
+        ensures opened { IfSome (files self.now)
+            (λ held. IfOk result (λ file. (Self.File.remaining file ≡ held name.now)
+            × IsSome (held name.now))) }
         ensures missing { IfSome (files self.now) (λ held. result ≡ Err ShelfFault.NoSuchFile → held name.now ≡ None) }
         ensures unread { result ≢ Err ShelfFault.TooLong };
 }
