@@ -1,4 +1,5 @@
 pub mod Ahead
+pub mod Filtered
 pub mod Steps
 pub mod ExprSteps
 pub mod StmtSteps

@@ -5,3 +5,4 @@ pub mod ReadingItem
 pub mod ReadingModule
 pub mod References
 pub mod Built
+pub mod Told

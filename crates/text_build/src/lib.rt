@@ -11,6 +11,8 @@ mod modules;
 mod operators;
 mod processes;
 mod reference;
+mod regions;
+mod run;
 mod statements;
 mod targets;
 mod whole;

@@ -1,50 +1,23 @@
 // Builds modules.
 
-ghost use Rattle.std.specs.Prelude.{◌≡◌, [], map};
-ghost use Rattle.std.specs.List.{filter};
+ghost use Rattle.std.specs.Prelude.{◌≡◌, map};
 ghost use Rattle.std.specs.Option.{option_map};
 ghost use Rattle.rtl_tree.specs.Symbols.{terminal};
 ghost use Rattle.rtl_tree.specs.TreeItem.{head, module_item};
 ghost use Rattle.rtl_tree.specs.TreeModule.{heading, header_parameter, header_port, header, circuit};
-ghost use Rattle.rtl_tree.specs.GrammarModule.{is_between};
 ghost use Rattle.text_build.specs.Reading as generic;
 ghost use Rattle.text_build.specs.Reading.{Reads};
 ghost use Rattle.text_build.specs.ReadingModule as reading;
+ghost use Rattle.text_build.specs.Told.{told};
 ghost use Rattle.rtl_tree.specs.declared.symbol.Symbol.TheVariants as symbol;
 ghost use Rattle.rtl_tree.specs.declared.tree.nesting.TheConstants.{MAX_NESTING};
 
 use crate::cursor::Cursor;
 use crate::fault::BuildFault;
-use rtl_tree::dropped::Dropped;
+use crate::regions::Regions;
 use rtl_tree::symbol::Symbol;
 use rtl_tree::tree::item::{Item, PortHead};
 use rtl_tree::tree::modules::{HeadParameter, HeadPort, Module, ParameterHead, PortList};
-use std::alloc::Global;
-
-/// Whether a region begins neither before one place nor after another.
-fn is_between(first: u32, last: u32, region: Dropped) -> bool
-    ensures { result ≡ is_between first last region }
-{
-    first <= region.at && region.at <= last
-}
-
-/// The regions that begin neither before one place nor after another.
-fn between(
-    alloc: Global,
-    regions: &[Dropped],
-    first: u32,
-    last: u32,
-) -> Result<Vec<Dropped>, BuildFault>
-    ensures { Reads (λ all. all.items) (generic.pure (filter (is_between first last) regions.now) []) result [] }
-{
-    let mut all = Vec::new(alloc);
-    for region in regions {
-        if is_between(first, last, *region) {
-            all.push(*region)?;
-        }
-    }
-    Ok(all)
-}
 
 impl<'a> Cursor<'a> {
     #[tactic(auto, unfolding(crate::specs::ReadingModule::item))]
@@ -268,8 +241,8 @@ impl<'a> Cursor<'a> {
 
     /// A module after its attributes.
     #[tactic(auto, unfolding(crate::specs::ReadingModule::circuit_after))]
-    fn module_after(&mut self, regions: &[Dropped]) -> Result<Module, BuildFault>
-        ensures { Reads circuit (reading.circuit_after MAX_NESTING regions.now (map terminal self.old.rest.now)) result (map terminal self.new.rest.now) }
+    fn module_after(&mut self, regions: &Regions) -> Result<Module, BuildFault>
+        ensures { Reads circuit (reading.circuit_after MAX_NESTING (told regions.now) (map terminal self.old.rest.now)) result (map terminal self.new.rest.now) }
     {
         let at = self.mark(Symbol::Module)?;
         let name = self.name()?;
@@ -278,7 +251,7 @@ impl<'a> Cursor<'a> {
         self.mark(Symbol::Semicolon)?;
         let items = self.items()?;
         let last = self.mark(Symbol::Endmodule)?;
-        let dropped = between(self.alloc, regions, at, last)?;
+        let dropped = regions.between(self.alloc, at, last)?;
         Ok(Module {
             at,
             name,
@@ -290,8 +263,8 @@ impl<'a> Cursor<'a> {
     }
 
     #[tactic(auto, unfolding(crate::specs::ReadingModule::circuit))]
-    fn module(&mut self, regions: &[Dropped]) -> Result<Module, BuildFault>
-        ensures { Reads circuit (reading.circuit MAX_NESTING regions.now (map terminal self.old.rest.now)) result (map terminal self.new.rest.now) }
+    fn module(&mut self, regions: &Regions) -> Result<Module, BuildFault>
+        ensures { Reads circuit (reading.circuit MAX_NESTING (told regions.now) (map terminal self.old.rest.now)) result (map terminal self.new.rest.now) }
     {
         self.attributes()?;
         self.module_after(regions)
@@ -307,8 +280,8 @@ impl<'a> Cursor<'a> {
     }
 
     /// All modules, to the end of the tokens.
-    pub fn modules(&mut self, regions: &[Dropped]) -> Result<Vec<Module>, BuildFault>
-        ensures { Reads (λ all. map circuit all.items) (reading.circuits MAX_NESTING regions.now (map terminal self.old.rest.now)) result (map terminal self.new.rest.now) }
+    pub fn modules(&mut self, regions: &Regions) -> Result<Vec<Module>, BuildFault>
+        ensures { Reads (λ all. map circuit all.items) (reading.circuits MAX_NESTING (told regions.now) (map terminal self.old.rest.now)) result (map terminal self.new.rest.now) }
     {
         let mut all = Vec::new(self.alloc);
         // Each turn takes a token, so these are enough.

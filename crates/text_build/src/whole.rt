@@ -10,6 +10,7 @@ ghost use Rattle.text_build.specs.Built.{IsBuilt, SpelledOnce};
 
 use crate::cursor::Cursor;
 use crate::fault::BuildFault;
+use crate::regions::Regions;
 use rtl_tree::dropped::Dropped;
 use rtl_tree::symbol::Terminal;
 use rtl_tree::tree::modules::Module;
@@ -32,7 +33,7 @@ pub fn build(
         rest: tokens,
         alloc,
     };
-    cursor.modules(regions)
+    cursor.modules(&Regions::new(regions))
 }
 
 /// A law: no tokens spell two lists of modules.

@@ -1,7 +1,0 @@
-use Rattle.std.proofs.Common.{◌≡◌, take}
-use Rattle.std.specs.List.{filter}
-use Rattle.rtl_tree.specs.GrammarModule.{is_between}
-use Rattle.text_build.proofs.modules.between.Given as goal
-
-abbrev pub invariant-loop-region : goal.invariant-loop-region
-invariant-loop-region l = l.all.items ≡ filter (is_between l.first l.last) (take l.region-index l.regions)
