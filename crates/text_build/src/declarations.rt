@@ -313,7 +313,7 @@ impl<'a> Cursor<'a> {
         ensures { Reads module_item (reading.drives MAX_NESTING (map terminal self.old.rest.now)) result (map terminal self.new.rest.now) }
     {
         let at = self.advance()?;
-        let delay = self.boxed_optional_delay(MAX_NESTING)?;
+        let delay = self.optional_delay(MAX_NESTING)?;
         let assignments = self.listed_assignments()?;
         self.mark(Symbol::Semicolon)?;
         Ok(Item::Assigns(at, Box::into_inner(delay), assignments))

@@ -51,31 +51,24 @@ impl<'a> Cursor<'a> {
         Ok(ParameterHead { at, range })
     }
 
+    /// In a box: what is held by value while more is read is dear to prove.
     #[tactic(auto, unfolding(crate::specs::Reading::optional, crate::specs::Reading::either))]
-    fn optional_parameter_head(&mut self) -> Result<Option<ParameterHead>, BuildFault>
-        ensures { Reads (λ h. option_map heading h) (generic.optional symbol.Parameter (reading.heading MAX_NESTING) (map terminal self.old.rest.now)) result (map terminal self.new.rest.now) }
+    fn optional_parameter_head(&mut self) -> Result<Box<Option<ParameterHead>>, BuildFault>
+        ensures { Reads (λ h. option_map heading h.value) (generic.optional symbol.Parameter (reading.heading MAX_NESTING) (map terminal self.old.rest.now)) result (map terminal self.new.rest.now) }
     {
         if self.is_next(Symbol::Parameter) {
             let head = self.parameter_head()?;
-            Ok(Some(head))
+            Ok(Box::new(self.alloc, Some(head))?)
         } else {
-            Ok(None)
+            Ok(Box::new(self.alloc, None)?)
         }
-    }
-
-    /// The same in a box: what is held by value while more is read is dear to prove.
-    fn boxed_parameter_head(&mut self) -> Result<Box<Option<ParameterHead>>, BuildFault>
-        ensures { Reads (λ h. option_map heading h.value) (generic.optional symbol.Parameter (reading.heading MAX_NESTING) (map terminal self.old.rest.now)) result (map terminal self.new.rest.now) }
-    {
-        let read = self.optional_parameter_head()?;
-        Ok(Box::new(self.alloc, read)?)
     }
 
     #[tactic(auto, unfolding(crate::specs::ReadingModule::parameter))]
     fn head_parameter(&mut self) -> Result<HeadParameter, BuildFault>
         ensures { Reads header_parameter (reading.parameter MAX_NESTING (map terminal self.old.rest.now)) result (map terminal self.new.rest.now) }
     {
-        let head = self.boxed_parameter_head()?;
+        let head = self.optional_parameter_head()?;
         let name = self.name()?;
         let value = self.value()?;
         Ok(HeadParameter {
@@ -128,29 +121,22 @@ impl<'a> Cursor<'a> {
     }
 
     #[tactic(auto, unfolding(crate::specs::ReadingModule::own_head, crate::specs::Reading::either))]
-    fn own_head(&mut self) -> Result<Option<PortHead>, BuildFault>
-        ensures { Reads (λ h. option_map head h) (reading.own_head MAX_NESTING (map terminal self.old.rest.now)) result (map terminal self.new.rest.now) }
+    fn own_head(&mut self) -> Result<Box<Option<PortHead>>, BuildFault>
+        ensures { Reads (λ h. option_map head h.value) (reading.own_head MAX_NESTING (map terminal self.old.rest.now)) result (map terminal self.new.rest.now) }
     {
         if self.is_head_next() {
             let head = self.port_head()?;
-            Ok(Some(head))
+            Ok(Box::new(self.alloc, Some(head))?)
         } else {
-            Ok(None)
+            Ok(Box::new(self.alloc, None)?)
         }
-    }
-
-    fn boxed_own_head(&mut self) -> Result<Box<Option<PortHead>>, BuildFault>
-        ensures { Reads (λ h. option_map head h.value) (reading.own_head MAX_NESTING (map terminal self.old.rest.now)) result (map terminal self.new.rest.now) }
-    {
-        let read = self.own_head()?;
-        Ok(Box::new(self.alloc, read)?)
     }
 
     #[tactic(auto, unfolding(crate::specs::ReadingModule::port))]
     fn head_port(&mut self) -> Result<HeadPort, BuildFault>
         ensures { Reads header_port (reading.port MAX_NESTING (map terminal self.old.rest.now)) result (map terminal self.new.rest.now) }
     {
-        let head = self.boxed_own_head()?;
+        let head = self.own_head()?;
         let name = self.name()?;
         Ok(HeadPort {
             head: Box::into_inner(head),

@@ -112,7 +112,7 @@ impl<'a> Cursor<'a> {
     {
         let target = self.boxed_target(depth)?;
         let kind = self.assignment_kind()?;
-        let delay = self.boxed_optional_delay(depth)?;
+        let delay = self.optional_delay(depth)?;
         let value = self.boxed_expression(depth)?;
         self.mark(Symbol::Semicolon)?;
         Ok(Stmt::Assign(

@@ -134,23 +134,16 @@ impl<'a> Cursor<'a> {
         Ok(Box::new(self.alloc, read)?)
     }
 
-    /// A delay, where one comes next.
+    /// A delay in a box, where one comes next.
     #[tactic(auto, unfolding(crate::specs::Reading::optional, crate::specs::Reading::either))]
-    pub fn optional_delay(&mut self, depth: u32) -> Result<Option<Delay>, BuildFault>
-        ensures { Reads (λ d. option_map pause d) (generic.optional symbol.Hash (reading.pause (expression depth)) (map terminal self.old.rest.now)) result (map terminal self.new.rest.now) }
+    pub fn optional_delay(&mut self, depth: u32) -> Result<Box<Option<Delay>>, BuildFault>
+        ensures { Reads (λ d. option_map pause d.value) (generic.optional symbol.Hash (reading.pause (expression depth)) (map terminal self.old.rest.now)) result (map terminal self.new.rest.now) }
     {
         if self.is_next(Symbol::Hash) {
             let delay = self.delay(depth)?;
-            Ok(Some(delay))
+            Ok(Box::new(self.alloc, Some(delay))?)
         } else {
-            Ok(None)
+            Ok(Box::new(self.alloc, None)?)
         }
-    }
-
-    pub fn boxed_optional_delay(&mut self, depth: u32) -> Result<Box<Option<Delay>>, BuildFault>
-        ensures { Reads (λ d. option_map pause d.value) (generic.optional symbol.Hash (reading.pause (expression depth)) (map terminal self.old.rest.now)) result (map terminal self.new.rest.now) }
-    {
-        let read = self.optional_delay(depth)?;
-        Ok(Box::new(self.alloc, read)?)
     }
 }
