@@ -1,19 +1,9 @@
-//! Worked rows for the top call, from the words of a command line to what is written.
+//! The top call where rows of text don't reach: the command line, want of memory, a design, and single events.
 #![tactic(auto)]
 
-#[cfg(test)]
-mod commands;
 #[cfg(test)]
 mod elaboration;
 #[cfg(test)]
 mod events;
 #[cfg(test)]
 mod failures;
-#[cfg(test)]
-mod refusals;
-#[cfg(test)]
-mod reports;
-#[cfg(test)]
-mod row;
-#[cfg(test)]
-mod simulations;
