@@ -1,5 +1,5 @@
 -- How a command's work ends, and how its bytes reach a sink.
--- Worked examples: crates/tests_desk/src/failures.rt, tools/test.
+-- Worked examples: crates/tests_rows/stdin, tools/test.
 use Rattle.std.specs.Prelude.{◌≡◌, ◌≢◌, ℕ, ◌==◌, List, [], ◌++◌, Option, Result, Ok, Err, Bool, false, ◌||◌, ⊤, IfSome}
 use Rattle.std.specs.Io.KnownBytes.{Appends}
 use Rattle.desk_io.specs.declared.shelf.ShelfFault.{ShelfFault}
