@@ -1,4 +1,6 @@
 pub mod Block
+pub mod Control
 pub mod Cycle
+pub mod Lawful
 pub mod Numbers
 pub mod Solution
