@@ -1,0 +1,20 @@
+pub mod After
+pub mod Alike
+pub mod Apart
+pub mod Blocks
+pub mod Covered
+pub mod Depends
+pub mod Digits
+pub mod Exact
+mod Example
+pub mod Firm
+pub mod Follows
+pub mod Known
+pub mod Late
+pub mod Laws
+pub mod Literals
+pub mod Numbers
+pub mod Numeric
+pub mod Outside
+pub mod Parts
+pub mod Starts

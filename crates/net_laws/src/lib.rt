@@ -1,0 +1,4 @@
+//! Where simulated values are synthesised numbers: conditions on expressions and bodies, and what follows from them.
+#![tactic(auto)]
+
+pub mod law;
