@@ -41,7 +41,7 @@ signed_division_length f a b =
     either_length _ (all_x (length a)) (bits_of_signed (length a) (f (signed_number a) (signed_number b))) (length a) (length-replicate (length a) X)
     (signed_length (length a) (f (signed_number a) (signed_number b)))
 
-zip_length : (f : Bit → Bit → Bit) (a b : List Bit) → length a ≡ length b → length (zip_with f a b) ≡ length a
+pub zip_length : (f : Bit → Bit → Bit) (a b : List Bit) → length a ≡ length b → length (zip_with f a b) ≡ length a
 zip_length f [] b same = refl
 zip_length f (x ∷ a) [] same = absurd (omega (arith, same))
 zip_length f (x ∷ a) (y ∷ b) same = ap suc (zip_length f a b (omega (arith, same)))

@@ -61,13 +61,13 @@ bit_over i k signal width bits (pos n) e here below one =
     by_place false is = absurd (false≢true is)
 
 -- the place that an index means
-place_of : (low k : ℕ) (index : ℤ) → is_place low index k ≡ true → index -ℤ pos low ≡ pos k
+pub place_of : (low k : ℕ) (index : ℤ) → is_place low index k ≡ true → index -ℤ pos low ≡ pos k
 place_of low k (pos n) is =
     let same : low + k ≡ n = eqb-true (low + k) n is in
     omega (arith, ints, same)
 place_of low k (negsuc n) is = absurd (false≢true is)
 
-part_over :
+pub part_over :
     (ws : ℕ → ℕ) (v : Values) (signal : ℕ) (selection : Selection) (i k : ℕ) (bits : List Bit) → length bits ≡ count_of ws signal selection →
     selects ws signal selection i k ≡ true → IsOver i k (write_at signal (span_of ws v signal selection) bits)
 part_over ws v signal Whole i k bits size is =
@@ -115,7 +115,7 @@ only_one i k w over =
       | inr none ↦ absurd (false≢true none)
     ]
 
-none_over : (i k : ℕ) → IsOver i k [] → ⊥
+pub none_over : (i k : ℕ) → IsOver i k [] → ⊥
 none_over i k over = false≢true over
 
 -- a write that is over a bit is of its signal, which has that bit
@@ -149,7 +149,7 @@ in_span : (ws : ℕ → ℕ) (signal low high i k : ℕ) → i ≡ signal → lo
 in_span ws signal low high i k here from below inside =
     and_from _ _ (eq-eqb i signal here) (and_from _ _ (le-leb low k from) (and_from _ _ (lt-ltb k high below) (lt-ltb k (ws signal) inside)))
 
-part_may :
+pub part_may :
     (ws : ℕ → ℕ) (v : Values) (signal : ℕ) (selection : Selection) (i k : ℕ) (bits : List Bit) → length bits ≤ count_of ws signal selection →
     All (IsWithin ws) (write_at signal (span_of ws v signal selection) bits) → IsOver i k (write_at signal (span_of ws v signal selection) bits) →
     may_select ws signal selection i k ≡ true
@@ -168,12 +168,12 @@ part_may ws v signal (Part low width) i k bits few within over =
     let (here, from, below) = covered i k (record { signal = signal; at = low; bits = bits }) (only_one i k _ over) in
     in_span ws signal low (low + width) i k inside.0 from (omega (arith, below, few)) inside.1
 
-left_within : (ws : ℕ → ℕ) (xs ys : List Write) → All (IsWithin ws) (xs ++ ys) → All (IsWithin ws) xs
+pub left_within : (ws : ℕ → ℕ) (xs ys : List Write) → All (IsWithin ws) (xs ++ ys) → All (IsWithin ws) xs
 left_within ws [] ys h = All-nil (IsWithin ws)
 left_within ws (x ∷ xs) ys h =
     All-cons (IsWithin ws) x xs (All-head (IsWithin ws) x (xs ++ ys) h) (left_within ws xs ys (All-tail (IsWithin ws) x (xs ++ ys) h))
 
-right_within : (ws : ℕ → ℕ) (xs ys : List Write) → All (IsWithin ws) (xs ++ ys) → All (IsWithin ws) ys
+pub right_within : (ws : ℕ → ℕ) (xs ys : List Write) → All (IsWithin ws) (xs ++ ys) → All (IsWithin ws) ys
 right_within ws [] ys h = h
 right_within ws (x ∷ xs) ys h = right_within ws xs ys (All-tail (IsWithin ws) x (xs ++ ys) h)
 

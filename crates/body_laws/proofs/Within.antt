@@ -50,7 +50,7 @@ none_inside : (ws : ℕ → ℕ) → IsInside ws (λ i k. false)
 none_inside ws i k is = absurd (false≢true is)
 
 module _ (ws : ℕ → ℕ) where
-  reads_inside : (e : Tree) → IsInside ws (reads ws e)
+  pub reads_inside : (e : Tree) → IsInside ws (reads ws e)
   reads_inside (Sized width signed spot e) = reads_inside e
   reads_inside (Literal bits) = none_inside ws
   reads_inside (tree.Whole i) = span_inside ws i 0 (ws i)
@@ -99,7 +99,7 @@ module _ (ws : ℕ → ℕ) where
   part_inside signal (BitBy low index) = span_inside ws signal 0 (ws signal)
   part_inside signal (Part low width) = span_inside ws signal low (low + width)
 
-  target_inside : (target : List Piece) → IsInside ws (may_target ws target)
+  pub target_inside : (target : List Piece) → IsInside ws (may_target ws target)
   target_inside [] = none_inside ws
   target_inside (piece ∷ others) =
       either_inside ws (may_select ws piece.signal piece.selection) (may_target ws others) (part_inside piece.signal piece.selection) (target_inside others)
@@ -206,21 +206,22 @@ of_signal ws signal (BitAt low index) i k is = eqb-true i signal (and_parts (i =
 of_signal ws signal (BitBy low index) i k is = eqb-true i signal (and_parts (i == signal) _ is).0
 of_signal ws signal (Part low width) i k is = eqb-true i signal (and_parts (i == signal) _ is).0
 
-target_variables :
-    (signals : List Signal) (ws : ℕ → ℕ) (target : List Piece) → All (λ (piece : Piece). Has (λ s. s.kind ≡ Var) signals piece.signal) target → (i k : ℕ) →
-    may_target ws target i k ≡ true → Has (λ s. s.kind ≡ Var) signals i
-target_variables signals ws [] kinds i k is = absurd (false≢true is)
-target_variables signals ws (piece ∷ others) kinds i k is =
+-- what holds of each signal of a target holds of each that it writes
+pub target_has :
+    (P : Signal → Type 0) (signals : List Signal) (ws : ℕ → ℕ) (target : List Piece) → All (λ (piece : Piece). Has P signals piece.signal) target →
+    (i k : ℕ) → may_target ws target i k ≡ true → Has P signals i
+target_has P signals ws [] all i k is = absurd (false≢true is)
+target_has P signals ws (piece ∷ others) all i k is =
     elim (or_cases (may_select ws piece.signal piece.selection i k) (may_target ws others i k) is) [
       | inl here ↦
-          subst (Has (λ s. s.kind ≡ Var) signals) (sym (of_signal ws piece.signal piece.selection i k here))
-          (All-head (λ (one : Piece). Has (λ s. s.kind ≡ Var) signals one.signal) piece others kinds)
+          subst (Has P signals) (sym (of_signal ws piece.signal piece.selection i k here))
+          (All-head (λ (one : Piece). Has P signals one.signal) piece others all)
       | inr there ↦
-          target_variables signals ws others (All-tail (λ (one : Piece). Has (λ s. s.kind ≡ Var) signals one.signal) piece others kinds) i k there
+          target_has P signals ws others (All-tail (λ (one : Piece). Has P signals one.signal) piece others all) i k there
     ]
 
 pub writes_variables : (signals : List Signal) (body : Actions) → IsBody signals body → (i k : ℕ) → MayWrite (body_flow (width_in signals) body) i k → Has (λ s. s.kind ≡ Var) signals i
 writes_variables signals body lawful i k written =
     found (may_write_bit i k) (Has (λ s. s.kind ≡ Var) signals i) signals (λ bits inside is. absurd (false≢true is))
-    (λ target e delayed lawful' is. target_variables signals (width_in signals) target lawful'.kinds i k is) body lawful
+    (λ target e delayed lawful' is. target_has (λ s. s.kind ≡ Var) signals (width_in signals) target lawful'.kinds i k is) body lawful
     ((decided (body_flow (width_in signals) body) i k).writes.1 written)

@@ -1,0 +1,12 @@
+pub mod Effects
+mod Example
+pub mod Inputs
+pub mod Late
+pub mod Laws
+pub mod May
+pub mod Nets
+pub mod Resolved
+pub mod Signals
+pub mod Still
+pub mod Writers
+pub mod Writes

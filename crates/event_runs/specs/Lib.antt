@@ -1,0 +1,5 @@
+pub mod Effects
+pub mod Laws
+pub mod Nets
+pub mod Plain
+pub mod Writers
