@@ -1,0 +1,13 @@
+mod Budget
+mod Conditions
+mod Example
+mod Facts
+mod Going
+mod Inner
+mod Orders
+mod Quiet
+mod Rests
+mod Selecting
+mod Totals
+mod Waking
+mod Wave
