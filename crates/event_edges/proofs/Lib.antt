@@ -1,0 +1,14 @@
+pub mod AtEdge
+pub mod Cone
+pub mod Due
+mod Example
+pub mod Going
+pub mod Hearing
+pub mod Laws
+pub mod Ports
+pub mod Quiet
+pub mod Registers
+pub mod Resets
+pub mod Temporaries
+pub mod Turning
+pub mod Turns

@@ -1,0 +1,6 @@
+pub mod Laws
+pub mod Quiet
+pub mod Registers
+pub mod Reset
+pub mod Synchronous
+pub mod Turned
