@@ -1,0 +1,5 @@
+mod Example
+pub mod Followed
+pub mod Laws
+pub mod Settled
+pub mod Up

@@ -1,0 +1,3 @@
+pub mod BringUp
+pub mod Laws
+pub mod Round
