@@ -1,5 +1,5 @@
 -- `always @* y = a;` of one bit: a design whose block is plain, and a run of it.
-use Rattle.std.proofs.Common.{◌≡◌, ◌≢◌, ◌==◌, ◌&&◌, ◌||◌, ℕ, zero, suc, Bool, true, false, List, [], ◌∷◌, None, Some, refl, arith}
+use Rattle.std.proofs.Common.{◌≡◌, ◌≢◌, ◌==◌, ◌&&◌, ◌||◌, ℕ, zero, suc, Bool, true, false, List, [], ◌∷◌, None, refl, arith}
 use Rattle.std.proofs.lemmas.Bool.{eqb-true, false≢true}
 use Rattle.rtl_bits.specs.declared.Bit.TheVariants.{One, X}
 use Rattle.rtl_tree.specs.declared.text.Spot.{Spot}
@@ -11,7 +11,7 @@ use Rattle.rtl_flat.specs.Expression as tree
 use Rattle.rtl_flat.specs.Flows.{body_flow}
 use Rattle.rtl_flat.specs.Paths.{MayWrite, ReadsOutside}
 use Rattle.rtl_flat.specs.PathSets.{OfProcess}
-use Rattle.rtl_flat.specs.Process.{Actions, Comb, Done, Piece, Set, Task, Then, Whole}
+use Rattle.rtl_flat.specs.Process.{Actions, Comb, Done, Set, Then, Whole}
 use Rattle.rtl_flat.proofs.Paths.{decided}
 use Rattle.event_model.specs.Queue.{CanRun, Event, Flat, Input, Run, State, offer, power_up, run, widths}
 use Rattle.body_laws.proofs.Within.{may_read_outside}
