@@ -11,10 +11,11 @@ use Rattle.rtl_flat.specs.Process.{Task}
 use Rattle.rtl_scan.proofs.Places.{width_past}
 use Rattle.event_model.specs.Writes.{no_drive}
 use Rattle.event_model.specs.Queue.{Flat, doing_of, doing_at, widths, drive_with, resolved_from, resolved}
+use Rattle.event_tally.specs.Targets.{drives_of}
+use Rattle.event_tally.proofs.Lengths.{resolved_length, undriven}
 use Rattle.event_write.specs.QueueState.{row, driven_with, resolved_by}
-use Rattle.event_tables.specs.Driving.{drives, drives_of, ends_in, entered, Enters, given_by, AreDriven}
+use Rattle.event_tables.specs.Driving.{drives, ends_in, entered, Enters, given_by, AreDriven}
 use Rattle.event_tables.proofs.Ears.{row_past}
-use Rattle.event_tables.proofs.Lengths.{resolved_length, undriven}
 
 -- the process with a number
 abbrev pub number : ℕ → ProcId

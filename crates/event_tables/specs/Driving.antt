@@ -7,19 +7,10 @@ use Rattle.rtl_bits.specs.declared.Bit.{Bit}
 use Rattle.rtl_flat.specs.declared.act.ProcId.{ProcId}
 use Rattle.rtl_flat.specs.Process.{Piece, Doing, Assign, Comb, Edge'}
 use Rattle.event_model.specs.Queue.{Flat, doing_at, widths, resolved_from, resolved}
+use Rattle.event_tally.specs.Targets.{drives_of}
 use Rattle.event_write.specs.QueueState.{row, driven_with}
 
--- whether a target names a signal
-abbrev pub names : List Piece → ℕ → Bool
-names target i = list_any (λ piece. i == piece.signal) target
-
--- whether a process drives a part of a signal
-abbrev pub drives_of : Option Doing → ℕ → Bool
-drives_of None i = false
-drives_of (Some (Assign target value)) i = names target i
-drives_of (Some (Comb list body)) i = false
-drives_of (Some (Edge' events body)) i = false
-
+-- whether the process with a number drives a part of a signal
 abbrev pub drives : Flat → ℕ → ℕ → Bool
 drives d p = drives_of (doing_at d p)
 

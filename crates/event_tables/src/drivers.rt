@@ -3,7 +3,8 @@
 ghost use Rattle.std.specs.Prelude.{ℕ, ◌≡◌, ◌<◌, ◌==◌, length, map, IfOk, OnOk};
 ghost use Rattle.rtl_flat.specs.Process.{piece};
 ghost use Rattle.event_model.specs.Queue.{flat};
-ghost use Rattle.event_tables.specs.Driving.{AreDriven, Enters, drives, ends_in, names};
+ghost use Rattle.event_tally.specs.Targets.{names};
+ghost use Rattle.event_tables.specs.Driving.{AreDriven, Enters, drives, ends_in};
 
 use crate::rows::empty_rows;
 use rtl_flat::act::{Does, ProcId, TargetPart};

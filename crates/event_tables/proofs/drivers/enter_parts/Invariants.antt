@@ -3,7 +3,8 @@ use Rattle.std.specs.Prelude.{Vec}
 use Rattle.std.specs.declared.alloc.Global.{Global}
 use Rattle.rtl_flat.specs.declared.act.ProcId.{ProcId}
 use Rattle.rtl_flat.specs.Process.{piece}
-use Rattle.event_tables.specs.Driving.{Enters, names}
+use Rattle.event_tally.specs.Targets.{names}
+use Rattle.event_tables.specs.Driving.{Enters}
 use Rattle.event_tables.proofs.drivers.enter_parts.Given as goal
 
 abbrev pub invariant-loop-part : goal.invariant-loop-part

@@ -10,7 +10,7 @@ use Rattle.rtl_bits.specs.Bits.{zip_with, replaced, selected}
 use Rattle.rtl_flat.specs.Process.{Piece, Doing, Assign, Comb, Edge', Task}
 use Rattle.event_model.specs.Writes.{Values, Write, Span, written, all_written, span_of, write_at, counts, count_of, writes, no_drive, driven}
 use Rattle.event_model.specs.Queue.{drive_with, resolved_from}
-use Rattle.event_tables.specs.Driving.{names, drives_of}
+use Rattle.event_tally.specs.Targets.{names, drives_of}
 
 -- ---- lengths
 
@@ -42,7 +42,7 @@ all_long : (v : Values) (ws : List Write) (i n : ℕ) → n ≤ length (v i) →
 all_long v [] i n h = h
 all_long v (w ∷ ws) i n h = all_long (written v w) ws i n (written_long v w i n h)
 
-driven_long : (ws : ℕ → ℕ) (target : List Piece) (bits : List Bit) (i : ℕ) → ws i ≤ length (driven ws target bits i)
+pub driven_long : (ws : ℕ → ℕ) (target : List Piece) (bits : List Bit) (i : ℕ) → ws i ≤ length (driven ws target bits i)
 driven_long ws target bits i =
     all_long (no_drive ws) (writes ws (no_drive ws) target bits) i (ws i) (let size = length-replicate (ws i) Z in omega (arith, size))
 
@@ -79,7 +79,7 @@ second_false : (a b : Bool) → (a || b) ≡ false → b ≡ false
 second_false true b h = absurd (cc)
 second_false false b h = h
 
-unwritten : (ws : ℕ → ℕ) (u : Values) (target : List Piece) (bits : List Bit) (i : ℕ) → names target i ≡ false → (v : Values) → all_written v (writes ws u target bits) i ≡ v i
+pub unwritten : (ws : ℕ → ℕ) (u : Values) (target : List Piece) (bits : List Bit) (i : ℕ) → names target i ≡ false → (v : Values) → all_written v (writes ws u target bits) i ≡ v i
 unwritten ws u [] bits i h v = refl
 unwritten ws u (piece ∷ others) bits i h v =
     next_write v piece.signal (span_of ws u piece.signal piece.selection) (selected (counts ws others) (count_of ws piece.signal piece.selection) bits) (writes ws u others bits) i

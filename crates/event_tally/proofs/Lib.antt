@@ -1,0 +1,4 @@
+pub mod Tallying
+pub mod Lengths
+pub mod Places
+pub mod Counting
