@@ -20,6 +20,7 @@ use Rattle.event_write.specs.Entries.{Entry, IsClosed, entry}
 use Rattle.event_write.specs.QueueState.{AreInside, HasWidth, IsInside, IsQueueState}
 use Rattle.event_write.specs.Stored.{AreStored}
 use Rattle.event_queue.specs.First.{AreDriven, IsFirst, IsFresh, blank, driver_in, first_driver, first_value, now_driver, quiet}
+use Rattle.event_queue.specs.Tallying.{AreTallies}
 use Rattle.event_queue.proofs.Starting.{blank_widths, first_are, first_driven, first_driver_widths, first_stored, now_driven, now_driver_widths, powered, quiet_state, settled_is}
 
 closed_none : (entries : List Code) → entries ≡ [] → IsClosed (map entry entries)
@@ -35,10 +36,10 @@ tasks_are design n is =
     let count = length-map design.processes.items task in omega (arith, is, count)
 
 pub fresh_is : (design : Design) (m : QueueState) (given : List (Option ℕ)) (most processes signals : ℕ) → length given ≡ length design.processes.items → processes ≡ length design.processes.items → signals ≡ length design.signals.items
-    → AreStored design.signals.items m.values.items → AreDriven (flat design) m.drivers.items → m.woken ≡ record { flags = replicate (length given) false; levels = given } → m.pending ≡ replicate processes false
+    → AreStored design.signals.items m.values.items → AreDriven (flat design) m.drivers.items → AreTallies (flat design) (driver_in m.drivers.items) m.tallies.items → m.woken ≡ record { flags = replicate (length given) false; levels = given } → m.pending ≡ replicate processes false
     → m.pending_values.items ≡ map (λ process. blank (width_in design.signals.items) (doing process.does)) design.processes.items → m.offered ≡ replicate signals false → m.offered_values.items ≡ map first_value design.signals.items
     → m.next ≡ 0 → m.active.items ≡ [] → m.waiting.items ≡ [] → most ≤ vec_capacity m.active → most ≤ vec_capacity m.waiting → 128 ≤ vec_capacity m.scratch → IsFresh (flat design) (store m.values.items) (driver_in m.drivers.items) given most m
-fresh_is design m given most processes signals size counted listed stored driven woken pending pending_values offered offered_values next active waiting active_room waiting_room scratch =
+fresh_is design m given most processes signals size counted listed stored driven tallies woken pending pending_values offered offered_values next active waiting active_room waiting_room scratch =
     let d = flat design in
     let ws = width_in design.signals.items in
     let flags : m.woken.flags ≡ replicate (length given) false = ap (λ (a : Numbered). a.flags) woken in
@@ -48,6 +49,8 @@ fresh_is design m given most processes signals size counted listed stored driven
         woken = ap length flags ∙ length-replicate (length given) false ∙ tasks_are design (length given) size;
         drivers = driven.count;
         driver_widths = driven.each;
+        tallies = tallies.count;
+        tallied = tallies.tallied;
         pending = ap length pending ∙ length-replicate processes false ∙ tasks_are design processes counted;
         pending_values = ap length pending_values ∙ length-map design.processes.items (λ (process : Process). blank ws (doing process.does)) ∙ sym (length-map design.processes.items task);
         pending_widths = λ p. subst (λ (xs : List (List Bit)). HasWidth ws (doing_at d p) (length (store xs p))) (sym pending_values) (blank_widths ws design.processes.items p);
@@ -92,6 +95,8 @@ with_woken d m w is size =
       woken = size ∙ is.woken;
       drivers = is.drivers;
       driver_widths = is.driver_widths;
+      tallies = is.tallies;
+      tallied = is.tallied;
       pending = is.pending;
       pending_values = is.pending_values;
       pending_widths = is.pending_widths;

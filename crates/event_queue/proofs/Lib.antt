@@ -3,6 +3,7 @@ pub mod Fewness
 pub mod Costing
 pub mod Loads
 pub mod Starting
+pub mod Counted
 pub mod Freshness
 pub mod Offered
 pub mod Paying

@@ -2,6 +2,7 @@ pub mod Lates
 pub mod Costs
 pub mod Rooms
 pub mod First
+pub mod Tallying
 pub mod Offers
 pub mod Holding
 pub mod Propositions

@@ -10,12 +10,13 @@ ghost use Rattle.event_model.specs.Queue.{doing_at, flat, is_assignment, power_u
 ghost use Rattle.event_write.specs.Stored.{AreStored};
 ghost use Rattle.event_queue.specs.First.{AreDriven, IsFirst, IsFresh, blank, driver_in, first_driver, first_value, now_driver};
 
+use crate::first_tallies::first_tallies;
 use agenda::Agenda;
 use event_write::queue_state::QueueState;
 use event_write::stores::evaluate;
 use rank_set::RankSet;
 use rtl_bits::{Bit, Vec4};
-use rtl_flat::act::Does;
+use rtl_flat::act::{Does, ProcId};
 use rtl_flat::design::Design;
 use rtl_flat::signal::{Kind, Signal};
 use rtl_tree::memory::Memory;
@@ -136,14 +137,17 @@ fn fresh(
     design: &Design,
     levels: Vec<Option<u32>>,
     values: Vec<Vec4>,
+    table: &[Vec<ProcId>],
     drivers: Vec<Option<Vec4>>,
     room: usize,
 ) -> Result<QueueState, Memory>
     requires levels { length levels.items ≡ length design.now.processes.items }
+    requires table { length table.now ≡ length design.now.signals.items }
     requires stored { AreStored design.now.signals.items values.items }
     requires driven { AreDriven (flat design.now) drivers.items }
     ensures { IfOk result (λ queue. IsFresh (flat design.now) (store values.items) (driver_in drivers.items) levels.items room queue) }
 {
+    let tallies = first_tallies(alloc, design, &values, table, &drivers)?;
     let offered_values = first_values(alloc, design)?;
     let pending_values = blanks(alloc, design)?;
     let processes = design.processes.len();
@@ -158,6 +162,7 @@ fn fresh(
         values,
         woken,
         drivers,
+        tallies,
         pending,
         pending_values,
         offered,
@@ -211,15 +216,17 @@ fn wake_assignments(design: &Design, woken: &mut Agenda)
 pub(crate) fn power_up(
     alloc: Global,
     design: &Design,
+    table: &[Vec<ProcId>],
     levels: Vec<Option<u32>>,
     room: usize,
 ) -> Result<QueueState, Memory>
-    requires { length levels.items ≡ length design.now.processes.items }
+    requires levels { length levels.items ≡ length design.now.processes.items }
+    requires table { length table.now ≡ length design.now.signals.items }
     ensures { IfOk result (λ queue. IsFirst (flat design.now) (power_up (flat design.now)) levels.items room queue) }
 {
     let values = first_values(alloc, design)?;
     let drivers = first_drivers(alloc, design)?;
-    let mut queue = fresh(alloc, design, levels, values, drivers, room)?;
+    let mut queue = fresh(alloc, design, levels, values, table, drivers, room)?;
     wake_assignments(design, &mut queue.woken);
     Ok(queue)
 }
@@ -229,14 +236,16 @@ pub(crate) fn settled(
     alloc: Global,
     design: &Design,
     values: &[Vec4],
+    table: &[Vec<ProcId>],
     levels: Vec<Option<u32>>,
     room: usize,
 ) -> Result<QueueState, Memory>
     requires levels { length levels.items ≡ length design.now.processes.items }
+    requires table { length table.now ≡ length design.now.signals.items }
     requires stored { AreStored design.now.signals.items values.now }
     ensures { IfOk result (λ queue. IsFirst (flat design.now) (settled_at (flat design.now) (store values.now)) levels.items room queue) }
 {
     let drivers = now_drivers(alloc, design, values)?;
     let copy = copied(alloc, values)?;
-    fresh(alloc, design, levels, copy, drivers, room)
+    fresh(alloc, design, levels, copy, table, drivers, room)
 }

@@ -5,6 +5,7 @@
 mod bodies;
 mod costs;
 mod first_queue;
+mod first_tallies;
 mod offering;
 pub mod sim;
 pub mod start;

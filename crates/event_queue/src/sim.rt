@@ -64,7 +64,7 @@ impl<'d> EventSim<'d> {
         let budget = budget_of(design, &costs);
         let levels = levels(alloc, design)?;
         let room = (budget * costs.share) as usize;
-        let queue = first_queue(alloc, design, start, levels, room)?;
+        let queue = first_queue(alloc, design, start, &fanout.drivers, levels, room)?;
         Ok(EventSim {
             fanout,
             queue,

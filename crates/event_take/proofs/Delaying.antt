@@ -1,5 +1,5 @@
 -- A nonblocking update, one of its writes after the other.
-use Rattle.std.proofs.Common.{◌≡◌, ◌<◌, ◌≤◌, ◌+◌, ◌∙◌, ◌++◌, ℕ, zero, suc, Bool, true, false, cond, List, [], ◌∷◌, length, map, drop, get_or, refl, sym, ap, subst, arith, add-one}
+use Rattle.std.proofs.Common.{◌≡◌, ◌<◌, ◌≤◌, ◌+◌, ◌∙◌, ◌++◌, ℕ, zero, suc, true, false, cond, List, [], ◌∷◌, length, map, drop, get_or, refl, sym, ap, arith, add-one}
 use Rattle.std.proofs.lemmas.Bool.{true≢false}
 use Rattle.event_model.specs.Queue.{Flat, State, after_delayed, write, write_all}
 use Rattle.event_model.specs.Writes.{Write}
@@ -57,6 +57,8 @@ with_next d m n is within closed =
       woken = is.woken;
       drivers = is.drivers;
       driver_widths = is.driver_widths;
+      tallies = is.tallies;
+      tallied = is.tallied;
       pending = is.pending;
       pending_values = is.pending_values;
       pending_widths = is.pending_widths;

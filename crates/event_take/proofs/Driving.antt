@@ -1,21 +1,20 @@
 -- What drivers give to nets.
-use Rattle.std.proofs.Common.{◌≡◌, ◌≢◌, ◌<◌, ◌≤◌, ◌+◌, ◌-◌, ◌∙◌, ◌++◌, ℕ, zero, suc, Bool, true, false, cond, List, [], ◌∷◌, length, map, drop, set, get_or, Option, None, Some, refl, sym, ap, subst, inl, inr, arith}
+use Rattle.std.proofs.Common.{◌≡◌, ◌<◌, ◌≤◌, ◌+◌, ◌∙◌, ◌++◌, ℕ, zero, suc, Bool, true, false, cond, List, [], ◌∷◌, length, drop, set, get_or, Option, None, Some, refl, sym, ap, subst, inl, inr, arith}
 use Rattle.std.specs.Prelude.{◌==◌, if◌then◌else◌, nat_lt, ℤ, pos, negsuc, ◌-ℤ◌}
-use Rattle.std.specs.List.{All, slice_get}
+use Rattle.std.specs.List.{slice_get}
 use Rattle.std.specs.Option.{unwrap_or}
 use Rattle.std.proofs.lemmas.Bool.{cases_eq, ne_eqb, ltb-true, true≢false}
 use Rattle.std.proofs.lemmas.List.{get_or-set_same, get_or-set_other, length-take}
-use Rattle.std.proofs.lemmas.List.Elements.{All-head, All-tail}
 use Rattle.std.proofs.lemmas.Option.{unwrap_or-slice_get}
 use Rattle.rtl_bits.specs.declared.Bit.{Bit}
 use Rattle.rtl_bits.specs.Bits.{has_unknown, replaced, selected}
 use Rattle.rtl_flat.specs.declared.signal.Signal.{Signal}
-use Rattle.rtl_flat.specs.Process.{Piece, Selection, Whole, BitAt, BitBy, Part}
+use Rattle.rtl_flat.specs.Process.{Doing, Selection, Whole, BitAt, BitBy, Part}
 use Rattle.rtl_flat.specs.Signs.{sign_of, width_in}
 use Rattle.rtl_flat.specs.Value.{index_number, value}
-use Rattle.rtl_flat.specs.WellFormed.{IsFixed, IsSelection}
+use Rattle.rtl_flat.specs.WellFormed.{IsSelection}
 use Rattle.event_model.specs.Writes.{Values, Write, Span, all_written, bit_inside, count_of, put, span_of, written}
-use Rattle.event_write.specs.QueueState.{IsInside, driver_of}
+use Rattle.event_write.specs.QueueState.{HasWidth, IsInside, driver_of}
 use Rattle.event_write.proofs.Entering.{has_room, part_inside}
 use Rattle.event_write.proofs.Writing.{put_at, put_other}
 
@@ -108,3 +107,12 @@ pub driver_here : (drivers : List (Option (List Bit))) (p : ℕ) (x : Option (Li
 driver_here [] p x bits within is some = absurd (omega (arith, within))
 driver_here (y ∷ ys) zero x bits within is some = ap (λ (o : Option (List Bit)). driver_of (Some o)) (sym is ∙ some)
 driver_here (y ∷ ys) (suc p) x bits within is some = driver_here ys p x bits (omega (arith, within)) is some
+
+-- whether drivers have their widths where one is set
+pub driver_widths_put : (ws : ℕ → ℕ) (does : ℕ → Option Doing) (drivers : List (Option (List Bit))) (p : ℕ) (bits : List Bit) → p < length drivers → ((q : ℕ) → HasWidth ws (does q) (length (driver_of (slice_get drivers q)))) → HasWidth ws (does p) (length bits) → (q : ℕ) → HasWidth ws (does q) (length (driver_of (slice_get (set drivers p (Some bits)) q)))
+driver_widths_put ws does drivers p bits within old new q =
+    subst (λ (bs : List Bit). HasWidth ws (does q) (length bs)) (sym (driver_put drivers p bits within q))
+    (elim (cases_eq q p) as (λ _. HasWidth ws (does q) (length (put (λ k. driver_of (slice_get drivers k)) p bits q))) [
+      | inl same ↦ subst (λ (k : ℕ). HasWidth ws (does k) (length (put (λ i. driver_of (slice_get drivers i)) p bits k))) (sym same) (subst (λ (bs : List Bit). HasWidth ws (does p) (length bs)) (sym (put_at (λ i. driver_of (slice_get drivers i)) p bits)) new)
+      | inr apart ↦ subst (λ (bs : List Bit). HasWidth ws (does q) (length bs)) (sym (put_other (λ i. driver_of (slice_get drivers i)) p bits q apart)) (old q)
+    ])

@@ -8,3 +8,4 @@ pub mod Lowest
 pub mod Chosen
 pub mod Placing
 pub mod Marked
+pub mod Retallying

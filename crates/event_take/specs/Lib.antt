@@ -1,3 +1,4 @@
 pub mod Rooms
 pub mod Lawful
 pub mod Taken
+pub mod Tallied

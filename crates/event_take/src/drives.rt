@@ -66,7 +66,13 @@ fn drive_with(
 }
 
 /// What a driver gives to a net: z in each bit that it doesn't drive.
-fn driven(signals: &[Signal], values: &[Vec4], parts: &[TargetPart], bits: Vec4, net: SigId) -> Vec4
+pub(crate) fn driven(
+    signals: &[Signal],
+    values: &[Vec4],
+    parts: &[TargetPart],
+    bits: Vec4,
+    net: SigId,
+) -> Vec4
     requires there { net.0 < length signals.now }
     requires width { (1 ≤ width_in signals.now net.0) × (width_in signals.now net.0 ≤ 128) }
     requires selected { AreSelected signals.now (map piece parts.now) }
@@ -115,7 +121,7 @@ fn with_part(
     }
 }
 
-fn is_same(one: SigId, other: SigId) -> bool
+pub(crate) fn is_same(one: SigId, other: SigId) -> bool
     ensures { result ≡ (one.0 == other.0) }
 {
     one.0 == other.0

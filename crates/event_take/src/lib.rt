@@ -8,4 +8,5 @@ pub mod events;
 mod levels;
 pub mod places;
 pub mod policies;
+pub mod tallies;
 pub mod updates;

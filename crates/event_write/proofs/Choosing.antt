@@ -1,5 +1,5 @@
 -- The body of a case that is chosen.
-use Rattle.std.proofs.Common.{◌≡◌, ◌≤◌, ◌<◌, ◌+◌, ◌∙◌, ℕ, zero, suc, Bool, true, false, List, [], ◌∷◌, length, map, get_or, Option, None, Some, refl, sym, ap, subst, arith}
+use Rattle.std.proofs.Common.{◌≡◌, ◌≤◌, ◌∙◌, ℕ, Bool, true, false, List, [], ◌∷◌, map, Option, None, Some, refl, sym, arith}
 use Rattle.std.specs.Prelude.{if◌then◌else◌}
 use Rattle.std.specs.List.{All}
 use Rattle.std.proofs.lemmas.List.Elements.{All-nil, All-cons, All-head, All-tail}
@@ -10,7 +10,7 @@ use Rattle.rtl_flat.specs.declared.expr.SizedExpr.{SizedExpr}
 use Rattle.rtl_flat.specs.declared.signal.Signal.{Signal}
 use Rattle.rtl_flat.specs.Expression.{Tree, tree}
 use Rattle.rtl_flat.specs.Process.{Actions, Otherwise, Without, With, Branches, NoBranch, Branch}
-use Rattle.rtl_flat.specs.Signs.{IsExpression, sign_of, width_in}
+use Rattle.rtl_flat.specs.Signs.{IsExpression, width_in}
 use Rattle.rtl_flat.specs.Sizes.{width_of}
 use Rattle.rtl_flat.specs.WellFormed.{AreBranches, IsOtherwise, branch_statements, other_statements}
 use Rattle.rtl_scan.specs.Bodies.{branches_of}

@@ -1,5 +1,5 @@
 -- Entries as writes and as updates.
-use Rattle.std.proofs.Common.{◌≡◌, ◌<◌, ◌≤◌, ◌+◌, ◌∙◌, ℕ, zero, suc, Bool, true, false, cond, List, [], ◌∷◌, ◌++◌, length, map, drop, Option, None, Some, Vec, refl, sym, ap, subst, arith}
+use Rattle.std.proofs.Common.{◌≡◌, ◌<◌, ◌≤◌, ◌+◌, ◌∙◌, ℕ, zero, suc, Bool, true, false, cond, List, [], ◌∷◌, ◌++◌, length, map, drop, Option, None, Some, Vec, refl, sym, ap, arith}
 use Rattle.std.specs.Prelude.{nat_lt, ℤ, pos, negsuc, ◌-ℤ◌, if◌then◌else◌}
 use Rattle.std.specs.declared.alloc.Global.{Global}
 use Rattle.std.proofs.lemmas.Bool.{ltb-true}
@@ -155,6 +155,8 @@ with_waiting d m waiting is closed inside =
       woken = is.woken;
       drivers = is.drivers;
       driver_widths = is.driver_widths;
+      tallies = is.tallies;
+      tallied = is.tallied;
       pending = is.pending;
       pending_values = is.pending_values;
       pending_widths = is.pending_widths;

@@ -1,5 +1,5 @@
 -- Indices that select no bit.
-use Rattle.std.proofs.Common.{◌≡◌, ℕ, ◌+◌, ◌*◌, ◌^◌, true, false, not, cond, List, length, None, Some, refl, sym, inl, inr, arith}
+use Rattle.std.proofs.Common.{◌≡◌, ℕ, ◌+◌, ◌*◌, ◌^◌, true, false, not, cond, List, length, None, refl, sym, inl, inr, arith}
 use Rattle.std.specs.Prelude.{nat_lt, negsuc, pos, ◌-ℤ◌}
 use Rattle.std.proofs.lemmas.Int.{ints}
 use Rattle.std.proofs.lemmas.Bool.{cases_Bool, true≢false}

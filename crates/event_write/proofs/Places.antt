@@ -1,5 +1,5 @@
 -- Changes, place by place.
-use Rattle.std.proofs.Common.{ℕ, ◌≡◌, ◌∙◌, ◌≤◌, arith, Bool, true, false, not, ◌&&◌, ◌||◌, List, length, refl, sym, ap, inl, inr}
+use Rattle.std.proofs.Common.{ℕ, ◌≡◌, ◌∙◌, arith, Bool, true, false, not, ◌&&◌, ◌||◌, List, length, refl, sym, ap, inl, inr}
 use Rattle.std.specs.Prelude.{bit_and, bit_or, bit_xor, slice_index_or}
 use Rattle.std.proofs.lemmas.Bool.{cases_lt}
 use Rattle.std.proofs.lemmas.List.{get_or_default, get_or_past}

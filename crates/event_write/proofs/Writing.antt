@@ -1,14 +1,13 @@
 -- A write, in the values that are kept and in the state.
-use Rattle.std.proofs.Common.{◌≡◌, ◌≢◌, ◌<◌, ◌∙◌, ℕ, zero, suc, Bool, true, false, ◌||◌, List, [], ◌∷◌, length, map, set, get_or, Option, None, Some, Vec, refl, sym, ap, subst, inl, inr, arith}
-use Rattle.std.specs.Prelude.{◌==◌, if◌then◌else◌, slice_index_or}
-use Rattle.std.specs.List.{All, slice_get}
+use Rattle.std.proofs.Common.{◌≡◌, ◌<◌, ◌∙◌, ℕ, zero, suc, Bool, ◌||◌, List, [], ◌∷◌, length, map, set, get_or, Vec, refl, sym, ap, subst, inl, inr, arith}
+use Rattle.std.specs.Prelude.{if◌then◌else◌}
+use Rattle.std.specs.List.{All}
 use Rattle.std.specs.declared.alloc.Global.{Global}
 use Rattle.std.proofs.lemmas.Bool.{cases_eq, eq-eqb, ne_eqb}
 use Rattle.std.proofs.lemmas.Option.{slice_get_read}
-use Rattle.std.proofs.lemmas.List.{get_or-set_same, get_or-set_other, get_or_default}
+use Rattle.std.proofs.lemmas.List.{get_or-set_same, get_or-set_other}
 use mathlib.Core.Path.{fun_ext}
 use Rattle.rtl_bits.specs.declared.Bit.{Bit}
-use Rattle.rtl_bits.specs.Bits.{replaced}
 use Rattle.rtl_flat.specs.Value.{store}
 use Rattle.event_model.specs.Writes.{Values, Write, put, written}
 use Rattle.event_model.specs.Queue.{Flat, State, write, widths, hears, doing_at}

@@ -1,7 +1,6 @@
 -- It serves inner contracts and proofs; no answer of the program is stated by it.
 -- Prepared writes, and the updates that they are together.
-use Rattle.std.specs.Prelude.{◌≡◌, ℕ, ◌≤◌, Bool, true, false, cond, List, [], ◌∷◌, ◌++◌, length, Option, None, Some}
-use Rattle.std.specs.List.{All}
+use Rattle.std.specs.Prelude.{◌≡◌, ℕ, ◌≤◌, Bool, true, false, cond, List, [], ◌∷◌, ◌++◌, Option}
 use Rattle.std.specs.Option.{option_map}
 use Rattle.rtl_bits.specs.declared.Bit.{Bit}
 use Rattle.rtl_bits.specs.Bits.{selected}

@@ -1,11 +1,10 @@
 -- It serves inner contracts and proofs; no answer of the program is stated by it.
 -- The state of the queue, from what the simulator keeps.
-use Rattle.std.specs.Prelude.{◌≡◌, ◌<◌, ◌≤◌, ℕ, ◌+◌, Bool, if◌then◌else◌, List, [], ◌∷◌, drop, map, length, Option, None, Some, slice_index_or, Vec}
+use Rattle.std.specs.Prelude.{◌≡◌, ◌<◌, ◌≤◌, ℕ, ◌+◌, Bool, if◌then◌else◌, List, [], ◌∷◌, drop, map, length, Option, None, Some, Vec}
 use Rattle.std.specs.List.{All, slice_get}
 use Rattle.std.specs.declared.alloc.Global.{Global}
 use Rattle.rtl_bits.specs.declared.Bit.{Bit}
 use Rattle.rtl_flat.specs.declared.act.ProcId.{ProcId}
-use Rattle.rtl_flat.specs.declared.design.Design.{Design}
 use Rattle.rtl_flat.specs.declared.signal.Signal.{Signal}
 use Rattle.rtl_flat.specs.Process.{Doing, Assign}
 use Rattle.rtl_flat.specs.Sizes.{width_of}
@@ -14,6 +13,8 @@ use Rattle.rtl_flat.specs.Value.{store}
 use Rattle.rank_set.specs.Ranks.{flag}
 use Rattle.event_model.specs.Writes.{Values, Span, no_drive}
 use Rattle.event_model.specs.Queue.{Flat, State, flat, doing_at, widths, hears, drive_with, resolved}
+use Rattle.event_tally.specs.declared.tally.Tally.{Tally}
+use Rattle.event_tally.specs.Given.{AreCounted}
 use Rattle.event_write.specs.declared.fanout.Fanout.{Fanout}
 use Rattle.event_write.specs.declared.queue_state.QueueState.{QueueState}
 use Rattle.event_write.specs.declared.listener.Listener.{Listener}
@@ -95,11 +96,17 @@ abbrev pub HasWidth : (ℕ → ℕ) → Option Doing → ℕ → Type 0
 HasWidth ws (Some (Assign target e)) width = width ≡ width_of ws e
 HasWidth ws _ width = Unit {0}
 
+-- whether tallies, where a net has any, count the drivers of its bits
+abbrev pub AreTallied : Flat → (ℕ → List Bit) → List (Vec Tally Global) → Type 0
+AreTallied d driver rows = (net : ℕ) → AreCounted d driver net (row rows net)
+
 pub record IsQueueState (d : Flat) (m : QueueState) : Type 0 where
   pub values : AreStored d.signals m.values.items
   pub woken : length m.woken.flags ≡ length d.tasks
   pub drivers : length m.drivers.items ≡ length d.tasks
   pub driver_widths : (p : ℕ) → HasWidth (widths d) (doing_at d p) (length (driver_of (slice_get m.drivers.items p)))
+  pub tallies : length m.tallies.items ≡ length d.signals
+  pub tallied : AreTallied d (λ p. driver_of (slice_get m.drivers.items p)) m.tallies.items
   pub pending : length m.pending ≡ length d.tasks
   pub pending_values : length m.pending_values.items ≡ length d.tasks
   pub pending_widths : (p : ℕ) → HasWidth (widths d) (doing_at d p) (length (store m.pending_values.items p))
@@ -115,6 +122,7 @@ pub record IsQueueState (d : Flat) (m : QueueState) : Type 0 where
 pub record AreSame (m n : QueueState) : Type 0 where
   pub levels : n.woken.levels ≡ m.woken.levels
   pub drivers : n.drivers ≡ m.drivers
+  pub tallies : n.tallies ≡ m.tallies
   pub pending : n.pending ≡ m.pending
   pub pending_values : n.pending_values ≡ m.pending_values
   pub offered : n.offered ≡ m.offered

@@ -2,6 +2,7 @@
 
 use crate::entries::Entry;
 use agenda::Agenda;
+use event_tally::tally::Tally;
 use rank_set::RankSet;
 use rtl_bits::Vec4;
 
@@ -14,6 +15,8 @@ pub struct QueueState {
     pub woken: Agenda,
     /// What each continuous assignment drives; none for a body.
     pub drivers: Vec<Option<Vec4>>,
+    /// For each signal with several drivers what they are at, counted for each bit; none for any other.
+    pub tallies: Vec<Vec<Tally>>,
     /// The continuous assignments with an update of their driver, and the value that it takes.
     pub pending: RankSet,
     pub pending_values: Vec<Vec4>,

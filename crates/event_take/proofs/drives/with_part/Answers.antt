@@ -1,4 +1,4 @@
-use Rattle.std.proofs.Common.{ℕ, ◌≡◌, ◌≤◌, ◌+◌, ◌∙◌, List, length, Option, Some, ap, sym, subst, arith}
+use Rattle.std.proofs.Common.{◌≡◌, ◌∙◌, length, Option, Some, ap, sym, subst, arith}
 use Rattle.std.specs.Option.{option_map}
 use Rattle.rtl_bits.specs.Bits.{selected}
 use Rattle.rtl_flat.specs.Process.{selection}

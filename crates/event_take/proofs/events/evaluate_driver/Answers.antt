@@ -1,5 +1,4 @@
-use Rattle.std.proofs.Common.{ℕ, ◌≡◌, ◌<◌, ◌∙◌, Bool, true, false, List, length, map, set, Option, None, Some, ap, sym, subst, arith}
-use Rattle.std.specs.List.{slice_get}
+use Rattle.std.proofs.Common.{ℕ, ◌≡◌, ◌<◌, ◌∙◌, Bool, true, false, List, length, map, set, Option, Some, ap, sym, subst, arith}
 use Rattle.std.proofs.lemmas.List.{length-set, length-map}
 use mathlib.Core.Path.{fun_ext}
 use Rattle.rtl_bits.specs.declared.Bit.{Bit}
@@ -71,6 +70,8 @@ returns-in-Assign-clause-queue c =
       woken = ap (λ (a : Numbered). length a.flags) c.remove.ensures ∙ length-set c.args.queue.now.woken.flags p false ∙ is.woken;
       drivers = is.drivers;
       driver_widths = is.driver_widths;
+      tallies = is.tallies;
+      tallied = is.tallied;
       pending = ap length c.insert.ensures ∙ length-set c.args.queue.now.pending p true ∙ is.pending;
       pending_values = length-set values p c.evaluate-bits.result ∙ is.pending_values;
       pending_widths = width_put (width_in d.signals) (doing_at d) values p c.evaluate-bits.result kept is.pending_widths (subst (λ (o : Option Doing). HasWidth (width_in d.signals) o (length c.evaluate-bits.result)) (sym does) c.evaluate-bits.ensures.width);

@@ -1,5 +1,5 @@
-use Rattle.std.proofs.Common.{ℕ, ◌≡◌, ◌≤◌, ◌<◌, ◌∙◌, false, List, [], length, map, set, Option, None, Some, ap, sym, subst, arith}
-use Rattle.std.specs.List.{All, slice_get}
+use Rattle.std.proofs.Common.{ℕ, ◌≡◌, ◌<◌, ◌∙◌, List, [], length, map, Option, None, Some, ap, sym, subst, arith}
+use Rattle.std.specs.List.{All}
 use Rattle.std.proofs.lemmas.List.{get_or_default, length-map}
 use mathlib.Core.Path.{fun_ext}
 use Rattle.rtl_bits.specs.declared.Bit.{Bit}
@@ -10,12 +10,11 @@ use Rattle.rtl_flat.specs.Signs.{width_in}
 use Rattle.rtl_flat.specs.Value.{store}
 use Rattle.rtl_flat.specs.WellFormed.{IsFixed, IsProcess}
 use Rattle.rank_set.proofs.Law.{member_within}
-use Rattle.event_model.specs.Queue.{after_update, doing_at, drive, net_writes, resolved, write_all}
+use Rattle.event_model.specs.Queue.{State, after_update, doing_at, drive, net_writes, resolved, widths, write_all}
 use Rattle.event_model.specs.Writes.{put}
 use Rattle.event_write.specs.Entries.{AreSelected}
-use Rattle.event_write.specs.QueueState.{design_of, driver_of, held, state}
+use Rattle.event_write.specs.QueueState.{HasWidth, design_of, held, state}
 use Rattle.event_write.proofs.Targets.{are_selected, some_bits}
-use Rattle.event_take.proofs.Driving.{driver_put}
 use Rattle.event_take.proofs.Taking.{doing_here, held_here, held_less, task_has}
 use Rattle.event_take.proofs.updates.update_driver.Goals as goal
 
@@ -43,6 +42,26 @@ write_nets-requires-clause-fixed c =
     let lawful = subst (IsProcess design.signals.items) (ap doing c.in-Assign.is) one in
     subst (λ (ps : List TargetPart). All (λ (p : Piece). IsFixed p.selection) (map piece ps)) (sym c.deref.ensures.value) lawful.1
 
+pub set_driver-requires-clause-there : goal.set_driver-requires-clause-there
+set_driver-requires-clause-there c =
+    let flagged = member_within c.args.queue.now.pending c.args.process.0 c.requires.pending in
+    let count = length-map c.args.fanout.now.design.now.processes.items task in
+    let known = c.requires.queue.pending in
+    omega (arith, flagged, count, known)
+
+pub set_driver-requires-clause-width : goal.set_driver-requires-clause-width
+set_driver-requires-clause-width c =
+    let d = design_of c.args.fanout.now in
+    let p = c.args.process.0 in
+    let values = c.args.queue.now.pending_values.items in
+    let flagged = member_within c.args.queue.now.pending p c.requires.pending in
+    let known = c.requires.queue.pending in
+    let stored = c.requires.queue.pending_values in
+    let kept : p < length values = omega (arith, flagged, known, stored) in
+    let b = c.index-bits.result.now in
+    let bits : b ≡ store values p = c.index-bits.ensures ∙ get_or_default values p b [] kept in
+    subst (λ (bs : List Bit). HasWidth (widths d) (doing_at d p) (length bs)) (sym bits) (c.requires.queue.pending_widths p)
+
 pub returns-in-Assign-clause-state : goal.returns-in-Assign-clause-state
 returns-in-Assign-clause-state c =
     let design = c.args.fanout.now.design.now in
@@ -59,19 +78,16 @@ returns-in-Assign-clause-state c =
     let there : p < length design.processes.items = omega (arith, flagged, count, known) in
     let stored = c.requires.queue.pending_values in
     let kept : p < length values = omega (arith, flagged, known, stored) in
-    let driving = c.requires.queue.drivers in
-    let within : p < length m.drivers.items = omega (arith, flagged, known, driving) in
     let b = c.index-bits.result.now in
     let bits : b ≡ store values p = c.index-bits.ensures ∙ get_or_default values p b [] kept in
     let parts = map piece c.in-Assign.target.parts.items in
     let does : doing_at d p ≡ Some (Assign parts (tree c.in-Assign.value)) =
     doing_here design.processes.items p c.index.result.now there c.index.ensures ∙ ap (λ x. Some (doing x)) c.in-Assign.is in
     let pending : held c.remove.new.self values ≡ put (held flags values) p None = ap (λ f. held f values) c.remove.ensures ∙ fun_ext (held_less flags values p flagged) in
-    let drivers : (λ (q : ℕ). driver_of (slice_get (set m.drivers.items p (Some b)) q)) ≡ put s.driver p b = fun_ext (driver_put m.drivers.items p b within) in
-    let given = λ (q : ℕ). driver_of (slice_get (set m.drivers.items p (Some b)) q) in
+    let q2 = c.set_driver.new.queue in
     c.write_nets.ensures.state
-    ∙ ap (λ (ps : List TargetPart). write_all d (record s { driver = given; pending = held c.remove.new.self values }) (net_writes ws (resolved d given) (map piece ps))) c.deref.ensures.value
-    ∙ ap (λ (f : ℕ → List Bit). write_all d (record s { driver = f; pending = held c.remove.new.self values }) (net_writes ws (resolved d f) parts)) drivers
+    ∙ ap (λ (ps : List TargetPart). write_all d (state q2) (net_writes ws (resolved d (state q2).driver) (map piece ps))) c.deref.ensures.value
+    ∙ ap (λ (x : State). write_all d x (net_writes ws (resolved d x.driver) parts)) c.set_driver.ensures.state
     ∙ ap (λ (q : ℕ → Option (List Bit)). write_all d (record s { driver = put s.driver p b; pending = q }) (net_writes ws (resolved d (put s.driver p b)) parts)) pending
     ∙ ap (λ (bs : List Bit). drive d s p parts (Some bs)) bits
     ∙ sym (ap (drive d s p parts) (held_here flags values p c.requires.pending))

@@ -1,13 +1,12 @@
-use Rattle.std.proofs.Common.{◌≡◌, ◌∙◌, ◌++◌, ◌≤◌, ◌+◌, List, [], ◌∷◌, length, map, ap, sym, subst, arith}
+use Rattle.std.proofs.Common.{◌≡◌, ◌∙◌, ◌++◌, List, length, map, ap, sym, subst, arith}
 use Rattle.std.proofs.lemmas.List.{length-map, length-append}
 use Rattle.rtl_bits.specs.declared.Bit.{Bit}
 use Rattle.rtl_flat.specs.declared.signal.Signal.{Signal}
 use Rattle.rtl_flat.specs.Process.{piece}
 use Rattle.rtl_flat.specs.Signs.{width_in}
 use Rattle.rtl_flat.specs.Value.{store}
-use Rattle.event_model.specs.Queue.{State}
-use Rattle.event_model.specs.Writes.{Write, writes}
-use Rattle.event_write.specs.Entries.{Entry, IsClosed, entries, entry, updates}
+use Rattle.event_model.specs.Writes.{Write}
+use Rattle.event_write.specs.Entries.{IsClosed, entries, entry, updates}
 use Rattle.event_write.specs.QueueState.{AreInside, design_of, state}
 use Rattle.event_write.proofs.Entering.{all_inside, how_many, inside_append, later_update, still_closed, with_waiting}
 use Rattle.event_write.proofs.bodies.write_later.Goals as goal

@@ -1,11 +1,10 @@
-use Rattle.std.proofs.Common.{◌≡◌, ◌∙◌, ◌++◌, List, [], map, ap, sym, subst}
+use Rattle.std.proofs.Common.{◌≡◌, ◌∙◌, ◌++◌, List, map, ap, sym, subst}
 use Rattle.rtl_bits.specs.declared.Bit.{Bit}
 use Rattle.rtl_flat.specs.declared.signal.Signal.{Signal}
 use Rattle.rtl_flat.specs.Process.{piece}
 use Rattle.rtl_flat.specs.Signs.{width_in}
 use Rattle.rtl_flat.specs.Value.{store}
 use Rattle.event_model.specs.Queue.{write_all}
-use Rattle.event_model.specs.Writes.{writes}
 use Rattle.event_write.specs.Entries.{Entry, entries, entry, all_writes}
 use Rattle.event_write.specs.QueueState.{AreInside, design_of, state}
 use Rattle.event_write.proofs.Entering.{all_of, all_inside}

@@ -1,5 +1,4 @@
-use Rattle.std.proofs.Common.{◌≡◌, ◌∙◌, ◌<◌, length, get_or, ap, sym, subst, arith}
-use Rattle.event_write.specs.declared.entries.Entry.{Entry}
+use Rattle.std.proofs.Common.{◌≡◌, ◌∙◌, ◌<◌, length, get_or, ap, arith}
 use Rattle.event_write.specs.Entries.{entry}
 use Rattle.event_write.specs.QueueState.{IsInside}
 use Rattle.event_write.proofs.Writing.{seen_at}

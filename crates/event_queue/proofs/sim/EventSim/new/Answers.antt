@@ -1,7 +1,14 @@
-use Rattle.std.proofs.Common.{refl, ap}
+use Rattle.std.proofs.Common.{◌∙◌, List, Vec, length, refl, ap}
+use Rattle.std.specs.declared.alloc.Global.{Global}
+use Rattle.rtl_flat.specs.declared.act.ProcId.{ProcId}
+use Rattle.rtl_flat.specs.declared.design.Design.{Design}
 use Rattle.event_model.specs.Queue.{flat}
 use Rattle.event_queue.proofs.Beginning.{holding, levels_are}
 use Rattle.event_queue.proofs.sim.EventSim.new.Goals as goal
+
+pub first_queue-requires-clause-table : goal.first_queue-requires-clause-table
+first_queue-requires-clause-table c =
+    ap (λ (rows : List (Vec ProcId Global)). length rows) c.deref.ensures.value ∙ c.in_ok-fanout.ensures.tables.driven ∙ ap (λ (d : Design). length d.signals.items) c.in_ok-fanout.ensures.design
 
 pub invariant_of-result : goal.invariant_of-result
 invariant_of-result c =

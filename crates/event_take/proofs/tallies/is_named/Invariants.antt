@@ -1,0 +1,8 @@
+use Rattle.std.proofs.Common.{◌≡◌, drop, map}
+use Rattle.rtl_flat.specs.Process.{piece}
+use Rattle.event_tally.specs.Targets.{names}
+use Rattle.event_take.proofs.tallies.is_named.Given as goal
+
+abbrev pub invariant-loop-at : goal.invariant-loop-at
+invariant-loop-at l =
+    names (map piece (drop l.at l.parts)) l.signal.0 ≡ names (map piece (drop l.from l.parts)) l.signal.0
