@@ -1,0 +1,2 @@
+//! Findings about assignments, drivers, clocks and resets.
+#![tactic(auto)]

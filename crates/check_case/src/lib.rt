@@ -1,0 +1,2 @@
+//! Findings about case statements.
+#![tactic(auto)]

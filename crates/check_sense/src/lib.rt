@@ -1,0 +1,2 @@
+//! Findings about sensitivity lists.
+#![tactic(auto)]

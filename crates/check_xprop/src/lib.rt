@@ -1,0 +1,2 @@
+//! Findings about x, z and what synthesis ignores.
+#![tactic(auto)]

@@ -1,0 +1,5 @@
+pub mod Rows
+pub mod Order
+pub mod Keys
+pub mod Sites
+pub mod Parts

@@ -1,0 +1,252 @@
+//! The rules and their table.
+
+ghost use Rattle.std.specs.Prelude.{◌≡◌, true, false};
+ghost use Rattle.rtl_rule.specs.Rows.{row_of};
+
+/// A rule of the desk, in the order of the table.
+#[derive(Clone, Copy, PartialEq, Eq, Debug)]
+pub enum Rule {
+    /// A process with a level list that leaves out a signal it reads.
+    SenseMissing,
+    /// A process with a level list that nothing can wake.
+    NeverWakes,
+    /// A process with an edge whose list has an item without one.
+    MixedEdges,
+    /// A blocking assignment to a variable of a clocked process that isn't a temporary.
+    BlockingState,
+    /// A nonblocking assignment in a process with a level list.
+    NonblockingComb,
+    /// A variable that a process assigns in both ways.
+    MixedAssign,
+    /// A signal with a bit that several processes drive.
+    SeveralDrivers,
+    /// A signal with a bit that nothing drives.
+    Undriven,
+    /// A process on a cycle without a register.
+    CombLoop,
+    /// An edge of a signal that isn't a top input passed on, or of one that has two roles.
+    DerivedClock,
+    /// A clock or reset that is read as data.
+    ClockAsData,
+    /// A variable with a bit that some path of a process with a level list leaves.
+    LatchInferred,
+    /// A literal with a z bit.
+    Tristate,
+    /// Several events over a body that isn't the chain of resets.
+    ResetShape,
+    /// A reset that is tested against its edge.
+    ResetPolarity,
+    /// A process with several asynchronous resets.
+    AsyncPair,
+    /// A reset branch that doesn't give each register one constant.
+    ResetValue,
+    /// A case that says `full_case` and isn't complete.
+    FullCase,
+    /// A case that says `parallel_case` and has items that aren't shown disjoint.
+    ParallelCase,
+    /// A label with a bit that never matches.
+    UnknownItem,
+    /// A literal with an x bit.
+    UnknownLiteral,
+    /// A bit-select that may lie outside its signal.
+    SelectRange,
+    /// A divisor that isn't a constant power of two.
+    DivideVariable,
+    /// `===` or `!==`.
+    CaseEquality,
+    /// A delay.
+    DelayIgnored,
+    /// An `initial`.
+    InitialIgnored,
+    /// A region that `translate_off` hides.
+    TranslateOff,
+    /// A condition, a selector, labels or an index that may read x.
+    XOptimism,
+    /// The selector or labels of a `casez` or `casex` that may read x.
+    WildSelector,
+}
+
+/// All rules, in the order of the table.
+pub const RULES: [Rule; 29] = [
+    Rule::SenseMissing,
+    Rule::NeverWakes,
+    Rule::MixedEdges,
+    Rule::BlockingState,
+    Rule::NonblockingComb,
+    Rule::MixedAssign,
+    Rule::SeveralDrivers,
+    Rule::Undriven,
+    Rule::CombLoop,
+    Rule::DerivedClock,
+    Rule::ClockAsData,
+    Rule::LatchInferred,
+    Rule::Tristate,
+    Rule::ResetShape,
+    Rule::ResetPolarity,
+    Rule::AsyncPair,
+    Rule::ResetValue,
+    Rule::FullCase,
+    Rule::ParallelCase,
+    Rule::UnknownItem,
+    Rule::UnknownLiteral,
+    Rule::SelectRange,
+    Rule::DivideVariable,
+    Rule::CaseEquality,
+    Rule::DelayIgnored,
+    Rule::InitialIgnored,
+    Rule::TranslateOff,
+    Rule::XOptimism,
+    Rule::WildSelector,
+];
+
+/// What the table says of a rule.
+#[derive(Clone, Copy, PartialEq, Eq, Debug)]
+pub struct Row {
+    /// By which reports name the rule first.
+    pub code: &'static str,
+    pub name: &'static str,
+    /// A design with a finding of it isn't clean.
+    pub first_grade: bool,
+    /// A waiver may set a finding of it aside.
+    pub waivable: bool,
+}
+
+// A rule of the first grade, which may be waived.
+fn usual(code: &'static str, name: &'static str) -> Row
+    ensures code { result.code.now ≡ code.now }
+    ensures name { result.name.now ≡ name.now }
+    ensures first_grade { result.first_grade ≡ true }
+    ensures waivable { result.waivable ≡ true }
+{
+    Row {
+        code,
+        name,
+        first_grade: true,
+        waivable: true,
+    }
+}
+
+// A rule of the first grade, which is never waived.
+fn strict(code: &'static str, name: &'static str) -> Row
+    ensures code { result.code.now ≡ code.now }
+    ensures name { result.name.now ≡ name.now }
+    ensures first_grade { result.first_grade ≡ true }
+    ensures waivable { result.waivable ≡ false }
+{
+    Row {
+        code,
+        name,
+        first_grade: true,
+        waivable: false,
+    }
+}
+
+// A rule of the second grade, which may be waived.
+fn second(code: &'static str, name: &'static str) -> Row
+    ensures code { result.code.now ≡ code.now }
+    ensures name { result.name.now ≡ name.now }
+    ensures first_grade { result.first_grade ≡ false }
+    ensures waivable { result.waivable ≡ true }
+{
+    Row {
+        code,
+        name,
+        first_grade: false,
+        waivable: true,
+    }
+}
+
+impl Rule {
+    ghost use Rattle.rtl_rule.specs.Rows.{rule_number};
+
+    /// The row of the rule.
+    pub fn row(self) -> Row
+        ensures code { result.code.now ≡ (row_of self).code }
+        ensures name { result.name.now ≡ (row_of self).name }
+        ensures first_grade { result.first_grade ≡ (row_of self).first_grade }
+        ensures waivable { result.waivable ≡ (row_of self).waivable }
+    {
+        match self {
+            Rule::SenseMissing => usual("S1", "SenseMissing"),
+            Rule::NeverWakes => usual("S2", "NeverWakes"),
+            Rule::MixedEdges => usual("S3", "MixedEdges"),
+            Rule::BlockingState => usual("A1", "BlockingState"),
+            Rule::NonblockingComb => usual("A2", "NonblockingComb"),
+            Rule::MixedAssign => usual("A3", "MixedAssign"),
+            Rule::SeveralDrivers => strict("A4", "SeveralDrivers"),
+            Rule::Undriven => usual("A5", "Undriven"),
+            Rule::CombLoop => strict("A6", "CombLoop"),
+            Rule::DerivedClock => usual("A7", "DerivedClock"),
+            Rule::ClockAsData => usual("A8", "ClockAsData"),
+            Rule::LatchInferred => usual("L1", "LatchInferred"),
+            Rule::Tristate => usual("Z1", "Tristate"),
+            Rule::ResetShape => usual("R1", "ResetShape"),
+            Rule::ResetPolarity => usual("R2", "ResetPolarity"),
+            Rule::AsyncPair => usual("R3", "AsyncPair"),
+            Rule::ResetValue => usual("R4", "ResetValue"),
+            Rule::FullCase => usual("C1", "FullCase"),
+            Rule::ParallelCase => usual("C2", "ParallelCase"),
+            Rule::UnknownItem => usual("C3", "UnknownItem"),
+            Rule::UnknownLiteral => usual("X1", "UnknownLiteral"),
+            Rule::SelectRange => usual("X2", "SelectRange"),
+            Rule::DivideVariable => usual("X3", "DivideVariable"),
+            Rule::CaseEquality => usual("X4", "CaseEquality"),
+            Rule::DelayIgnored => usual("D1", "DelayIgnored"),
+            Rule::InitialIgnored => usual("D2", "InitialIgnored"),
+            Rule::TranslateOff => usual("D3", "TranslateOff"),
+            Rule::XOptimism => second("U1", "XOptimism"),
+            Rule::WildSelector => second("U2", "WildSelector"),
+        }
+    }
+
+    // Its place among the rules.
+    pub(crate) fn number(self) -> u32
+        ensures { result ≡ rule_number self }
+    {
+        match self {
+            Rule::SenseMissing => 0,
+            Rule::NeverWakes => 1,
+            Rule::MixedEdges => 2,
+            Rule::BlockingState => 3,
+            Rule::NonblockingComb => 4,
+            Rule::MixedAssign => 5,
+            Rule::SeveralDrivers => 6,
+            Rule::Undriven => 7,
+            Rule::CombLoop => 8,
+            Rule::DerivedClock => 9,
+            Rule::ClockAsData => 10,
+            Rule::LatchInferred => 11,
+            Rule::Tristate => 12,
+            Rule::ResetShape => 13,
+            Rule::ResetPolarity => 14,
+            Rule::AsyncPair => 15,
+            Rule::ResetValue => 16,
+            Rule::FullCase => 17,
+            Rule::ParallelCase => 18,
+            Rule::UnknownItem => 19,
+            Rule::UnknownLiteral => 20,
+            Rule::SelectRange => 21,
+            Rule::DivideVariable => 22,
+            Rule::CaseEquality => 23,
+            Rule::DelayIgnored => 24,
+            Rule::InitialIgnored => 25,
+            Rule::TranslateOff => 26,
+            Rule::XOptimism => 27,
+            Rule::WildSelector => 28,
+        }
+    }
+}
+
+/// Whether a design with a finding of the rule isn't clean.
+pub fn first_grade(rule: Rule) -> bool
+    ensures { result ≡ (row_of rule).first_grade }
+{
+    rule.row().first_grade
+}
+
+/// Whether a waiver may set a finding of the rule aside.
+pub fn waivable(rule: Rule) -> bool
+    ensures { result ≡ (row_of rule).waivable }
+{
+    rule.row().waivable
+}

@@ -1,0 +1,4 @@
+pub mod Agree
+pub mod BringUp
+pub mod Formed
+pub mod Laws
