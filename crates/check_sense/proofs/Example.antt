@@ -1,6 +1,6 @@
 -- The definitions at work on small designs.
-use Rattle.std.proofs.Common.{◌≡◌, refl, ℕ, true, false, Some, None, List, [], ◌∷◌, inl, inr}
-use Rattle.rtl_bits.specs.declared.Edge.TheVariants.{No, Pos}
+use Rattle.std.proofs.Common.{◌≡◌, refl, ℕ, true, false, Some, None, List, [], ◌∷◌}
+use Rattle.rtl_bits.specs.declared.Edge.TheVariants.{No}
 use Rattle.rtl_tree.specs.declared.text.Spot.{Spot}
 use Rattle.rtl_flat.specs.declared.expr.Join.TheVariants as join
 use Rattle.rtl_flat.specs.declared.signal.Kind.{Kind}
@@ -9,9 +9,8 @@ use Rattle.rtl_flat.specs.declared.signal.Signal.{Signal}
 use Rattle.rtl_flat.specs.Expression as sized
 use Rattle.rtl_flat.specs.Process.{Watched, Actions, Doing, Task}
 use Rattle.rtl_flat.specs.Process as part
-use Rattle.rtl_rule.specs.declared.rule.Rule.TheVariants.{SenseMissing}
 use Rattle.rtl_rule.specs.Parts.{Parts, At, number}
-use Rattle.check_sense.specs.Sense.{misses, never_wakes, sense_missing_at, never_wakes_at, first_level}
+use Rattle.check_sense.specs.Sense.{misses, never_wakes, never_wakes_at}
 
 abbrev spot_at : ℕ → Spot
 spot_at at = record { file = 0; at = at }

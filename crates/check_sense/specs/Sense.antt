@@ -1,6 +1,6 @@
 -- What is wrong with sensitivity lists (IEEE 1364-2001 section 9.7, IEEE 1364.1-2002 section 5.1).
-use Rattle.std.specs.Prelude.{ℕ, ◌≡◌, ◌==◌, Bool, true, false, not, ◌&&◌, ◌||◌, List, [], ◌++◌, length, Option, Some, None}
-use Rattle.std.specs.List.{enumerate_from, find, list_any, slice_get}
+use Rattle.std.specs.Prelude.{ℕ, ◌≡◌, ◌==◌, Bool, true, false, not, ◌&&◌, ◌||◌, List, ◌++◌, Option, Some, None}
+use Rattle.std.specs.List.{enumerate_from, find, list_any}
 use Rattle.rtl_flat.specs.declared.expr.SigId.{SigId}
 use Rattle.rtl_flat.specs.declared.signal.Kind.{Kind}
 use Rattle.rtl_flat.specs.declared.signal.Kind.TheVariants.{TopInput, Net, Var}
@@ -8,12 +8,12 @@ use Rattle.rtl_flat.specs.declared.signal.Signal.{Signal}
 use Rattle.rtl_flat.specs.Flows.{body_flow}
 use Rattle.rtl_flat.specs.PathSets.{items_list, listed}
 use Rattle.rtl_flat.specs.Paths.{reads_outside}
-use Rattle.rtl_flat.specs.Process.{Watched, Doing, Assign, Comb, Edge', Task}
+use Rattle.rtl_flat.specs.Process.{Watched, Doing, Comb, Edge', Task}
 use Rattle.rtl_flat.specs.WellFormed.{has_edge}
 use Rattle.rtl_rule.specs.declared.finding.Finding.{Finding}
 use Rattle.rtl_rule.specs.declared.rule.Rule.TheVariants.{SenseMissing, NeverWakes, MixedEdges}
 use Rattle.rtl_rule.specs.Order.{ranked}
-use Rattle.rtl_rule.specs.Parts.{Parts, At, sites, signal_sites, process_sites, widths, some_below, has_some, first_written, written, number, found}
+use Rattle.rtl_rule.specs.Parts.{Parts, At, signal_sites, process_sites, widths, has_some, first_written, written, number, found}
 use Rattle.rtl_rule.specs.Sites.{AreFindings}
 
 -- ---- S1

@@ -1,18 +1,18 @@
 -- The definitions at work on small designs.
-use Rattle.std.proofs.Common.{◌≡◌, refl, ℕ, Bool, true, false, Some, None, List, [], ◌∷◌, map, length}
+use Rattle.std.proofs.Common.{◌≡◌, refl, ℕ, false, List, [], ◌∷◌, map, length}
 use Rattle.rtl_bits.specs.declared.Bit.{Bit}
 use Rattle.rtl_bits.specs.declared.Bit.TheVariants.{Zero, One, X}
 use Rattle.rtl_flat.specs.declared.expr.Compare.TheVariants as compare
 use Rattle.rtl_flat.specs.declared.expr.Join.TheVariants as join
 use Rattle.rtl_tree.specs.declared.text.Spot.{Spot}
 use Rattle.rtl_flat.specs.declared.signal.Kind.{Kind}
-use Rattle.rtl_flat.specs.declared.signal.Kind.TheVariants.{TopInput, Net, Var}
+use Rattle.rtl_flat.specs.declared.signal.Kind.TheVariants.{TopInput, Net}
 use Rattle.rtl_flat.specs.declared.signal.Signal.{Signal}
 use Rattle.rtl_flat.specs.Expression as sized
 use Rattle.rtl_flat.specs.Process.{Piece, Watched, Actions, Doing, Task}
 use Rattle.rtl_flat.specs.Process as part
 use Rattle.rtl_rule.specs.Parts.{Parts, At}
-use Rattle.check_xprop.specs.Unknowns.{IsUnknownLiteral, IsSelectRange, IsDivideVariable, IsCaseEquality, Computed, Pick, picks}
+use Rattle.check_xprop.specs.Unknowns.{IsUnknownLiteral, IsDivideVariable, IsCaseEquality, Computed, Pick, picks}
 
 abbrev spot_at : ℕ → Spot
 spot_at at = record { file = 0; at = at }

@@ -1,14 +1,12 @@
 -- Where x, z and what synthesis ignores make a difference (IEEE 1364.1-2002 sections 5.5 and 6, IEEE 1364-2001 sections
 -- 4.1 and 4.2).
-use Rattle.std.specs.Prelude.{ℕ, ◌≡◌, ◌<◌, ◌==◌, ◌^◌, ℤ, nat_lt, Bool, true, false, not, ◌&&◌, ◌||◌, List, [], ◌∷◌, ◌++◌, length, map, Option, Some, None}
-use Rattle.std.specs.List.{Contains, filter_map, flat_map, list_all, list_any, slice_get}
-use Rattle.std.specs.Option.{IsSomeAnd}
+use Rattle.std.specs.Prelude.{ℕ, ◌≡◌, ◌^◌, ℤ, nat_lt, Bool, true, false, not, ◌&&◌, ◌||◌, List, [], ◌∷◌, ◌++◌, length, Option, Some, None}
+use Rattle.std.specs.List.{filter_map, flat_map, list_all, list_any, slice_get}
 use Rattle.rtl_bits.specs.declared.Bit.{Bit}
 use Rattle.rtl_bits.specs.declared.Bit.TheVariants as bit
 use Rattle.rtl_bits.specs.Bits.{top_bit}
 use Rattle.rtl_bits.specs.Bit.{is_one}
 use Rattle.rtl_tree.specs.declared.text.Spot.{Spot}
-use Rattle.rtl_tree.specs.declared.dropped.DropKind.{DropKind}
 use Rattle.rtl_tree.specs.declared.dropped.DropKind.TheVariants.{Initial, TranslateOff}
 use Rattle.rtl_flat.specs.declared.act.CaseKind.TheVariants.{Plain, Z, X}
 use Rattle.rtl_flat.specs.declared.expr.Compare.TheVariants as compare
@@ -29,7 +27,7 @@ use Rattle.rtl_rule.specs.declared.finding.Finding.{Finding}
 use Rattle.rtl_rule.specs.declared.rule.Rule.{Rule}
 use Rattle.rtl_rule.specs.declared.rule.Rule.TheVariants as rule
 use Rattle.rtl_rule.specs.Order.{ranked}
-use Rattle.rtl_rule.specs.Parts.{Parts, At, sites, process_sites, widths, has_some, some_below, first_written, written, number, found, found_at, least_place, nodes, place_of, reads_signal, statements, pieces, items_of, trees, labels, is_x, has_literal, literal_places}
+use Rattle.rtl_rule.specs.Parts.{Parts, At, sites, process_sites, widths, has_some, some_below, first_written, written, number, found_at, least_place, nodes, place_of, reads_signal, statements, pieces, items_of, trees, labels, is_x, has_literal, literal_places}
 use Rattle.rtl_rule.specs.Sites.{AreFindings}
 use Rattle.check_assign.specs.Assigned.{is_clocked}
 use Rattle.check_assign.specs.Clocks.{chain_of, has_chain}

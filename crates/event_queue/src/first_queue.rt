@@ -145,7 +145,9 @@ fn fresh(
     requires table { length table.now ≡ length design.now.signals.items }
     requires stored { AreStored design.now.signals.items values.items }
     requires driven { AreDriven (flat design.now) drivers.items }
-    ensures { IfOk result (λ queue. IsFresh (flat design.now) (store values.items) (driver_in drivers.items) levels.items room queue) }
+    ensures { IfOk result (λ queue.
+        IsFresh (flat design.now) (store values.items)
+        (driver_in drivers.items) levels.items room queue) }
 {
     let tallies = first_tallies(alloc, design, &values, table, &drivers)?;
     let offered_values = first_values(alloc, design)?;
@@ -222,7 +224,8 @@ pub(crate) fn power_up(
 ) -> Result<QueueState, Memory>
     requires levels { length levels.items ≡ length design.now.processes.items }
     requires table { length table.now ≡ length design.now.signals.items }
-    ensures { IfOk result (λ queue. IsFirst (flat design.now) (power_up (flat design.now)) levels.items room queue) }
+    ensures { IfOk result (λ queue.
+        IsFirst (flat design.now) (power_up (flat design.now)) levels.items room queue) }
 {
     let values = first_values(alloc, design)?;
     let drivers = first_drivers(alloc, design)?;
@@ -243,7 +246,9 @@ pub(crate) fn settled(
     requires levels { length levels.items ≡ length design.now.processes.items }
     requires table { length table.now ≡ length design.now.signals.items }
     requires stored { AreStored design.now.signals.items values.now }
-    ensures { IfOk result (λ queue. IsFirst (flat design.now) (settled_at (flat design.now) (store values.now)) levels.items room queue) }
+    ensures { IfOk result (λ queue.
+        IsFirst (flat design.now) (settled_at (flat design.now) (store values.now)) levels.items
+        room queue) }
 {
     let drivers = now_drivers(alloc, design, values)?;
     let copy = copied(alloc, values)?;

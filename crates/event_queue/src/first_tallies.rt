@@ -63,10 +63,14 @@ fn tally_first(
     requires there { process.0 < length design.now.processes.items }
     requires stored { AreStored design.now.signals.items values.now }
     requires count { length tallies.old.items ≡ length design.now.signals.items }
-    requires width { HasWidth (widths (flat design.now)) (doing_at (flat design.now) process.0) (length (driver_of (Some driver))) }
-    requires tallied { AreTalliedWith (flat design.now) process.0 (replicate (length (driver_of (Some driver))) Bit.Z) tallies.old.items }
+    requires width { HasWidth (widths (flat design.now)) (doing_at (flat design.now) process.0)
+        (length (driver_of (Some driver))) }
+    requires tallied { AreTalliedWith (flat design.now) process.0
+        (replicate (length (driver_of (Some driver))) Bit.Z) tallies.old.items }
     ensures size { length tallies.new.items ≡ length tallies.old.items }
-    ensures tallied { AreMoved (flat design.now) process.0 (replicate (length (driver_of (Some driver))) Bit.Z) (driver_of (Some driver)) tallies.old.items tallies.new.items }
+    ensures tallied { AreMoved (flat design.now) process.0
+        (replicate (length (driver_of (Some driver))) Bit.Z)
+        (driver_of (Some driver)) tallies.old.items tallies.new.items }
 {
     match driver {
         Some(bits) => {
@@ -88,7 +92,8 @@ pub(crate) fn first_tallies(
     requires table { length table.now ≡ length design.now.signals.items }
     requires stored { AreStored design.now.signals.items values.now }
     requires driven { AreDriven (flat design.now) drivers.now }
-    ensures { IfOk result (λ tallies. AreTallies (flat design.now) (driver_in drivers.now) tallies.items) }
+    ensures { IfOk result (λ tallies.
+        AreTallies (flat design.now) (driver_in drivers.now) tallies.items) }
 {
     let mut tallies = first_rows(alloc, design, table)?;
     for number in 0..design.processes.len() {

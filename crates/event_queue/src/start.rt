@@ -34,7 +34,8 @@ pub(crate) fn first_queue(
     requires start { IsStart design.now start.now }
     requires table { length table.now ≡ length design.now.signals.items }
     requires levels { length levels.items ≡ length design.now.processes.items }
-    ensures { IfOk result (λ queue. IsFirst (flat design.now) (start_of (flat design.now) start.now) levels.items room queue) }
+    ensures { IfOk result (λ queue.
+        IsFirst (flat design.now) (start_of (flat design.now) start.now) levels.items room queue) }
 {
     match start {
         Start::PowerUp => power_up(alloc, design, table, levels, room),

@@ -22,10 +22,13 @@ pub(crate) fn take_event(fanout: &Fanout, queue: &mut QueueState, choice: Choice
     requires queue { IsQueueState (design_of fanout.now) queue.old }
     requires able { IsAble (design_of fanout.now) queue.old choice }
     requires scratch { 128 ≤ vec_capacity queue.old.scratch }
-    requires room { length queue.old.waiting.items + room_for (design_of fanout.now) (event_of choice) ≤ vec_capacity queue.old.waiting }
-    ensures state { state queue.new ≡ after (design_of fanout.now) (state queue.old) (event_of choice) }
+    requires room { length queue.old.waiting.items + room_for (design_of fanout.now)
+        (event_of choice) ≤ vec_capacity queue.old.waiting }
+    ensures state { state queue.new
+        ≡ after (design_of fanout.now) (state queue.old) (event_of choice) }
     ensures queue { IsQueueState (design_of fanout.now) queue.new }
-    ensures taken { IsTaken (room_for (design_of fanout.now) (event_of choice)) (free (event_of choice)) queue.old queue.new }
+    ensures taken { IsTaken (room_for (design_of fanout.now) (event_of choice))
+        (free (event_of choice)) queue.old queue.new }
 {
     match choice {
         Choice::Input(signal) => take_input(fanout, queue, signal),

@@ -60,12 +60,14 @@ pub fn still_run()
 
 /// After each event, blocks that wait and haven't run find what they list as it was first.
 pub fn unheard_after()
-    ensures { (d : Flat) → AreLawful d → (first : Values) → IsKeptRunning d (λ ran s. AreUnheard d ran first s) }
+    ensures { (d : Flat) → AreLawful d → (first : Values)
+        → IsKeptRunning d (λ ran s. AreUnheard d ran first s) }
 {}
 
 /// After each run, blocks that wait and haven't run find what they list as it was first.
 pub fn unheard_run()
-    ensures { (d : Flat) → AreLawful d → (first : Values) → IsKeptByRunning d (λ ran s. AreUnheard d ran first s) }
+    ensures { (d : Flat) → AreLawful d → (first : Values)
+        → IsKeptByRunning d (λ ran s. AreUnheard d ran first s) }
 {}
 
 /// After each event, driven bits show what their drivers give together.

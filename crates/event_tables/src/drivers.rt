@@ -56,7 +56,8 @@ fn enter_parts(
 /// Puts a process into the rows of the signals that it drives: a body drives none.
 fn drive(drivers: &mut Vec<Vec<ProcId>>, design: &Design, process: ProcId) -> Result<(), Memory>
     requires { process.0 < length design.now.processes.items }
-    ensures { OnOk result (Enters process (drives (flat design.now) process.0) drivers.old.items drivers.new.items) }
+    ensures { OnOk result (Enters process
+        (drives (flat design.now) process.0) drivers.old.items drivers.new.items) }
 {
     match &design.processes[process.0 as usize].does {
         Does::Assign { target, value: _ } => enter_parts(drivers, process, &target.parts),

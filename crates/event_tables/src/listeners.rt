@@ -82,7 +82,9 @@ fn hear_bits(
     edge: Edge,
     bits: Row,
 ) -> Result<(), Memory>
-    ensures { OnOk result (Hears process.0 (λ s k old new. has_row bits s k && happens edge old new) listeners.old.items listeners.new.items) }
+    ensures { OnOk result (Hears process.0
+        (λ s k old new. has_row bits s k && happens edge old new) listeners.old.items
+        listeners.new.items) }
 {
     let place = bits.signal.0 as usize;
     if place >= listeners.len() {
@@ -99,7 +101,9 @@ fn hear_rows(
     process: ProcId,
     rows: &[Row],
 ) -> Result<(), Memory>
-    ensures { OnOk result (Hears process.0 (λ s k old new. has_rows rows.now s k && happens No old new) listeners.old.items listeners.new.items) }
+    ensures { OnOk result (Hears process.0
+        (λ s k old new. has_rows rows.now s k && happens No old new) listeners.old.items
+        listeners.new.items) }
 {
     for row in rows {
         hear_bits(alloc, listeners, process, Edge::No, *row)?;
@@ -115,7 +119,9 @@ fn hear_items(
     process: ProcId,
     items: &[EventItem],
 ) -> Result<(), Memory>
-    ensures { OnOk result (Hears process.0 (λ s k old new. list_any (item_hears (widths (flat design.now)) s k old new) (map watched items.now)) listeners.old.items listeners.new.items) }
+    ensures { OnOk result (Hears process.0
+        (λ s k old new. list_any (item_hears (widths (flat design.now)) s k old new)
+        (map watched items.now)) listeners.old.items listeners.new.items) }
 {
     for item in items {
         let bits = selected(design, item.signal, &item.select);

@@ -52,7 +52,9 @@ fn drive_with(
     requires inside { process.0 < length fanout.now.design.now.processes.items }
     requires there { net.0 < length fanout.now.design.now.signals.items }
     requires width { length others ≡ width_in fanout.now.design.now.signals.items net.0 }
-    ensures bits { result ≡ driven_with (widths (design_of fanout.now)) (doing_at (design_of fanout.now) process.0) ((state queue.now).driver process.0) net.0 others }
+    ensures bits { result ≡ driven_with (widths (design_of fanout.now))
+        (doing_at (design_of fanout.now) process.0)
+        ((state queue.now).driver process.0) net.0 others }
     ensures width { length result ≡ width_in fanout.now.design.now.signals.items net.0 }
 {
     let Does::Assign { target, value: _ } = &fanout.design.processes[process.0 as usize].does else {

@@ -18,7 +18,8 @@ use rtl_flat::expr::SigId;
 pub(crate) fn first(fanout: &Fanout, queue: &QueueState) -> Option<Choice>
     requires queue { IsQueueState (design_of fanout.now) queue.now }
     requires lawful { IsLawful (design_of fanout.now) (state queue.now) }
-    ensures event { option_map event_of result ≡ first_of (active (design_of fanout.now) (state queue.now)) }
+    ensures event { option_map event_of result
+        ≡ first_of (active (design_of fanout.now) (state queue.now)) }
     ensures able { IfSome result (λ choice. IsAble (design_of fanout.now) queue.now choice) }
 {
     if let Some(signal) = queue.offered.least() {
@@ -40,7 +41,8 @@ pub(crate) fn first(fanout: &Fanout, queue: &QueueState) -> Option<Choice>
 pub(crate) fn last(fanout: &Fanout, queue: &QueueState) -> Option<Choice>
     requires queue { IsQueueState (design_of fanout.now) queue.now }
     requires lawful { IsLawful (design_of fanout.now) (state queue.now) }
-    ensures event { option_map event_of result ≡ last_of (active (design_of fanout.now) (state queue.now)) }
+    ensures event { option_map event_of result
+        ≡ last_of (active (design_of fanout.now) (state queue.now)) }
     ensures able { IfSome result (λ choice. IsAble (design_of fanout.now) queue.now choice) }
 {
     if has_delayed(queue) {

@@ -28,7 +28,8 @@ pub fn take_input(fanout: &Fanout, queue: &mut QueueState, signal: SigId)
     requires fanout { IsFanout fanout.now }
     requires queue { IsQueueState (design_of fanout.now) queue.old }
     requires offered { flag queue.old.offered signal.0 ≡ true }
-    ensures state { state queue.new ≡ after (design_of fanout.now) (state queue.old) (Input signal.0) }
+    ensures state { state queue.new
+        ≡ after (design_of fanout.now) (state queue.old) (Input signal.0) }
     ensures queue { IsQueueState (design_of fanout.now) queue.new }
     ensures still { IsStill queue.old queue.new }
 {
@@ -42,7 +43,8 @@ pub fn evaluate_driver(fanout: &Fanout, queue: &mut QueueState, process: ProcId)
     requires fanout { IsFanout fanout.now }
     requires queue { IsQueueState (design_of fanout.now) queue.old }
     requires there { process.0 < length fanout.now.design.now.processes.items }
-    ensures state { state queue.new ≡ after (design_of fanout.now) (state queue.old) (Evaluate process.0) }
+    ensures state { state queue.new
+        ≡ after (design_of fanout.now) (state queue.old) (Evaluate process.0) }
     ensures queue { IsQueueState (design_of fanout.now) queue.new }
     ensures still { IsStill queue.old queue.new }
 {
@@ -64,10 +66,13 @@ pub fn run_body(fanout: &Fanout, queue: &mut QueueState, process: ProcId)
     requires queue { IsQueueState (design_of fanout.now) queue.old }
     requires there { process.0 < length fanout.now.design.now.processes.items }
     requires scratch { 128 ≤ vec_capacity queue.old.scratch }
-    requires room { length queue.old.waiting.items + room_of (doing_at (design_of fanout.now) process.0) ≤ vec_capacity queue.old.waiting }
-    ensures state { state queue.new ≡ after (design_of fanout.now) (state queue.old) (Run process.0) }
+    requires room { length queue.old.waiting.items + room_of
+        (doing_at (design_of fanout.now) process.0) ≤ vec_capacity queue.old.waiting }
+    ensures state { state queue.new
+        ≡ after (design_of fanout.now) (state queue.old) (Run process.0) }
     ensures queue { IsQueueState (design_of fanout.now) queue.new }
-    ensures kept { IsKept (room_of (doing_at (design_of fanout.now) process.0)) queue.old queue.new }
+    ensures kept { IsKept (room_of (doing_at (design_of fanout.now) process.0)) queue.old
+        queue.new }
 {
     match &fanout.design.processes[process.0 as usize].does {
         Does::Assign {
@@ -86,8 +91,12 @@ fn run_statements(fanout: &Fanout, queue: &mut QueueState, process: ProcId, body
     requires there { process.0 < length fanout.now.design.now.processes.items }
     requires body { IsBody fanout.now.design.now.signals.items (body_of (map action body.now)) }
     requires scratch { 128 ≤ vec_capacity queue.old.scratch }
-    requires room { length queue.old.waiting.items + rooms (body_of (map action body.now)) ≤ vec_capacity queue.old.waiting }
-    ensures state { state queue.new ≡ wait (perform_all (design_of fanout.now) (state queue.old) (body_made (width_in fanout.now.design.now.signals.items) (store queue.old.values.items) (body_of (map action body.now)))) process.0 }
+    requires room { length queue.old.waiting.items + rooms (body_of (map action body.now))
+        ≤ vec_capacity queue.old.waiting }
+    ensures state { state queue.new
+        ≡ wait (perform_all (design_of fanout.now) (state queue.old)
+        (body_made (width_in fanout.now.design.now.signals.items) (store queue.old.values.items)
+        (body_of (map action body.now)))) process.0 }
     ensures queue { IsQueueState (design_of fanout.now) queue.new }
     ensures kept { IsKept (rooms (body_of (map action body.now))) queue.old queue.new }
 {

@@ -17,7 +17,8 @@ use rtl_flat::expr::SigId;
 pub(crate) fn lowest(fanout: &Fanout, queue: &QueueState) -> Option<Choice>
     requires queue { IsQueueState (design_of fanout.now) queue.now }
     requires lawful { IsLawful (design_of fanout.now) (state queue.now) }
-    ensures event { option_map event_of result ≡ first_of (by_level (level_in queue.now) (design_of fanout.now) (state queue.now)) }
+    ensures event { option_map event_of result
+        ≡ first_of (by_level (level_in queue.now) (design_of fanout.now) (state queue.now)) }
     ensures able { IfSome result (λ choice. IsAble (design_of fanout.now) queue.now choice) }
 {
     if let Some(signal) = queue.offered.least() {

@@ -34,7 +34,8 @@ pub fn nth(fanout: &Fanout, queue: &QueueState, place: usize) -> Choice
     requires queue { IsQueueState (design_of fanout.now) queue.now }
     requires lawful { IsLawful (design_of fanout.now) (state queue.now) }
     requires there { place < length (active (design_of fanout.now) (state queue.now)) }
-    ensures event { slice_get (active (design_of fanout.now) (state queue.now)) place ≡ Some (event_of result) }
+    ensures event { slice_get (active (design_of fanout.now) (state queue.now)) place
+        ≡ Some (event_of result) }
     ensures able { IsAble (design_of fanout.now) queue.now result }
 {
     let inputs = queue.offered.count();

@@ -18,7 +18,8 @@ use event_write::queue_state::QueueState;
 pub fn choose(policy: Policy, fanout: &Fanout, queue: &QueueState) -> Option<Choice>
     requires queue { IsQueueState (design_of fanout.now) queue.now }
     requires lawful { IsLawful (design_of fanout.now) (state queue.now) }
-    ensures event { option_map event_of result ≡ chosen policy (level_in queue.now) (design_of fanout.now) (state queue.now) }
+    ensures event { option_map event_of result
+        ≡ chosen policy (level_in queue.now) (design_of fanout.now) (state queue.now) }
     ensures able { IfSome result (λ choice. IsAble (design_of fanout.now) queue.now choice) }
 {
     match policy {

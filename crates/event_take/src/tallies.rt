@@ -33,7 +33,8 @@ pub fn given(fanout: &Fanout, queue: &QueueState, net: SigId, at: u8, count: u8)
     requires there { net.0 < length fanout.now.design.now.signals.items }
     requires some { 1 ≤ count }
     requires inside { at + count ≤ width_in fanout.now.design.now.signals.items net.0 }
-    ensures bits { result ≡ selected at count (resolved (design_of fanout.now) (state queue.now).driver net.0) }
+    ensures bits { result ≡ selected at count
+        (resolved (design_of fanout.now) (state queue.now).driver net.0) }
     ensures width { length result ≡ count }
 {
     let row = &queue.tallies[net.0 as usize];
@@ -55,11 +56,15 @@ pub fn retally(
     requires there { process.0 < length design.now.processes.items }
     requires stored { AreStored design.now.signals.items values.now }
     requires count { length tallies.old.items ≡ length design.now.signals.items }
-    requires old_width { HasWidth (widths (flat design.now)) (doing_at (flat design.now) process.0) (length (driver_of (Some old))) }
-    requires new_width { HasWidth (widths (flat design.now)) (doing_at (flat design.now) process.0) (length new) }
-    requires tallied { AreTalliedWith (flat design.now) process.0 (driver_of (Some old)) tallies.old.items }
+    requires old_width { HasWidth (widths (flat design.now)) (doing_at (flat design.now) process.0)
+        (length (driver_of (Some old))) }
+    requires new_width { HasWidth (widths (flat design.now)) (doing_at (flat design.now) process.0)
+        (length new) }
+    requires tallied { AreTalliedWith (flat design.now) process.0
+        (driver_of (Some old)) tallies.old.items }
     ensures size { length tallies.new.items ≡ length tallies.old.items }
-    ensures tallied { AreMoved (flat design.now) process.0 (driver_of (Some old)) new tallies.old.items tallies.new.items }
+    ensures tallied { AreMoved (flat design.now) process.0
+        (driver_of (Some old)) new tallies.old.items tallies.new.items }
 {
     match &design.processes[process.0 as usize].does {
         Does::Assign { target, value: _ } => {
@@ -86,11 +91,14 @@ fn move_parts(
     requires target { IsTarget (flat design.now) process.0 (map piece parts.now) }
     requires stored { AreStored design.now.signals.items values.now }
     requires count { length tallies.old.items ≡ length design.now.signals.items }
-    requires old_covered { counts (width_in design.now.signals.items) (map piece parts.now) ≤ length old }
-    requires new_covered { counts (width_in design.now.signals.items) (map piece parts.now) ≤ length new }
+    requires old_covered { counts (width_in design.now.signals.items) (map piece parts.now)
+        ≤ length old }
+    requires new_covered { counts (width_in design.now.signals.items) (map piece parts.now)
+        ≤ length new }
     requires tallied { AreTalliedWith (flat design.now) process.0 old tallies.old.items }
     ensures size { length tallies.new.items ≡ length tallies.old.items }
-    ensures tallied { AreMoved (flat design.now) process.0 old new tallies.old.items tallies.new.items }
+    ensures tallied { AreMoved (flat design.now) process.0 old new tallies.old.items
+        tallies.new.items }
 {
     for at in 0..parts.len() {
         let net = parts[at].signal;
@@ -129,14 +137,26 @@ fn move_net(
     requires count { length tallies.old.items ≡ length design.now.signals.items }
     requires selected { AreSelected design.now.signals.items (map piece parts.now) }
     requires fixed { All (λ piece. IsFixed piece.selection) (map piece parts.now) }
-    requires old_covered { counts (width_in design.now.signals.items) (map piece parts.now) ≤ length old }
-    requires new_covered { counts (width_in design.now.signals.items) (map piece parts.now) ≤ length new }
-    requires inside { length (row tallies.old.items net.0) ≤ width_in design.now.signals.items net.0 }
-    requires tallied { (k : ℕ) → k < length (row tallies.old.items net.0) → IsTalliedWith (row tallies.old.items net.0) k (slice_index_or (driven (width_in design.now.signals.items) (map piece parts.now) old net.0) k Bit.Z) }
+    requires old_covered { counts (width_in design.now.signals.items) (map piece parts.now)
+        ≤ length old }
+    requires new_covered { counts (width_in design.now.signals.items) (map piece parts.now)
+        ≤ length new }
+    requires inside { length (row tallies.old.items net.0)
+        ≤ width_in design.now.signals.items net.0 }
+    requires tallied { (k : ℕ) → k < length (row tallies.old.items net.0)
+        → IsTalliedWith (row tallies.old.items net.0) k
+        (slice_index_or (driven (width_in design.now.signals.items)
+        (map piece parts.now) old net.0) k Bit.Z) }
     ensures size { length tallies.new.items ≡ length tallies.old.items }
     ensures others { (i : ℕ) → i ≢ net.0 → row tallies.new.items i ≡ row tallies.old.items i }
     ensures width { length (row tallies.new.items net.0) ≡ length (row tallies.old.items net.0) }
-    ensures tallied { (k : ℕ) (others : List Bit) → k < length (row tallies.new.items net.0) → IsTalliedAt (row tallies.old.items net.0) k (slice_index_or (driven (width_in design.now.signals.items) (map piece parts.now) old net.0) k Bit.Z ∷ others) → IsTalliedAt (row tallies.new.items net.0) k (slice_index_or (driven (width_in design.now.signals.items) (map piece parts.now) new net.0) k Bit.Z ∷ others) }
+    ensures tallied { (k : ℕ) (others : List Bit) → k < length (row tallies.new.items net.0)
+        → IsTalliedAt (row tallies.old.items net.0) k
+        (slice_index_or (driven (width_in design.now.signals.items)
+        (map piece parts.now) old net.0) k Bit.Z ∷ others)
+        → IsTalliedAt (row tallies.new.items net.0) k
+        (slice_index_or (driven (width_in design.now.signals.items)
+        (map piece parts.now) new net.0) k Bit.Z ∷ others) }
 {
     let is_empty = tallies[net.0 as usize].is_empty();
     if is_empty {

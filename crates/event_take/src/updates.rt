@@ -25,7 +25,8 @@ pub fn update_driver(fanout: &Fanout, queue: &mut QueueState, process: ProcId)
     requires fanout { IsFanout fanout.now }
     requires queue { IsQueueState (design_of fanout.now) queue.old }
     requires pending { flag queue.old.pending process.0 ≡ true }
-    ensures state { state queue.new ≡ after (design_of fanout.now) (state queue.old) (Update process.0) }
+    ensures state { state queue.new
+        ≡ after (design_of fanout.now) (state queue.old) (Update process.0) }
     ensures queue { IsQueueState (design_of fanout.now) queue.new }
     ensures still { IsStill queue.old queue.new }
 {
@@ -45,8 +46,10 @@ pub fn update_driver(fanout: &Fanout, queue: &mut QueueState, process: ProcId)
 fn set_driver(fanout: &Fanout, queue: &mut QueueState, process: ProcId, bits: Vec4)
     requires queue { IsQueueState (design_of fanout.now) queue.old }
     requires there { process.0 < length fanout.now.design.now.processes.items }
-    requires width { HasWidth (widths (design_of fanout.now)) (doing_at (design_of fanout.now) process.0) (length bits) }
-    ensures state { state queue.new ≡ record (state queue.old) { driver = put (state queue.old).driver process.0 bits } }
+    requires width { HasWidth (widths (design_of fanout.now))
+        (doing_at (design_of fanout.now) process.0) (length bits) }
+    ensures state { state queue.new
+        ≡ record (state queue.old) { driver = put (state queue.old).driver process.0 bits } }
     ensures queue { IsQueueState (design_of fanout.now) queue.new }
     ensures still { IsStill queue.old queue.new }
 {
@@ -68,7 +71,10 @@ fn write_nets(fanout: &Fanout, queue: &mut QueueState, parts: &[TargetPart])
     requires queue { IsQueueState (design_of fanout.now) queue.old }
     requires selected { AreSelected fanout.now.design.now.signals.items (map piece parts.now) }
     requires fixed { All (λ piece. IsFixed piece.selection) (map piece parts.now) }
-    ensures state { state queue.new ≡ write_all (design_of fanout.now) (state queue.old) (net_writes (width_in fanout.now.design.now.signals.items) (resolved (design_of fanout.now) (state queue.old).driver) (map piece parts.now)) }
+    ensures state { state queue.new
+        ≡ write_all (design_of fanout.now) (state queue.old)
+        (net_writes (width_in fanout.now.design.now.signals.items)
+        (resolved (design_of fanout.now) (state queue.old).driver) (map piece parts.now)) }
     ensures queue { IsQueueState (design_of fanout.now) queue.new }
     ensures still { IsStill queue.old queue.new }
 {
@@ -84,7 +90,15 @@ fn write_net(fanout: &Fanout, queue: &mut QueueState, part: &TargetPart)
     requires selected { IsSelection fanout.now.design.now.signals.items part.now.signal.0 (selection part.now.select) }
     requires not_empty { 1 ≤ count_of (width_in fanout.now.design.now.signals.items) part.now.signal.0 (selection part.now.select) }
     requires fixed { IsFixed (selection part.now.select) }
-    ensures state { state queue.new ≡ write_all (design_of fanout.now) (state queue.old) (write_at part.now.signal.0 (span_of (width_in fanout.now.design.now.signals.items) (no_drive (width_in fanout.now.design.now.signals.items)) part.now.signal.0 (selection part.now.select)) (bits_in (span_of (width_in fanout.now.design.now.signals.items) (no_drive (width_in fanout.now.design.now.signals.items)) part.now.signal.0 (selection part.now.select)) (resolved (design_of fanout.now) (state queue.old).driver part.now.signal.0))) }
+    ensures state { state queue.new
+        ≡ write_all (design_of fanout.now) (state queue.old)
+        (write_at part.now.signal.0 (span_of (width_in fanout.now.design.now.signals.items)
+        (no_drive (width_in fanout.now.design.now.signals.items)) part.now.signal.0
+        (selection part.now.select)) (bits_in
+        (span_of (width_in fanout.now.design.now.signals.items)
+        (no_drive (width_in fanout.now.design.now.signals.items)) part.now.signal.0
+        (selection part.now.select)) (resolved (design_of fanout.now)
+        (state queue.old).driver part.now.signal.0))) }
     ensures queue { IsQueueState (design_of fanout.now) queue.new }
     ensures still { IsStill queue.old queue.new }
     ensures drivers { queue.new.drivers ≡ queue.old.drivers }

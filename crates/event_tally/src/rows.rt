@@ -13,9 +13,12 @@ use rtl_bits::{Bit, Vec4};
 pub fn move_row(row: &mut Vec<Tally>, old: Vec4, new: Vec4)
     requires width { length new ≡ length old }
     requires inside { length row.old.items ≤ length old }
-    requires tallied { (k : ℕ) → k < length row.old.items → IsTalliedWith row.old.items k (slice_index_or old k Bit.Z) }
+    requires tallied { (k : ℕ) → k < length row.old.items
+        → IsTalliedWith row.old.items k (slice_index_or old k Bit.Z) }
     ensures size { length row.new.items ≡ length row.old.items }
-    ensures tallied { (k : ℕ) (others : List Bit) → IsTalliedAt row.old.items k (slice_index_or old k Bit.Z ∷ others) → IsTalliedAt row.new.items k (slice_index_or new k Bit.Z ∷ others) }
+    ensures tallied { (k : ℕ) (others : List Bit)
+        → IsTalliedAt row.old.items k (slice_index_or old k Bit.Z ∷ others)
+        → IsTalliedAt row.new.items k (slice_index_or new k Bit.Z ∷ others) }
 {
     for k in 0..row.len() {
         let tally = row[k];
@@ -29,7 +32,8 @@ pub fn bits_of(row: &[Tally], at: u8, count: u8) -> Vec4
     requires few { count ≤ 128 }
     requires inside { at + count ≤ length row.now }
     ensures width { length result ≡ count }
-    ensures bits { (k : ℕ) (column : List Bit) → k < count → IsTalliedAt row.now (at + k) column → slice_index_or result k Bit.Z ≡ reduced resolve_bit Bit.Z column }
+    ensures bits { (k : ℕ) (column : List Bit) → k < count → IsTalliedAt row.now (at + k) column
+        → slice_index_or result k Bit.Z ≡ reduced resolve_bit Bit.Z column }
 {
     let mut bits = Vec4::filled(count, Bit::Z);
     for k in 0..count {

@@ -50,7 +50,8 @@ impl Tally {
     /// The tally where one driver changes.
     pub fn moved(self, old: Bit, new: Bit) -> Tally
         requires { IsTallyWith old self }
-        ensures { (others : List Bit) → IsTally (old ∷ others) self → IsTally (new ∷ others) result }
+        ensures { (others : List Bit) → IsTally (old ∷ others) self
+            → IsTally (new ∷ others) result }
     {
         self.without(old).with(new)
     }

@@ -22,7 +22,8 @@ pub fn write_entry(fanout: &Fanout, queue: &mut QueueState, prepared: Entry)
     requires fanout { IsFanout fanout.now }
     requires queue { IsQueueState (design_of fanout.now) queue.old }
     requires inside { IsInside fanout.now.design.now.signals.items (entry prepared).signal (entry prepared).span (entry prepared).bits }
-    ensures state { state queue.new ≡ write_all (design_of fanout.now) (state queue.old) (writes_of (entry prepared)) }
+    ensures state { state queue.new
+        ≡ write_all (design_of fanout.now) (state queue.old) (writes_of (entry prepared)) }
     ensures queue { IsQueueState (design_of fanout.now) queue.new }
     ensures waiting { queue.new.waiting ≡ queue.old.waiting }
     ensures scratch { queue.new.scratch ≡ queue.old.scratch }
@@ -39,8 +40,11 @@ pub fn write_entry(fanout: &Fanout, queue: &mut QueueState, prepared: Entry)
 fn write_prepared(fanout: &Fanout, queue: &mut QueueState)
     requires fanout { IsFanout fanout.now }
     requires queue { IsQueueState (design_of fanout.now) queue.old }
-    requires inside { AreInside fanout.now.design.now.signals.items (map entry queue.old.scratch.items) }
-    ensures state { state queue.new ≡ write_all (design_of fanout.now) (state queue.old) (all_writes (map entry queue.old.scratch.items)) }
+    requires inside { AreInside fanout.now.design.now.signals.items
+        (map entry queue.old.scratch.items) }
+    ensures state { state queue.new
+        ≡ write_all (design_of fanout.now) (state queue.old)
+        (all_writes (map entry queue.old.scratch.items)) }
     ensures queue { IsQueueState (design_of fanout.now) queue.new }
     ensures waiting { queue.new.waiting ≡ queue.old.waiting }
     ensures scratch { queue.new.scratch ≡ queue.old.scratch }
@@ -61,7 +65,10 @@ pub fn write_now(fanout: &Fanout, queue: &mut QueueState, parts: &[TargetPart], 
     requires selected { AreSelected fanout.now.design.now.signals.items (map piece parts.now) }
     requires covered { counts (width_in fanout.now.design.now.signals.items) (map piece parts.now) ≤ length bits }
     requires room { length parts.now ≤ vec_capacity queue.old.scratch }
-    ensures state { state queue.new ≡ write_all (design_of fanout.now) (state queue.old) (writes (width_in fanout.now.design.now.signals.items) (store queue.old.values.items) (map piece parts.now) bits) }
+    ensures state { state queue.new
+        ≡ write_all (design_of fanout.now) (state queue.old)
+        (writes (width_in fanout.now.design.now.signals.items) (store queue.old.values.items)
+        (map piece parts.now) bits) }
     ensures queue { IsQueueState (design_of fanout.now) queue.new }
     ensures waiting { queue.new.waiting ≡ queue.old.waiting }
     ensures scratch { vec_capacity queue.old.scratch ≤ vec_capacity queue.new.scratch }
@@ -86,10 +93,15 @@ pub fn write_later(fanout: &Fanout, queue: &mut QueueState, parts: &[TargetPart]
     requires some { 1 ≤ length parts.now }
     requires selected { AreSelected fanout.now.design.now.signals.items (map piece parts.now) }
     requires covered { counts (width_in fanout.now.design.now.signals.items) (map piece parts.now) ≤ length bits }
-    requires room { length queue.old.waiting.items + length parts.now ≤ vec_capacity queue.old.waiting }
-    ensures state { state queue.new ≡ perform (design_of fanout.now) (state queue.old) (Later (writes (width_in fanout.now.design.now.signals.items) (store queue.old.values.items) (map piece parts.now) bits)) }
+    requires room { length queue.old.waiting.items + length parts.now
+        ≤ vec_capacity queue.old.waiting }
+    ensures state { state queue.new
+        ≡ perform (design_of fanout.now) (state queue.old)
+        (Later (writes (width_in fanout.now.design.now.signals.items)
+        (store queue.old.values.items) (map piece parts.now) bits)) }
     ensures queue { IsQueueState (design_of fanout.now) queue.new }
-    ensures waiting { length queue.new.waiting.items ≡ length queue.old.waiting.items + length parts.now }
+    ensures waiting { length queue.new.waiting.items
+        ≡ length queue.old.waiting.items + length parts.now }
     ensures room { vec_capacity queue.old.waiting ≤ vec_capacity queue.new.waiting }
     ensures scratch { queue.new.scratch ≡ queue.old.scratch }
     ensures levels { queue.new.woken.levels ≡ queue.old.woken.levels }

@@ -21,7 +21,8 @@ pub struct Listener {
 impl Listener {
     /// Whether its processes hear changes of their signal.
     pub fn hears(&self, changes: Changes) -> bool
-        ensures { (old new : List Bit) → length old ≡ length new → AreChanges old new changes → result ≡ hears_from self.now.edge self.now.mask 0 old new }
+        ensures { (old new : List Bit) → length old ≡ length new → AreChanges old new changes
+            → result ≡ hears_from self.now.edge self.now.mask 0 old new }
     {
         self.mask & changes.places(self.edge) != 0
     }

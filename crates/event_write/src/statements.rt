@@ -29,8 +29,12 @@ pub fn make_all(fanout: &Fanout, queue: &mut QueueState, acts: &[Act])
     requires queue { IsQueueState (design_of fanout.now) queue.old }
     requires body { IsBody fanout.now.design.now.signals.items (body_of (map action acts.now)) }
     requires scratch { 128 ≤ vec_capacity queue.old.scratch }
-    requires room { length queue.old.waiting.items + rooms (body_of (map action acts.now)) ≤ vec_capacity queue.old.waiting }
-    ensures state { state queue.new ≡ perform_all (design_of fanout.now) (state queue.old) (body_made (width_in fanout.now.design.now.signals.items) (store queue.old.values.items) (body_of (map action acts.now))) }
+    requires room { length queue.old.waiting.items + rooms (body_of (map action acts.now))
+        ≤ vec_capacity queue.old.waiting }
+    ensures state { state queue.new
+        ≡ perform_all (design_of fanout.now) (state queue.old)
+        (body_made (width_in fanout.now.design.now.signals.items) (store queue.old.values.items)
+        (body_of (map action acts.now))) }
     ensures queue { IsQueueState (design_of fanout.now) queue.new }
     ensures kept { IsKept (rooms (body_of (map action acts.now))) queue.old queue.new }
 {
@@ -46,8 +50,12 @@ fn make(fanout: &Fanout, queue: &mut QueueState, act: &Act)
     requires queue { IsQueueState (design_of fanout.now) queue.old }
     requires act { IsAction fanout.now.design.now.signals.items (action act.now) }
     requires scratch { 128 ≤ vec_capacity queue.old.scratch }
-    requires room { length queue.old.waiting.items + room (action act.now) ≤ vec_capacity queue.old.waiting }
-    ensures state { state queue.new ≡ perform_all (design_of fanout.now) (state queue.old) (made (width_in fanout.now.design.now.signals.items) (store queue.old.values.items) (action act.now)) }
+    requires room { length queue.old.waiting.items + room (action act.now)
+        ≤ vec_capacity queue.old.waiting }
+    ensures state { state queue.new
+        ≡ perform_all (design_of fanout.now) (state queue.old)
+        (made (width_in fanout.now.design.now.signals.items) (store queue.old.values.items)
+        (action act.now)) }
     ensures queue { IsQueueState (design_of fanout.now) queue.new }
     ensures kept { IsKept (room (action act.now)) queue.old queue.new }
 {
@@ -90,8 +98,12 @@ fn make_other(fanout: &Fanout, queue: &mut QueueState, body: &Option<Vec<Act>>)
     requires queue { IsQueueState (design_of fanout.now) queue.old }
     requires body { IsOtherwise fanout.now.design.now.signals.items (other_of body.now) }
     requires scratch { 128 ≤ vec_capacity queue.old.scratch }
-    requires room { length queue.old.waiting.items + other_room (other_of body.now) ≤ vec_capacity queue.old.waiting }
-    ensures state { state queue.new ≡ perform_all (design_of fanout.now) (state queue.old) (other_made (width_in fanout.now.design.now.signals.items) (store queue.old.values.items) (other_of body.now)) }
+    requires room { length queue.old.waiting.items + other_room (other_of body.now)
+        ≤ vec_capacity queue.old.waiting }
+    ensures state { state queue.new
+        ≡ perform_all (design_of fanout.now) (state queue.old)
+        (other_made (width_in fanout.now.design.now.signals.items)
+        (store queue.old.values.items) (other_of body.now)) }
     ensures queue { IsQueueState (design_of fanout.now) queue.new }
     ensures kept { IsKept (other_room (other_of body.now)) queue.old queue.new }
 {
@@ -116,10 +128,19 @@ fn make_case(
     requires branches { AreBranches fanout.now.design.now.signals.items (tree selector.now) (branches_of items.now) }
     requires fallback { IsOtherwise fanout.now.design.now.signals.items (other_of fallback.now) }
     requires scratch { 128 ≤ vec_capacity queue.old.scratch }
-    requires room { length queue.old.waiting.items + (branch_rooms (branches_of items.now) + other_room (other_of fallback.now)) ≤ vec_capacity queue.old.waiting }
-    ensures state { state queue.new ≡ perform_all (design_of fanout.now) (state queue.old) (branches_made (width_in fanout.now.design.now.signals.items) (store queue.old.values.items) kind (value (store queue.old.values.items) (tree selector.now)) (other_made (width_in fanout.now.design.now.signals.items) (store queue.old.values.items) (other_of fallback.now)) (branches_of items.now)) }
+    requires room { length queue.old.waiting.items
+        + (branch_rooms (branches_of items.now) + other_room (other_of fallback.now))
+        ≤ vec_capacity queue.old.waiting }
+    ensures state { state queue.new
+        ≡ perform_all (design_of fanout.now) (state queue.old)
+        (branches_made (width_in fanout.now.design.now.signals.items)
+        (store queue.old.values.items) kind
+        (value (store queue.old.values.items) (tree selector.now))
+        (other_made (width_in fanout.now.design.now.signals.items)
+        (store queue.old.values.items) (other_of fallback.now)) (branches_of items.now)) }
     ensures queue { IsQueueState (design_of fanout.now) queue.new }
-    ensures kept { IsKept (branch_rooms (branches_of items.now) + other_room (other_of fallback.now)) queue.old queue.new }
+    ensures kept { IsKept (branch_rooms (branches_of items.now) + other_room
+        (other_of fallback.now)) queue.old queue.new }
 {
     let bits = evaluate(&fanout.design.signals, &queue.values, selector);
     match chosen_body(&fanout.design.signals, &queue.values, kind, bits, items) {
@@ -140,8 +161,13 @@ fn make_set(
     requires queue { IsQueueState (design_of fanout.now) queue.old }
     requires assignment { IsAssignment fanout.now.design.now.signals.items Var (map piece parts.now) (tree expression.now) }
     requires scratch { 128 ≤ vec_capacity queue.old.scratch }
-    requires room { length queue.old.waiting.items + late_parts delayed (map piece parts.now) ≤ vec_capacity queue.old.waiting }
-    ensures state { state queue.new ≡ perform_all (design_of fanout.now) (state queue.old) (assigned delayed (writes (width_in fanout.now.design.now.signals.items) (store queue.old.values.items) (map piece parts.now) (value (store queue.old.values.items) (tree expression.now)))) }
+    requires room { length queue.old.waiting.items + late_parts delayed (map piece parts.now)
+        ≤ vec_capacity queue.old.waiting }
+    ensures state { state queue.new
+        ≡ perform_all (design_of fanout.now) (state queue.old)
+        (assigned delayed (writes (width_in fanout.now.design.now.signals.items)
+        (store queue.old.values.items) (map piece parts.now)
+        (value (store queue.old.values.items) (tree expression.now)))) }
     ensures queue { IsQueueState (design_of fanout.now) queue.new }
     ensures kept { IsKept (late_parts delayed (map piece parts.now)) queue.old queue.new }
 {

@@ -38,7 +38,8 @@ fn insert_if(woken: &mut Agenda, processes: &[ProcId], hears: bool)
     requires { All (λ process. process.0 < length woken.old.flags) processes.now }
     ensures size { length woken.new.flags ≡ length woken.old.flags }
     ensures levels { woken.new.levels ≡ woken.old.levels }
-    ensures flags { (p : ℕ) → flag woken.new.flags p ≡ (flag woken.old.flags p || (is_among processes.now p && hears)) }
+    ensures flags { (p : ℕ) → flag woken.new.flags p
+        ≡ (flag woken.old.flags p || (is_among processes.now p && hears)) }
 {
     if hears {
         insert_all(woken, processes);
@@ -50,7 +51,8 @@ fn insert_all(woken: &mut Agenda, processes: &[ProcId])
     requires { All (λ process. process.0 < length woken.old.flags) processes.now }
     ensures size { length woken.new.flags ≡ length woken.old.flags }
     ensures levels { woken.new.levels ≡ woken.old.levels }
-    ensures flags { (p : ℕ) → flag woken.new.flags p ≡ (flag woken.old.flags p || is_among processes.now p) }
+    ensures flags { (p : ℕ) → flag woken.new.flags p
+        ≡ (flag woken.old.flags p || is_among processes.now p) }
 {
     for process in processes {
         woken.insert(process.0 as usize);
@@ -63,7 +65,9 @@ pub fn write(fanout: &Fanout, queue: &mut QueueState, signal: SigId, at: u8, bit
     requires queue { IsQueueState (design_of fanout.now) queue.old }
     requires there { signal.0 < length fanout.now.design.now.signals.items }
     requires inside { at + length bits ≤ width_in fanout.now.design.now.signals.items signal.0 }
-    ensures state { state queue.new ≡ write (design_of fanout.now) (state queue.old) (record { signal = signal.0; at = at; bits = bits }) }
+    ensures state { state queue.new
+        ≡ write (design_of fanout.now) (state queue.old)
+        (record { signal = signal.0; at = at; bits = bits }) }
     ensures queue { IsQueueState (design_of fanout.now) queue.new }
     ensures rest { AreSame queue.old queue.new }
 {

@@ -126,7 +126,9 @@ impl<'a> Replacer<'a> {
     pub fn replace(&mut self, name: &'a [u8], at: u32) -> Result<(), PrepFault>
         ensures text { self.new.text.now ≡ self.old.text.now }
         ensures macros { OnOk result (table.table self.new.macros ≡ table.table self.old.macros) }
-        ensures step { Tells (λ _. gained self.new) (spec.used MAX_REPLACEMENTS self.old.text.now (table.table self.old.macros) at name.now (gained self.old)) result }
+        ensures step { Tells (λ _. gained self.new)
+            (spec.used MAX_REPLACEMENTS self.old.text.now
+            (table.table self.old.macros) at name.now (gained self.old)) result }
     {
         let mut frames = LinkedList::new(self.alloc);
         self.begin(&mut frames, name, at)?;

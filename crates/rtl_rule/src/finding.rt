@@ -64,7 +64,8 @@ pub struct Key {
 /// The path of a finding's signal, or of its instance where it has none.
 pub fn target(alloc: Global, design: &Design, finding: &Finding) -> Result<Text, Memory>
     requires { IsAbout design.now.signals.items design.now.instances.items finding.now }
-    ensures { IfOk result (λ path. IsTarget design.now.signals.items design.now.instances.items finding.now path) }
+    ensures { IfOk result (λ path.
+        IsTarget design.now.signals.items design.now.instances.items finding.now path) }
 {
     let path = match finding.signal {
         Some(signal) => design.signals[signal.0 as usize].path.as_bytes(),

@@ -9,5 +9,6 @@ ghost use Rattle.sign_cycles.specs.Laws.{StepsAreAlone, StepsFollow};
 
 /// Where each step from a settled state leads to numbers that follow, and to no others, all lists of steps agree.
 pub fn agree_by_steps()
-    ensures { (d : Flat) (chains : ℕ → Chain) (f : Fill) → StepsFollow d chains f → StepsAreAlone d chains f → Agree d chains f }
+    ensures { (d : Flat) (chains : ℕ → Chain) (f : Fill) → StepsFollow d chains f
+        → StepsAreAlone d chains f → Agree d chains f }
 {}

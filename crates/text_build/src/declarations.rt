@@ -24,7 +24,8 @@ impl<'a> Cursor<'a> {
     /// Any expression that stands in an item.
     #[tactic(auto, unfolding(crate::specs::ReadingItem::any_expression))]
     pub fn any_expression(&mut self) -> Result<Expr, BuildFault>
-        ensures { Reads formula (reading.any_expression MAX_NESTING (map terminal self.old.rest.now)) result (map terminal self.new.rest.now) }
+        ensures { Reads formula (reading.any_expression MAX_NESTING
+            (map terminal self.old.rest.now)) result (map terminal self.new.rest.now) }
     {
         self.expression(MAX_NESTING)
     }
@@ -32,7 +33,9 @@ impl<'a> Cursor<'a> {
     /// A range, where one comes next.
     #[tactic(auto, unfolding(crate::specs::ReadingItem::range, crate::specs::ReadingItem::any_expression, crate::specs::Reading::optional, crate::specs::Reading::either))]
     pub fn optional_range(&mut self) -> Result<Option<Range>, BuildFault>
-        ensures { Reads (λ r. option_map bounds r) (reading.range MAX_NESTING (map terminal self.old.rest.now)) result (map terminal self.new.rest.now) }
+        ensures { Reads (λ r. option_map bounds r)
+            (reading.range MAX_NESTING (map terminal self.old.rest.now)) result
+            (map terminal self.new.rest.now) }
     {
         if self.is_next(Symbol::OpenBracket) {
             let range = self.range(MAX_NESTING)?;
@@ -44,7 +47,9 @@ impl<'a> Cursor<'a> {
 
     /// The same in a box: what is held by value while more is read is dear to prove.
     fn boxed_range(&mut self) -> Result<Box<Option<Range>>, BuildFault>
-        ensures { Reads (λ r. option_map bounds r.value) (reading.range MAX_NESTING (map terminal self.old.rest.now)) result (map terminal self.new.rest.now) }
+        ensures { Reads (λ r. option_map bounds r.value)
+            (reading.range MAX_NESTING (map terminal self.old.rest.now)) result
+            (map terminal self.new.rest.now) }
     {
         let read = self.optional_range()?;
         Ok(Box::new(self.alloc, read)?)
@@ -98,7 +103,8 @@ impl<'a> Cursor<'a> {
     /// What stands before the names of ports.
     #[tactic(auto, unfolding(crate::specs::ReadingItem::port_head, crate::specs::ReadingItem::flag))]
     pub fn port_head(&mut self) -> Result<PortHead, BuildFault>
-        ensures { Reads head (reading.port_head MAX_NESTING (map terminal self.old.rest.now)) result (map terminal self.new.rest.now) }
+        ensures { Reads head (reading.port_head MAX_NESTING (map terminal self.old.rest.now)) result
+            (map terminal self.new.rest.now) }
     {
         let direction = self.direction_next()?;
         let at = self.advance()?;
@@ -115,7 +121,9 @@ impl<'a> Cursor<'a> {
     }
 
     pub fn boxed_port_head(&mut self) -> Result<Box<PortHead>, BuildFault>
-        ensures { Reads (λ h. head h.value) (reading.port_head MAX_NESTING (map terminal self.old.rest.now)) result (map terminal self.new.rest.now) }
+        ensures { Reads (λ h. head h.value)
+            (reading.port_head MAX_NESTING (map terminal self.old.rest.now)) result
+            (map terminal self.new.rest.now) }
     {
         let read = self.port_head()?;
         Ok(Box::new(self.alloc, read)?)
@@ -123,7 +131,8 @@ impl<'a> Cursor<'a> {
 
     #[tactic(auto, unfolding(crate::specs::ReadingItem::ports))]
     pub fn ports(&mut self) -> Result<Item, BuildFault>
-        ensures { Reads module_item (reading.ports MAX_NESTING (map terminal self.old.rest.now)) result (map terminal self.new.rest.now) }
+        ensures { Reads module_item (reading.ports MAX_NESTING (map terminal self.old.rest.now))
+            result (map terminal self.new.rest.now) }
     {
         let head = self.boxed_port_head()?;
         let names = self.names()?;
@@ -134,7 +143,8 @@ impl<'a> Cursor<'a> {
     /// `= value`
     #[tactic(auto, unfolding(crate::specs::ReadingItem::value))]
     pub fn value(&mut self) -> Result<Expr, BuildFault>
-        ensures { Reads formula (reading.value MAX_NESTING (map terminal self.old.rest.now)) result (map terminal self.new.rest.now) }
+        ensures { Reads formula (reading.value MAX_NESTING (map terminal self.old.rest.now)) result
+            (map terminal self.new.rest.now) }
     {
         self.mark(Symbol::Equals)?;
         self.any_expression()
@@ -142,7 +152,9 @@ impl<'a> Cursor<'a> {
 
     #[tactic(auto, unfolding(crate::specs::Reading::optional, crate::specs::Reading::either))]
     fn optional_value(&mut self) -> Result<Option<Expr>, BuildFault>
-        ensures { Reads (λ v. option_map formula v) (generic.optional symbol.Equals (reading.value MAX_NESTING) (map terminal self.old.rest.now)) result (map terminal self.new.rest.now) }
+        ensures { Reads (λ v. option_map formula v)
+            (generic.optional symbol.Equals (reading.value MAX_NESTING)
+            (map terminal self.old.rest.now)) result (map terminal self.new.rest.now) }
     {
         if self.is_next(Symbol::Equals) {
             let value = self.value()?;
@@ -154,7 +166,8 @@ impl<'a> Cursor<'a> {
 
     #[tactic(auto, unfolding(crate::specs::ReadingItem::net))]
     fn wire(&mut self) -> Result<Wire, BuildFault>
-        ensures { Reads net (reading.net MAX_NESTING (map terminal self.old.rest.now)) result (map terminal self.new.rest.now) }
+        ensures { Reads net (reading.net MAX_NESTING (map terminal self.old.rest.now)) result
+            (map terminal self.new.rest.now) }
     {
         let name = self.name()?;
         let value = self.optional_value()?;
@@ -162,7 +175,9 @@ impl<'a> Cursor<'a> {
     }
 
     fn listed_wires(&mut self) -> Result<Vec<Wire>, BuildFault>
-        ensures { Reads (λ all. map net all.items) (generic.listed (reading.net MAX_NESTING) (map terminal self.old.rest.now)) result (map terminal self.new.rest.now) }
+        ensures { Reads (λ all. map net all.items)
+            (generic.listed (reading.net MAX_NESTING) (map terminal self.old.rest.now)) result
+            (map terminal self.new.rest.now) }
     {
         let mut all = Vec::new(self.alloc);
         // Each turn takes a token, so these are enough.
@@ -177,7 +192,8 @@ impl<'a> Cursor<'a> {
 
     #[tactic(auto, unfolding(crate::specs::ReadingItem::nets, crate::specs::ReadingItem::flag))]
     pub fn wires(&mut self) -> Result<Item, BuildFault>
-        ensures { Reads module_item (reading.nets MAX_NESTING (map terminal self.old.rest.now)) result (map terminal self.new.rest.now) }
+        ensures { Reads module_item (reading.nets MAX_NESTING (map terminal self.old.rest.now))
+            result (map terminal self.new.rest.now) }
     {
         let at = self.advance()?;
         let signed = self.take_if(Symbol::Signed);
@@ -218,7 +234,8 @@ impl<'a> Cursor<'a> {
 
     #[tactic(auto, unfolding(crate::specs::ReadingItem::variables, crate::specs::ReadingItem::flag))]
     pub fn regs(&mut self) -> Result<Item, BuildFault>
-        ensures { Reads module_item (reading.variables MAX_NESTING (map terminal self.old.rest.now)) result (map terminal self.new.rest.now) }
+        ensures { Reads module_item (reading.variables MAX_NESTING (map terminal self.old.rest.now))
+            result (map terminal self.new.rest.now) }
     {
         let at = self.advance()?;
         let signed = self.take_if(Symbol::Signed);
@@ -245,7 +262,8 @@ impl<'a> Cursor<'a> {
 
     #[tactic(auto, unfolding(crate::specs::ReadingItem::valuation))]
     fn setting(&mut self) -> Result<Setting, BuildFault>
-        ensures { Reads valuation (reading.valuation MAX_NESTING (map terminal self.old.rest.now)) result (map terminal self.new.rest.now) }
+        ensures { Reads valuation (reading.valuation MAX_NESTING (map terminal self.old.rest.now))
+            result (map terminal self.new.rest.now) }
     {
         let name = self.name()?;
         let value = self.value()?;
@@ -253,7 +271,9 @@ impl<'a> Cursor<'a> {
     }
 
     fn listed_settings(&mut self) -> Result<Vec<Setting>, BuildFault>
-        ensures { Reads (λ all. map valuation all.items) (generic.listed (reading.valuation MAX_NESTING) (map terminal self.old.rest.now)) result (map terminal self.new.rest.now) }
+        ensures { Reads (λ all. map valuation all.items)
+            (generic.listed (reading.valuation MAX_NESTING) (map terminal self.old.rest.now))
+            result (map terminal self.new.rest.now) }
     {
         let mut all = Vec::new(self.alloc);
         // Each turn takes a token, so these are enough.
@@ -268,7 +288,8 @@ impl<'a> Cursor<'a> {
 
     #[tactic(auto, unfolding(crate::specs::ReadingItem::parameters))]
     pub fn settings(&mut self, kind: ParameterKind) -> Result<Item, BuildFault>
-        ensures { Reads module_item (reading.parameters MAX_NESTING kind (map terminal self.old.rest.now)) result (map terminal self.new.rest.now) }
+        ensures { Reads module_item (reading.parameters MAX_NESTING kind
+            (map terminal self.old.rest.now)) result (map terminal self.new.rest.now) }
     {
         let at = self.advance()?;
         let range = self.boxed_range()?;
@@ -284,7 +305,8 @@ impl<'a> Cursor<'a> {
 
     #[tactic(auto, unfolding(crate::specs::ReadingItem::drive))]
     fn assignment(&mut self) -> Result<Assignment, BuildFault>
-        ensures { Reads drive (reading.drive MAX_NESTING (map terminal self.old.rest.now)) result (map terminal self.new.rest.now) }
+        ensures { Reads drive (reading.drive MAX_NESTING (map terminal self.old.rest.now)) result
+            (map terminal self.new.rest.now) }
     {
         let target = self.boxed_target(MAX_NESTING)?;
         let value = self.value()?;
@@ -295,7 +317,9 @@ impl<'a> Cursor<'a> {
     }
 
     fn listed_assignments(&mut self) -> Result<Vec<Assignment>, BuildFault>
-        ensures { Reads (λ all. map drive all.items) (generic.listed (reading.drive MAX_NESTING) (map terminal self.old.rest.now)) result (map terminal self.new.rest.now) }
+        ensures { Reads (λ all. map drive all.items)
+            (generic.listed (reading.drive MAX_NESTING) (map terminal self.old.rest.now)) result
+            (map terminal self.new.rest.now) }
     {
         let mut all = Vec::new(self.alloc);
         // Each turn takes a token, so these are enough.
@@ -310,7 +334,8 @@ impl<'a> Cursor<'a> {
 
     #[tactic(auto, unfolding(crate::specs::ReadingItem::drives, crate::specs::ReadingItem::any_expression))]
     pub fn assigns(&mut self) -> Result<Item, BuildFault>
-        ensures { Reads module_item (reading.drives MAX_NESTING (map terminal self.old.rest.now)) result (map terminal self.new.rest.now) }
+        ensures { Reads module_item (reading.drives MAX_NESTING (map terminal self.old.rest.now))
+            result (map terminal self.new.rest.now) }
     {
         let at = self.advance()?;
         let delay = self.optional_delay(MAX_NESTING)?;

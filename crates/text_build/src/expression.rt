@@ -32,7 +32,9 @@ impl<'a> Cursor<'a> {
 
     /// The same in a box: what is held by value while more is read is dear to prove.
     pub fn boxed_expression(&mut self, depth: u32) -> Result<Box<Expr>, BuildFault>
-        ensures { Reads (λ e. formula e.value) (reading.expression depth (map terminal self.old.rest.now)) result (map terminal self.new.rest.now) }
+        ensures { Reads (λ e. formula e.value)
+            (reading.expression depth (map terminal self.old.rest.now)) result
+            (map terminal self.new.rest.now) }
     {
         self.boxed(depth, LOOSEST)
     }
@@ -50,7 +52,9 @@ impl<'a> Cursor<'a> {
 
     #[cycle(expression)]
     fn boxed(&mut self, depth: u32, loosest: u32) -> Result<Box<Expr>, BuildFault>
-        ensures { Reads (λ e. formula e.value) (reading.climb depth loosest (map terminal self.old.rest.now)) result (map terminal self.new.rest.now) }
+        ensures { Reads (λ e. formula e.value)
+            (reading.climb depth loosest (map terminal self.old.rest.now)) result
+            (map terminal self.new.rest.now) }
     {
         let read = self.climb(depth, loosest)?;
         Ok(Box::new(self.alloc, read)?)
@@ -115,7 +119,8 @@ impl<'a> Cursor<'a> {
         operator: Option<BinaryOperator>,
         left: Box<Expr>,
     ) -> Result<Expr, BuildFault>
-        ensures { Reads formula (reading.link_of operator (reading.climb depth) (formula left.value) (map terminal self.old.rest.now)) result (map terminal self.new.rest.now) }
+        ensures { Reads formula (reading.link_of operator (reading.climb depth) (formula left.value)
+            (map terminal self.old.rest.now)) result (map terminal self.new.rest.now) }
     {
         match operator {
             Some(operator) => self.joint(depth, operator, left),
@@ -131,7 +136,9 @@ impl<'a> Cursor<'a> {
         operator: BinaryOperator,
         left: Box<Expr>,
     ) -> Result<Expr, BuildFault>
-        ensures { Reads formula (reading.joint operator (reading.climb depth (level operator - 1)) (formula left.value) (map terminal self.old.rest.now)) result (map terminal self.new.rest.now) }
+        ensures { Reads formula (reading.joint operator (reading.climb depth (level operator - 1))
+            (formula left.value) (map terminal self.old.rest.now)) result
+            (map terminal self.new.rest.now) }
     {
         let at = self.advance()?;
         let right = self.boxed(depth, level(operator) - 1)?;
@@ -141,7 +148,8 @@ impl<'a> Cursor<'a> {
     #[cycle(expression)]
     #[tactic(auto, unfolding(crate::specs::ReadingExpr::choice))]
     fn choice(&mut self, depth: u32, condition: Box<Expr>) -> Result<Expr, BuildFault>
-        ensures { Reads formula (reading.choice (reading.climb depth 11) (formula condition.value) (map terminal self.old.rest.now)) result (map terminal self.new.rest.now) }
+        ensures { Reads formula (reading.choice (reading.climb depth 11) (formula condition.value)
+            (map terminal self.old.rest.now)) result (map terminal self.new.rest.now) }
     {
         let at = self.advance()?;
         let taken = self.boxed(depth, LOOSEST)?;
@@ -354,7 +362,10 @@ impl<'a> Cursor<'a> {
         name: Name,
         first: Box<Expr>,
     ) -> Result<Reference, BuildFault>
-        ensures { Reads reference (generic.either (generic.starts symbol.Colon) (reading.rest_of_part (reading.climb depth 11) (identifier name) (formula first.value)) (reading.rest_of_bit (identifier name) (formula first.value)) (map terminal self.old.rest.now)) result (map terminal self.new.rest.now) }
+        ensures { Reads reference (generic.either (generic.starts symbol.Colon)
+            (reading.rest_of_part (reading.climb depth 11) (identifier name)
+            (formula first.value)) (reading.rest_of_bit (identifier name) (formula first.value))
+            (map terminal self.old.rest.now)) result (map terminal self.new.rest.now) }
     {
         if self.is_next(Symbol::Colon) {
             self.rest_of_part(depth, name, first)
@@ -365,7 +376,8 @@ impl<'a> Cursor<'a> {
 
     #[tactic(auto, unfolding(crate::specs::ReadingExpr::rest_of_bit))]
     fn rest_of_bit(&mut self, name: Name, index: Box<Expr>) -> Result<Reference, BuildFault>
-        ensures { Reads reference (reading.rest_of_bit (identifier name) (formula index.value) (map terminal self.old.rest.now)) result (map terminal self.new.rest.now) }
+        ensures { Reads reference (reading.rest_of_bit (identifier name) (formula index.value)
+            (map terminal self.old.rest.now)) result (map terminal self.new.rest.now) }
     {
         self.mark(Symbol::CloseBracket)?;
         Ok(Reference::Bit(name, index))
@@ -379,7 +391,9 @@ impl<'a> Cursor<'a> {
         name: Name,
         msb: Box<Expr>,
     ) -> Result<Reference, BuildFault>
-        ensures { Reads reference (reading.rest_of_part (reading.climb depth 11) (identifier name) (formula msb.value) (map terminal self.old.rest.now)) result (map terminal self.new.rest.now) }
+        ensures { Reads reference (reading.rest_of_part (reading.climb depth 11) (identifier name)
+            (formula msb.value) (map terminal self.old.rest.now)) result
+            (map terminal self.new.rest.now) }
     {
         self.mark(Symbol::Colon)?;
         let lsb = self.boxed(depth, LOOSEST)?;

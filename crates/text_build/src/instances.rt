@@ -28,7 +28,9 @@ impl<'a> Cursor<'a> {
 
     #[tactic(auto, unfolding(crate::specs::ReadingItem::argument_value, crate::specs::Reading::either))]
     fn argument_value(&mut self) -> Result<Option<Expr>, BuildFault>
-        ensures { Reads (λ v. option_map formula v) (reading.argument_value MAX_NESTING (map terminal self.old.rest.now)) result (map terminal self.new.rest.now) }
+        ensures { Reads (λ v. option_map formula v)
+            (reading.argument_value MAX_NESTING (map terminal self.old.rest.now)) result
+            (map terminal self.new.rest.now) }
     {
         if self.is_empty_argument() {
             Ok(None)
@@ -40,7 +42,9 @@ impl<'a> Cursor<'a> {
 
     /// The same in a box: what is held by value while more is read is dear to prove.
     fn boxed_argument(&mut self) -> Result<Box<Option<Expr>>, BuildFault>
-        ensures { Reads (λ v. option_map formula v.value) (reading.argument_value MAX_NESTING (map terminal self.old.rest.now)) result (map terminal self.new.rest.now) }
+        ensures { Reads (λ v. option_map formula v.value)
+            (reading.argument_value MAX_NESTING (map terminal self.old.rest.now)) result
+            (map terminal self.new.rest.now) }
     {
         let read = self.argument_value()?;
         Ok(Box::new(self.alloc, read)?)
@@ -48,7 +52,8 @@ impl<'a> Cursor<'a> {
 
     #[tactic(auto, unfolding(crate::specs::ReadingItem::positional))]
     fn ordered_argument(&mut self) -> Result<OrderedArgument, BuildFault>
-        ensures { Reads positional (reading.positional MAX_NESTING (map terminal self.old.rest.now)) result (map terminal self.new.rest.now) }
+        ensures { Reads positional (reading.positional MAX_NESTING (map terminal self.old.rest.now))
+            result (map terminal self.new.rest.now) }
     {
         let at = self.place()?;
         let value = self.argument_value()?;
@@ -56,7 +61,9 @@ impl<'a> Cursor<'a> {
     }
 
     fn listed_ordered(&mut self) -> Result<Vec<OrderedArgument>, BuildFault>
-        ensures { Reads (λ all. map positional all.items) (generic.listed (reading.positional MAX_NESTING) (map terminal self.old.rest.now)) result (map terminal self.new.rest.now) }
+        ensures { Reads (λ all. map positional all.items)
+            (generic.listed (reading.positional MAX_NESTING) (map terminal self.old.rest.now))
+            result (map terminal self.new.rest.now) }
     {
         let mut all = Vec::new(self.alloc);
         // Each turn takes a token, so these are enough.
@@ -71,7 +78,8 @@ impl<'a> Cursor<'a> {
 
     #[tactic(auto, unfolding(crate::specs::ReadingItem::associated))]
     fn named_argument(&mut self) -> Result<NamedArgument, BuildFault>
-        ensures { Reads associated (reading.associated MAX_NESTING (map terminal self.old.rest.now)) result (map terminal self.new.rest.now) }
+        ensures { Reads associated (reading.associated MAX_NESTING (map terminal self.old.rest.now))
+            result (map terminal self.new.rest.now) }
     {
         let at = self.mark(Symbol::Dot)?;
         let name = self.name()?;
@@ -86,7 +94,9 @@ impl<'a> Cursor<'a> {
     }
 
     fn listed_named(&mut self) -> Result<Vec<NamedArgument>, BuildFault>
-        ensures { Reads (λ all. map associated all.items) (generic.listed (reading.associated MAX_NESTING) (map terminal self.old.rest.now)) result (map terminal self.new.rest.now) }
+        ensures { Reads (λ all. map associated all.items)
+            (generic.listed (reading.associated MAX_NESTING) (map terminal self.old.rest.now))
+            result (map terminal self.new.rest.now) }
     {
         let mut all = Vec::new(self.alloc);
         // Each turn takes a token, so these are enough.
@@ -101,7 +111,8 @@ impl<'a> Cursor<'a> {
 
     #[tactic(auto, unfolding(crate::specs::ReadingItem::by_position))]
     fn by_position(&mut self) -> Result<Arguments, BuildFault>
-        ensures { Reads association (reading.by_position MAX_NESTING (map terminal self.old.rest.now)) result (map terminal self.new.rest.now) }
+        ensures { Reads association (reading.by_position MAX_NESTING
+            (map terminal self.old.rest.now)) result (map terminal self.new.rest.now) }
     {
         let all = self.listed_ordered()?;
         Ok(Arguments::Ordered(all))
@@ -109,7 +120,8 @@ impl<'a> Cursor<'a> {
 
     #[tactic(auto, unfolding(crate::specs::ReadingItem::by_name))]
     fn by_name(&mut self) -> Result<Arguments, BuildFault>
-        ensures { Reads association (reading.by_name MAX_NESTING (map terminal self.old.rest.now)) result (map terminal self.new.rest.now) }
+        ensures { Reads association (reading.by_name MAX_NESTING (map terminal self.old.rest.now))
+            result (map terminal self.new.rest.now) }
     {
         let all = self.listed_named()?;
         Ok(Arguments::Named(all))
@@ -118,7 +130,8 @@ impl<'a> Cursor<'a> {
     /// Arguments, all by position or all by name, as the first is.
     #[tactic(auto, unfolding(crate::specs::ReadingItem::arguments, crate::specs::Reading::either))]
     fn arguments(&mut self) -> Result<Arguments, BuildFault>
-        ensures { Reads association (reading.arguments MAX_NESTING (map terminal self.old.rest.now)) result (map terminal self.new.rest.now) }
+        ensures { Reads association (reading.arguments MAX_NESTING (map terminal self.old.rest.now))
+            result (map terminal self.new.rest.now) }
     {
         if self.is_next(Symbol::Dot) {
             self.by_name()
@@ -129,7 +142,8 @@ impl<'a> Cursor<'a> {
 
     #[tactic(auto, unfolding(crate::specs::ReadingItem::connections, crate::specs::Reading::either))]
     fn connections(&mut self) -> Result<Arguments, BuildFault>
-        ensures { Reads association (reading.connections MAX_NESTING (map terminal self.old.rest.now)) result (map terminal self.new.rest.now) }
+        ensures { Reads association (reading.connections MAX_NESTING
+            (map terminal self.old.rest.now)) result (map terminal self.new.rest.now) }
     {
         if self.is_next(Symbol::CloseParen) {
             Ok(Arguments::Ordered(Vec::new(self.alloc)))
@@ -140,7 +154,8 @@ impl<'a> Cursor<'a> {
 
     #[tactic(auto, unfolding(crate::specs::ReadingItem::instantiation))]
     fn instance(&mut self) -> Result<Instance, BuildFault>
-        ensures { Reads instantiation (reading.instantiation MAX_NESTING (map terminal self.old.rest.now)) result (map terminal self.new.rest.now) }
+        ensures { Reads instantiation (reading.instantiation MAX_NESTING
+            (map terminal self.old.rest.now)) result (map terminal self.new.rest.now) }
     {
         let name = self.name()?;
         self.mark(Symbol::OpenParen)?;
@@ -150,7 +165,9 @@ impl<'a> Cursor<'a> {
     }
 
     fn listed_instances(&mut self) -> Result<Vec<Instance>, BuildFault>
-        ensures { Reads (λ all. map instantiation all.items) (generic.listed (reading.instantiation MAX_NESTING) (map terminal self.old.rest.now)) result (map terminal self.new.rest.now) }
+        ensures { Reads (λ all. map instantiation all.items)
+            (generic.listed (reading.instantiation MAX_NESTING)
+            (map terminal self.old.rest.now)) result (map terminal self.new.rest.now) }
     {
         let mut all = Vec::new(self.alloc);
         // Each turn takes a token, so these are enough.
@@ -165,7 +182,8 @@ impl<'a> Cursor<'a> {
 
     #[tactic(auto, unfolding(crate::specs::ReadingItem::overrides_of))]
     fn overrides(&mut self) -> Result<Arguments, BuildFault>
-        ensures { Reads association (reading.overrides_of MAX_NESTING (map terminal self.old.rest.now)) result (map terminal self.new.rest.now) }
+        ensures { Reads association (reading.overrides_of MAX_NESTING
+            (map terminal self.old.rest.now)) result (map terminal self.new.rest.now) }
     {
         self.advance()?;
         self.mark(Symbol::OpenParen)?;
@@ -177,7 +195,8 @@ impl<'a> Cursor<'a> {
     /// The parameters that an instance sets, none where no `#` comes next.
     #[tactic(auto, unfolding(crate::specs::ReadingItem::overrides, crate::specs::Reading::either))]
     fn optional_overrides(&mut self) -> Result<Arguments, BuildFault>
-        ensures { Reads association (reading.overrides MAX_NESTING (map terminal self.old.rest.now)) result (map terminal self.new.rest.now) }
+        ensures { Reads association (reading.overrides MAX_NESTING (map terminal self.old.rest.now))
+            result (map terminal self.new.rest.now) }
     {
         if self.is_next(Symbol::Hash) {
             self.overrides()
@@ -188,7 +207,8 @@ impl<'a> Cursor<'a> {
 
     #[tactic(auto, unfolding(crate::specs::ReadingItem::instances))]
     fn instances(&mut self) -> Result<Item, BuildFault>
-        ensures { Reads module_item (reading.instances MAX_NESTING (map terminal self.old.rest.now)) result (map terminal self.new.rest.now) }
+        ensures { Reads module_item (reading.instances MAX_NESTING (map terminal self.old.rest.now))
+            result (map terminal self.new.rest.now) }
     {
         let child = self.name()?;
         let parameters = self.optional_overrides()?;
@@ -204,7 +224,8 @@ impl<'a> Cursor<'a> {
     /// An item after its attributes.
     #[tactic(auto, unfolding(crate::specs::ReadingItem::item_after))]
     pub fn item_after(&mut self) -> Result<Item, BuildFault>
-        ensures { Reads module_item (reading.item_after MAX_NESTING (map terminal self.old.rest.now)) result (map terminal self.new.rest.now) }
+        ensures { Reads module_item (reading.item_after MAX_NESTING
+            (map terminal self.old.rest.now)) result (map terminal self.new.rest.now) }
     {
         match self.peek() {
             Some(Symbol::Input) | Some(Symbol::Output) => self.ports(),

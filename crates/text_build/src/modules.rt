@@ -22,14 +22,17 @@ use rtl_tree::tree::modules::{HeadParameter, HeadPort, Module, ParameterHead, Po
 impl<'a> Cursor<'a> {
     #[tactic(auto, unfolding(crate::specs::ReadingModule::item))]
     fn item(&mut self) -> Result<Item, BuildFault>
-        ensures { Reads module_item (reading.item MAX_NESTING (map terminal self.old.rest.now)) result (map terminal self.new.rest.now) }
+        ensures { Reads module_item (reading.item MAX_NESTING (map terminal self.old.rest.now))
+            result (map terminal self.new.rest.now) }
     {
         self.attributes()?;
         self.item_after()
     }
 
     fn items(&mut self) -> Result<Vec<Item>, BuildFault>
-        ensures { Reads (λ all. map module_item all.items) (generic.until symbol.Endmodule (reading.item MAX_NESTING) (map terminal self.old.rest.now)) result (map terminal self.new.rest.now) }
+        ensures { Reads (λ all. map module_item all.items)
+            (generic.until symbol.Endmodule (reading.item MAX_NESTING)
+            (map terminal self.old.rest.now)) result (map terminal self.new.rest.now) }
     {
         let mut all = Vec::new(self.alloc);
         // Each turn takes a token, so these are enough.
@@ -44,7 +47,8 @@ impl<'a> Cursor<'a> {
 
     #[tactic(auto, unfolding(crate::specs::ReadingModule::heading))]
     fn parameter_head(&mut self) -> Result<ParameterHead, BuildFault>
-        ensures { Reads heading (reading.heading MAX_NESTING (map terminal self.old.rest.now)) result (map terminal self.new.rest.now) }
+        ensures { Reads heading (reading.heading MAX_NESTING (map terminal self.old.rest.now))
+            result (map terminal self.new.rest.now) }
     {
         let at = self.advance()?;
         let range = self.optional_range()?;
@@ -54,7 +58,9 @@ impl<'a> Cursor<'a> {
     /// In a box: what is held by value while more is read is dear to prove.
     #[tactic(auto, unfolding(crate::specs::Reading::optional, crate::specs::Reading::either))]
     fn optional_parameter_head(&mut self) -> Result<Box<Option<ParameterHead>>, BuildFault>
-        ensures { Reads (λ h. option_map heading h.value) (generic.optional symbol.Parameter (reading.heading MAX_NESTING) (map terminal self.old.rest.now)) result (map terminal self.new.rest.now) }
+        ensures { Reads (λ h. option_map heading h.value)
+            (generic.optional symbol.Parameter (reading.heading MAX_NESTING)
+            (map terminal self.old.rest.now)) result (map terminal self.new.rest.now) }
     {
         if self.is_next(Symbol::Parameter) {
             let head = self.parameter_head()?;
@@ -66,7 +72,9 @@ impl<'a> Cursor<'a> {
 
     #[tactic(auto, unfolding(crate::specs::ReadingModule::parameter))]
     fn head_parameter(&mut self) -> Result<HeadParameter, BuildFault>
-        ensures { Reads header_parameter (reading.parameter MAX_NESTING (map terminal self.old.rest.now)) result (map terminal self.new.rest.now) }
+        ensures { Reads header_parameter
+            (reading.parameter MAX_NESTING (map terminal self.old.rest.now)) result
+            (map terminal self.new.rest.now) }
     {
         let head = self.optional_parameter_head()?;
         let name = self.name()?;
@@ -79,7 +87,9 @@ impl<'a> Cursor<'a> {
     }
 
     fn listed_parameters(&mut self) -> Result<Vec<HeadParameter>, BuildFault>
-        ensures { Reads (λ all. map header_parameter all.items) (generic.listed (reading.parameter MAX_NESTING) (map terminal self.old.rest.now)) result (map terminal self.new.rest.now) }
+        ensures { Reads (λ all. map header_parameter all.items)
+            (generic.listed (reading.parameter MAX_NESTING) (map terminal self.old.rest.now))
+            result (map terminal self.new.rest.now) }
     {
         let mut all = Vec::new(self.alloc);
         // Each turn takes a token, so these are enough.
@@ -94,7 +104,9 @@ impl<'a> Cursor<'a> {
 
     #[tactic(auto, unfolding(crate::specs::ReadingModule::parameters_of))]
     fn parameters(&mut self) -> Result<Vec<HeadParameter>, BuildFault>
-        ensures { Reads (λ all. map header_parameter all.items) (reading.parameters_of MAX_NESTING (map terminal self.old.rest.now)) result (map terminal self.new.rest.now) }
+        ensures { Reads (λ all. map header_parameter all.items)
+            (reading.parameters_of MAX_NESTING (map terminal self.old.rest.now)) result
+            (map terminal self.new.rest.now) }
     {
         self.advance()?;
         self.mark(Symbol::OpenParen)?;
@@ -105,7 +117,9 @@ impl<'a> Cursor<'a> {
 
     #[tactic(auto, unfolding(crate::specs::ReadingModule::parameters, crate::specs::Reading::either))]
     fn optional_parameters(&mut self) -> Result<Vec<HeadParameter>, BuildFault>
-        ensures { Reads (λ all. map header_parameter all.items) (reading.parameters MAX_NESTING (map terminal self.old.rest.now)) result (map terminal self.new.rest.now) }
+        ensures { Reads (λ all. map header_parameter all.items)
+            (reading.parameters MAX_NESTING (map terminal self.old.rest.now)) result
+            (map terminal self.new.rest.now) }
     {
         if self.is_next(Symbol::Hash) {
             self.parameters()
@@ -122,7 +136,9 @@ impl<'a> Cursor<'a> {
 
     #[tactic(auto, unfolding(crate::specs::ReadingModule::own_head, crate::specs::Reading::either))]
     fn own_head(&mut self) -> Result<Box<Option<PortHead>>, BuildFault>
-        ensures { Reads (λ h. option_map head h.value) (reading.own_head MAX_NESTING (map terminal self.old.rest.now)) result (map terminal self.new.rest.now) }
+        ensures { Reads (λ h. option_map head h.value)
+            (reading.own_head MAX_NESTING (map terminal self.old.rest.now)) result
+            (map terminal self.new.rest.now) }
     {
         if self.is_head_next() {
             let head = self.port_head()?;
@@ -134,7 +150,8 @@ impl<'a> Cursor<'a> {
 
     #[tactic(auto, unfolding(crate::specs::ReadingModule::port))]
     fn head_port(&mut self) -> Result<HeadPort, BuildFault>
-        ensures { Reads header_port (reading.port MAX_NESTING (map terminal self.old.rest.now)) result (map terminal self.new.rest.now) }
+        ensures { Reads header_port (reading.port MAX_NESTING (map terminal self.old.rest.now))
+            result (map terminal self.new.rest.now) }
     {
         let head = self.own_head()?;
         let name = self.name()?;
@@ -145,7 +162,9 @@ impl<'a> Cursor<'a> {
     }
 
     fn listed_ports(&mut self) -> Result<Vec<HeadPort>, BuildFault>
-        ensures { Reads (λ all. map header_port all.items) (generic.listed (reading.port MAX_NESTING) (map terminal self.old.rest.now)) result (map terminal self.new.rest.now) }
+        ensures { Reads (λ all. map header_port all.items)
+            (generic.listed (reading.port MAX_NESTING) (map terminal self.old.rest.now)) result
+            (map terminal self.new.rest.now) }
     {
         let mut all = Vec::new(self.alloc);
         // Each turn takes a token, so these are enough.
@@ -160,7 +179,8 @@ impl<'a> Cursor<'a> {
 
     #[tactic(auto, unfolding(crate::specs::ReadingModule::declared))]
     fn declared_ports(&mut self) -> Result<PortList, BuildFault>
-        ensures { Reads header (reading.declared MAX_NESTING (map terminal self.old.rest.now)) result (map terminal self.new.rest.now) }
+        ensures { Reads header (reading.declared MAX_NESTING (map terminal self.old.rest.now))
+            result (map terminal self.new.rest.now) }
     {
         let ports = self.listed_ports()?;
         self.mark(Symbol::CloseParen)?;
@@ -186,7 +206,9 @@ impl<'a> Cursor<'a> {
 
     #[tactic(auto, unfolding(crate::specs::Reading::either))]
     fn some_ports(&mut self) -> Result<PortList, BuildFault>
-        ensures { Reads header (generic.either reading.starts_head (reading.declared MAX_NESTING) reading.named (map terminal self.old.rest.now)) result (map terminal self.new.rest.now) }
+        ensures { Reads header (generic.either reading.starts_head
+            (reading.declared MAX_NESTING) reading.named (map terminal self.old.rest.now))
+            result (map terminal self.new.rest.now) }
     {
         if self.is_head_next() {
             self.declared_ports()
@@ -197,7 +219,9 @@ impl<'a> Cursor<'a> {
 
     #[tactic(auto, unfolding(crate::specs::Reading::either))]
     fn ports_in_parens(&mut self) -> Result<PortList, BuildFault>
-        ensures { Reads header (generic.either (generic.starts symbol.CloseParen) reading.empty (generic.either reading.starts_head (reading.declared MAX_NESTING) reading.named) (map terminal self.old.rest.now)) result (map terminal self.new.rest.now) }
+        ensures { Reads header (generic.either (generic.starts symbol.CloseParen) reading.empty
+            (generic.either reading.starts_head (reading.declared MAX_NESTING) reading.named)
+            (map terminal self.old.rest.now)) result (map terminal self.new.rest.now) }
     {
         if self.is_next(Symbol::CloseParen) {
             self.no_ports()
@@ -208,7 +232,8 @@ impl<'a> Cursor<'a> {
 
     #[tactic(auto, unfolding(crate::specs::ReadingModule::port_list))]
     fn port_list(&mut self) -> Result<PortList, BuildFault>
-        ensures { Reads header (reading.port_list MAX_NESTING (map terminal self.old.rest.now)) result (map terminal self.new.rest.now) }
+        ensures { Reads header (reading.port_list MAX_NESTING (map terminal self.old.rest.now))
+            result (map terminal self.new.rest.now) }
     {
         self.advance()?;
         self.ports_in_parens()
@@ -216,7 +241,8 @@ impl<'a> Cursor<'a> {
 
     #[tactic(auto, unfolding(crate::specs::ReadingModule::header, crate::specs::Reading::either))]
     fn optional_ports(&mut self) -> Result<PortList, BuildFault>
-        ensures { Reads header (reading.header MAX_NESTING (map terminal self.old.rest.now)) result (map terminal self.new.rest.now) }
+        ensures { Reads header (reading.header MAX_NESTING (map terminal self.old.rest.now)) result
+            (map terminal self.new.rest.now) }
     {
         if self.is_next(Symbol::OpenParen) {
             self.port_list()
@@ -228,7 +254,8 @@ impl<'a> Cursor<'a> {
     /// A module after its attributes.
     #[tactic(auto, unfolding(crate::specs::ReadingModule::circuit_after))]
     fn module_after(&mut self, regions: &Regions) -> Result<Module, BuildFault>
-        ensures { Reads circuit (reading.circuit_after MAX_NESTING (told regions.now) (map terminal self.old.rest.now)) result (map terminal self.new.rest.now) }
+        ensures { Reads circuit (reading.circuit_after MAX_NESTING (told regions.now)
+            (map terminal self.old.rest.now)) result (map terminal self.new.rest.now) }
     {
         let at = self.mark(Symbol::Module)?;
         let name = self.name()?;
@@ -250,7 +277,8 @@ impl<'a> Cursor<'a> {
 
     #[tactic(auto, unfolding(crate::specs::ReadingModule::circuit))]
     fn module(&mut self, regions: &Regions) -> Result<Module, BuildFault>
-        ensures { Reads circuit (reading.circuit MAX_NESTING (told regions.now) (map terminal self.old.rest.now)) result (map terminal self.new.rest.now) }
+        ensures { Reads circuit (reading.circuit MAX_NESTING (told regions.now)
+            (map terminal self.old.rest.now)) result (map terminal self.new.rest.now) }
     {
         self.attributes()?;
         self.module_after(regions)
@@ -267,7 +295,9 @@ impl<'a> Cursor<'a> {
 
     /// All modules, to the end of the tokens.
     pub fn modules(&mut self, regions: &Regions) -> Result<Vec<Module>, BuildFault>
-        ensures { Reads (λ all. map circuit all.items) (reading.circuits MAX_NESTING (told regions.now) (map terminal self.old.rest.now)) result (map terminal self.new.rest.now) }
+        ensures { Reads (λ all. map circuit all.items)
+            (reading.circuits MAX_NESTING (told regions.now) (map terminal self.old.rest.now))
+            result (map terminal self.new.rest.now) }
     {
         let mut all = Vec::new(self.alloc);
         // Each turn takes a token, so these are enough.

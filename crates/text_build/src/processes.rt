@@ -26,7 +26,8 @@ impl<'a> Cursor<'a> {
 
     #[tactic(auto, unfolding(crate::specs::ReadingItem::change, crate::specs::ReadingItem::any_expression))]
     fn change(&mut self) -> Result<Event, BuildFault>
-        ensures { Reads happening (reading.change MAX_NESTING (map terminal self.old.rest.now)) result (map terminal self.new.rest.now) }
+        ensures { Reads happening (reading.change MAX_NESTING (map terminal self.old.rest.now))
+            result (map terminal self.new.rest.now) }
     {
         let reference = self.reference(MAX_NESTING)?;
         Ok(reference.into_event())
@@ -34,7 +35,8 @@ impl<'a> Cursor<'a> {
 
     #[tactic(auto, unfolding(crate::specs::ReadingItem::event))]
     fn event(&mut self) -> Result<Event, BuildFault>
-        ensures { Reads happening (reading.event MAX_NESTING (map terminal self.old.rest.now)) result (map terminal self.new.rest.now) }
+        ensures { Reads happening (reading.event MAX_NESTING (map terminal self.old.rest.now))
+            result (map terminal self.new.rest.now) }
     {
         match self.peek() {
             Some(Symbol::Posedge) => self.edge(EventEdge::Posedge),
@@ -57,7 +59,9 @@ impl<'a> Cursor<'a> {
     }
 
     fn events(&mut self) -> Result<Vec<Event>, BuildFault>
-        ensures { Reads (λ all. map happening all.items) (reading.events MAX_NESTING (map terminal self.old.rest.now)) result (map terminal self.new.rest.now) }
+        ensures { Reads (λ all. map happening all.items)
+            (reading.events MAX_NESTING (map terminal self.old.rest.now)) result
+            (map terminal self.new.rest.now) }
     {
         let mut all = Vec::new(self.alloc);
         // Each turn takes a token, so these are enough.
@@ -89,7 +93,8 @@ impl<'a> Cursor<'a> {
 
     #[tactic(auto, unfolding(crate::specs::ReadingItem::listed_events))]
     fn listed_events(&mut self) -> Result<EventControl, BuildFault>
-        ensures { Reads sensitivity (reading.listed_events MAX_NESTING (map terminal self.old.rest.now)) result (map terminal self.new.rest.now) }
+        ensures { Reads sensitivity (reading.listed_events MAX_NESTING
+            (map terminal self.old.rest.now)) result (map terminal self.new.rest.now) }
     {
         let events = self.events()?;
         self.mark(Symbol::CloseParen)?;
@@ -98,7 +103,10 @@ impl<'a> Cursor<'a> {
 
     #[tactic(auto, unfolding(crate::specs::Reading::either))]
     fn inside_parens(&mut self) -> Result<EventControl, BuildFault>
-        ensures { Reads sensitivity (generic.either (generic.starts symbol.Star) reading.star_in_parens (reading.listed_events MAX_NESTING) (map terminal self.old.rest.now)) result (map terminal self.new.rest.now) }
+        ensures { Reads sensitivity (generic.either
+            (generic.starts symbol.Star) reading.star_in_parens
+            (reading.listed_events MAX_NESTING) (map terminal self.old.rest.now)) result
+            (map terminal self.new.rest.now) }
     {
         if self.is_next(Symbol::Star) {
             self.star_in_parens()
@@ -109,7 +117,8 @@ impl<'a> Cursor<'a> {
 
     #[tactic(auto, unfolding(crate::specs::ReadingItem::in_parens))]
     fn in_parens(&mut self) -> Result<EventControl, BuildFault>
-        ensures { Reads sensitivity (reading.in_parens MAX_NESTING (map terminal self.old.rest.now)) result (map terminal self.new.rest.now) }
+        ensures { Reads sensitivity (reading.in_parens MAX_NESTING (map terminal self.old.rest.now))
+            result (map terminal self.new.rest.now) }
     {
         self.mark(Symbol::OpenParen)?;
         self.inside_parens()
@@ -118,7 +127,8 @@ impl<'a> Cursor<'a> {
     /// What an `always` waits for, after its `@`.
     #[tactic(auto, unfolding(crate::specs::ReadingItem::sensitivity, crate::specs::Reading::either))]
     fn control(&mut self) -> Result<EventControl, BuildFault>
-        ensures { Reads sensitivity (reading.sensitivity MAX_NESTING (map terminal self.old.rest.now)) result (map terminal self.new.rest.now) }
+        ensures { Reads sensitivity (reading.sensitivity MAX_NESTING
+            (map terminal self.old.rest.now)) result (map terminal self.new.rest.now) }
     {
         if self.is_next(Symbol::Star) {
             self.star()
@@ -129,7 +139,9 @@ impl<'a> Cursor<'a> {
 
     /// The same in a box: what is held by value while more is read is dear to prove.
     fn boxed_control(&mut self) -> Result<Box<EventControl>, BuildFault>
-        ensures { Reads (λ c. sensitivity c.value) (reading.sensitivity MAX_NESTING (map terminal self.old.rest.now)) result (map terminal self.new.rest.now) }
+        ensures { Reads (λ c. sensitivity c.value)
+            (reading.sensitivity MAX_NESTING (map terminal self.old.rest.now)) result
+            (map terminal self.new.rest.now) }
     {
         let read = self.control()?;
         Ok(Box::new(self.alloc, read)?)
@@ -137,7 +149,8 @@ impl<'a> Cursor<'a> {
 
     #[tactic(auto, unfolding(crate::specs::ReadingItem::always))]
     pub fn always(&mut self) -> Result<Item, BuildFault>
-        ensures { Reads module_item (reading.always MAX_NESTING (map terminal self.old.rest.now)) result (map terminal self.new.rest.now) }
+        ensures { Reads module_item (reading.always MAX_NESTING (map terminal self.old.rest.now))
+            result (map terminal self.new.rest.now) }
     {
         let at = self.advance()?;
         self.mark(Symbol::At)?;

@@ -37,7 +37,8 @@ impl<'a> Regions<'a> {
 
     /// The regions that begin neither before one place nor after another.
     pub fn between(&self, alloc: Global, first: u32, last: u32) -> Result<Vec<Dropped>, BuildFault>
-        ensures { Reads (λ all. all.items) (generic.pure (filter (is_between first last) (told self.now)) []) result [] }
+        ensures { Reads (λ all. all.items)
+            (generic.pure (filter (is_between first last) (told self.now)) []) result [] }
     {
         let mut all = Vec::new(alloc);
         self.front.add_between(&mut all, first, last)?;

@@ -29,7 +29,8 @@ impl<'a> Run<'a> {
     /// How many of the regions begin before a place.
     fn before(&self, place: u32) -> usize
         ensures bound { result ≤ length self.now.regions.now }
-        ensures all { (k : ℕ) (d : Dropped) → k < result → (get_or self.now.regions.now k d).at < place }
+        ensures all { (k : ℕ) (d : Dropped) → k < result
+            → (get_or self.now.regions.now k d).at < place }
     {
         let mut low = 0;
         let mut high = self.regions.len();
@@ -51,7 +52,8 @@ impl<'a> Run<'a> {
         first: u32,
         last: u32,
     ) -> Result<(), BuildFault>
-        ensures added { OnOk result (all.new.items ≡ all.old.items ++ filter (is_between first last) self.now.regions.now) }
+        ensures added { OnOk result (all.new.items ≡ all.old.items
+            ++ filter (is_between first last) self.now.regions.now) }
         ensures fault { IsOkUnless result Memory }
     {
         for region in &self.regions[self.before(first)..] {

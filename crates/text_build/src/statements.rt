@@ -37,7 +37,9 @@ impl<'a> Cursor<'a> {
     /// The same in a box: what is held by value while more is read is dear to prove.
     #[cycle(statement)]
     fn boxed_statement(&mut self, depth: u32) -> Result<Box<Stmt>, BuildFault>
-        ensures { Reads (λ s. action s.value) (reading.statement depth (map terminal self.old.rest.now)) result (map terminal self.new.rest.now) }
+        ensures { Reads (λ s. action s.value)
+            (reading.statement depth (map terminal self.old.rest.now)) result
+            (map terminal self.new.rest.now) }
     {
         let read = self.statement(depth)?;
         Ok(Box::new(self.alloc, read)?)
@@ -146,7 +148,11 @@ impl<'a> Cursor<'a> {
         condition: Box<Expr>,
         taken: Box<Stmt>,
     ) -> Result<Stmt, BuildFault>
-        ensures { Reads action (generic.either (generic.starts symbol.Else) (reading.alternative (reading.statement depth) at (formula condition.value) (action taken.value)) (generic.pure (tree.If at (formula condition.value) (action taken.value))) (map terminal self.old.rest.now)) result (map terminal self.new.rest.now) }
+        ensures { Reads action (generic.either (generic.starts symbol.Else)
+            (reading.alternative (reading.statement depth) at (formula condition.value)
+            (action taken.value)) (generic.pure
+            (tree.If at (formula condition.value) (action taken.value)))
+            (map terminal self.old.rest.now)) result (map terminal self.new.rest.now) }
     {
         if self.is_next(Symbol::Else) {
             self.alternative(depth, at, condition, taken)
@@ -164,7 +170,9 @@ impl<'a> Cursor<'a> {
         condition: Box<Expr>,
         taken: Box<Stmt>,
     ) -> Result<Stmt, BuildFault>
-        ensures { Reads action (reading.alternative (reading.statement depth) at (formula condition.value) (action taken.value) (map terminal self.old.rest.now)) result (map terminal self.new.rest.now) }
+        ensures { Reads action (reading.alternative (reading.statement depth) at
+            (formula condition.value) (action taken.value) (map terminal self.old.rest.now))
+            result (map terminal self.new.rest.now) }
     {
         self.advance()?;
         let otherwise = self.boxed_statement(depth)?;

@@ -29,7 +29,9 @@ impl<'a> Cursor<'a> {
 
     /// The same in a box: what is held by value while more is read is dear to prove.
     pub fn boxed_target(&mut self, depth: u32) -> Result<Box<Lvalue>, BuildFault>
-        ensures { Reads (λ t. target t.value) (reading.target depth (map terminal self.old.rest.now)) result (map terminal self.new.rest.now) }
+        ensures { Reads (λ t. target t.value)
+            (reading.target depth (map terminal self.old.rest.now)) result
+            (map terminal self.new.rest.now) }
     {
         let read = self.target(depth)?;
         Ok(Box::new(self.alloc, read)?)
@@ -128,7 +130,9 @@ impl<'a> Cursor<'a> {
     }
 
     pub fn boxed_delay(&mut self, depth: u32) -> Result<Box<Delay>, BuildFault>
-        ensures { Reads (λ d. pause d.value) (reading.pause (expression depth) (map terminal self.old.rest.now)) result (map terminal self.new.rest.now) }
+        ensures { Reads (λ d. pause d.value)
+            (reading.pause (expression depth) (map terminal self.old.rest.now)) result
+            (map terminal self.new.rest.now) }
     {
         let read = self.delay(depth)?;
         Ok(Box::new(self.alloc, read)?)
@@ -137,7 +141,9 @@ impl<'a> Cursor<'a> {
     /// A delay in a box, where one comes next.
     #[tactic(auto, unfolding(crate::specs::Reading::optional, crate::specs::Reading::either))]
     pub fn optional_delay(&mut self, depth: u32) -> Result<Box<Option<Delay>>, BuildFault>
-        ensures { Reads (λ d. option_map pause d.value) (generic.optional symbol.Hash (reading.pause (expression depth)) (map terminal self.old.rest.now)) result (map terminal self.new.rest.now) }
+        ensures { Reads (λ d. option_map pause d.value)
+            (generic.optional symbol.Hash (reading.pause (expression depth))
+            (map terminal self.old.rest.now)) result (map terminal self.new.rest.now) }
     {
         if self.is_next(Symbol::Hash) {
             let delay = self.delay(depth)?;

@@ -27,7 +27,8 @@ pub fn build(
     tokens: &[Terminal],
     regions: &[Dropped],
 ) -> Result<Vec<Module>, BuildFault>
-    ensures { (cs : List Circuit) → AreSpelled regions.now (map terminal tokens.now) cs → All (λ c. depth c ≤ MAX_NESTING) cs → IsBuilt cs result }
+    ensures { (cs : List Circuit) → AreSpelled regions.now (map terminal tokens.now) cs
+        → All (λ c. depth c ≤ MAX_NESTING) cs → IsBuilt cs result }
 {
     let mut cursor = Cursor {
         rest: tokens,
