@@ -1,2 +1,3 @@
+pub mod DataSteps
 pub mod Lists
 mod Register

@@ -1,11 +1,14 @@
 -- From one step to lists of steps.
-use Rattle.std.specs.Prelude.{ℕ}
+use Rattle.std.specs.Prelude.{ℕ, List}
+use Rattle.std.specs.List.{All}
 use Rattle.event_model.specs.Queue.{Flat, State}
 use Rattle.event_model.specs.Writes.{Values}
 use Rattle.net_model.specs.declared.fill.Fill.{Fill}
-use Rattle.net_model.specs.Cycle.{Chain, IsCycle, Step, settings}
-use Rattle.net_model.specs.Lawful.{IsLawfulStep}
+use Rattle.net_model.specs.Cycle.{Chain, Data, IsCycle, Setting, Step, settings}
+use Rattle.net_model.specs.Lawful.{IsLawfulStep, SetsData}
 use Rattle.net_model.specs.Numbers.{AreNumbers}
+use Rattle.net_rest.specs.Rest.{numbers_of}
+use Rattle.sign_rounds.specs.Round.{IsSettled}
 use Rattle.sign_cycles.specs.Agree.{AreSame, IsNext, IsSettledKnown}
 
 -- how a state follows numbers by one step: it is settled at numbers that follow
@@ -27,3 +30,22 @@ StepsAreAlone d chains f =
     (n m : Values) → AreNumbers d n → AreNumbers d m → AreSame d n m →
     (step : Step) (next other : Values) → IsCycle d chains f n step next → IsCycle d chains f m step other →
     AreSame d next other
+
+-- how a state follows numbers by a step of data, whatever resets are active
+pub record IsDataFollowed (d : Flat) (chains : ℕ → Chain) (f : Fill) (n : Values) (all : List Setting) (t : State) : Type 0 where
+  pub next : Values
+  pub follows : IsCycle d chains f n (Data all) next
+  pub settled : IsSettled d f t next
+
+-- each step of data from a settled state leads to such states alone
+abbrev pub DataFollows : Flat → (ℕ → Chain) → Fill → Type 0
+DataFollows d chains f =
+    (s : State) (n : Values) → IsSettled d f s n →
+    (all : List Setting) → All (SetsData d) all →
+    (t : State) → IsNext d s all t → IsDataFollowed d chains f n all t
+
+-- a state that is settled for one fill is settled for the other, at the numbers that its own values have. Those may differ
+-- where nothing writes, in bits of temporaries that no process uses
+abbrev pub SettlesBoth : Flat → Type 0
+SettlesBoth d =
+    (f g : Fill) (s : State) (n : Values) → IsSettled d f s n → IsSettled d g s (numbers_of d g s.value)

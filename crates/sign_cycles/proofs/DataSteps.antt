@@ -1,0 +1,195 @@
+-- Steps of data: the state to which one comes to rest shows numbers that follow, and no register and no reset changes.
+use Rattle.std.proofs.Common.{◌≡◌, ◌∙◌, ℕ, false, List, [], ◌∷◌, map, get_or, refl, sym, ap, subst, arith}
+use Rattle.std.specs.Prelude.{IsTrue}
+use Rattle.std.specs.List.{All}
+use Rattle.std.proofs.lemmas.List.Elements.{All-head, All-tail}
+use Rattle.rtl_bits.specs.declared.Bit.{Bit}
+use Rattle.rtl_bits.specs.declared.Bit.TheVariants.{X}
+use Rattle.rtl_bits.specs.Bit.{is_unknown}
+use Rattle.rtl_flat.specs.Paths.{MayWrite}
+use Rattle.rtl_flat.specs.Process.{Edge'}
+use Rattle.event_model.specs.Queue.{Flat, State, IsAtRest, is_body, is_input, offer, run}
+use Rattle.event_model.specs.Writes.{Values, put}
+use Rattle.event_laws.proofs.Lengths.{put_other}
+use Rattle.net_model.specs.declared.fill.Fill.{Fill}
+use Rattle.net_model.specs.Cycle.{Chain, Setting, given_after}
+use Rattle.net_model.specs.Lawful.{SetsData}
+use Rattle.net_model.specs.Numbers.{bit}
+use Rattle.net_model.specs.Solution.{IsRegisterBit}
+use Rattle.event_runs.specs.Nets.{AreWide, given_with}
+use Rattle.event_runs.specs.Writers.{IsOrderly}
+use Rattle.event_runs.proofs.Inputs.{offer_is, orderly_offer}
+use Rattle.event_runs.proofs.Signals.{body_variable, variable_input}
+use Rattle.event_runs.proofs.Writers.{to_process}
+use Rattle.net_rest.specs.Rest.{AreGiven, IsSolvable, numbers_of}
+use Rattle.net_laws.proofs.Known.{known_at}
+use Rattle.net_rest.proofs.Numbers.{past_ends}
+use Rattle.net_rest.proofs.Rest.{register_inside}
+use Rattle.sign_rounds.specs.Round.{AreSettings, IsArrived, IsFollowed, IsSettled}
+use Rattle.sign_rounds.proofs.Followed as followed
+use Rattle.sign_rounds.proofs.Settled.{arrive}
+use Rattle.event_edges.specs.Quiet.{SetData}
+use Rattle.event_edges.specs.Synchronous.{IsSynchronous}
+use Rattle.event_edges.proofs.Laws.{at_data, data_quiet}
+use Rattle.sign_cycles.specs.Agree.{IsNext, IsSettledKnown}
+use Rattle.sign_cycles.specs.Formed.{IsCleanClocked}
+use Rattle.sign_cycles.specs.Laws.{DataFollows, IsDataFollowed, SettlesBoth}
+
+abbrev pairs : List Setting → List (ℕ × List Bit)
+pairs all = map (λ setting. (setting.input, setting.number)) all
+
+-- ---- settings of data
+
+given_pairs : (n : Values) (all : List Setting) → given_with n (pairs all) ≡ given_after n all
+given_pairs n [] = refl
+given_pairs n (setting ∷ others) = given_pairs (put n setting.input setting.number) others
+
+module _ (d : Flat) where
+  are_settings : (all : List Setting) → All (SetsData d) all → AreSettings d (pairs all)
+  are_settings [] set = tt
+  are_settings (setting ∷ others) set =
+      let one = All-head (SetsData d) setting others set in
+      ((one.can_be.wide, one.can_be.known), are_settings others (All-tail (SetsData d) setting others set))
+
+  set_data : (all : List Setting) → All (SetsData d) all → SetData d (pairs all)
+  set_data [] set = tt
+  set_data (setting ∷ others) set =
+      let one = All-head (SetsData d) setting others set in
+      (one.data_input, one.can_be.wide, set_data others (All-tail (SetsData d) setting others set))
+
+  are_wide : (step : List (ℕ × List Bit)) → SetData d step → AreWide d step
+  are_wide [] set = tt
+  are_wide ((i, bits) ∷ step) set = (set.1, are_wide step set.2)
+
+  -- what is no input stays
+  given_other : (n : Values) (all : List Setting) → All (SetsData d) all → (i : ℕ) → (IsTrue (is_input d i) → ⊥) → given_after n all i ≡ n i
+  given_other n [] set i other = refl
+  given_other n (setting ∷ others) set i other =
+      let one = All-head (SetsData d) setting others set in
+      given_other (put n setting.input setting.number) others (All-tail (SetsData d) setting others set) i other
+      ∙ put_other n setting.input i setting.number (λ same. other (subst (λ (j : ℕ). IsTrue (is_input d j)) (sym same) one.data_input.input))
+
+-- ---- from a settled state
+
+-- a settled state with registers is one
+pub settled_round : (d : Flat) (chains : ℕ → Chain) (f : Fill) (s : State) (n : Values) → IsSettledKnown d chains f s n → IsSettled d f s n
+settled_round d chains f s n settled =
+    record {
+      rest = settled.rest;
+      wide = settled.wide;
+      shows = λ i k lasts.
+          past_ends d s.value n settled.wide settled.solution.numbers.wide i k (λ inside. (settled.shows i k inside lasts).same);
+      drivers = settled.drivers;
+      solution = settled.solution;
+    }
+
+module _ (d : Flat) (level : ℕ → ℕ) (solvable : IsSolvable d level) (sync : IsSynchronous d) (f : Fill) (s : State) (n : Values) (settled : IsSettled d f s n) (all : List Setting) (set : All (SetsData d) all) (t : State) (next : IsNext d s all t) where
+  -- the settled state is as runs have it
+  orderly : IsOrderly d s
+  orderly =
+      (arrive d level solvable f s n settled (record { step = []; events = [] }) (record { settings = tt; can = tt }) settled.rest).orderly
+
+  abbrev here : State
+  here = run d (offer s (pairs all)) next.reaches.events
+
+  rests : IsAtRest d here
+  rests = subst (IsAtRest d) (sym next.reaches.leads) next.rest
+
+  arrived : IsArrived d (given_with n (pairs all)) here
+  arrived =
+      arrive d level solvable f s n settled (record { step = pairs all; events = next.reaches.events })
+      (record { settings = are_settings d all set; can = next.reaches.can }) rests
+
+  not_input : (i k : ℕ) → IsRegisterBit d i k → IsTrue (is_input d i) → ⊥
+  not_input i k register input =
+      variable_input d i
+      (body_variable d solvable.lawful register.process (ap is_body register.does) i k
+      (to_process MayWrite d register.process i k (Edge' register.events register.body) register.does register.may))
+      input
+
+  -- registers stay
+  stays : (i k : ℕ) → IsRegisterBit d i k → bit here.value i k ≡ bit n i k
+  stays i k register =
+      let offers = offer_is s (pairs all) in
+      at_data d sync (offer s (pairs all)) next.reaches.events next.reaches.can
+      (orderly_offer d s (pairs all) (are_wide d (pairs all) (set_data d all set)) orderly)
+      (data_quiet d sync s (pairs all) settled.rest (set_data d all set))
+      (ap (λ (u : State). u.activated) offers ∙ settled.rest.no_active.updates)
+      (ap (λ (u : State). u.delayed) offers ∙ settled.rest.no_delayed)
+      rests register.process register.events register.body register.does i k register.may
+      ∙ ap (λ (u : State). bit u.value i k) offers
+      ∙ settled.shows i k register.lasting
+
+  given_stays : (i k : ℕ) → IsRegisterBit d i k → bit (given_with n (pairs all)) i k ≡ bit n i k
+  given_stays i k register =
+      ap (λ (v : Values). bit v i k) (given_pairs n all)
+      ∙ ap (λ bits. get_or bits k X) (given_other d n all set i (not_input i k register))
+
+  given_are : AreGiven d (given_with n (pairs all))
+  given_are =
+      record {
+        inputs = λ i input.
+            followed.given_known d level solvable n (pairs all) (are_settings d all set) settled.solution.numbers.known i;
+        registers = λ i k register.
+            let size = settled.solution.numbers.wide i in
+            let inside = register_inside d level solvable i k register in
+            subst (λ (b : Bit). is_unknown b ≡ false) (sym (given_stays i k register))
+            (known_at (n i) k (settled.solution.numbers.known i) (omega (arith, size, inside)));
+      }
+
+  abbrev new : Values
+  new = numbers_of d f here.value
+
+  all_followed : IsFollowed d f n (given_with n (pairs all)) here new
+  all_followed =
+      followed.followed d level solvable f (given_with n (pairs all)) (given_with n (pairs all)) here arrived given_are (λ i input. refl)
+      (λ i k register. stays i k register ∙ sym (given_stays i k register)) n settled.solution.numbers
+
+  here_followed : (chains : ℕ → Chain) → IsDataFollowed d chains f n all here
+  here_followed chains =
+      let solution = all_followed.solution in
+      record {
+        next = new;
+        follows = record {
+          inputs = λ i input. solution.inputs i input ∙ ap (λ (v : Values). v i) (given_pairs n all);
+          registers = λ p events body does i k may lasts.
+              let register : IsRegisterBit d i k = record { process = p; events = events; body = body; does = does; may = may; lasting = lasts } in
+              solution.kept i k register ∙ given_stays i k register;
+          rest = record {
+            numbers = solution.numbers;
+            inputs = λ i input. refl;
+            kept = λ i k register. refl;
+            assigns = solution.assigns;
+            blocks = solution.blocks;
+            others = solution.others;
+          };
+        };
+        settled = all_followed.settled;
+      }
+
+  pub to_next : (chains : ℕ → Chain) → IsDataFollowed d chains f n all t
+  to_next chains = subst (IsDataFollowed d chains f n all) next.reaches.leads (here_followed chains)
+
+pub data_follows : (d : Flat) (chains : ℕ → Chain) (level : ℕ → ℕ) → IsCleanClocked d chains level → (f : Fill) → DataFollows d chains f
+data_follows d chains level clean f s n settled all set t next =
+    to_next d level clean.solvable clean.synchronous f s n settled all set t next chains
+
+-- ---- both fills
+
+pub settled_both : (d : Flat) (level : ℕ → ℕ) → IsSolvable d level → SettlesBoth d
+settled_both d level solvable f g s n settled =
+    (followed.followed d level solvable g n n s still given (λ i input. refl) (λ i k register. settled.shows i k register.lasting) n settled.solution.numbers).settled
+  where
+    still : IsArrived d n s
+    still =
+        arrive d level solvable f s n settled (record { step = []; events = [] }) (record { settings = tt; can = tt }) settled.rest
+
+    given : AreGiven d n
+    given =
+        record {
+          inputs = λ i input. settled.solution.numbers.known i;
+          registers = λ i k register.
+              let size = settled.solution.numbers.wide i in
+              let inside = register_inside d level solvable i k register in
+              known_at (n i) k (settled.solution.numbers.known i) (omega (arith, size, inside));
+        }
