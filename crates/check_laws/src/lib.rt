@@ -1,0 +1,4 @@
+//! Laws of the rules: what a design without their findings is.
+#![tactic(auto)]
+
+pub mod law;
