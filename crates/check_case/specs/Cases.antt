@@ -1,15 +1,15 @@
 -- What is wrong with case statements (IEEE 1364.1-2002 sections 5.4 and 6.3, IEEE 1364-2001 section 9.5).
-use Rattle.std.specs.Prelude.{ℕ, ◌≡◌, Bool, true, false, not, ◌&&◌, ◌||◌, List, [], ◌∷◌, ◌++◌, map, Option, Some, None}
+use Rattle.std.specs.Prelude.{ℕ, ◌≡◌, Bool, true, false, not, ◌&&◌, List, [], ◌∷◌, ◌++◌, map, Option, Some, None}
 use Rattle.std.specs.List.{filter_map, flat_map, list_all, list_any}
 use Rattle.rtl_bits.specs.declared.Bit.{Bit}
-use Rattle.rtl_bits.specs.declared.Bit.TheVariants as bit
 use Rattle.rtl_bits.specs.Bit.{is_unknown}
+use Rattle.rtl_bits.specs.Bits.{all_with, may_equal}
 use Rattle.rtl_tree.specs.declared.text.Spot.{Spot}
 use Rattle.rtl_flat.specs.declared.expr.SigId.{SigId}
 use Rattle.rtl_flat.specs.declared.act.CaseKind.{CaseKind}
 use Rattle.rtl_flat.specs.declared.act.CaseKind.TheVariants.{Plain, Z, X}
-use Rattle.rtl_flat.specs.Expression.{Tree, Sized, Literal}
-use Rattle.rtl_flat.specs.Flows.{action_then, complete_by_labels, labels_of}
+use Rattle.rtl_flat.specs.Expression.{Tree}
+use Rattle.rtl_flat.specs.Flows.{action_then, complete_by_labels, labels_of, literal}
 use Rattle.rtl_flat.specs.Paths.{BitSet, End, may_write}
 use Rattle.rtl_flat.specs.Process.{Action, Set, If, Case, Block, Actions, Otherwise, Without, With, Branches, NoBranch, Branch, Doing}
 use Rattle.rtl_rule.specs.declared.finding.Finding.{Finding}
@@ -53,20 +53,13 @@ AreFullCase d = AreFindings (IsFullCase d) (full_case_at d) (statement_sites d)
 
 -- ---- C2
 
--- whether one bit is 0 and another 1
-abbrev pub differ : Bit → Bit → Bool
-differ bit.Zero bit.One = true
-differ bit.One bit.Zero = true
-differ a b = false
-
--- whether two literals differ in a bit that is 0 in one and 1 in the other
-abbrev pub some_differ : List Bit → List Bit → Bool
-some_differ (a ∷ one) (b ∷ other) = differ a b || some_differ one other
+-- whether two labels are literals that differ in a bit that is 0 in one and 1 in the other
+abbrev pub some_differ : List (List Bit) → List (List Bit) → Bool
+some_differ (one ∷ _) (other ∷ _) = not (all_with may_equal one other)
 some_differ _ _ = false
 
 abbrev pub are_disjoint : Tree → Tree → Bool
-are_disjoint (Sized w s at (Literal one)) (Sized w' s' at' (Literal other)) = some_differ one other
-are_disjoint _ _ = false
+are_disjoint a b = some_differ (literal a) (literal b)
 
 -- whether every label of one item is shown disjoint from every label of another
 abbrev pub items_disjoint : List Tree → List Tree → Bool
@@ -120,10 +113,16 @@ never_matches Plain b = is_unknown b
 never_matches Z b = is_x b
 never_matches X b = false
 
+-- whether a bit of a literal in a label is in doubt: where the label is that literal, it matches no known bit; else it is
+-- unknown, since synthesis knows of no bit that matches all in what is worked out of operands
+abbrev pub is_in_doubt : CaseKind → List (List Bit) → Bit → Bool
+is_in_doubt kind [] b = is_unknown b
+is_in_doubt kind (whole ∷ _) b = never_matches kind b
+
 -- a label with such a bit in a literal
 abbrev pub IsUnknownItem : At Label → Type 0
 IsUnknownItem site =
-    list_any (is_literal_with (never_matches site.it.kind)) (nodes site.it.label) ≡ true
+    list_any (is_literal_with (is_in_doubt site.it.kind (literal site.it.label))) (nodes site.it.label) ≡ true
 
 abbrev pub unknown_item_at : Parts → At Label → Finding
 unknown_item_at d site =
