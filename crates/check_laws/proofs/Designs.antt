@@ -1,9 +1,9 @@
 -- What designs without findings about lists, assignments, drivers and latches are.
-use Rattle.std.proofs.Common.{◌≡◌, ◌∙◌, ◌+◌, ◌<◌, ℕ, zero, suc, Bool, true, false, not, ◌&&◌, ◌||◌, cond, List, [], ◌∷◌, length, Option, None, Some, refl, sym, ap, subst, inl, inr, arith}
+use Rattle.std.proofs.Common.{◌≡◌, ◌∙◌, ◌+◌, ◌<◌, ℕ, zero, suc, Bool, true, false, not, ◌&&◌, ◌||◌, cond, List, [], ◌∷◌, Option, None, Some, refl, sym, ap, subst, inl, inr, arith}
 use Rattle.std.specs.Prelude.{◌⊎◌, IsTrue, ◌==◌, nat_lt}
 use Rattle.std.specs.List.{All, enumerate_from, find, list_any, slice_get}
 use Rattle.std.specs.Option.{IsSomeAnd}
-use Rattle.std.proofs.lemmas.Bool.{and_from, and_parts, cases_Bool, cases_eq, cases_order, eq-eqb, eqb-true, eqb-false, false≢true, lt-ltb, not-true, not_from_false, or_cases, or_left, or_right, true_from_ne_false}
+use Rattle.std.proofs.lemmas.Bool.{and_from, and_parts, cases_eq, cases_order, eqb-false, false≢true, lt-ltb, not-true, not_from_false, or_cases, or_left, or_right, true_from_ne_false}
 use Rattle.std.proofs.lemmas.List.Elements.{All-cons, All-nil}
 use Rattle.rtl_flat.specs.declared.signal.Kind.{Kind}
 use Rattle.rtl_flat.specs.declared.signal.Kind.TheVariants.{TopInput, Net, Var}
@@ -11,7 +11,7 @@ use Rattle.rtl_flat.specs.declared.signal.Signal.{Signal}
 use Rattle.rtl_flat.specs.Flows.{body_flow, flow_of, may_target}
 use Rattle.rtl_flat.specs.Levels.{IsArrow, IsNode, Chain, IsBehindCycle}
 use Rattle.rtl_flat.specs.Levels as level
-use Rattle.rtl_flat.specs.Paths.{Flow, Step, Read, Write, IsSure, MayWrite, MayWriteLate, MayWriteNow, ReadsOutside, is_sure, may_write, may_write_blocking, may_write_delayed, reads_outside, may_write_bit, may_write_late, may_write_now}
+use Rattle.rtl_flat.specs.Paths.{Flow, Step, Read, Write, MayWrite, MayWriteLate, MayWriteNow, ReadsOutside, is_sure, may_write, may_write_blocking, may_write_delayed, reads_outside, may_write_bit, may_write_late, may_write_now}
 use Rattle.rtl_flat.specs.PathSets.{IsTemporary, IsTemporaryOf, OfProcess, Uses, items_list, listed}
 use Rattle.rtl_flat.specs.Process.{Watched, Actions, Doing, Assign, Comb, Edge', Task}
 use Rattle.rtl_flat.specs.Signs.{width_in}
@@ -21,13 +21,13 @@ use Rattle.event_model.specs.Queue.{Flat, doing_at, doing_of}
 use Rattle.event_model.specs.Queue as queue
 use Rattle.event_laws.specs.Steady.{AreLawful}
 use Rattle.body_laws.proofs.Within.{may_read_outside, outside_inside, target_inside, write_inside}
-use Rattle.net_model.specs.Solution.{IsLasting, IsRegisterBit}
-use Rattle.rtl_rule.specs.Parts.{Parts, At, has_some, some_below, widths, within, written}
+use Rattle.net_model.specs.Solution.{IsRegisterBit}
+use Rattle.rtl_rule.specs.Parts.{Parts, has_some, widths, written}
 use Rattle.check_sense.specs.Sense.{AreMixedEdges, AreNeverWakes, AreSenseMissing, IsMixedEdges, IsNeverWakes, IsSenseMissing, another_writes, can_wake, first_level, has_item, is_top, misses, mixed_edges_at, never_wakes_at, sense_missing_at}
 use Rattle.check_sense.specs.Sense as sense
-use Rattle.check_assign.specs.Assigned.{AreBlockingState, AreCombLoop, AreLatchInferred, AreMixedAssign, AreNonblockingComb, AreSeveralDrivers, AreUndriven, IsBlockingState, IsCombLoop, IsLatchInferred, IsMixedAssign, IsNonblockingComb, IsSeveralDrivers, IsUndriven, blocking_state_at, comb_loop_at, is_clocked, is_comb, is_input, is_written, late, latch_inferred_at, lower_writes, mixed_assign_at, nonblocking_comb_at, now, several_drivers_at, undriven_at}
-use Rattle.check_laws.specs.Designs.{AreTemporariesDecided, BlockingState, CombLoop, CombLoopAlone, IsComb, IsComputedBit, IsEdge, IsWaking, LatchInferred, MixedAssign, MixedEdges, NeverWakes, NonblockingComb, SenseMissing, SeveralDrivers, Undriven, flat_of}
-use Rattle.check_laws.proofs.Sites.{Each, any_found, each_numbered, numbered_found, process_refuted, refuted, signal_refuted, signal_there, slice_there, some_at, some_found, task_of}
+use Rattle.check_assign.specs.Assigned.{AreCombLoop, AreSeveralDrivers, IsBlockingState, IsCombLoop, IsLatchInferred, IsMixedAssign, IsNonblockingComb, IsSeveralDrivers, IsUndriven, blocking_state_at, comb_loop_at, is_clocked, is_comb, is_input, is_written, late, latch_inferred_at, lower_writes, mixed_assign_at, nonblocking_comb_at, now, several_drivers_at, undriven_at}
+use Rattle.check_laws.specs.Designs.{AreTemporariesDecided, BlockingState, CombLoop, CombLoopAlone, IsComb, IsComputedBit, IsEdge, LatchInferred, MixedAssign, MixedEdges, NeverWakes, NonblockingComb, SenseMissing, SeveralDrivers, Undriven, flat_of}
+use Rattle.check_laws.proofs.Sites.{any_found, each_numbered, numbered_found, process_refuted, refuted, signal_refuted, signal_there, slice_there, some_at, some_found, task_of}
 
 -- ---- S1
 
@@ -60,7 +60,7 @@ any_weaker f g weaker (x ∷ xs) h =
       | inr there ↦ or_right (g x) (list_any g xs) (any_weaker f g weaker xs there)
     ]
 
-late_may : (flow : Flow) (i k : ℕ) → MayWriteLate flow i k → MayWrite flow i k
+pub late_may : (flow : Flow) (i k : ℕ) → MayWriteLate flow i k → MayWrite flow i k
 late_may flow i k late =
     record {
       path = late.path;
@@ -165,7 +165,7 @@ any_numbered test n (y ∷ xs) zero m x there e is =
 any_numbered test n (y ∷ xs) (suc k) m x there e is =
     or_right (test (n, y)) _ (any_numbered test (n + 1) xs k m x there (omega (arith, e)) is)
 
-process_inside : (d : Parts) → AreLawful (flat_of d) → (p : ℕ) (does : Doing) → doing_at (flat_of d) p ≡ Some does → (i k : ℕ) → MayWrite (flow_of (widths d) does) i k → k < widths d i
+pub process_inside : (d : Parts) → AreLawful (flat_of d) → (p : ℕ) (does : Doing) → doing_at (flat_of d) p ≡ Some does → (i k : ℕ) → MayWrite (flow_of (widths d) does) i k → k < widths d i
 process_inside d lawful p (Assign target value) is i k writes =
     let flow = flow_of (widths d) (Assign target value) in
     elim (or_cases (may_target (widths d) target i k) false ((decided flow i k).writes.1 writes)) [
@@ -209,8 +209,8 @@ own_temporary d p task there i k temporary may =
       | inr other ↦ absurd (temporary.of_process.alone p other (subst (λ o. IsSomeAnd o (λ one. Uses (width_in d.signals) one i)) (sym there) (record { bit = k; used = inl may })))
     ]
 
-pub blocking_state : (d : Parts) → BlockingState d
-blocking_state d lawful decides none p events body is i k writes =
+pub blocking_decided : (d : Parts) → AreTemporariesDecided d → BlockingState d
+blocking_decided d decides lawful none p events body is i k writes =
     let flow = body_flow (widths d) body in
     let may = now_may flow i k writes in
     let inside = write_inside d.signals body (edge_body d lawful p events body is) i k may in

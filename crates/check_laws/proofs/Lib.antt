@@ -1,2 +1,11 @@
 mod Sites
 mod Designs
+mod Statements
+mod Cases
+mod Operands
+mod Expressions
+mod Temporaries
+mod Clocks
+mod Stored
+mod Bodies
+mod Targets

@@ -1,7 +1,8 @@
 -- Where a rule has no finding, none of its sites breaks it.
-use Rattle.std.proofs.Common.{◌≡◌, ◌∙◌, ◌+◌, ◌<◌, ℕ, zero, suc, Bool, true, false, List, [], ◌∷◌, ◌++◌, length, map, Option, None, Some, refl, sym, ap, subst, inl, inr, arith}
-use Rattle.std.specs.List.{enumerate_from, flat_map, list_any, slice_get}
+use Rattle.std.proofs.Common.{◌≡◌, ◌+◌, ◌<◌, ℕ, zero, suc, Bool, true, List, [], ◌∷◌, ◌++◌, length, map, Option, None, Some, refl, subst, inl, inr, arith}
+use Rattle.std.specs.List.{All, enumerate_from, flat_map, list_any, slice_get}
 use Rattle.std.proofs.lemmas.Bool.{cases_eq, false≢true, or_cases, or_left, or_right}
+use Rattle.std.proofs.lemmas.List.Elements.{All-cons, All-head, All-nil, All-tail}
 use Rattle.rtl_flat.specs.declared.signal.Signal.{Signal}
 use Rattle.rtl_flat.specs.Process.{Doing, Task}
 use Rattle.rtl_flat.specs.Signs.{width_in}
@@ -41,6 +42,23 @@ each_numbered P n (y ∷ xs) h zero m x there e =
     subst (λ a. P (m, a)) same (subst (λ a. P (a, y)) number h.0)
 each_numbered P n (y ∷ xs) h (suc k) m x there e =
     each_numbered P (n + 1) xs h.1 k m x there (omega (arith, e))
+
+pub each_all : {A : Type 0} (P : A → Type 0) (xs : List A) → Each P xs → All P xs
+each_all P [] h = All-nil P
+each_all P (x ∷ xs) h = All-cons P x xs h.0 (each_all P xs h.1)
+
+pub each_from : {A : Type 0} (P : A → Type 0) (xs : List A) → All P xs → Each P xs
+each_from P [] h = tt
+each_from P (x ∷ xs) h = (All-head P x xs h, each_from P xs (All-tail P x xs h))
+
+-- from two facts of each element
+pub each_both : {A : Type 0} (P Q R : A → Type 0) → ((x : A) → P x → Q x → R x) → (xs : List A) → Each P xs → Each Q xs → Each R xs
+each_both P Q R from [] h k = tt
+each_both P Q R from (x ∷ xs) h k = (from x h.0 k.0, each_both P Q R from xs h.1 k.1)
+
+pub each_join : {A : Type 0} (P : A → Type 0) (xs ys : List A) → Each P xs → Each P ys → Each P (xs ++ ys)
+each_join P [] ys h k = k
+each_join P (x ∷ xs) ys h k = (h.0, each_join P xs ys h.1 k)
 
 -- ---- no finding
 

@@ -65,10 +65,14 @@ abbrev pub AreTemporariesDecided : Parts → Type 0
 AreTemporariesDecided d =
     (s : ℕ) → IsTemporary d.signals d.tasks s ⊎ (IsTemporary d.signals d.tasks s → ⊥)
 
+-- in a lawful design it is decided
+abbrev pub TemporariesDecided : Parts → Type 0
+TemporariesDecided d = AreLawful (flat_of d) → AreTemporariesDecided d
+
 -- A1: what a body that waits for edges writes by blocking assignments are temporaries of its own
 abbrev pub BlockingState : Parts → Type 0
 BlockingState d =
-    AreLawful (flat_of d) → AreTemporariesDecided d → AreBlockingState d [] →
+    AreLawful (flat_of d) → AreBlockingState d [] →
     (p : ℕ) (events : List Watched) (body : Actions) → IsEdge d p events body →
     (i k : ℕ) → MayWriteNow (body_flow (widths d) body) i k → IsTemporaryOf d.signals d.tasks p i
 

@@ -1,1 +1,5 @@
 pub mod Designs
+pub mod Cases
+pub mod Expressions
+pub mod Clocks
+pub mod Targets

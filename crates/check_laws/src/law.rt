@@ -1,7 +1,11 @@
 //! What follows where a rule has no finding, a law for each rule.
 
 ghost use Rattle.rtl_rule.specs.Parts.{Parts};
-ghost use Rattle.check_laws.specs.Designs.{BlockingState, CombLoop, CombLoopAlone, LatchInferred, MixedAssign, MixedEdges, NeverWakes, NonblockingComb, SenseMissing, SeveralDrivers, Undriven};
+ghost use Rattle.check_laws.specs.Cases.{FullCase, ParallelCase};
+ghost use Rattle.check_laws.specs.Clocks.{AsyncPair, DerivedClock, DerivedClockOnce};
+ghost use Rattle.check_laws.specs.Designs.{BlockingState, CombLoop, CombLoopAlone, LatchInferred, MixedAssign, MixedEdges, NeverWakes, NonblockingComb, SenseMissing, SeveralDrivers, TemporariesDecided, Undriven};
+ghost use Rattle.check_laws.specs.Expressions.{DivideVariable, ExclusiveBodies, FirmAssigns, SelectRange, StoredAreMarked, TameBodies, Tristate, UnknownItem, UnknownLiteral};
+ghost use Rattle.check_laws.specs.Targets.{SelectTargets};
 
 /// S1: where no signal is missing in lists, a body lists each bit that it reads outside.
 pub fn sense_missing()
@@ -56,4 +60,84 @@ pub fn comb_loop_alone()
 /// L1: what a body without edges may write it writes on every path.
 pub fn latch_inferred()
     ensures { (d : Parts) → LatchInferred d }
+{}
+
+/// C1: a case with `full_case` and no `default` is complete by its labels.
+pub fn full_case()
+    ensures { (d : Parts) → FullCase d }
+{}
+
+/// C2: the items of a case with `parallel_case` are disjoint.
+pub fn parallel_case()
+    ensures { (d : Parts) → ParallelCase d }
+{}
+
+/// C3: what is worked out in labels has no x and no z.
+pub fn unknown_item()
+    ensures { (d : Parts) → UnknownItem d }
+{}
+
+/// X1: no literal outside labels has an x.
+pub fn unknown_literal()
+    ensures { (d : Parts) → UnknownLiteral d }
+{}
+
+/// Z1: no literal outside labels has a z.
+pub fn tristate()
+    ensures { (d : Parts) → Tristate d }
+{}
+
+/// X2: each bit-select has its bit whatever the index is.
+pub fn select_range()
+    ensures { (d : Parts) → SelectRange d }
+{}
+
+/// X3: each divisor is a power of two.
+pub fn divide_variable()
+    ensures { (d : Parts) → DivideVariable d }
+{}
+
+/// The expressions of stored processes have a width, a sign and a place at each operand.
+pub fn stored()
+    ensures { (d : Parts) → StoredAreMarked d }
+{}
+
+/// With these a continuous assignment has a known value where signals are known.
+pub fn firm_assigns()
+    ensures { (d : Parts) → FirmAssigns d }
+{}
+
+/// And each body is tame.
+pub fn tame_bodies()
+    ensures { (d : Parts) → TameBodies d }
+{}
+
+/// And of a case with `parallel_case` at most one item matches.
+pub fn exclusive_bodies()
+    ensures { (d : Parts) → ExclusiveBodies d }
+{}
+
+/// In a lawful design it is decided which signals are temporaries.
+pub fn temporaries_decided()
+    ensures { (d : Parts) → TemporariesDecided d }
+{}
+
+/// A7: clocks and resets come from top inputs, where it is decided which signals do.
+pub fn derived_clock()
+    ensures { (d : Parts) → DerivedClock d }
+{}
+
+/// A7: no two items of a list come from one top input.
+pub fn derived_clock_once()
+    ensures { (d : Parts) → DerivedClockOnce d }
+{}
+
+/// X2: each nonblocking assignment of a body may write some bit.
+pub fn select_targets()
+    ensures { (d : Parts) → SelectTargets d }
+{}
+
+/// R3: a process has one reset at most.
+pub fn async_pair()
+    ensures { (d : Parts) → AsyncPair d }
 {}

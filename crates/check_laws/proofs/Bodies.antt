@@ -1,0 +1,117 @@
+-- Bodies and continuous assignments whose expressions and cases have no findings.
+use Rattle.std.proofs.Common.{◌≡◌, ℕ, false, List, [], ◌∷◌, Some, ap, subst}
+use Rattle.std.specs.List.{All, flat_map, slice_get}
+use Rattle.std.proofs.lemmas.List.Elements.{All-cons, All-nil}
+use Rattle.rtl_flat.specs.Expression.{Tree}
+use Rattle.rtl_flat.specs.Flows.{labels_of}
+use Rattle.rtl_flat.specs.Process.{Selection, Piece, Watched, Action, Set, If, Case, Block, Actions, Branches, NoBranch, Branch, Doing, Assign, Comb, Edge', Task}
+use Rattle.rtl_flat.specs.Process as part
+use Rattle.rtl_flat.specs.WellFormed.{IsBody, IsProcess}
+use Rattle.event_model.specs.Queue.{doing_of}
+use Rattle.event_laws.specs.Steady.{AreLawful}
+use Rattle.net_model.specs.Numbers.{is_literal}
+use Rattle.net_laws.specs.Rules.{EachOf, EachPart, DividesByPower, HasNone, IsClear, OfIndex, OfLabels, OfStatement, SelectsInside}
+use Rattle.net_laws.proofs.Apart as apart
+use Rattle.net_laws.proofs.Firm as firm
+use Rattle.rtl_bits.specs.declared.Bit.TheVariants.{X, Z}
+use Rattle.rtl_rule.specs.Parts.{Parts, all_of, index_of, indices, items_of, labels, own_labels, own_trees, trees}
+use Rattle.check_laws.specs.Cases.{Does, IsBodyOf}
+use Rattle.check_laws.specs.Designs.{flat_of}
+use Rattle.check_laws.specs.Expressions.{AreMarked, ExclusiveBodies, FirmAssigns, HasNoDoubt, IsKnownLabel, TameBodies}
+use Rattle.check_laws.proofs.Cases.{full_case, parallel_case}
+use Rattle.check_laws.proofs.Expressions.{divide_variable, select_range, tristate, unknown_item, unknown_literal}
+use Rattle.check_laws.proofs.Sites.{Each, each_all, each_both, each_flat, each_from, each_left, each_right, task_of}
+use Rattle.check_laws.proofs.Statements.{each_of}
+
+-- ---- from lists of expressions to statements
+
+module _ (C : Tree → Type 0) where
+  abbrev OfLabel : Tree → Type 0
+  OfLabel label = is_literal label ≡ false → C label
+
+  abbrev OfOwn : Action → Type 0
+  OfOwn one = Each C (own_trees one) × Each OfLabel (own_labels one)
+
+  of_index : (selection : Selection) → Each C (index_of selection) → OfIndex C selection
+  of_index part.Whole h = tt
+  of_index (part.BitAt low index) h = tt
+  of_index (part.BitBy low index) h = h.0
+  of_index (part.Part low width) h = tt
+
+  of_pieces : (target : List Piece) → Each C (indices target) → All (λ piece. OfIndex C piece.selection) target
+  of_pieces [] h = All-nil (λ (piece : Piece). OfIndex C piece.selection)
+  of_pieces (one ∷ target) h =
+      All-cons (λ (piece : Piece). OfIndex C piece.selection) one target (of_index one.selection (each_left C (index_of one.selection) (indices target) h)) (of_pieces target (each_right C (index_of one.selection) (indices target) h))
+
+  of_labels : (branches : Branches) → Each OfLabel (labels_of branches) → OfLabels C branches
+  of_labels NoBranch h = tt
+  of_labels (Branch labels body others) h =
+      (each_all OfLabel labels (each_left OfLabel labels (labels_of others) h), of_labels others (each_right OfLabel labels (labels_of others) h))
+
+  of_statement : (one : Action) → OfOwn one → OfStatement C one
+  of_statement (Set target value delayed spot) h = (of_pieces target h.0.1, h.0.0)
+  of_statement (If test taken other spot) h = h.0.0
+  of_statement (Case kind full parallel selector branches fallback spot) h = (h.0.0, of_labels branches h.1)
+  of_statement (Block body) h = tt
+
+  statements_of : (body : Actions) → Each C (flat_map own_trees (all_of body)) → Each OfLabel (flat_map own_labels (all_of body)) → EachOf (OfStatement C) body
+  statements_of body h k =
+      let all = all_of body in
+      each_of (OfStatement C) OfOwn (λ b. tt) of_statement body (each_both (λ one. Each C (own_trees one)) (λ one. Each OfLabel (own_labels one)) OfOwn (λ one a b. (a, b)) all (each_flat C own_trees all h) (each_flat OfLabel own_labels all k))
+
+  of_process : (does : Doing) (body : Actions) → Does does body → Each C (trees does) → Each OfLabel (labels does) → EachOf (OfStatement C) body
+  of_process (Assign target value) body is h k = absurd is
+  of_process (Comb list own) body is h k =
+      subst (EachOf (OfStatement C)) is (statements_of own (each_right C (flat_map (λ (item : Watched). index_of item.selection) (items_of (Comb list own))) (flat_map own_trees (all_of own)) h) k)
+  of_process (Edge' events own) body is h k =
+      subst (EachOf (OfStatement C)) is (statements_of own (each_right C (flat_map (λ (item : Watched). index_of item.selection) events) (flat_map own_trees (all_of own)) h) k)
+
+-- ---- clear expressions
+
+module _ (d : Parts) (marked : AreMarked d) (none : HasNoDoubt d) (p : ℕ) (task : Task) (there : slice_get d.tasks p ≡ Some task) where
+  abbrev IsClearHere : Tree → Type 0
+  IsClearHere = IsClear (flat_of d)
+
+  clear_trees : Each IsClearHere (trees task.does)
+  clear_trees =
+      let es = trees task.does in
+      let x = each_from (EachPart (HasNone X)) es (unknown_literal d marked none.x1 p task there) in
+      let z = each_from (EachPart (HasNone Z)) es (tristate d marked none.z1 p task there) in
+      let inside = each_from (EachPart (SelectsInside (flat_of d))) es (select_range d marked none.x2 p task there).0 in
+      let divide = each_from (EachPart DividesByPower) es (divide_variable d marked none.x3 p task there).0 in
+      let known = each_both (EachPart (HasNone X)) (EachPart (HasNone Z)) (λ e. EachPart (HasNone X) e × EachPart (HasNone Z) e) (λ e a b. (a, b)) es x z in
+      let firm = each_both (EachPart (SelectsInside (flat_of d))) (EachPart DividesByPower) (λ e. EachPart (SelectsInside (flat_of d)) e × EachPart DividesByPower e) (λ e a b. (a, b)) es inside divide in
+      each_both (λ e. EachPart (HasNone X) e × EachPart (HasNone Z) e) (λ e. EachPart (SelectsInside (flat_of d)) e × EachPart DividesByPower e) IsClearHere (λ e a b. record { x1 = a.0; z1 = a.1; x2 = b.0; x3 = b.1 }) es known firm
+
+  clear_labels : Each (OfLabel IsClearHere) (labels task.does)
+  clear_labels =
+      let es = labels task.does in
+      let known = each_from IsKnownLabel es (unknown_item d marked none.c3 p task there) in
+      let inside = each_from (EachPart (SelectsInside (flat_of d))) es (select_range d marked none.x2 p task there).1 in
+      let divide = each_from (EachPart DividesByPower) es (divide_variable d marked none.x3 p task there).1 in
+      let firm = each_both (EachPart (SelectsInside (flat_of d))) (EachPart DividesByPower) (λ e. EachPart (SelectsInside (flat_of d)) e × EachPart DividesByPower e) (λ e a b. (a, b)) es inside divide in
+      each_both IsKnownLabel (λ e. EachPart (SelectsInside (flat_of d)) e × EachPart DividesByPower e) (OfLabel IsClearHere) (λ e a b. λ free. record { x1 = (a free).0; z1 = (a free).1; x2 = b.0; x3 = b.1 }) es known firm
+
+-- the body of a lawful process
+pub lawful_body : (d : Parts) → AreLawful (flat_of d) → (p : ℕ) (body : Actions) → IsBodyOf d p body → IsBody d.signals body
+lawful_body d lawful p body is = by_does is.task.does is.does (lawful p is.task.does (ap doing_of is.there))
+  where
+    by_does : (does : Doing) → Does does body → IsProcess d.signals does → IsBody d.signals body
+    by_does (Assign target value) same h = absurd same
+    by_does (Comb list own) same h = subst (IsBody d.signals) same h.1
+    by_does (Edge' events own) same h = subst (IsBody d.signals) same h.2
+
+pub firm_assigns : (d : Parts) → FirmAssigns d
+firm_assigns d lawful marked none p target value is =
+    let at = task_of (flat_of d) p (Assign target value) is in
+    let clear = subst (λ does. Each (IsClear (flat_of d)) (trees does)) at.is (clear_trees d marked none p at.task at.there) in
+    firm.firm (flat_of d) value (lawful p (Assign target value) is).0.sized clear.0
+
+pub tame_bodies : (d : Parts) → TameBodies d
+tame_bodies d lawful marked none p body is =
+    let clear = of_process (IsClear (flat_of d)) is.task.does body is.does (clear_trees d marked none p is.task is.there) (clear_labels d marked none p is.task is.there) in
+    firm.tame (flat_of d) body (lawful_body d lawful p body is) clear (full_case d none.c1 p body is)
+
+pub exclusive_bodies : (d : Parts) → ExclusiveBodies d
+exclusive_bodies d lawful marked none p body is =
+    apart.exclusive (flat_of d) body (lawful_body d lawful p body is) (tame_bodies d lawful marked none p body is) (parallel_case d none.c2 p body is)
