@@ -9,9 +9,11 @@ use Rattle.rtl_bits.specs.Bit.{is_unknown}
 use Rattle.rtl_flat.specs.Paths.{MayWrite}
 use Rattle.rtl_flat.specs.Process.{Edge'}
 use Rattle.event_model.specs.Queue.{Flat, State, IsAtRest, is_body, is_input, offer, run}
+use Rattle.event_model.specs.Traces.{Same}
 use Rattle.event_model.specs.Writes.{Values, put}
 use Rattle.event_laws.proofs.Lengths.{put_other}
 use Rattle.net_model.specs.declared.fill.Fill.{Fill}
+use Rattle.net_model.specs.Control.{InCone}
 use Rattle.net_model.specs.Cycle.{Chain, Setting, given_after}
 use Rattle.net_model.specs.Lawful.{SetsData}
 use Rattle.net_model.specs.Numbers.{bit}
@@ -30,17 +32,17 @@ use Rattle.sign_rounds.proofs.Followed as followed
 use Rattle.sign_rounds.proofs.Settled.{arrive}
 use Rattle.event_edges.specs.Quiet.{SetData}
 use Rattle.event_edges.specs.Synchronous.{IsSynchronous}
-use Rattle.event_edges.proofs.Laws.{at_data, data_quiet}
+use Rattle.event_edges.proofs.Laws.{at_data, data_quiet, quiet_run}
 use Rattle.sign_cycles.specs.Agree.{IsNext, IsSettledKnown}
 use Rattle.sign_cycles.specs.Formed.{IsCleanClocked}
 use Rattle.sign_cycles.specs.Laws.{DataFollows, IsDataFollowed, SettlesBoth}
 
-abbrev pairs : List Setting → List (ℕ × List Bit)
+abbrev pub pairs : List Setting → List (ℕ × List Bit)
 pairs all = map (λ setting. (setting.input, setting.number)) all
 
 -- ---- settings of data
 
-given_pairs : (n : Values) (all : List Setting) → given_with n (pairs all) ≡ given_after n all
+pub given_pairs : (n : Values) (all : List Setting) → given_with n (pairs all) ≡ given_after n all
 given_pairs n [] = refl
 given_pairs n (setting ∷ others) = given_pairs (put n setting.input setting.number) others
 
@@ -99,6 +101,19 @@ module _ (d : Flat) (level : ℕ → ℕ) (solvable : IsSolvable d level) (sync 
   arrived =
       arrive d level solvable f s n settled (record { step = pairs all; events = next.reaches.events })
       (record { settings = are_settings d all set; can = next.reaches.can }) rests
+
+  -- clocks and resets stay
+  here_cone : (i k : ℕ) → InCone d i → Same here.value s.value i k
+  here_cone i k cone =
+      let offers = offer_is s (pairs all) in
+      (quiet_run d sync (offer s (pairs all)) next.reaches.events next.reaches.can
+      (orderly_offer d s (pairs all) (are_wide d (pairs all) (set_data d all set)) orderly)
+      (data_quiet d sync s (pairs all) settled.rest (set_data d all set))).cone i k cone
+      ∙ ap (λ (u : State). bit u.value i k) offers
+
+  pub cone_stays : (i k : ℕ) → InCone d i → Same t.value s.value i k
+  cone_stays i k cone =
+      ap (λ (u : State). bit u.value i k) (sym next.reaches.leads) ∙ here_cone i k cone
 
   not_input : (i k : ℕ) → IsRegisterBit d i k → IsTrue (is_input d i) → ⊥
   not_input i k register input =

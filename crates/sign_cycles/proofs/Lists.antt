@@ -17,7 +17,7 @@ use Rattle.sign_cycles.specs.Laws.{StepsAreAlone, StepsFollow}
 
 -- ---- lawful steps speak of inputs alone
 
-abbrev GivesAlike : Flat → Values → Values → Type 0
+abbrev pub GivesAlike : Flat → Values → Values → Type 0
 GivesAlike d n m = (i : ℕ) → IsTrue (is_input d i) → n i ≡ m i
 
 put_alike : (d : Flat) (n m : Values) (j : ℕ) (bits : List Bit) → GivesAlike d n m → GivesAlike d (put n j bits) (put m j bits)
@@ -27,7 +27,7 @@ put_alike d n m j bits alike i is = by_test (i == j)
     by_test true = refl
     by_test false = alike i is
 
-given_alike : (d : Flat) (n m : Values) (all : List Setting) → GivesAlike d n m → GivesAlike d (given_after n all) (given_after m all)
+pub given_alike : (d : Flat) (n m : Values) (all : List Setting) → GivesAlike d n m → GivesAlike d (given_after n all) (given_after m all)
 given_alike d n m [] alike = alike
 given_alike d n m (setting ∷ others) alike =
     given_alike d (put n setting.input setting.number) (put m setting.input setting.number) others (put_alike d n m setting.input setting.number alike)

@@ -1,12 +1,13 @@
 -- From one step to lists of steps.
-use Rattle.std.specs.Prelude.{ℕ, List}
+use Rattle.std.specs.Prelude.{◌≡◌, ℕ, List, [], ◌∷◌}
 use Rattle.std.specs.List.{All}
-use Rattle.event_model.specs.Queue.{Flat, State}
+use Rattle.event_model.specs.Queue.{Flat, State, widths}
 use Rattle.event_model.specs.Writes.{Values}
 use Rattle.net_model.specs.declared.fill.Fill.{Fill}
-use Rattle.net_model.specs.Cycle.{Chain, Data, IsCycle, Setting, Step, settings}
-use Rattle.net_model.specs.Lawful.{IsLawfulStep, SetsData}
-use Rattle.net_model.specs.Numbers.{AreNumbers}
+use Rattle.net_model.specs.Cycle.{Chain, Data, IsCycle, Setting, Step, Turn, register_bit, settings}
+use Rattle.net_model.specs.Lawful.{IsLawfulStep, SetsData, TurnsControl}
+use Rattle.net_model.specs.Numbers.{AreNumbers, bit}
+use Rattle.net_model.specs.Solution.{IsRegisterBit}
 use Rattle.net_rest.specs.Rest.{numbers_of}
 use Rattle.sign_rounds.specs.Round.{IsSettled}
 use Rattle.sign_cycles.specs.Agree.{AreSame, IsNext, IsSettledKnown}
@@ -43,6 +44,30 @@ DataFollows d chains f =
     (s : State) (n : Values) → IsSettled d f s n →
     (all : List Setting) → All (SetsData d) all →
     (t : State) → IsNext d s all t → IsDataFollowed d chains f n all t
+
+-- in a settled state whose registers keep their resets they still do so after it
+abbrev pub DataStaysKnown : Flat → (ℕ → Chain) → Fill → Type 0
+DataStaysKnown d chains f =
+    (s : State) (n : Values) → IsSettledKnown d chains f s n →
+    (all : List Setting) → All (SetsData d) all →
+    (t : State) → IsNext d s all t → IsFollowed d chains f n (Data all) t
+
+-- at rest after a step of one clock or reset each register bit has what its process gives to it, from the numbers before
+-- the step and from its clock and its resets after it
+abbrev pub RegistersAre : Flat → (ℕ → Chain) → Fill → Type 0
+RegistersAre d chains f =
+    (s : State) (n : Values) → IsSettledKnown d chains f s n →
+    (setting : Setting) → TurnsControl d n setting →
+    (t : State) → IsNext d s (setting ∷ []) t →
+    (i k : ℕ) (register : IsRegisterBit d i k) →
+    bit t.value i k ≡ register_bit (widths d) f n (numbers_of d f t.value) (chains register.process) i k
+
+-- so each such step leads to settled states alone, at numbers that follow
+abbrev pub TurnsFollow : Flat → (ℕ → Chain) → Fill → Type 0
+TurnsFollow d chains f =
+    (s : State) (n : Values) → IsSettledKnown d chains f s n →
+    (setting : Setting) → TurnsControl d n setting →
+    (t : State) → IsNext d s (setting ∷ []) t → IsFollowed d chains f n (Turn setting) t
 
 -- a state that is settled for one fill is settled for the other, at the numbers that its own values have. Those may differ
 -- where nothing writes, in bits of temporaries that no process uses

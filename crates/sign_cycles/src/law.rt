@@ -7,7 +7,7 @@ ghost use Rattle.net_model.specs.Cycle.{Chain};
 ghost use Rattle.net_rest.specs.Rest.{IsSolvable};
 ghost use Rattle.sign_cycles.specs.Agree.{Agree};
 ghost use Rattle.sign_cycles.specs.Formed.{IsCleanClocked};
-ghost use Rattle.sign_cycles.specs.Laws.{DataFollows, SettlesBoth, StepsAreAlone, StepsFollow};
+ghost use Rattle.sign_cycles.specs.Laws.{DataFollows, DataStaysKnown, RegistersAre, SettlesBoth, StepsAreAlone, StepsFollow, TurnsFollow};
 
 /// Where each step from a settled state leads to numbers that follow, and to no others, all lists of steps agree.
 pub fn agree_by_steps()
@@ -20,6 +20,43 @@ pub fn agree_by_steps()
 pub fn data_follows()
     ensures { (d : Flat) (chains : ℕ → Chain) (level : ℕ → ℕ) → IsCleanClocked d chains level
         → (f : Fill) → DataFollows d chains f }
+{}
+
+/// Registers whose resets are active have their constants after such a step, too.
+pub fn data_known()
+    ensures { (d : Flat) (chains : ℕ → Chain) (level : ℕ → ℕ) → IsCleanClocked d chains level
+        → (f : Fill) → DataStaysKnown d chains f }
+{}
+
+/// At rest after a step of one clock or reset each register bit is what synthesis gives to it.
+pub fn register_is()
+    ensures { (d : Flat) (chains : ℕ → Chain) (level : ℕ → ℕ) → IsCleanClocked d chains level
+        → (f : Fill) → RegistersAre d chains f }
+{}
+
+/// Each step of one clock or reset leads to settled states that show numbers which follow.
+pub fn turns_follow()
+    ensures { (d : Flat) (chains : ℕ → Chain) (level : ℕ → ℕ) → IsCleanClocked d chains level
+        → (f : Fill) → TurnsFollow d chains f }
+{}
+
+/// So does each lawful step.
+pub fn steps_follow()
+    ensures { (d : Flat) (chains : ℕ → Chain) (level : ℕ → ℕ) → IsCleanClocked d chains level
+        → (f : Fill) → StepsFollow d chains f }
+{}
+
+/// From the same numbers, but for temporaries, a step gives the same.
+pub fn steps_alone()
+    ensures { (d : Flat) (chains : ℕ → Chain) (level : ℕ → ℕ) → IsCleanClocked d chains level
+        → (f : Fill) → StepsAreAlone d chains f }
+{}
+
+/// Over every list of lawful steps from a settled state, in every order of events, a clean design shows the numbers of its
+/// synthesised meaning on outputs and registers.
+pub fn agreement()
+    ensures { (d : Flat) (chains : ℕ → Chain) (level : ℕ → ℕ) → IsCleanClocked d chains level
+        → (f : Fill) → Agree d chains f }
 {}
 
 /// A state that is settled for one fill is settled for the other.

@@ -1,0 +1,5 @@
+use Rattle.sign_cycles.proofs.Steps.{data_known}
+use Rattle.sign_cycles.proofs.law.data_known.Goals as goal
+
+pub returns : goal.returns
+returns c = data_known
