@@ -77,7 +77,7 @@ module _ (d : Flat) where
   opened_exclusive (Then (Block body) Done) exclusive = opened_exclusive body exclusive.0
   opened_exclusive (Then (Block body) (Then one others)) exclusive = exclusive
 
-  opened_usable : (body : Actions) → IsUsable d body → IsUsable d (opened body)
+  pub opened_usable : (body : Actions) → IsUsable d body → IsUsable d (opened body)
   opened_usable body usable =
       record {
         lawful = opened_lawful body usable.lawful;

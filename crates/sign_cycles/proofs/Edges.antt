@@ -74,7 +74,7 @@ module _ (i k : ℕ) (b : Bit) where
   update_last (w ∷ us) old =
       ap (update_bit i k us) (one_last (covers i k w) old _) ∙ update_last us _
 
-  updates_last : (ms : List Made) (old : Option Bit) → updates_bit i k (laters ms) (unwrap_or old b) ≡ unwrap_or (last_written i k old (late_writes ms)) b
+  pub updates_last : (ms : List Made) (old : Option Bit) → updates_bit i k (laters ms) (unwrap_or old b) ≡ unwrap_or (last_written i k old (late_writes ms)) b
   updates_last [] old = refl
   updates_last (Now w ∷ ms) old = updates_last ms old
   updates_last (Later us ∷ ms) old =
@@ -188,7 +188,7 @@ start_bit : (d : Flat) (c i : ℕ) → IsReached d c i → widths d i ≡ 1 → 
 start_bit d c _ Itself one = one
 start_bit d c _ (Through k j reached passed) one = start_bit d c k reached passed.one_bit
 
-control_bit : (d : Flat) → IsSynchronous d → (c : ℕ) → IsControl d c → widths d c ≡ 1
+pub control_bit : (d : Flat) → IsSynchronous d → (c : ℕ) → IsControl d c → widths d c ≡ 1
 control_bit d sync c control =
     let edges = control.edges in
     let one = find (waits_for control.signal) edges.events edges.waits in

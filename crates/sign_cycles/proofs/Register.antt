@@ -34,33 +34,33 @@ use Rattle.net_model.specs.Solution.{IsSolution}
 use Rattle.sign_cycles.specs.Agree.{IsNext, IsSettledKnown, offered}
 use Rattle.sign_cycles.specs.BringUp.{IsAtLevel, IsBringUp, SetsInput, given_by, sets}
 
-spot : Spot
+pub spot : Spot
 spot = record { file = 0; at = 0 }
 
 abbrev signal : Kind → Bool → Signal
 signal kind output =
     record { path = []; width = 1; signed = false; low = 0; kind = kind; top_output = output; instance = 0; spot = spot }
 
-abbrev bit_of : ℕ → Tree
+abbrev pub bit_of : ℕ → Tree
 bit_of i = Sized 1 false spot (tree.Whole i)
 
-abbrev rise : ℕ → Watched
+abbrev pub rise : ℕ → Watched
 rise i = record { signal = i; selection = Whole; edge = edge.Pos; spot = spot }
 
-abbrev store : Tree → Actions
+abbrev pub store : Tree → Actions
 store e = Then (Set (whole_of 3 spot) e true spot) Done
 
-abbrev clear : Actions
+abbrev pub clear : Actions
 clear = store (Sized 1 false spot (Literal (Zero ∷ [])))
 
-abbrev body : Actions
+abbrev pub body : Actions
 body = Then (If (bit_of 1) clear (With (store (bit_of 2))) spot) Done
 
-abbrev list : List Watched
+abbrev pub list : List Watched
 list = rise 0 ∷ rise 1 ∷ []
 
 -- clk, rst, a and q
-abbrev design : Flat
+abbrev pub design : Flat
 design =
     record {
       signals = signal TopInput false ∷ signal TopInput false ∷ signal TopInput false ∷ signal Var true ∷ [];
@@ -69,10 +69,10 @@ design =
 
 -- ---- its chain
 
-abbrev guard : Guard
+abbrev pub guard : Guard
 guard = record { item = rise 1; test = bit_of 1; branch = clear }
 
-abbrev chain : Chain
+abbrev pub chain : Chain
 chain = record { resets = guard ∷ []; clock = rise 0; part = store (bit_of 2) }
 
 tests_bit : (f : Fill) (n : Values) (bits : List Bit) → n 1 ≡ bits → length bits ≡ 1 → has_unknown bits ≡ false → is_one (truth_bit (digits f n (bit_of 1))) ≡ is_active n (rise 1)
@@ -86,7 +86,7 @@ tests_bit f n (b ∷ c ∷ bits) is wide known = absurd (omega (arith, wide))
 tests : Tests design guard
 tests f n numbers = tests_bit f n (n 1) refl (numbers.wide 1) (numbers.known 1)
 
-is_chain : IsChain design list body chain
+pub is_chain : IsChain design list body chain
 is_chain =
     record {
       chained = (store (bit_of 2), spot, refl, refl);
@@ -151,7 +151,7 @@ edges_alone (suc p) = refl
 no_other : (p : ℕ) (o : Option Doing) → doing_at design p ≡ o → has_edges o ≡ false → ⊥
 no_other p o is edges = true≢false (sym (edges_alone p) ∙ ap has_edges is ∙ edges)
 
-register_written : MayWrite (body_flow (widths design) body) 3 0
+pub register_written : MayWrite (body_flow (widths design) body) 3 0
 register_written = (decided (body_flow (widths design) body) 3 0).writes.0 refl
 
 all_sourced : (i k : ℕ) → k < widths design i → is_input design i ≡ false → ((p : ℕ) → OfProcess MayWrite design.signals design.tasks p i k → ⊥) → ⊥
@@ -293,7 +293,7 @@ no_port : (i j : ℕ) → IsPassedOn design i j → ⊥
 no_port i j h =
     no_other h.process (Some (Assign (whole_of j h.connection.spot) h.value)) (ap doing_of h.connection.there ∙ ap Some h.connection.does) refl
 
-itself : (c i : ℕ) → IsReached design c i → c ≡ i
+pub itself : (c i : ℕ) → IsReached design c i → c ≡ i
 itself c i Itself = refl
 itself c i (Through i' j reached passed) = absurd (no_port i' j passed)
 

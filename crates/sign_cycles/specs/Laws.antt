@@ -9,8 +9,11 @@ use Rattle.net_model.specs.Lawful.{IsLawfulStep, SetsData, TurnsControl}
 use Rattle.net_model.specs.Numbers.{AreNumbers, bit}
 use Rattle.net_model.specs.Solution.{IsRegisterBit}
 use Rattle.net_rest.specs.Rest.{numbers_of}
+use Rattle.sign_rounds.specs.BringUp.{CanAllWake}
 use Rattle.sign_rounds.specs.Round.{IsSettled}
 use Rattle.sign_cycles.specs.Agree.{AreSame, IsNext, IsSettledKnown}
+use Rattle.sign_cycles.specs.BringUp.{BringsUp, HaveResets}
+use Rattle.sign_cycles.specs.Formed.{IsCleanClocked}
 
 -- how a state follows numbers by one step: it is settled at numbers that follow
 pub record IsFollowed (d : Flat) (chains : ℕ → Chain) (f : Fill) (n : Values) (step : Step) (t : State) : Type 0 where
@@ -74,3 +77,9 @@ TurnsFollow d chains f =
 abbrev pub SettlesBoth : Flat → Type 0
 SettlesBoth d =
     (f g : Fill) (s : State) (n : Values) → IsSettled d f s n → IsSettled d g s (numbers_of d g s.value)
+
+-- every bring-up of a clean design ends in a settled state, where each of its blocks without edges can be woken, and each
+-- of its registers has a reset
+abbrev pub BringsUpClean : Flat → (ℕ → Chain) → (ℕ → ℕ) → Type 0
+BringsUpClean d chains level =
+    IsCleanClocked d chains level → CanAllWake d → HaveResets d chains → (f : Fill) → BringsUp d chains f
