@@ -1,17 +1,14 @@
 -- A step from numbers leads to numbers that are alike, but for temporaries.
-use Rattle.std.proofs.Common.{◌≡◌, ◌∙◌, ℕ, Bool, true, false, cond, List, [], ◌∷◌, length, get_or, replicate, map, Option, None, Some, refl, sym, ap, subst, inl, inr}
-use Rattle.std.specs.Prelude.{IsTrue}
-use Rattle.std.specs.List.{All}
+use Rattle.std.proofs.Common.{◌≡◌, ◌∙◌, ℕ, cond, List, [], ◌∷◌, get_or, replicate, Option, None, Some, refl, sym, ap, inl}
 use Rattle.std.proofs.lemmas.List.{ext_get_or}
 use Rattle.rtl_bits.specs.declared.Bit.{Bit}
 use Rattle.rtl_bits.specs.declared.Bit.TheVariants.{X, Z}
 use Rattle.rtl_bits.specs.Bits.{extended, replaced, selected}
 use Rattle.rtl_tree.specs.declared.text.Spot.{Spot}
-use Rattle.rtl_flat.specs.Expression.{Tree}
 use Rattle.rtl_flat.specs.Flows.{body_flow}
 use Rattle.rtl_flat.specs.Paths.{MayWrite}
 use Rattle.rtl_flat.specs.Process.{Watched, Actions, Assign, Edge'}
-use Rattle.event_model.specs.Queue.{Flat, doing_at, happens, is_input, widths}
+use Rattle.event_model.specs.Queue.{Flat, doing_at, happens, widths}
 use Rattle.event_model.specs.Writes.{Values, driven, no_drive}
 use Rattle.event_laws.proofs.Lengths.{put_at}
 use Rattle.net_model.specs.declared.fill.Fill.{Fill}
@@ -19,7 +16,7 @@ use Rattle.net_model.specs.Block.{block_bit}
 use Rattle.net_model.specs.Control.{IsControl, IsPassedOn, IsReached, Itself, Through, whole_of}
 use Rattle.net_model.specs.Cycle.{Chain, Data, Guard, IsCycle, Step, Turn, clocked_bit, item_bit, register_bit, reset_bit, settings, stepped_bit, strongest}
 use Rattle.net_model.specs.Numbers.{AreNumbers, bit, digits}
-use Rattle.net_model.specs.Solution.{IsLasting, IsRegisterBit, IsSolution}
+use Rattle.net_model.specs.Solution.{IsLasting, IsSolution}
 use Rattle.net_laws.proofs.Laws.{tame_depends}
 use Rattle.net_rest.specs.Rest.{AreGivenAlike}
 use Rattle.net_rest.proofs.Levels.{read_lasts}
@@ -31,7 +28,7 @@ use Rattle.event_edges.proofs.Ports.{one_bit}
 use Rattle.sign_cycles.specs.Agree.{AreSame}
 use Rattle.sign_cycles.specs.Formed.{IsCleanClocked}
 use Rattle.sign_cycles.specs.Laws.{StepsAreAlone}
-use Rattle.sign_cycles.proofs.Chains.{IsUsable, part_reads, part_usable, strongest_same}
+use Rattle.sign_cycles.proofs.Chains.{part_reads, part_usable, strongest_same}
 use Rattle.sign_cycles.proofs.Edges.{item_lasts, of_clock, of_items, strongest_constant, usable}
 use Rattle.sign_cycles.proofs.Lists.{GivesAlike, given_alike}
 

@@ -1,6 +1,6 @@
 -- Every bring-up ends in a settled state: its inputs are set, and its registers have the constants of their resets.
-use Rattle.std.proofs.Common.{◌≡◌, ◌≢◌, ◌∙◌, ◌⊎◌, ◌≤◌, ◌==◌, ℕ, Bool, true, false, List, [], ◌∷◌, length, get_or, map, Option, Some, refl, sym, ap, subst, inl, inr, arith}
-use Rattle.std.specs.Prelude.{IsTrue, unwrap_or}
+use Rattle.std.proofs.Common.{◌≡◌, ◌≢◌, ◌∙◌, ◌⊎◌, ◌≤◌, ◌==◌, ℕ, true, false, List, [], ◌∷◌, length, get_or, Option, Some, refl, sym, ap, subst, inl, inr, arith}
+use Rattle.std.specs.Prelude.{unwrap_or}
 use Rattle.std.specs.List.{All, list_any}
 use Rattle.std.proofs.lemmas.Bool.{cases_eq, false≢true, ne_eqb, or_cases}
 use Rattle.std.proofs.lemmas.List.Elements.{All-cons, All-head, All-nil, All-tail}
@@ -8,17 +8,16 @@ use Rattle.rtl_bits.specs.declared.Bit.{Bit}
 use Rattle.rtl_bits.specs.declared.Bit.TheVariants.{X}
 use Rattle.rtl_bits.specs.Bit.{is_unknown}
 use Rattle.rtl_bits.specs.Bits.{has_unknown}
-use Rattle.rtl_flat.specs.Expression.{Tree}
-use Rattle.rtl_flat.specs.Process.{Watched, Actions, Assign, Edge', Piece}
-use Rattle.event_model.specs.Queue.{Flat, State, IsAtRest, doing_at, is_input, offer, power_up, run, widths}
-use Rattle.event_model.specs.Writes.{Values, driven, put}
+use Rattle.rtl_flat.specs.Process.{Watched, Actions, Edge'}
+use Rattle.event_model.specs.Queue.{Flat, State, IsAtRest, doing_at, offer, power_up, run, widths}
+use Rattle.event_model.specs.Writes.{Values, put}
 use Rattle.event_laws.proofs.Lengths.{put_at, put_other}
 use Rattle.net_model.specs.declared.fill.Fill.{Fill}
 use Rattle.net_model.specs.Block.{block_bit}
-use Rattle.net_model.specs.Cycle.{Chain, Guard, Setting, given_after, level, strongest}
+use Rattle.net_model.specs.Cycle.{Chain, Guard, Setting, given_after, level}
 use Rattle.net_model.specs.Numbers.{AreNumbers, bit}
-use Rattle.net_model.specs.Solution.{IsLasting, IsRegisterBit}
-use Rattle.event_runs.specs.Nets.{AreDriven, AreOffered, AreResolved, AreWide, given_with}
+use Rattle.net_model.specs.Solution.{IsRegisterBit}
+use Rattle.event_runs.specs.Nets.{AreDriven, AreOffered, AreResolved, given_with}
 use Rattle.event_runs.specs.Writers.{IsOrderly}
 use Rattle.event_runs.proofs.Inputs.{offer_is, offered_offer, offered_run, orderly_offer}
 use Rattle.event_runs.proofs.Late.{orderly_power_up, orderly_run}
@@ -29,18 +28,18 @@ use Rattle.net_rest.proofs.Numbers.{are_numbers}
 use Rattle.net_rest.proofs.Rest.{register_inside}
 use Rattle.sign_rounds.specs.BringUp.{AreRounds, CanAllWake, after_rounds}
 use Rattle.sign_rounds.specs.BringUp as up
-use Rattle.sign_rounds.specs.Round.{AreSettings, IsSettled, Round, after_round}
+use Rattle.sign_rounds.specs.Round.{AreSettings, IsSettled, Round}
 use Rattle.sign_rounds.proofs.Laws as round
-use Rattle.event_edges.specs.Laws.{StaysSet}
+use Rattle.sign_rounds.proofs.Settled.{are_wide}
 use Rattle.event_edges.specs.Reset.{IsReset, IsSet}
 use Rattle.event_edges.proofs.Cone.{item_control}
 use Rattle.event_edges.proofs.Laws.{resets_set, set_at_rest}
 use Rattle.event_edges.proofs.Ports.{follows, one_bit}
 use Rattle.sign_cycles.specs.Agree.{AreReset, AreRuns, IsSettledKnown}
-use Rattle.sign_cycles.specs.BringUp.{BringsUp, HaveResets, IsAtLevel, IsBringUp, SetsInput, given_by, last, sets}
+use Rattle.sign_cycles.specs.BringUp.{HaveResets, IsAtLevel, IsBringUp, SetsInput, given_by, last, sets}
 use Rattle.sign_cycles.specs.Formed.{IsCleanClocked}
 use Rattle.sign_cycles.specs.Laws.{BringsUpClean}
-use Rattle.sign_cycles.proofs.Chains.{constant_bit, strongest_is}
+use Rattle.sign_cycles.proofs.Chains.{strongest_is}
 use Rattle.sign_cycles.proofs.DataSteps.{given_pairs, pairs}
 use Rattle.sign_cycles.proofs.Edges.{control_bit, settled_known}
 use Rattle.sign_cycles.proofs.Resets as reset
@@ -53,10 +52,6 @@ module _ (d : Flat) where
   all_settings (setting ∷ others) set =
       let one = All-head (SetsInput d) setting others set in
       ((one.can_be.wide, one.can_be.known), all_settings others (All-tail (SetsInput d) setting others set))
-
-  all_wide : (step : List (ℕ × List Bit)) → AreSettings d step → AreWide d step
-  all_wide [] settings = tt
-  all_wide ((i, bits) ∷ others) settings = (settings.0.0, all_wide others settings.1)
 
   -- an input that is known stays so, and one that is set becomes so
   step_known : (given : Values) (all : List Setting) → All (SetsInput d) all → (i : ℕ) → (sets i all ≡ true) ⊎ (has_unknown (given i) ≡ false) → has_unknown (given_after given all i) ≡ false
@@ -163,7 +158,7 @@ module _ (d : Flat) (chains : ℕ → Chain) (level_of : ℕ → ℕ) (clean : I
       let lawful = clean.solvable.lawful in
       let events = runs.0.reaches.events in
       let can = runs.0.reaches.can in
-      let wide = all_wide d (pairs step) (all_settings d step (All-head (All (SetsInput d)) step steps set)) in
+      let wide = are_wide d (pairs step) (all_settings d step (All-head (All (SetsInput d)) step steps set)) in
       let begun = offer s (pairs step) in
       let orderly = orderly_offer d s (pairs step) wide rising.orderly in
       let resolved = subst (AreResolved d) (sym (offer_is s (pairs step))) rising.resolved in

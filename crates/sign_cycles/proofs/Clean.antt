@@ -1,8 +1,8 @@
 -- The register with a clock and a reset meets the conditions of clean designs: simulation agrees with synthesis on it, and
 -- it is brought up.
-use Rattle.std.proofs.Common.{◌≡◌, ◌≢◌, ◌∙◌, ◌⊎◌, ◌==◌, ◌<◌, ◌≤◌, ◌&&◌, ◌||◌, ℕ, zero, suc, Bool, true, false, List, [], ◌∷◌, length, Option, None, Some, refl, sym, ap, subst, inl, inr, arith}
+use Rattle.std.proofs.Common.{◌≡◌, ◌∙◌, ◌⊎◌, ◌==◌, ◌<◌, ◌≤◌, ◌&&◌, ◌||◌, ℕ, zero, suc, Bool, true, false, List, [], ◌∷◌, length, Option, Some, refl, sym, ap, subst, inl, inr, arith}
 use Rattle.std.specs.Prelude.{IsTrue}
-use Rattle.std.specs.List.{All, list_any, slice_get}
+use Rattle.std.specs.List.{list_any, slice_get}
 use Rattle.std.proofs.lemmas.Bool.{and_parts, eqb-true, false≢true}
 use Rattle.std.proofs.lemmas.List.Elements.{All-cons, All-nil}
 use Rattle.rtl_bits.specs.declared.Bit.TheVariants.{Zero}
@@ -10,7 +10,7 @@ use Rattle.rtl_flat.specs.declared.signal.Kind.TheVariants.{Var}
 use Rattle.rtl_flat.specs.Expression.{Tree, Sized, Literal}
 use Rattle.rtl_flat.specs.Flows.{all_bits, body_flow}
 use Rattle.rtl_flat.specs.Levels.{IsArrow}
-use Rattle.rtl_flat.specs.Paths.{IsSure, MayWrite, MayWriteNow, ReadsOutside}
+use Rattle.rtl_flat.specs.Paths.{MayWrite, MayWriteNow, ReadsOutside}
 use Rattle.rtl_flat.specs.PathSets.{items_list}
 use Rattle.rtl_flat.specs.Process.{Whole, Piece, Watched, Actions, Doing, Assign, Comb, Edge'}
 use Rattle.rtl_flat.specs.Signs.{Has, IsExpression}
@@ -22,8 +22,8 @@ use Rattle.event_laws.specs.Steady.{AreLawful}
 use Rattle.body_laws.proofs.Laws.{outside_inside}
 use Rattle.body_laws.proofs.Within.{may_read_outside}
 use Rattle.net_model.specs.declared.fill.Fill.{Fill}
-use Rattle.net_model.specs.Control.{InCone, IsFromTop, IsReached, Itself, waits_for}
-use Rattle.net_model.specs.Cycle.{Chain, Guard}
+use Rattle.net_model.specs.Control.{InCone, IsFromTop, Itself, waits_for}
+use Rattle.net_model.specs.Cycle.{Guard}
 use Rattle.net_model.specs.Solution.{IsLasting, IsRegisterBit}
 use Rattle.net_laws.specs.Tame.{AreTame, HasFirmIndex, IsFirm}
 use Rattle.net_rest.specs.Rest.{IsComputed, IsSolvable}

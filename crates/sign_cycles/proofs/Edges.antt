@@ -1,31 +1,29 @@
 -- Steps of one clock or reset: at rest each register has what its process gives to it, and the state shows numbers that
 -- follow.
-use Rattle.std.proofs.Common.{◌≡◌, ◌∙◌, ◌<◌, ◌||◌, ◌==◌, ℕ, zero, suc, Bool, true, false, cond, if◌then◌else◌, List, [], ◌∷◌, length, get_or, map, Option, None, Some, refl, sym, ap, subst, inl, inr, arith}
-use Rattle.std.specs.Prelude.{IsTrue, unwrap_or}
+use Rattle.std.proofs.Common.{◌≡◌, ◌∙◌, ◌<◌, ◌==◌, ℕ, zero, suc, Bool, true, false, cond, if◌then◌else◌, List, [], ◌∷◌, length, get_or, map, Option, None, Some, refl, sym, ap, subst, inl, inr, arith}
+use Rattle.std.specs.Prelude.{unwrap_or}
 use Rattle.std.specs.List.{All, list_any, slice_get}
 use Rattle.std.proofs.lemmas.Bool.{and_parts, eqb-true, false≢true, false_from_ne_true, or_left, or_right}
-use Rattle.std.proofs.lemmas.List.{ext_get_or}
 use Rattle.std.proofs.lemmas.List.Elements.{All-cons, All-head, All-nil, All-tail}
 use Rattle.std.proofs.lemmas.List.Sorted.{All-permutation, list_any-IsPermutation}
 use Rattle.rtl_bits.specs.declared.Bit.{Bit}
 use Rattle.rtl_bits.specs.declared.Bit.TheVariants.{X}
 use Rattle.rtl_bits.specs.Bit.{is_unknown}
 use Rattle.rtl_bits.specs.Bits.{has_unknown}
-use Rattle.rtl_flat.specs.Expression.{Tree}
 use Rattle.rtl_flat.specs.Flows.{body_flow, may_select}
 use Rattle.rtl_flat.specs.Paths.{IsPath, MayWrite, ReadsOutside}
 use Rattle.rtl_flat.specs.PathSets.{items_list}
 use Rattle.rtl_flat.specs.declared.signal.Kind.TheVariants.{Var}
 use Rattle.rtl_flat.specs.Signs.{Has}
 use Rattle.rtl_flat.specs.WellFormed.{has_edge}
-use Rattle.rtl_flat.specs.Process.{Watched, Actions, Assign, Edge'}
+use Rattle.rtl_flat.specs.Process.{Watched, Actions, Edge'}
 use Rattle.event_model.specs.Bodies.{Made, Now, Later, body_made}
-use Rattle.event_model.specs.Queue.{Flat, State, IsAtRest, Reaches, doing_at, happens, is_input, offer, run, widths}
+use Rattle.event_model.specs.Queue.{Flat, State, IsAtRest, Reaches, doing_at, happens, offer, widths}
 use Rattle.event_model.specs.Traces.{FollowsPath, Same, covers, makes_now}
 use Rattle.event_model.specs.Writes.{Values, Write, driven}
 use Rattle.event_laws.specs.Steady.{HaveWidths}
 use Rattle.body_laws.specs.Laws.{RunAlike, after_body}
-use Rattle.body_laws.proofs.Laws.{depends, made_out, may_now, outside_inside, writes_variables}
+use Rattle.body_laws.proofs.Laws.{depends, made_out, may_now, writes_variables}
 use Rattle.net_model.specs.declared.fill.Fill.{Fill}
 use Rattle.net_model.specs.Block.{block_bit}
 use Rattle.net_model.specs.Control.{InCone, IsControl, IsReached, Itself, Through, waits_for}
@@ -36,8 +34,7 @@ use Rattle.net_model.specs.Solution.{IsLasting, IsRegisterBit}
 use Rattle.event_runs.specs.Effects.{laters}
 use Rattle.event_runs.specs.Nets.{given_with}
 use Rattle.event_runs.proofs.Nets.{resolved_from}
-use Rattle.event_runs.proofs.Writers.{to_process}
-use Rattle.net_laws.specs.Laws.{last_late, last_written, late_writes}
+use Rattle.net_laws.specs.Laws.{last_written, late_writes}
 use Rattle.net_laws.proofs.Known.{known_at}
 use Rattle.net_laws.proofs.Late.{last_append}
 use Rattle.net_laws.proofs.Laws.{late_is, tame_depends, whole_path, block_known}
@@ -48,7 +45,7 @@ use Rattle.net_rest.proofs.Rest.{register_inside}
 use Rattle.sign_rounds.specs.Round.{IsArrived, IsFollowed, IsSettled}
 use Rattle.sign_rounds.proofs.Followed as followed
 use Rattle.sign_rounds.proofs.Settled.{arrive}
-use Rattle.event_edges.specs.Registers.{update_bit, updates_bit, write_bit}
+use Rattle.event_edges.specs.Registers.{update_bit, updates_bit}
 use Rattle.event_edges.specs.Synchronous.{IsItem, IsSynchronous}
 use Rattle.event_edges.specs.Turned.{IsEdgeStart, IsTurnedAt, fires, found_at, item_fires, set_to}
 use Rattle.event_edges.proofs.Cone.{item_fixed, item_in_cone, item_reached, item_whole, item_width, listed_item}
@@ -56,8 +53,8 @@ use Rattle.event_edges.proofs.Hearing.{any_same, find}
 use Rattle.event_edges.proofs.Laws.{at_edge, cone_turns}
 use Rattle.event_edges.proofs.Ports.{one_bit}
 use Rattle.event_edges.proofs.Turning.{whole_selected}
-use Rattle.sign_cycles.specs.Agree.{AreReset, IsNext, IsSettledKnown, Shows}
-use Rattle.sign_cycles.specs.Formed.{IsCleanClocked, IsConstant, IsFormed}
+use Rattle.sign_cycles.specs.Agree.{AreReset, IsNext, IsSettledKnown}
+use Rattle.sign_cycles.specs.Formed.{IsCleanClocked, IsConstant}
 use Rattle.sign_cycles.specs.Laws.{IsFollowed as IsStepFollowed}
 use Rattle.sign_cycles.proofs.Chains.{IsKnownItem, IsUsable, branches_usable, chain_bit, constant_bit, fires_at, part_usable, strongest_is, strongest_same, takes_bit}
 use Rattle.sign_cycles.proofs.DataSteps.{given_pairs, pairs, settled_round}
@@ -344,8 +341,8 @@ module _ (d : Flat) (chains : ℕ → Chain) (level : ℕ → ℕ) (clean : IsCl
 
     path : FollowsPath (widths d) found body
     path =
-        let use' = usable d chains level clean p events body is in
-        whole_path d found body found_numbers use'.lawful use'.tame
+        let fit = usable d chains level clean p events body is in
+        whole_path d found body found_numbers fit.lawful fit.tame
 
     both : RunAlike d body found met
     both =
@@ -376,13 +373,13 @@ module _ (d : Flat) (chains : ℕ → Chain) (level : ℕ → ℕ) (clean : IsCl
       -- what it was asked for is what the function of the body gives
       asks : updates_bit i k (laters (body_made (widths d) met body)) (bit s.value i k) ≡ asked
       asks =
-          let use' = usable d chains level clean p events body is in
+          let fit = usable d chains level clean p events body is in
           let after = after_body d found body in
-          let kept : bit after i k ≡ bit s.value i k = made_out d found body i k found_numbers.wide use'.lawful never_now ∙ found_old ∙ sym (settled.shows i k lasts) in
+          let kept : bit after i k ≡ bit s.value i k = made_out d found body i k found_numbers.wide fit.lawful never_now ∙ found_old ∙ sym (settled.shows i k lasts) in
           ap (λ (ms : List Made). updates_bit i k (laters ms) (bit s.value i k)) (sym both.made)
           ∙ ap (λ (x : Bit). updates_bit i k (laters (body_made (widths d) found body)) x) (sym kept)
           ∙ updates_last i k (bit after i k) (body_made (widths d) found body) None
-          ∙ sym (late_is d f found body i k found_numbers use'.lawful use'.tame use'.split)
+          ∙ sym (late_is d f found body i k found_numbers fit.lawful fit.tame fit.split)
 
       fires_same : fires s.value t.value events ≡ fires n new events
       fires_same =

@@ -1,5 +1,5 @@
 -- An active reset sets its register to its constant, whatever else the values are, unknown ones too.
-use Rattle.std.proofs.Common.{◌≡◌, ◌≢◌, ◌∙◌, ◌<◌, ◌++◌, ℕ, Bool, true, false, if◌then◌else◌, List, [], ◌∷◌, length, Option, None, Some, refl, sym, ap, subst, inl, inr, arith}
+use Rattle.std.proofs.Common.{◌≡◌, ◌≢◌, ◌∙◌, ◌<◌, ℕ, Bool, true, false, if◌then◌else◌, List, [], ◌∷◌, length, Option, None, Some, refl, sym, ap, subst, inl, inr, arith}
 use Rattle.std.specs.Prelude.{IsTrue, unwrap_or}
 use Rattle.std.specs.List.{All, list_any}
 use Rattle.std.proofs.lemmas.Bool.{and_from, false≢true, or_cases}
@@ -11,14 +11,13 @@ use Rattle.rtl_bits.specs.declared.Edge.{Edge}
 use Rattle.rtl_bits.specs.declared.Edge.TheVariants.{No, Pos, Neg}
 use Rattle.rtl_bits.specs.Bit.{is_one, is_unknown}
 use Rattle.rtl_bits.specs.Bits.{same_bit, truth_bit}
-use Rattle.rtl_flat.specs.Expression.{Tree}
 use Rattle.rtl_flat.specs.Flows.{body_flow, reads}
 use Rattle.rtl_flat.specs.Paths.{MayWrite}
 use Rattle.rtl_flat.specs.Process.{Watched, Set, If, Case, Block, Actions, Done, Then, With, Edge'}
 use Rattle.rtl_flat.specs.Value.{value}
 use Rattle.rtl_flat.specs.WellFormed.{has_edge}
 use Rattle.event_model.specs.Bodies.{Made, body_made}
-use Rattle.event_model.specs.Queue.{Flat, doing_at, happens, item_hears, listens, power_up, widths}
+use Rattle.event_model.specs.Queue.{Flat, doing_at, happens, item_hears, widths}
 use Rattle.event_model.specs.Traces.{Same, makes_late, makes_now}
 use Rattle.event_model.specs.Writes.{Values}
 use Rattle.event_laws.specs.Steady.{HaveWidths}
@@ -28,8 +27,8 @@ use Rattle.body_laws.proofs.Laws.{depends, may_now, sure_made, writes_variables}
 use Rattle.body_laws.proofs.Within.{reads_inside}
 use Rattle.net_model.specs.declared.fill.Fill.{Fill}
 use Rattle.net_model.specs.Block.{block_bit}
-use Rattle.net_model.specs.Cycle.{Chain, Guard, IsChained, Tests, is_active, item_bit, level, opened}
-use Rattle.net_model.specs.Numbers.{AreNumbers, bit, digits}
+use Rattle.net_model.specs.Cycle.{Chain, Guard, IsChained, Tests, level, opened}
+use Rattle.net_model.specs.Numbers.{AreNumbers, bit}
 use Rattle.net_model.specs.Solution.{IsLasting}
 use Rattle.event_runs.specs.Effects.{laters}
 use Rattle.net_laws.specs.Laws.{last_late, late_writes}

@@ -78,6 +78,12 @@ abbrev pub SettlesBoth : Flat → Type 0
 SettlesBoth d =
     (f g : Fill) (s : State) (n : Values) → IsSettled d f s n → IsSettled d g s (numbers_of d g s.value)
 
+-- with registers whose resets hold, too
+abbrev pub KnownForBoth : Flat → (ℕ → Chain) → Type 0
+KnownForBoth d chains =
+    (f g : Fill) (s : State) (n : Values) →
+    IsSettledKnown d chains f s n → IsSettledKnown d chains g s (numbers_of d g s.value)
+
 -- every bring-up of a clean design ends in a settled state, where each of its blocks without edges can be woken, and each
 -- of its registers has a reset
 abbrev pub BringsUpClean : Flat → (ℕ → Chain) → (ℕ → ℕ) → Type 0

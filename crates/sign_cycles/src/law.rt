@@ -7,7 +7,7 @@ ghost use Rattle.net_model.specs.Cycle.{Chain};
 ghost use Rattle.net_rest.specs.Rest.{IsSolvable};
 ghost use Rattle.sign_cycles.specs.Agree.{Agree};
 ghost use Rattle.sign_cycles.specs.Formed.{IsCleanClocked};
-ghost use Rattle.sign_cycles.specs.Laws.{BringsUpClean, DataFollows, DataStaysKnown, RegistersAre, SettlesBoth, StepsAreAlone, StepsFollow, TurnsFollow};
+ghost use Rattle.sign_cycles.specs.Laws.{BringsUpClean, DataFollows, DataStaysKnown, KnownForBoth, RegistersAre, SettlesBoth, StepsAreAlone, StepsFollow, TurnsFollow};
 
 /// Where each step from a settled state leads to numbers that follow, and to no others, all lists of steps agree.
 pub fn agree_by_steps()
@@ -62,6 +62,12 @@ pub fn agreement()
 /// A state that is settled for one fill is settled for the other.
 pub fn settled_both()
     ensures { (d : Flat) (level : ℕ → ℕ) → IsSolvable d level → SettlesBoth d }
+{}
+
+/// The same with registers that are reset, in a clean design with clocks.
+pub fn known_both()
+    ensures { (d : Flat) (chains : ℕ → Chain) (level : ℕ → ℕ) → IsCleanClocked d chains level
+        → KnownForBoth d chains }
 {}
 
 /// Every bring-up of a clean design, with any clocks among its inputs and in every order of events, ends in a settled state.
