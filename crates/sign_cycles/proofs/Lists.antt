@@ -11,7 +11,7 @@ use Rattle.net_model.specs.declared.fill.Fill.{Fill}
 use Rattle.net_model.specs.Cycle.{Chain, Data, Setting, Step, Turn, given_after, settings}
 use Rattle.net_model.specs.Lawful.{AreLawfulSteps, IsLawfulStep}
 use Rattle.net_model.specs.Numbers.{AreNumbers}
-use Rattle.net_model.specs.Solution.{IsLasting, IsRegisterBit}
+use Rattle.net_model.specs.Solution.{IsLasting}
 use Rattle.sign_cycles.specs.Agree.{Agree, AreCycles, AreFollowed, AreRuns, AreSame, AreSameLists, IsOutput, IsSettledKnown, ShowsAll}
 use Rattle.sign_cycles.specs.Laws.{StepsAreAlone, StepsFollow}
 
@@ -58,9 +58,9 @@ output_lasts d i output temporary = shown_inner (slice_get d.signals i) output t
 pub shows_all : (d : Flat) (chains : ℕ → Chain) (f : Fill) (s : State) (n : Values) → IsSettledKnown d chains f s n → ShowsAll d s n
 shows_all d chains f s n settled i k inside which = settled.shows i k inside (lasts which)
   where
-    lasts : IsOutput d i ⊎ IsRegisterBit d i k → IsLasting d i
+    lasts : IsOutput d i ⊎ IsLasting d i → IsLasting d i
     lasts (inl output) = output_lasts d i output
-    lasts (inr register) = register.lasting
+    lasts (inr last) = last
 
 -- ---- lists
 

@@ -1,5 +1,5 @@
 -- Agreement: after each step of a clock, of a reset or of data, every run of the event queue that comes to rest shows the
--- synthesised numbers on outputs and registers.
+-- synthesised numbers on outputs, and on all else that is no temporary.
 use Rattle.std.specs.Prelude.{◌≡◌, ◌⊎◌, ℕ, ◌<◌, true, false, List, [], ◌∷◌, length, map, Some}
 use Rattle.rtl_bits.specs.Bit.{is_unknown}
 use Rattle.rtl_flat.specs.Expression.{Tree}
@@ -15,7 +15,7 @@ use Rattle.net_model.specs.Block.{block_bit}
 use Rattle.net_model.specs.Cycle.{Chain, Guard, IsCycle, Setting, Step, settings, strongest}
 use Rattle.net_model.specs.Lawful.{AreLawfulSteps}
 use Rattle.net_model.specs.Numbers.{bit}
-use Rattle.net_model.specs.Solution.{IsLasting, IsRegisterBit, IsSolution}
+use Rattle.net_model.specs.Solution.{IsLasting, IsSolution}
 
 -- ---- states beside numbers
 
@@ -91,9 +91,10 @@ AreSameLists d (n ∷ numbers) (m ∷ others) = AreSame d n m × AreSameLists d 
 abbrev pub IsOutput : Flat → ℕ → Type 0
 IsOutput d i = Has (λ signal. signal.top_output ≡ true) d.signals i
 
--- a state shows numbers: each bit of each output and of each register does
+-- a state shows numbers: each bit of each output does, and of each signal that is no temporary, registers and nets among
+-- them
 abbrev pub ShowsAll : Flat → State → Values → Type 0
-ShowsAll d s n = (i k : ℕ) → k < widths d i → IsOutput d i ⊎ IsRegisterBit d i k → Shows s n i k
+ShowsAll d s n = (i k : ℕ) → k < widths d i → IsOutput d i ⊎ IsLasting d i → Shows s n i k
 
 -- each of the states shows its numbers
 abbrev pub AllShow : Flat → List State → List Values → Type 0
