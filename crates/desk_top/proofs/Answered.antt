@@ -9,7 +9,7 @@ use Rattle.rtl_elab.specs.Designs.{library_of}
 use Rattle.rtl_elab.specs.Elaborated.{elaborated}
 use Rattle.rtl_elab.proofs.Deciding.{elaborated_lawful}
 use Rattle.sign_off.specs.declared.finding.Finding.{Finding}
-use Rattle.sign_off.proofs.Signed.{agreement_of, bring_up_of}
+use Rattle.sign_off.proofs.Signed.{agreement_of, bring_up_of, clocks_of}
 use Rattle.desk_top.specs.declared.deliver.Stop.{Stop}
 use Rattle.desk_top.specs.declared.deliver.Stop.TheVariants.{Unread, NoFile, Memory}
 use Rattle.desk_top.specs.declared.deliver.Work.{Work}
@@ -88,6 +88,7 @@ zero_is_clean words world wanted before now asked is zero written = by_order (or
     by_findings top files texts circuits design command held spelled made built true none outcome =
         let clean : found_in design ≡ [] = has_none_is (found_in design) none in
         let lawful = elaborated_lawful (library_of circuits) top design made in
+        let clocks = clocks_of (queue_of design) design.delays design.dropped built in
         record {
           top = top;
           files = files;
@@ -101,8 +102,10 @@ zero_is_clean words world wanted before now asked is zero written = by_order (or
           judged = built;
           clean = clean;
           reported = rw (← ap (λ o. o.bytes) outcome) written;
-          agrees = agreement_of (queue_of design) design.delays design.dropped lawful.each_process built clean;
-          brought_up = bring_up_of (queue_of design) design.delays design.dropped lawful.each_process built clean;
+          chains = clocks.0;
+          chained = clocks.1;
+          agrees = agreement_of (queue_of design) design.delays design.dropped built lawful.each_process clean clocks.0;
+          brought_up = bring_up_of (queue_of design) design.delays design.dropped built lawful.each_process clean clocks.0;
         }
     by_findings top files texts circuits design command held spelled made built false some outcome = clash 1 (ap (λ o. o.status) outcome) (λ same. omega (arith, same))
 

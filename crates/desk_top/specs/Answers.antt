@@ -8,8 +8,10 @@ use Rattle.elab_flat.specs.Flats.{DesignParts}
 use Rattle.rtl_elab.specs.Designs.{library_of}
 use Rattle.rtl_elab.specs.Elaborated.{elaborated}
 use Rattle.event_model.specs.Queue as queue
-use Rattle.sign_off.specs.Agree.{Agree}
-use Rattle.sign_off.specs.BringUp.{BringsUp}
+use Rattle.net_model.specs.declared.fill.Fill.{Fill}
+use Rattle.net_model.specs.Cycle.{AreChains, Chain}
+use Rattle.sign_cycles.specs.Agree.{Agree}
+use Rattle.sign_cycles.specs.BringUp.{BringsUp}
 use Rattle.desk_top.specs.Delivery.{Outcome, Delivers, gave_up}
 use Rattle.desk_top.specs.Building.{AreSpelled}
 use Rattle.desk_top.specs.Outcome.{World, IsOutcome, found_in, not_judged, report_of}
@@ -39,8 +41,9 @@ queue_of design = record { signals = design.signals; tasks = design.tasks }
 
 -- The headline. The words are `sign TOP FILE..`; the files hold texts that spell modules, and no others; of these
 -- the module with the top's name means a flat design; nothing in it is outside what is judged; it has no finding,
--- which the report says; simulation agrees with synthesis on that design, whatever the order of events and
--- whatever the fill of what nothing drives; and a bring-up reaches the states from which it does
+-- which the report says; blocks that wait for edges have clocks and resets, with which simulation agrees with
+-- synthesis on that design, whatever the order of events and whatever the fill of what nothing drives; and a
+-- bring-up reaches the states from which it does
 pub record IsSignedClean (words : List (List ℕ)) (before now : Option (List ℕ)) (world : World) : Type 0 where
   pub top : List ℕ
   pub files : List (List ℕ)
@@ -54,5 +57,7 @@ pub record IsSignedClean (words : List (List ℕ)) (before now : Option (List �
   pub judged : not_judged design ≡ None
   pub clean : found_in design ≡ []
   pub reported : Appends before now (report_of top (named files texts) design)
-  pub agrees : (fill : Bool) → Agree (queue_of design) fill
-  pub brought_up : (fill : Bool) → BringsUp (queue_of design) fill
+  pub chains : ℕ → Chain
+  pub chained : AreChains (queue_of design) chains
+  pub agrees : (fill : Fill) → Agree (queue_of design) chains fill
+  pub brought_up : (fill : Fill) → BringsUp (queue_of design) chains fill

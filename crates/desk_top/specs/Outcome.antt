@@ -8,7 +8,6 @@ use Rattle.rtl_tree.specs.declared.text.Spot.{Spot}
 use Rattle.elab_flat.specs.Flats.{DesignParts}
 use Rattle.sign_off.specs.declared.finding.Finding.{Finding}
 use Rattle.sign_off.specs.Built.{not_built}
-use Rattle.sign_off.specs.Circuit.{view}
 use Rattle.sign_off.specs.Findings.{findings}
 use Rattle.desk_steps.specs.Names.{Names, ahead, names_from}
 use Rattle.desk_steps.specs.Steps.{Steps, file_of}
@@ -34,7 +33,7 @@ has_none (finding ∷ others) = false
 
 -- the findings of the rules
 abbrev pub found_in : DesignParts → List Finding
-found_in flat = findings (view flat.signals flat.tasks)
+found_in flat = findings flat.signals flat.tasks
 
 -- the report of a design; every rule of today is of the first grade, so that a clean design is firm
 abbrev pub report_of : List ℕ → List Source → DesignParts → List ℕ

@@ -1,33 +1,30 @@
 -- A design without findings has one driver for each net.
 use Rattle.std.proofs.Common.{◌≡◌, ℕ, zero, suc, ◌+◌, ◌<◌, Bool, true, false, not, refl, sym, ap, ◌∙◌, Option, Some, None, List, [], ◌∷◌, ◌++◌, inl, inr, take, arith}
-use Rattle.std.specs.Prelude.{slice_get, IsTrue}
-use Rattle.std.specs.List.{list_any, list_all, cons_option, filter_map, enumerate_from}
-use Rattle.std.proofs.lemmas.Bool.{and_parts, and_cases, or_cases, or_left, or_right, eq-eqb, eqb-true, not-false, cases_order}
+use Rattle.std.specs.Prelude.{slice_get}
+use Rattle.std.specs.List.{list_any, cons_option, filter_map, enumerate_from}
+use Rattle.std.proofs.lemmas.Bool.{and_cases, or_cases, or_left, or_right, eq-eqb, eqb-true, not-false, cases_order, true≢false}
 use Rattle.sign_off.specs.declared.finding.Finding.{Finding}
 use Rattle.rtl_flat.specs.declared.signal.Signal.{Signal}
+use Rattle.rtl_flat.specs.Process.{Task}
+use Rattle.rtl_flat.specs.Signs.{width_in}
 use Rattle.event_model.specs.Queue.{is_input_kind}
-use Rattle.sign_off.specs.Circuit.{Home, Tree, Process, Assign, Circuit, is_some_net, is_net, reads_inputs, is_fitting, is_well_formed}
-use Rattle.sign_off.specs.Findings.{may_write, found_if, several_drivers_at, several_drivers, undriven_at, undriven, findings}
+use Rattle.sign_off.specs.Findings.{may_drive, found_if, several_drivers_at, several_drivers, target_in, undriven_at, undriven, findings}
+use Rattle.sign_off.specs.Marks.{AreSingle}
 use Rattle.sign_off.proofs.Ordered.{none_ranked}
 
--- each net has one driver, inputs have none, and expressions read inputs
-pub record IsClean (design : Circuit) : Type 0 where
-  pub targets : (p target : ℕ) (at : Home) (e : Tree) → slice_get design.processes p ≡ Some (Assign target e at) → IsTrue (is_net design.signals target)
-  pub sources : (p target : ℕ) (at : Home) (e : Tree) → slice_get design.processes p ≡ Some (Assign target e at) → IsTrue (reads_inputs design.signals e)
-  pub alone : (p q target : ℕ) (at at' : Home) (e e' : Tree) → slice_get design.processes p ≡ Some (Assign target e at) → slice_get design.processes q ≡ Some (Assign target e' at') → p ≡ q
-  pub driven : (i : ℕ) → IsTrue (is_net design.signals i) → (p : ℕ) × (at : Home) × (e : Tree) × (slice_get design.processes p ≡ Some (Assign i e at))
+-- no two processes have one target, and what isn't an input has a driver
+pub record IsClean (signals : List Signal) (tasks : List Task) : Type 0 where
+  pub alone :
+      (p q : ℕ) (t u : Task) → slice_get tasks p ≡ Some t → slice_get tasks q ≡ Some u →
+      target_in t.does ≡ target_in u.does → p ≡ q
+  pub driven :
+      (i : ℕ) (signal : Signal) → slice_get signals i ≡ Some signal → is_input_kind signal.kind ≡ false →
+      (p : ℕ) × (t : Task) × (slice_get tasks p ≡ Some t) × (i ≡ target_in t.does)
 
 -- lists
 empty_parts : {A : Type 0} (xs ys : List A) → xs ++ ys ≡ [] → (xs ≡ []) × (ys ≡ [])
 empty_parts [] ys e = (refl, e)
 empty_parts (x ∷ xs) ys e = absurd (cc)
-
-all_at : {A : Type 0} (test : A → Bool) (xs : List A) (k : ℕ) (x : A) → list_all test xs ≡ true → slice_get xs k ≡ Some x → test x ≡ true
-all_at test [] k x all here = absurd (cc)
-all_at test (y ∷ ys) zero x all here =
-    let same : y ≡ x = cc in
-    ap test (sym same) ∙ (and_parts (test y) (list_all test ys) all).0
-all_at test (y ∷ ys) (suc k) x all here = all_at test ys k x (and_parts (test y) (list_all test ys) all).1 here
 
 any_found : {A : Type 0} (test : A → Bool) (xs : List A) → list_any test xs ≡ true → (k : ℕ) × (x : A) × (slice_get xs k ≡ Some x) × (test x ≡ true)
 any_found test [] some = absurd (cc)
@@ -67,56 +64,39 @@ not_found : (condition : Bool) (finding : Finding) → found_if condition findin
 not_found true finding none = absurd (cc)
 not_found false finding none = refl
 
-module _ (design : Circuit) (well_formed : IsTrue (is_well_formed design)) (none : findings design ≡ []) where
-  fits : (p target : ℕ) (at : Home) (e : Tree) → slice_get design.processes p ≡ Some (Assign target e at) → (IsTrue (is_net design.signals target)) × (IsTrue (reads_inputs design.signals e))
-  fits p target at e here =
-      and_parts (is_net design.signals target) (reads_inputs design.signals e)
-      (all_at (is_fitting design.signals) design.processes p (Assign target e at) well_formed here)
-
+module _ (signals : List Signal) (tasks : List Task) (single : AreSingle signals tasks) (none : findings signals tasks ≡ []) where
   -- no later process has the target of an earlier one
-  not_later : (p q target : ℕ) (at at' : Home) (e e' : Tree) → p < q → slice_get design.processes p ≡ Some (Assign target e at) → slice_get design.processes q ≡ Some (Assign target e' at') → ⊥
-  not_later p q target at at' e e' less earlier later =
-      let empty = (empty_parts (undriven design) (several_drivers design) (none_ranked (undriven design ++ several_drivers design) none)).1 in
+  not_later : (p q : ℕ) (t u : Task) → p < q → slice_get tasks p ≡ Some t → slice_get tasks q ≡ Some u → target_in t.does ≡ target_in u.does → ⊥
+  not_later p q t u less earlier later same =
+      let empty = (empty_parts (undriven signals tasks) (several_drivers signals tasks) (none_ranked (undriven signals tasks ++ several_drivers signals tasks) none)).1 in
       let number : 0 + q ≡ q = omega arith in
-      let nothing = sym (ap (λ m. several_drivers_at design.processes (m, Assign target e' at')) number) ∙ nothing_at (several_drivers_at design.processes) design.processes 0 q (Assign target e' at') empty later in
-      let free = not_found (list_any (may_write target) (take q design.processes)) _ nothing in
-      let taken = any_before (may_write target) design.processes p q (Assign target e at) less earlier (eq-eqb target target refl) in
-      absurd (cc)
+      let nothing = sym (ap (λ m. several_drivers_at (width_in signals) tasks (m, u)) number) ∙ nothing_at (several_drivers_at (width_in signals) tasks) tasks 0 q u empty later in
+      let free = not_found (list_any (may_drive (width_in signals) (target_in u.does)) (take q tasks)) _ nothing in
+      let writes = single.writes p t earlier (target_in u.does) ∙ eq-eqb (target_in u.does) (target_in t.does) (sym same) in
+      let taken = any_before (may_drive (width_in signals) (target_in u.does)) tasks p q t less earlier writes in
+      true≢false (sym taken ∙ free)
 
-  one_driver : (p q target : ℕ) (at at' : Home) (e e' : Tree) → slice_get design.processes p ≡ Some (Assign target e at) → slice_get design.processes q ≡ Some (Assign target e' at') → p ≡ q
-  one_driver p q target at at' e e' first second =
+  one_driver : (p q : ℕ) (t u : Task) → slice_get tasks p ≡ Some t → slice_get tasks q ≡ Some u → target_in t.does ≡ target_in u.does → p ≡ q
+  one_driver p q t u first second targets =
       elim (cases_order p q) [
         | inl same ↦ same
         | inr differ ↦
             elim differ [
-              | inl less ↦ absurd (not_later p q target at at' e e' less first second)
-              | inr less ↦ absurd (not_later q p target at' at e' e less second first)
+              | inl less ↦ absurd (not_later p q t u less first second targets)
+              | inr less ↦ absurd (not_later q p u t less second first (sym targets))
             ]
       ]
 
-  some_driver : (i : ℕ) (o : Option Signal) → slice_get design.signals i ≡ o → is_some_net o ≡ true → (p : ℕ) × (at : Home) × (e : Tree) × (slice_get design.processes p ≡ Some (Assign i e at))
-  some_driver i None is net = absurd (cc)
-  some_driver i (Some signal) is net =
-      let empty = (empty_parts (undriven design) (several_drivers design) (none_ranked (undriven design ++ several_drivers design) none)).0 in
+  some_driver : (i : ℕ) (signal : Signal) → slice_get signals i ≡ Some signal → is_input_kind signal.kind ≡ false → (p : ℕ) × (t : Task) × (slice_get tasks p ≡ Some t) × (i ≡ target_in t.does)
+  some_driver i signal is net =
+      let empty = (empty_parts (undriven signals tasks) (several_drivers signals tasks) (none_ranked (undriven signals tasks ++ several_drivers signals tasks) none)).0 in
       let number : 0 + i ≡ i = omega arith in
-      let nothing = sym (ap (λ m. undriven_at design.processes (m, signal)) number) ∙ nothing_at (undriven_at design.processes) design.signals 0 i signal empty is in
-      let either = and_cases (not (is_input_kind signal.kind)) (not (list_any (may_write i) design.processes)) (not_found _ _ nothing) in
-      let driven : list_any (may_write i) design.processes ≡ true =
-      elim either [ inl input ↦ absurd (cc) | inr some ↦ not-false (list_any (may_write i) design.processes) some ] in
-      by_process (any_found (may_write i) design.processes driven)
-    where
-      at_process : (p : ℕ) (process : Process) → slice_get design.processes p ≡ Some process → may_write i process ≡ true → (p : ℕ) × (at : Home) × (e : Tree) × (slice_get design.processes p ≡ Some (Assign i e at))
-      at_process p (Assign target e at) here writes =
-          (p, at, e, here ∙ ap (λ t. Some (Assign t e at)) (sym (eqb-true i target writes)))
+      let nothing = sym (ap (λ m. undriven_at (width_in signals) tasks (m, signal)) number) ∙ nothing_at (undriven_at (width_in signals) tasks) signals 0 i signal empty is in
+      let either = and_cases (not (is_input_kind signal.kind)) (not (list_any (may_drive (width_in signals) i) tasks)) (not_found _ _ nothing) in
+      let driven : list_any (may_drive (width_in signals) i) tasks ≡ true =
+      elim either [ inl input ↦ absurd (true≢false (sym (ap not net) ∙ input)) | inr some ↦ not-false (list_any (may_drive (width_in signals) i) tasks) some ] in
+      let (p, t, here, writes) = any_found (may_drive (width_in signals) i) tasks driven in
+      (p, t, here, eqb-true i (target_in t.does) (sym (single.writes p t here i) ∙ writes))
 
-      by_process : ((p : ℕ) × (process : Process) × (slice_get design.processes p ≡ Some process) × (may_write i process ≡ true)) → (p : ℕ) × (at : Home) × (e : Tree) × (slice_get design.processes p ≡ Some (Assign i e at))
-      by_process (p, process, here, writes) = at_process p process here writes
-
-  pub is_clean : IsClean design
-  is_clean =
-      record {
-        targets = λ p target at e here. (fits p target at e here).0;
-        sources = λ p target at e here. (fits p target at e here).1;
-        alone = one_driver;
-        driven = λ i net. some_driver i (slice_get design.signals i) refl net;
-      }
+  pub is_clean : IsClean signals tasks
+  is_clean = record { alone = one_driver; driven = some_driver }

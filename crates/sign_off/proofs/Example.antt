@@ -1,62 +1,69 @@
--- The definitions at work: an and gate settles and runs, two drivers of one net do not agree.
-use Rattle.std.proofs.Common.{◌≡◌, ◌≤◌, ℕ, Bool, true, false, refl, sym, ap, ◌∙◌, Some, None, List, [], ◌∷◌, zero, suc, take, arith, inl, inr}
-use Rattle.std.specs.Prelude.{slice_get, IsTrue, IsSome, ◌⊎◌}
+-- The definitions at work: an and gate comes up and runs, two drivers of one net do not agree, and a net without a driver
+-- never comes up.
+use Rattle.std.proofs.Common.{◌≡◌, ◌≤◌, ◌<◌, ℕ, Bool, true, false, refl, sym, ap, subst, ◌∙◌, Option, Some, None, List, [], ◌∷◌, zero, suc, take, length, replicate, arith, inl, inr}
+use Rattle.std.specs.Prelude.{IsTrue, IsSome, ◌⊎◌, ◌==◌, ◌&&◌, ◌||◌, nat_le, nat_lt}
 use Rattle.std.specs.List.{All, list_any}
+use Rattle.std.proofs.lemmas.Bool.{eqb-true, false≢true, ltb-true, true≢false}
+use Rattle.std.proofs.lemmas.List.{length-replicate}
 use Rattle.std.proofs.lemmas.List.Elements.{All-cons, All-nil}
-use Rattle.rtl_bits.specs.declared.Bit.TheVariants.{Zero, One, X, Z}
-use Rattle.rtl_bits.specs.Bit.{is_one}
+use Rattle.rtl_bits.specs.declared.Bit.{Bit}
+use Rattle.rtl_bits.specs.declared.Bit.TheVariants.{Zero, One, X}
+use Rattle.rtl_bits.specs.Bit.{is_unknown}
+use Rattle.rtl_bits.specs.Bits.{extended, has_unknown}
 use Rattle.rtl_tree.specs.declared.text.Spot.{Spot}
 use Rattle.rtl_flat.specs.declared.expr.Join.TheVariants as join
 use Rattle.rtl_flat.specs.declared.signal.Kind.{Kind}
-use Rattle.rtl_flat.specs.declared.signal.Kind.TheVariants.{TopInput, Net}
+use Rattle.rtl_flat.specs.declared.signal.Kind.TheVariants.{TopInput, Net, Var}
 use Rattle.rtl_flat.specs.declared.signal.Signal.{Signal}
 use Rattle.rtl_flat.specs.Expression as sized
-use Rattle.rtl_flat.specs.Process.{Piece, Task}
-use Rattle.rtl_flat.specs.Process as part
+use Rattle.rtl_flat.specs.Flows.{flow_of, may_target}
+use Rattle.rtl_flat.specs.Paths.{MayWrite}
+use Rattle.rtl_flat.specs.PathSets.{OfProcess}
+use Rattle.rtl_flat.specs.Process.{Piece, Task, Actions, Watched, Assign, Comb, Edge', Whole}
 use Rattle.rtl_flat.specs.Signs.{Has, IsExpression, width_in}
 use Rattle.rtl_flat.specs.Sizes.{FitsWidth}
 use Rattle.rtl_flat.specs.Value.{value}
 use Rattle.rtl_flat.specs.WellFormed.{IsFixed, IsProcess, IsSelection}
-use Rattle.event_model.specs.Queue as queue
-use Rattle.event_model.specs.Queue.{Flat, State, Input, Evaluate, Update, doing_at, is_assignment, power_up, CanRun, IsAtRest}
-use Rattle.sign_off.specs.Circuit.{Home, Tree, Read, Binary, And, Assign, is_input, is_net}
+use Rattle.rtl_flat.proofs.Paths.{decided}
+use Rattle.event_model.specs.Queue.{Flat, State, Event, Input, Evaluate, Update, doing_at, is_assignment, is_input, power_up, run, CanRun, IsAtRest}
+use Rattle.event_model.specs.Writes.{Values, driven}
+use Rattle.net_model.specs.declared.fill.Fill.{Fill}
+use Rattle.net_model.specs.Control.{whole_of}
+use Rattle.net_model.specs.Cycle.{Chain, Data, IsCycle, Setting}
+use Rattle.net_model.specs.Lawful.{SetsData}
+use Rattle.net_model.specs.Numbers.{bit, digits}
+use Rattle.net_model.specs.Solution.{IsLasting, IsSolution}
+use Rattle.sign_cycles.specs.Agree.{Agree, AllShow, AreCycles, AreRuns, IsSettledKnown, offered}
+use Rattle.sign_cycles.specs.BringUp.{BringsUp, IsBringUp, SetsInput, sets}
 use Rattle.sign_off.specs.Built.{not_built}
 use Rattle.sign_off.specs.declared.finding.Finding.{Finding}
 use Rattle.sign_off.specs.declared.finding.Rule.TheVariants.{SeveralDrivers}
 use Rattle.sign_off.specs.Findings.{findings}
 use Rattle.sign_off.specs.Ranks.{ranked}
-use Rattle.sign_off.specs.Meaning.{Numbers, drives, num_of, IsSolution, Setting, Step}
-use Rattle.sign_off.specs.Agree.{bits, circuit_of, IsLawful, IsSettled, Round, offered, after_round, Agree}
-use Rattle.sign_off.specs.BringUp.{BringsUp, sets}
-use Rattle.sign_off.proofs.Basic.{one-known}
-use Rattle.sign_off.proofs.Nets.{whole}
-use Rattle.sign_off.proofs.Sound.{first_bit}
-use Rattle.sign_off.proofs.Signed.{agreement_of}
+use Rattle.sign_off.proofs.Judged.{no_clock}
+use Rattle.sign_off.proofs.Signed.{agreement_of, bring_up_of}
 
 -- a signal of one bit, and where what stands at a place in the text does
-abbrev bit_of : List ℕ → Kind → ℕ → Signal
-bit_of path kind at =
-    record { path = path; width = 1; signed = false; low = 0; kind = kind; top_output = false; instance = 0; spot = record { file = 0; at = at } }
+abbrev bit_of : List ℕ → Kind → Bool → ℕ → Signal
+bit_of path kind output at =
+    record { path = path; width = 1; signed = false; low = 0; kind = kind; top_output = output; instance = 0; spot = record { file = 0; at = at } }
 
 abbrev spot_at : ℕ → Spot
 spot_at at = record { file = 0; at = at }
-
-abbrev home_at : ℕ → Home
-home_at at = record { instance = 0; spot = spot_at at }
 
 -- all of an input, and an assignment to all of a net
 abbrev input_bit : ℕ → sized.Tree
 input_bit i = sized.Sized 1 false (spot_at 0) (sized.Whole i)
 
 abbrev drive : ℕ → sized.Tree → ℕ → Task
-drive target e at = record { does = part.Assign (whole target (spot_at 0)) e; instance = 0; spot = spot_at at }
+drive target e at = record { does = Assign (whole_of target (spot_at 0)) e; instance = 0; spot = spot_at at }
 
 abbrev both_inputs : sized.Tree
 both_inputs = sized.Sized 1 false (spot_at 0) (sized.Joined join.And false (input_bit 0) (input_bit 1))
 
 -- `module top(input a, b, output y); assign y = a & b; endmodule`
 abbrev ports : List Signal
-ports = bit_of (97 ∷ []) TopInput 17 ∷ bit_of (98 ∷ []) TopInput 20 ∷ bit_of (121 ∷ []) Net 30 ∷ []
+ports = bit_of (97 ∷ []) TopInput false 17 ∷ bit_of (98 ∷ []) TopInput false 20 ∷ bit_of (121 ∷ []) Net true 30 ∷ []
 
 abbrev gate : Flat
 gate = record { signals = ports; tasks = drive 2 both_inputs 41 ∷ [] }
@@ -77,32 +84,176 @@ both_lawful =
       signs = ((refl, refl), (((λ signed. absurd (cc)), tt), ((λ signed. absurd (cc)), tt)));
     }
 
+abbrev its_target : Piece
+its_target = record { signal = 2; selection = Whole; spot = spot_at 0 }
+
 gate_lawful : All (λ (one : Task). IsProcess ports one.does) gate.tasks
 gate_lawful =
     All-cons (λ (one : Task). IsProcess ports one.does) (drive 2 both_inputs 41) [] (
       record {
-        parts = All-cons (λ (piece : Piece). IsSelection ports piece.signal piece.selection) (record { signal = 2; selection = part.Whole; spot = spot_at 0 }) [] (omega arith) (All-nil (λ (piece : Piece). IsSelection ports piece.signal piece.selection));
-        kinds = All-cons (λ (piece : Piece). Has (λ s. s.kind ≡ Net) ports piece.signal) (record { signal = 2; selection = part.Whole; spot = spot_at 0 }) [] refl (All-nil (λ (piece : Piece). Has (λ s. s.kind ≡ Net) ports piece.signal));
+        parts = All-cons (λ (piece : Piece). IsSelection ports piece.signal piece.selection) its_target [] (omega arith) (All-nil (λ (piece : Piece). IsSelection ports piece.signal piece.selection));
+        kinds = All-cons (λ (piece : Piece). Has (λ s. s.kind ≡ Net) ports piece.signal) its_target [] refl (All-nil (λ (piece : Piece). Has (λ s. s.kind ≡ Net) ports piece.signal));
         not_empty = omega arith;
         at_most = omega arith;
         sized = both_lawful;
         covered = omega arith;
       },
-      All-cons (λ (piece : Piece). IsFixed piece.selection) (record { signal = 2; selection = part.Whole; spot = spot_at 0 }) [] tt (All-nil (λ (piece : Piece). IsFixed piece.selection)),
+      All-cons (λ (piece : Piece). IsFixed piece.selection) its_target [] tt (All-nil (λ (piece : Piece). IsFixed piece.selection)),
       (All-nil _, tt),
     ) (All-nil (λ (one : Task). IsProcess ports one.does))
 
 gate_judged : not_built ports gate.tasks [] [] ≡ None
 gate_judged = refl
 
-gate_clean : findings (circuit_of gate) ≡ []
+gate_clean : findings ports gate.tasks ≡ []
 gate_clean = refl
 
--- all bits are 0 and nothing is to be done
+-- ---- it comes up: both inputs are set to 0
+
+abbrev set_to : Bit → ℕ → Setting
+set_to b i = record { input = i; number = b ∷ [] }
+
+abbrev both : Bit → List Setting
+both b = set_to b 0 ∷ set_to b 1 ∷ []
+
+abbrev up_events : List Event
+up_events = Input 0 ∷ Input 1 ∷ Evaluate 0 ∷ Update 0 ∷ []
+
 abbrev low : State
-low =
+low = run gate (offered (power_up gate) (both Zero)) up_events
+
+up_runs : CanRun gate (offered (power_up gate) (both Zero)) up_events
+up_runs = ((refl, refl), ((refl, refl), ((refl, refl), ((refl, refl), tt))))
+
+-- what is due at the inputs
+inputs_idle : (s : State) → s.offered 0 ≡ None → s.offered 1 ≡ None → (i : ℕ) → IsTrue (is_input gate i) → s.offered i ≡ None
+inputs_idle s first second zero input = first
+inputs_idle s first second (suc zero) input = second
+inputs_idle s first second (suc (suc zero)) input = absurd (false≢true input)
+inputs_idle s first second (suc (suc (suc i))) input = absurd (false≢true input)
+
+at_rest : (s : State) → s.offered 0 ≡ None → s.offered 1 ≡ None → s.woken 0 ≡ false → s.pending 0 ≡ None → s.activated ≡ [] → s.delayed ≡ [] → IsAtRest gate s
+at_rest s first second waits idle none later =
     record {
-      value = λ i. Zero ∷ [];
+      no_active = record { inputs = inputs_idle s first second; processes = all_wait; drivers = all_idle; updates = none };
+      no_delayed = later;
+    }
+  where
+    all_wait : (p : ℕ) → IsSome (doing_at gate p) → s.woken p ≡ false
+    all_wait zero there = waits
+    all_wait (suc p) there = absurd (cc)
+
+    all_idle : (p : ℕ) → IsTrue (is_assignment (doing_at gate p)) → s.pending p ≡ None
+    all_idle zero there = idle
+    all_idle (suc p) there = absurd (cc)
+
+low_rests : IsAtRest gate low
+low_rests = at_rest low refl refl refl refl refl refl
+
+up_runs_are : AreRuns gate (power_up gate) (both Zero ∷ []) (low ∷ [])
+up_runs_are =
+    (record { reaches = record { events = up_events; can = up_runs; leads = refl }; rest = low_rests }, tt)
+
+sets_input : (b : Bit) → has_unknown (b ∷ []) ≡ false → All (SetsInput gate) (both b)
+sets_input b known =
+    All-cons (SetsInput gate) (set_to b 0) (set_to b 1 ∷ []) (record { input = refl; can_be = record { wide = refl; known = known } })
+    (All-cons (SetsInput gate) (set_to b 1) [] (record { input = refl; can_be = record { wide = refl; known = known } }) (All-nil (SetsInput gate)))
+
+all_set : (i : ℕ) → IsTrue (is_input gate i) → IsTrue (list_any (sets i) (both Zero ∷ []))
+all_set zero input = refl
+all_set (suc zero) input = refl
+all_set (suc (suc zero)) input = absurd (false≢true input)
+all_set (suc (suc (suc i))) input = absurd (false≢true input)
+
+module _ (chains : ℕ → Chain) (f : Fill) where
+  comes_up : IsBringUp gate chains (both Zero ∷ [])
+  comes_up =
+      record {
+        some_step = λ none. cc;
+        settings = All-cons (All (SetsInput gate)) (both Zero) [] (sets_input Zero refl) (All-nil (All (SetsInput gate)));
+        all_set = all_set;
+        resets = λ p events body here. absurd (no_clock gate refl p events body here);
+      }
+
+  -- a settled state of known values
+  low_settled : (n : Values) × IsSettledKnown gate chains f low n
+  low_settled =
+      (bring_up_of gate [] [] gate_judged gate_lawful gate_clean chains f).settles (both Zero ∷ []) comes_up (low ∷ []) up_runs_are
+
+-- ---- both inputs are set to 1, and the gate is evaluated before the second of them takes its value, and after it
+
+abbrev early : List Event
+early =
+    Input 0 ∷ Evaluate 0 ∷ Input 1 ∷ Update 0 ∷ Evaluate 0 ∷ Update 0 ∷ []
+
+abbrev high : State
+high = run gate (offered low (both One)) early
+
+early_runs : CanRun gate (offered low (both One)) early
+early_runs = ((refl, refl), ((refl, refl), ((refl, refl), ((refl, refl), ((refl, refl), ((refl, refl), tt))))))
+
+-- after four events the output is 0 still, at rest it is 1
+early_glitch : (run gate (offered low (both One)) (take 4 early)).value 2 ≡ Zero ∷ []
+early_glitch = refl
+
+early_shows : high.value 2 ≡ One ∷ []
+early_shows = refl
+
+early_rests : IsAtRest gate high
+early_rests = at_rest high refl refl refl refl refl refl
+
+high_lawful : All (SetsData gate) (both One)
+high_lawful =
+    All-cons (SetsData gate) (set_to One 0) (set_to One 1 ∷ []) (one_set 0 refl refl)
+    (All-cons (SetsData gate) (set_to One 1) [] (one_set 1 refl refl) (All-nil (SetsData gate)))
+  where
+    one_set : (i : ℕ) → IsTrue (is_input gate i) → 1 ≡ width_in ports i → SetsData gate (set_to One i)
+    one_set i input wide =
+        record {
+          data_input = record { input = input; no_control = λ is. no_clock gate refl is.edges.process is.edges.events is.edges.body is.edges.does };
+          can_be = record { wide = wide; known = refl };
+        }
+
+-- so the number of the output is 1
+early_number : (chains : ℕ → Chain) (f : Fill) → (next : Values) × IsCycle gate chains f (low_settled chains f).0 (Data (both One)) next × (bit next 2 0 ≡ One)
+early_number chains f =
+    let start = low_settled chains f in
+    let runs : AreRuns gate low (both One ∷ []) (high ∷ []) =
+    (record { reaches = record { events = early; can = early_runs; leads = refl }; rest = early_rests }, tt) in
+    let all = (agreement_of gate [] [] gate_judged gate_lawful gate_clean chains f).agrees low start.0 start.1 (Data (both One) ∷ []) (high_lawful, tt) (high ∷ []) runs in
+    one start.0 all.numbers all.follow all.show
+  where
+    one :
+        (n : Values) (numbers : List Values) → AreCycles gate chains f n (Data (both One) ∷ []) numbers → AllShow gate (high ∷ []) numbers →
+        (next : Values) × IsCycle gate chains f n (Data (both One)) next × (bit next 2 0 ≡ One)
+    one n [] follow show = absurd follow
+    one n (next ∷ others) follow show =
+        (next, follow.0, sym (show.0 2 0 (omega arith) (inl refl)).same)
+
+-- ---- `assign y = a; assign y = b;`: the net is x where the drivers differ, and no number is both
+
+abbrev two_drivers : Flat
+two_drivers = record { signals = ports; tasks = drive 2 (input_bit 0) 41 ∷ drive 2 (input_bit 1) 57 ∷ [] }
+
+-- it is found at the second of them
+abbrev second_driver : ℕ → Finding
+second_driver at = record { rule = SeveralDrivers; signal = record { 0 = 2 }; instance = 0; spot = spot_at at }
+
+two_found : findings ports two_drivers.tasks ≡ second_driver 57 ∷ []
+two_found = refl
+
+-- findings stand by their places, however they come
+by_place : ranked (second_driver 57 ∷ second_driver 41 ∷ []) ≡ second_driver 41 ∷ second_driver 57 ∷ []
+by_place = refl
+
+-- all bits are 0 and nothing is to be done
+abbrev zeros : Values
+zeros i = replicate (width_in ports i) Zero
+
+abbrev still : State
+still =
+    record {
+      value = zeros;
       woken = λ p. false;
       driver = λ p. Zero ∷ [];
       pending = λ p. None;
@@ -111,247 +262,217 @@ low =
       delayed = [];
     }
 
-low_rests : (design : Flat) → IsAtRest design low
-low_rests design =
+still_rests : IsAtRest two_drivers still
+still_rests =
     record {
       no_active = record { inputs = λ i input. refl; processes = λ p there. refl; drivers = λ p there. refl; updates = refl };
       no_delayed = refl;
     }
 
--- what is due at the inputs and at one process
-inputs_idle : (s : State) → s.offered 0 ≡ None → s.offered 1 ≡ None → (i : ℕ) → IsTrue (is_input ports i) → s.offered i ≡ None
-inputs_idle s first second zero input = first
-inputs_idle s first second (suc zero) input = second
-inputs_idle s first second (suc (suc zero)) input = absurd (cc)
-inputs_idle s first second (suc (suc (suc i))) input = absurd (cc)
+zeros_wide : (i : ℕ) → length (zeros i) ≡ width_in ports i
+zeros_wide i = length-replicate (width_in ports i) Zero
 
-one_process : (p target : ℕ) (at : Home) (value : Tree) → slice_get (circuit_of gate).processes p ≡ Some (Assign target value at) → (target ≡ 2) × (value ≡ Binary And (Read 0) (Read 1))
-one_process zero target at value is = (cc, cc)
-one_process (suc p) target at value is = absurd (cc)
+zeros_known : (i : ℕ) → has_unknown (zeros i) ≡ false
+zeros_known zero = refl
+zeros_known (suc zero) = refl
+zeros_known (suc (suc zero)) = refl
+zeros_known (suc (suc (suc i))) = refl
 
-gate_driven : (i : ℕ) → IsTrue (is_net gate.signals i) → list_any (λ p. drives p i) (circuit_of gate).processes ≡ false → ⊥
-gate_driven zero net free = cc
-gate_driven (suc zero) net free = cc
-gate_driven (suc (suc zero)) net free = cc
-gate_driven (suc (suc (suc i))) net free = cc
+bit_known : (k : ℕ) → k < 1 → is_unknown (bit (λ i. Zero ∷ []) 0 k) ≡ false
+bit_known zero inside = refl
+bit_known (suc k) inside = absurd (omega (arith, inside))
 
-one_driver : (p : ℕ) (target : List Piece) (e : sized.Tree) → doing_at gate p ≡ Some (part.Assign target e) → e ≡ both_inputs
-one_driver zero target e is = cc
-one_driver (suc p) target e is = absurd (cc)
+zero_known : (i k : ℕ) → k < width_in ports i → is_unknown (bit zeros i k) ≡ false
+zero_known zero k inside = bit_known k inside
+zero_known (suc zero) k inside = bit_known k inside
+zero_known (suc (suc zero)) k inside = bit_known k inside
+zero_known (suc (suc (suc i))) k inside =
+    absurd (let none : k < 0 = inside in omega (arith, none))
 
-low_solves : (fill : Bool) → IsSolution (circuit_of gate) fill (λ i. false) (λ i. false)
-low_solves fill =
-    record {
-      inputs = λ i input. refl;
-      assigns = λ p target at value is. sym (ap (λ e. num_of e (λ i. false)) (one_process p target at value is).1);
-      others = λ i net free. absurd (gate_driven i net free);
-    }
+-- the two assignments
+two_are : (p : ℕ) (target : List Piece) (e : sized.Tree) → doing_at two_drivers p ≡ Some (Assign target e) → (target ≡ whole_of 2 (spot_at 0)) × ((e ≡ input_bit 0) ⊎ (e ≡ input_bit 1))
+two_are zero target e is = (cc, inl (cc))
+two_are (suc zero) target e is = (cc, inr (cc))
+two_are (suc (suc p)) target e is = absurd (cc)
 
--- a settled state of known values
-low_settled : (fill : Bool) → IsSettled gate fill low (λ i. false)
-low_settled fill =
-    record {
-      rest = low_rests gate;
-      known = λ i some. refl;
-      drivers = λ p target e is. sym (ap (value low.value) (one_driver p target e is));
-      solution = low_solves fill;
-    }
+no_list : (p : ℕ) (list : Option (List Watched)) (body : Actions) → doing_at two_drivers p ≡ Some (Comb list body) → ⊥
+no_list zero list body is = cc
+no_list (suc zero) list body is = cc
+no_list (suc (suc p)) list body is = cc
 
--- both inputs are set to 1, and the gate is evaluated before the second of them takes its value, and after it
-abbrev high : ℕ → Setting
-high i = record { input = i; digit = true }
+no_edge : (p : ℕ) (events : List Watched) (body : Actions) → doing_at two_drivers p ≡ Some (Edge' events body) → ⊥
+no_edge zero events body is = cc
+no_edge (suc zero) events body is = cc
+no_edge (suc (suc p)) events body is = cc
 
-abbrev both_high : Step
-both_high = high 0 ∷ high 1 ∷ []
-
-abbrev early : Round
-early = record { step = both_high; events = Input 0 ∷ Evaluate 0 ∷ Input 1 ∷ Update 0 ∷ Evaluate 0 ∷ Update 0 ∷ [] }
-
-early_runs : CanRun gate (offered low both_high) early.events
-early_runs = ((refl, refl), ((refl, refl), ((refl, refl), ((refl, refl), ((refl, refl), ((refl, refl), tt))))))
-
--- after four events the output is 0 still, at rest it is 1
-early_glitch : (after_round gate low (record early { events = take 4 early.events })).value 2 ≡ Zero ∷ []
-early_glitch = refl
-
-early_shows : (after_round gate low early).value 2 ≡ One ∷ []
-early_shows = refl
-
-early_rests : IsAtRest gate (after_round gate low early)
-early_rests =
-    record {
-      no_active = record {
-        inputs = inputs_idle (after_round gate low early) refl refl;
-        processes = waits;
-        drivers = idle;
-        updates = refl;
-      };
-      no_delayed = refl;
-    }
+net_is : (i k : ℕ) → may_target (width_in ports) (whole_of 2 (spot_at 0)) i k ≡ true → (i ≡ 2) × (k ≡ 0)
+net_is i k may =
+    let inside = ltb-true k 1 (second_of (i == 2) (nat_le 0 k) (nat_lt k 1) may) in
+    (eqb-true i 2 (first_of (i == 2) (nat_le 0 k) (nat_lt k 1) may), omega (arith, inside))
   where
-    waits : (p : ℕ) → IsSome (doing_at gate p) → (after_round gate low early).woken p ≡ false
-    waits zero there = refl
-    waits (suc p) there = absurd (cc)
+    first_of : (x y z : Bool) → ((x && (y && (z && z))) || false) ≡ true → x ≡ true
+    first_of true y z h = refl
+    first_of false y z h = h
 
-    idle : (p : ℕ) → IsTrue (is_assignment (doing_at gate p)) → (after_round gate low early).pending p ≡ None
-    idle zero there = refl
-    idle (suc p) there = absurd (cc)
+    second_of : (x y z : Bool) → ((x && (y && (z && z))) || false) ≡ true → z ≡ true
+    second_of true true true h = refl
+    second_of true true false h = h
+    second_of true false z h = absurd (false≢true h)
+    second_of false y z h = absurd (false≢true h)
 
-high_lawful : IsLawful gate both_high
-high_lawful =
-    All-cons (λ (setting : Setting). IsTrue (queue.is_input gate setting.input)) (high 0) (high 1 ∷ []) refl
-    (All-cons (λ (setting : Setting). IsTrue (queue.is_input gate setting.input)) (high 1) [] refl (All-nil (λ (setting : Setting). IsTrue (queue.is_input gate setting.input))))
+driven_zero : (i k : ℕ) (bits : List Bit) → i ≡ 2 → k ≡ 0 → bits ≡ Zero ∷ [] → bit zeros i k ≡ bit (driven (width_in ports) (whole_of 2 (spot_at 0)) bits) i k
+driven_zero i k bits net lowest zero_is =
+    ap (λ j. bit zeros j k) net ∙ ap (bit zeros 2) lowest
+    ∙ sym (ap (λ all. bit (driven (width_in ports) (whole_of 2 (spot_at 0)) all) i k) zero_is ∙ ap (λ j. bit (driven (width_in ports) (whole_of 2 (spot_at 0)) (Zero ∷ [])) j k) net ∙ ap (bit (driven (width_in ports) (whole_of 2 (spot_at 0)) (Zero ∷ [])) 2) lowest)
 
--- so the number of the output is 1
-early_number : (n : Numbers) × (n 2 ≡ true)
-early_number =
-    let (next, cycle, shows, rest) = (agreement_of gate [] [] gate_lawful gate_judged gate_clean true).agrees low (λ i. false) (low_settled true) (early ∷ []) (record { lawful = high_lawful; runs = early_runs; rests = early_rests }) in
-    (next, sym (ap (λ all. is_one (first_bit all)) (sym early_shows ∙ shows 2 refl) ∙ one-known (next 2)))
+two_written : (k : ℕ) → k < 1 → OfProcess MayWrite ports two_drivers.tasks 0 2 k
+two_written zero inside =
+    (decided (flow_of (width_in ports) (Assign (whole_of 2 (spot_at 0)) (input_bit 0))) 2 0).writes.0 refl
+two_written (suc k) inside = absurd (omega (arith, inside))
 
--- `assign y = a; assign y = b;`: the net is x where the drivers differ, and no number is both
-abbrev two_drivers : Flat
-two_drivers = record { signals = ports; tasks = drive 2 (input_bit 0) 41 ∷ drive 2 (input_bit 1) 57 ∷ [] }
+two_driven : (i k : ℕ) → k < width_in ports i → is_input two_drivers i ≡ false → ((p : ℕ) → OfProcess MayWrite ports two_drivers.tasks p i k → ⊥) → ⊥
+two_driven zero k inside net free = true≢false net
+two_driven (suc zero) k inside net free = true≢false net
+two_driven (suc (suc zero)) k inside net free = free 0 (two_written k inside)
+two_driven (suc (suc (suc i))) k inside net free =
+    let none : k < 0 = inside in omega (arith, none)
 
--- it is found at the second of them
-abbrev second_driver : ℕ → Finding
-second_driver at = record { rule = SeveralDrivers; signal = record { 0 = 2 }; instance = 0; spot = spot_at at }
-
-two_found : findings (circuit_of two_drivers) ≡ second_driver 57 ∷ []
-two_found = refl
-
--- findings stand by their places, however they come
-by_place : ranked (second_driver 57 ∷ second_driver 41 ∷ []) ≡ second_driver 41 ∷ second_driver 57 ∷ []
-by_place = refl
-
-two_processes : (p target : ℕ) (at : Home) (value : Tree) → slice_get (circuit_of two_drivers).processes p ≡ Some (Assign target value at) → (target ≡ 2) × ((value ≡ Read 0) ⊎ (value ≡ Read 1))
-two_processes zero target at value is = (cc, inl (cc))
-two_processes (suc zero) target at value is = (cc, inr (cc))
-two_processes (suc (suc p)) target at value is = absurd (cc)
-
-two_trees : (p : ℕ) (target : List Piece) (e : sized.Tree) → doing_at two_drivers p ≡ Some (part.Assign target e) → (e ≡ input_bit 0) ⊎ (e ≡ input_bit 1)
-two_trees zero target e is = inl (cc)
-two_trees (suc zero) target e is = inr (cc)
-two_trees (suc (suc p)) target e is = absurd (cc)
-
-two_driven : (i : ℕ) → IsTrue (is_net ports i) → list_any (λ p. drives p i) (circuit_of two_drivers).processes ≡ false → ⊥
-two_driven zero net free = cc
-two_driven (suc zero) net free = cc
-two_driven (suc (suc zero)) net free = cc
-two_driven (suc (suc (suc i))) net free = cc
-
-two_settled : (fill : Bool) → IsSettled two_drivers fill low (λ i. false)
-two_settled fill =
-    record {
-      rest = low_rests two_drivers;
-      known = λ i some. refl;
-      drivers = λ p target e is.
-          elim (two_trees p target e is) [
-            | inl first ↦ sym (ap (value low.value) first)
-            | inr second ↦ sym (ap (value low.value) second)
-          ];
-      solution = record {
+module _ (chains : ℕ → Chain) (f : Fill) where
+  two_solves : IsSolution two_drivers f zeros zeros zeros
+  two_solves =
+      record {
+        numbers = record { wide = zeros_wide; known = zeros_known };
         inputs = λ i input. refl;
-        assigns = λ p target at value is.
-            elim (two_processes p target at value is).1 [
-              | inl first ↦ sym (ap (λ e. num_of e (λ i. false)) first)
-              | inr second ↦ sym (ap (λ e. num_of e (λ i. false)) second)
+        kept = λ i k register. refl;
+        assigns = λ p target e here i k may.
+            let (whole, which) = two_are p target e here in
+            let at = net_is i k (ap (λ t. may_target (width_in ports) t i k) (sym whole) ∙ may) in
+            elim which [
+              | inl first ↦ subst (λ t. bit zeros i k ≡ bit (driven (width_in ports) t (digits f zeros e)) i k) (sym whole)
+                  (driven_zero i k (digits f zeros e) at.0 at.1 (ap (digits f zeros) first))
+              | inr second ↦ subst (λ t. bit zeros i k ≡ bit (driven (width_in ports) t (digits f zeros e)) i k) (sym whole)
+                  (driven_zero i k (digits f zeros e) at.0 at.1 (ap (digits f zeros) second))
             ];
-        others = λ i net free. absurd (two_driven i net free);
-      };
-    }
+        blocks = λ p list body here. absurd (no_list p list body here);
+        others = λ i k inside net free. absurd (two_driven i k inside net free);
+      }
+
+  two_settled : IsSettledKnown two_drivers chains f still zeros
+  two_settled =
+      record {
+        rest = still_rests;
+        wide = zeros_wide;
+        shows = λ i k inside lasts. record { known = zero_known i k inside; same = refl };
+        drivers = λ p target e here.
+            elim (two_are p target e here).1 [
+              | inl first ↦ sym (ap (value zeros) first)
+              | inr second ↦ sym (ap (value zeros) second)
+            ];
+        solution = two_solves;
+        resets = λ p events body here. absurd (no_edge p events body here);
+      }
 
 -- one input is set to 1
-abbrev apart_now : Round
-apart_now =
-    record { step = high 0 ∷ []; events = Input 0 ∷ Evaluate 0 ∷ Update 0 ∷ [] }
+abbrev apart_events : List Event
+apart_events = Input 0 ∷ Evaluate 0 ∷ Update 0 ∷ []
 
-two_runs : CanRun two_drivers (offered low apart_now.step) apart_now.events
+abbrev apart : State
+apart = run two_drivers (offered still (set_to One 0 ∷ [])) apart_events
+
+two_runs : CanRun two_drivers (offered still (set_to One 0 ∷ [])) apart_events
 two_runs = ((refl, refl), ((refl, refl), ((refl, refl), tt)))
 
-two_shows : (after_round two_drivers low apart_now).value 2 ≡ X ∷ []
+two_shows : apart.value 2 ≡ X ∷ []
 two_shows = refl
 
-two_rests : IsAtRest two_drivers (after_round two_drivers low apart_now)
+two_rests : IsAtRest two_drivers apart
 two_rests =
     record {
-      no_active = record {
-        inputs = inputs_idle (after_round two_drivers low apart_now) refl refl;
-        processes = waits;
-        drivers = idle;
-        updates = refl;
-      };
+      no_active = record { inputs = idle_inputs; processes = waits; drivers = idle; updates = refl };
       no_delayed = refl;
     }
   where
-    waits : (p : ℕ) → IsSome (doing_at two_drivers p) → (after_round two_drivers low apart_now).woken p ≡ false
+    idle_inputs : (i : ℕ) → IsTrue (is_input two_drivers i) → apart.offered i ≡ None
+    idle_inputs zero input = refl
+    idle_inputs (suc zero) input = refl
+    idle_inputs (suc (suc zero)) input = absurd (false≢true input)
+    idle_inputs (suc (suc (suc i))) input = absurd (false≢true input)
+
+    waits : (p : ℕ) → IsSome (doing_at two_drivers p) → apart.woken p ≡ false
     waits zero there = refl
     waits (suc zero) there = refl
     waits (suc (suc p)) there = absurd (cc)
 
-    idle : (p : ℕ) → IsTrue (is_assignment (doing_at two_drivers p)) → (after_round two_drivers low apart_now).pending p ≡ None
+    idle : (p : ℕ) → IsTrue (is_assignment (doing_at two_drivers p)) → apart.pending p ≡ None
     idle zero there = refl
     idle (suc zero) there = refl
     idle (suc (suc p)) there = absurd (cc)
 
-apart_lawful : IsLawful two_drivers apart_now.step
+apart_lawful : All (SetsData two_drivers) (set_to One 0 ∷ [])
 apart_lawful =
-    All-cons (λ (setting : Setting). IsTrue (queue.is_input two_drivers setting.input)) (high 0) [] refl (All-nil (λ (setting : Setting). IsTrue (queue.is_input two_drivers setting.input)))
+    All-cons (SetsData two_drivers) (set_to One 0) [] (record {
+      data_input = record { input = refl; no_control = λ is. no_edge is.edges.process is.edges.events is.edges.body is.edges.does };
+      can_be = record { wide = refl; known = refl };
+    }) (All-nil (SetsData two_drivers))
 
-two_drivers_disagree : (fill : Bool) → Agree two_drivers fill → ⊥
-two_drivers_disagree fill agree =
-    let (next, cycle, shows, rest) = agree.agrees low (λ i. false) (two_settled fill) (apart_now ∷ []) (record { lawful = apart_lawful; runs = two_runs; rests = two_rests }) in
-    let solution = cycle.follows.solution in
-    let first = solution.assigns 0 2 (home_at 41) (Read 0) refl in
-    let second = solution.assigns 1 2 (home_at 57) (Read 1) refl in
-    let high = solution.inputs 0 refl in
-    let low' = solution.inputs 1 refl in
-    absurd (cc)
+-- what an assignment of an input's bits gives
+abbrev net : List Bit → Bit
+net bits = bit (driven (width_in ports) (whole_of 2 (spot_at 0)) (extended 1 false bits)) 2 0
 
--- `module top(input a, output y); endmodule`: the output keeps the z of power-up
-abbrev undriven_ports : List Signal
-undriven_ports = bit_of (97 ∷ []) TopInput 17 ∷ bit_of (121 ∷ []) Net 27 ∷ []
+two_drivers_disagree : (chains : ℕ → Chain) (f : Fill) → Agree two_drivers chains f → ⊥
+two_drivers_disagree chains f agree =
+    let runs : AreRuns two_drivers still ((set_to One 0 ∷ []) ∷ []) (apart ∷ []) =
+    (record { reaches = record { events = apart_events; can = two_runs; leads = refl }; rest = two_rests }, tt) in
+    let all = agree.agrees still zeros (two_settled chains f) (Data (set_to One 0 ∷ []) ∷ []) (apart_lawful, tt) (apart ∷ []) runs in
+    none all.numbers all.follow
+  where
+    none : (numbers : List Values) → AreCycles two_drivers chains f zeros (Data (set_to One 0 ∷ []) ∷ []) numbers → ⊥
+    none [] follow = follow
+    none (next ∷ others) follow =
+        let first : bit next 2 0 ≡ One = follow.0.rest.assigns 0 (whole_of 2 (spot_at 0)) (input_bit 0) refl 2 0 refl ∙ ap net (follow.0.inputs 0 refl) in
+        let second : bit next 2 0 ≡ Zero = follow.0.rest.assigns 1 (whole_of 2 (spot_at 0)) (input_bit 1) refl 2 0 refl ∙ ap net (follow.0.inputs 1 refl) in
+        absurd (let no : One ≡ Zero = sym first ∙ second in cc)
+
+-- ---- `module top(input a, output y); endmodule`: the output keeps the z of power-up
 
 abbrev no_driver : Flat
-no_driver = record { signals = undriven_ports; tasks = [] }
+no_driver = record { signals = bit_of (97 ∷ []) TopInput false 17 ∷ bit_of (121 ∷ []) Net true 27 ∷ []; tasks = [] }
 
-abbrev first_step : Round
-first_step = record { step = high 0 ∷ []; events = Input 0 ∷ [] }
+abbrev first_step : List Setting
+first_step = set_to One 0 ∷ []
 
-no_driver_rests : IsAtRest no_driver (after_round no_driver (power_up no_driver) first_step)
-no_driver_rests =
+abbrev up : State
+up = run no_driver (offered (power_up no_driver) first_step) (Input 0 ∷ [])
+
+up_rests : IsAtRest no_driver up
+up_rests =
     record {
-      no_active = record {
-        inputs = idle;
-        processes = λ p there. absurd (cc);
-        drivers = λ p there. absurd (cc);
-        updates = refl;
-      };
+      no_active = record { inputs = idle; processes = λ p there. absurd (cc); drivers = λ p there. absurd (cc); updates = refl };
       no_delayed = refl;
     }
   where
-    idle : (i : ℕ) → IsTrue (is_input undriven_ports i) → (after_round no_driver (power_up no_driver) first_step).offered i ≡ None
+    idle : (i : ℕ) → IsTrue (is_input no_driver i) → up.offered i ≡ None
     idle zero input = refl
-    idle (suc zero) input = absurd (cc)
-    idle (suc (suc i)) input = absurd (cc)
+    idle (suc zero) input = absurd (false≢true input)
+    idle (suc (suc i)) input = absurd (false≢true input)
 
-no_driver_set : (i : ℕ) → IsTrue (is_input undriven_ports i) → IsTrue (list_any (λ round. sets round.step i) (first_step ∷ []))
+no_driver_set : (i : ℕ) → IsTrue (is_input no_driver i) → IsTrue (list_any (sets i) (first_step ∷ []))
 no_driver_set zero input = refl
-no_driver_set (suc zero) input = absurd (cc)
-no_driver_set (suc (suc i)) input = absurd (cc)
+no_driver_set (suc zero) input = absurd (false≢true input)
+no_driver_set (suc (suc i)) input = absurd (false≢true input)
 
-no_driver_lawful : IsLawful no_driver first_step.step
-no_driver_lawful =
-    All-cons (λ (setting : Setting). IsTrue (queue.is_input no_driver setting.input)) (high 0) [] refl (All-nil (λ (setting : Setting). IsTrue (queue.is_input no_driver setting.input)))
+output_lasts : IsLasting no_driver 1
+output_lasts temporary =
+    let no : Net ≡ Var = temporary.of_process.variable in absurd (cc)
 
-unknown : (digit : Bool) → Z ∷ [] ≡ bits digit → ⊥
-unknown true is = cc
-unknown false is = cc
-
-no_driver_stays : (fill : Bool) → BringsUp no_driver fill → ⊥
-no_driver_stays fill up =
-    let (n, settled) = up.settles (first_step ∷ []) (record {
-      some_round = λ none. cc;
-      from_power_up = (record { lawful = no_driver_lawful; runs = ((refl, refl), tt); rests = no_driver_rests }, tt);
+no_driver_stays : (chains : ℕ → Chain) (f : Fill) → BringsUp no_driver chains f → ⊥
+no_driver_stays chains f brings =
+    let sets_it : All (SetsInput no_driver) first_step =
+    All-cons (SetsInput no_driver) (set_to One 0) [] (record { input = refl; can_be = record { wide = refl; known = refl } }) (All-nil (SetsInput no_driver)) in
+    let (n, settled) = brings.settles (first_step ∷ []) (record {
+      some_step = λ none. cc;
+      settings = All-cons (All (SetsInput no_driver)) first_step [] sets_it (All-nil (All (SetsInput no_driver)));
       all_set = no_driver_set;
-    }) in
-    unknown (n 1) (settled.known 1 refl)
+      resets = λ p events body here. absurd (cc);
+    }) (up ∷ []) (record { reaches = record { events = Input 0 ∷ []; can = ((refl, refl), tt); leads = refl }; rest = up_rests }, tt) in
+    true≢false (settled.shows 1 0 (omega arith) output_lasts).known

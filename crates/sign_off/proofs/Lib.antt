@@ -2,13 +2,8 @@ pub mod Walks
 pub mod MarkLemmas
 pub mod Ordered
 pub mod Formed
-pub mod Basic
-pub mod Gates
-pub mod Nets
 pub mod Clean
 pub mod Judged
-pub mod Held
-pub mod Sound
-pub mod Up
+pub mod Cycles
 pub mod Signed
-pub mod Example
+mod Example

@@ -1,10 +1,10 @@
 -- One more element of a list that a rule goes over.
-use Rattle.std.proofs.Common.{◌≡◌, ℕ, suc, ◌+◌, ◌<◌, List, [], ◌∷◌, ◌++◌, length, map, take, drop, get_or, append_assoc, Option, None, Some, refl, ap, sym, ◌∙◌, add-one, arith, length-take}
+use Rattle.std.proofs.Common.{◌≡◌, ℕ, suc, ◌+◌, ◌<◌, List, [], ◌∷◌, ◌++◌, length, map, take, get_or, Option, None, Some, refl, ap, sym, ◌∙◌, add-one, arith, length-take}
 use Rattle.std.specs.List.{enumerate_from, filter_map, cons_option}
 use Rattle.std.specs.Option.{option_to_list}
 use Rattle.std.proofs.lemmas.List.Elements.{filter_map-append}
 use Rattle.std.proofs.Math.Seq.{take-suc}
-use Rattle.std.proofs.lemmas.List.{get_or-map, length-map, take-append-drop}
+use Rattle.std.proofs.lemmas.List.{get_or-map, length-map}
 
 pub enumerate_from-push : {X : Type 0} (n : ℕ) (xs : List X) (y : X) → enumerate_from n (xs ++ y ∷ []) ≡ enumerate_from n xs ++ (n + length xs, y) ∷ []
 enumerate_from-push n [] y = ap (λ k. (k, y) ∷ []) (omega arith)
@@ -26,22 +26,6 @@ numbered_more h xs k d below =
     let one : take (k + 1) xs ≡ take k xs ++ get_or xs k d ∷ [] = rw add-one (take-suc xs k d below) in
     let at : 0 + length (take k xs) ≡ k = grind (arith, length-take) in
     rw one (rw enumerate_from-push (rw filter_map-append (rw (filter_map-one, at) refl)))
-
--- one element more of a list that is gone over by its plain forms
-pub one_more : {X Y : Type 0} (f : X → Y) (xs : List X) (k : ℕ) (x : X) → k < length xs → x ≡ get_or xs k x
-    → take (k + 1) (map f xs) ≡ take k (map f xs) ++ f x ∷ []
-one_more f xs k x below is =
-    let inside : k < length (map f xs) = rw length-map below in
-    let at : get_or (map f xs) k (f x) ≡ f x = get_or-map f xs k x (f x) below ∙ ap f (sym is) in
-    rw add-one (take-suc (map f xs) k (f x) inside ∙ ap (λ y. take k (map f xs) ++ y ∷ []) at)
-
--- the whole list round the element that is looked at
-pub split_at : {X Y : Type 0} (f : X → Y) (xs : List X) (k : ℕ) (x : X) → k < length xs → x ≡ get_or xs k x
-    → map f xs ≡ take k (map f xs) ++ f x ∷ drop (k + 1) (map f xs)
-split_at f xs k x below is =
-    sym (take-append-drop (k + 1) (map f xs))
-    ∙ ap (λ l. l ++ drop (k + 1) (map f xs)) (one_more f xs k x below is)
-    ∙ append_assoc (take k (map f xs)) (f x ∷ []) (drop (k + 1) (map f xs))
 
 -- the plain form of the element that is looked at
 pub at_mapped : {X Y : Type 0} (f : X → Y) (xs : List X) (k : ℕ) (x : X) → k < length xs → x ≡ get_or xs k x → f x ≡ get_or (map f xs) k (f x)

@@ -1,6 +1,6 @@
 -- Which designs are judged today.
 -- Worked examples: proofs/Example.antt, crates/tests_lines/src/rulings.rt.
-use Rattle.std.specs.Prelude.{List, [], ◌∷◌, Option, None, Some, Bool, true, false, not, ◌&&◌, ◌==◌}
+use Rattle.std.specs.Prelude.{ℕ, List, [], ◌∷◌, Option, None, Some, Bool, true, false, not, ◌&&◌, ◌==◌, slice_get}
 use Rattle.std.specs.List.{find}
 use Rattle.std.specs.Option.{option_map, option_or}
 use Rattle.rtl_tree.specs.declared.text.Spot.{Spot}
@@ -16,7 +16,7 @@ use Rattle.rtl_flat.specs.declared.expr.Join.TheVariants as join
 use Rattle.rtl_flat.specs.Expression.{Tree, Sized, Whole, Turned, Joined}
 use Rattle.rtl_flat.specs.Process.{Piece, Selection, Doing, Task, Assign, Comb, Edge'}
 use Rattle.rtl_flat.specs.Process as part
-use Rattle.sign_off.specs.Circuit.{is_input}
+use Rattle.event_model.specs.Queue.{is_input_of}
 
 abbrev pub is_variable : Kind → Bool
 is_variable TopInput = false
@@ -26,6 +26,10 @@ is_variable Var = true
 -- a net or a top input of exactly one bit
 abbrev pub is_bit : Signal → Bool
 is_bit signal = not (is_variable signal.kind) && (signal.width == 1)
+
+-- a number names a top input
+abbrev pub is_input : List Signal → ℕ → Bool
+is_input signals number = is_input_of (slice_get signals number)
 
 -- `~`
 abbrev pub is_complement : Turn → Bool

@@ -1,10 +1,6 @@
-pub mod Circuit
 pub mod Built
 pub mod Ranks
 pub mod Findings
 pub mod Marks
-pub mod Meaning
-pub mod Agree
-pub mod BringUp
 pub mod Rules
 pub mod Samples

@@ -5,8 +5,7 @@ ghost use Rattle.std.specs.List.{find};
 ghost use Rattle.std.specs.Option.{option_copied};
 ghost use Rattle.rtl_flat.specs.Expression.{form, tree};
 ghost use Rattle.rtl_flat.specs.Process.{doing, piece, selection, task};
-ghost use Rattle.sign_off.specs.Circuit.{is_input};
-ghost use Rattle.sign_off.specs.Built.{first_delay, first_dropped, is_bit, is_built, is_gate, is_gates, is_one_whole, is_whole, not_built, refused_process, refused_signal};
+ghost use Rattle.sign_off.specs.Built.{first_delay, first_dropped, is_bit, is_built, is_gate, is_gates, is_input, is_one_whole, is_whole, not_built, refused_process, refused_signal};
 
 use rtl_flat::act::{Does, Process, Target};
 use rtl_flat::design::Design;

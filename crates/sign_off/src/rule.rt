@@ -1,17 +1,18 @@
 // All rules over a design.
 
-ghost use Rattle.std.specs.Prelude.{◌≡◌, ◌<◌, ◌≤◌, ◌^◌, ◌↔◌, ◌++◌, ◌&&◌, [], map, length, vec_len, not, IsTrue, OnOk, IfOk, Err, Some, slice_set, slice_index_or, true, false, Bool};
-ghost use Rattle.std.specs.List.{list_all};
+ghost use Rattle.std.specs.Prelude.{◌≡◌, ℕ, ◌<◌, ◌≤◌, ◌^◌, ◌↔◌, ◌++◌, ◌&&◌, [], map, length, vec_len, not, IsTrue, OnOk, IfOk, Err, Some, slice_set, slice_index_or, true, false};
 ghost use Rattle.std.specs.Option.{option_to_list};
 ghost use Rattle.rtl_tree.specs.declared.text.Spot.{Spot};
 ghost use Rattle.rtl_flat.specs.Process.{doing, task};
+ghost use Rattle.rtl_flat.specs.Signs.{width_in};
 ghost use Rattle.event_model.specs.Queue.{flat, is_input_kind};
-ghost use Rattle.sign_off.specs.Circuit.{is_fitting, is_well_formed, process_of, target_in, view};
+ghost use Rattle.net_model.specs.declared.fill.Fill.{Fill};
+ghost use Rattle.net_model.specs.Cycle.{AreChains, Chain};
+ghost use Rattle.sign_cycles.specs.Agree.{Agree};
+ghost use Rattle.sign_cycles.specs.BringUp.{BringsUp};
 ghost use Rattle.sign_off.specs.Built.{not_built};
-ghost use Rattle.sign_off.specs.Findings.{findings, found_if, several_drivers, undriven};
-ghost use Rattle.sign_off.specs.Agree.{Agree};
-ghost use Rattle.sign_off.specs.BringUp.{BringsUp};
-ghost use Rattle.sign_off.specs.Marks.{AreDriven, several_finding, undriven_finding};
+ghost use Rattle.sign_off.specs.Findings.{findings, found_if, several_drivers, target_in, undriven};
+ghost use Rattle.sign_off.specs.Marks.{AreDriven, AreSingle, several_finding, undriven_finding};
 ghost use Rattle.sign_off.specs.declared.rule.Unruled.TheVariants.{NotBuilt, Memory};
 
 use crate::finding::{Finding, Rule, Ruling, rank};
@@ -45,14 +46,15 @@ impl From<AllocError> for Unruled {
 /// Applies every rule to a design: all findings in their order, and the judgement.
 pub fn rule(alloc: Global, design: &Design) -> Result<Ruling, Unruled>
     ensures not_built { (spot : Spot) → (not_built design.now.signals.items (map task design.now.processes.items) design.now.delays.items design.now.dropped.items ≡ Some spot) ↔ (result ≡ Err (NotBuilt spot)) }
-    ensures findings { IfOk result (λ r. r.findings.items ≡ findings (view design.now.signals.items (map task design.now.processes.items))) }
+    ensures findings { IfOk result (λ r. r.findings.items ≡ findings design.now.signals.items (map task design.now.processes.items)) }
     ensures clean { IfOk result (λ r. IsTrue r.clean ↔ (r.findings.items ≡ [])) }
     ensures firm { IfOk result (λ r. IsTrue r.firm ↔ (r.findings.items ≡ [])) }
 
-    // What a clean design promises: every run of the event queue shows the synthesised values, from states that a
-    // bring-up reaches.
-    ensures sound { IfOk result (λ r. IsTrue r.clean → (fill : Bool) → Agree (flat design.now) fill) }
-    ensures brought_up { IfOk result (λ r. IsTrue r.clean → (fill : Bool) → BringsUp (flat design.now) fill) }
+    // What a clean design promises: blocks that wait for edges have clocks and resets, with which every run of the
+    // event queue shows the synthesised values, from states that a bring-up reaches.
+    ensures chained { IfOk result (λ r. IsTrue r.clean → (chains : ℕ → Chain) × AreChains (flat design.now) chains) }
+    ensures sound { IfOk result (λ r. IsTrue r.clean → (chains : ℕ → Chain) → AreChains (flat design.now) chains → (fill : Fill) → Agree (flat design.now) chains fill) }
+    ensures brought_up { IfOk result (λ r. IsTrue r.clean → (chains : ℕ → Chain) → AreChains (flat design.now) chains → (fill : Fill) → BringsUp (flat design.now) chains fill) }
 {
     match not_built(design) {
         Some(spot) => Err(Unruled::NotBuilt(spot)),
@@ -63,8 +65,8 @@ pub fn rule(alloc: Global, design: &Design) -> Result<Ruling, Unruled>
 // Judges what isn't refused.
 fn judge(alloc: Global, signals: &[Signal], processes: &[Process]) -> Result<Ruling, AllocError>
     requires numbered { length signals.now ≤ 2 ^ 32 }
-    requires well_formed { IsTrue (is_well_formed (view signals.now (map task processes.now))) }
-    ensures findings { IfOk result (λ r. r.findings.items ≡ findings (view signals.now (map task processes.now))) }
+    requires single { AreSingle signals.now (map task processes.now) }
+    ensures findings { IfOk result (λ r. r.findings.items ≡ findings signals.now (map task processes.now)) }
     ensures clean { IfOk result (λ r. IsTrue r.clean ↔ (r.findings.items ≡ [])) }
     ensures firm { IfOk result (λ r. IsTrue r.firm ↔ (r.findings.items ≡ [])) }
 {
@@ -93,9 +95,9 @@ fn judge_processes(
     signals: &[Signal],
     processes: &[Process],
 ) -> Result<Drivers, AllocError>
-    requires { list_all (is_fitting signals.now) (map process_of (map task processes.now)) ≡ true }
-    ensures findings { IfOk result (λ d. d.findings.items ≡ several_drivers (view signals.now (map task processes.now))) }
-    ensures driven { IfOk result (λ d. AreDriven d.driven.items (length signals.now) (map process_of (map task processes.now))) }
+    requires { AreSingle signals.now (map task processes.now) }
+    ensures findings { IfOk result (λ d. d.findings.items ≡ several_drivers signals.now (map task processes.now)) }
+    ensures driven { IfOk result (λ d. AreDriven d.driven.items (length signals.now) (width_in signals.now) (map task processes.now)) }
 {
     let mut driven = vec![in alloc; false; signals.len()]?;
     let mut findings = Vec::new(alloc);
@@ -151,8 +153,8 @@ fn judge_signals(
     processes: &[Process],
 ) -> Result<Vec<Finding>, AllocError>
     requires numbered { length signals.now ≤ 2 ^ 32 }
-    requires driven { AreDriven driven.now (length signals.now) (map process_of (map task processes.now)) }
-    ensures { IfOk result (λ v. v.items ≡ undriven (view signals.now (map task processes.now))) }
+    requires driven { AreDriven driven.now (length signals.now) (width_in signals.now) (map task processes.now) }
+    ensures { IfOk result (λ v. v.items ≡ undriven signals.now (map task processes.now)) }
 {
     let mut findings = Vec::new(alloc);
     for (number, signal) in signals.iter().enumerate() {
