@@ -1,5 +1,6 @@
 -- The function that synthesis makes of a body (IEEE 1364.1-2002 sections 5.1 to 5.3 and 6.1.1). Sensitivity lists do not
 -- occur in it.
+-- Worked examples: proofs/Examples.antt.
 use Rattle.std.specs.Prelude.{ℕ, pos, ◌-ℤ◌, ◌-◌, Bool, false, not, ◌&&◌, ◌||◌, cond, if◌then◌else◌, List, [], ◌∷◌, ◌++◌, map, length, Option, Some, None, unwrap_or}
 use Rattle.std.specs.List.{list_any, slice_index_or}
 use Rattle.rtl_bits.specs.declared.Bit.{Bit}

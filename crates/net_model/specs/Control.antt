@@ -1,5 +1,6 @@
 -- Which inputs are clocks and resets, and the signals that they come to unchanged through the ports of instances
 -- (IEEE 1364-2001 sections 9.7.2 and 12.3).
+-- Worked examples: proofs/Clocks.antt, crates/sign_cycles/proofs/Register.antt.
 use Rattle.std.specs.Prelude.{◌≡◌, ◌≢◌, ℕ, ◌==◌, Bool, true, ◌&&◌, List, [], ◌∷◌, Some, IsTrue}
 use Rattle.std.specs.List.{slice_get, list_any}
 use Rattle.rtl_tree.specs.declared.text.Spot.{Spot}

@@ -1,4 +1,5 @@
 -- The numbers after a step: what registers take at an edge, and the solution with them (IEEE 1364.1-2002 section 5.2).
+-- Worked examples: crates/sign_cycles/proofs/Register.antt.
 use Rattle.std.specs.Prelude.{◌≡◌, ℕ, Bool, cond, List, [], ◌∷◌, map, Option, Some, None, IsTrue}
 use Rattle.std.specs.List.{All}
 use Rattle.std.specs.List.Sorted.{IsPermutation}

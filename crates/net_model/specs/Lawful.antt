@@ -1,5 +1,6 @@
 -- Which steps the world around a design may take: values of inputs are known, and no clock or reset changes beside data
 -- or another of them.
+-- Worked examples: crates/sign_cycles/proofs/Register.antt, crates/sign_off/proofs/Example.antt.
 use Rattle.std.specs.Prelude.{◌≡◌, ◌≢◌, false, List, [], ◌∷◌, length}
 use Rattle.std.specs.List.{All}
 use Rattle.rtl_bits.specs.Bits.{has_unknown}

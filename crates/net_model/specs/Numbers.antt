@@ -1,5 +1,6 @@
 -- The numbers of expressions as synthesis takes them (IEEE 1364.1-2002 sections 5.1 and 5.5). A number is the list of its
 -- binary digits, the least significant first.
+-- Worked examples: proofs/Examples.antt.
 use Rattle.std.specs.Prelude.{◌≡◌, ℕ, pos, ◌-ℤ◌, Bool, false, not, cond, List, [], ◌∷◌, ◌++◌, map, length}
 use Rattle.std.specs.List.{slice_index_or}
 use Rattle.rtl_bits.specs.declared.Bit.{Bit}

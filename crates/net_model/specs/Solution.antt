@@ -1,4 +1,5 @@
 -- The equations that synthesis makes of a design: they have no order of evaluation (IEEE 1364.1-2002 sections 5.1 to 5.3).
+-- Worked examples: crates/sign_off/proofs/Example.antt.
 use Rattle.std.specs.Prelude.{◌≡◌, ℕ, ◌<◌, true, false, cond, List, Option, Some, IsTrue}
 use Rattle.rtl_bits.specs.Bits.{tabulate}
 use Rattle.rtl_flat.specs.Expression.{Tree}

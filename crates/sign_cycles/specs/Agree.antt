@@ -1,5 +1,6 @@
 -- Agreement: after each step of a clock, of a reset or of data, every run of the event queue that comes to rest shows the
 -- synthesised numbers on outputs, and on all else that is no temporary.
+-- Worked examples: proofs/Register.antt, crates/sign_off/proofs/Example.antt.
 use Rattle.std.specs.Prelude.{◌≡◌, ◌⊎◌, ℕ, ◌<◌, true, false, List, [], ◌∷◌, length, map, Some}
 use Rattle.rtl_bits.specs.Bit.{is_unknown}
 use Rattle.rtl_flat.specs.Expression.{Tree}

@@ -1,4 +1,5 @@
 -- Bring-up: from power-up to the settled states from which agreement begins.
+-- Worked examples: proofs/Register.antt, crates/sign_off/proofs/Example.antt.
 use Rattle.std.specs.Prelude.{◌≡◌, ◌≢◌, ℕ, ◌==◌, Bool, List, [], ◌∷◌, Some, IsTrue}
 use Rattle.std.specs.List.{All, list_any}
 use Rattle.rtl_flat.specs.Process.{Watched, Actions, Edge'}
