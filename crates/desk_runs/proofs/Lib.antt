@@ -1,1 +1,3 @@
 pub mod Progressing
+pub mod Ends
+pub mod Begun

@@ -4,4 +4,4 @@
 mod lines;
 mod run;
 
-pub use crate::run::{Shown, simulate};
+pub use crate::run::{Progress, Run};
