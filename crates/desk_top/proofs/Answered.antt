@@ -13,10 +13,13 @@ use Rattle.sign_off.proofs.Signed.{agreement_of, bring_up_of, clocks_of}
 use Rattle.desk_top.specs.declared.deliver.Stop.{Stop}
 use Rattle.desk_top.specs.declared.deliver.Stop.TheVariants.{Unread, NoFile, Memory}
 use Rattle.desk_top.specs.declared.deliver.Work.{Work}
-use Rattle.desk_top.specs.Words.{Order, Sign, Simulate, is_sign, order}
-use Rattle.desk_top.specs.Delivery.{Outcome, Delivers, Finishes, IsWork, gave_up, no_file, outcome_of}
+use Rattle.desk_top.specs.declared.simulate.Plan.{Plan}
+use Rattle.desk_top.specs.declared.simulate.Plan.TheVariants.{Told, Run}
+use Rattle.desk_top.specs.Words.{Order, Sign, Simulate, is_sign, is_simulate, order}
+use Rattle.desk_top.specs.Delivery.{Outcome, Delivers, Finishes, IsCut, Front as Begun, Nothing, IsWork, gave_up, no_file, outcome_of}
 use Rattle.desk_top.specs.Building.{AreSpelled, Front, Modules, Faulty, IsFront, built_of, elaborated_or_not}
 use Rattle.desk_top.specs.Outcome.{World, IsDone, IsOutcome, IsSigned, found_in, has_none, judged, not_judged, report_of, ruled_or_not}
+use Rattle.desk_top.specs.Plans.{IsPlan, Performs}
 use Rattle.desk_top.specs.Texts.{named, texts_of}
 use Rattle.desk_top.specs.Answers.{IsAnswered, IsSignedClean, queue_of}
 
@@ -27,48 +30,84 @@ work_map (Err NoFile) is more = more no_file is
 work_map (Err Unread) is more = tt
 work_map (Err Memory) is more = tt
 
+pub plan_map : {P Q : Outcome → Type 0} (plan : Result Plan Stop) → IsPlan P plan → ((outcome : Outcome) → P outcome → Q outcome) → IsPlan Q plan
+plan_map (Ok (Told work)) is more = more (outcome_of work) is
+plan_map (Ok (Run design steps)) is more = λ outcome shows. more outcome (is outcome shows)
+plan_map (Err NoFile) is more = more no_file is
+plan_map (Err Unread) is more = tt
+plan_map (Err Memory) is more = tt
+
+cut_map : {P Q : Outcome → Type 0} (before now : Option (List ℕ)) → IsCut P before now → ((outcome : Outcome) → P outcome → Q outcome) → IsCut Q before now
+cut_map before now (Nothing none) more = Nothing none
+cut_map before now (Begun wanted is front) more = Begun wanted (more wanted is) front
+
+-- ---- what is answered
+
+-- an outcome that is delivered
+delivered : (words : List (List ℕ)) (world : World) (wanted : Outcome) (status : ℕ) (before now : Option (List ℕ)) → IsOutcome words world wanted → gave_up status ≡ false → Delivers wanted status before now → IsAnswered words status before now world
+delivered words world wanted status before now is done delivers =
+    record {
+      answered = λ goes_on. (wanted, is, delivers);
+      unread = λ failed. let same : true ≡ false = ap gave_up (sym failed) ∙ done in absurd (cc);
+      no_memory = λ failed. let same : true ≡ false = ap gave_up (sym failed) ∙ done in absurd (cc);
+    }
+
+-- nothing is written where a read failed or memory ran out
+silent : (words : List (List ℕ)) (world : World) (status : ℕ) (before now : Option (List ℕ)) → gave_up status ≡ true → Appends before now [] → IsAnswered words status before now world
+silent words world status before now gives_up none =
+    record {
+      answered = λ goes_on. let same : true ≡ false = sym gives_up ∙ goes_on in absurd (cc);
+      unread = λ failed. none;
+      no_memory = λ failed. Nothing none;
+    }
+
+-- nor where a file isn't there
+no_file_delivered : (status : ℕ) (before now : Option (List ℕ)) → status ≡ 9 → Appends before now [] → Delivers no_file status before now
+no_file_delivered status before now is none =
+    record {
+      exact = λ written. is;
+      whole = λ written. none;
+      front = record { front = []; rest = []; parts = refl; appended = none };
+      some_bytes = λ unwritten. let same : 9 ≡ 5 = sym is ∙ unwritten in absurd (omega (arith, same));
+    }
+
 -- work that is finished answers the words
 pub answered : (words : List (List ℕ)) (world : World) (command : Order) (work : Result Work Stop) (status : ℕ) (before now : Option (List ℕ))
     → order words ≡ Some command → IsWork (IsDone world (Some command)) work → Finishes work status before now
     → IsAnswered words status before now world
 answered words world command (Ok work) status before now is wanted finishes =
-    record {
-      answered = λ goes_on. (outcome_of work, rw is wanted, finishes.1);
-      silent = λ gives_up. let same : true ≡ false = sym gives_up ∙ finishes.0 in absurd (cc);
-    }
+    delivered words world (outcome_of work) status before now (rw is wanted) finishes.0 finishes.1
 answered words world command (Err NoFile) status before now is wanted finishes =
-    record {
-      answered = λ goes_on. (
-        no_file,
-        rw is wanted,
-        record {
-          exact = λ written. finishes.0;
-          whole = λ written. finishes.1;
-          front = record { front = []; rest = []; parts = refl; appended = finishes.1 };
-          some_bytes = λ unwritten. let same : 9 ≡ 5 = sym finishes.0 ∙ unwritten in absurd (omega (arith, same));
-        },
-      );
-      silent = λ gives_up. finishes.1;
-    }
+    delivered words world no_file status before now (rw is wanted) (ap gave_up finishes.0) (no_file_delivered status before now finishes.0 finishes.1)
 answered words world command (Err Unread) status before now is wanted finishes =
-    record {
-      answered = λ goes_on. let same : true ≡ false = ap gave_up (sym finishes.0) ∙ goes_on in absurd (cc);
-      silent = λ gives_up. finishes.1;
-    }
+    silent words world status before now (ap gave_up finishes.0) finishes.1
 answered words world command (Err Memory) status before now is wanted finishes =
+    silent words world status before now (ap gave_up finishes.0) finishes.1
+
+-- a plan that is carried out answers the words
+pub performed : (words : List (List ℕ)) (world : World) (command : Order) (plan : Result Plan Stop) (status : ℕ) (before now : Option (List ℕ))
+    → order words ≡ Some command → is_simulate (Some command) ≡ true → IsPlan (IsDone world (Some command)) plan → Performs plan status before now
+    → IsAnswered words status before now world
+performed words world command (Ok (Told work)) status before now is simulates wanted performs =
+    delivered words world (outcome_of work) status before now (rw is wanted) performs.0 performs.1
+performed words world command (Ok (Run design steps)) status before now is simulates wanted performs =
     record {
-      answered = λ goes_on. let same : true ≡ false = ap gave_up (sym finishes.0) ∙ goes_on in absurd (cc);
-      silent = λ gives_up. finishes.1;
+      answered = λ goes_on. let made = performs.delivered goes_on in (made.0, rw is (wanted made.0 made.1), made.2);
+      unread = λ failed. absurd (performs.read failed);
+      no_memory = λ failed. cut_map {Q = λ outcome. (is_simulate (order words) ≡ true) × IsOutcome words world outcome} before now (performs.cut failed) (λ outcome shows. (ap is_simulate is ∙ simulates, rw is (wanted outcome shows)));
     }
+performed words world command (Err NoFile) status before now is simulates wanted performs =
+    delivered words world no_file status before now (rw is wanted) (ap gave_up performs.0) (no_file_delivered status before now performs.0 performs.1)
+performed words world command (Err Unread) status before now is simulates wanted performs =
+    silent words world status before now (ap gave_up performs.0) performs.1
+performed words world command (Err Memory) status before now is simulates wanted performs =
+    silent words world status before now (ap gave_up performs.0) performs.1
 
 -- words that are no command are answered by the usage in every world
 pub answered_usage : (words : List (List ℕ)) (world : World) (usage : Outcome) (status : ℕ) (before now : Option (List ℕ))
     → IsOutcome words world usage → gave_up status ≡ false → Delivers usage status before now → IsAnswered words status before now world
 answered_usage words world usage status before now is done delivers =
-    record {
-      answered = λ goes_on. (usage, is, delivers);
-      silent = λ gives_up. let same : true ≡ false = sym gives_up ∙ done in absurd (cc);
-    }
+    delivered words world usage status before now is done delivers
 
 pub has_none_is : (all : List Finding) → has_none all ≡ true → all ≡ []
 has_none_is [] is = refl

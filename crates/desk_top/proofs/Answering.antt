@@ -3,11 +3,13 @@ use Rattle.std.proofs.Common.{◌≡◌, ℕ, List, Option, None, Some, Result, 
 use Rattle.desk_io.specs.Shelf.{Files}
 use Rattle.desk_top.specs.declared.deliver.Stop.{Stop}
 use Rattle.desk_top.specs.declared.deliver.Work.{Work}
-use Rattle.desk_top.specs.Words.{Order, is_sign, order}
+use Rattle.desk_top.specs.declared.simulate.Plan.{Plan}
+use Rattle.desk_top.specs.Words.{Order, is_sign, is_simulate, order}
 use Rattle.desk_top.specs.Delivery.{Delivers, Finishes, IsWork, gave_up}
 use Rattle.desk_top.specs.Outcome.{IsDone, usage}
+use Rattle.desk_top.specs.Plans.{IsPlan, Performs}
 use Rattle.desk_top.specs.Answers.{OverWorld, IsAnswered, IsSignedClean}
-use Rattle.desk_top.proofs.Answered.{answered, answered_usage, signed_clean}
+use Rattle.desk_top.proofs.Answered.{answered, answered_usage, performed, signed_clean}
 use Rattle.desk_top.proofs.Worlds.{over_map, over_any}
 
 -- a command that is worked and finished is answered
@@ -17,6 +19,14 @@ pub over_answered : (files : Option Files) (words : List (List ℕ)) (command : 
 over_answered files words command work status before now is over finishes =
     over_map {P = λ world. IsWork (IsDone world (Some command)) work} {Q = IsAnswered words status before now} files over
     (λ world wanted. answered words world command work status before now (sym is) wanted finishes)
+
+-- a simulation that is planned and carried out is answered
+pub over_performed : (files : Option Files) (words : List (List ℕ)) (command : Order) (plan : Result Plan Stop) (status : ℕ) (before now : Option (List ℕ))
+    → Some command ≡ order words → is_simulate (Some command) ≡ true → OverWorld files (λ world. IsPlan (IsDone world (Some command)) plan) → Performs plan status before now
+    → OverWorld files (IsAnswered words status before now)
+over_performed files words command plan status before now is simulates over performs =
+    over_map {P = λ world. IsPlan (IsDone world (Some command)) plan} {Q = IsAnswered words status before now} files over
+    (λ world wanted. performed words world command plan status before now (sym is) simulates wanted performs)
 
 -- words that are no command are answered by the usage
 pub over_usage : (files : Option Files) (words : List (List ℕ)) (bytes : List ℕ) (status : ℕ) (before now : Option (List ℕ))

@@ -1,9 +1,7 @@
 -- What texts make of a top, and the answer that follows.
-use Rattle.std.proofs.Common.{◌≡◌, ◌∙◌, ℕ, List, [], ◌∷◌, Option, None, Some, Result, Ok, Err, Vec, Bool, true, false, cond, refl, sym, ap, subst}
+use Rattle.std.proofs.Common.{◌≡◌, ◌∙◌, ℕ, List, [], ◌∷◌, Option, None, Some, Result, Ok, Err, Bool, true, false, cond, refl, sym, ap, subst}
 use Rattle.std.specs.Prelude.{IfOk, IsTrue, ◌↔◌}
-use Rattle.std.specs.declared.alloc.Global.{Global}
 use Rattle.rtl_tree.specs.declared.text.Spot.{Spot}
-use Rattle.rtl_tree.specs.declared.tree.modules.Module.{Module}
 use Rattle.rtl_tree.specs.TreeModule.{Circuit}
 use Rattle.elab_flat.specs.Flats.{DesignParts}
 use Rattle.rtl_elab.specs.Designs.{library_of}
@@ -18,10 +16,12 @@ use Rattle.desk_report.specs.Reports.{report_text}
 use Rattle.desk_top.specs.declared.deliver.Stop.{Stop}
 use Rattle.desk_top.specs.declared.deliver.Work.{Work}
 use Rattle.desk_top.specs.declared.front.Built.{Built as Made}
+use Rattle.desk_top.specs.declared.simulate.Plan.{Plan}
 use Rattle.desk_top.specs.Building.{AreSpelled, Built, Modules, IsBuilt, built, elaborated_or_not}
 use Rattle.desk_top.specs.Delivery.{Outcome, IsWork}
 use Rattle.desk_top.specs.Outcome.{IsJudged, IsStepped, IsTried, found_in, has_none, judged, not_judged, refused, ruled, ruled_or_not}
-use Rattle.desk_top.proofs.Answered.{work_map}
+use Rattle.desk_top.specs.Plans.{IsPlan}
+use Rattle.desk_top.proofs.Answered.{plan_map, work_map}
 
 -- what modules make
 pub built_ok : (top : List ℕ) (sources : List Source) (texts : List (List ℕ)) (circuits : List (List Circuit)) (r : Result Made Stop) → AreSpelled texts circuits
@@ -37,10 +37,10 @@ judged_of top s t texts b work same made is =
     (λ outcome it. record { built = b; is_built = subst (λ (all : List Source). IsBuilt top all texts b) same made; is = it ∙ ap (λ (all : List Source). judged top all b) same })
 
 -- the answer for steps over what texts make
-pub stepped_of : (top : List ℕ) (s t : List Source) (texts : List (List ℕ)) (steps : List ℕ) (b : Built) (work : Result Work Stop) → s ≡ t → IsBuilt top s texts b
-    → IsWork (IsTried steps b) work → IsWork (IsStepped top t texts steps) work
-stepped_of top s t texts steps b work same made is =
-    work_map {P = IsTried steps b} {Q = IsStepped top t texts steps} work is
+pub stepped_of : (top : List ℕ) (s t : List Source) (texts : List (List ℕ)) (steps : List ℕ) (b : Built) (plan : Result Plan Stop) → s ≡ t → IsBuilt top s texts b
+    → IsPlan (IsTried steps b) plan → IsPlan (IsStepped top t texts steps) plan
+stepped_of top s t texts steps b plan same made is =
+    plan_map {P = IsTried steps b} {Q = IsStepped top t texts steps} plan is
     (λ outcome it. record { built = b; is_built = subst (λ (all : List Source). IsBuilt top all texts b) same made; is = it })
 
 -- ---- rulings

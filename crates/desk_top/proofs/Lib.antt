@@ -5,3 +5,4 @@ pub mod Answered
 pub mod Answering
 pub mod Buildings
 pub mod Ordered
+pub mod Streaming

@@ -14,9 +14,11 @@ use Rattle.desk_io.proofs.Readings.{some_reading}
 use Rattle.desk_top.specs.declared.deliver.Stop.{Stop}
 use Rattle.desk_top.specs.declared.deliver.Stop.TheVariants.{Memory, NoFile, Unread}
 use Rattle.desk_top.specs.declared.deliver.Work.{Work}
+use Rattle.desk_top.specs.declared.simulate.Plan.{Plan}
 use Rattle.desk_top.specs.Answers.{Agrees, OverWorld}
 use Rattle.desk_top.specs.Delivery.{IsWork, stop_of}
 use Rattle.desk_top.specs.Outcome.{World, IsJudged, IsSigned, IsSimulating, IsStepped}
+use Rattle.desk_top.specs.Plans.{IsPlan}
 use Rattle.desk_top.specs.Texts.{named, texts_of, with_text}
 use Rattle.desk_top.specs.Words.{all_different, are_files, is_name, texts}
 
@@ -177,21 +179,21 @@ over_reading None name answer told short =
     record { held = λ wanted. some.0; agrees = tt; holds = some.1 }
 over_reading (Some held) name answer told short = record { held = held; agrees = refl; holds = told }
 
-pub stepped_texts : (files : Option Files) (top steps : List ℕ) (names : List (List ℕ)) (text : Vec ℕ Global) (bytes : List ℕ) (made : List (Vec ℕ Global)) (work : Result Work Stop)
+pub stepped_texts : (files : Option Files) (top steps : List ℕ) (names : List (List ℕ)) (text : Vec ℕ Global) (bytes : List ℕ) (made : List (Vec ℕ Global)) (plan : Result Plan Stop)
     → IfSome files (λ held. IsReading (reading (held steps)) (Ok text)) → vec_len text ≤ MAX_FILE_BYTES → bytes ≡ text.items
     → IfSome files (λ held. texts_of held names ≡ Some (items made)) → length made ≡ length names → All (λ text. vec_len text ≤ MAX_FILE_BYTES) made → are_files names ≡ true
-    → IsWork (IsStepped top (named names (items made)) (items made) bytes) work → OverWorld files (λ world. IsWork (IsSimulating top names (reading (world.before steps)) (texts_of world.files names)) work)
-stepped_texts files top steps names text bytes made work had fits same told count short are is =
-    over_map {P = λ world. IsReading (reading (world.before steps)) (Ok text) × (texts_of world.files names ≡ Some (items made))} {Q = λ world. IsWork (IsSimulating top names (reading (world.before steps)) (texts_of world.files names)) work}
+    → IsPlan (IsStepped top (named names (items made)) (items made) bytes) plan → OverWorld files (λ world. IsPlan (IsSimulating top names (reading (world.before steps)) (texts_of world.files names)) plan)
+stepped_texts files top steps names text bytes made plan had fits same told count short are is =
+    over_map {P = λ world. IsReading (reading (world.before steps)) (Ok text) × (texts_of world.files names ≡ Some (items made))} {Q = λ world. IsPlan (IsSimulating top names (reading (world.before steps)) (texts_of world.files names)) plan}
     files (over_both files (over_reading files steps (Ok text) had fits) (over_texts files names (items made) told (different_of names are) (count_items made ∙ count) (short_items made short)))
-    (λ world both. subst (λ (r : Result (List ℕ) ShelfFault). IsWork (IsSimulating top names r (texts_of world.files names)) work) (sym both.0)
-    (subst (λ (o : Option (List (List ℕ))). IsWork (IsSimulating top names (Ok text.items) o) work) (sym both.1)
-    (subst (λ (all : List ℕ). IsWork (IsStepped top (named names (items made)) (items made) all) work) same is)))
+    (λ world both. subst (λ (r : Result (List ℕ) ShelfFault). IsPlan (IsSimulating top names r (texts_of world.files names)) plan) (sym both.0)
+    (subst (λ (o : Option (List (List ℕ))). IsPlan (IsSimulating top names (Ok text.items) o) plan) (sym both.1)
+    (subst (λ (all : List ℕ). IsPlan (IsStepped top (named names (items made)) (items made) all) plan) same is)))
 
 pub stepped_fault : (files : Option Files) (top steps : List ℕ) (names : List (List ℕ)) (fault : ShelfFault) → IfSome files (λ held. IsReading (reading (held steps)) (Err fault))
-    → OverWorld files (λ world. IsWork (IsSimulating top names (reading (world.before steps)) (texts_of world.files names)) (Err (stop_of fault)))
+    → OverWorld files (λ world. IsPlan (IsSimulating top names (reading (world.before steps)) (texts_of world.files names)) (Err (stop_of fault)))
 stepped_fault files top steps names fault had =
-    over_map {P = λ world. IsReading (reading (world.before steps)) (Err fault) × Unit {0}} {Q = λ world. IsWork (IsSimulating top names (reading (world.before steps)) (texts_of world.files names)) (Err (stop_of fault))}
+    over_map {P = λ world. IsReading (reading (world.before steps)) (Err fault) × Unit {0}} {Q = λ world. IsPlan (IsSimulating top names (reading (world.before steps)) (texts_of world.files names)) (Err (stop_of fault))}
     files (over_both {Q = λ held. Unit {0}} files (over_reading files steps (Err fault) had tt) (any files)) (by_fault fault)
   where
     any : (files : Option Files) → OverFiles files (λ held. Unit {0})
@@ -199,7 +201,7 @@ stepped_fault files top steps names fault had =
     any (Some held) = record { held = held; agrees = refl; holds = tt }
 
     by_fault : (fault : ShelfFault) (world : World) → IsReading (reading (world.before steps)) (Err fault) × Unit {0}
-        → IsWork (IsSimulating top names (reading (world.before steps)) (texts_of world.files names)) (Err (stop_of fault))
+        → IsPlan (IsSimulating top names (reading (world.before steps)) (texts_of world.files names)) (Err (stop_of fault))
     by_fault Failed world both = tt
     by_fault NoMemory world both = tt
     by_fault NoSuchFile world both = rw both.0 refl
@@ -209,14 +211,14 @@ stepped_fault files top steps names fault had =
 pub stepped_stop : (files : Option Files) (top steps : List ℕ) (names : List (List ℕ)) (text : Vec ℕ Global) (stop : Stop)
     → IfSome files (λ held. IsReading (reading (held steps)) (Ok text)) → vec_len text ≤ MAX_FILE_BYTES
     → IfSome files (λ held. gone stop ≡ Err NoFile → texts_of held names ≡ None) → are_files names ≡ true
-    → OverWorld files (λ world. IsWork (IsSimulating top names (reading (world.before steps)) (texts_of world.files names)) (Err stop))
-stepped_stop files top steps names text Unread had fits told are = over_any {P = λ world. IsWork (IsSimulating top names (reading (world.before steps)) (texts_of world.files names)) (Err Unread)} files (λ world. tt)
-stepped_stop files top steps names text Memory had fits told are = over_any {P = λ world. IsWork (IsSimulating top names (reading (world.before steps)) (texts_of world.files names)) (Err Memory)} files (λ world. tt)
+    → OverWorld files (λ world. IsPlan (IsSimulating top names (reading (world.before steps)) (texts_of world.files names)) (Err stop))
+stepped_stop files top steps names text Unread had fits told are = over_any {P = λ world. IsPlan (IsSimulating top names (reading (world.before steps)) (texts_of world.files names)) (Err Unread)} files (λ world. tt)
+stepped_stop files top steps names text Memory had fits told are = over_any {P = λ world. IsPlan (IsSimulating top names (reading (world.before steps)) (texts_of world.files names)) (Err Memory)} files (λ world. tt)
 stepped_stop files top steps names text NoFile had fits told are =
-    over_map {P = λ world. IsReading (reading (world.before steps)) (Ok text) × (texts_of world.files names ≡ None)} {Q = λ world. IsWork (IsSimulating top names (reading (world.before steps)) (texts_of world.files names)) (Err NoFile)}
+    over_map {P = λ world. IsReading (reading (world.before steps)) (Ok text) × (texts_of world.files names ≡ None)} {Q = λ world. IsPlan (IsSimulating top names (reading (world.before steps)) (texts_of world.files names)) (Err NoFile)}
     files (over_both files (over_reading files steps (Ok text) had fits) (over_missing files names (missing files told) (some_of names are)))
-    (λ world both. subst (λ (r : Result (List ℕ) ShelfFault). IsWork (IsSimulating top names r (texts_of world.files names)) (Err NoFile)) (sym both.0)
-    (subst (λ (o : Option (List (List ℕ))). IsWork (IsSimulating top names (Ok text.items) o) (Err NoFile)) (sym both.1) refl))
+    (λ world both. subst (λ (r : Result (List ℕ) ShelfFault). IsPlan (IsSimulating top names r (texts_of world.files names)) (Err NoFile)) (sym both.0)
+    (subst (λ (o : Option (List (List ℕ))). IsPlan (IsSimulating top names (Ok text.items) o) (Err NoFile)) (sym both.1) refl))
   where
     missing : (files : Option Files) → IfSome files (λ held. gone NoFile ≡ Err NoFile → texts_of held names ≡ None) → IfSome files (λ held. texts_of held names ≡ None)
     missing None told = tt

@@ -12,11 +12,12 @@ use Rattle.net_model.specs.declared.fill.Fill.{Fill}
 use Rattle.net_model.specs.Cycle.{AreChains, Chain}
 use Rattle.sign_cycles.specs.Agree.{Agree}
 use Rattle.sign_cycles.specs.BringUp.{BringsUp}
-use Rattle.desk_top.specs.Delivery.{Outcome, Delivers, gave_up}
+use Rattle.desk_top.specs.declared.deliver.TheConstants.{UNREAD, NO_MEMORY}
+use Rattle.desk_top.specs.Delivery.{Outcome, Delivers, IsCut, gave_up}
 use Rattle.desk_top.specs.Building.{AreSpelled}
 use Rattle.desk_top.specs.Outcome.{World, IsOutcome, found_in, not_judged, report_of}
 use Rattle.desk_top.specs.Texts.{named, texts_of}
-use Rattle.desk_top.specs.Words.{Sign, order}
+use Rattle.desk_top.specs.Words.{Sign, is_simulate, order}
 
 -- what is told is this; an object over the system tells nothing
 abbrev pub Agrees : {A : Type 0} → Option A → A → Type 0
@@ -30,10 +31,12 @@ pub record OverWorld (files : Option Files) (P : World → Type 0) : Type 0 wher
   pub agrees_before : Agrees files world.before
   pub holds : P world
 
--- the words' outcome in this world is delivered, or nothing is written where a read failed or memory ran out
+-- the words' outcome in this world is delivered; nothing is written where a read failed; where memory ran out a front of
+-- the outcome is, which is empty for every command but `simulate`
 pub record IsAnswered (words : List (List ℕ)) (status : ℕ) (before now : Option (List ℕ)) (world : World) : Type 0 where
   pub answered : gave_up status ≡ false → (wanted : Outcome) × IsOutcome words world wanted × Delivers wanted status before now
-  pub silent : gave_up status ≡ true → Appends before now []
+  pub unread : status ≡ UNREAD → Appends before now []
+  pub no_memory : status ≡ NO_MEMORY → IsCut (λ wanted. (is_simulate (order words) ≡ true) × IsOutcome words world wanted) before now
 
 -- a flat design as the event queue runs it
 abbrev pub queue_of : DesignParts → queue.Flat

@@ -75,6 +75,11 @@ pub record Delivers (wanted : Outcome) (status : ℕ) (before now : Option (List
   pub front : FrontAppended before now wanted.bytes
   pub some_bytes : status ≡ UNWRITTEN → wanted.bytes ≢ []
 
+-- nothing is written, or a front of what is wanted
+pub data IsCut (IsWanted : Outcome → Type 0) (before now : Option (List ℕ)) : Type 0 where
+  Nothing : Appends before now [] → IsCut IsWanted before now
+  Front : (wanted : Outcome) → IsWanted wanted → FrontAppended before now wanted.bytes → IsCut IsWanted before now
+
 -- the statuses where a read failed or memory ran out
 abbrev pub gave_up : ℕ → Bool
 gave_up status = status == UNREAD || status == NO_MEMORY

@@ -4,4 +4,5 @@ pub mod Texts
 pub mod Delivery
 pub mod Building
 pub mod Outcome
+pub mod Plans
 pub mod Answers

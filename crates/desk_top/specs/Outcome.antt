@@ -84,10 +84,14 @@ malformed number = record { status = MALFORMED; bytes = codes "malformed line " 
 abbrev pub run : Shown → Outcome
 run shown = record { status = if shown.settled then DONE else UNSETTLED; bytes = shown.bytes }
 
+-- what a design shows of steps
+abbrev pub IsShowing : DesignParts → Steps → Outcome → Type 0
+IsShowing flat steps outcome =
+    (shown : Shown) × IsSimulated flat.signals flat.tasks flat.instances steps shown × (outcome ≡ run shown)
+
 -- the answer for the steps of a design
 abbrev pub IsRun : DesignParts → Result Steps ℕ → Outcome → Type 0
-IsRun flat (Ok steps) outcome =
-    (shown : Shown) × IsSimulated flat.signals flat.tasks flat.instances steps shown × (outcome ≡ run shown)
+IsRun flat (Ok steps) outcome = IsShowing flat steps outcome
 IsRun flat (Err number) outcome = outcome ≡ malformed number
 
 -- the inputs of a design's top by their names

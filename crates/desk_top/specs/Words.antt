@@ -46,6 +46,12 @@ order (name ∷ rest) =
     else if bytes_eq name (codes "simulate") then simulate_order rest
     else None
 
+-- whether a command asks for a simulation
+abbrev pub is_simulate : Option Order → Bool
+is_simulate None = false
+is_simulate (Some (Sign top files)) = false
+is_simulate (Some (Simulate top steps files)) = true
+
 -- whether a command asks for a ruling
 abbrev pub is_sign : Option Order → Bool
 is_sign None = false

@@ -7,5 +7,6 @@ pub mod front;
 pub mod sign;
 pub mod simulate;
 pub mod start;
+pub mod stream;
 pub mod top;
 pub mod words;

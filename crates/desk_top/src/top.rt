@@ -9,9 +9,10 @@ ghost use Rattle.desk_top.specs.Delivery.{gave_up, IsCalmWork, IsWork};
 ghost use Rattle.desk_top.specs.Outcome.{IsDone};
 ghost use Rattle.desk_top.specs.Words.{is_sign, order, texts};
 
-use crate::deliver::{Ending, Stop, Work, deliver, finish};
+use crate::deliver::{Ending, deliver, finish};
 use crate::sign::sign;
 use crate::simulate::simulate;
+use crate::stream::perform;
 use crate::words::{Command, read_command};
 use desk_io::{Shelf, Sink};
 use std::alloc::Global;
@@ -49,20 +50,9 @@ pub fn desk<F: Shelf, S: Sink>(alloc: Global, words: &[String], shelf: &mut F, o
 {
     match read_command(words) {
         None => deliver(Ending::NoCommand, USAGE, out),
-        Some(command) => finish(run(alloc, command, shelf), out),
-    }
-}
-
-// The work of a command.
-fn run<F: Shelf>(alloc: Global, command: Command<'_>, shelf: &mut F) -> Result<Work, Stop>
-    requires { HasFiles (order_of command) }
-    ensures work { OverWorld (F.files shelf.old) (λ world. IsWork (IsDone world (Some (order_of command.entry))) result) }
-    ensures unread { result ≡ Err Stop.Unread → Rose (F.faults shelf.old) (F.faults shelf.new) }
-    ensures later { F.faults shelf.old ≤ F.faults shelf.new }
-    ensures calm { IsCalmWork (F.files shelf.old) result (F.faults shelf.old) (F.faults shelf.new) }
-{
-    match command {
-        Command::Sign { top, files } => sign(alloc, top, files, shelf),
-        Command::Simulate { top, steps, files } => simulate(alloc, top, steps, files, shelf),
+        Some(Command::Sign { top, files }) => finish(sign(alloc, top, files, shelf), out),
+        Some(Command::Simulate { top, steps, files }) => {
+            perform(alloc, simulate(alloc, top, steps, files, shelf), out)
+        }
     }
 }

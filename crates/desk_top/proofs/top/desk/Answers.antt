@@ -1,26 +1,44 @@
-use Rattle.std.proofs.Common.{refl}
+use Rattle.std.proofs.Common.{◌≡◌, Some, refl, subst}
+use Rattle.desk_top.specs.declared.words.Command.{Command}
 use Rattle.desk_top.specs.Commands.{order_of}
-use Rattle.desk_top.specs.Words.{texts}
-use Rattle.desk_top.proofs.Answering.{over_answered, over_signed_clean, over_usage}
+use Rattle.desk_top.specs.Words.{Sign, Simulate, order, texts}
+use Rattle.desk_top.proofs.Answering.{over_answered, over_performed, over_signed_clean, over_usage}
 use Rattle.desk_top.proofs.Ordered.{has_files}
 use Rattle.desk_top.proofs.top.desk.Goals as goal
 
-pub run-requires : goal.run-requires
-run-requires g c =
-    has_files (texts c.args.words.now) (order_of c.in-Some.command) c.in-Some.ensures
+pub sign-requires : goal.sign-requires
+sign-requires g c =
+    has_files (texts c.args.words.now) (Sign c.in-Some-Sign.top.now (texts c.in-Some-Sign.files.now))
+    (subst (λ (command : Command). Some (order_of command) ≡ order (texts c.args.words.now)) c.in-Some-Sign.field-0-is c.in-Some-Sign.ensures)
+
+pub simulate-requires : goal.simulate-requires
+simulate-requires g c =
+    has_files (texts c.args.words.now) (Simulate c.in-Some-Simulate.top.now c.in-Some-Simulate.steps.now (texts c.in-Some-Simulate.files.now))
+    (subst (λ (command : Command). Some (order_of command) ≡ order (texts c.args.words.now)) c.in-Some-Simulate.field-0-is c.in-Some-Simulate.ensures)
 
 pub returns-in-None-clause-answer : goal.returns-in-None-clause-answer
 returns-in-None-clause-answer g c =
     over_usage (g.F.Shelf.files c.args.shelf.now) (texts c.args.words.now) _ c.deliver.result (g.S.Sink.taken c.args.out.now) (g.S.Sink.taken c.deliver.new.out)
     c.in-None.ensures refl c.deliver.ensures.done c.deliver.ensures.delivers
 
-pub returns-in-Some-clause-answer : goal.returns-in-Some-clause-answer
-returns-in-Some-clause-answer g c =
-    over_answered (g.F.Shelf.files c.args.shelf.now) (texts c.args.words.now) (order_of c.in-Some.command) c.run.result c.finish.result
-    (g.S.Sink.taken c.args.out.now) (g.S.Sink.taken c.finish.new.out) c.in-Some.ensures c.run.ensures.work c.finish.ensures.finishes
+pub returns-in-Some-Sign-clause-answer : goal.returns-in-Some-Sign-clause-answer
+returns-in-Some-Sign-clause-answer g c =
+    over_answered (g.F.Shelf.files c.args.shelf.now) (texts c.args.words.now) (Sign c.in-Some-Sign.top.now (texts c.in-Some-Sign.files.now)) c.sign.result c.finish.result
+    (g.S.Sink.taken c.args.out.now) (g.S.Sink.taken c.finish.new.out)
+    (subst (λ (command : Command). Some (order_of command) ≡ order (texts c.args.words.now)) c.in-Some-Sign.field-0-is c.in-Some-Sign.ensures)
+    c.sign.ensures.work c.finish.ensures.finishes
 
-pub returns-in-Some-clause-headline : goal.returns-in-Some-clause-headline
-returns-in-Some-clause-headline g c =
+pub returns-in-Some-Sign-clause-headline : goal.returns-in-Some-Sign-clause-headline
+returns-in-Some-Sign-clause-headline g c =
     over_signed_clean (g.F.Shelf.files c.args.shelf.now) (texts c.args.words.now) c.finish.result (g.S.Sink.taken c.args.out.now) (g.S.Sink.taken c.finish.new.out)
-    (over_answered (g.F.Shelf.files c.args.shelf.now) (texts c.args.words.now) (order_of c.in-Some.command) c.run.result c.finish.result
-    (g.S.Sink.taken c.args.out.now) (g.S.Sink.taken c.finish.new.out) c.in-Some.ensures c.run.ensures.work c.finish.ensures.finishes)
+    (over_answered (g.F.Shelf.files c.args.shelf.now) (texts c.args.words.now) (Sign c.in-Some-Sign.top.now (texts c.in-Some-Sign.files.now)) c.sign.result c.finish.result
+    (g.S.Sink.taken c.args.out.now) (g.S.Sink.taken c.finish.new.out)
+    (subst (λ (command : Command). Some (order_of command) ≡ order (texts c.args.words.now)) c.in-Some-Sign.field-0-is c.in-Some-Sign.ensures)
+    c.sign.ensures.work c.finish.ensures.finishes)
+
+pub returns-in-Some-Simulate-clause-answer : goal.returns-in-Some-Simulate-clause-answer
+returns-in-Some-Simulate-clause-answer g c =
+    over_performed (g.F.Shelf.files c.args.shelf.now) (texts c.args.words.now) (Simulate c.in-Some-Simulate.top.now c.in-Some-Simulate.steps.now (texts c.in-Some-Simulate.files.now)) c.simulate.result c.perform.result
+    (g.S.Sink.taken c.args.out.now) (g.S.Sink.taken c.perform.new.out)
+    (subst (λ (command : Command). Some (order_of command) ≡ order (texts c.args.words.now)) c.in-Some-Simulate.field-0-is c.in-Some-Simulate.ensures)
+    refl c.simulate.ensures.plan c.perform.ensures.performs
