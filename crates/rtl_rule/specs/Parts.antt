@@ -1,9 +1,10 @@
 -- What the rules look at in a flat design, and the processes, statements and expressions in which they look.
-use Rattle.std.specs.Prelude.{ℕ, zero, suc, ◌==◌, nat_lt, Bool, true, false, ◌&&◌, ◌||◌, if◌then◌else◌, List, [], ◌∷◌, ◌++◌, length, map, Option, Some, None}
-use Rattle.std.specs.List.{enumerate_from, filter_map, flat_map, list_any}
+use Rattle.std.specs.Prelude.{ℕ, zero, suc, ◌==◌, nat_lt, Bool, true, false, not, ◌&&◌, ◌||◌, if◌then◌else◌, List, [], ◌∷◌, ◌++◌, length, map, Option, Some, None}
+use Rattle.std.specs.List.{enumerate_from, filter, filter_map, flat_map, list_any}
 use Rattle.rtl_bits.specs.declared.Bit.{Bit}
 use Rattle.rtl_bits.specs.declared.Bit.TheVariants as bit
 use Rattle.rtl_tree.specs.declared.text.Spot.{Spot}
+use Rattle.rtl_flat.specs.declared.design.Design.{Design}
 use Rattle.rtl_flat.specs.declared.expr.SigId.{SigId}
 use Rattle.rtl_flat.specs.declared.instance.Delay.{Delay}
 use Rattle.rtl_flat.specs.declared.instance.DroppedRegion.{DroppedRegion}
@@ -11,7 +12,7 @@ use Rattle.rtl_flat.specs.declared.signal.Signal.{Signal}
 use Rattle.rtl_flat.specs.Expression.{Tree, Sized, Literal, Whole, BitAt, BitBy, Part, Turned, Joined, Compared, Linked, Folded, Shifted, Chosen, Empty, Beside, Repeated, Recast}
 use Rattle.rtl_flat.specs.Flows.{flow_of, labels_of}
 use Rattle.rtl_flat.specs.Paths.{BitSet, may_write}
-use Rattle.rtl_flat.specs.Process.{Selection, Piece, Watched, Action, Set, If, Case, Block, Actions, Done, Then, Otherwise, Without, With, Branches, NoBranch, Branch, Doing, Assign, Comb, Edge', Task}
+use Rattle.rtl_flat.specs.Process.{Selection, Piece, Watched, Action, Set, If, Case, Block, Actions, Done, Then, Otherwise, Without, With, Branches, NoBranch, Branch, Doing, Assign, Comb, Edge', Task, task}
 use Rattle.rtl_flat.specs.Process as part
 use Rattle.rtl_flat.specs.Signs.{width_in}
 use Rattle.rtl_rule.specs.declared.finding.Finding.{Finding}
@@ -23,6 +24,11 @@ pub record Parts : Type 0 where
   pub tasks : List Task
   pub delays : List Delay
   pub dropped : List DroppedRegion
+
+-- those of a design
+abbrev pub parts : Design → Parts
+parts design =
+    record { signals = design.signals.items; tasks = map task design.processes.items; delays = design.delays.items; dropped = design.dropped.items }
 
 abbrev pub widths : Parts → ℕ → ℕ
 widths d = width_in d.signals
@@ -77,6 +83,13 @@ abbrev pub first_below : ℕ → (ℕ → Bool) → Option SigId
 first_below zero test = None
 first_below (suc n) test =
     if some_below n test then first_below n test else if test n then number n else None
+
+-- ---- truth values
+
+-- whether two truth values are the same
+abbrev pub agree : Bool → Bool → Bool
+agree true b = b
+agree false b = not b
 
 -- ---- what is written
 
@@ -260,11 +273,21 @@ abbrev pub is_literal_with : (Bit → Bool) → Tree → Bool
 is_literal_with test (Sized width signed spot (Literal bits)) = list_any test bits
 is_literal_with test _ = false
 
--- where such literals stand in a process, outside labels
+-- whether an expression is one literal
+abbrev pub is_one_literal : Tree → Bool
+is_one_literal (Sized width signed spot (Literal bits)) = true
+is_one_literal _ = false
+
+-- the expressions of a process whose literals stand for numbers: all but labels that are one literal each, which a case
+-- compares in its own way
+abbrev pub valued_trees : Doing → List Tree
+valued_trees does = trees does ++ filter (λ label. not (is_one_literal label)) (labels does)
+
+-- where such literals stand in a process, but for labels that are one
 abbrev pub literal_places : (Bit → Bool) → At Doing → List Spot
 literal_places test site =
-    filter_map (λ node. spot_if (is_literal_with test node) (place_of site.task.spot node)) (flat_map nodes (trees site.it))
+    filter_map (λ node. spot_if (is_literal_with test node) (place_of site.task.spot node)) (flat_map nodes (valued_trees site.it))
 
--- whether a process has such a literal, outside labels
+-- whether a process has such a literal
 abbrev pub has_literal : (Bit → Bool) → Doing → Bool
-has_literal test does = list_any (is_literal_with test) (flat_map nodes (trees does))
+has_literal test does = list_any (is_literal_with test) (flat_map nodes (valued_trees does))

@@ -24,8 +24,8 @@ pub struct Finding {
 impl Finding {
     ghost use Rattle.rtl_rule.specs.Order.{comes_before, rank_of};
 
-    // The numbers by which findings are ranked.
-    fn rank(&self) -> [u64; 5]
+    /// The numbers by which findings are ranked, the weightiest first.
+    pub fn rank(&self) -> [u64; 5]
         ensures { result ≡ rank_of self.now }
     {
         let signal = match self.signal {
@@ -47,6 +47,17 @@ impl Finding {
     {
         self.rank() < other.rank()
     }
+}
+
+/// The judgement of a design.
+#[derive(Drop)]
+pub struct Ruling {
+    /// All findings, in the order of instance, place, rule and signal.
+    pub findings: Vec<Finding>,
+    /// No rule of the first grade has a finding.
+    pub clean: bool,
+    /// No rule has a finding.
+    pub firm: bool,
 }
 
 /// What names a finding across edits.

@@ -1,7 +1,7 @@
 //! The rules and their table.
 
 ghost use Rattle.std.specs.Prelude.{◌≡◌, true, false};
-ghost use Rattle.rtl_rule.specs.Rows.{row_of};
+ghost use Rattle.rtl_rule.specs.Rows.{row_of, rule_with};
 
 /// A rule of the desk, in the order of the table.
 #[derive(Clone, Copy, PartialEq, Eq, Debug)]
@@ -249,4 +249,16 @@ pub fn waivable(rule: Rule) -> bool
     ensures { result ≡ (row_of rule).waivable }
 {
     rule.row().waivable
+}
+
+/// The rule that has a code, as `A4`; None where none has it.
+pub fn rule_of(code: &[u8]) -> Option<Rule>
+    ensures { result ≡ rule_with code.now }
+{
+    for rule in RULES {
+        if rule.row().code.as_bytes() == code {
+            return Some(rule);
+        }
+    }
+    None
 }
