@@ -1,0 +1,12 @@
+use Rattle.std.proofs.lemmas.Result.{IfOk-weaker}
+use Rattle.rtl_flat.specs.Paths.{MayWrite, may_write}
+use Rattle.rtl_flat.proofs.Paths.{decided}
+use Rattle.rtl_scan.specs.Sets.{has_rows}
+use Rattle.check_found.proofs.Decided.{as_set}
+use Rattle.check_found.proofs.sets.written.Goals as goal
+
+pub returns-clause-bits : goal.returns-clause-bits
+returns-clause-bits c =
+    IfOk-weaker c.writes.result _ _
+    (λ bits are. as_set MayWrite may_write (λ flow s k. (decided flow s k).writes) c.args.design.now c.args.p.0 (has_rows bits.rows.items) are)
+    c.writes.ensures.bits
