@@ -1,1 +1,4 @@
 mod Example
+pub mod Findings
+pub mod Left
+pub mod Woken

@@ -1,0 +1,10 @@
+use Rattle.rtl_rule.specs.Parts.{parts}
+use Rattle.rtl_rule.specs.Sites.{AreFindings}
+use Rattle.check_found.specs.Gathered.{sites_below}
+use Rattle.check_sense.specs.Sense.{IsNeverWakes, never_wakes_at}
+use Rattle.check_sense.specs.Telling.{itself}
+use Rattle.check_sense.proofs.waking.never_wakes.Given as goal
+
+abbrev pub invariant-loop-number : goal.invariant-loop-number
+invariant-loop-number l =
+    AreFindings (IsNeverWakes (parts l.design)) (never_wakes_at (parts l.design)) (sites_below itself (parts l.design) l.number) l.found.items

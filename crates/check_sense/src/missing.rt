@@ -1,0 +1,93 @@
+// Written lists that leave out what their bodies read.
+
+ghost use Rattle.std.specs.Prelude.{◌≡◌, ◌<◌, ◌++◌, Some, length, IfOk, OnOk};
+ghost use Rattle.std.specs.List.{slice_get};
+ghost use Rattle.rtl_flat.specs.Process.{doing, Task, task};
+ghost use Rattle.rtl_rule.specs.Parts.{parts};
+ghost use Rattle.check_found.specs.Gathered.{Gets, signal_numbers, task_sites};
+ghost use Rattle.check_sense.specs.Sense.{AreSenseMissing, IsSenseMissing, sense_missing_at};
+ghost use Rattle.check_sense.specs.Telling.{has_items, lacking_in};
+
+use crate::masks::Masks;
+use check_found::sets::{listed, read_outside};
+use rtl_flat::act::{Does, Listed, ProcId, Process};
+use rtl_flat::design::Design;
+use rtl_rule::finding::Finding;
+use rtl_rule::rule::Rule;
+use rtl_scan::bits::Row;
+use rtl_tree::memory::Memory;
+use std::alloc::Global;
+
+/// Whether a process has a written list without an edge.
+fn has_items(does: &Does) -> bool
+    ensures { result ≡ has_items (doing does.now) }
+{
+    match does {
+        Does::Assign {
+            target: _,
+            value: _,
+        } => false,
+        Does::Comb { list, body: _ } => match list {
+            Listed::Star => false,
+            Listed::Items(_) => true,
+        },
+        Does::Edge { events: _, body: _ } => false,
+    }
+}
+
+/// Tells of each row with a bit that isn't listed.
+#[tactic(auto, using(std::proofs::lemmas::List::append_assoc))]
+fn push_lacking(
+    process: &Process,
+    read: &[Row],
+    listed: &Masks,
+    found: &mut Vec<Finding>,
+) -> Result<(), Memory>
+    ensures { OnOk result (found.new.items
+        ≡ found.old.items ++ lacking_in (task process.now) listed.now.masks read.now) }
+{
+    for row in read {
+        if listed.lacks(*row) {
+            found.push(Finding {
+                rule: Rule::SenseMissing,
+                signal: Some(row.signal),
+                instance: process.instance,
+                spot: process.spot,
+            })?;
+        }
+    }
+    Ok(())
+}
+
+fn push_missing(
+    alloc: Global,
+    design: &Design,
+    p: ProcId,
+    found: &mut Vec<Finding>,
+) -> Result<(), Memory>
+    requires { p.0 < length design.now.processes.items }
+    ensures { OnOk result ((task : Task) → slice_get (parts design.now).tasks p.0 ≡ Some task
+        → Gets (IsSenseMissing (parts design.now)) sense_missing_at
+        (task_sites (signal_numbers (parts design.now)) p.0 task) found.old.items found.new.items) }
+{
+    let process = &design.processes[p.0 as usize];
+    if !has_items(&process.does) {
+        return Ok(());
+    }
+    let read = read_outside(alloc, design, p)?;
+    let bits = listed(alloc, design, p)?;
+    let masks = Masks::of(alloc, &bits)?;
+    push_lacking(process, &read.rows, &masks, found)
+}
+
+/// Processes with a written list that leaves out a bit which their body reads before it has written
+/// it: a finding for each signal.
+pub fn sense_missing(alloc: Global, design: &Design) -> Result<Vec<Finding>, Memory>
+    ensures { IfOk result (λ found. AreSenseMissing (parts design.now) found.items) }
+{
+    let mut found = Vec::new(alloc);
+    for number in 0..design.processes.len() {
+        push_missing(alloc, design, ProcId(number as u32), &mut found)?;
+    }
+    Ok(found)
+}

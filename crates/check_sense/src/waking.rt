@@ -1,0 +1,168 @@
+// Level lists that nothing can wake.
+
+ghost use Rattle.std.specs.Prelude.{◌≡◌, ◌<◌, Some, length, IfOk, OnOk};
+ghost use Rattle.std.specs.List.{list_any, slice_get};
+ghost use Rattle.rtl_flat.specs.Process.{doing, Task};
+ghost use Rattle.rtl_rule.specs.Parts.{parts};
+ghost use Rattle.rtl_scan.specs.Sets.{has_rows};
+ghost use Rattle.check_found.specs.Gathered.{Gets, task_sites};
+ghost use Rattle.check_sense.specs.Sense.{AreNeverWakes, IsNeverWakes, can_wake, is_top, never_wakes_at};
+ghost use Rattle.check_sense.specs.Telling.{AreWriters, GetsWriter, has_level_list, itself, row_wakes, top_at};
+
+use crate::masks::Masks;
+use check_found::sets::{first_written, listed, written};
+use rtl_flat::act::{Does, ProcId};
+use rtl_flat::design::Design;
+use rtl_flat::expr::SigId;
+use rtl_flat::signal::{Kind, Signal};
+use rtl_rule::finding::Finding;
+use rtl_rule::rule::Rule;
+use rtl_scan::bits::{Bits, Row};
+use rtl_tree::memory::Memory;
+use std::alloc::Global;
+
+/// The bits that one process at least may write, and those that several may.
+#[derive(Drop)]
+struct Writers {
+    once: Masks,
+    twice: Masks,
+}
+
+impl Writers {
+    /// One process more may write some bits.
+    fn add(&mut self, written: &Bits) -> Result<(), Memory>
+        ensures { OnOk result (GetsWriter (has_rows written.now.rows.items) self.old self.new) }
+    {
+        self.twice.insert_shared(&written.rows, &self.once)?;
+        self.once.insert_all(&written.rows)
+    }
+
+    /// Those of a design.
+    fn of(alloc: Global, design: &Design) -> Result<Writers, Memory>
+        ensures { IfOk result (λ writers.
+            AreWriters (parts design.now) (parts design.now).tasks writers) }
+    {
+        let mut writers = Writers {
+            once: Masks::new(alloc),
+            twice: Masks::new(alloc),
+        };
+        for number in 0..design.processes.len() {
+            let written = written(alloc, design, ProcId(number as u32))?;
+            writers.add(&written)?;
+        }
+        Ok(writers)
+    }
+
+    /// Whether a bit of a row is of a top input, or may be written by a process other than one that
+    /// may write some bits.
+    fn wake(&self, signals: &[Signal], own: &Masks, row: Row) -> bool
+        ensures { result ≡ row_wakes signals.now self.now own.now row }
+    {
+        if is_top(signals, row.signal) {
+            return row.mask != 0;
+        }
+        let once = self.once.mask(row.signal);
+        let twice = self.twice.mask(row.signal);
+        row.mask & (twice | (once & (once ^ own.mask(row.signal)))) != 0
+    }
+}
+
+/// Whether a signal is an input of the top module.
+fn is_top(signals: &[Signal], signal: SigId) -> bool
+    ensures { result ≡ top_at signals.now signal.0 }
+{
+    let place = signal.0 as usize;
+    if place >= signals.len() {
+        return false;
+    }
+    is_input(&signals[place])
+}
+
+fn is_input(signal: &Signal) -> bool
+    ensures { result ≡ is_top signal.now.kind }
+{
+    matches!(signal.kind, Kind::TopInput)
+}
+
+fn wake_some(signals: &[Signal], writers: &Writers, own: &Masks, rows: &[Row]) -> bool
+    ensures { result ≡ list_any (row_wakes signals.now writers.now own.now) rows.now }
+{
+    for row in rows {
+        if writers.wake(signals, own, *row) {
+            return true;
+        }
+    }
+    false
+}
+
+/// Whether something can wake a process with a level list.
+fn can_wake(alloc: Global, design: &Design, writers: &Writers, p: ProcId) -> Result<bool, Memory>
+    requires inside { p.0 < length design.now.processes.items }
+    requires writers { AreWriters (parts design.now) (parts design.now).tasks writers.now }
+    ensures { IfOk result (λ wakes. (task : Task)
+        → slice_get (parts design.now).tasks p.0 ≡ Some task
+        → wakes ≡ can_wake (parts design.now) p.0 task.does) }
+{
+    let listed = listed(alloc, design, p)?;
+    let written = written(alloc, design, p)?;
+    let own = Masks::of(alloc, &written)?;
+    Ok(wake_some(&design.signals, writers, &own, &listed.rows))
+}
+
+/// Whether a process has a list without an edge.
+fn has_level_list(does: &Does) -> bool
+    ensures { result ≡ has_level_list (doing does.now) }
+{
+    match does {
+        Does::Assign {
+            target: _,
+            value: _,
+        } => false,
+        Does::Comb { list: _, body: _ } => true,
+        Does::Edge { events: _, body: _ } => false,
+    }
+}
+
+fn push_never(
+    alloc: Global,
+    design: &Design,
+    writers: &Writers,
+    p: ProcId,
+    found: &mut Vec<Finding>,
+) -> Result<(), Memory>
+    requires inside { p.0 < length design.now.processes.items }
+    requires writers { AreWriters (parts design.now) (parts design.now).tasks writers.now }
+    ensures { OnOk result ((task : Task) → slice_get (parts design.now).tasks p.0 ≡ Some task
+        → Gets (IsNeverWakes (parts design.now)) (never_wakes_at (parts design.now))
+        (task_sites itself p.0 task) found.old.items found.new.items) }
+{
+    let process = &design.processes[p.0 as usize];
+    if !has_level_list(&process.does) {
+        return Ok(());
+    }
+    let wakes = can_wake(alloc, design, writers, p)?;
+    if wakes {
+        return Ok(());
+    }
+    let signal = first_written(alloc, design, p)?;
+    found.push(Finding {
+        rule: Rule::NeverWakes,
+        signal,
+        instance: process.instance,
+        spot: process.spot,
+    })?;
+    Ok(())
+}
+
+/// Processes with a list without edges, of which no bit is of a top input or may be written by
+/// another process.
+pub fn never_wakes(alloc: Global, design: &Design) -> Result<Vec<Finding>, Memory>
+    ensures { IfOk result (λ found. AreNeverWakes (parts design.now) found.items) }
+{
+    let writers = Writers::of(alloc, design)?;
+    let mut found = Vec::new(alloc);
+    for number in 0..design.processes.len() {
+        push_never(alloc, design, &writers, ProcId(number as u32), &mut found)?;
+    }
+    Ok(found)
+}
