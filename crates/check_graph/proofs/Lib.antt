@@ -1,0 +1,6 @@
+pub mod Turns
+pub mod Joining
+pub mod Tabling
+pub mod Waiting
+pub mod Feeding
+pub mod Cycles

@@ -1,0 +1,7 @@
+use Rattle.rtl_rule.specs.Parts.{parts, widths}
+use Rattle.check_graph.specs.Feeds.{AreWriters}
+use Rattle.check_graph.proofs.writers.writers.Given as goal
+
+abbrev pub invariant-loop-number : goal.invariant-loop-number
+invariant-loop-number l =
+    AreWriters (widths (parts l.design)) (parts l.design).tasks l.number l.table.items

@@ -1,0 +1,39 @@
+//! The nodes of a graph that are on a cycle.
+#![tactic(auto)]
+
+mod certificate;
+mod groups;
+mod order;
+mod spread;
+mod turned;
+
+ghost use Rattle.std.specs.Prelude.{IfOk};
+ghost use Rattle.rtl_scan.specs.Graph.{AreRows};
+ghost use Rattle.check_loops.specs.Rounds.{AreOnCycles};
+
+use crate::certificate::certified;
+use crate::groups::groups_of;
+use crate::order::finishing_order;
+use crate::spread::searched;
+use crate::turned::turned;
+use rtl_tree::memory::Memory;
+use std::alloc::Global;
+
+/// Whether each node is on a cycle. A row has the nodes from which arrows come to its node.
+///
+/// Two searches put the nodes into groups that reach one another, and a look at each arrow shows that none leads
+/// back to an earlier group. That takes time in proportion to the arrows. Were a group wrong, which no proof rules
+/// out, each node would be searched by itself.
+pub fn on_cycles(alloc: Global, rows: &[Vec<u32>]) -> Result<Vec<bool>, Memory>
+    requires { AreRows rows.now }
+    ensures { IfOk result (λ answers. AreOnCycles rows.now answers.items) }
+{
+    let turned = turned(alloc, rows)?;
+    let order = finishing_order(alloc, rows)?;
+    let forth = groups_of(alloc, &turned, &order, &[])?;
+    let back = groups_of(alloc, rows, &order, &forth)?;
+    match certified(alloc, rows, &turned, &forth, &back)? {
+        Some(answers) => Ok(answers),
+        None => searched(alloc, rows),
+    }
+}
