@@ -1,0 +1,12 @@
+pub mod Bad
+pub mod Bodies
+pub mod Formed
+pub mod Free
+pub mod Given
+pub mod Nodes
+pub mod Registers
+pub mod Resets
+pub mod Signals
+pub mod Steps
+pub mod Taken
+pub mod Told

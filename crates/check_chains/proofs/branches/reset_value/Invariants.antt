@@ -1,0 +1,10 @@
+use Rattle.rtl_rule.specs.Parts.{parts}
+use Rattle.rtl_rule.specs.Sites.{AreFindings}
+use Rattle.check_found.specs.Gathered.{sites_below}
+use Rattle.check_chains.specs.Chains.{IsResetValue, reset_value_at}
+use Rattle.check_chains.specs.Inner.{itself}
+use Rattle.check_chains.proofs.branches.reset_value.Given as goal
+
+abbrev pub invariant-loop-number : goal.invariant-loop-number
+invariant-loop-number l =
+    AreFindings (IsResetValue (parts l.design)) (reset_value_at (parts l.design)) (sites_below itself (parts l.design) l.number) l.found.items

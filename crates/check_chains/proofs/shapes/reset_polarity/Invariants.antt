@@ -1,0 +1,10 @@
+use Rattle.rtl_rule.specs.Parts.{parts}
+use Rattle.rtl_rule.specs.Sites.{AreFindings}
+use Rattle.check_found.specs.Gathered.{sites_below}
+use Rattle.check_chains.specs.Chains.{IsResetPolarity, reset_polarity_at}
+use Rattle.check_chains.specs.Inner.{itself}
+use Rattle.check_chains.proofs.shapes.reset_polarity.Given as goal
+
+abbrev pub invariant-loop-number : goal.invariant-loop-number
+invariant-loop-number l =
+    AreFindings (IsResetPolarity (parts l.design)) (reset_polarity_at (parts l.design)) (sites_below itself (parts l.design) l.number) l.found.items

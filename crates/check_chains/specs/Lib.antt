@@ -1,0 +1,4 @@
+pub mod Branches
+pub mod Chains
+pub mod Inner
+pub mod Views
