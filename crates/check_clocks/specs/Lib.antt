@@ -1,0 +1,9 @@
+pub mod Clocks
+pub mod Data
+pub mod Reach
+pub mod Links
+pub mod Tops
+pub mod Uses
+pub mod Passed
+pub mod Cone
+pub mod Firsts

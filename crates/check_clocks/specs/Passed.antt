@@ -1,0 +1,33 @@
+-- It serves inner contracts and proofs; no answer of the program is stated by it.
+-- The connections by which a signal alone goes on to another instance.
+use Rattle.std.specs.Prelude.{ℕ, ◌≡◌, ◌≢◌, List, [], ◌∷◌, Option, Some, None}
+use Rattle.std.specs.Prelude.{◌↔◌}
+use Rattle.rtl_tree.specs.declared.text.Spot.{Spot}
+use Rattle.rtl_flat.specs.declared.expr.SigId.{SigId}
+use Rattle.rtl_flat.specs.Expression.{Tree}
+use Rattle.rtl_flat.specs.Process.{Assign, Task}
+use Rattle.rtl_flat.specs.Process as part
+use Rattle.rtl_flat.specs.Signs.{Has}
+use Rattle.net_model.specs.Control.{ReadsAlone}
+use Rattle.rtl_rule.specs.Parts.{Parts, widths}
+use Rattle.rtl_scan.specs.declared.bits.Row.{Row}
+use Rattle.check_clocks.specs.declared.reach.Link.{Link}
+
+-- a connection whose expression reads one signal alone, both of one bit
+pub record IsPassing (d : Parts) (task : Task) (i j : ℕ) : Type 0 where
+  pub spot : Spot
+  pub value : Tree
+  pub does : task.does ≡ Assign (record { signal = j; selection = part.Whole; spot = spot } ∷ []) value
+  pub alone : ReadsAlone (widths d) value i
+  pub one_bit : widths d i ≡ 1
+  pub port_bit : widths d j ≡ 1
+  pub outside : Has (λ signal. signal.instance ≢ task.instance) d.signals j
+
+-- the signal of a single row
+abbrev pub only_signal : List Row → Option SigId
+only_signal (row ∷ []) = Some row.signal
+only_signal _ = None
+
+-- the link of a process, if it is such a connection
+pub record IsPassingLink (d : Parts) (task : Task) (link : Option Link) : Type 0 where
+  pub each : (i j : ℕ) → link ≡ Some (record { source = i; target = j }) ↔ IsPassing d task i j
