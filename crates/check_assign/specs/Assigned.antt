@@ -12,7 +12,7 @@ use Rattle.rtl_flat.specs.PathSets.{IsTemporary}
 use Rattle.rtl_flat.specs.Process.{Piece, Action, Set, Doing, Assign, Comb, Edge', Task}
 use Rattle.rtl_rule.specs.declared.finding.Finding.{Finding}
 use Rattle.rtl_rule.specs.declared.rule.Rule.TheVariants.{BlockingState, NonblockingComb, MixedAssign, SeveralDrivers, Undriven, CombLoop, LatchInferred, Tristate}
-use Rattle.rtl_rule.specs.Parts.{Parts, At, sites, signal_sites, process_sites, widths, has_some, some_below, first_written, written, number, found, found_at, least_place, statements, spot_if, is_z, has_literal, literal_places}
+use Rattle.rtl_rule.specs.Parts.{Parts, At, sites, signal_sites, process_sites, widths, has_some, some_below, first_written, written, number, found, found_at, least_place, agree, statements, spot_if, is_z, has_literal, literal_places}
 use Rattle.rtl_rule.specs.Sites.{AreFindings}
 
 -- ---- what processes are
@@ -35,11 +35,6 @@ now d (Assign target value) s k = false
 now d does s k = may_write_blocking (flow_of (widths d) does) s k
 
 -- ---- the place of the first target
-
--- whether two truth values are the same
-abbrev pub agree : Bool → Bool → Bool
-agree true b = b
-agree false b = not b
 
 -- where the assignments of one kind have a target that may be a bit of a signal
 abbrev pub own_targets : (ℕ → ℕ) → Bool → ℕ → Action → List Spot

@@ -1,2 +1,5 @@
 pub mod Assigned
-pub mod Clocks
+pub mod Findings
+pub mod Kept
+pub mod Lists
+pub mod Marks

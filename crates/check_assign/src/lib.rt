@@ -1,2 +1,19 @@
 //! Findings about assignments, drivers, clocks and resets.
 #![tactic(auto)]
+
+mod drivers;
+mod kinds;
+mod latches;
+mod lists;
+mod literals;
+mod loops;
+mod marks;
+mod masks;
+mod targets;
+
+pub use drivers::{several_drivers, undriven};
+pub use kinds::{blocking_state, mixed_assign, nonblocking_comb};
+pub use latches::latch_inferred;
+pub use lists::check;
+pub use literals::tristate;
+pub use loops::comb_loop;

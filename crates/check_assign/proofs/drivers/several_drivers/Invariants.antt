@@ -1,0 +1,11 @@
+use Rattle.std.proofs.Common.{◌≡◌, ℕ}
+use Rattle.rtl_rule.specs.Parts.{parts}
+use Rattle.rtl_rule.specs.Sites.{AreFindings}
+use Rattle.rtl_scan.specs.Sets.{has}
+use Rattle.check_found.specs.Gathered.{signal_numbers, sites_below}
+use Rattle.check_assign.specs.Assigned.{IsSeveralDrivers, lower_writes, several_drivers_at}
+use Rattle.check_assign.proofs.drivers.several_drivers.Given as goal
+
+abbrev pub invariant-loop-number : goal.invariant-loop-number
+invariant-loop-number l =
+    AreFindings (IsSeveralDrivers (parts l.design)) several_drivers_at (sites_below (signal_numbers (parts l.design)) (parts l.design) l.number) l.found.items × ((s k : ℕ) → has l.lower.masks s k ≡ lower_writes (parts l.design) l.number s k)

@@ -1,0 +1,9 @@
+use Rattle.rtl_rule.specs.Parts.{parts}
+use Rattle.rtl_rule.specs.Sites.{AreFindings}
+use Rattle.check_found.specs.Gathered.{signal_numbers, sites_below}
+use Rattle.check_assign.specs.Assigned.{IsBlockingState, blocking_state_at}
+use Rattle.check_assign.proofs.kinds.blocking_state.Given as goal
+
+abbrev pub invariant-loop-process : goal.invariant-loop-process
+invariant-loop-process l =
+    AreFindings (IsBlockingState (parts l.design)) (blocking_state_at (parts l.design)) (sites_below (signal_numbers (parts l.design)) (parts l.design) l.process-index) l.found.items

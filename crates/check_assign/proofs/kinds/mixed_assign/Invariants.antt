@@ -1,0 +1,9 @@
+use Rattle.rtl_rule.specs.Parts.{parts}
+use Rattle.rtl_rule.specs.Sites.{AreFindings}
+use Rattle.check_found.specs.Gathered.{signal_numbers, sites_below}
+use Rattle.check_assign.specs.Assigned.{IsMixedAssign, mixed_assign_at}
+use Rattle.check_assign.proofs.kinds.mixed_assign.Given as goal
+
+abbrev pub invariant-loop-process : goal.invariant-loop-process
+invariant-loop-process l =
+    AreFindings (IsMixedAssign (parts l.design)) (mixed_assign_at (parts l.design)) (sites_below (signal_numbers (parts l.design)) (parts l.design) l.process-index) l.found.items

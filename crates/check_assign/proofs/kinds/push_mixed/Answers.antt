@@ -1,0 +1,23 @@
+use Rattle.std.proofs.Common.{ℕ, cond, None}
+use Rattle.std.specs.Ordering.{nat_cmp}
+use Rattle.std.specs.BTreeMap.{get}
+use Rattle.std.proofs.lemmas.Result.{on_ok_weaker}
+use Rattle.rtl_flat.specs.Process.{task}
+use Rattle.rtl_rule.specs.declared.rule.Rule.TheVariants.{MixedAssign}
+use Rattle.rtl_rule.specs.Parts.{parts}
+use Rattle.check_assign.specs.Assigned.{IsMixedAssign, mixed_assign_at}
+use Rattle.check_assign.specs.Marks.{is_some_spot}
+use Rattle.check_assign.proofs.Firsts.{mixed_inside, mixed_tells}
+use Rattle.check_assign.proofs.Shown.{gets_shown}
+use Rattle.check_assign.proofs.kinds.push_mixed.Goals as goal
+
+pub returns : goal.returns
+returns c =
+    let d = parts c.args.design.now in
+    let one = task c.args.process.now in
+    let marks = λ (s : ℕ). get nat_cmp c.in_ok-now.now.spots s in
+    let others = λ (s : ℕ). get nat_cmp c.in_ok-late.late.spots s in
+    on_ok_weaker c.push.result (λ shows p.
+    gets_shown (IsMixedAssign d) (mixed_assign_at d) MixedAssign one.instance d p one (mixed_inside d p one) (λ s. cond (is_some_spot (others s)) (marks s) None)
+    (mixed_tells d p one marks others c.in_ok-now.ensures c.in_ok-late.ensures) c.args.found.now.items c.push.new.found.items shows)
+    c.push.ensures

@@ -1,0 +1,9 @@
+use Rattle.rtl_rule.specs.Parts.{parts}
+use Rattle.rtl_rule.specs.Sites.{AreFindings}
+use Rattle.check_found.specs.Gathered.{signal_numbers, sites_below}
+use Rattle.check_assign.specs.Assigned.{IsLatchInferred, latch_inferred_at}
+use Rattle.check_assign.proofs.latches.latch_inferred.Given as goal
+
+abbrev pub invariant-loop-number : goal.invariant-loop-number
+invariant-loop-number l =
+    AreFindings (IsLatchInferred (parts l.design)) latch_inferred_at (sites_below (signal_numbers (parts l.design)) (parts l.design) l.number) l.found.items

@@ -1,0 +1,8 @@
+use Rattle.std.proofs.lemmas.Result.{on_ok_weaker}
+use Rattle.rtl_scan.specs.Sets.{mask_of}
+use Rattle.rtl_scan.proofs.Masks.{put_or}
+use Rattle.check_assign.proofs.masks.Masks.insert.Goals as goal
+
+pub returns : goal.returns
+returns c =
+    on_ok_weaker c.put.result (put_or (mask_of c.args.self.now.masks) (mask_of c.put.new.self.masks) c.args.row c.mask-mask.result c.mask-mask.ensures) c.put.ensures

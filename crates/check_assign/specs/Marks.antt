@@ -1,0 +1,96 @@
+-- It serves inner contracts and proofs; no answer of the program is stated by it.
+-- The signals of one process that break a rule, with the places of their findings.
+use Rattle.std.specs.Prelude.{ℕ, ◌≡◌, ◌==◌, Bool, true, false, not, ◌&&◌, List, [], ◌∷◌, ◌++◌, map, Option, Some, None, bit_and, bit_xor, slice_index_or}
+use Rattle.std.specs.List.{filter, filter_map, list_any}
+use Rattle.std.specs.List.Sorted.{IsStrictlySortedBy}
+use Rattle.std.specs.Map.{lookup}
+use Rattle.std.specs.Ordering.{nat_cmp}
+use Rattle.std.specs.BTreeMap.{BTreeMap, get, is_at}
+use Rattle.rtl_tree.specs.declared.text.Spot.{Spot}
+use Rattle.rtl_flat.specs.Expression.{Tree}
+use Rattle.rtl_flat.specs.Flows.{may_select, may_target}
+use Rattle.rtl_flat.specs.Process.{Piece, Action, Set}
+use Rattle.rtl_rule.specs.declared.finding.Finding.{Finding}
+use Rattle.rtl_rule.specs.declared.rule.Rule.{Rule}
+use Rattle.rtl_rule.specs.Parts.{has_some, is_earlier, is_literal_with, is_z, number, place_of, spot_if}
+use Rattle.rtl_scan.specs.declared.bits.Row.{Row}
+use Rattle.rtl_scan.specs.Sets.{mask_of}
+use Rattle.check_assign.specs.declared.marks.Among.{Among}
+use Rattle.check_assign.specs.declared.marks.Among.TheVariants.{All, Kept, Marked}
+
+-- ---- places
+
+abbrev pub if_earlier : Bool → Spot → Spot → Spot
+if_earlier true one other = other
+if_earlier false one other = one
+
+-- the lesser of two places
+abbrev pub sooner : Spot → Spot → Spot
+sooner one other = if_earlier (is_earlier other one) one other
+
+abbrev pub joined : Option Spot → Option Spot → Option Spot
+joined None other = other
+joined (Some one) None = Some one
+joined (Some one) (Some other) = Some (sooner one other)
+
+-- the least of some places
+abbrev pub least_of : List Spot → Option Spot
+least_of [] = None
+least_of (one ∷ others) = joined (Some one) (least_of others)
+
+-- the place of a target that may be a bit of a signal
+abbrev pub spot_of : (ℕ → ℕ) → ℕ → Piece → Option Spot
+spot_of ws s piece = spot_if (has_some ws (may_select ws piece.signal piece.selection) s) piece.spot
+
+-- whether a statement may write a bit by an assignment of some kinds
+abbrev pub own_writes : (Bool → Bool) → (ℕ → ℕ) → ℕ → ℕ → Action → Bool
+own_writes kind ws s k (Set target value delayed spot) = kind delayed && may_target ws target s k
+own_writes kind ws s k _ = false
+
+-- ---- signals with places
+
+abbrev pub is_some_spot : Option Spot → Bool
+is_some_spot None = false
+is_some_spot (Some spot) = true
+
+-- whether a signal is among some
+abbrev pub wants : Among → ℕ → Bool
+wants All s = true
+wants (Kept temporaries) s = not (slice_index_or temporaries.now s false)
+wants (Marked marks) s = is_some_spot (get nat_cmp marks.now.spots s)
+
+abbrev pub shown : Rule → ℕ → (ℕ × Spot) → Finding
+shown rule instance entry =
+    record { rule = rule; signal = number entry.0; instance = instance; spot = entry.1 }
+
+-- the entries of signals that pass a test
+abbrev pub passing : (ℕ → Bool) → List (ℕ × Spot) → List (ℕ × Spot)
+passing test entries = filter (λ (e : ℕ × Spot). test e.0) entries
+
+-- findings of signals that have places are put behind others, in the order of signals
+pub record Shows (rule : Rule) (instance : ℕ) (marks : ℕ → Option Spot) (old new : List Finding) : Type 0 where
+  pub entries : List (ℕ × Spot)
+  pub sorted : IsStrictlySortedBy nat_cmp (map (λ (e : ℕ × Spot). e.0) entries)
+  pub each : (s : ℕ) → lookup (is_at (nat_cmp s)) entries ≡ marks s
+  pub is : new ≡ old ++ map (shown rule instance) entries
+
+-- ---- rows
+
+-- whether a bit of a row is in a set
+abbrev pub shares : BTreeMap ℕ ℕ → Row → Bool
+shares masks row = not (bit_and row.mask (mask_of masks row.signal.0) == 0)
+
+-- whether a bit of a row isn't
+abbrev pub leaves : BTreeMap ℕ ℕ → Row → Bool
+leaves masks row = not (bit_and row.mask (bit_xor row.mask (mask_of masks row.signal.0)) == 0)
+
+-- whether some row of a signal passes a test
+abbrev pub any_row : (Row → Bool) → List Row → ℕ → Bool
+any_row test rows s = list_any (λ (row : Row). (s == row.signal.0) && test row) rows
+
+-- ---- literals
+
+-- where literals with a z bit stand
+abbrev pub z_spots : Spot → List Tree → List Spot
+z_spots otherwise nodes =
+    filter_map (λ (node : Tree). spot_if (is_literal_with is_z node) (place_of otherwise node)) nodes

@@ -1,0 +1,162 @@
+// Signals that several processes drive, and those with bits that none does.
+
+ghost use Rattle.std.specs.Prelude.{ℕ, ◌≡◌, ◌&&◌, ◌||◌, ◌<◌, [], ◌∷◌, cond, length, not, Some, IfOk, OnOk};
+ghost use Rattle.std.specs.List.{slice_get};
+ghost use Rattle.std.specs.Ordering.{nat_cmp};
+ghost use Rattle.std.specs.BTreeMap.{get};
+ghost use Rattle.rtl_flat.specs.Process.{Task};
+ghost use Rattle.rtl_rule.specs.Parts.{has_some, parts, widths, written};
+ghost use Rattle.rtl_scan.specs.Sets.{has};
+ghost use Rattle.check_assign.specs.Assigned.{AreSeveralDrivers, AreUndriven, IsSeveralDrivers, IsUndriven, is_input, is_written, lower_writes, several_drivers_at, undriven_at};
+ghost use Rattle.check_assign.specs.Marks.{any_row, shares};
+ghost use Rattle.check_found.specs.Gathered.{Gets, signal_numbers, task_sites};
+
+use crate::marks::{Among, Marks};
+use crate::masks::Masks;
+use check_found::sets::written;
+use rtl_flat::act::ProcId;
+use rtl_flat::design::Design;
+use rtl_flat::expr::{Select, SigId};
+use rtl_flat::signal::{Kind, Signal};
+use rtl_rule::finding::Finding;
+use rtl_rule::rule::Rule;
+use rtl_scan::bits::Row;
+use rtl_scan::selected;
+use rtl_tree::memory::Memory;
+use rtl_tree::text::Spot;
+use std::alloc::Global;
+
+/// Marks the signals of rows that share a bit with a set.
+fn mark_shared(rows: &[Row], lower: &Masks, spot: Spot, marks: &mut Marks) -> Result<(), Memory>
+    ensures { OnOk result ((s : ℕ) → get nat_cmp marks.new.spots s
+        ≡ cond (any_row (shares lower.now.masks) rows.now s) (Some spot)
+        (get nat_cmp marks.old.spots s)) }
+{
+    for row in rows {
+        if lower.shares(*row) {
+            marks.put(row.signal, spot)?;
+        }
+    }
+    Ok(())
+}
+
+/// Adds the findings of a process, where the processes below it may write the bits of a set; its own
+/// go into the set.
+fn push_shared(
+    alloc: Global,
+    design: &Design,
+    p: ProcId,
+    lower: &mut Masks,
+    found: &mut Vec<Finding>,
+) -> Result<(), Memory>
+    requires inside { p.0 < length design.now.processes.items }
+    requires lower { (s k : ℕ) → has lower.old.masks s k ≡ lower_writes (parts design.now) p.0 s k }
+    ensures found { let d = parts design.now in
+        OnOk result ((task : Task) → slice_get d.tasks p.0 ≡ Some task →
+        Gets (IsSeveralDrivers d) several_drivers_at (task_sites (signal_numbers d) p.0 task)
+        found.old.items found.new.items) }
+    ensures lower { let d = parts design.now in
+        OnOk result ((task : Task) → slice_get d.tasks p.0 ≡ Some task → (s k : ℕ) →
+        has lower.new.masks s k ≡ (has lower.old.masks s k || written d task.does s k)) }
+{
+    let process = &design.processes[p.0 as usize];
+    let written = written(alloc, design, p)?;
+    let mut marks = Marks::new(alloc);
+    mark_shared(&written.rows, lower, process.spot, &mut marks)?;
+    marks.push(Rule::SeveralDrivers, process, Among::All, found)?;
+    lower.insert_all(&written.rows)
+}
+
+/// Signals with a bit that a process may write and one of a lower number, too.
+///
+/// Fails where memory runs out.
+pub fn several_drivers(alloc: Global, design: &Design) -> Result<Vec<Finding>, Memory>
+    ensures { IfOk result (λ found. AreSeveralDrivers (parts design.now) found.items) }
+{
+    let mut found = Vec::new(alloc);
+    let mut lower = Masks::new(alloc);
+    for number in 0..design.processes.len() {
+        push_shared(alloc, design, ProcId(number as u32), &mut lower, &mut found)?;
+    }
+    Ok(found)
+}
+
+/// Adds the bits that a process may write.
+fn drive(alloc: Global, design: &Design, p: ProcId, driven: &mut Masks) -> Result<(), Memory>
+    requires { p.0 < length design.now.processes.items }
+    ensures { let d = parts design.now in
+        OnOk result ((task : Task) → slice_get d.tasks p.0 ≡ Some task → (s k : ℕ) →
+        has driven.new.masks s k ≡ (has driven.old.masks s k || written d task.does s k)) }
+{
+    let written = written(alloc, design, p)?;
+    driven.insert_all(&written.rows)
+}
+
+/// The bits that some process may write.
+fn driven_bits(alloc: Global, design: &Design) -> Result<Masks, Memory>
+    ensures { IfOk result (λ driven.
+        (s k : ℕ) → has driven.masks s k ≡ is_written (parts design.now) s k) }
+{
+    let mut driven = Masks::new(alloc);
+    for number in 0..design.processes.len() {
+        drive(alloc, design, ProcId(number as u32), &mut driven)?;
+    }
+    Ok(driven)
+}
+
+fn is_input(kind: Kind) -> bool
+    ensures { result ≡ is_input kind }
+{
+    match kind {
+        Kind::TopInput => true,
+        Kind::Net => false,
+        Kind::Var => false,
+    }
+}
+
+/// Whether a signal isn't a top input and has a bit that isn't in a set.
+fn is_undriven(design: &Design, signal: &Signal, number: SigId, driven: &Masks) -> bool
+    ensures { result ≡ (not (is_input signal.now.kind)
+        && has_some (widths (parts design.now)) (λ s k. not (has driven.now.masks s k)) number.0) }
+{
+    !is_input(signal.kind) && driven.leaves(selected(design, number, &Select::Whole))
+}
+
+/// Adds the finding of a signal where it has one, from the bits that processes may write.
+fn push_undriven(
+    design: &Design,
+    signal: &Signal,
+    number: SigId,
+    driven: &Masks,
+    found: &mut Vec<Finding>,
+) -> Result<(), Memory>
+    requires { (s k : ℕ) → has driven.now.masks s k ≡ is_written (parts design.now) s k }
+    ensures { OnOk result (Gets (IsUndriven (parts design.now)) undriven_at
+        ((number.0, signal.now) ∷ []) found.old.items found.new.items) }
+{
+    if !is_undriven(design, signal, number, driven) {
+        return Ok(());
+    }
+    found.push(Finding {
+        rule: Rule::Undriven,
+        signal: Some(number),
+        instance: signal.instance,
+        spot: signal.spot,
+    })?;
+    Ok(())
+}
+
+/// Signals that aren't top inputs and have a bit that no process may write.
+///
+/// Fails where memory runs out.
+pub fn undriven(alloc: Global, design: &Design) -> Result<Vec<Finding>, Memory>
+    ensures { IfOk result (λ found. AreUndriven (parts design.now) found.items) }
+{
+    let driven = driven_bits(alloc, design)?;
+    let mut found = Vec::new(alloc);
+    for number in 0..design.signals.len() {
+        let signal = &design.signals[number];
+        push_undriven(design, signal, SigId(number as u32), &driven, &mut found)?;
+    }
+    Ok(found)
+}

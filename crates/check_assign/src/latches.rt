@@ -1,0 +1,107 @@
+// Variables that hold their values without a clock.
+
+ghost use Rattle.std.specs.Prelude.{ℕ, ◌≡◌, ◌<◌, cond, length, Some, IfOk, OnOk};
+ghost use Rattle.std.specs.List.{slice_get};
+ghost use Rattle.std.specs.Ordering.{nat_cmp};
+ghost use Rattle.std.specs.BTreeMap.{get};
+ghost use Rattle.rtl_flat.specs.Flows.{flow_of};
+ghost use Rattle.rtl_flat.specs.Paths.{is_sure};
+ghost use Rattle.rtl_flat.specs.Process.{Task};
+ghost use Rattle.rtl_rule.specs.Parts.{parts, widths};
+ghost use Rattle.rtl_scan.specs.Sets.{has};
+ghost use Rattle.check_assign.specs.Assigned.{AreLatchInferred, IsLatchInferred, latch_inferred_at};
+ghost use Rattle.check_assign.specs.Kept.{AreTemporaries};
+ghost use Rattle.check_assign.specs.Marks.{any_row, leaves};
+ghost use Rattle.check_found.specs.Gathered.{Gets, signal_numbers, task_sites};
+
+use crate::kinds::is_comb;
+use crate::marks::{Among, Marks};
+use crate::masks::Masks;
+use check_found::sets::{sure, written};
+use rtl_flat::act::ProcId;
+use rtl_flat::design::Design;
+use rtl_rule::finding::Finding;
+use rtl_rule::rule::Rule;
+use rtl_scan::bits::Row;
+use rtl_scan::temporaries;
+use rtl_tree::memory::Memory;
+use rtl_tree::text::Spot;
+use std::alloc::Global;
+
+/// Marks the signals of rows with a bit outside a set.
+fn mark_left(rows: &[Row], sure: &Masks, spot: Spot, marks: &mut Marks) -> Result<(), Memory>
+    ensures { OnOk result ((s : ℕ) → get nat_cmp marks.new.spots s
+        ≡ cond (any_row (leaves sure.now.masks) rows.now s) (Some spot)
+        (get nat_cmp marks.old.spots s)) }
+{
+    for row in rows {
+        if sure.leaves(*row) {
+            marks.put(row.signal, spot)?;
+        }
+    }
+    Ok(())
+}
+
+/// The bits that every path of a process writes.
+fn sure_bits(alloc: Global, design: &Design, p: ProcId) -> Result<Masks, Memory>
+    requires { p.0 < length design.now.processes.items }
+    ensures { let d = parts design.now in
+        IfOk result (λ bits. (task : Task) → slice_get d.tasks p.0 ≡ Some task → (s k : ℕ) →
+        has bits.masks s k ≡ is_sure (flow_of (widths d) task.does) s k) }
+{
+    let sure = sure(alloc, design, p)?;
+    let mut bits = Masks::new(alloc);
+    bits.insert_all(&sure.rows)?;
+    Ok(bits)
+}
+
+fn push_latches(
+    alloc: Global,
+    design: &Design,
+    temporaries: &[bool],
+    p: ProcId,
+    found: &mut Vec<Finding>,
+) -> Result<(), Memory>
+    requires inside { p.0 < length design.now.processes.items }
+    requires temporaries { AreTemporaries (parts design.now) temporaries.now }
+    ensures { let d = parts design.now in
+        OnOk result ((task : Task) → slice_get d.tasks p.0 ≡ Some task →
+        Gets (IsLatchInferred d) latch_inferred_at (task_sites (signal_numbers d) p.0 task)
+        found.old.items found.new.items) }
+{
+    let process = &design.processes[p.0 as usize];
+    if !is_comb(&process.does) {
+        return Ok(());
+    }
+    let written = written(alloc, design, p)?;
+    let sure = sure_bits(alloc, design, p)?;
+    let mut marks = Marks::new(alloc);
+    mark_left(&written.rows, &sure, process.spot, &mut marks)?;
+    marks.push(
+        Rule::LatchInferred,
+        process,
+        Among::Kept(temporaries),
+        found,
+    )
+}
+
+/// Variables with a bit that some path of a body with a level list leaves, and that aren't
+/// temporaries.
+///
+/// Fails where memory runs out.
+pub fn latch_inferred(alloc: Global, design: &Design) -> Result<Vec<Finding>, Memory>
+    ensures { IfOk result (λ found. AreLatchInferred (parts design.now) found.items) }
+{
+    let temporaries = temporaries(alloc, design)?;
+    let mut found = Vec::new(alloc);
+    for number in 0..design.processes.len() {
+        push_latches(
+            alloc,
+            design,
+            &temporaries,
+            ProcId(number as u32),
+            &mut found,
+        )?;
+    }
+    Ok(found)
+}
