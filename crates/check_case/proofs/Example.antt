@@ -1,18 +1,18 @@
 -- The definitions at work on small cases.
-use Rattle.std.proofs.Common.{◌≡◌, refl, ℕ, Bool, true, false, Some, None, List, [], ◌∷◌, map, length}
+use Rattle.std.proofs.Common.{◌≡◌, refl, ℕ, true, false, None, List, [], ◌∷◌, map, length}
 use Rattle.rtl_bits.specs.declared.Bit.{Bit}
 use Rattle.rtl_bits.specs.declared.Bit.TheVariants.{Zero, One, X}
 use Rattle.rtl_flat.specs.declared.act.CaseKind.TheVariants.{Plain}
 use Rattle.rtl_flat.specs.Process.{Action, Branches}
 use Rattle.rtl_tree.specs.declared.text.Spot.{Spot}
 use Rattle.rtl_flat.specs.declared.signal.Kind.{Kind}
-use Rattle.rtl_flat.specs.declared.signal.Kind.TheVariants.{TopInput, Net, Var}
+use Rattle.rtl_flat.specs.declared.signal.Kind.TheVariants.{TopInput, Var}
 use Rattle.rtl_flat.specs.declared.signal.Signal.{Signal}
 use Rattle.rtl_flat.specs.Expression as sized
 use Rattle.rtl_flat.specs.Process.{Piece, Watched, Actions, Doing, Task}
 use Rattle.rtl_flat.specs.Process as part
 use Rattle.rtl_rule.specs.Parts.{Parts, At}
-use Rattle.check_case.specs.Cases.{IsFullCase, IsParallelCase, IsUnknownItem, full_case_at, label_in, Label}
+use Rattle.check_case.specs.Cases.{IsParallelCase, IsUnknownItem, full_case_at, label_in}
 use Rattle.rtl_rule.specs.Parts.{number}
 
 abbrev spot_at : ℕ → Spot

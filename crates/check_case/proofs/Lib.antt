@@ -1,1 +1,4 @@
 mod Example
+pub mod Apart
+pub mod Claimed
+pub mod Firsts

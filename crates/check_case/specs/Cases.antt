@@ -1,6 +1,6 @@
 -- What is wrong with case statements (IEEE 1364.1-2002 sections 5.4 and 6.3, IEEE 1364-2001 section 9.5).
-use Rattle.std.specs.Prelude.{ℕ, ◌≡◌, Bool, true, false, not, ◌&&◌, List, [], ◌∷◌, ◌++◌, map, Option, Some, None}
-use Rattle.std.specs.List.{filter_map, flat_map, list_all, list_any}
+use Rattle.std.specs.Prelude.{ℕ, ◌≡◌, Bool, true, false, not, ◌&&◌, List, [], ◌∷◌, ◌++◌, map, Option}
+use Rattle.std.specs.List.{flat_map, list_all}
 use Rattle.rtl_bits.specs.declared.Bit.{Bit}
 use Rattle.rtl_bits.specs.Bit.{is_unknown}
 use Rattle.rtl_bits.specs.Bits.{all_with, may_equal}
@@ -10,12 +10,12 @@ use Rattle.rtl_flat.specs.declared.act.CaseKind.{CaseKind}
 use Rattle.rtl_flat.specs.declared.act.CaseKind.TheVariants.{Plain, Z, X}
 use Rattle.rtl_flat.specs.Expression.{Tree}
 use Rattle.rtl_flat.specs.Flows.{action_then, complete_by_labels, labels_of, literal}
-use Rattle.rtl_flat.specs.Paths.{BitSet, End, may_write}
-use Rattle.rtl_flat.specs.Process.{Action, Set, If, Case, Block, Actions, Otherwise, Without, With, Branches, NoBranch, Branch, Doing}
+use Rattle.rtl_flat.specs.Paths.{End, may_write}
+use Rattle.rtl_flat.specs.Process.{Action, Set, If, Case, Block, Without, Branches, NoBranch, Branch}
 use Rattle.rtl_rule.specs.declared.finding.Finding.{Finding}
 use Rattle.rtl_rule.specs.declared.rule.Rule.TheVariants.{FullCase, ParallelCase, UnknownItem}
 use Rattle.rtl_rule.specs.Order.{ranked}
-use Rattle.rtl_rule.specs.Parts.{Parts, At, sites, widths, first_of, first_written, found_at, nodes, place_of, statements, is_x, is_literal_with}
+use Rattle.rtl_rule.specs.Parts.{Parts, At, sites, widths, first_of, first_written, found_at, place_of, statements, is_x, is_literal_with}
 use Rattle.rtl_rule.specs.Sites.{AreFindings}
 
 -- each statement of each process
@@ -113,16 +113,9 @@ never_matches Plain b = is_unknown b
 never_matches Z b = is_x b
 never_matches X b = false
 
--- whether a bit of a literal in a label is in doubt: where the label is that literal, it matches no known bit; else it is
--- unknown, since synthesis knows of no bit that matches all in what is worked out of operands
-abbrev pub is_in_doubt : CaseKind → List (List Bit) → Bit → Bool
-is_in_doubt kind [] b = is_unknown b
-is_in_doubt kind (whole ∷ _) b = never_matches kind b
-
--- a label with such a bit in a literal
+-- a label that is one literal with such a bit
 abbrev pub IsUnknownItem : At Label → Type 0
-IsUnknownItem site =
-    list_any (is_literal_with (is_in_doubt site.it.kind (literal site.it.label))) (nodes site.it.label) ≡ true
+IsUnknownItem site = is_literal_with (never_matches site.it.kind) site.it.label ≡ true
 
 abbrev pub unknown_item_at : Parts → At Label → Finding
 unknown_item_at d site =

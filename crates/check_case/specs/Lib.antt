@@ -1,1 +1,4 @@
 pub mod Cases
+pub mod Claims
+pub mod Least
+pub mod Literals

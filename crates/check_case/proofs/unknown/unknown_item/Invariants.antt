@@ -1,0 +1,10 @@
+use Rattle.rtl_rule.specs.Parts.{parts}
+use Rattle.rtl_rule.specs.Sites.{AreFindings}
+use Rattle.check_found.specs.Gathered.{sites_below}
+use Rattle.check_case.specs.Cases.{IsUnknownItem, unknown_item_at}
+use Rattle.check_case.specs.Claims.{kinds_in}
+use Rattle.check_case.proofs.unknown.unknown_item.Given as goal
+
+abbrev pub invariant-loop-number : goal.invariant-loop-number
+invariant-loop-number l =
+    AreFindings IsUnknownItem (unknown_item_at (parts l.design)) (sites_below kinds_in (parts l.design) l.number) l.found.items

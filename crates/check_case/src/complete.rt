@@ -1,0 +1,159 @@
+// Cases that are complete by their labels.
+
+ghost use Rattle.std.specs.Prelude.{ℕ, ◌≡◌, min, map, IfOk};
+ghost use Rattle.std.specs.List.{list_any, list_all};
+ghost use Rattle.rtl_flat.specs.Signs.{width_in};
+ghost use Rattle.rtl_flat.specs.Sizes.{width_of};
+ghost use Rattle.rtl_flat.specs.Expression.{tree, form, read, beside};
+ghost use Rattle.rtl_flat.specs.Flows.{is_wild, cover, covers, complete_by_labels};
+ghost use Rattle.rtl_scan.specs.Bodies.{branches_of};
+
+use crate::labels::{Labels, literal_labels};
+use rtl_bits::{Bit, Vec4};
+use rtl_flat::act::{CaseItem, CaseKind};
+use rtl_flat::expr::{Index, Node, Select, SigId, SizedExpr};
+use rtl_flat::signal::Signal;
+use rtl_tree::memory::Memory;
+use std::alloc::Global;
+
+/// Whether a bit of a label matches any bit.
+fn is_wild_bit(kind: CaseKind, bit: Bit) -> bool
+    ensures { result ≡ is_wild kind bit }
+{
+    match kind {
+        CaseKind::Plain => false,
+        CaseKind::Z => matches!(bit, Bit::Z),
+        CaseKind::X => matches!(bit, Bit::X | Bit::Z),
+    }
+}
+
+/// Whether a label matches anything.
+fn is_wild_label(kind: CaseKind, label: Vec4) -> bool
+    ensures { result ≡ list_all (is_wild kind) label }
+{
+    for at in 0..label.width() {
+        if !is_wild_bit(kind, label.bit(at)) {
+            return false;
+        }
+    }
+    true
+}
+
+fn any_wild(kind: CaseKind, labels: &[Vec4]) -> bool
+    ensures { result ≡ list_any (list_all (is_wild kind)) labels.now }
+{
+    for label in labels {
+        if is_wild_label(kind, *label) {
+            return true;
+        }
+    }
+    false
+}
+
+/// Whether labels match each value of `own` bits, extended to a width.
+fn do_cover(
+    alloc: Global,
+    kind: CaseKind,
+    own: u8,
+    width: u8,
+    signed: bool,
+    labels: &[Vec4],
+) -> Result<bool, Memory>
+    ensures { IfOk result (λ complete. complete ≡ cover kind own width signed labels.now) }
+{
+    if own < 1 || own > width || width > 16 {
+        return Ok(false);
+    }
+    let labels = Labels::sorted(alloc, width, labels)?;
+    Ok(labels.match_all(kind, own, width, signed))
+}
+
+/// The width of a signal, 0 for a number that is no signal's.
+fn signal_width(signals: &[Signal], signal: SigId) -> u8
+    ensures { result ≡ width_in signals.now signal.0 }
+{
+    let place = signal.0 as usize;
+    if place >= signals.len() {
+        return 0;
+    }
+    signals[place].width
+}
+
+/// The width of a form of expression by itself, or 17 where it is more than 16.
+#[tactic(auto, using(rtl_scan::proofs::Parts::concat_parts))]
+fn own_width(signals: &[Signal], node: &Node) -> u8
+    ensures { result ≡ min (width_of (width_in signals.now) (form node.now)) 17 }
+{
+    match node {
+        Node::Literal(bits) => bits.width().min(17),
+        Node::Read(signal, select) => read_width(signals, *signal, select),
+        Node::Turned(_, a) => a.width.min(17),
+        Node::Joined(_, a, _) => a.width.min(17),
+        Node::Compared(_, _, _) => 1,
+        Node::Linked(_, _, _) => 1,
+        Node::Folded(_, _) => 1,
+        Node::Shifted(_, a, _) => a.width.min(17),
+        Node::Chosen(_, a, _) => a.width.min(17),
+        Node::Concat(parts) => parts_width(parts),
+        Node::Repeated(times, a) => (u64::from(*times) * u64::from(a.width)).min(17) as u8,
+        Node::Recast(a) => a.width.min(17),
+    }
+}
+
+fn read_width(signals: &[Signal], signal: SigId, select: &Select) -> u8
+    ensures { result ≡ min (width_of (width_in signals.now) (read signal.0 select.now)) 17 }
+{
+    match select {
+        Select::Whole => signal_width(signals, signal).min(17),
+        Select::Bit { low: _, index } => match index {
+            Index::Fixed(_) => 1,
+            Index::Computed(_) => 1,
+        },
+        Select::Part { low: _, width } => (*width).min(17),
+    }
+}
+
+/// The width of the parts of a concatenation together, or 17 where it is more than 16.
+fn parts_width(parts: &[SizedExpr]) -> u8
+    ensures { (ws : ℕ → ℕ) → result ≡ min (width_of ws (beside (map tree parts.now))) 17 }
+{
+    let mut width = 0;
+    for part in parts {
+        width = (width + part.width.min(17)).min(17);
+    }
+    width
+}
+
+/// Whether labels match every value over which a selector ranges.
+#[tactic(auto, using(rtl_scan::proofs::Covers::cover_capped))]
+fn is_covered(
+    alloc: Global,
+    signals: &[Signal],
+    kind: CaseKind,
+    selector: &SizedExpr,
+    labels: &[Vec4],
+) -> Result<bool, Memory>
+    ensures { IfOk result (λ complete. complete
+        ≡ covers (width_in signals.now) kind (tree selector.now) labels.now) }
+{
+    let own = own_width(signals, &selector.node);
+    do_cover(alloc, kind, own, selector.width, selector.signed, labels)
+}
+
+/// Whether the labels of a case make it complete.
+pub(crate) fn is_complete(
+    alloc: Global,
+    signals: &[Signal],
+    kind: CaseKind,
+    selector: &SizedExpr,
+    items: &[CaseItem],
+) -> Result<bool, Memory>
+    ensures { IfOk result (λ complete. let items = branches_of items.now in
+        complete ≡ complete_by_labels (width_in signals.now) kind (tree selector.now) items) }
+{
+    let labels = literal_labels(alloc, items)?;
+    if any_wild(kind, &labels) {
+        return Ok(true);
+    }
+    is_covered(alloc, signals, kind, selector, &labels)
+}
