@@ -1,1 +1,10 @@
+mod Doubts
 mod Example
+mod Lists
+mod Nodes
+mod Picks
+mod Processes
+mod Regions
+mod Sized
+mod Spreading
+mod Worklist

@@ -1,1 +1,5 @@
+pub mod Doubts
+pub mod Lists
+pub mod Parts
+pub mod Spreading
 pub mod Unknowns

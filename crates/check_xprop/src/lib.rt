@@ -1,2 +1,19 @@
 //! Findings about x, z and what synthesis ignores.
 #![tactic(auto)]
+
+mod all;
+mod choices;
+mod divisors;
+mod doubt;
+mod dropped;
+mod expressions;
+mod places;
+mod selects;
+
+pub use all::check;
+pub use choices::{wild_selector, x_optimism};
+pub use divisors::divide_variable;
+pub use doubt::doubtful;
+pub use dropped::{delay_ignored, initial_ignored, translate_off};
+pub use expressions::{case_equality, unknown_literal};
+pub use selects::select_range;

@@ -1,0 +1,12 @@
+use Rattle.std.proofs.Common.{◌≡◌, ◌+◌, length}
+use Rattle.rtl_rule.specs.Parts.{parts}
+use Rattle.check_xprop.specs.Spreading.{IsSpreading, left}
+use Rattle.check_xprop.proofs.doubt.doubtful.Given as goal
+
+abbrev pub invariant-loop-signal : goal.invariant-loop-signal
+invariant-loop-signal l =
+    IsSpreading (parts l.design) (length l.design.signals.items) l.seen.items l.spread
+    × (length l.seen.items ≡ length l.design.processes.items)
+
+abbrev pub decreases-loop-signal : goal.decreases-loop-signal
+decreases-loop-signal l = left l.spread.marked.items + length l.spread.waiting.items

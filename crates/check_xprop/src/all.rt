@@ -1,0 +1,75 @@
+// All findings about x, z and what synthesis ignores.
+
+ghost use Rattle.std.specs.Prelude.{◌≡◌, IfOk, OnOk};
+ghost use Rattle.rtl_rule.specs.Parts.{parts};
+ghost use Rattle.check_xprop.specs.Parts.{AreOfDropped, AreOfLiterals, AreOfChoices, AreOfOperators};
+ghost use Rattle.check_xprop.specs.Unknowns.{AreUnknownFindings};
+
+use crate::choices::{wild_selector, x_optimism};
+use crate::divisors::divide_variable;
+use crate::dropped::{delay_ignored, initial_ignored, translate_off};
+use crate::expressions::{case_equality, unknown_literal};
+use crate::selects::select_range;
+use check_found::order::ranked;
+use rtl_flat::design::Design;
+use rtl_rule::finding::Finding;
+use rtl_tree::memory::Memory;
+use std::alloc::Global;
+
+/// The findings of literals and selects.
+fn of_literals(alloc: Global, design: &Design) -> Result<Vec<Finding>, Memory>
+    ensures { IfOk result (λ found. AreOfLiterals (parts design.now) found.items) }
+{
+    let mut found = unknown_literal(alloc, design)?;
+    let range = select_range(alloc, design)?;
+    found.extend_from_slice(&range)?;
+    Ok(found)
+}
+
+/// Adds the findings of operators.
+fn push_operators(alloc: Global, design: &Design, found: &mut Vec<Finding>) -> Result<(), Memory>
+    ensures { OnOk result (AreOfOperators (parts design.now) found.old.items found.new.items) }
+{
+    let divide = divide_variable(alloc, design)?;
+    let equality = case_equality(alloc, design)?;
+    found.extend_from_slice(&divide)?;
+    found.extend_from_slice(&equality)?;
+    Ok(())
+}
+
+/// Adds the findings of what synthesis ignores.
+fn push_dropped(alloc: Global, design: &Design, found: &mut Vec<Finding>) -> Result<(), Memory>
+    ensures { OnOk result (AreOfDropped (parts design.now) found.old.items found.new.items) }
+{
+    let delay = delay_ignored(alloc, design)?;
+    let initial = initial_ignored(alloc, design)?;
+    let region = translate_off(alloc, design)?;
+    found.extend_from_slice(&delay)?;
+    found.extend_from_slice(&initial)?;
+    found.extend_from_slice(&region)?;
+    Ok(())
+}
+
+/// Adds the findings of what may be x.
+fn push_choices(alloc: Global, design: &Design, found: &mut Vec<Finding>) -> Result<(), Memory>
+    ensures { OnOk result (AreOfChoices (parts design.now) found.old.items found.new.items) }
+{
+    let optimism = x_optimism(alloc, design)?;
+    let wild = wild_selector(alloc, design)?;
+    found.extend_from_slice(&optimism)?;
+    found.extend_from_slice(&wild)?;
+    Ok(())
+}
+
+/// All findings about x, z and what synthesis ignores, in their order.
+///
+/// Fails where memory runs out.
+pub fn check(alloc: Global, design: &Design) -> Result<Vec<Finding>, Memory>
+    ensures { IfOk result (λ found. AreUnknownFindings (parts design.now) found.items) }
+{
+    let mut found = of_literals(alloc, design)?;
+    push_operators(alloc, design, &mut found)?;
+    push_dropped(alloc, design, &mut found)?;
+    push_choices(alloc, design, &mut found)?;
+    ranked(found)
+}
