@@ -31,7 +31,7 @@ use Rattle.event_settling.specs.Settling.{AlwaysSettles, IsSettling}
 use Rattle.event_settling.proofs.Conditions.{rules_settle}
 use Rattle.event_settling.proofs.Rests.{always_settled}
 
-spot : Spot
+abbrev spot : Spot
 spot = record { file = 0; at = 0 }
 
 abbrev signal : Kind → Signal
@@ -61,10 +61,10 @@ link = Assign (piece 3 ∷ []) (whole 2)
 abbrev task : Doing → Task
 task does = record { does = does; instance = 0; spot = spot }
 
-abbrev design : Flat
+abbrev pub design : Flat
 design = record { signals = signals; tasks = task register ∷ task link ∷ [] }
 
-abbrev level : ℕ → Option ℕ
+abbrev pub level : ℕ → Option ℕ
 level zero = None
 level (suc p) = Some 0
 
@@ -184,7 +184,7 @@ link_is =
 abbrev CanDo : Task → Type 0
 CanDo one = IsProcess signals one.does
 
-lawful : AreLawful design
+pub lawful : AreLawful design
 lawful = lawful_processes design (All-cons CanDo (task register) (task link ∷ []) register_is (All-cons CanDo (task link) [] link_is (All-nil CanDo)))
 
 -- ---- it keeps the rules, so that it settles
@@ -238,7 +238,7 @@ kept =
       clocks = λ p events b e. subst (All IsClock) (edge_is p events b e).0 clocks;
     }
 
-settling : IsSettling design level (InCone design)
+pub settling : IsSettling design level (InCone design)
 settling = rules_settle design lawful level kept
 
 -- no step of it is ever stopped

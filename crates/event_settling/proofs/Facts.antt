@@ -1,19 +1,19 @@
--- What a process writes wakes those that come after it by level.
+-- What a process writes wakes those of higher levels.
 use Rattle.std.proofs.Common.{◌≡◌, ◌∙◌, ◌⊎◌, ◌<◌, ℕ, suc, true, false, List, [], ◌∷◌, length, Option, None, Some, refl, sym, ap, subst, inl, inr, arith}
 use Rattle.std.specs.List.{slice_get}
 use Rattle.std.specs.Option.{IsSomeAnd}
-use Rattle.std.proofs.lemmas.Bool.{cases_eq, or_left}
-use Rattle.std.proofs.lemmas.Option.{slice_get_within}
+use Rattle.std.proofs.lemmas.Bool.{cases_eq, lt-ltb, or_left}
+use Rattle.std.proofs.lemmas.Option.{slice_get_cases, slice_get_within}
 use Rattle.rtl_flat.specs.Expression.{Tree}
 use Rattle.rtl_flat.specs.Flows.{flow_of, may_target, reads, targets}
 use Rattle.rtl_flat.specs.Levels.{HasNoEdge, IsNode, IsArrow, Then, IsLevelIn}
 use Rattle.rtl_flat.specs.Paths.{Step, Read, Write, MayRead, MayWrite, ReadsOutside}
 use Rattle.rtl_flat.specs.PathSets.{IsTemporaryOf, Uses, listed}
 use Rattle.rtl_flat.specs.Process.{Piece, Watched, Actions, Doing, Assign, Comb, Edge', Task}
+use Rattle.event_model.specs.Policies.{is_below}
 use Rattle.event_model.specs.Queue.{Flat, doing_at, doing_of, is_assignment, widths}
 use Rattle.event_runs.proofs.Writers.{to_process}
 use Rattle.event_settling.specs.Settling.{IsSettling}
-use Rattle.event_settling.proofs.Orders.{Before, before_at, before_last}
 use Rattle.event_settling.proofs.Waking.{attends}
 
 -- ---- from a process to its task and back
@@ -41,6 +41,13 @@ inside d p does e =
     let it = some_task (slice_get d.tasks p) does e in
     slice_get_within d.tasks p it.0 it.1
 
+pub some_doing : (d : Flat) (q : ℕ) → q < length d.tasks → (does : Doing) × (doing_at d q ≡ Some does)
+some_doing d q inside =
+    elim (slice_get_cases d.tasks q).1 [
+      | inl found ↦ (found.0.does, ap doing_of found.2)
+      | inr past ↦ absurd (omega (arith, inside, past.0))
+    ]
+
 -- ---- what an assignment reads and writes
 
 pub assign_reads : (ws : ℕ → ℕ) (target : List Piece) (e : Tree) (i k : ℕ) → reads ws e i k ≡ true → ReadsOutside (flow_of ws (Assign target e)) i k
@@ -66,6 +73,13 @@ assign_may_read ws target e i k is =
 
 -- ---- levels
 
+below_at : (o o' : Option ℕ) (a b : ℕ) → o ≡ Some a → o' ≡ Some b → a < b → is_below o o' ≡ true
+below_at o o' a b e f less =
+    ap (λ x. is_below x o') e ∙ ap (is_below (Some a)) f ∙ lt-ltb a b less
+
+below_last : (o o' : Option ℕ) (a : ℕ) → o ≡ Some a → o' ≡ None → is_below o o' ≡ true
+below_last o o' a e f = ap (λ x. is_below x o') e ∙ ap (is_below (Some a)) f
+
 module _ (d : Flat) (level : ℕ → Option ℕ) (cone : ℕ → Type 0) (h : IsSettling d level cone) where
   abbrev Arrow : ℕ → ℕ → Type 0
   Arrow = IsArrow d.signals d.tasks
@@ -87,22 +101,26 @@ module _ (d : Flat) (level : ℕ → Option ℕ) (cone : ℕ → Type 0) (h : Is
   no_level p events body e =
       (h.levels p (inside d p (Edge' events body) e)).of_edge (λ at. of_task HasNoEdge (slice_get d.tasks p) (Edge' events body) e at)
 
-  -- an arrow leads to a process that comes after
-  arrow_before :
+  -- q has a higher level than p
+  abbrev pub IsAbove : ℕ → ℕ → Type 0
+  IsAbove p q = is_below (level p) (level q) ≡ true
+
+  -- an arrow leads to a higher level
+  arrow_above :
       (p q : ℕ) (one other : Doing) → doing_at d p ≡ Some one → HasNoEdge one → doing_at d q ≡ Some other → HasNoEdge other → Arrow p q →
-      Before level p q
-  arrow_before p q one other e none f none' arrow =
+      IsAbove p q
+  arrow_above p q one other e none f none' arrow =
       let a = has_level p one e none in
       let b = has_level q other f none' in
       let less = b.2.1.most (suc a.0) a.2.1.start (Then a.0 a.2.1.start p q a.2.1.chain arrow) in
-      before_at level p q a.0 b.0 a.1 b.1 (omega (arith, less))
+      below_at (level p) (level q) a.0 b.0 a.1 b.1 (omega (arith, less))
 
-  -- who listens to a bit that a process without an edge writes comes after it, unless it is a block that wakes itself
-  pub listener_after :
+  -- who listens to a bit that a process without an edge writes is above it, unless it is a block that wakes itself
+  pub listener_above :
       (p q : ℕ) (one other : Doing) → doing_at d p ≡ Some one → HasNoEdge one → doing_at d q ≡ Some other → (i k : ℕ) →
-      MayWrite (flow_of (widths d) one) i k → attends (widths d) other i k ≡ true → ((is_assignment (Some other) ≡ false) × (q ≡ p)) ⊎ Before level p q
-  listener_after p q one (Assign target value) e none f i k written is =
-      inr (arrow_before p q one (Assign target value) e none f tt (record {
+      MayWrite (flow_of (widths d) one) i k → attends (widths d) other i k ≡ true → ((is_assignment (Some other) ≡ false) × (q ≡ p)) ⊎ IsAbove p q
+  listener_above p q one (Assign target value) e none f i k written is =
+      inr (arrow_above p q one (Assign target value) e none f tt (record {
         «from» = node p one e none;
         to = node q (Assign target value) f tt;
         signal = i;
@@ -110,11 +128,11 @@ module _ (d : Flat) (level : ℕ → Option ℕ) (cone : ℕ → Type 0) (h : Is
         written = to_process MayWrite d p i k one e written;
         wanted = inl (to_process ReadsOutside d q i k (Assign target value) f (assign_reads (widths d) target value i k is));
       }))
-  listener_after p q one (Comb list body) e none f i k written is =
+  listener_above p q one (Comb list body) e none f i k written is =
       elim (cases_eq q p) [
         | inl same ↦ inl (refl, same)
         | inr other ↦
-            inr (arrow_before p q one (Comb list body) e none f tt (record {
+            inr (arrow_above p q one (Comb list body) e none f tt (record {
               «from» = node p one e none;
               to = node q (Comb list body) f tt;
               signal = i;
@@ -123,9 +141,9 @@ module _ (d : Flat) (level : ℕ → Option ℕ) (cone : ℕ → Type 0) (h : Is
               wanted = inr ((λ s. other (sym s)), at_task d q (Comb list body) f (λ task. listed (widths d) task.does i k ≡ true) (λ task same. ap (λ (x : Doing). listed (widths d) x i k) same ∙ is));
             }))
       ]
-  listener_after p q one (Edge' events body) e none f i k written is =
+  listener_above p q one (Edge' events body) e none f i k written is =
       let a = has_level p one e none in
-      inr (before_last level p q a.0 a.1 (no_level q events body f))
+      inr (below_last (level p) (level q) a.0 a.1 (no_level q events body f))
 
   -- who listens to a temporary is the process whose it is
   uses : (other : Doing) (i k : ℕ) → attends (widths d) other i k ≡ true → (task : Task) → task.does ≡ other → Uses (widths d) task i

@@ -176,7 +176,7 @@ module _ (d : Flat) (lawful : AreLawful d) (level : ℕ → Option ℕ) (cone : 
         most = at.most;
       }
 
-  orderly_active : (t : State) → IsOrderly d t → IsOrderly d (after d t Activate)
+  pub orderly_active : (t : State) → IsOrderly d t → IsOrderly d (after d t Activate)
   orderly_active t orderly =
       let steady = orderly.steady in
       record {

@@ -1,13 +1,14 @@
 mod Budget
-mod Conditions
-mod Example
-mod Facts
-mod Going
+pub mod Conditions
+pub mod Example
+pub mod Facts
+pub mod Going
+pub mod Hears
 mod Inner
 mod Orders
-mod Quiet
+pub mod Quiet
 mod Rests
 mod Selecting
-mod Totals
+pub mod Totals
 mod Waking
 mod Wave

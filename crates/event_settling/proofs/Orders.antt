@@ -42,26 +42,16 @@ before_then level p q r h k =
 pub not_before : (level : ℕ → Option ℕ) (p : ℕ) → Before level p p → ⊥
 not_before level p h = lex_not (last (level p)) (number (level p)) p h.lex
 
-pub before_at : (level : ℕ → Option ℕ) (p q a b : ℕ) → level p ≡ Some a → level q ≡ Some b → a < b → Before level p q
-before_at level p q a b e f less =
-    let l = ap last e in
-    let m = ap last f in
-    let n = ap number e in
-    let o = ap number f in
-    record { lex = inr (omega (arith, l, m), inl (omega (arith, n, o, less))) }
-
-pub before_last : (level : ℕ → Option ℕ) (p q a : ℕ) → level p ≡ Some a → level q ≡ None → Before level p q
-before_last level p q a e f =
-    let l = ap last e in
-    let m = ap last f in
-    record { lex = inl (omega (arith, l, m)) }
-
 -- ---- the lowest of some
 
 below_lex : (a b : Option ℕ) (p q : ℕ) → is_below a b ≡ true → Lex (last a) (number a) p (last b) (number b) q
 below_lex (Some a) (Some b) p q h = let less = ltb-true a b h in inr (refl, inl less)
 below_lex (Some a) None p q h = inl (omega arith)
 below_lex None b p q h = absurd (false≢true h)
+
+-- a process of a higher level comes after
+pub before_above : (level : ℕ → Option ℕ) (p q : ℕ) → is_below (level p) (level q) ≡ true → Before level p q
+before_above level p q above = record { lex = below_lex (level p) (level q) p q above }
 
 above_lex : (a b : Option ℕ) (p q : ℕ) → is_below b a ≡ false → p < q → Lex (last a) (number a) p (last b) (number b) q
 above_lex (Some a) (Some b) p q h less =

@@ -130,7 +130,7 @@ module _ (d : Flat) (lawful : AreLawful d) (level : ℕ → Option ℕ) (cone : 
       by_event false = none
 
   -- no body that may run makes an update
-  made_none : (p : ℕ) (does : Option Doing) → doing_at d p ≡ does → s.woken p ≡ true → laters (run_made d s.value does) ≡ []
+  pub made_none : (p : ℕ) (does : Option Doing) → doing_at d p ≡ does → s.woken p ≡ true → laters (run_made d s.value does) ≡ []
   made_none p None e woken = refl
   made_none p (Some (Assign target value)) e woken = refl
   made_none p (Some (Comb list body)) e woken = none_in (widths d) body (h.blocking p list body e) s.value

@@ -1,24 +1,17 @@
 -- By level processes are taken in their order, up to the activation of nonblocking updates and again behind it.
-use Rattle.std.proofs.Common.{◌≡◌, ◌∙◌, ◌⊎◌, ◌==◌, ◌<◌, ℕ, Bool, true, false, ◌||◌, if◌then◌else◌, IsSome, is_some, List, [], length, Option, None, Some, refl, sym, ap, subst, inl, inr, arith}
+use Rattle.std.proofs.Common.{◌≡◌, ◌∙◌, ◌⊎◌, ◌==◌, ◌<◌, ℕ, Bool, true, false, ◌||◌, if◌then◌else◌, IsSome, is_some, List, [], length, Option, None, Some, refl, sym, ap, subst, inl, inr}
 use Rattle.std.specs.Prelude.{IsTrue}
 use Rattle.std.proofs.lemmas.Bool.{eqb-true, eq-eqb, false≢true, or_cases, or_right, true≢false}
-use Rattle.std.proofs.lemmas.Option.{slice_get_cases}
 use Rattle.rtl_bits.specs.declared.Bit.{Bit}
-use Rattle.rtl_flat.specs.Flows.{flow_of}
-use Rattle.rtl_flat.specs.Paths.{MayWrite, MayWriteNow}
-use Rattle.rtl_flat.specs.Process.{Doing, Assign, Comb, Edge'}
-use Rattle.event_model.specs.Queue.{Flat, State, Event, Input, Evaluate, Update, Run, Delayed, Activate, IsThere, after, doing_at, doing_of, drive_now, is_assignment, is_input, widths}
+use Rattle.event_model.specs.Queue.{Flat, State, Event, Input, Evaluate, Update, Run, Delayed, Activate, IsThere, after, doing_at, drive_now, is_assignment, is_input}
 use Rattle.event_laws.specs.Steady.{AreLawful}
 use Rattle.event_runs.specs.Effects.{evaluates, event_writes, heard, runs, updates, IsEffect}
 use Rattle.event_runs.specs.Writers.{IsOrderly}
-use Rattle.event_runs.proofs.May.{now_may}
-use Rattle.event_runs.proofs.Writers.{event_over, event_within, of_process}
 use Rattle.event_settling.specs.Settling.{IsSettling}
 use Rattle.event_runs.proofs.Effects.{effect}
-use Rattle.event_settling.proofs.Facts.{listener_after, temporary_own}
-use Rattle.event_settling.proofs.Orders.{Before, IsChosen, IsLeast, before_then}
+use Rattle.event_settling.proofs.Hears.{hears_run, hears_update}
+use Rattle.event_settling.proofs.Orders.{Before, IsChosen, IsLeast, before_above, before_then}
 use Rattle.event_settling.proofs.Quiet.{some_none}
-use Rattle.event_settling.proofs.Waking.{attends, reached}
 
 -- which processes have been taken in a wave: each woken one comes after them; a pending value is that of the last; and once
 -- one has been taken, no input and no update is left
@@ -32,13 +25,6 @@ pub record IsWave (d : Flat) (level : ℕ → Option ℕ) (s : State) (done : �
 -- an event takes a process
 abbrev pub done_by : (ℕ → Bool) → Event → ℕ → Bool
 done_by done event q = done q || (evaluates event q || runs event q)
-
-pub some_doing : (d : Flat) (q : ℕ) → q < length d.tasks → (does : Doing) × (doing_at d q ≡ Some does)
-some_doing d q inside =
-    elim (slice_get_cases d.tasks q).1 [
-      | inl found ↦ (found.0.does, ap doing_of found.2)
-      | inr past ↦ absurd (omega (arith, inside, past.0))
-    ]
 
 -- a test that is passed by one number alone
 pub only_it : (q p : ℕ) → (q == p) ≡ true → q ≡ p
@@ -58,52 +44,15 @@ woken_from true woken hears h = absurd (false≢true h)
 woken_from false woken hears h = (refl, or_cases woken hears h)
 
 module _ (d : Flat) (lawful : AreLawful d) (level : ℕ → Option ℕ) (cone : ℕ → Type 0) (h : IsSettling d level cone) (s : State) (orderly : IsOrderly d s) where
-  -- who hears an update of a driver comes after it
-  hears_update :
-      (p q : ℕ) → IsThere d s (Update p) → q < length d.tasks → heard d s.value (event_writes d s (Update p)) (doing_at d q) ≡ true →
-      Before level p q
-  hears_update p q there inside hears =
-      let it = some_doing d q inside in
-      let at = reached d s.value (event_writes d s (Update p)) it.0 orderly.steady.widths (event_within d lawful s orderly (Update p) there) (sym (ap (heard d s.value (event_writes d s (Update p))) it.1) ∙ hears) in
-      let may = event_over d lawful s orderly (Update p) at.signal at.bit at.over in
-      let one = of_process MayWrite d p at.signal at.bit may in
-      by_kind one.0 one.1 (ap is_assignment (sym one.1) ∙ there.0) it.0 it.1 at.signal at.bit one.2 at.attended
-    where
-      by_kind :
-          (one : Doing) → doing_at d p ≡ Some one → is_assignment (Some one) ≡ true → (other : Doing) → doing_at d q ≡ Some other → (i k : ℕ) →
-          MayWrite (flow_of (widths d) one) i k → attends (widths d) other i k ≡ true → Before level p q
-      by_kind (Comb list body) e is other f i k may attended = absurd (false≢true is)
-      by_kind (Edge' events body) e is other f i k may attended = absurd (false≢true is)
-      by_kind (Assign target value) e is other f i k may attended =
-          elim (listener_after d level cone h p q (Assign target value) other e tt f i k may attended) [
-            | inl own ↦ absurd (true≢false (sym is ∙ ap is_assignment (sym e) ∙ ap (λ j. is_assignment (doing_at d j)) (sym own.1) ∙ ap is_assignment f ∙ own.0))
-            | inr after ↦ after
-          ]
-
   -- who hears a body comes after it, or is that block
-  hears_run :
+  after_run :
       (p q : ℕ) → IsThere d s (Run p) → q < length d.tasks → heard d s.value (event_writes d s (Run p)) (doing_at d q) ≡ true →
       (q ≡ p) ⊎ Before level p q
-  hears_run p q there inside hears =
-      let it = some_doing d q inside in
-      let at = reached d s.value (event_writes d s (Run p)) it.0 orderly.steady.widths (event_within d lawful s orderly (Run p) there) (sym (ap (heard d s.value (event_writes d s (Run p))) it.1) ∙ hears) in
-      let may = event_over d lawful s orderly (Run p) at.signal at.bit at.over in
-      let one = of_process MayWriteNow d p at.signal at.bit may in
-      by_kind one.0 one.1 it.0 it.1 at.signal at.bit one.2 at.attended
-    where
-      either : (other : Doing) → ((is_assignment (Some other) ≡ false) × (q ≡ p)) ⊎ Before level p q → (q ≡ p) ⊎ Before level p q
-      either other (inl own) = inl own.1
-      either other (inr after) = inr after
-
-      by_kind :
-          (one : Doing) → doing_at d p ≡ Some one → (other : Doing) → doing_at d q ≡ Some other → (i k : ℕ) →
-          MayWriteNow (flow_of (widths d) one) i k → attends (widths d) other i k ≡ true → (q ≡ p) ⊎ Before level p q
-      by_kind (Assign target value) e other f i k may attended =
-          either other (listener_after d level cone h p q (Assign target value) other e tt f i k (now_may (flow_of (widths d) (Assign target value)) i k may) attended)
-      by_kind (Comb list body) e other f i k may attended =
-          either other (listener_after d level cone h p q (Comb list body) other e tt f i k (now_may (flow_of (widths d) (Comb list body)) i k may) attended)
-      by_kind (Edge' events body) e other f i k may attended =
-          inl (temporary_own d level cone h p q other f i k (h.temporaries p events body e i k may) attended)
+  after_run p q there inside hears =
+      elim (hears_run d level cone h lawful s orderly p q there inside hears) [
+        | inl same ↦ inl same
+        | inr above ↦ inr (before_above level p q above)
+      ]
 
   -- ---- each event keeps a wave
 
@@ -154,7 +103,7 @@ module _ (d : Flat) (lawful : AreLawful d) (level : ℕ → Option ℕ) (cone : 
             elim (woken_from false (s.woken q) (heard d s.value (event_writes d s (Update p)) (doing_at d q)) (sym (e.woken q) ∙ woken)).1 [
               | inl before ↦ w.after r q (taken r is) inside before
               | inr hears ↦
-                  let after = hears_update p q there inside hears in
+                  let after = before_above level p q (hears_update d level cone h lawful s orderly p q there inside hears) in
                   elim (w.last p r there.0 there.1 (taken r is)) [
                     | inl same ↦ subst (λ (j : ℕ). Before level j q) (sym same) after
                     | inr first ↦ before_then level r p q first after
@@ -260,7 +209,7 @@ module _ (d : Flat) (lawful : AreLawful d) (level : ℕ → Option ℕ) (cone : 
       (p : ℕ) (done : ℕ → Bool) → IsThere d s (Run p) → IsLeast level d s p → IsWave d level s done →
       IsWave d level (after d s (Run p)) (done_by done (Run p))
   wave_run p done there least w =
-      wave_taken (Run p) p done there least (λ q. refl) (λ q inside hears. hears_run p q there inside hears)
+      wave_taken (Run p) p done there least (λ q. refl) (λ q inside hears. after_run p q there inside hears)
       (λ q some. inr (ap is_some (sym ((effect d s (Run p) there).pending q)) ∙ some))
       (effect d s (Run p) there).offered (effect d s (Run p) there).activated w
 
