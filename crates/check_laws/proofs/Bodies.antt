@@ -1,8 +1,9 @@
 -- Bodies and continuous assignments whose expressions and cases have no findings.
-use Rattle.std.proofs.Common.{◌≡◌, ℕ, false, List, [], ◌∷◌, Some, ap, subst}
-use Rattle.std.specs.List.{All, flat_map, slice_get}
+use Rattle.std.proofs.Common.{◌≡◌, ◌∙◌, ℕ, true, false, not, List, [], ◌∷◌, Some, refl, ap, subst}
+use Rattle.std.specs.List.{All, filter, flat_map, slice_get}
+use Rattle.std.proofs.lemmas.Bool.{not_from_false}
 use Rattle.std.proofs.lemmas.List.Elements.{All-cons, All-nil}
-use Rattle.rtl_flat.specs.Expression.{Tree}
+use Rattle.rtl_flat.specs.Expression.{Tree, Sized, Literal, Whole, BitAt, BitBy, Part, Turned, Joined, Compared, Linked, Folded, Shifted, Chosen, Empty, Beside, Repeated, Recast}
 use Rattle.rtl_flat.specs.Flows.{labels_of}
 use Rattle.rtl_flat.specs.Process.{Selection, Piece, Watched, Action, Set, If, Case, Block, Actions, Branches, NoBranch, Branch, Doing, Assign, Comb, Edge', Task}
 use Rattle.rtl_flat.specs.Process as part
@@ -14,13 +15,13 @@ use Rattle.net_laws.specs.Rules.{EachOf, EachPart, DividesByPower, HasNone, IsCl
 use Rattle.net_laws.proofs.Apart as apart
 use Rattle.net_laws.proofs.Firm as firm
 use Rattle.rtl_bits.specs.declared.Bit.TheVariants.{X, Z}
-use Rattle.rtl_rule.specs.Parts.{Parts, all_of, index_of, indices, items_of, labels, own_labels, own_trees, trees}
+use Rattle.rtl_rule.specs.Parts.{Parts, all_of, index_of, indices, is_one_literal, items_of, labels, own_labels, own_trees, trees, valued_trees}
 use Rattle.check_laws.specs.Cases.{Does, IsBodyOf}
 use Rattle.check_laws.specs.Designs.{flat_of}
-use Rattle.check_laws.specs.Expressions.{AreMarked, ExclusiveBodies, FirmAssigns, HasNoDoubt, IsKnownLabel, TameBodies}
+use Rattle.check_laws.specs.Expressions.{AreMarked, ExclusiveBodies, FirmAssigns, HasNoDoubt, TameBodies}
 use Rattle.check_laws.proofs.Cases.{full_case, parallel_case}
-use Rattle.check_laws.proofs.Expressions.{divide_variable, select_range, tristate, unknown_item, unknown_literal}
-use Rattle.check_laws.proofs.Sites.{Each, each_all, each_both, each_flat, each_from, each_left, each_right, task_of}
+use Rattle.check_laws.proofs.Expressions.{divide_variable, select_range, tristate, unknown_literal}
+use Rattle.check_laws.proofs.Sites.{Each, each_all, each_both, each_flat, each_from, each_left, each_passing, each_right, task_of}
 use Rattle.check_laws.proofs.Statements.{each_of}
 
 -- ---- from lists of expressions to statements
@@ -68,29 +69,79 @@ module _ (C : Tree → Type 0) where
 
 -- ---- clear expressions
 
+-- both words for a label that is one literal are the same
+one_literal : (e : Tree) → is_one_literal e ≡ is_literal e
+one_literal (Sized width signed spot (Literal bits)) = refl
+one_literal (Sized width signed spot (Sized w s at e)) = refl
+one_literal (Sized width signed spot (Whole i)) = refl
+one_literal (Sized width signed spot (BitAt i low index)) = refl
+one_literal (Sized width signed spot (BitBy i low s index)) = refl
+one_literal (Sized width signed spot (Part i low w)) = refl
+one_literal (Sized width signed spot (Turned o a)) = refl
+one_literal (Sized width signed spot (Joined o s a b)) = refl
+one_literal (Sized width signed spot (Compared o s a b)) = refl
+one_literal (Sized width signed spot (Linked o a b)) = refl
+one_literal (Sized width signed spot (Folded o a)) = refl
+one_literal (Sized width signed spot (Shifted o s a b)) = refl
+one_literal (Sized width signed spot (Chosen c a b)) = refl
+one_literal (Sized width signed spot Empty) = refl
+one_literal (Sized width signed spot (Beside a b)) = refl
+one_literal (Sized width signed spot (Repeated n a)) = refl
+one_literal (Sized width signed spot (Recast a)) = refl
+one_literal (Literal bits) = refl
+one_literal (Whole i) = refl
+one_literal (BitAt i low index) = refl
+one_literal (BitBy i low s index) = refl
+one_literal (Part i low w) = refl
+one_literal (Turned o a) = refl
+one_literal (Joined o s a b) = refl
+one_literal (Compared o s a b) = refl
+one_literal (Linked o a b) = refl
+one_literal (Folded o a) = refl
+one_literal (Shifted o s a b) = refl
+one_literal (Chosen c a b) = refl
+one_literal Empty = refl
+one_literal (Beside a b) = refl
+one_literal (Repeated n a) = refl
+one_literal (Recast a) = refl
+
 module _ (d : Parts) (marked : AreMarked d) (none : HasNoDoubt d) (p : ℕ) (task : Task) (there : slice_get d.tasks p ≡ Some task) where
   abbrev IsClearHere : Tree → Type 0
   IsClearHere = IsClear (flat_of d)
 
+  abbrev IsKnown : Tree → Type 0
+  IsKnown e = EachPart (HasNone X) e × EachPart (HasNone Z) e
+
+  abbrev IsInside : Tree → Type 0
+  IsInside e = EachPart (SelectsInside (flat_of d)) e × EachPart DividesByPower e
+
+  known : Each IsKnown (valued_trees task.does)
+  known =
+      let es = valued_trees task.does in
+      each_both (EachPart (HasNone X)) (EachPart (HasNone Z)) IsKnown (λ e a b. (a, b)) es
+      (each_from (EachPart (HasNone X)) es (unknown_literal d marked none.x1 p task there))
+      (each_from (EachPart (HasNone Z)) es (tristate d marked none.z1 p task there))
+
+  inside_in : (es : List Tree) → All (EachPart (SelectsInside (flat_of d))) es → All (EachPart DividesByPower) es → Each IsInside es
+  inside_in es x2 x3 =
+      each_both (EachPart (SelectsInside (flat_of d))) (EachPart DividesByPower) IsInside (λ e a b. (a, b)) es
+      (each_from (EachPart (SelectsInside (flat_of d))) es x2) (each_from (EachPart DividesByPower) es x3)
+
   clear_trees : Each IsClearHere (trees task.does)
   clear_trees =
       let es = trees task.does in
-      let x = each_from (EachPart (HasNone X)) es (unknown_literal d marked none.x1 p task there) in
-      let z = each_from (EachPart (HasNone Z)) es (tristate d marked none.z1 p task there) in
-      let inside = each_from (EachPart (SelectsInside (flat_of d))) es (select_range d marked none.x2 p task there).0 in
-      let divide = each_from (EachPart DividesByPower) es (divide_variable d marked none.x3 p task there).0 in
-      let known = each_both (EachPart (HasNone X)) (EachPart (HasNone Z)) (λ e. EachPart (HasNone X) e × EachPart (HasNone Z) e) (λ e a b. (a, b)) es x z in
-      let firm = each_both (EachPart (SelectsInside (flat_of d))) (EachPart DividesByPower) (λ e. EachPart (SelectsInside (flat_of d)) e × EachPart DividesByPower e) (λ e a b. (a, b)) es inside divide in
-      each_both (λ e. EachPart (HasNone X) e × EachPart (HasNone Z) e) (λ e. EachPart (SelectsInside (flat_of d)) e × EachPart DividesByPower e) IsClearHere (λ e a b. record { x1 = a.0; z1 = a.1; x2 = b.0; x3 = b.1 }) es known firm
+      each_both IsKnown IsInside IsClearHere (λ e a b. record { x1 = a.0; z1 = a.1; x2 = b.0; x3 = b.1 }) es
+      (each_left IsKnown es (filter (λ label. not (is_one_literal label)) (labels task.does)) known)
+      (inside_in es (select_range d marked none.x2 p task there).0 (divide_variable d marked none.x3 p task there).0)
 
   clear_labels : Each (OfLabel IsClearHere) (labels task.does)
   clear_labels =
       let es = labels task.does in
-      let known = each_from IsKnownLabel es (unknown_item d marked none.c3 p task there) in
-      let inside = each_from (EachPart (SelectsInside (flat_of d))) es (select_range d marked none.x2 p task there).1 in
-      let divide = each_from (EachPart DividesByPower) es (divide_variable d marked none.x3 p task there).1 in
-      let firm = each_both (EachPart (SelectsInside (flat_of d))) (EachPart DividesByPower) (λ e. EachPart (SelectsInside (flat_of d)) e × EachPart DividesByPower e) (λ e a b. (a, b)) es inside divide in
-      each_both IsKnownLabel (λ e. EachPart (SelectsInside (flat_of d)) e × EachPart DividesByPower e) (OfLabel IsClearHere) (λ e a b. λ free. record { x1 = (a free).0; z1 = (a free).1; x2 = b.0; x3 = b.1 }) es known firm
+      let free = λ (label : Tree). not (is_one_literal label) in
+      each_both (λ e. free e ≡ true → IsKnown e) IsInside (OfLabel IsClearHere)
+      (λ e a b. λ is. let k = a (not_from_false _ (one_literal e ∙ is)) in record { x1 = k.0; z1 = k.1; x2 = b.0; x3 = b.1 }) es
+      (each_passing IsKnown free es (each_right IsKnown (trees task.does) (filter free es) known))
+      (inside_in es (select_range d marked none.x2 p task there).1 (divide_variable d marked none.x3 p task there).1)
 
 -- the body of a lawful process
 pub lawful_body : (d : Parts) → AreLawful (flat_of d) → (p : ℕ) (body : Actions) → IsBodyOf d p body → IsBody d.signals body

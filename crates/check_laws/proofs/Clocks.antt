@@ -15,8 +15,8 @@ use Rattle.event_model.specs.Queue.{is_input, is_input_kind, is_input_of}
 use Rattle.net_model.specs.Control.{IsFromTop, IsPassedOn, IsReached, ReadsAlone}
 use Rattle.net_model.specs.Control as control
 use Rattle.rtl_rule.specs.Parts.{Parts, At, items_of, widths, within}
-use Rattle.net_model.specs.Cycle.{Chain}
-use Rattle.check_assign.specs.Clocks.{IsAsyncPair, async_pair_at, chain_of, has_chain, ComesFrom, GoesTo, Itself, Through, IsDerivedClock, IsPlainConnection, IsTwice, derived_clock_at, events_of}
+use Rattle.check_chains.specs.Chains.{IsAsyncPair, async_pair_at, has_chain}
+use Rattle.check_clocks.specs.Clocks.{ComesFrom, GoesTo, Itself, Through, IsDerivedClock, IsPlainConnection, IsTwice, derived_clock_at, events_of}
 use Rattle.check_laws.specs.Clocks.{AsyncPair, AreSourcesDecided, DerivedClock, DerivedClockOnce}
 use Rattle.check_laws.specs.Designs.{flat_of}
 use Rattle.check_laws.proofs.Sites.{Each, each_all, process_refuted, refuted_in, task_of}
@@ -24,7 +24,7 @@ use Rattle.check_laws.proofs.Sites.{Each, each_all, process_refuted, refuted_in,
 -- ---- what comes from a top input is reached from it
 
 -- a signal of one bit is all that its plain name reads
-reads_alone : (ws : ℕ → ℕ) (signed : Bool) (spot : Spot) (i : ℕ) → ws i ≡ 1 → ReadsAlone ws (Sized 1 signed spot (tree.Whole i)) i
+pub reads_alone : (ws : ℕ → ℕ) (signed : Bool) (spot : Spot) (i : ℕ) → ws i ≡ 1 → ReadsAlone ws (Sized 1 signed spot (tree.Whole i)) i
 reads_alone ws signed spot i one =
     record {
       bit = 0;
@@ -49,14 +49,14 @@ module _ (d : Parts) where
   reached top s (Through i j p task goes there plain) =
       control.Through i j (reached top i goes) (passed task i j p there plain)
 
-  is_top_input : (top : ℕ) → Has (λ signal. signal.kind ≡ TopInput) d.signals top → IsTrue (is_input (flat_of d) top)
+  pub is_top_input : (top : ℕ) → Has (λ signal. signal.kind ≡ TopInput) d.signals top → IsTrue (is_input (flat_of d) top)
   is_top_input top h = by_signal (slice_get d.signals top) h
     where
       by_signal : (o : Option Signal) → IsSomeAnd o (λ signal. signal.kind ≡ TopInput) → is_input_of o ≡ true
       by_signal None none = absurd none
       by_signal (Some signal) is = ap is_input_kind is
 
-  from_top : (top s : ℕ) → ComesFrom d top s → IsFromTop (flat_of d) s
+  pub from_top : (top s : ℕ) → ComesFrom d top s → IsFromTop (flat_of d) s
   from_top top s comes =
       record { top = top; input = is_top_input top comes.input; reached = reached top s comes.goes }
 
@@ -79,7 +79,7 @@ derived_clock d decides none p events body is =
     let own = subst (λ does. Each (λ item. IsDerivedClock d (within (p, at.task) item) → ⊥) (events_of does)) at.is all in
     each_all (λ item. IsFromTop (flat_of d) item.signal) events (each_from_top d decides (within (p, at.task)) (λ item. refl) events own)
 
-each_place : {A : Type 0} (P : A → Type 0) (xs : List A) → Each P xs → (m : ℕ) (x : A) → slice_get xs m ≡ Some x → P x
+pub each_place : {A : Type 0} (P : A → Type 0) (xs : List A) → Each P xs → (m : ℕ) (x : A) → slice_get xs m ≡ Some x → P x
 each_place P [] h m x e = absurd (cc)
 each_place P (y ∷ xs) h zero x e = let same : y ≡ x = cc in subst P same h.0
 each_place P (y ∷ xs) h (suc m) x e = each_place P xs h.1 m x e

@@ -31,10 +31,10 @@ use Rattle.check_laws.proofs.Sites.{any_found, each_numbered, numbered_found, pr
 
 -- ---- S1
 
-comb_body : (d : Parts) → AreLawful (flat_of d) → (p : ℕ) (list : Option (List Watched)) (body : Actions) → IsComb d p list body → IsBody d.signals body
+pub comb_body : (d : Parts) → AreLawful (flat_of d) → (p : ℕ) (list : Option (List Watched)) (body : Actions) → IsComb d p list body → IsBody d.signals body
 comb_body d lawful p list body is = (lawful p (Comb list body) is).1
 
-edge_body : (d : Parts) → AreLawful (flat_of d) → (p : ℕ) (events : List Watched) (body : Actions) → IsEdge d p events body → IsBody d.signals body
+pub edge_body : (d : Parts) → AreLawful (flat_of d) → (p : ℕ) (events : List Watched) (body : Actions) → IsEdge d p events body → IsBody d.signals body
 edge_body d lawful p events body is = (lawful p (Edge' events body) is).2
 
 pub sense_missing : (d : Parts) → SenseMissing d
@@ -72,7 +72,7 @@ late_may flow i k late =
     of_step (Read bits) h = h
     of_step (Write delayed may sure) h = (and_parts delayed (may i k) h).1
 
-now_may : (flow : Flow) (i k : ℕ) → MayWriteNow flow i k → MayWrite flow i k
+pub now_may : (flow : Flow) (i k : ℕ) → MayWriteNow flow i k → MayWrite flow i k
 now_may flow i k at_once =
     record {
       path = at_once.path;
@@ -202,7 +202,7 @@ several_drivers d lawful none p q does other is is' i k writes writes' =
 -- ---- A1
 
 -- a temporary that a process may write is its own
-own_temporary : (d : Parts) (p : ℕ) (task : Task) → slice_get d.tasks p ≡ Some task → (i k : ℕ) → IsTemporary d.signals d.tasks i → MayWrite (flow_of (widths d) task.does) i k → IsTemporaryOf d.signals d.tasks p i
+pub own_temporary : (d : Parts) (p : ℕ) (task : Task) → slice_get d.tasks p ≡ Some task → (i k : ℕ) → IsTemporary d.signals d.tasks i → MayWrite (flow_of (widths d) task.does) i k → IsTemporaryOf d.signals d.tasks p i
 own_temporary d p task there i k temporary may =
     elim (cases_eq p temporary.process) [
       | inl same ↦ subst (λ q. IsTemporaryOf d.signals d.tasks q i) (sym same) temporary.of_process

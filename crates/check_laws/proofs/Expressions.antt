@@ -1,40 +1,35 @@
 -- What expressions without findings are.
-use Rattle.std.proofs.Common.{◌≡◌, ◌∙◌, ◌^◌, ℕ, suc, Bool, true, not, ◌||◌, List, [], ◌∷◌, ◌++◌, Option, None, Some, refl, sym, ap, subst, inl, inr, arith, pow-suc, ◌⊎◌}
+use Rattle.std.proofs.Common.{◌≡◌, ◌∙◌, ◌^◌, ℕ, suc, Bool, true, not, ◌||◌, List, [], ◌∷◌, ◌++◌, Option, None, Some, refl, sym, ap, subst, arith, pow-suc}
 use Rattle.std.specs.Prelude.{ℤ, pos, ◌-ℤ◌, nat_lt}
-use Rattle.std.specs.List.{All, cons_option, filter_map, flat_map, list_all, list_any}
-use Rattle.std.proofs.lemmas.Bool.{and_parts, false≢true, ltb-false, not-true, not_from_false, or_cases, or_left, or_parts, or_right, true_from_ne_false, false_from_ne_true}
+use Rattle.std.specs.List.{All, cons_option, filter, filter_map, flat_map, list_all, list_any, slice_get}
+use Rattle.std.proofs.lemmas.Bool.{and_parts, false≢true, ltb-false, not-true, not_from_false, or_left, or_parts, or_right, true_from_ne_false, false_from_ne_true}
 use Rattle.rtl_bits.specs.declared.Bit.{Bit}
 use Rattle.rtl_bits.specs.declared.Bit.TheVariants.{Zero, One, X, Z}
-use Rattle.rtl_bits.specs.Bit.{is_unknown}
 use Rattle.rtl_bits.specs.Bits.{number, same_bit}
 use Rattle.rtl_tree.specs.declared.text.Spot.{Spot}
-use Rattle.rtl_flat.specs.declared.act.CaseKind.{CaseKind}
 use Rattle.rtl_flat.specs.declared.expr.Join.{Join}
 use Rattle.rtl_flat.specs.declared.expr.Join.TheVariants as join
 use Rattle.rtl_flat.specs.Expression.{Tree, Sized, Literal, Whole, BitAt, BitBy, Part, Turned, Joined, Compared, Linked, Folded, Shifted, Chosen, Empty, Beside, Repeated, Recast}
-use Rattle.rtl_flat.specs.Flows.{is_place, labels_of, literal}
-use Rattle.rtl_flat.specs.Process.{Action, Set, If, Case, Block, Piece, Watched}
+use Rattle.rtl_flat.specs.Flows.{is_place}
+use Rattle.rtl_flat.specs.Process.{Piece, Task, Watched}
 use Rattle.rtl_flat.specs.Signs.{sign_of}
 use Rattle.rtl_flat.specs.Sizes.{width_of}
 use Rattle.rtl_flat.specs.Value.{value}
 use Rattle.body_laws.proofs.Targets.{place_of}
-use Rattle.net_model.specs.Numbers.{is_some_literal}
 use Rattle.net_laws.specs.Rules.{DividesBy, DividesByPower, EachPart, HasNone, IsNoSignal, IsPower, SelectsInside}
 use Rattle.net_laws.specs.Tame.{IsPlace}
-use Rattle.net_laws.proofs.Literals.{form_of}
-use Rattle.rtl_rule.specs.Parts.{Parts, is_literal_with, is_some_name, is_x, is_z, items_of, labels, named, nodes, own_labels, pieces, reads_signal, some_below, statements, trees, widths}
+use Rattle.rtl_rule.specs.Parts.{Parts, is_literal_with, is_one_literal, is_some_name, is_x, is_z, items_of, labels, named, nodes, pieces, reads_signal, some_below, trees, valued_trees, widths}
 use Rattle.check_assign.specs.Assigned.{IsTristate, tristate_at}
-use Rattle.check_case.specs.Cases.{IsUnknownItem, is_in_doubt, label_in, own_kinds, unknown_item_at}
 use Rattle.check_xprop.specs.Unknowns.{IsDivideVariable, IsSelectRange, IsUnknownLiteral, Pick, all_nodes, at_node, divides_by_other, has_one, is_power, is_zero, may_miss, pick_in, pick_of, picks, select_range_at, unknown_literal_at}
 use Rattle.rtl_rule.specs.declared.rule.Rule.TheVariants as rule
 use Rattle.check_laws.specs.Designs.{flat_of}
-use Rattle.check_laws.specs.Expressions.{DivideVariable, IsForm, IsKnownLabel, IsMarked, SelectRange, Tristate, UnknownItem, UnknownLiteral}
-use Rattle.check_laws.proofs.Sites.{Each, each_all, each_both, each_flat, each_from, each_join, each_left, each_map, each_right, process_refuted, refuted_in, some_found}
+use Rattle.check_laws.specs.Expressions.{AreMarked, DivideVariable, IsForm, IsMarked, SelectRange, Tristate, UnknownLiteral}
+use Rattle.check_laws.proofs.Sites.{Each, each_all, each_both, each_flat, each_from, each_join, each_kept, each_left, each_right, process_refuted, refuted_in, some_found}
 use Rattle.check_laws.proofs.Operands.{each_part}
 
 -- ---- lists
 
-each_false : {A : Type 0} (test : A → Bool) (xs : List A) → (list_any test xs ≡ true → ⊥) → Each (λ x. test x ≡ true → ⊥) xs
+pub each_false : {A : Type 0} (test : A → Bool) (xs : List A) → (list_any test xs ≡ true → ⊥) → Each (λ x. test x ≡ true → ⊥) xs
 each_false test [] h = tt
 each_false test (x ∷ xs) h =
     (λ is. h (or_left (test x) (list_any test xs) is), each_false test xs (λ is. h (or_right (test x) (list_any test xs) is)))
@@ -54,7 +49,7 @@ pub each_some : {A B : Type 0} (P : B → Type 0) (f : A → Option B) (xs : Lis
 each_some P f [] h = tt
 each_some P f (x ∷ xs) h = some_first P f x xs (each_some P f xs) (f x) refl h
 
--- ---- X1, Z1 and C3
+-- ---- X1 and Z1
 
 any_same : (f g : Bit → Bool) → ((b : Bit) → f b ≡ g b) → (bits : List Bit) → list_any f bits ≡ list_any g bits
 any_same f g same [] = refl
@@ -107,15 +102,23 @@ x_tells bits is = sym (any_same (same_bit X) is_x x_same bits) ∙ is
 z_tells : (bits : List Bit) → list_any (same_bit Z) bits ≡ true → list_any is_z bits ≡ true
 z_tells bits is = sym (any_same (same_bit Z) is_z z_same bits) ∙ is
 
+-- the expressions of a process that stand for numbers are marked
+valued_marked : (d : Parts) → AreMarked d → (p : ℕ) (task : Task) → slice_get d.tasks p ≡ Some task → Each IsMarked (valued_trees task.does)
+valued_marked d marked p task there =
+    let of_labels = each_from IsMarked (labels task.does) (marked p task there).1 in
+    each_join IsMarked (trees task.does) (filter (λ label. not (is_one_literal label)) (labels task.does))
+    (each_from IsMarked (trees task.does) (marked p task there).0)
+    (each_kept IsMarked (λ label. not (is_one_literal label)) (labels task.does) of_labels)
+
 pub unknown_literal : (d : Parts) → UnknownLiteral d
 unknown_literal d marked none p task there =
-    let es = trees task.does in
-    each_all (EachPart (HasNone X)) es (all_have_none X is_x x_tells es (each_from IsMarked es (marked p task there).0) (each_false (is_literal_with is_x) (flat_map nodes es) (process_refuted IsUnknownLiteral (unknown_literal_at d) d none p task there)))
+    let es = valued_trees task.does in
+    each_all (EachPart (HasNone X)) es (all_have_none X is_x x_tells es (valued_marked d marked p task there) (each_false (is_literal_with is_x) (flat_map nodes es) (process_refuted IsUnknownLiteral (unknown_literal_at d) d none p task there)))
 
 pub tristate : (d : Parts) → Tristate d
 tristate d marked none p task there =
-    let es = trees task.does in
-    each_all (EachPart (HasNone Z)) es (all_have_none Z is_z z_tells es (each_from IsMarked es (marked p task there).0) (each_false (is_literal_with is_z) (flat_map nodes es) (process_refuted IsTristate (tristate_at d) d none p task there)))
+    let es = valued_trees task.does in
+    each_all (EachPart (HasNone Z)) es (all_have_none Z is_z z_tells es (valued_marked d marked p task there) (each_false (is_literal_with is_z) (flat_map nodes es) (process_refuted IsTristate (tristate_at d) d none p task there)))
 
 -- ---- X2
 
@@ -276,58 +279,3 @@ divide_variable d marked none p task there =
       all_divide (trees does) (each_from IsMarked (trees does) (marked p task there).0) (each_left nodes_divide (trees does) (labels does) of_all),
       all_divide (labels does) (each_from IsMarked (labels does) (marked p task there).1) (each_right nodes_divide (trees does) (labels does) of_all),
     )
-
--- ---- C3
-
-any_weaker : (f g : Bit → Bool) → ((b : Bit) → f b ≡ true → g b ≡ true) → (bits : List Bit) → list_any f bits ≡ true → list_any g bits ≡ true
-any_weaker f g weaker [] h = h
-any_weaker f g weaker (b ∷ bits) h =
-    elim (or_cases (f b) (list_any f bits) h) [
-      | inl here ↦ or_left (g b) (list_any g bits) (weaker b here)
-      | inr there ↦ or_right (g b) (list_any g bits) (any_weaker f g weaker bits there)
-    ]
-
-x_unknown : (b : Bit) → same_bit X b ≡ true → is_unknown b ≡ true
-x_unknown Zero h = absurd (false≢true h)
-x_unknown One h = absurd (false≢true h)
-x_unknown X h = refl
-x_unknown Z h = refl
-
-z_unknown : (b : Bit) → same_bit Z b ≡ true → is_unknown b ≡ true
-z_unknown Zero h = absurd (false≢true h)
-z_unknown One h = absurd (false≢true h)
-z_unknown X h = refl
-z_unknown Z h = refl
-
--- a label in which no literal is in doubt
-abbrev IsSettled : CaseKind → Tree → Type 0
-IsSettled kind label = list_any (is_literal_with (is_in_doubt kind (literal label))) (nodes label) ≡ true → ⊥
-
-known_label : (kind : CaseKind) (label : Tree) → IsMarked label → IsSettled kind label → IsKnownLabel label
-known_label kind label marked settled free = by_form (form_of label)
-  where
-    by_form : (literal label ≡ []) ⊎ ((bits : List Bit) × (literal label ≡ bits ∷ [])) → EachPart (HasNone X) label × EachPart (HasNone Z) label
-    by_form (inl e) =
-        let known = each_false (is_literal_with is_unknown) (nodes label) (subst (λ l. list_any (is_literal_with (is_in_doubt kind l)) (nodes label) ≡ true → ⊥) e settled) in (
-          has_none X is_unknown (any_weaker (same_bit X) is_unknown x_unknown) label marked known,
-          has_none Z is_unknown (any_weaker (same_bit Z) is_unknown z_unknown) label marked known,
-        )
-    by_form (inr (bits, e)) = absurd (false≢true (sym free ∙ ap is_some_literal e))
-
-own_known : (one : Action) → Each (λ it. IsSettled it.kind it.label) (own_kinds one) → Each IsMarked (own_labels one) → Each IsKnownLabel (own_labels one)
-own_known (Set target e delayed spot) h marked = tt
-own_known (If test taken other spot) h marked = tt
-own_known (Case kind full parallel selector branches fallback spot) h marked =
-    each_both IsMarked (λ label. IsSettled kind label) IsKnownLabel (known_label kind) (labels_of branches) marked (each_map (λ it. IsSettled it.kind it.label) (label_in kind) (labels_of branches) h)
-own_known (Block body) h marked = tt
-
-all_known : (all : List Action) → Each (λ it. IsSettled it.kind it.label) (flat_map own_kinds all) → Each IsMarked (flat_map own_labels all) → Each IsKnownLabel (flat_map own_labels all)
-all_known [] h marked = tt
-all_known (one ∷ all) h marked =
-    each_join IsKnownLabel (own_labels one) (flat_map own_labels all)
-    (own_known one (each_left (λ it. IsSettled it.kind it.label) (own_kinds one) (flat_map own_kinds all) h) (each_left IsMarked (own_labels one) (flat_map own_labels all) marked))
-    (all_known all (each_right (λ it. IsSettled it.kind it.label) (own_kinds one) (flat_map own_kinds all) h) (each_right IsMarked (own_labels one) (flat_map own_labels all) marked))
-
-pub unknown_item : (d : Parts) → UnknownItem d
-unknown_item d marked none p task there =
-    each_all IsKnownLabel (labels task.does) (all_known (statements task.does) (refuted_in IsUnknownItem (unknown_item_at d) (λ does. flat_map own_kinds (statements does)) d none p task there) (each_from IsMarked (labels task.does) (marked p task there).1))

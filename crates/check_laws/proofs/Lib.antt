@@ -1,11 +1,12 @@
-mod Sites
-mod Designs
-mod Statements
-mod Cases
-mod Operands
-mod Expressions
-mod Temporaries
-mod Clocks
-mod Stored
-mod Bodies
-mod Targets
+pub mod Sites
+pub mod Decisions
+pub mod Designs
+pub mod Statements
+pub mod Cases
+pub mod Operands
+pub mod Expressions
+pub mod Temporaries
+pub mod Clocks
+pub mod Stored
+pub mod Bodies
+pub mod Targets

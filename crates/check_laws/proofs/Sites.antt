@@ -1,6 +1,6 @@
 -- Where a rule has no finding, none of its sites breaks it.
-use Rattle.std.proofs.Common.{◌≡◌, ◌+◌, ◌<◌, ℕ, zero, suc, Bool, true, List, [], ◌∷◌, ◌++◌, length, map, Option, None, Some, refl, subst, inl, inr, arith}
-use Rattle.std.specs.List.{All, enumerate_from, flat_map, list_any, slice_get}
+use Rattle.std.proofs.Common.{◌≡◌, ◌+◌, ◌<◌, ℕ, zero, suc, Bool, true, false, cond, List, [], ◌∷◌, ◌++◌, length, map, Option, None, Some, refl, subst, inl, inr, arith}
+use Rattle.std.specs.List.{All, enumerate_from, filter, flat_map, list_any, slice_get}
 use Rattle.std.proofs.lemmas.Bool.{cases_eq, false≢true, or_cases, or_left, or_right}
 use Rattle.std.proofs.lemmas.List.Elements.{All-cons, All-head, All-nil, All-tail}
 use Rattle.rtl_flat.specs.declared.signal.Signal.{Signal}
@@ -59,6 +59,25 @@ each_both P Q R from (x ∷ xs) h k = (from x h.0 k.0, each_both P Q R from xs h
 pub each_join : {A : Type 0} (P : A → Type 0) (xs ys : List A) → Each P xs → Each P ys → Each P (xs ++ ys)
 each_join P [] ys h k = k
 each_join P (x ∷ xs) ys h k = (h.0, each_join P xs ys h.1 k)
+
+-- those that pass a test
+kept_first : {A : Type 0} (P : A → Type 0) (x : A) (rest : List A) → P x → Each P rest → (b : Bool) → Each P (cond b (x ∷ rest) rest)
+kept_first P x rest h k true = (h, k)
+kept_first P x rest h k false = k
+
+pub each_kept : {A : Type 0} (P : A → Type 0) (test : A → Bool) (xs : List A) → Each P xs → Each P (filter test xs)
+each_kept P test [] h = tt
+each_kept P test (x ∷ xs) h =
+    kept_first P x (filter test xs) h.0 (each_kept P test xs h.1) (test x)
+
+kept_rest : {A : Type 0} (P : A → Type 0) (x : A) (rest : List A) (b : Bool) → Each P (cond b (x ∷ rest) rest) → (b ≡ true → P x) × Each P rest
+kept_rest P x rest true h = (λ e. h.0, h.1)
+kept_rest P x rest false h = (λ e. absurd (false≢true e), h)
+
+pub each_passing : {A : Type 0} (P : A → Type 0) (test : A → Bool) (xs : List A) → Each P (filter test xs) → Each (λ x. test x ≡ true → P x) xs
+each_passing P test [] h = tt
+each_passing P test (x ∷ xs) h =
+    let split = kept_rest P x (filter test xs) (test x) h in (split.0, each_passing P test xs split.1)
 
 -- ---- no finding
 

@@ -1,11 +1,10 @@
 -- Which signals are temporaries is decided by their bits.
-use Rattle.std.proofs.Common.{◌≡◌, ◌∙◌, ◌<◌, ℕ, zero, suc, Bool, true, false, ◌||◌, List, [], ◌∷◌, length, Option, None, Some, refl, sym, ap, subst, inl, inr, arith, ◌⊎◌}
+use Rattle.std.proofs.Common.{◌≡◌, ◌<◌, ℕ, Bool, true, false, ◌||◌, List, [], ◌∷◌, length, Option, None, Some, refl, ap, inl, inr, ◌⊎◌}
 use Rattle.std.specs.List.{slice_get}
 use Rattle.std.specs.Option.{IsSomeAnd}
-use Rattle.std.proofs.lemmas.Bool.{cases_Bool, cases_eq, false≢true, or_cases, or_left, or_right, true≢false}
+use Rattle.std.proofs.lemmas.Bool.{cases_eq, false≢true, or_cases, or_left, or_right}
 use Rattle.std.proofs.lemmas.Option.{slice_get_within}
-use Rattle.rtl_flat.specs.declared.signal.Kind.{Kind}
-use Rattle.rtl_flat.specs.declared.signal.Kind.TheVariants.{TopInput, Net, Var}
+use Rattle.rtl_flat.specs.declared.signal.Kind.TheVariants.{Var}
 use Rattle.rtl_flat.specs.declared.signal.Signal.{Signal}
 use Rattle.rtl_flat.specs.Flows.{body_flow, flow_of, may_select, reads}
 use Rattle.rtl_flat.specs.Paths.{MayRead, MayWrite, MayWriteLate, ReadsOutside, may_read, may_write, may_write_delayed, reads_outside}
@@ -19,71 +18,12 @@ use Rattle.body_laws.proofs.Within.{may_read_outside, read_inside, reads_inside,
 use Rattle.rtl_rule.specs.Parts.{Parts, widths}
 use Rattle.check_laws.specs.Designs.{BlockingState, TemporariesDecided, flat_of}
 use Rattle.check_laws.proofs.Designs.{blocking_decided, late_may, process_inside}
-use Rattle.check_laws.proofs.Sites.{some_at, some_found}
-use Rattle.rtl_rule.specs.Parts.{some_below}
-
--- ---- decisions
-
-abbrev Decided : Type 0 → Type 0
-Decided P = P ⊎ (P → ⊥)
-
-both : (P Q : Type 0) → Decided P → Decided Q → Decided (P × Q)
-both P Q (inl p) (inl q) = inl (p, q)
-both P Q (inl p) (inr refutes) = inr (λ h. refutes h.1)
-both P Q (inr refutes) q = inr (λ h. refutes h.0)
-
-neither : (P : Type 0) → Decided P → Decided (P → ⊥)
-neither P (inl p) = inr (λ h. h p)
-neither P (inr refutes) = inl refutes
-
--- some number, where those that count are below a limit
-some_number : (P : ℕ → Type 0) (test : ℕ → Bool) (n : ℕ) → ((k : ℕ) → test k ≡ true → P k) → ((k : ℕ) → P k → test k ≡ true) → ((k : ℕ) → P k → k < n) → Decided ((k : ℕ) × P k)
-some_number P test n to back inside =
-    elim (cases_Bool (some_below n test)) [
-      | inl is ↦ let found = some_found n test is in inl (found.number, to found.number found.is)
-      | inr isnt ↦
-          inr (λ h. let (k, p) = h in false≢true (sym isnt ∙ some_at n test k (inside k p) (back k p)))
-    ]
-
-some_among : (P : ℕ → Type 0) → ((k : ℕ) → Decided (P k)) → (n : ℕ) → ((k : ℕ) × (k < n) × P k) ⊎ ((k : ℕ) → k < n → P k → ⊥)
-some_among P each zero = inr (λ k below p. omega (arith, below))
-some_among P each (suc n) = by_rest (some_among P each n) (each n)
-  where
-    by_rest : ((k : ℕ) × (k < n) × P k) ⊎ ((k : ℕ) → k < n → P k → ⊥) → Decided (P n) → ((k : ℕ) × (k < suc n) × P k) ⊎ ((k : ℕ) → k < suc n → P k → ⊥)
-    by_rest (inl (k, below, p)) here = inl (k, omega (arith, below), p)
-    by_rest (inr before) (inl p) = inl (n, omega arith, p)
-    by_rest (inr before) (inr here) = inr (λ k below p.
-        elim (cases_eq k n) [
-          | inl same ↦ here (subst P same p)
-          | inr other ↦ before k (omega (arith, below, other)) p
-        ])
-
--- the same where those that count are below the limit
-some_of : (P : ℕ → Type 0) → ((k : ℕ) → Decided (P k)) → (n : ℕ) → ((k : ℕ) → P k → k < n) → Decided ((k : ℕ) × P k)
-some_of P each n inside = by_search (some_among P each n)
-  where
-    by_search : ((k : ℕ) × (k < n) × P k) ⊎ ((k : ℕ) → k < n → P k → ⊥) → Decided ((k : ℕ) × P k)
-    by_search (inl (k, below, p)) = inl (k, p)
-    by_search (inr before) = inr (λ h. let (k, p) = h in before k (inside k p) p)
-
--- an element that is there
-there_decided : {A : Type 0} (P : A → Type 0) (o : Option A) → ((x : A) → o ≡ Some x → Decided (P x)) → Decided (IsSomeAnd o P)
-there_decided P None each = inr (λ h. h)
-there_decided P (Some x) each = each x refl
-
-equal_kind : (kind : Kind) → Decided (kind ≡ Var)
-equal_kind TopInput = inr (λ e. absurd (cc))
-equal_kind Net = inr (λ e. absurd (cc))
-equal_kind Var = inl refl
-
-is_false : (b : Bool) → Decided (b ≡ false)
-is_false true = inr (λ e. true≢false e)
-is_false false = inl refl
+use Rattle.check_laws.proofs.Decisions.{Decided, both, equal_kind, is_false, neither, some_number, some_of, there_decided}
 
 -- ---- the bits that a process uses
 
 module _ (d : Parts) (lawful : AreLawful (flat_of d)) where
-  reads_within : (p : ℕ) (does : Doing) → doing_at (flat_of d) p ≡ Some does → (i k : ℕ) → MayRead (flow_of (widths d) does) i k → k < widths d i
+  pub reads_within : (p : ℕ) (does : Doing) → doing_at (flat_of d) p ≡ Some does → (i k : ℕ) → MayRead (flow_of (widths d) does) i k → k < widths d i
   reads_within p (Assign target value) is i k read =
       elim (or_cases (reads (widths d) value i k) false ((decided (flow_of (widths d) (Assign target value)) i k).reads.1 read)) [
         | inl here ↦ reads_inside (widths d) value i k here
@@ -103,7 +43,7 @@ module _ (d : Parts) (lawful : AreLawful (flat_of d)) where
         | inr there ↦ items_within items i k there
       ]
 
-  lists_within : (p : ℕ) (does : Doing) → doing_at (flat_of d) p ≡ Some does → (i k : ℕ) → listed (widths d) does i k ≡ true → k < widths d i
+  pub lists_within : (p : ℕ) (does : Doing) → doing_at (flat_of d) p ≡ Some does → (i k : ℕ) → listed (widths d) does i k ≡ true → k < widths d i
   lists_within p (Assign target value) is i k h = absurd (false≢true h)
   lists_within p (Comb None body) is i k h =
       reads_within p (Comb None body) is i k ((decided (body_flow (widths d) body) i k).reads.0 h)

@@ -1,5 +1,5 @@
 -- What the expressions of a design are in which a rule has no finding.
-use Rattle.std.specs.Prelude.{◌≡◌, ℕ, false, List, [], map, Some}
+use Rattle.std.specs.Prelude.{◌≡◌, ℕ, List, [], map, Some}
 use Rattle.std.specs.List.{All, slice_get}
 use Rattle.rtl_bits.specs.declared.Bit.TheVariants.{X, Z}
 use Rattle.rtl_flat.specs.Expression.{Tree, Sized, Literal, Whole, BitAt, BitBy, Part, Turned, Joined, Compared, Linked, Folded, Shifted, Chosen, Empty, Beside, Repeated, Recast}
@@ -8,11 +8,10 @@ use Rattle.rtl_flat.specs.Process.{Piece, Actions, Assign, Task, task}
 use Rattle.rtl_flat.specs.Signs.{sign_of}
 use Rattle.event_model.specs.Queue.{doing_at}
 use Rattle.event_laws.specs.Steady.{AreLawful}
-use Rattle.net_model.specs.Numbers.{is_literal}
 use Rattle.net_laws.specs.Rules.{DividesByPower, EachPart, HasNone, SelectsInside}
 use Rattle.net_laws.specs.Tame.{AreExclusive, AreTame, IsFirm}
-use Rattle.rtl_rule.specs.Parts.{Parts, labels, trees}
-use Rattle.check_case.specs.Cases.{AreFullCase, AreParallelCase, AreUnknownItem}
+use Rattle.rtl_rule.specs.Parts.{Parts, labels, trees, valued_trees}
+use Rattle.check_case.specs.Cases.{AreFullCase, AreParallelCase}
 use Rattle.check_assign.specs.Assigned.{AreTristate}
 use Rattle.check_xprop.specs.Unknowns.{AreDivideVariable, AreSelectRange, AreUnknownLiteral}
 use Rattle.check_laws.specs.Cases.{IsBodyOf}
@@ -59,28 +58,17 @@ AreMarked d =
 
 -- ---- rules on expressions
 
--- X1: no literal outside labels has an x
+-- X1: no literal has an x, but for labels that are one
 abbrev pub UnknownLiteral : Parts → Type 0
 UnknownLiteral d =
     AreMarked d → AreUnknownLiteral d [] →
-    (p : ℕ) (task : Task) → slice_get d.tasks p ≡ Some task → All (EachPart (HasNone X)) (trees task.does)
+    (p : ℕ) (task : Task) → slice_get d.tasks p ≡ Some task → All (EachPart (HasNone X)) (valued_trees task.does)
 
 -- Z1: none has a z
 abbrev pub Tristate : Parts → Type 0
 Tristate d =
     AreMarked d → AreTristate d [] →
-    (p : ℕ) (task : Task) → slice_get d.tasks p ≡ Some task → All (EachPart (HasNone Z)) (trees task.does)
-
--- a label that isn't one literal has no x and no z in a literal
-abbrev pub IsKnownLabel : Tree → Type 0
-IsKnownLabel label =
-    is_literal label ≡ false → EachPart (HasNone X) label × EachPart (HasNone Z) label
-
--- C3: what is worked out in labels is known
-abbrev pub UnknownItem : Parts → Type 0
-UnknownItem d =
-    AreMarked d → AreUnknownItem d [] →
-    (p : ℕ) (task : Task) → slice_get d.tasks p ≡ Some task → All IsKnownLabel (labels task.does)
+    (p : ℕ) (task : Task) → slice_get d.tasks p ≡ Some task → All (EachPart (HasNone Z)) (valued_trees task.does)
 
 -- X2: each bit-select of an expression has its bit whatever the index is
 abbrev pub SelectRange : Parts → Type 0
@@ -102,7 +90,6 @@ DivideVariable d =
 pub record HasNoDoubt (d : Parts) : Type 0 where
   pub x1 : AreUnknownLiteral d []
   pub z1 : AreTristate d []
-  pub c3 : AreUnknownItem d []
   pub x2 : AreSelectRange d []
   pub x3 : AreDivideVariable d []
   pub c1 : AreFullCase d []

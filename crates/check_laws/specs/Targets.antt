@@ -1,5 +1,5 @@
 -- What the targets of assignments are in a design in which a rule has no finding.
-use Rattle.std.specs.Prelude.{ℕ, List, []}
+use Rattle.std.specs.Prelude.{ℕ, []}
 use Rattle.rtl_flat.specs.Process.{Actions}
 use Rattle.event_laws.specs.Steady.{AreLawful}
 use Rattle.event_settling.specs.Conditions.{AllSelectIn}

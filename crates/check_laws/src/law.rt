@@ -4,7 +4,7 @@ ghost use Rattle.rtl_rule.specs.Parts.{Parts};
 ghost use Rattle.check_laws.specs.Cases.{FullCase, ParallelCase};
 ghost use Rattle.check_laws.specs.Clocks.{AsyncPair, DerivedClock, DerivedClockOnce};
 ghost use Rattle.check_laws.specs.Designs.{BlockingState, CombLoop, CombLoopAlone, LatchInferred, MixedAssign, MixedEdges, NeverWakes, NonblockingComb, SenseMissing, SeveralDrivers, TemporariesDecided, Undriven};
-ghost use Rattle.check_laws.specs.Expressions.{DivideVariable, ExclusiveBodies, FirmAssigns, SelectRange, StoredAreMarked, TameBodies, Tristate, UnknownItem, UnknownLiteral};
+ghost use Rattle.check_laws.specs.Expressions.{DivideVariable, ExclusiveBodies, FirmAssigns, SelectRange, StoredAreMarked, TameBodies, Tristate, UnknownLiteral};
 ghost use Rattle.check_laws.specs.Targets.{SelectTargets};
 
 /// S1: where no signal is missing in lists, a body lists each bit that it reads outside.
@@ -72,17 +72,12 @@ pub fn parallel_case()
     ensures { (d : Parts) → ParallelCase d }
 {}
 
-/// C3: what is worked out in labels has no x and no z.
-pub fn unknown_item()
-    ensures { (d : Parts) → UnknownItem d }
-{}
-
-/// X1: no literal outside labels has an x.
+/// X1: no literal has an x, but for labels that are one.
 pub fn unknown_literal()
     ensures { (d : Parts) → UnknownLiteral d }
 {}
 
-/// Z1: no literal outside labels has a z.
+/// Z1: none has a z.
 pub fn tristate()
     ensures { (d : Parts) → Tristate d }
 {}

@@ -1,0 +1,17 @@
+mod Closure
+mod Levels
+mod Depths
+mod Unread
+mod Branches
+mod Cone
+mod Sources
+mod Chains
+mod Tests
+mod Resets
+mod Formed
+mod Merged
+mod Choices
+mod Clean
+mod Promise
+mod Ending
+mod Runs

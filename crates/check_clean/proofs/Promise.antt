@@ -1,0 +1,19 @@
+-- A design without findings of the first grade keeps its promise.
+use Rattle.sign_cycles.proofs.BringUp.{brings_up}
+use Rattle.sign_cycles.proofs.Steps.{agreement}
+use Rattle.rtl_rule.specs.Parts.{Parts}
+use Rattle.check_laws.specs.Designs.{flat_of}
+use Rattle.check_clean.specs.Promise.{PromisedByRules}
+use Rattle.check_clean.proofs.Clean.{clean}
+use Rattle.check_clean.proofs.Runs.{ends}
+
+pub promised : (d : Parts) → PromisedByRules d
+promised d lawful marked findings are is =
+    let design = clean d lawful marked findings are is in
+    record {
+      chains = design.chains;
+      chained = design.chained;
+      agrees = λ choice chained fill. agreement (flat_of d) choice design.level (design.clean choice chained) fill;
+      ends = ends d lawful findings are is;
+      brought_up = λ choice chained resets fill. brings_up (flat_of d) choice design.level (design.clean choice chained) design.wakes resets fill;
+    }

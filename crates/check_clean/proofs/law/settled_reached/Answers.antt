@@ -1,0 +1,5 @@
+use Rattle.check_clean.proofs.Ending.{settled_reached}
+use Rattle.check_clean.proofs.law.settled_reached.Goals as goal
+
+pub returns : goal.returns
+returns c = settled_reached

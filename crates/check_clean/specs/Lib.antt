@@ -1,0 +1,4 @@
+pub mod Rules
+pub mod Clean
+pub mod Ending
+pub mod Promise

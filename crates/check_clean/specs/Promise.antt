@@ -1,0 +1,40 @@
+-- What is promised of a design without a finding of the first grade.
+use Rattle.std.specs.Prelude.{◌<◌, ℕ, List, length, Option}
+use Rattle.rtl_flat.specs.Levels.{IsLevel}
+use Rattle.event_model.specs.Queue.{Flat}
+use Rattle.event_laws.specs.Steady.{AreLawful}
+use Rattle.event_settling.specs.Conditions.{AreRulesKept}
+use Rattle.event_ending.specs.Ending.{RunsEnd}
+use Rattle.net_model.specs.declared.fill.Fill.{Fill}
+use Rattle.net_model.specs.Cycle.{AreChains, Chain}
+use Rattle.sign_cycles.specs.Agree.{Agree}
+use Rattle.sign_cycles.specs.BringUp.{BringsUp, HaveResets}
+use Rattle.rtl_rule.specs.declared.finding.Finding.{Finding}
+use Rattle.rtl_rule.specs.Parts.{Parts}
+use Rattle.check_all.specs.Findings.{AreAllFindings, IsClean}
+use Rattle.check_laws.specs.Designs.{flat_of}
+use Rattle.check_laws.specs.Expressions.{AreMarked}
+
+-- blocks that wait for edges have clocks and resets. Whichever are taken for them, simulation agrees with synthesis in every
+-- order of events, and where each register has a reset, every bring-up reaches states from which it does. From wherever a step
+-- starts, every run comes to rest
+pub record IsPromised (d : Flat) : Type 0 where
+  pub chains : ℕ → Chain
+  pub chained : AreChains d chains
+  pub agrees : (choice : ℕ → Chain) → AreChains d choice → (fill : Fill) → Agree d choice fill
+  pub brought_up : (choice : ℕ → Chain) → AreChains d choice → HaveResets d choice → (fill : Fill) → BringsUp d choice fill
+  pub ends : RunsEnd d
+
+-- so it is where none of all findings of a lawful design is of the first grade
+abbrev pub PromisedByRules : Parts → Type 0
+PromisedByRules d =
+    AreLawful (flat_of d) → AreMarked d →
+    (findings : List Finding) → AreAllFindings d findings → IsClean findings → IsPromised (flat_of d)
+
+-- and it settles by the levels of its processes
+abbrev pub SettlesByRules : Parts → Type 0
+SettlesByRules d =
+    AreLawful (flat_of d) →
+    (findings : List Finding) → AreAllFindings d findings → IsClean findings →
+    (level : ℕ → Option ℕ) → ((p : ℕ) → p < length d.tasks → IsLevel d.signals d.tasks p (level p)) →
+    AreRulesKept (flat_of d) level
