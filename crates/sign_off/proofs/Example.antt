@@ -1,6 +1,6 @@
--- The definitions at work: an and gate comes up and runs, two drivers of one net do not agree, and a net without a driver
--- never comes up.
-use Rattle.std.proofs.Common.{◌≡◌, ◌≤◌, ◌<◌, ℕ, Bool, true, false, refl, sym, ap, subst, ◌∙◌, Option, Some, None, List, [], ◌∷◌, zero, suc, take, length, replicate, arith, inl, inr}
+-- The definitions at work: an and gate is brought up and runs, two drivers of one net do not agree, and a net without a
+-- driver never comes up.
+use Rattle.std.proofs.Common.{◌≡◌, ◌<◌, ℕ, Bool, true, false, refl, sym, ap, subst, ◌∙◌, Option, Some, None, List, [], ◌∷◌, zero, suc, take, length, replicate, arith, inl, inr}
 use Rattle.std.specs.Prelude.{IsTrue, IsSome, ◌⊎◌, ◌==◌, ◌&&◌, ◌||◌, nat_le, nat_lt}
 use Rattle.std.specs.List.{All, list_any}
 use Rattle.std.proofs.lemmas.Bool.{eqb-true, false≢true, ltb-true, true≢false}
@@ -19,29 +19,20 @@ use Rattle.rtl_flat.specs.Expression as sized
 use Rattle.rtl_flat.specs.Flows.{flow_of, may_target}
 use Rattle.rtl_flat.specs.Paths.{MayWrite}
 use Rattle.rtl_flat.specs.PathSets.{OfProcess}
-use Rattle.rtl_flat.specs.Process.{Piece, Task, Actions, Watched, Assign, Comb, Edge', Whole}
-use Rattle.rtl_flat.specs.Signs.{Has, IsExpression, width_in}
-use Rattle.rtl_flat.specs.Sizes.{FitsWidth}
+use Rattle.rtl_flat.specs.Process.{Piece, Task, Actions, Watched, Assign, Comb, Edge'}
+use Rattle.rtl_flat.specs.Signs.{width_in}
 use Rattle.rtl_flat.specs.Value.{value}
-use Rattle.rtl_flat.specs.WellFormed.{IsFixed, IsProcess, IsSelection}
 use Rattle.rtl_flat.proofs.Paths.{decided}
 use Rattle.event_model.specs.Queue.{Flat, State, Event, Input, Evaluate, Update, doing_at, is_assignment, is_input, power_up, run, CanRun, IsAtRest}
 use Rattle.event_model.specs.Writes.{Values, driven}
 use Rattle.net_model.specs.declared.fill.Fill.{Fill}
 use Rattle.net_model.specs.Control.{whole_of}
-use Rattle.net_model.specs.Cycle.{Chain, Data, IsCycle, Setting}
+use Rattle.net_model.specs.Cycle.{Chain, Data, Setting}
 use Rattle.net_model.specs.Lawful.{SetsData}
 use Rattle.net_model.specs.Numbers.{bit, digits}
 use Rattle.net_model.specs.Solution.{IsLasting, IsSolution}
-use Rattle.sign_cycles.specs.Agree.{Agree, AllShow, AreCycles, AreRuns, IsSettledKnown, offered}
+use Rattle.sign_cycles.specs.Agree.{Agree, AreCycles, AreRuns, IsSettledKnown, offered}
 use Rattle.sign_cycles.specs.BringUp.{BringsUp, IsBringUp, SetsInput, sets}
-use Rattle.sign_off.specs.Built.{not_built}
-use Rattle.sign_off.specs.declared.finding.Finding.{Finding}
-use Rattle.sign_off.specs.declared.finding.Rule.TheVariants.{SeveralDrivers}
-use Rattle.sign_off.specs.Findings.{findings}
-use Rattle.sign_off.specs.Ranks.{ranked}
-use Rattle.sign_off.proofs.Judged.{no_clock}
-use Rattle.sign_off.proofs.Signed.{agreement_of, bring_up_of}
 
 -- a signal of one bit, and where what stands at a place in the text does
 abbrev bit_of : List ℕ → Kind → Bool → ℕ → Signal
@@ -67,46 +58,6 @@ ports = bit_of (97 ∷ []) TopInput false 17 ∷ bit_of (98 ∷ []) TopInput fal
 
 abbrev gate : Flat
 gate = record { signals = ports; tasks = drive 2 both_inputs 41 ∷ [] }
-
-input_sized : (i : ℕ) → suc i ≤ 2 → FitsWidth (width_in ports) 1 (sized.Whole i)
-input_sized zero below = record { not_empty = omega arith; inside = omega arith; whole = λ takes. absurd (cc) }
-input_sized (suc zero) below = record { not_empty = omega arith; inside = omega arith; whole = λ takes. absurd (cc) }
-input_sized (suc (suc i)) below = absurd (omega (arith, below))
-
-both_lawful : IsExpression ports both_inputs
-both_lawful =
-    record {
-      widths = (
-        omega arith,
-        record { not_empty = omega arith; inside = omega arith; whole = λ takes. refl },
-        (refl, (omega arith, input_sized 0 (omega arith), omega arith), (omega arith, input_sized 1 (omega arith), omega arith)),
-      );
-      signs = ((refl, refl), (((λ signed. absurd (cc)), tt), ((λ signed. absurd (cc)), tt)));
-    }
-
-abbrev its_target : Piece
-its_target = record { signal = 2; selection = Whole; spot = spot_at 0 }
-
-gate_lawful : All (λ (one : Task). IsProcess ports one.does) gate.tasks
-gate_lawful =
-    All-cons (λ (one : Task). IsProcess ports one.does) (drive 2 both_inputs 41) [] (
-      record {
-        parts = All-cons (λ (piece : Piece). IsSelection ports piece.signal piece.selection) its_target [] (omega arith) (All-nil (λ (piece : Piece). IsSelection ports piece.signal piece.selection));
-        kinds = All-cons (λ (piece : Piece). Has (λ s. s.kind ≡ Net) ports piece.signal) its_target [] refl (All-nil (λ (piece : Piece). Has (λ s. s.kind ≡ Net) ports piece.signal));
-        not_empty = omega arith;
-        at_most = omega arith;
-        sized = both_lawful;
-        covered = omega arith;
-      },
-      All-cons (λ (piece : Piece). IsFixed piece.selection) its_target [] tt (All-nil (λ (piece : Piece). IsFixed piece.selection)),
-      (All-nil _, tt),
-    ) (All-nil (λ (one : Task). IsProcess ports one.does))
-
-gate_judged : not_built ports gate.tasks [] [] ≡ None
-gate_judged = refl
-
-gate_clean : findings ports gate.tasks ≡ []
-gate_clean = refl
 
 -- ---- it comes up: both inputs are set to 0
 
@@ -165,20 +116,18 @@ all_set (suc zero) input = refl
 all_set (suc (suc zero)) input = absurd (false≢true input)
 all_set (suc (suc (suc i))) input = absurd (false≢true input)
 
-module _ (chains : ℕ → Chain) (f : Fill) where
-  comes_up : IsBringUp gate chains (both Zero ∷ [])
-  comes_up =
-      record {
-        some_step = λ none. cc;
-        settings = All-cons (All (SetsInput gate)) (both Zero) [] (sets_input Zero refl) (All-nil (All (SetsInput gate)));
-        all_set = all_set;
-        resets = λ p events body here. absurd (no_clock gate refl p events body here);
-      }
+no_block : (p : ℕ) (events : List Watched) (body : Actions) → doing_at gate p ≡ Some (Edge' events body) → ⊥
+no_block zero events body is = cc
+no_block (suc p) events body is = cc
 
-  -- a settled state of known values
-  low_settled : (n : Values) × IsSettledKnown gate chains f low n
-  low_settled =
-      (bring_up_of gate [] [] gate_judged gate_lawful gate_clean chains f).settles (both Zero ∷ []) comes_up (low ∷ []) up_runs_are
+comes_up : (chains : ℕ → Chain) → IsBringUp gate chains (both Zero ∷ [])
+comes_up chains =
+    record {
+      some_step = λ none. cc;
+      settings = All-cons (All (SetsInput gate)) (both Zero) [] (sets_input Zero refl) (All-nil (All (SetsInput gate)));
+      all_set = all_set;
+      resets = λ p events body here. absurd (no_block p events body here);
+    }
 
 -- ---- both inputs are set to 1, and the gate is evaluated before the second of them takes its value, and after it
 
@@ -210,41 +159,14 @@ high_lawful =
     one_set : (i : ℕ) → IsTrue (is_input gate i) → 1 ≡ width_in ports i → SetsData gate (set_to One i)
     one_set i input wide =
         record {
-          data_input = record { input = input; no_control = λ is. no_clock gate refl is.edges.process is.edges.events is.edges.body is.edges.does };
+          data_input = record { input = input; no_control = λ is. no_block is.edges.process is.edges.events is.edges.body is.edges.does };
           can_be = record { wide = wide; known = refl };
         }
-
--- so the number of the output is 1
-early_number : (chains : ℕ → Chain) (f : Fill) → (next : Values) × IsCycle gate chains f (low_settled chains f).0 (Data (both One)) next × (bit next 2 0 ≡ One)
-early_number chains f =
-    let start = low_settled chains f in
-    let runs : AreRuns gate low (both One ∷ []) (high ∷ []) =
-    (record { reaches = record { events = early; can = early_runs; leads = refl }; rest = early_rests }, tt) in
-    let all = (agreement_of gate [] [] gate_judged gate_lawful gate_clean chains f).agrees low start.0 start.1 (Data (both One) ∷ []) (high_lawful, tt) (high ∷ []) runs in
-    one start.0 all.numbers all.follow all.show
-  where
-    one :
-        (n : Values) (numbers : List Values) → AreCycles gate chains f n (Data (both One) ∷ []) numbers → AllShow gate (high ∷ []) numbers →
-        (next : Values) × IsCycle gate chains f n (Data (both One)) next × (bit next 2 0 ≡ One)
-    one n [] follow show = absurd follow
-    one n (next ∷ others) follow show =
-        (next, follow.0, sym (show.0 2 0 (omega arith) (inl refl)).same)
 
 -- ---- `assign y = a; assign y = b;`: the net is x where the drivers differ, and no number is both
 
 abbrev two_drivers : Flat
 two_drivers = record { signals = ports; tasks = drive 2 (input_bit 0) 41 ∷ drive 2 (input_bit 1) 57 ∷ [] }
-
--- it is found at the second of them
-abbrev second_driver : ℕ → Finding
-second_driver at = record { rule = SeveralDrivers; signal = record { 0 = 2 }; instance = 0; spot = spot_at at }
-
-two_found : findings ports two_drivers.tasks ≡ second_driver 57 ∷ []
-two_found = refl
-
--- findings stand by their places, however they come
-by_place : ranked (second_driver 57 ∷ second_driver 41 ∷ []) ≡ second_driver 41 ∷ second_driver 57 ∷ []
-by_place = refl
 
 -- all bits are 0 and nothing is to be done
 abbrev zeros : Values

@@ -1,7 +1,7 @@
-// The rules over a flat design, and what a clean design promises.
+//! The ruling of a design over all rules, and what a clean design promises.
 #![tactic(auto)]
 
-pub mod finding;
-pub mod refusal;
+mod promise;
 pub mod rule;
-pub mod soundness;
+
+pub use rtl_rule::finding::{Finding, Ruling};

@@ -1,0 +1,20 @@
+//! What a clean design promises.
+
+ghost use Rattle.event_model.specs.Queue.{flat};
+ghost use Rattle.rtl_rule.specs.Parts.{parts};
+ghost use Rattle.check_all.specs.Findings.{AreAllFindings, IsClean};
+ghost use Rattle.check_clean.specs.Promise.{IsPromised};
+
+use check_clean::law::promised;
+use check_laws::law::stored;
+use rtl_flat::design::Design;
+use rtl_rule::finding::Finding;
+
+/// The law of clean designs, for a design with all its findings. It does nothing.
+pub(crate) fn vouch(design: &Design, findings: &[Finding])
+    requires { AreAllFindings (parts design.now) findings.now }
+    ensures { IsClean findings.now → IsPromised (flat design.now) }
+{
+    stored();
+    promised();
+}
