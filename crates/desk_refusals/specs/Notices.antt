@@ -88,7 +88,3 @@ abbrev pub design_notice : elab.Answer → Option Notice
 design_notice (elab.Named breach) = breach_notice None breach
 design_notice (elab.Placed breach spot) = breach_notice (Some spot) breach
 design_notice elab.Memory = None
-
--- a design that the desk doesn't rule yet, and the place from which on
-abbrev pub not_built : Spot → Option Notice
-not_built spot = told (codes "NotBuilt") None (Some spot)

@@ -33,10 +33,6 @@ source_line sources file fault = line sources (notices.file_notice file fault)
 abbrev pub design_line : List Source → Answer → List ℕ
 design_line sources answer = line sources (notices.design_notice answer)
 
--- a design isn't ruled yet
-abbrev pub not_built_line : List Source → Spot → List ℕ
-not_built_line sources spot = line sources (notices.not_built spot)
-
 -- what the code tells
 abbrev pub notice : Reason → Notice
 notice reason = record { name = reason.name.now; word = option_map (λ word. word.now) reason.word; spot = reason.spot }

@@ -1,11 +1,11 @@
-//! Why modules make no design, or one that isn't ruled yet.
+//! Why modules make no design.
 
 ghost use Rattle.std.specs.Prelude.{◌≡◌, IfOk, IsSome};
 ghost use Rattle.std.specs.Option.{option_map};
 ghost use Rattle.elab_scope.specs.Faults.{answer};
 ghost use Rattle.desk_places.specs.Places.{sources_of};
 ghost use Rattle.desk_refusals.specs.Notices.{const_notice, design_notice};
-ghost use Rattle.desk_refusals.specs.Refusals.{design_line, not_built_line, notice};
+ghost use Rattle.desk_refusals.specs.Refusals.{design_line, notice};
 
 use crate::line::line;
 use crate::reason::{Reason, alone, worded};
@@ -67,11 +67,4 @@ pub fn design_refusal(
     ensures line { IfOk result (λ line. line.items ≡ design_line (sources_of sources.now) (answer fault.now)) }
 {
     line(alloc, sources, design_reason(fault))
-}
-
-/// The line that says from which place on a design isn't ruled yet.
-pub fn not_built(alloc: Global, sources: &Sources<'_>, spot: Spot) -> Result<Vec<u8>, Memory>
-    ensures { IfOk result (λ line. line.items ≡ not_built_line (sources_of sources.now) spot) }
-{
-    line(alloc, sources, alone(b"NotBuilt", Some(spot)))
 }

@@ -7,5 +7,5 @@ mod line;
 mod reason;
 mod word;
 
-pub use crate::design::{design_refusal, not_built};
+pub use crate::design::design_refusal;
 pub use crate::file::source_refusal;

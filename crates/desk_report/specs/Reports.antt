@@ -3,9 +3,11 @@
 use Rattle.std.specs.Prelude.{ℕ, List, [], ◌∷◌, ◌++◌, length, Option, None, Some, Bool, true, false, codes, slice_get}
 use Rattle.std.specs.List.{flat_map}
 use Rattle.std.specs.Fmt.{decimal}
+use Rattle.rtl_flat.specs.declared.expr.SigId.{SigId}
+use Rattle.rtl_flat.specs.declared.instance.Instance.{Instance}
 use Rattle.rtl_flat.specs.declared.signal.Signal.{Signal}
-use Rattle.sign_off.specs.declared.finding.Finding.{Finding}
-use Rattle.sign_off.specs.Rules.{code_of, name_of}
+use Rattle.rtl_rule.specs.declared.finding.Finding.{Finding}
+use Rattle.rtl_rule.specs.Rows.{row_of}
 use Rattle.desk_places.specs.Places.{Source, place_in}
 
 -- a line of this text
@@ -16,19 +18,29 @@ abbrev pub yes_or_no : Bool → List ℕ
 yes_or_no true = codes "yes"
 yes_or_no false = codes "no"
 
-abbrev pub path_of : Option Signal → List ℕ
-path_of None = []
-path_of (Some signal) = signal.path
+abbrev pub signal_path : Option Signal → List ℕ
+signal_path None = []
+signal_path (Some signal) = signal.path
 
--- the path of the signal with a number, empty where there is none
-abbrev pub path_in : List Signal → ℕ → List ℕ
-path_in signals number = path_of (slice_get signals number)
+abbrev pub instance_path : Option Instance → List ℕ
+instance_path None = []
+instance_path (Some instance) = instance.path
+
+-- the path of a signal, or of an instance where no signal is named; empty where there is none with the number
+abbrev pub path_in : List Signal → List Instance → ℕ → Option SigId → List ℕ
+path_in signals instances instance None = instance_path (slice_get instances instance)
+path_in signals instances instance (Some signal) = signal_path (slice_get signals signal.0)
+
+-- what a finding is about
+abbrev pub target_in : List Signal → List Instance → Finding → List ℕ
+target_in signals instances finding = path_in signals instances finding.instance finding.signal
 
 -- a finding: `CODE Name TARGET PLACE`
-abbrev pub finding_line : List Source → List Signal → Finding → List ℕ
-finding_line sources signals finding =
-    line (code_of finding.rule ++ codes " " ++ name_of finding.rule ++ codes " " ++ path_in signals finding.signal.0
-    ++ codes " " ++ place_in sources finding.spot)
+abbrev pub finding_line : List Source → List Signal → List Instance → Finding → List ℕ
+finding_line sources signals instances finding =
+    let row = row_of finding.rule in
+    line (row.code ++ codes " " ++ row.name ++ codes " " ++ target_in signals instances finding ++ codes " "
+    ++ place_in sources finding.spot)
 
 -- the head: the top, whether its design is clean and firm, how many findings there are, and how many of them are waived
 abbrev pub head_lines : List ℕ → Bool → Bool → ℕ → List ℕ
@@ -37,6 +49,6 @@ head_lines top clean firm count =
     ++ line (codes "findings " ++ decimal count) ++ line (codes "waived 0")
 
 -- a report: its head, and a line for each finding
-abbrev pub report_text : List ℕ → List Source → List Signal → List Finding → Bool → Bool → List ℕ
-report_text top sources signals findings clean firm =
-    head_lines top clean firm (length findings) ++ flat_map (finding_line sources signals) findings
+abbrev pub report_text : List ℕ → List Source → List Signal → List Instance → List Finding → Bool → Bool → List ℕ
+report_text top sources signals instances findings clean firm =
+    head_lines top clean firm (length findings) ++ flat_map (finding_line sources signals instances) findings

@@ -2,20 +2,18 @@
 
 ghost use Rattle.std.specs.Prelude.{◌≡◌, ◌++◌, codes, length, IfOk, OnOk};
 ghost use Rattle.std.specs.List.{flat_map};
-ghost use Rattle.sign_off.specs.Rules.{code_of, name_of};
+ghost use Rattle.rtl_rule.specs.Rows.{row_of};
 ghost use Rattle.desk_places.specs.Places.{sources_of};
-ghost use Rattle.desk_report.specs.Reports.{finding_line, head_lines, line, path_in, report_text, yes_or_no};
+ghost use Rattle.desk_report.specs.Reports.{finding_line, head_lines, line, report_text, target_in, yes_or_no};
 
 use desk_places::sources::Sources;
 use itoa::Buffer;
 use rtl_flat::design::Design;
-use rtl_flat::expr::SigId;
-use rtl_flat::signal::Signal;
+use rtl_rule::finding::{Finding, Ruling};
 use rtl_tree::memory::Memory;
-use sign_off::finding::{Finding, Ruling};
 use std::alloc::Global;
 
-/// The report of a top's ruling: its head, and for each finding a line with the rule, the signal and the place.
+/// The report of a top's ruling: its head, and for each finding a line with the rule, what it is about, and the place.
 pub fn report(
     alloc: Global,
     top: &[u8],
@@ -23,11 +21,13 @@ pub fn report(
     design: &Design,
     ruling: &Ruling,
 ) -> Result<Vec<u8>, Memory>
-    ensures { IfOk result (λ text. text.items ≡ report_text top.now (sources_of sources.now) design.now.signals.items ruling.now.findings.items ruling.now.clean ruling.now.firm) }
+    ensures { IfOk result (λ text. text.items ≡ report_text top.now (sources_of sources.now)
+        design.now.signals.items design.now.instances.items
+        ruling.now.findings.items ruling.now.clean ruling.now.firm) }
 {
     let mut out = Vec::new(alloc);
     push_head(&mut out, top, ruling)?;
-    push_findings(&mut out, sources, &design.signals, &ruling.findings)?;
+    push_findings(&mut out, sources, design, &ruling.findings)?;
     Ok(out)
 }
 
@@ -64,29 +64,34 @@ fn yes_or_no(answer: bool) -> &'static [u8]
 fn push_findings(
     out: &mut Vec<u8>,
     sources: &Sources<'_>,
-    signals: &[Signal],
+    design: &Design,
     findings: &[Finding],
 ) -> Result<(), Memory>
-    ensures { OnOk result (out.new.items ≡ out.old.items ++ flat_map (finding_line (sources_of sources.now) signals.now) findings.now) }
+    ensures { OnOk result (out.new.items ≡ out.old.items
+        ++ flat_map (finding_line (sources_of sources.now)
+        design.now.signals.items design.now.instances.items) findings.now) }
 {
     for finding in findings {
-        push_finding(out, sources, signals, finding)?;
+        push_finding(out, sources, design, finding)?;
     }
     Ok(())
 }
 
-/// A finding's line: the rule by its code and its name, the path of the signal, and the place.
+/// A finding's line: the rule by its code and its name, what it is about, and the place.
 fn push_finding(
     out: &mut Vec<u8>,
     sources: &Sources<'_>,
-    signals: &[Signal],
+    design: &Design,
     finding: &Finding,
 ) -> Result<(), Memory>
-    ensures { OnOk result (out.new.items ≡ out.old.items ++ finding_line (sources_of sources.now) signals.now finding.now) }
+    ensures { OnOk result (out.new.items ≡ out.old.items
+        ++ finding_line (sources_of sources.now)
+        design.now.signals.items design.now.instances.items finding.now) }
 {
-    push_word(out, finding.rule.code().as_bytes())?;
-    push_word(out, finding.rule.name().as_bytes())?;
-    push_word(out, path_in(signals, finding.signal))?;
+    let row = finding.rule.row();
+    push_word(out, row.code.as_bytes())?;
+    push_word(out, row.name.as_bytes())?;
+    push_word(out, target_in(design, finding))?;
     sources.push_place(out, finding.spot)?;
     out.push(b'\n')?;
     Ok(())
@@ -101,12 +106,18 @@ fn push_word(out: &mut Vec<u8>, word: &[u8]) -> Result<(), Memory>
     Ok(())
 }
 
-/// The path of the signal with a number, empty where there is none.
-fn path_in(signals: &[Signal], number: SigId) -> &[u8]
-    ensures { result.now ≡ path_in signals.now number.0 }
+/// The path of a finding's signal, or of its instance where it names none; empty where there is none.
+fn target_in<'d>(design: &'d Design, finding: &Finding) -> &'d [u8]
+    ensures { result.now ≡ target_in design.now.signals.items design.now.instances.items finding.now }
 {
-    match signals.get(number.0 as usize) {
-        Some(signal) => signal.path.as_bytes(),
-        None => b"",
+    match finding.signal {
+        Some(number) => match design.signals.get(number.0 as usize) {
+            Some(signal) => signal.path.as_bytes(),
+            None => b"",
+        },
+        None => match design.instances.get(finding.instance as usize) {
+            Some(instance) => instance.path.as_bytes(),
+            None => b"",
+        },
     }
 }

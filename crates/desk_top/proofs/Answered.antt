@@ -1,15 +1,12 @@
 -- From the work of a command to the answer of the desk, and from status 0 to the headline.
-use Rattle.std.proofs.Common.{◌≡◌, ◌≢◌, ℕ, List, [], ◌∷◌, Option, None, Some, Result, Ok, Err, Bool, true, false, cond, refl, sym, ◌∙◌, ap, arith}
+use Rattle.std.proofs.Common.{◌≡◌, ◌≢◌, ℕ, List, [], Option, None, Some, Result, Ok, Err, Bool, true, false, cond, not, refl, sym, ◌∙◌, ap, subst, arith}
 use Rattle.std.specs.Io.KnownBytes.{Appends}
-use Rattle.rtl_tree.specs.declared.text.Spot.{Spot}
 use Rattle.rtl_tree.specs.TreeModule.{Circuit}
 use Rattle.elab_scope.specs.Faults.{Answer}
 use Rattle.elab_flat.specs.Flats.{DesignParts}
 use Rattle.rtl_elab.specs.Designs.{library_of}
 use Rattle.rtl_elab.specs.Elaborated.{elaborated}
-use Rattle.rtl_elab.proofs.Deciding.{elaborated_lawful}
-use Rattle.sign_off.specs.declared.finding.Finding.{Finding}
-use Rattle.sign_off.proofs.Signed.{agreement_of, bring_up_of, clocks_of}
+use Rattle.check_all.specs.Findings.{has_first_grade}
 use Rattle.desk_top.specs.declared.deliver.Stop.{Stop}
 use Rattle.desk_top.specs.declared.deliver.Stop.TheVariants.{Unread, NoFile, Memory}
 use Rattle.desk_top.specs.declared.deliver.Work.{Work}
@@ -17,11 +14,11 @@ use Rattle.desk_top.specs.declared.simulate.Plan.{Plan}
 use Rattle.desk_top.specs.declared.simulate.Plan.TheVariants.{Told, Run}
 use Rattle.desk_top.specs.Words.{Order, Sign, Simulate, is_sign, is_simulate, order}
 use Rattle.desk_top.specs.Delivery.{Outcome, Delivers, Finishes, IsCut, Front as Begun, Nothing, IsWork, gave_up, no_file, outcome_of}
-use Rattle.desk_top.specs.Building.{AreSpelled, Front, Modules, Faulty, IsFront, built_of, elaborated_or_not}
-use Rattle.desk_top.specs.Outcome.{World, IsDone, IsOutcome, IsSigned, found_in, has_none, judged, not_judged, report_of, ruled_or_not}
+use Rattle.desk_top.specs.Building.{AreSpelled, Built, Front, Modules, Faulty, IsFront, built_of, elaborated_or_not}
+use Rattle.desk_top.specs.Outcome.{World, IsAnswer, IsDone, IsOutcome, IsRuled, IsSigned, report_of}
 use Rattle.desk_top.specs.Plans.{IsPlan, Performs}
 use Rattle.desk_top.specs.Texts.{named, texts_of}
-use Rattle.desk_top.specs.Answers.{IsAnswered, IsSignedClean, queue_of}
+use Rattle.desk_top.specs.Answers.{IsAnswered, IsSignedClean}
 
 -- work that has one outcome has every other that follows from it
 pub work_map : {P Q : Outcome → Type 0} (work : Result Work Stop) → IsWork P work → ((outcome : Outcome) → P outcome → Q outcome) → IsWork Q work
@@ -109,11 +106,7 @@ pub answered_usage : (words : List (List ℕ)) (world : World) (usage : Outcome)
 answered_usage words world usage status before now is done delivers =
     delivered words world usage status before now is done delivers
 
-pub has_none_is : (all : List Finding) → has_none all ≡ true → all ≡ []
-has_none_is [] is = refl
-has_none_is (finding ∷ others) is = absurd (cc)
-
--- the outcome 0 comes of a design without findings alone
+-- the outcome 0 comes of a design without findings of the first grade alone
 pub zero_is_clean : (words : List (List ℕ)) (world : World) (wanted : Outcome) (before now : Option (List ℕ))
     → is_sign (order words) ≡ true → IsOutcome words world wanted → 0 ≡ wanted.status → Appends before now wanted.bytes → IsSignedClean words before now world
 zero_is_clean words world wanted before now asked is zero written = by_order (order words) refl is
@@ -121,48 +114,41 @@ zero_is_clean words world wanted before now asked is zero written = by_order (or
     clash : {P : Type 0} (status : ℕ) → wanted.status ≡ status → 0 ≢ status → P
     clash status same other = absurd (other (zero ∙ same))
 
-    by_findings : (top : List ℕ) (files texts : List (List ℕ)) (circuits : List (List Circuit)) (design : DesignParts) → order words ≡ Some (Sign top files) → texts_of world.files files ≡ Some texts
-        → AreSpelled texts circuits → elaborated (library_of circuits) top ≡ Ok design → not_judged design ≡ None
-        → (b : Bool) → has_none (found_in design) ≡ b → wanted ≡ record { status = cond b 0 1; bytes = report_of top (named files texts) design } → IsSignedClean words before now world
-    by_findings top files texts circuits design command held spelled made built true none outcome =
-        let clean : found_in design ≡ [] = has_none_is (found_in design) none in
-        let lawful = elaborated_lawful (library_of circuits) top design made in
-        let clocks = clocks_of (queue_of design) design.delays design.dropped built in
+    by_grade : (top : List ℕ) (files texts : List (List ℕ)) (circuits : List (List Circuit)) (design : DesignParts) → order words ≡ Some (Sign top files) → texts_of world.files files ≡ Some texts
+        → AreSpelled texts circuits → elaborated (library_of circuits) top ≡ Ok design → (ruled : IsRuled top (named files texts) design wanted)
+        → (b : Bool) → has_first_grade ruled.found ≡ b → wanted ≡ record { status = cond (not b) 0 1; bytes = report_of top (named files texts) design ruled.found } → IsSignedClean words before now world
+    by_grade top files texts circuits design command held spelled made ruled true some outcome = clash 1 (ap (λ o. o.status) outcome) (λ same. omega (arith, same))
+    by_grade top files texts circuits design command held spelled made ruled false none outcome =
+        let promised = ruled.promised none in
         record {
           top = top;
           files = files;
           texts = texts;
           circuits = circuits;
           design = design;
+          findings = ruled.found;
           command = command;
           held = held;
           spelled = spelled;
           flat = made;
-          judged = built;
-          clean = clean;
+          found = ruled.are_all;
+          clean = none;
           reported = rw (← ap (λ o. o.bytes) outcome) written;
-          chains = clocks.0;
-          chained = clocks.1;
-          agrees = agreement_of (queue_of design) design.delays design.dropped built lawful.each_process clean clocks.0;
-          brought_up = bring_up_of (queue_of design) design.delays design.dropped built lawful.each_process clean clocks.0;
+          chains = promised.chains;
+          chained = promised.chained;
+          agrees = promised.agrees promised.chains promised.chained;
+          brought_up = promised.brought_up promised.chains promised.chained;
+          ends = promised.ends;
         }
-    by_findings top files texts circuits design command held spelled made built false some outcome = clash 1 (ap (λ o. o.status) outcome) (λ same. omega (arith, same))
-
-    by_spot : (top : List ℕ) (files texts : List (List ℕ)) (circuits : List (List Circuit)) (design : DesignParts) → order words ≡ Some (Sign top files) → texts_of world.files files ≡ Some texts
-        → AreSpelled texts circuits → elaborated (library_of circuits) top ≡ Ok design
-        → (o : Option Spot) → not_judged design ≡ o → wanted ≡ ruled_or_not top (named files texts) design o → IsSignedClean words before now world
-    by_spot top files texts circuits design command held spelled made None built outcome =
-        by_findings top files texts circuits design command held spelled made built (has_none (found_in design)) refl outcome
-    by_spot top files texts circuits design command held spelled made (Some spot) built outcome = clash 2 (ap (λ o. o.status) outcome) (λ same. omega (arith, same))
 
     by_built : (top : List ℕ) (files texts : List (List ℕ)) (circuits : List (List Circuit)) → order words ≡ Some (Sign top files) → texts_of world.files files ≡ Some texts
-        → AreSpelled texts circuits → (made : Result DesignParts Answer) → elaborated (library_of circuits) top ≡ made → wanted ≡ judged top (named files texts) (elaborated_or_not (named files texts) made) → IsSignedClean words before now world
+        → AreSpelled texts circuits → (made : Result DesignParts Answer) → elaborated (library_of circuits) top ≡ made → IsAnswer top (named files texts) (elaborated_or_not (named files texts) made) wanted → IsSignedClean words before now world
     by_built top files texts circuits command held spelled (Ok design) made outcome =
-        by_spot top files texts circuits design command held spelled made (not_judged design) refl outcome
+        by_grade top files texts circuits design command held spelled made outcome (has_first_grade outcome.found) refl outcome.is
     by_built top files texts circuits command held spelled (Err answer) made outcome = clash 2 (ap (λ o. o.status) outcome) (λ same. omega (arith, same))
 
     by_front : (top : List ℕ) (files texts : List (List ℕ)) → order words ≡ Some (Sign top files) → texts_of world.files files ≡ Some texts
-        → (front : Front) → IsFront texts front → wanted ≡ judged top (named files texts) (built_of top (named files texts) front) → IsSignedClean words before now world
+        → (front : Front) → IsFront texts front → IsAnswer top (named files texts) (built_of top (named files texts) front) wanted → IsSignedClean words before now world
     by_front top files texts command held (Modules circuits) spelled outcome =
         by_built top files texts circuits command held spelled (elaborated (library_of circuits) top) refl outcome
     by_front top files texts command held (Faulty file fault) refused outcome = clash 2 (ap (λ o. o.status) outcome) (λ same. omega (arith, same))
@@ -171,7 +157,7 @@ zero_is_clean words world wanted before now asked is zero written = by_order (or
         → IsSigned top files o wanted → IsSignedClean words before now world
     by_texts top files command None held outcome = clash 9 (ap (λ o. o.status) outcome) (λ same. omega (arith, same))
     by_texts top files command (Some texts) held outcome =
-        by_front top files texts command held outcome.is_built.front outcome.is_built.is_front (outcome.is ∙ ap (judged top (named files texts)) outcome.is_built.is)
+        by_front top files texts command held outcome.is_built.front outcome.is_built.is_front (subst (λ (b : Built). IsAnswer top (named files texts) b wanted) outcome.is_built.is outcome.is)
 
     by_order : (o : Option Order) → order words ≡ o → IsDone world o wanted → IsSignedClean words before now world
     by_order None command outcome = clash 3 (ap (λ o. o.status) outcome) (λ same. omega (arith, same))

@@ -1,21 +1,23 @@
 -- How a call of the desk answers through objects that may fail, and what its status 0 promises.
 -- Worked examples: examples/stored/half_adder.out.
-use Rattle.std.specs.Prelude.{◌≡◌, ℕ, List, [], Option, None, Some, Ok, Bool, true, false, ⊤}
+use Rattle.std.specs.Prelude.{◌≡◌, ℕ, List, [], Option, None, Some, Ok, true, false, ⊤}
 use Rattle.std.specs.Io.KnownBytes.{Appends}
 use Rattle.desk_io.specs.Shelf.{Files}
 use Rattle.rtl_tree.specs.TreeModule.{Circuit}
 use Rattle.elab_flat.specs.Flats.{DesignParts}
 use Rattle.rtl_elab.specs.Designs.{library_of}
 use Rattle.rtl_elab.specs.Elaborated.{elaborated}
-use Rattle.event_model.specs.Queue as queue
+use Rattle.event_ending.specs.Ending.{RunsEnd}
 use Rattle.net_model.specs.declared.fill.Fill.{Fill}
 use Rattle.net_model.specs.Cycle.{AreChains, Chain}
 use Rattle.sign_cycles.specs.Agree.{Agree}
-use Rattle.sign_cycles.specs.BringUp.{BringsUp}
+use Rattle.sign_cycles.specs.BringUp.{BringsUp, HaveResets}
+use Rattle.rtl_rule.specs.declared.finding.Finding.{Finding}
+use Rattle.check_all.specs.Findings.{AreAllFindings, IsClean}
 use Rattle.desk_top.specs.declared.deliver.TheConstants.{UNREAD, NO_MEMORY}
 use Rattle.desk_top.specs.Delivery.{Outcome, Delivers, IsCut, gave_up}
 use Rattle.desk_top.specs.Building.{AreSpelled}
-use Rattle.desk_top.specs.Outcome.{World, IsOutcome, found_in, not_judged, report_of}
+use Rattle.desk_top.specs.Outcome.{World, IsOutcome, parts_of, queue_of, report_of}
 use Rattle.desk_top.specs.Texts.{named, texts_of}
 use Rattle.desk_top.specs.Words.{Sign, is_simulate, order}
 
@@ -38,29 +40,27 @@ pub record IsAnswered (words : List (List ℕ)) (status : ℕ) (before now : Opt
   pub unread : status ≡ UNREAD → Appends before now []
   pub no_memory : status ≡ NO_MEMORY → IsCut (λ wanted. (is_simulate (order words) ≡ true) × IsOutcome words world wanted) before now
 
--- a flat design as the event queue runs it
-abbrev pub queue_of : DesignParts → queue.Flat
-queue_of design = record { signals = design.signals; tasks = design.tasks }
-
 -- The headline. The words are `sign TOP FILE..`; the files hold texts that spell modules, and no others; of these
--- the module with the top's name means a flat design; nothing in it is outside what is judged; it has no finding,
--- which the report says; blocks that wait for edges have clocks and resets, with which simulation agrees with
--- synthesis on that design, whatever the order of events and whatever the fill of what nothing drives; and a
--- bring-up reaches the states from which it does
+-- the module with the top's name means a flat design; none of its findings, which the report tells, is of the first
+-- grade; blocks that wait for edges have clocks and resets, with which simulation agrees with synthesis on that design,
+-- whatever the order of events and whatever the fill of what nothing drives; where each register has a reset, a bring-up
+-- reaches the states from which it does; and from wherever a step starts, every run comes to rest
 pub record IsSignedClean (words : List (List ℕ)) (before now : Option (List ℕ)) (world : World) : Type 0 where
   pub top : List ℕ
   pub files : List (List ℕ)
   pub texts : List (List ℕ)
   pub circuits : List (List Circuit)
   pub design : DesignParts
+  pub findings : List Finding
   pub command : order words ≡ Some (Sign top files)
   pub held : texts_of world.files files ≡ Some texts
   pub spelled : AreSpelled texts circuits
   pub flat : elaborated (library_of circuits) top ≡ Ok design
-  pub judged : not_judged design ≡ None
-  pub clean : found_in design ≡ []
-  pub reported : Appends before now (report_of top (named files texts) design)
+  pub found : AreAllFindings (parts_of design) findings
+  pub clean : IsClean findings
+  pub reported : Appends before now (report_of top (named files texts) design findings)
   pub chains : ℕ → Chain
   pub chained : AreChains (queue_of design) chains
   pub agrees : (fill : Fill) → Agree (queue_of design) chains fill
-  pub brought_up : (fill : Fill) → BringsUp (queue_of design) chains fill
+  pub brought_up : HaveResets (queue_of design) chains → (fill : Fill) → BringsUp (queue_of design) chains fill
+  pub ends : RunsEnd (queue_of design)

@@ -1,19 +1,19 @@
 -- What the desk answers to its words, over the files of a shelf.
 -- Worked examples: examples/stored/several_drivers.out, examples/stored/exchange.out.
-use Rattle.std.specs.Prelude.{◌≡◌, ℕ, List, [], ◌∷◌, ◌++◌, Bool, true, false, Option, None, Some, Result, Ok, Err, if◌then◌else◌, codes}
+use Rattle.std.specs.Prelude.{◌≡◌, ℕ, List, [], ◌∷◌, ◌++◌, Bool, true, false, not, Option, None, Some, Result, Ok, Err, if◌then◌else◌, codes}
 use Rattle.std.specs.Fmt.{decimal}
 use Rattle.desk_io.specs.declared.shelf.ShelfFault.{ShelfFault}
 use Rattle.desk_io.specs.Shelf.{Files, reading}
-use Rattle.rtl_tree.specs.declared.text.Spot.{Spot}
 use Rattle.elab_flat.specs.Flats.{DesignParts}
-use Rattle.sign_off.specs.declared.finding.Finding.{Finding}
-use Rattle.sign_off.specs.Built.{not_built}
-use Rattle.sign_off.specs.Findings.{findings}
+use Rattle.event_model.specs.Queue as queue
+use Rattle.rtl_rule.specs.declared.finding.Finding.{Finding}
+use Rattle.rtl_rule.specs.Parts.{Parts}
+use Rattle.check_all.specs.Findings.{AreAllFindings, IsClean, has_first_grade}
+use Rattle.check_clean.specs.Promise.{IsPromised}
 use Rattle.desk_steps.specs.Names.{Names, ahead, names_from}
 use Rattle.desk_steps.specs.Steps.{Steps, file_of}
 use Rattle.desk_runs.specs.Runs.{Shown, IsSimulated}
 use Rattle.desk_places.specs.Places.{Source}
-use Rattle.desk_refusals.specs.Refusals.{not_built_line}
 use Rattle.desk_report.specs.Reports.{report_text}
 use Rattle.desk_top.specs.Building.{Built, Designed, Refused, IsBuilt}
 use Rattle.desk_top.specs.Delivery.{Outcome, no_file}
@@ -27,47 +27,58 @@ pub record World : Type 0 where
   pub before : Files
   pub files : Files
 
-abbrev pub has_none : List Finding → Bool
-has_none [] = true
-has_none (finding ∷ others) = false
+-- ---- rulings
 
--- the findings of the rules
-abbrev pub found_in : DesignParts → List Finding
-found_in flat = findings flat.signals flat.tasks
+-- a flat design as rules look at it
+abbrev pub parts_of : DesignParts → Parts
+parts_of flat =
+    record { signals = flat.signals; tasks = flat.tasks; delays = flat.delays; dropped = flat.dropped }
 
--- the report of a design; every rule of today is of the first grade, so that a clean design is firm
-abbrev pub report_of : List ℕ → List Source → DesignParts → List ℕ
-report_of top sources flat =
-    report_text top sources flat.signals (found_in flat) (has_none (found_in flat)) (has_none (found_in flat))
+-- a flat design as the event queue runs it
+abbrev pub queue_of : DesignParts → queue.Flat
+queue_of flat = record { signals = flat.signals; tasks = flat.tasks }
 
--- the design is clean, or has a finding
-abbrev pub ruled : List ℕ → List Source → DesignParts → Outcome
-ruled top sources flat =
-    record { status = if has_none (found_in flat) then DONE else OPEN; bytes = report_of top sources flat }
+-- whether no finding is of the first grade
+abbrev pub is_clean : List Finding → Bool
+is_clean found = not (has_first_grade found)
+
+-- whether there is no finding
+abbrev pub is_firm : List Finding → Bool
+is_firm [] = true
+is_firm (finding ∷ others) = false
+
+-- the report of a design with these findings
+abbrev pub report_of : List ℕ → List Source → DesignParts → List Finding → List ℕ
+report_of top sources flat found =
+    report_text top sources flat.signals flat.instances found (is_clean found) (is_firm found)
+
+-- the design is clean, or has a finding of the first grade
+abbrev pub ruled : List ℕ → List Source → DesignParts → List Finding → Outcome
+ruled top sources flat found =
+    record { status = if is_clean found then DONE else OPEN; bytes = report_of top sources flat found }
+
+-- the answer for a design: all its findings are told; and where none of them is of the first grade, simulation agrees with
+-- synthesis
+pub record IsRuled (top : List ℕ) (sources : List Source) (flat : DesignParts) (outcome : Outcome) : Type 0 where
+  pub found : List Finding
+  pub are_all : AreAllFindings (parts_of flat) found
+  pub is : outcome ≡ ruled top sources flat found
+  pub promised : IsClean found → IsPromised (queue_of flat)
 
 -- the source is refused
 abbrev pub refused : List ℕ → Outcome
 refused line = record { status = REFUSED; bytes = line }
 
--- a design that has what isn't judged today is refused at its place
-abbrev pub ruled_or_not : List ℕ → List Source → DesignParts → Option Spot → Outcome
-ruled_or_not top sources flat None = ruled top sources flat
-ruled_or_not top sources flat (Some spot) = refused (not_built_line sources spot)
-
--- where a design has what isn't judged today
-abbrev pub not_judged : DesignParts → Option Spot
-not_judged flat = not_built flat.signals flat.tasks flat.delays flat.dropped
-
 -- a report of the design of the top, or a refusal
-abbrev pub judged : List ℕ → List Source → Built → Outcome
-judged top sources (Designed flat) = ruled_or_not top sources flat (not_judged flat)
-judged top sources (Refused line) = refused line
+abbrev pub IsAnswer : List ℕ → List Source → Built → Outcome → Type 0
+IsAnswer top sources (Designed flat) outcome = IsRuled top sources flat outcome
+IsAnswer top sources (Refused line) outcome = outcome ≡ refused line
 
 -- the answer for texts
 pub record IsJudged (top : List ℕ) (sources : List Source) (texts : List (List ℕ)) (outcome : Outcome) : Type 0 where
   pub built : Built
   pub is_built : IsBuilt top sources texts built
-  pub is : outcome ≡ judged top sources built
+  pub is : IsAnswer top sources built outcome
 
 -- the answer for files; none of it where one of them isn't there or is too long
 abbrev pub IsSigned : List ℕ → List (List ℕ) → Option (List (List ℕ)) → Outcome → Type 0

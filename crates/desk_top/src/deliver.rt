@@ -13,7 +13,7 @@ use std::alloc::{AllocError, AllocFailed};
 /// The exit status where the work was done: after `sign` the design is clean, after `simulate` each step came to rest.
 pub const DONE: u8 = 0;
 
-/// The exit status where a rule has a finding.
+/// The exit status where a rule of the first grade has a finding.
 pub const OPEN: u8 = 1;
 
 /// The exit status where the source is refused.
@@ -45,7 +45,7 @@ pub const NO_MEMORY: u8 = 20;
 pub enum Ending {
     /// The design is clean.
     Clean,
-    /// A rule has a finding.
+    /// A rule of the first grade has a finding.
     Open,
     /// The source is refused.
     Refused,

@@ -9,7 +9,7 @@ ghost use Rattle.desk_places.specs.Places.{sources_of};
 ghost use Rattle.desk_top.specs.Answers.{OverWorld};
 ghost use Rattle.desk_top.specs.Delivery.{IsCalmWork, IsWork, status_of};
 ghost use Rattle.desk_top.specs.declared.deliver.TheConstants.{DONE, OPEN};
-ghost use Rattle.desk_top.specs.Outcome.{IsJudged, IsSigned, not_judged, refused, ruled_or_not};
+ghost use Rattle.desk_top.specs.Outcome.{IsJudged, IsRuled, IsSigned, refused};
 ghost use Rattle.desk_top.specs.Texts.{named, texts_of};
 ghost use Rattle.desk_top.specs.Words.{are_files, texts};
 
@@ -18,11 +18,10 @@ use crate::files::read_texts;
 use crate::front::{Built, build};
 use desk_io::Shelf;
 use desk_places::sources::Sources;
-use desk_refusals::not_built;
 use desk_report::report;
 use rtl_flat::design::Design;
-use sign_off::finding::Ruling;
-use sign_off::rule::{Unruled, rule};
+use sign_off::Ruling;
+use sign_off::rule::rule;
 use std::alloc::Global;
 
 /// Rules the module of this name among those of these files, and writes the report.
@@ -59,27 +58,22 @@ fn judge(alloc: Global, top: &str, files: &[String], made: &[Vec<u8>]) -> Result
     }
 }
 
-// The report of a design, or where it has what isn't judged.
+// The report of a design.
 fn judge_design(
     alloc: Global,
     top: &str,
     sources: &Sources<'_>,
     design: &Design,
 ) -> Result<Work, Stop>
-    ensures work { IsWork (λ outcome. outcome ≡ ruled_or_not top.now (sources_of sources.now) (flat_in design.now) (not_judged (flat_in design.now))) result }
+    ensures work { IsWork (IsRuled top.now (sources_of sources.now) (flat_in design.now)) result }
     ensures read { result ≢ Err Stop.Unread }
 {
-    match rule(alloc, design) {
-        Ok(ruling) => {
-            let bytes = report(alloc, top.as_bytes(), sources, design, &ruling)?;
-            Ok(Work {
-                ending: ending_of(&ruling),
-                bytes,
-            })
-        }
-        Err(Unruled::NotBuilt(spot)) => refuse(not_built(alloc, sources, spot)?),
-        Err(Unruled::Memory) => Err(Stop::Memory),
-    }
+    let ruling = rule(alloc, design)?;
+    let bytes = report(alloc, top.as_bytes(), sources, design, &ruling)?;
+    Ok(Work {
+        ending: ending_of(&ruling),
+        bytes,
+    })
 }
 
 fn ending_of(ruling: &Ruling) -> Ending

@@ -6,4 +6,4 @@ use Rattle.desk_report.proofs.findings.push_findings.Given as goal
 
 abbrev pub invariant-loop-finding : goal.invariant-loop-finding
 invariant-loop-finding l =
-    l.out.items ≡ l.fn.out.items ++ flat_map (finding_line (sources_of l.sources) l.signals) (take l.finding-index l.findings)
+    l.out.items ≡ l.fn.out.items ++ flat_map (finding_line (sources_of l.sources) l.design.signals.items l.design.instances.items) (take l.finding-index l.findings)

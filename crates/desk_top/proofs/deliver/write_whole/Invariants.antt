@@ -1,4 +1,4 @@
-use Rattle.std.proofs.Common.{◌≡◌, ◌≤◌, length}
+use Rattle.std.proofs.Common.{◌≡◌, length}
 use Rattle.desk_top.proofs.Fronts.{IsFront}
 use Rattle.desk_top.proofs.deliver.write_whole.Given as goal
 
