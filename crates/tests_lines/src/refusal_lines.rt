@@ -4,7 +4,7 @@ ghost use Rattle.std.specs.Prelude.{◌≡◌, ◌≤◌, IfOk, length};
 ghost use Rattle.std.specs.List.{All};
 
 use desk_places::sources::Sources;
-use desk_refusals::{design_refusal, not_built, source_refusal};
+use desk_refusals::{design_refusal, source_refusal};
 use elab_scope::fault::ElabFault;
 use rtl_const::fault::ConstFault;
 use rtl_front::FileFault;
@@ -210,20 +210,6 @@ fn faults_without_a_name_are_told(rt: HostRuntime) -> Result<(), Fail> {
     for (fault, want) in &rows {
         assert_eq!(&rt; design_line(alloc, fault)?.as_slice(), *want);
     }
-    Ok(())
-}
-
-#[test]
-fn a_design_that_is_not_built_is_told(rt: HostRuntime) -> Result<(), Fail> {
-    let alloc = rt.alloc();
-    let names = names(alloc)?;
-    let texts = texts(alloc)?;
-    let sources = Sources::new(alloc, names.as_slice(), texts.as_slice())?;
-    let line = not_built(alloc, &sources, SPOT)?;
-    assert_eq!(&rt;
-        line.as_slice(),
-        b"refused NotBuilt at lib/b.v:2:2\n".as_slice()
-    );
     Ok(())
 }
 

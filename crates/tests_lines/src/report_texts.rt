@@ -9,9 +9,10 @@ use rtl_flat::design::Design;
 use rtl_flat::expr::SigId;
 use rtl_flat::instance::Instance;
 use rtl_flat::signal::{Kind, Signal};
+use rtl_rule::finding::{Finding, Ruling};
+use rtl_rule::rule::Rule;
 use rtl_tree::memory::Memory;
 use rtl_tree::text::{Spot, Text};
-use sign_off::finding::{Finding, Rule, Ruling};
 use std::alloc::Global;
 use std::test::Fail;
 
@@ -110,17 +111,17 @@ fn ruling(findings: Vec<Finding>) -> Ruling {
     }
 }
 
-fn finding(rule: Rule, signal: u32, file: u32, at: u32) -> Finding {
+fn finding(rule: Rule, signal: Option<SigId>, file: u32, at: u32) -> Finding {
     Finding {
         rule,
-        signal: SigId(signal),
+        signal,
         instance: 0,
         spot: Spot { file, at },
     }
 }
 
-const OPEN: &[u8] = b"module top\nclean no\nfirm no\nfindings 2\nwaived 0\n\
-A4 SeveralDrivers top.y r28.v:3:8\nA5 Undriven top.z r29.v:1:31\n";
+const OPEN: &[u8] = b"module top\nclean no\nfirm no\nfindings 3\nwaived 0\n\
+A4 SeveralDrivers top.y r28.v:3:8\nA5 Undriven top.z r29.v:1:31\nD2 InitialIgnored top r29.v:3:1\n";
 
 #[test]
 fn rulings_are_reported(rt: HostRuntime) -> Result<(), Fail> {
@@ -132,14 +133,15 @@ fn rulings_are_reported(rt: HostRuntime) -> Result<(), Fail> {
     )?;
     let undriven = Vec::from_slice(
         rt.alloc(),
-        b"module top(input a, output y, z);\nassign y = a;\nendmodule\n",
+        b"module top(input a, output y, z);\nassign y = a;\ninitial ;\nendmodule\n",
     )?;
     let names = vec![in rt.alloc(); first, second]?;
     let texts = vec![in rt.alloc(); several, undriven]?;
     let sources = Sources::new(rt.alloc(), &names, &texts)?;
-    let twice = finding(Rule::SeveralDrivers, 1, 0, 55);
-    let never = finding(Rule::Undriven, 2, 1, 30);
-    let open = ruling(vec![in rt.alloc(); twice, never]?);
+    let twice = finding(Rule::SeveralDrivers, Some(SigId(1)), 0, 55);
+    let never = finding(Rule::Undriven, Some(SigId(2)), 1, 30);
+    let initial = finding(Rule::InitialIgnored, None, 1, 48);
+    let open = ruling(vec![in rt.alloc(); twice, never, initial]?);
     let design = design(rt.alloc())?;
     let text = report(rt.alloc(), b"top", &sources, &design, &open)?;
     assert_eq!(&rt; text.as_slice(), OPEN);

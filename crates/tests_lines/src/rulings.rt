@@ -8,10 +8,11 @@ use rtl_flat::design::Design;
 use rtl_flat::expr::{Node, Select, SigId, SizedExpr};
 use rtl_flat::instance::Instance;
 use rtl_flat::signal::{Kind, Signal};
+use rtl_rule::rule::Rule;
 use rtl_tree::memory::Memory;
 use rtl_tree::text::{Spot, Text};
-use sign_off::finding::{Finding, Rule};
-use sign_off::rule::{Unruled, rule};
+use sign_off::Finding;
+use sign_off::rule::rule;
 use std::alloc::Global;
 use std::test::Fail;
 
@@ -121,7 +122,7 @@ fn no_driver(alloc: Global, kind: Kind) -> Result<Design, Memory> {
 fn finding(rule: Rule, at: u32) -> Finding {
     Finding {
         rule,
-        signal: Y,
+        signal: Some(Y),
         instance: 0,
         spot: spot(at),
     }
@@ -168,11 +169,17 @@ fn a_net_without_a_driver_is_found_where_it_is_declared(rt: HostRuntime) -> Resu
 }
 
 #[test]
-fn a_variable_is_not_judged(rt: HostRuntime) -> Result<(), Fail> {
+fn a_variable_that_nothing_writes_is_found_where_it_is_declared(
+    rt: HostRuntime,
+) -> Result<(), Fail> {
     let design = no_driver(rt.alloc(), Kind::Var)?;
-    match rule(rt.alloc(), &design) {
-        Err(Unruled::NotBuilt(place)) => assert_eq!(rt; place, spot(3)),
-        _ => return Err(Fail::new("judged")),
-    }
+    let Ok(ruling) = rule(rt.alloc(), &design) else {
+        return Err(Fail::new("no ruling"));
+    };
+    assert!(rt; !ruling.firm);
+    assert_eq!(rt;
+        ruling.findings.as_slice(),
+        [finding(Rule::Undriven, 3)].as_slice()
+    );
     Ok(())
 }

@@ -139,7 +139,7 @@ pub fn end(rt: &impl Print, row: Option<Box<Row>>) -> io::Result<()> {
 fn show(rt: &impl Print, text: &str) -> io::Result<()> {
     let count = text.split_inclusive("\n").count();
     for (at, line) in text.split_inclusive("\n").enumerate() {
-        if at < SHOWN_LINES || count.saturating_sub(at) <= SHOWN_LINES || count <= 3 * SHOWN_LINES {
+        if at < SHOWN_LINES || count.saturating_sub(at) <= SHOWN_LINES || count <= 4 * SHOWN_LINES {
             match line.strip_suffix("\n") {
                 Some(line) => println!(rt; "|{line}")?,
                 None => println!(rt; "\\{line}")?,
