@@ -1,4 +1,5 @@
 -- What is wrong with assignments and drivers (IEEE 1364.1-2002 sections 5.2, 5.3 and 5.5).
+-- Worked examples: proofs/Example.antt, crates/tests_rows/stdin.
 use Rattle.std.specs.Prelude.{ℕ, suc, ◌≡◌, ◌==◌, nat_lt, Bool, true, false, not, ◌&&◌, List, [], ◌∷◌, ◌++◌, length, map, Option, Some, None}
 use Rattle.std.specs.List.{enumerate_from, filter_map, flat_map, list_any}
 use Rattle.rtl_tree.specs.declared.text.Spot.{Spot}

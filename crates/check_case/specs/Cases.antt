@@ -1,4 +1,5 @@
 -- What is wrong with case statements (IEEE 1364.1-2002 sections 5.4 and 6.3, IEEE 1364-2001 section 9.5).
+-- Worked examples: proofs/Example.antt, crates/tests_rows/stdin.
 use Rattle.std.specs.Prelude.{ℕ, ◌≡◌, Bool, true, false, not, ◌&&◌, List, [], ◌∷◌, ◌++◌, map, Option}
 use Rattle.std.specs.List.{flat_map, list_all}
 use Rattle.rtl_bits.specs.declared.Bit.{Bit}

@@ -1,5 +1,6 @@
 -- The chain of resets that leads the body of a clocked process, and what is wrong with it (IEEE 1364.1-2002 section
 -- 5.2.2).
+-- Worked examples: crates/tests_rows/stdin.
 use Rattle.std.specs.Prelude.{ℕ, zero, suc, ◌≡◌, ◌<◌, ◌==◌, nat_lt, Bool, true, false, not, ◌&&◌, ◌||◌, if◌then◌else◌, List, [], ◌∷◌, length, Option, Some, None}
 use Rattle.std.specs.List.{list_all, list_any, slice_get}
 use Rattle.std.specs.Option.{IsSomeAnd}

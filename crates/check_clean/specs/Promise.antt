@@ -1,4 +1,5 @@
 -- What is promised of a design without a finding of the first grade.
+-- Worked examples: crates/tests_rows/stdin.
 use Rattle.std.specs.Prelude.{◌<◌, ℕ, List, length, Option}
 use Rattle.rtl_flat.specs.Levels.{IsLevel}
 use Rattle.event_model.specs.Queue.{Flat}

@@ -1,4 +1,5 @@
 -- What is wrong with clocks (IEEE 1364.1-2002 section 5.2.2).
+-- Worked examples: crates/tests_rows/stdin.
 use Rattle.std.specs.Prelude.{ℕ, ◌≡◌, ◌≢◌, ◌==◌, Bool, true, false, not, ◌&&◌, ◌⊎◌, if◌then◌else◌, List, [], ◌∷◌, ◌++◌, Option, Some, None}
 use Rattle.std.specs.List.{filter_map, flat_map, slice_get}
 use Rattle.std.specs.Option.{IsSomeAnd}

@@ -1,4 +1,5 @@
 -- What is wrong with sensitivity lists (IEEE 1364-2001 section 9.7, IEEE 1364.1-2002 section 5.1).
+-- Worked examples: proofs/Example.antt, crates/tests_rows/stdin.
 use Rattle.std.specs.Prelude.{ℕ, ◌≡◌, ◌==◌, Bool, true, false, not, ◌&&◌, ◌||◌, List, ◌++◌, Option, Some, None}
 use Rattle.std.specs.List.{enumerate_from, find, list_any}
 use Rattle.rtl_flat.specs.declared.expr.SigId.{SigId}

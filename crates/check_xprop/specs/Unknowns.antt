@@ -1,5 +1,6 @@
 -- Where x, z and what synthesis ignores make a difference (IEEE 1364.1-2002 sections 5.5 and 6, IEEE 1364-2001 sections
 -- 4.1 and 4.2).
+-- Worked examples: proofs/Example.antt, crates/tests_rows/stdin.
 use Rattle.std.specs.Prelude.{ℕ, ◌≡◌, ◌^◌, ℤ, nat_lt, Bool, true, false, not, ◌&&◌, ◌||◌, List, [], ◌∷◌, ◌++◌, length, Option, Some, None}
 use Rattle.std.specs.List.{filter_map, flat_map, list_all, list_any, slice_get}
 use Rattle.rtl_bits.specs.declared.Bit.{Bit}

@@ -1,4 +1,5 @@
 -- The order of findings: by instance, then by place in the text, then by rule, then by signal, none before any.
+-- Worked examples: crates/tests_rows/stdin.
 use Rattle.std.specs.Prelude.{ℕ, ◌+◌, List, [], ◌∷◌, Bool, if◌then◌else◌, Option, Some, None}
 use Rattle.std.specs.Cmp.Lexicographic.{slice_cmp}
 use Rattle.std.specs.Ordering.{is_lt, nat_cmp}

@@ -1,4 +1,5 @@
 -- What the rules look at in a flat design, and the processes, statements and expressions in which they look.
+-- Worked examples: crates/tests_rows/stdin.
 use Rattle.std.specs.Prelude.{ℕ, zero, suc, ◌==◌, nat_lt, Bool, true, false, not, ◌&&◌, ◌||◌, if◌then◌else◌, List, [], ◌∷◌, ◌++◌, length, map, Option, Some, None}
 use Rattle.std.specs.List.{enumerate_from, filter, filter_map, flat_map, list_any}
 use Rattle.rtl_bits.specs.declared.Bit.{Bit}

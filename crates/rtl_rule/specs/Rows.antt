@@ -1,4 +1,5 @@
 -- The table of the rules.
+-- Worked examples: crates/tests_rows/stdin.
 use Rattle.std.specs.Prelude.{ℕ, Bool, true, false, List, [], ◌∷◌, codes, Option, Some, None, position, slice_get}
 use Rattle.std.specs.Str.{bytes_eq}
 use Rattle.rtl_rule.specs.declared.rule.Rule.{Rule}

@@ -1,5 +1,6 @@
 -- How the findings of a rule are told: the rule has sites, which are all that may break it, in a list; a site that does
 -- has one finding.
+-- Worked examples: crates/tests_rows/stdin.
 use Rattle.std.specs.Prelude.{◌≡◌, ◌⊎◌, List, [], ◌∷◌, map}
 use Rattle.rtl_rule.specs.declared.finding.Finding.{Finding}
 
