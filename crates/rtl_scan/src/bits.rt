@@ -23,12 +23,13 @@ pub struct Bits {
 
 /// A set of bits that grows and shrinks.
 #[derive(Drop)]
-pub(crate) struct BitSet {
+pub struct BitSet {
     masks: BTreeMap<u32, u128>,
 }
 
 impl BitSet {
-    pub(crate) fn new(alloc: Global) -> BitSet
+    /// No bits.
+    pub fn new(alloc: Global) -> BitSet
         ensures { (s k : ℕ) → has result.masks s k ≡ has_rows [] s k }
     {
         BitSet {
@@ -37,7 +38,7 @@ impl BitSet {
     }
 
     /// The bits of a signal.
-    pub(crate) fn mask(&self, signal: SigId) -> u128
+    pub fn mask(&self, signal: SigId) -> u128
         ensures { result ≡ mask_of self.now.masks signal.0 }
     {
         self.masks.get(&signal.0).copied().unwrap_or(0)
@@ -50,14 +51,16 @@ impl BitSet {
         Ok(())
     }
 
-    pub(crate) fn insert(&mut self, row: Row) -> Result<(), Memory>
+    /// Adds the bits of a row.
+    pub fn insert(&mut self, row: Row) -> Result<(), Memory>
         ensures { OnOk result ((s k : ℕ) → has self.new.masks s k ≡ (has self.old.masks s k || has_row row s k)) }
     {
         let mask = self.mask(row.signal);
         self.put(row.signal, mask | row.mask)
     }
 
-    pub(crate) fn remove(&mut self, row: Row) -> Result<(), Memory>
+    /// Takes the bits of a row out.
+    pub fn remove(&mut self, row: Row) -> Result<(), Memory>
         ensures { OnOk result ((s k : ℕ) → has self.new.masks s k ≡ (has self.old.masks s k && not (has_row row s k))) }
     {
         let mask = self.mask(row.signal);
@@ -65,7 +68,7 @@ impl BitSet {
     }
 
     /// The bits of a row that the set lacks.
-    pub(crate) fn lacks(&self, row: Row) -> Row
+    pub fn lacks(&self, row: Row) -> Row
         ensures { (s k : ℕ) → has_row result s k ≡ (has_row row s k && not (has self.now.masks s k)) }
     {
         Row {
@@ -75,7 +78,7 @@ impl BitSet {
     }
 
     /// The bits of a row that the set has.
-    pub(crate) fn shared(&self, row: Row) -> Row
+    pub fn shared(&self, row: Row) -> Row
         ensures { (s k : ℕ) → has_row result s k ≡ (has_row row s k && has self.now.masks s k) }
     {
         Row {
@@ -85,7 +88,7 @@ impl BitSet {
     }
 
     /// The same bits in rows.
-    pub(crate) fn to_bits(&self, alloc: Global) -> Result<Bits, Memory>
+    pub fn to_bits(&self, alloc: Global) -> Result<Bits, Memory>
         ensures bits { IfOk result (λ bits. (s k : ℕ) → has_rows bits.rows.items s k ≡ has self.now.masks s k) }
         ensures order { IfOk result (λ bits. IsInOrder bits.rows.items) }
     {

@@ -244,7 +244,7 @@ impl Search {
 
 /// The greatest number of arrows in a chain to each node, and none for a node on or behind a cycle.
 /// A row has the nodes from which arrows come to its node.
-pub(crate) fn depths(alloc: Global, rows: &[Vec<u32>]) -> Result<Vec<Option<u32>>, Memory>
+pub fn depths(alloc: Global, rows: &[Vec<u32>]) -> Result<Vec<Option<u32>>, Memory>
     requires { AreRows rows.now }
     ensures { IfOk result (λ answers. AreDepths rows.now answers.items) }
 {

@@ -6,7 +6,7 @@ pub mod bits;
 mod complete;
 mod expressions;
 mod feeds;
-mod graph;
+pub mod graph;
 pub mod law;
 mod pass;
 mod scan;
