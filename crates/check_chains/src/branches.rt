@@ -129,7 +129,7 @@ fn has_bad(
 }
 
 /// Whether a process has such a reset.
-fn has_bad_reset(
+pub fn has_bad_reset(
     alloc: Global,
     design: &Design,
     temporaries: &[bool],

@@ -73,7 +73,7 @@ fn whole_target(target: &[TargetPart]) -> Option<SigId>
 }
 
 /// The signal to all of which a nonblocking assignment gives a constant.
-pub(crate) fn reset_of(alloc: Global, design: &Design, one: &Act) -> Result<Option<SigId>, Memory>
+pub fn reset_of(alloc: Global, design: &Design, one: &Act) -> Result<Option<SigId>, Memory>
     requires { IsAction design.now.signals.items (action one.now) }
     ensures { IfOk result (λ found. MatchOption found ((s : ℕ) → spec.resets_to s (action one.now) → ⊥)
         (λ signal. spec.resets_to signal.0 (action one.now))) }

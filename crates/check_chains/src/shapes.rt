@@ -29,7 +29,7 @@ fn are_edges(events: &[EventItem]) -> bool
 }
 
 /// Whether a process waits for several edges, and its body is no chain of resets.
-fn is_shapeless(alloc: Global, design: &Design, does: &Does) -> Result<bool, Memory>
+pub fn is_shapeless(alloc: Global, design: &Design, does: &Does) -> Result<bool, Memory>
     ensures { IfOk result (λ shapeless. shapeless ≡ spec.is_shapeless (parts design.now) (doing does.now)) }
 {
     match does {
@@ -93,7 +93,7 @@ fn any_turned(design: &Design, guards: &[Guard]) -> bool
 }
 
 /// Whether a process has a chain with such a reset.
-fn has_turned(alloc: Global, design: &Design, does: &Does) -> Result<bool, Memory>
+pub fn has_turned(alloc: Global, design: &Design, does: &Does) -> Result<bool, Memory>
     ensures { IfOk result (λ turned. turned ≡ has_turned (parts design.now) (doing does.now)) }
 {
     match chain_of(alloc, design, does)? {

@@ -15,9 +15,9 @@ use rtl_flat::signal::Signal;
 
 /// A test of a reset: its signal, and the level at which it holds.
 #[derive(Clone, Copy)]
-pub(crate) struct Test {
-    pub(crate) signal: SigId,
-    pub(crate) level: bool,
+pub struct Test {
+    pub signal: SigId,
+    pub level: bool,
 }
 
 /// The signal that an expression is, as it stands.
@@ -92,7 +92,7 @@ fn complemented(a: &SizedExpr) -> Option<Test>
 }
 
 /// What an expression tests: `r`, `!r`, `~r`, `r == 1'b1` or `r == 1'b0`.
-pub(crate) fn tested(design: &Design, e: &SizedExpr) -> Option<Test>
+pub fn tested(design: &Design, e: &SizedExpr) -> Option<Test>
     ensures { option_map test_view result ≡ spec.tested (parts design.now) (tree e.now) }
 {
     match &e.node {

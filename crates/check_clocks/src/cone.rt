@@ -52,7 +52,7 @@ fn mark_waited(marks: &mut [bool], does: &Does)
     }
 }
 
-fn mark_all_waited(marks: &mut [bool], processes: &[Process])
+pub fn mark_all_waited(marks: &mut [bool], processes: &[Process])
     ensures { let waits = flat_map (λ process. waited (doing process.does)) processes.now in
         AreMarkedAlso waits marks.old marks.new }
 {
@@ -61,7 +61,7 @@ fn mark_all_waited(marks: &mut [bool], processes: &[Process])
     }
 }
 
-fn any_marked(marks: &[bool], places: &[u32]) -> bool
+pub fn any_marked(marks: &[bool], places: &[u32]) -> bool
     ensures { result ≡ list_any (λ place. slice_index_or marks.now place false) places.now }
 {
     for place in places {
@@ -91,7 +91,7 @@ fn spread(
 }
 
 /// Marks the control cone: what is reached from the clocks and resets of the top through input ports.
-pub(crate) fn cone(alloc: Global, design: &Design) -> Result<Vec<bool>, Memory>
+pub fn cone(alloc: Global, design: &Design) -> Result<Vec<bool>, Memory>
     ensures length { IfOk result (λ marks. length marks.items ≡ length design.now.signals.items) }
     ensures each { IfOk result (λ marks. (s : ℕ) →
         slice_get marks.items s ≡ Some true ↔ InCone (flat design.now) s) }

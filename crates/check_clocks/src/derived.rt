@@ -51,7 +51,7 @@ fn have_roles(tops: &[Vec<u32>], roles: &Roles, events: &[EventItem], own: &[u32
 
 /// Whether a signal whose edges a process waits for comes from no top input, or from one that is
 /// in the list twice or has two roles.
-fn is_derived(tops: &[Vec<u32>], roles: &Roles, events: &[EventItem], signal: SigId) -> bool
+pub fn is_derived(tops: &[Vec<u32>], roles: &Roles, events: &[EventItem], signal: SigId) -> bool
     ensures { let items = map watched events.now in
         let clocks = roles.now.clocks.items in
         result ≡ is_derived tops.now clocks roles.now.resets.items items signal.0 }

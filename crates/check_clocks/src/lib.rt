@@ -2,14 +2,14 @@
 #![tactic(auto)]
 
 mod clock_data;
-mod cone;
+pub mod cone;
 mod data;
-mod derived;
+pub mod derived;
 mod firsts;
-mod links;
-mod passed;
-mod reach;
-mod tops;
+pub mod links;
+pub mod passed;
+pub mod reach;
+pub mod tops;
 mod uses;
 
 pub use clock_data::clock_as_data;

@@ -31,7 +31,7 @@ fn whole_of(e: &SizedExpr) -> Option<SigId>
 }
 
 /// The signal that an expression of one bit is.
-pub(crate) fn bit_named(value: &SizedExpr) -> Option<SigId>
+pub fn bit_named(value: &SizedExpr) -> Option<SigId>
     ensures { option_map (λ signal. signal.0) result ≡ bit_named (tree value.now) }
 {
     if value.width != 1 {
@@ -41,7 +41,7 @@ pub(crate) fn bit_named(value: &SizedExpr) -> Option<SigId>
 }
 
 /// The signal that is all of a target.
-pub(crate) fn whole_target(target: &Target) -> Option<SigId>
+pub fn whole_target(target: &Target) -> Option<SigId>
     ensures { let pieces = map piece target.now.parts.items in
         option_map (λ signal. signal.0) result ≡ whole_target pieces }
 {
@@ -52,7 +52,7 @@ pub(crate) fn whole_target(target: &Target) -> Option<SigId>
 }
 
 /// Whether a signal is there with one bit.
-pub(crate) fn is_bit(design: &Design, signal: SigId) -> bool
+pub fn is_bit(design: &Design, signal: SigId) -> bool
     ensures { result ≡ (widths (parts design.now) signal.0 == 1) }
 {
     match design.signals.get(signal.0 as usize) {
@@ -62,7 +62,7 @@ pub(crate) fn is_bit(design: &Design, signal: SigId) -> bool
 }
 
 /// Whether a signal is there in another instance.
-pub(crate) fn is_elsewhere(design: &Design, instance: u32, signal: SigId) -> bool
+pub fn is_elsewhere(design: &Design, instance: u32, signal: SigId) -> bool
     ensures { result ≡ is_elsewhere instance (slice_get design.now.signals.items signal.0) }
 {
     match design.signals.get(signal.0 as usize) {
@@ -72,7 +72,7 @@ pub(crate) fn is_elsewhere(design: &Design, instance: u32, signal: SigId) -> boo
 }
 
 /// The link of a connection, if it goes from a signal of one bit to one of another instance.
-pub(crate) fn link_if(design: &Design, instance: u32, source: SigId, target: SigId) -> Option<Link>
+pub fn link_if(design: &Design, instance: u32, source: SigId, target: SigId) -> Option<Link>
     ensures { let holds = is_link (parts design.now) instance source.0 target.0 in
         result ≡ link_if holds source.0 target.0 }
 {
@@ -101,7 +101,7 @@ fn plain_link(design: &Design, process: &Process) -> Option<Link>
 }
 
 /// All plain connections.
-pub(crate) fn plain_links(alloc: Global, design: &Design) -> Result<Vec<Link>, Memory>
+pub fn plain_links(alloc: Global, design: &Design) -> Result<Vec<Link>, Memory>
     ensures { IfOk result (λ links.
         links.items ≡ filter_map (plain_of (parts design.now)) (parts design.now).tasks) }
 {
@@ -115,7 +115,7 @@ pub(crate) fn plain_links(alloc: Global, design: &Design) -> Result<Vec<Link>, M
 }
 
 /// Puts a number into a row.
-pub(crate) fn push_at(rows: &mut Vec<Vec<u32>>, place: usize, value: u32) -> Result<(), Memory>
+pub fn push_at(rows: &mut Vec<Vec<u32>>, place: usize, value: u32) -> Result<(), Memory>
     requires { place < length rows.old.items }
     ensures { OnOk result (IsPut place value rows.old.items rows.new.items) }
 {
@@ -124,7 +124,7 @@ pub(crate) fn push_at(rows: &mut Vec<Vec<u32>>, place: usize, value: u32) -> Res
 }
 
 /// Rows without numbers.
-pub(crate) fn empty_rows(alloc: Global, count: usize) -> Result<Vec<Vec<u32>>, Memory>
+pub fn empty_rows(alloc: Global, count: usize) -> Result<Vec<Vec<u32>>, Memory>
     ensures { IfOk result (λ rows. AreRows count [] rows.items) }
 {
     let mut rows = Vec::new(alloc);
@@ -135,7 +135,7 @@ pub(crate) fn empty_rows(alloc: Global, count: usize) -> Result<Vec<Vec<u32>>, M
 }
 
 /// The targets of links, by their sources.
-pub(crate) fn rows_of(alloc: Global, count: usize, links: &[Link]) -> Result<Vec<Vec<u32>>, Memory>
+pub fn rows_of(alloc: Global, count: usize, links: &[Link]) -> Result<Vec<Vec<u32>>, Memory>
     ensures { IfOk result (λ rows. AreRows count links.now rows.items) }
 {
     let mut rows = empty_rows(alloc, count)?;

@@ -41,11 +41,7 @@ fn connection(design: &Design, instance: u32, reads: &[Row], target: &Target) ->
 }
 
 /// The link of a process, if it is the connection of a port that reads one signal alone.
-pub(crate) fn passing_link(
-    alloc: Global,
-    design: &Design,
-    p: ProcId,
-) -> Result<Option<Link>, Memory>
+pub fn passing_link(alloc: Global, design: &Design, p: ProcId) -> Result<Option<Link>, Memory>
     requires { p.0 < length design.now.processes.items }
     ensures { let d = parts design.now in
         IfOk result (λ link. (task : Task) → slice_get d.tasks p.0 ≡ Some task →
@@ -80,7 +76,7 @@ fn push_passing(
 }
 
 /// All such links.
-pub(crate) fn passing_links(alloc: Global, design: &Design) -> Result<Vec<Link>, Memory>
+pub fn passing_links(alloc: Global, design: &Design) -> Result<Vec<Link>, Memory>
     ensures { let d = parts design.now in
         IfOk result (λ links. ArePassing d (length d.tasks) links.items) }
 {

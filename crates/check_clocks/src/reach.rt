@@ -10,14 +10,14 @@ use std::alloc::Global;
 
 /// A signal that goes on to another.
 #[derive(Clone, Copy)]
-pub(crate) struct Link {
-    pub(crate) source: u32,
-    pub(crate) target: u32,
+pub struct Link {
+    pub source: u32,
+    pub target: u32,
 }
 
 /// The numbers found so far, each once and marked.
 #[derive(Drop)]
-pub(crate) struct Reach {
+pub struct Reach {
     seen: Vec<bool>,
     found: Vec<u32>,
 }
@@ -46,7 +46,7 @@ impl Reach {
 }
 
 /// What is reached from a number, itself among it, each once.
-pub(crate) fn reached(alloc: Global, rows: &[Vec<u32>], start: u32) -> Result<Vec<u32>, Memory>
+pub fn reached(alloc: Global, rows: &[Vec<u32>], start: u32) -> Result<Vec<u32>, Memory>
     requires { start < length rows.now }
     ensures { IfOk result (λ found. (k : ℕ) → Among found.items k ↔ Reaches rows.now start k) }
 {

@@ -19,7 +19,7 @@ use rtl_tree::memory::Memory;
 use std::alloc::Global;
 
 /// Whether a signal is there, and a top input.
-pub(crate) fn is_top(design: &Design, signal: SigId) -> bool
+pub fn is_top(design: &Design, signal: SigId) -> bool
     ensures { result ≡ is_top (slice_get design.now.signals.items signal.0) }
 {
     match design.signals.get(signal.0 as usize) {
@@ -59,7 +59,7 @@ fn note_top(
 }
 
 /// The top inputs from which each signal comes through plain connections.
-pub(crate) fn tops_of(alloc: Global, design: &Design) -> Result<Vec<Vec<u32>>, Memory>
+pub fn tops_of(alloc: Global, design: &Design) -> Result<Vec<Vec<u32>>, Memory>
     ensures { IfOk result (λ tops.
         AreTops (parts design.now) (length design.now.signals.items) tops.items) }
 {
@@ -76,7 +76,7 @@ pub(crate) fn tops_of(alloc: Global, design: &Design) -> Result<Vec<Vec<u32>>, M
 }
 
 /// The row of a signal, without numbers where there is none.
-pub(crate) fn row_at(rows: &[Vec<u32>], signal: SigId) -> &[u32]
+pub fn row_at(rows: &[Vec<u32>], signal: SigId) -> &[u32]
     ensures { result.now ≡ row rows.now signal.0 }
 {
     match rows.get(signal.0 as usize) {
@@ -87,14 +87,14 @@ pub(crate) fn row_at(rows: &[Vec<u32>], signal: SigId) -> &[u32]
 
 /// The top inputs that are clocks, and those that are resets.
 #[derive(Drop)]
-pub(crate) struct Roles {
+pub struct Roles {
     clocks: Vec<bool>,
     resets: Vec<bool>,
 }
 
 impl Roles {
     /// Whether a top input is a clock and a reset.
-    pub(crate) fn has_both(&self, top: u32) -> bool
+    pub fn has_both(&self, top: u32) -> bool
         ensures { result ≡ has_both self.now.clocks.items self.now.resets.items top }
     {
         is_marked(&self.clocks, top) && is_marked(&self.resets, top)
@@ -150,7 +150,7 @@ fn mark_resets(marks: &mut [bool], tops: &[Vec<u32>], resets: &[Guard<'_>])
 }
 
 /// The roles of all top inputs.
-pub(crate) fn roles_of(alloc: Global, design: &Design, tops: &[Vec<u32>]) -> Result<Roles, Memory>
+pub fn roles_of(alloc: Global, design: &Design, tops: &[Vec<u32>]) -> Result<Roles, Memory>
     ensures { let d = parts design.now in
         let count = length design.now.processes.items in
         IfOk result (λ roles. AreTops d (length d.signals) tops.now →
@@ -167,7 +167,7 @@ pub(crate) fn roles_of(alloc: Global, design: &Design, tops: &[Vec<u32>]) -> Res
     Ok(roles)
 }
 
-pub(crate) fn is_marked(marks: &[bool], place: u32) -> bool
+pub fn is_marked(marks: &[bool], place: u32) -> bool
     ensures { result ≡ slice_index_or marks.now place false }
 {
     match marks.get(place as usize) {
@@ -176,7 +176,7 @@ pub(crate) fn is_marked(marks: &[bool], place: u32) -> bool
     }
 }
 
-pub(crate) fn mark(marks: &mut [bool], place: u32)
+pub fn mark(marks: &mut [bool], place: u32)
     ensures { AreMarkedAlso (place ∷ []) marks.old marks.new }
 {
     if (place as usize) < marks.len() {
@@ -184,7 +184,7 @@ pub(crate) fn mark(marks: &mut [bool], place: u32)
     }
 }
 
-pub(crate) fn mark_all(marks: &mut [bool], places: &[u32])
+pub fn mark_all(marks: &mut [bool], places: &[u32])
     ensures { AreMarkedAlso places.now marks.old marks.new }
 {
     for place in places {
