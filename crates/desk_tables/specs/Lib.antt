@@ -1,0 +1,8 @@
+pub mod Days
+pub mod Names
+pub mod Calls
+pub mod Tables
+pub mod Changes
+pub mod Rules
+pub mod Seen
+pub mod MemoryKeeper
