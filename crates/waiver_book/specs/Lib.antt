@@ -1,0 +1,2 @@
+pub mod Waivers
+pub mod Books
