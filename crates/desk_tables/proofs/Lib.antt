@@ -1,3 +1,4 @@
 pub mod Broken
+mod Example
 pub mod Looked
 pub mod Texts

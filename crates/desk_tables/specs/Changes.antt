@@ -1,4 +1,5 @@
 -- What a request that was accepted changes in the tables.
+-- Worked examples: crates/desk_tables/proofs/Example.antt.
 use Rattle.std.specs.Prelude.{ℤ, ℕ, Bool, not, bytes_eq, nat_eq, List, [], ◌∷◌, ◌++◌, filter, position, slice_get, slice_set, Option, Some, None}
 use Rattle.desk_tables.specs.declared.change.Change.{Change}
 use Rattle.desk_tables.specs.declared.change.Change.TheVariants.{PutFile, DropFile, Grant, Revoke, SignOff}

@@ -1,4 +1,5 @@
 -- Days, as numbers of days since 1970-01-01.
+-- Worked examples: crates/desk_tables/proofs/Example.antt.
 use Rattle.std.specs.Prelude.{ℤ, ◌≤ℤ◌, int_le, ◌&&◌, Option, Some, None, if◌then◌else◌}
 use Rattle.desk_tables.specs.declared.day.TheConstants.{FIRST_DAY, LAST_DAY}
 

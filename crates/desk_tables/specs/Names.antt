@@ -1,4 +1,5 @@
 -- Names of users.
+-- Worked examples: crates/desk_tables/proofs/Example.antt.
 use Rattle.std.specs.Prelude.{ℕ, Bool, ◌&&◌, ◌||◌, ◌==◌, not, nat_le, List, length, Option, Some, None, if◌then◌else◌}
 use Rattle.std.specs.List.{list_all}
 use Rattle.std.specs.Char.{is_ascii_digit, is_ascii_lowercase}

@@ -1,4 +1,5 @@
 -- The rules of the tables. A row is looked at with the rows before it in its table.
+-- Worked examples: crates/desk_tables/proofs/Example.antt.
 use Rattle.std.specs.Prelude.{ℕ, Bool, not, ◌&&◌, ◌||◌, ◌==◌, ◌+◌, nat_le, nat_lt, bytes_eq, List, [], ◌∷◌, ◌++◌, length, sum_by, is_some, option_map, Option, Some, None, if◌then◌else◌}
 use Rattle.std.specs.List.{list_all, list_any}
 use Rattle.std.specs.Char.{is_ascii_alphanumeric}

@@ -1,3 +1,4 @@
+mod Example
 pub mod Refusals
 pub mod SameRule
 pub mod TakenBack

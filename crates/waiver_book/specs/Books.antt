@@ -1,4 +1,5 @@
 -- The book of waivers as a list, in which the waiver at place 0 has the number 1.
+-- Worked examples: crates/waiver_book/proofs/Example.antt.
 use Rattle.std.specs.Prelude.{ℤ, ◌-ℤ◌, ℕ, ◌+◌, ◌-◌, not, ◌==◌, int_lt, bytes_eq, nat_abs, List, [], ◌∷◌, ◌++◌, position, slice_get, slice_set, option_map, Option, Some, None, Result, Ok, Err, ◌≡◌, if◌then◌else◌}
 use Rattle.desk_tables.specs.declared.rows.WaiverId.{WaiverId}
 use Rattle.rtl_rule.specs.Rows.{row_of}

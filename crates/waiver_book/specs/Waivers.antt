@@ -1,4 +1,5 @@
 -- Waivers, and what they are of.
+-- Worked examples: crates/waiver_book/proofs/Example.antt.
 use Rattle.std.specs.Prelude.{ℤ, ℕ, Bool, ◌&&◌, ◌==◌, nat_eq, int_le, int_lt, bytes_eq, List, is_none, Option, Some, None, if◌then◌else◌}
 use Rattle.std.specs.List.{list_any}
 use Rattle.rtl_rule.specs.Rows.{rule_number}

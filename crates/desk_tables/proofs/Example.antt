@@ -1,0 +1,62 @@
+-- Names, days and changes, on small cases.
+use Rattle.std.proofs.Common.{◌≡◌, true, false, List, ℕ, [], ◌∷◌, None, Some, refl, codes}
+use Rattle.std.specs.Prelude.{pos, negsuc}
+use Rattle.desk_tables.specs.Changes.{with_file, without_file}
+use Rattle.desk_tables.specs.Days.{day_of}
+use Rattle.desk_tables.specs.Names.{is_name}
+use Rattle.desk_tables.specs.Rules.{broken_meta, has_reply, is_file_name}
+use Rattle.desk_tables.specs.declared.rows.FileRow.{FileRow}
+use Rattle.desk_tables.specs.declared.rows.ReplyRow.{ReplyRow}
+
+a_name : is_name (codes "jo_2-b") ≡ true
+a_name = refl
+
+no_capital : is_name (codes "Jo") ≡ false
+no_capital = refl
+
+no_empty_name : is_name [] ≡ false
+no_empty_name = refl
+
+the_last_day : day_of (pos 2932896) ≡ Some (pos 2932896)
+the_last_day = refl
+
+no_day_behind_it : day_of (pos 2932897) ≡ None
+no_day_behind_it = refl
+
+no_day_before_the_first : day_of (negsuc 719528) ≡ None
+no_day_before_the_first = refl
+
+a_file_name : is_file_name (codes "Uart_tx.v") ≡ true
+a_file_name = refl
+
+no_folder : is_file_name (codes "src/tx.v") ≡ false
+no_folder = refl
+
+abbrev file : List ℕ → List ℕ → FileRow
+file its_name its_text = record { name = its_name; text = its_text; digest = []; editor = codes "jo" }
+
+abbrev both : List FileRow
+both = file (codes "a") (codes "1") ∷ file (codes "b") (codes "2") ∷ []
+
+a_replaced_file_keeps_its_place : with_file (file (codes "a") (codes "3")) both ≡ file (codes "a") (codes "3") ∷ file (codes "b") (codes "2") ∷ []
+a_replaced_file_keeps_its_place = refl
+
+a_new_file_stands_at_the_end : with_file (file (codes "c") (codes "3")) both ≡ file (codes "a") (codes "1") ∷ file (codes "b") (codes "2") ∷ file (codes "c") (codes "3") ∷ []
+a_new_file_stands_at_the_end = refl
+
+a_dropped_file_goes : without_file (codes "a") both ≡ file (codes "b") (codes "2") ∷ []
+a_dropped_file_goes = refl
+
+no_version_breaks_at_the_first_row : broken_meta [] ≡ Some 1
+no_version_breaks_at_the_first_row = refl
+
+two_versions_break_at_the_second : broken_meta (record { version = 1 } ∷ record { version = 1 } ∷ []) ≡ Some 2
+two_versions_break_at_the_second = refl
+
+abbrev reply : List ℕ → List ℕ → ReplyRow
+reply its_user its_request =
+    record { user = its_user; request = its_request; digest = []; status = 200; body = [] }
+
+-- the same letters, parted elsewhere, are another request
+another_pair : has_reply (codes "jo") (codes "b1") (reply (codes "job") (codes "1") ∷ []) ≡ false
+another_pair = refl
