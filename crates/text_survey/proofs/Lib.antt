@@ -1,4 +1,4 @@
-mod Laws
+pub mod Laws
 mod Numbers
 mod Pragmas
 mod Stacks

@@ -1,6 +1,6 @@
 -- What a survey says of tokens.
 -- Worked examples: crates/tests_text/src/modules.rt, crates/tests_text/src/limits.rt.
-use Rattle.std.specs.Prelude.{◌≡◌, ◌≤◌, ◌<◌, ◌+◌, ℕ, Some, reverse, map, List, [], ◌∷◌, take, drop, length}
+use Rattle.std.specs.Prelude.{◌≡◌, ◌≤◌, ◌<◌, ◌+◌, ◌-◌, ℕ, Some, reverse, map, List, [], ◌∷◌, take, drop, length}
 use Rattle.std.specs.List.{slice_get}
 use Rattle.rtl_tree.specs.declared.dropped.Dropped.{Dropped}
 use Rattle.rtl_tree.specs.declared.literal.Literal.{Literal}
@@ -14,7 +14,7 @@ use Rattle.text_survey.specs.declared.machine.Machine.{Machine}
 use Rattle.text_survey.specs.declared.machine.Surveyed.{Surveyed}
 use Rattle.text_survey.specs.declared.machine.Surveyed.TheVariants.{Spelled, TooDeep, Stopped}
 use Rattle.text_survey.specs.declared.task.Task.TheVariants as task
-use Rattle.text_survey.specs.Machine.{State, at, symbol_at}
+use Rattle.text_survey.specs.Machine.{State, at, symbol_at, Leads}
 
 abbrev pub state : Machine → State
 state machine = at (reverse machine.tasks.items) (map terminal machine.rest.now)
@@ -48,8 +48,12 @@ SpellSome tokens = AreNumbered tokens → (regions : List Dropped) → (circuits
 abbrev pub AreClosed : List Terminal → ℕ → Type 0
 AreClosed tokens n = (m : ℕ) (t : Terminal) → m < n → slice_get tokens m ≡ Some t → t.symbol ≡ symbol.Endmodule → SpellSome (take (m + 1) tokens)
 
+-- the survey comes to a state in which it has taken the first `n`
+abbrev pub IsReached : List Terminal → ℕ → Type 0
+IsReached tokens n = (s : State) × Leads (start tokens) s × (n ≡ length tokens - length s.rest)
+
 -- what a survey answers
 abbrev pub IsSurvey : List Terminal → Surveyed → Type 0
 IsSurvey tokens Spelled = SpellSomeThat (λ circuits. too_deep circuits ≡ []) tokens
 IsSurvey tokens (TooDeep place) = SpellSomeThat (λ circuits. IsLeastPlace (too_deep circuits) place) tokens
-IsSurvey tokens (Stopped n) = (n ≤ length tokens) × IsDead tokens n × AreClosed tokens n
+IsSurvey tokens (Stopped n) = (n ≤ length tokens) × IsDead tokens n × AreClosed tokens n × IsReached tokens n

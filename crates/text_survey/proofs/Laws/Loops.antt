@@ -8,7 +8,7 @@ use Rattle.text_survey.specs.Rule.{rule}
 use Rattle.text_survey.specs.Machine.{State, at, symbol_at, left, moved, next, Leads, Moves}
 use Rattle.rtl_tree.specs.Deeper.{too_deep, IsLeastPlace}
 use Rattle.rtl_tree.specs.declared.tree.nesting.TheConstants.{MAX_NESTING}
-use Rattle.text_survey.specs.Surveys.{start, IsDead, AreClosed, SpellSomeThat}
+use Rattle.text_survey.specs.Surveys.{start, IsDead, AreClosed, IsReached, SpellSomeThat}
 use Rattle.text_survey.specs.declared.depths.Depths as kept
 use Rattle.text_survey.specs.declared.task.Task.TheVariants as task
 use Rattle.text_survey.specs.Table.{Step}
@@ -55,7 +55,7 @@ less ts rest items front after t e m =
 
 -- what is known of a place where nothing more can be done
 abbrev pub Stop : List Terminal → ℕ → Type 0
-Stop ts n = (n ≤ length ts) × IsDead ts n × AreClosed ts n
+Stop ts n = (n ≤ length ts) × IsDead ts n × AreClosed ts n × IsReached ts n
 
 pub within : (ts rest : List code.Terminal) (tasks : List Task) → Leads (start (map terminal ts)) (at tasks (map terminal rest)) → length rest ≤ length ts
 within ts rest tasks w =
@@ -68,7 +68,7 @@ stop_at ts rest tasks w h open' =
     let d = dead (map terminal ts) (at tasks (map terminal rest)) w h open' in
     let size : length (map terminal ts) - length (map terminal rest) ≡ length ts - length rest = omega (arith, length-map ts terminal, length-map rest terminal) in
     let c = closed (map terminal ts) (at tasks (map terminal rest)) w in
-    (omega (arith, length-map ts terminal), subst (λ n. IsDead (map terminal ts) n) size d, subst (λ n. AreClosed (map terminal ts) n) size c)
+    (omega (arith, length-map ts terminal), subst (λ n. IsDead (map terminal ts) n) size d, subst (λ n. AreClosed (map terminal ts) n) size c, (at tasks (map terminal rest), w, sym size))
 
 pub stuck : (ts rest : List code.Terminal) (items front : List Task) (t : Task) → items ≡ front ++ t ∷ [] → Leads (start (map terminal ts)) (at (reverse items) (map terminal rest))
     → moved (rule t (symbol_at (map terminal rest))) (reverse front) (map terminal rest) ≡ None → Stop (map terminal ts) (length ts - length rest)
