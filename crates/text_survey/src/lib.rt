@@ -1,4 +1,4 @@
-// Whether tokens spell modules, else where they stop doing so, and how deep they nest: found without recursion.
+// Whether tokens spell modules, else the first that none can have there, and how deep they nest: found without recursion.
 #![tactic(auto)]
 
 mod depths;

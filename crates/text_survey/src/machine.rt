@@ -98,8 +98,9 @@ impl<'a> Machine<'a> {
     }
 }
 
-/// Of tokens whose numbers have values: whether they spell modules, else where they stop doing so, and whether these are nested
-/// too deep. Of others it is said only that nothing is spelled where they stop. The only error is want of memory.
+/// Of tokens whose numbers have values: whether they spell modules, else the first token that no modules can have there, and
+/// whether these are nested too deep. Of others it is said only that nothing is spelled where they stop. The only error is want
+/// of memory.
 pub fn survey(alloc: Global, tokens: &[Terminal]) -> Result<Surveyed, Memory>
     ensures { IfOk result (λ s. surveys.IsSurvey (map terminal tokens.now) s) }
 {

@@ -1,0 +1,5 @@
+mod Rows
+mod Keeps
+mod Runs
+mod Finish
+pub mod Least
