@@ -77,7 +77,7 @@ spelled_uncaused ready circuits (parsing.Refused name place) known inside spelle
     let both : ◌≡◌ {A = Option ℕ} (Some cause.0) None = sym cause.1 ∙ inside in
     cc
 spelled_uncaused ready circuits (parsing.Syntax name place) known inside spelled shallow cause =
-    cause.2 (tokens ready) refl refl ready.dropped circuits spelled
+    cause.2.dead (tokens ready) refl refl ready.dropped circuits spelled
 spelled_uncaused ready circuits (parsing.TooDeep place) known inside spelled shallow cause =
     let same : cause.0 ≡ circuits = spelled_once ready.dropped (terminals ready.text ready.tokens) cause.0 circuits cause.2 spelled in
     nothing_there (too_deep cause.0) place (ap too_deep same ∙ shallow) cause.3.there

@@ -14,9 +14,11 @@ use Rattle.rtl_tree.specs.declared.dropped.Dropped.{Dropped}
 use Rattle.rtl_tree.specs.declared.token.Token.{Token}
 use Rattle.rtl_tree.specs.declared.tree.nesting.TheConstants.{MAX_NESTING}
 use Rattle.text_survey.specs.Terminals.{is_refused}
-use Rattle.text_survey.specs.Surveys.{AreNumbered, IsDead, AreClosed, IsSurvey}
+use Rattle.text_survey.specs.Surveys.{AreNumbered, AreClosed, IsSurvey}
 use Rattle.text_survey.specs.declared.machine.Surveyed.{Surveyed}
 use Rattle.text_survey.specs.declared.machine.Surveyed.TheVariants as surveyed
+use Rattle.text_least.specs.Least.{IsLeast}
+use Rattle.text_least.proofs.Least.{goes_on}
 use Rattle.text_build.specs.declared.fault.BuildFault.{BuildFault}
 use Rattle.text_build.specs.Built.{IsBuilt}
 use Rattle.rtl_parse.specs.declared.fault.ParseFault.TheVariants.{Refused, Syntax, TooDeep}
@@ -72,7 +74,8 @@ pub stop_cause : (ready : Ready) (xs : List code.Terminal) (text : List ℕ) (s 
     → IsThere text (slice_get (map terminal xs) n) word.items at → IsCause ready (Syntax word at)
 stop_cause ready xs text s n word at read inside survey stopped e found =
     let v : IsSurvey (map terminal xs) (surveyed.Stopped n) = subst (λ x. IsSurvey (map terminal xs) x) stopped survey in
-    (n, inside, subst (λ ts. IsDead ts n) read.same v.1, subst (λ ts. AreClosed ts n) read.same v.2, there ready xs text n word.items at read e found)
+    let least : IsLeast (map terminal xs) n = record { within = v.0; goes_on = goes_on (map terminal xs) n read.numbered v.3; dead = v.1 } in
+    (n, inside, subst (λ ts. IsLeast ts n) read.same least, subst (λ ts. AreClosed ts n) read.same v.2, there ready xs text n word.items at read e found)
 
 -- what is spelled and somewhere too deep
 pub depth_cause : (ready : Ready) (xs : List code.Terminal) (s : Surveyed) (at : ℕ) → AreRead ready xs → first_outside ready ≡ None

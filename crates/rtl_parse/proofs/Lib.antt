@@ -1,2 +1,3 @@
 mod Shallow
 mod Answers
+pub mod OneCause

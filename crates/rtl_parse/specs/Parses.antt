@@ -8,7 +8,8 @@ use Rattle.rtl_tree.specs.TreeModule.{Circuit}
 use Rattle.rtl_tree.specs.GrammarModule.{Spells}
 use Rattle.rtl_tree.specs.Deeper.{too_deep, IsLeastPlace}
 use Rattle.text_survey.specs.Terminals.{is_refused}
-use Rattle.text_survey.specs.Surveys.{IsDead, AreClosed}
+use Rattle.text_survey.specs.Surveys.{AreClosed}
+use Rattle.text_least.specs.Least.{IsLeast}
 use Rattle.rtl_parse.specs.declared.fault.ParseFault.{ParseFault}
 use Rattle.rtl_parse.specs.declared.fault.ParseFault.TheVariants.{Refused, Syntax, TooDeep, Memory}
 
@@ -28,13 +29,31 @@ abbrev pub IsThere : List ℕ → Option Terminal → List ℕ → ℕ → Type 
 IsThere all (Some t) text at = (t.text ≡ text) × (t.at ≡ at)
 IsThere all None text at = (text ≡ []) × (at ≡ min (length all) 4294967295)
 
--- why a prepared text isn't parsed: its first token that is outside this language; else the token through which nothing is spelled,
--- whatever follows it, while the modules before it are spelled; else the least place that is nested too deep in what is spelled
+-- why a prepared text isn't parsed: its first token that is outside this language; else the first token that no modules can have
+-- there, while the modules before it are spelled; else the least place that is nested too deep in what is spelled
 abbrev pub IsCause : Ready → ParseFault → Type 0
 IsCause ready (Refused text at) =
     (n : ℕ) × (first_outside ready ≡ Some n) × IsThere ready.text (slice_get (tokens ready) n) text.items at
 IsCause ready (Syntax text at) =
-    (n : ℕ) × (first_outside ready ≡ None) × IsDead (tokens ready) n × AreClosed (tokens ready) n × IsThere ready.text (slice_get (tokens ready) n) text.items at
+    (n : ℕ) × (first_outside ready ≡ None) × IsLeast (tokens ready) n × AreClosed (tokens ready) n × IsThere ready.text (slice_get (tokens ready) n) text.items at
 IsCause ready (TooDeep at) =
     (circuits : List Circuit) × (first_outside ready ≡ None) × Spells ready circuits × IsLeastPlace (too_deep circuits) at
 IsCause ready Memory = Unit {0}
+
+-- a fault by what it tells
+pub data Reason : Type 0 where
+  Outside : (word : List ℕ) (at : ℕ) → Reason
+  Unspelled : (token : List ℕ) (at : ℕ) → Reason
+  Nested : (at : ℕ) → Reason
+  OutOfMemory : Reason
+
+abbrev pub reason : ParseFault → Reason
+reason (Refused word at) = Outside word.items at
+reason (Syntax token at) = Unspelled token.items at
+reason (TooDeep at) = Nested at
+reason Memory = OutOfMemory
+
+-- memory didn't run out
+abbrev pub IsOfText : ParseFault → Type 0
+IsOfText Memory = ⊥
+IsOfText fault = Unit {0}

@@ -10,8 +10,8 @@ pub enum ParseFault {
     /// A word or a mark of a construct outside this language, and its place.
     #[error("refused construct")]
     Refused(Vec<u8>, u32),
-    /// The token at which the text stops being one, and its place: no text with the same tokens through it is spelled. At
-    /// the end of the file the token is empty, and the place is after the last byte.
+    /// The first token that no text of modules can have there, and its place: the tokens before it go on to modules, and with
+    /// it nothing does. At the end of the file the token is empty, and the place is after the last byte.
     #[error("syntax")]
     Syntax(Vec<u8>, u32),
     /// The first place of an expression or a statement that is nested more than 200 deep.

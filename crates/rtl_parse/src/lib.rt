@@ -2,6 +2,7 @@
 #![tactic(auto)]
 
 mod fault;
+pub mod law;
 mod whole;
 
 pub use fault::ParseFault;

@@ -42,8 +42,8 @@ fn place(
 ///
 /// # Errors
 ///
-/// `Refused` at the first such word, else `Syntax` where nothing is spelled, else `TooDeep` at the least place that is nested
-/// more than 200 deep; `Memory` where memory runs out.
+/// `Refused` at the first such word, else `Syntax` at the first token that no modules can have there, else `TooDeep` at the least
+/// place that is nested more than 200 deep; `Memory` where memory runs out.
 pub fn parse<L: Ledger>(
     alloc: Global,
     text: &Prepared,
