@@ -28,7 +28,7 @@ use Rattle.rtl_front.proofs.Once.{prepared_once}
 -- ---- tokens
 
 -- a refusal is an answer, but for want of memory
-refusal_answers : (text : List ℕ) (fault : LexFault) → is_memory (Lex fault) ≡ false → Refuses text fault → Answers text (Err fault)
+pub refusal_answers : (text : List ℕ) (fault : LexFault) → is_memory (Lex fault) ≡ false → Refuses text fault → Answers text (Err fault)
 refusal_answers text (lexing.NotAscii place) known refuses = refuses
 refusal_answers text (lexing.BadNumber place) known refuses = refuses
 refusal_answers text (lexing.BadCharacter place) known refuses = refuses
@@ -36,7 +36,7 @@ refusal_answers text (lexing.OpenComment place) known refuses = refuses
 refusal_answers text (lexing.TooManyTokens place) known refuses = refuses
 refusal_answers text lexing.Memory known refuses = absurd (cc)
 
-split_unrefused : (text : List ℕ) (all : List Token) (fault : LexFault) → is_memory (Lex fault) ≡ false → Answers text (Ok all) → Refuses text fault → ⊥
+pub split_unrefused : (text : List ℕ) (all : List Token) (fault : LexFault) → is_memory (Lex fault) ≡ false → Answers text (Ok all) → Refuses text fault → ⊥
 split_unrefused text all fault known split refuses =
     let answers : Answers text (Err fault) = refusal_answers text fault known refuses in
     let both : ◌≡◌ {A = Result (List Token) LexFault} (Ok all) (Err fault) = one_answer text (Ok all) (Err fault) split answers in
@@ -52,14 +52,14 @@ ok_tells_none outcome ready (preparing.MacroLoop name place) known is tells = cc
 ok_tells_none outcome ready (preparing.TooManyTokens place) known is tells = cc
 ok_tells_none outcome ready preparing.Memory known is tells = cc
 
-prepared_untold : (text : List ℕ) (ready : Ready) (all : List Token) (fault : PrepFault) → is_memory (Prepare fault) ≡ false
+pub prepared_untold : (text : List ℕ) (ready : Ready) (all : List Token) (fault : PrepFault) → is_memory (Prepare fault) ≡ false
     → IsPrepared text ready → Answers text (Ok all) → Tells (λ (same : Ready). same) (prepared text all) (Err fault) → ⊥
 prepared_untold text ready all fault known prepares split tells =
     let both : ◌≡◌ {A = Result (List Token) LexFault} (Ok prepares.tokens) (Ok all) = one_answer text (Ok prepares.tokens) (Ok all) prepares.split split in
     let same : prepares.tokens ≡ all = cc in
     ok_tells_none (prepared text all) ready fault known (ap (prepared text) (sym same) ∙ prepares.prepares) tells
 
-one_ready : (text : List ℕ) (ready other : Ready) → IsPrepared text ready → IsPrepared text other → other ≡ ready
+pub one_ready : (text : List ℕ) (ready other : Ready) → IsPrepared text ready → IsPrepared text other → other ≡ ready
 one_ready text ready other prepares again =
     prepared_once text prepares.tokens ready other (λ answer. one_answer text (Ok prepares.tokens) answer prepares.split) prepares.prepares again
 
@@ -85,7 +85,7 @@ spelled_uncaused ready circuits parsing.Memory known inside spelled shallow caus
 
 -- ---- texts
 
-read_or_faulty : (text : List ℕ) (circuits : List Circuit) (fault : FileFault) → is_memory fault ≡ false → IsRead text circuits → IsFaulty text fault → ⊥
+pub read_or_faulty : (text : List ℕ) (circuits : List Circuit) (fault : FileFault) → is_memory fault ≡ false → IsRead text circuits → IsFaulty text fault → ⊥
 read_or_faulty text circuits (Lex fault) known reads faulty = split_unrefused text reads.is_prepared.tokens fault known reads.is_prepared.split faulty
 read_or_faulty text circuits (Prepare fault) known reads faulty = prepared_untold text reads.ready faulty.0 fault known reads.is_prepared faulty.1 faulty.2
 read_or_faulty text circuits (Parse fault) known reads faulty =

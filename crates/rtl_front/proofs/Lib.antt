@@ -1,3 +1,4 @@
 pub mod Apart
 pub mod Once
 pub mod Reading
+pub mod Same
