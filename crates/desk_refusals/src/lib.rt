@@ -3,6 +3,7 @@
 
 mod design;
 mod file;
+pub mod law;
 mod line;
 mod reason;
 mod word;
