@@ -1,0 +1,16 @@
+//! Laws of solutions.
+
+ghost use Rattle.std.specs.Prelude.{ℕ};
+ghost use Rattle.event_model.specs.Queue.{Flat};
+ghost use Rattle.event_laws.specs.Steady.{AreLawful};
+ghost use Rattle.net_solve.specs.Laws.{AreSame, Ascends, IsWorkable, WorkedSolve};
+
+/// Where no process feeds itself over others, two solutions of one design that are given alike are alike.
+pub fn same()
+    ensures { (d : Flat) (rank : ℕ → ℕ) → AreLawful d → Ascends d rank → AreSame d }
+{}
+
+/// Processes that are worked out one after another, each behind those that feed it, solve the equations.
+pub fn worked()
+    ensures { (d : Flat) → IsWorkable d → WorkedSolve d }
+{}
