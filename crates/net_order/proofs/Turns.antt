@@ -1,0 +1,38 @@
+-- The process that a loop looks at.
+use Rattle.std.specs.List.{slice_get}
+use Rattle.std.proofs.Common.{ℕ, zero, suc, ◌≡◌, ◌∙◌, ◌<◌, arith, Bool, true, false, List, [], ◌∷◌, length, get_or, Some, refl, sym}
+use Rattle.std.proofs.lemmas.Bool.{false≢true}
+use Rattle.rtl_flat.specs.declared.act.Process.{Process}
+use Rattle.rtl_flat.specs.declared.design.Design.{Design}
+use Rattle.rtl_flat.specs.Levels.{HasNoEdge, IsNode}
+use Rattle.rtl_flat.specs.Process.{Task, doing, task}
+use Rattle.rtl_rule.specs.Parts.{parts}
+use Rattle.rtl_scan.specs.Arrows.{is_node}
+use Rattle.rtl_scan.proofs.Processes.{back, there}
+use Rattle.check_found.proofs.Sites.{task_at, task_count}
+use Rattle.net_order.proofs.Feeding.{edge_node, node_edge}
+
+there_is : {A : Type 0} (xs : List A) (k : ℕ) → k < length xs → (x : A) × (slice_get xs k ≡ Some x)
+there_is [] k below = absurd (omega arith)
+there_is (x ∷ xs) zero below = (x, refl)
+there_is (x ∷ xs) (suc k) below = there_is xs k (omega arith)
+
+pub task_of : (design : Design) (k : ℕ) → k < length design.processes.items → (one : Task) × (slice_get (parts design).tasks k ≡ Some one)
+task_of design k below =
+    let count = task_count design in
+    there_is (parts design).tasks k (omega arith)
+
+-- ---- whether it has a place in the graph
+
+module _ (design : Design) (n : ℕ) (x : Process) (below : n < length design.processes.items) (read : x ≡ get_or design.processes.items n x) where
+  pub there_at : slice_get (parts design).tasks n ≡ Some (task x)
+  there_at = task_at design n x below read
+
+  pub node_there : (b : Bool) → b ≡ is_node (doing x.does) → b ≡ true → IsNode (parts design).tasks n
+  node_there b is some =
+      there (λ t. HasNoEdge t.does) (parts design).tasks n (task x) there_at (edge_node (doing x.does) (sym is ∙ some))
+
+  pub node_not : (b : Bool) → b ≡ is_node (doing x.does) → b ≡ false → IsNode (parts design).tasks n → ⊥
+  node_not b is none node =
+      let no_edge = back (λ t. HasNoEdge t.does) (parts design).tasks n n (task x) there_at refl node in
+      false≢true (sym none ∙ (is ∙ node_edge (doing x.does) no_edge))

@@ -1,0 +1,6 @@
+use Rattle.rtl_rule.specs.Parts.{parts}
+use Rattle.net_order.specs.Feeds.{ArePlaced}
+use Rattle.net_order.proofs.rank.places.Given as goal
+
+abbrev pub invariant-loop-number : goal.invariant-loop-number
+invariant-loop-number l = ArePlaced (parts l.design).tasks l.depths l.number l.found.items

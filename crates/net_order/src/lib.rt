@@ -1,0 +1,7 @@
+//! In which order processes without edges are worked out.
+#![tactic(auto)]
+
+mod feeds;
+pub mod order;
+mod rank;
+mod writers;
