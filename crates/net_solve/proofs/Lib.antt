@@ -1,3 +1,4 @@
 pub mod Digits
 pub mod Same
 pub mod Worked
+pub mod Ranked

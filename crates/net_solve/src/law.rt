@@ -1,13 +1,18 @@
 //! Laws of solutions.
 
-ghost use Rattle.std.specs.Prelude.{ℕ};
+ghost use Rattle.std.specs.Prelude.{ℕ, List};
 ghost use Rattle.event_model.specs.Queue.{Flat};
 ghost use Rattle.event_laws.specs.Steady.{AreLawful};
-ghost use Rattle.net_solve.specs.Laws.{AreSame, Ascends, IsWorkable, WorkedSolve};
+ghost use Rattle.net_solve.specs.Laws.{AreSame, Ascends, IsOrder, IsWorkable, WorkedSolve};
 
 /// Where no process feeds itself over others, two solutions of one design that are given alike are alike.
 pub fn same()
     ensures { (d : Flat) (rank : ℕ → ℕ) → AreLawful d → Ascends d rank → AreSame d }
+{}
+
+/// So it is where processes have an order.
+pub fn same_in_order()
+    ensures { (d : Flat) (order : List ℕ) → AreLawful d → IsOrder d order → AreSame d }
 {}
 
 /// Processes that are worked out one after another, each behind those that feed it, solve the equations.
