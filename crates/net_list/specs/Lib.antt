@@ -1,0 +1,4 @@
+pub mod Faults
+pub mod Chosen
+pub mod Drivers
+pub mod Failing
