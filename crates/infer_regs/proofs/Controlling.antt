@@ -1,0 +1,140 @@
+-- The top inputs that are clocks or resets, one after another.
+use Rattle.std.proofs.Common.{◌≡◌, ◌∙◌, ◌<◌, ◌≤◌, ◌+◌, ℕ, zero, suc, Bool, true, false, List, [], ◌∷◌, ◌++◌, length, get_or, Option, None, Some, refl, sym, ap, subst, inl, inr, arith}
+use Rattle.std.specs.Prelude.{◌⊎◌, ◌↔◌, Vec}
+use Rattle.std.specs.List.{AllByRecursion, list_any, slice_get}
+use Rattle.std.specs.declared.alloc.Global.{Global}
+use Rattle.std.proofs.lemmas.Bool.{both_ways, cases_eq, false≢true, or_cases, or_left, or_right}
+use Rattle.rtl_flat.specs.declared.signal.Kind.{Kind}
+use Rattle.rtl_flat.specs.declared.signal.Kind.TheVariants.{TopInput, Net, Var}
+use Rattle.rtl_flat.specs.declared.signal.Signal.{Signal}
+use Rattle.event_model.specs.Queue.{is_input_kind, is_input_of}
+use Rattle.net_model.specs.Control.{IsControl, IsReached, Itself, Through}
+use Rattle.rtl_rule.specs.Parts.{Parts}
+use Rattle.rtl_scan.specs.Arrows.{Among}
+use Rattle.check_clocks.specs.declared.reach.Link.{Link}
+use Rattle.check_clocks.specs.Cone.{AreEdgeMarks, ArePassing, ReachesMarked, flat_of}
+use Rattle.check_clocks.specs.Links.{AreRows}
+use Rattle.check_clocks.specs.Reach.{Reaches}
+use Rattle.check_clocks.specs.Tops.{is_top, is_top_kind}
+use Rattle.check_clocks.proofs.Coned.{reached_from, reached_to}
+use Rattle.check_clocks.proofs.Linked.{bit_inside}
+use Rattle.check_clocks.proofs.Reached.{among_cases, among_left, among_right}
+use Rattle.infer_regs.specs.Forms.{AreControls, AreRising}
+
+-- ---- numbers that rise
+
+rising_push : (xs : List ℕ) (n : ℕ) → AreRising xs → ((s : ℕ) → Among xs s → s < n) → AreRising (xs ++ n ∷ [])
+rising_push [] n h below = (tt, tt)
+rising_push (x ∷ xs) n (first, rest) below =
+    (all_push xs first, rising_push xs n rest (λ s among. below s (inr among)))
+  where
+    all_push : (ys : List ℕ) → AllByRecursion (λ other. x < other) ys → AllByRecursion (λ other. x < other) (ys ++ n ∷ [])
+    all_push [] h = (below x (inl refl), tt)
+    all_push (y ∷ ys) h = (h.0, all_push ys h.1)
+
+-- ---- marks
+
+any_from : (marks : List Bool) (places : List ℕ) → list_any (λ place. get_or marks place false) places ≡ true → (k : ℕ) × Among places k × (get_or marks k false ≡ true)
+any_from marks [] h = absurd (false≢true h)
+any_from marks (place ∷ places) h = elim (or_cases (get_or marks place false) (list_any (λ place. get_or marks place false) places) h) [
+  | inl here ↦ (place, inl refl, here)
+  | inr later ↦ let (k, among, is) = any_from marks places later in (k, inr among, is)
+]
+
+any_to : (marks : List Bool) (places : List ℕ) (k : ℕ) → Among places k → get_or marks k false ≡ true → list_any (λ place. get_or marks place false) places ≡ true
+any_to marks [] k among is = absurd among
+any_to marks (place ∷ places) k (inl same) is =
+    or_left (get_or marks place false) (list_any (λ place. get_or marks place false) places) (ap (λ p. get_or marks p false) (sym same) ∙ is)
+any_to marks (place ∷ places) k (inr later) is =
+    or_right (get_or marks place false) (list_any (λ place. get_or marks place false) places) (any_to marks places k later is)
+
+pub reaches_is : (rows : List (Vec ℕ Global)) (marks : List Bool) (start : ℕ) (found : List ℕ) → ((k : ℕ) → Among found k ↔ Reaches rows start k) → list_any (λ place. get_or marks place false) found ≡ true ↔ ReachesMarked rows marks start
+reaches_is rows marks start found is = (
+  λ h. let (k, among, at) = any_from marks found h in record { signal = k; reached = (is k).0 among; marked = at },
+  λ h. any_to marks found h.signal ((is h.signal).1 h.reached) h.marked,
+)
+
+-- ---- controls
+
+input_of : (o : Option Signal) → is_top o ≡ is_input_of o
+input_of None = refl
+input_of (Some signal) = by_kind signal.kind
+  where
+    by_kind : (kind : Kind) → is_top_kind kind ≡ is_input_kind kind
+    by_kind TopInput = refl
+    by_kind Net = refl
+    by_kind Var = refl
+
+input_below : (signals : List Signal) (c : ℕ) → is_input_of (slice_get signals c) ≡ true → c < length signals
+input_below [] c h = absurd (false≢true h)
+input_below (s ∷ signals) zero h = omega arith
+input_below (s ∷ signals) (suc c) h = let below = input_below signals c h in omega (arith, below)
+
+-- those below a number
+pub record AreBelow (d : Parts) (n : ℕ) (found : List ℕ) : Type 0 where
+  pub rising : AreRising found
+  pub each : (s : ℕ) → Among found s ↔ ((s < n) × IsControl (flat_of d) s)
+
+module _ (d : Parts) where
+  pub none_below : (found : List ℕ) → found ≡ [] → AreBelow d 0 found
+  none_below found none =
+      subst (AreBelow d 0) (sym none) (record { rising = tt; each = λ s. (λ h. absurd h, λ h. absurd (omega (arith, h.0))) })
+
+  pub pass_one : (n : ℕ) (found : List ℕ) → AreBelow d n found → (IsControl (flat_of d) n → ⊥) → AreBelow d (n + 1) found
+  pass_one n found are other =
+      record { rising = are.rising; each = λ s. (λ h. let (below, is) = (are.each s).0 h in (omega (arith, below), is), λ h. back s h.0 h.1) }
+    where
+      back : (s : ℕ) → s < n + 1 → IsControl (flat_of d) s → Among found s
+      back s below is = elim (cases_eq s n) [
+        | inl same ↦ absurd (other (subst (IsControl (flat_of d)) same is))
+        | inr apart ↦ (are.each s).1 (omega (arith, below, apart), is)
+      ]
+
+  pub push_one : (n : ℕ) (found new : List ℕ) → AreBelow d n found → IsControl (flat_of d) n → new ≡ found ++ n ∷ [] → AreBelow d (n + 1) new
+  push_one n found new are here added =
+      subst (AreBelow d (n + 1)) (sym added) (record {
+        rising = rising_push found n are.rising (λ s among. ((are.each s).0 among).0);
+        each = λ s. (λ h. to s (among_cases found (n ∷ []) s h), λ h. back s h.0 h.1);
+      })
+    where
+      to : (s : ℕ) → Among found s ⊎ Among (n ∷ []) s → (s < n + 1) × IsControl (flat_of d) s
+      to s (inl h) = let (below, is) = (are.each s).0 h in (omega (arith, below), is)
+      to s (inr (inl same)) = (omega (arith, same), subst (IsControl (flat_of d)) (sym same) here)
+      to s (inr (inr none)) = absurd none
+
+      back : (s : ℕ) → s < n + 1 → IsControl (flat_of d) s → Among (found ++ n ∷ []) s
+      back s below is = elim (cases_eq s n) [
+        | inl same ↦ among_right found (n ∷ []) s (inl same)
+        | inr apart ↦ among_left found (n ∷ []) s ((are.each s).1 (omega (arith, below, apart), is))
+      ]
+
+  pub all_controls : (n : ℕ) (found : List ℕ) → AreBelow d n found → length d.signals ≤ n → AreControls (flat_of d) found
+  all_controls n found are past =
+      record { rising = are.rising; each = λ s. (λ h. ((are.each s).0 h).1, λ is. let below = input_below d.signals s is.input in (are.each s).1 (omega (arith, below, past), is)) }
+
+  reached_below : (c s : ℕ) → c < length d.signals → IsReached (flat_of d) c s → s < length d.signals
+  reached_below c s inside Itself = inside
+  reached_below c s inside (Through i j from is) = bit_inside d.signals j is.port_bit
+
+  pub no_top : (n : ℕ) → is_top (slice_get d.signals n) ≡ false → IsControl (flat_of d) n → ⊥
+  no_top n other is =
+      both_ways (is_top (slice_get d.signals n)) other (input_of (slice_get d.signals n) ∙ is.input)
+
+  module _ (links : List Link) (rows : List (Vec ℕ Global)) (are : AreRows (length d.signals) links rows) (all : ArePassing d (length d.tasks) links) (edges : List Bool) (marked : AreEdgeMarks d edges) where
+    pub control_is : (n : ℕ) → is_top (slice_get d.signals n) ≡ true → ReachesMarked rows edges n → IsControl (flat_of d) n
+    control_is n top it =
+        record {
+          input = sym (input_of (slice_get d.signals n)) ∙ top;
+          signal = it.signal;
+          reached = reached_from d links rows are all n it.signal it.reached;
+          edges = ((marked.each it.signal).0 it.marked).1;
+        }
+
+    pub control_reaches : (n : ℕ) → IsControl (flat_of d) n → ReachesMarked rows edges n
+    control_reaches n is =
+        let inside = input_below d.signals n is.input in
+        record {
+          signal = is.signal;
+          reached = reached_to d links rows are all n is.signal is.reached;
+          marked = (marked.each is.signal).1 (reached_below n is.signal inside is.reached, is.edges);
+        }

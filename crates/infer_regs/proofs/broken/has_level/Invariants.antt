@@ -1,0 +1,9 @@
+use Rattle.std.proofs.Common.{◌≡◌, map, drop}
+use Rattle.rtl_flat.specs.Process.{watched}
+use Rattle.check_sense.specs.Sense.{has_item}
+use Rattle.check_sense.specs.Telling.{level_in}
+use Rattle.infer_regs.proofs.broken.has_level.Given as goal
+
+abbrev pub invariant-loop-item : goal.invariant-loop-item
+invariant-loop-item l =
+    has_item (level_in (map watched (drop l.item-index l.events))) ≡ has_item (level_in (map watched l.events))

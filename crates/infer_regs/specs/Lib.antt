@@ -1,0 +1,4 @@
+pub mod Facts
+pub mod Forms
+pub mod Judged
+pub mod Taken

@@ -1,0 +1,37 @@
+// What is known of a design before its processes are looked at.
+
+ghost use Rattle.std.specs.Prelude.{IfOk};
+ghost use Rattle.rtl_rule.specs.Parts.{parts};
+ghost use Rattle.infer_regs.specs.Facts.{AreFacts};
+
+use check_clocks::tops::{Roles, roles_of, tops_of};
+use rtl_flat::design::Design;
+use rtl_scan::temporaries;
+use rtl_tree::memory::Memory;
+use std::alloc::Global;
+
+/// What rules about one process ask of all of them.
+#[derive(Drop)]
+pub(crate) struct Facts {
+    /// The top inputs that each signal comes from.
+    pub(crate) tops: Vec<Vec<u32>>,
+    /// Which top inputs are clocks and resets.
+    pub(crate) roles: Roles,
+    /// Whether each signal is a temporary.
+    pub(crate) temporaries: Vec<bool>,
+}
+
+impl Facts {
+    pub(crate) fn of(alloc: Global, design: &Design) -> Result<Facts, Memory>
+        ensures { IfOk result (λ facts. AreFacts (parts design.now) facts.tops.items facts.roles.clocks.items facts.roles.resets.items facts.temporaries.items) }
+    {
+        let tops = tops_of(alloc, design)?;
+        let roles = roles_of(alloc, design, &tops)?;
+        let temporaries = temporaries(alloc, design)?;
+        Ok(Facts {
+            tops,
+            roles,
+            temporaries,
+        })
+    }
+}
