@@ -1,6 +1,5 @@
 -- What a process that waits for edges is to inference, and the inputs that are clocks or resets (IEEE 1364.1-2002 section
 -- 5.2.2).
--- Worked examples: crates/tests_rows/stdin.
 use Rattle.std.specs.Prelude.{◌≡◌, ◌<◌, ◌⊎◌, ◌↔◌, ℕ, List, [], ◌∷◌, map, Some}
 use Rattle.std.specs.List.{AllByRecursion}
 use Rattle.rtl_flat.specs.Process.{Watched, Task, watched}

@@ -1,6 +1,5 @@
 -- The registers of a design: each process that waits for edges, with its clock and its resets (IEEE 1364.1-2002 section
 -- 5.2.2).
--- Worked examples: crates/tests_rows/stdin.
 use Rattle.std.specs.Prelude.{◌≡◌, ℕ, List, [], length, map, Option, Some, None}
 use Rattle.std.specs.List.{All, enumerate_from, filter_map, slice_get}
 use Rattle.std.specs.Option.{IsSomeAnd, unwrap_or}

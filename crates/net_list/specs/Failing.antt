@@ -1,5 +1,4 @@
 -- Which process is told where nothing is inferred.
--- Worked examples: crates/tests_rows/stdin.
 use Rattle.std.specs.Prelude.{◌<◌, ℕ}
 use Rattle.net_list.specs.declared.fault.InferFault.{InferFault}
 use Rattle.net_list.specs.declared.fault.InferFault.TheVariants.{Shape, Memory}
