@@ -1,0 +1,3 @@
+mod Examples
+pub mod Sparing
+pub mod Views

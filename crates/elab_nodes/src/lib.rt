@@ -1,0 +1,6 @@
+//! How many nodes expressions have in the flat design.
+#![tactic(auto)]
+
+pub mod items;
+pub mod nodes;
+pub mod spare;
