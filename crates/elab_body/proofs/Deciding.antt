@@ -16,29 +16,31 @@ use Rattle.rtl_tree.proofs.TreeViews.{case_is, block_is}
 use Rattle.elab_scope.specs.Expressions.{faults}
 use Rattle.elab_scope.specs.Faults.{Refusal}
 use Rattle.elab_scope.specs.Names.{Meanings}
+use Rattle.elab_nodes.specs.Totals.{case_count}
 use Rattle.elab_body.specs.Bodies.{Head, all_turns, body_steps, branch_steps, branches_steps, loop_faults, steps}
 use Rattle.elab_body.specs.Courses.{chosen, chosen_steps, condition_steps}
-use Rattle.elab_body.specs.Steps.{Course, Step, Statement, faulty, passed, stepped}
+use Rattle.elab_body.specs.Steps.{Course, Step, Statement, Nodes, faulty, passed, stepped}
 use Rattle.elab_body.proofs.Passing.{passed_append}
 
 -- an `if` is its condition and the branches that are left
-branches_are : (at : ℕ) (outcome : Outcome) (condition : List Refusal) (taken otherwise : List Step) → branch_steps at outcome condition taken otherwise ≡ condition_steps at outcome condition ++ chosen_steps (chosen outcome) taken otherwise
-branches_are at (Ok number) condition taken otherwise = elim (cases_Bool (is_true number)) [
+branches_are : (at : ℕ) (outcome : Outcome) (nodes : ℕ) (condition : List Refusal) (taken otherwise : List Step) → branch_steps at outcome nodes condition taken otherwise ≡ condition_steps at outcome nodes condition ++ chosen_steps (chosen outcome) taken otherwise
+branches_are at (Ok number) nodes condition taken otherwise = elim (cases_Bool (is_true number)) [
   | inl yes' ↦ rw yes' refl
   | inr no' ↦ rw no' refl
 ]
-branches_are at (Err cause) condition taken otherwise = append_assoc (Statement at ∷ faulty condition) taken otherwise
+branches_are at (Err cause) nodes condition taken otherwise =
+    append_assoc (Statement at ∷ Nodes at nodes ∷ faulty condition) taken otherwise
 
-pub passed_branches : (course : Course) (at : ℕ) (outcome : Outcome) (condition : List Refusal) (taken otherwise : List Step) → passed course (branch_steps at outcome condition taken otherwise) ≡ passed (passed course (condition_steps at outcome condition)) (chosen_steps (chosen outcome) taken otherwise)
-passed_branches course at outcome condition taken otherwise =
-    ap (passed course) (branches_are at outcome condition taken otherwise)
-    ∙ passed_append course (condition_steps at outcome condition) (chosen_steps (chosen outcome) taken otherwise)
+pub passed_branches : (course : Course) (at : ℕ) (outcome : Outcome) (nodes : ℕ) (condition : List Refusal) (taken otherwise : List Step) → passed course (branch_steps at outcome nodes condition taken otherwise) ≡ passed (passed course (condition_steps at outcome nodes condition)) (chosen_steps (chosen outcome) taken otherwise)
+passed_branches course at outcome nodes condition taken otherwise =
+    ap (passed course) (branches_are at outcome nodes condition taken otherwise)
+    ∙ passed_append course (condition_steps at outcome nodes condition) (chosen_steps (chosen outcome) taken otherwise)
 
-pub case_passed : (course : Course) (scope : Meanings) (at : ℕ) (kind : CaseKind) (full parallel : Bool) (selector : Expr) (items : Vec CaseItem Global) (s : Stmt) → s ≡ stmt.Case at kind full parallel selector items → passed course (steps (action s) scope) ≡ passed (passed (stepped course (Statement at)) (faulty (faults scope (formula selector)))) (branches_steps (branch_row (map branch items.items)) scope)
+pub case_passed : (course : Course) (scope : Meanings) (at : ℕ) (kind : CaseKind) (full parallel : Bool) (selector : Expr) (items : Vec CaseItem Global) (s : Stmt) → s ≡ stmt.Case at kind full parallel selector items → passed course (steps (action s) scope) ≡ passed (passed (stepped (stepped course (Statement at)) (Nodes at (case_count scope (formula selector) (branch_row (map branch items.items))))) (faulty (faults scope (formula selector)))) (branches_steps (branch_row (map branch items.items)) scope)
 case_passed course scope at kind full parallel selector items s is =
     ap (λ s. passed course (steps (action s) scope)) is
     ∙ ap (λ a. passed course (steps a scope)) (case_is at kind full parallel selector items)
-    ∙ passed_append (stepped course (Statement at)) (faulty (faults scope (formula selector))) (branches_steps (branch_row (map branch items.items)) scope)
+    ∙ passed_append (stepped (stepped course (Statement at)) (Nodes at (case_count scope (formula selector) (branch_row (map branch items.items))))) (faulty (faults scope (formula selector))) (branches_steps (branch_row (map branch items.items)) scope)
 
 pub block_passed : (course : Course) (scope : Meanings) (at : ℕ) (label : Option Name) (body : Vec Stmt Global) (s : Stmt) → s ≡ stmt.Block at label body → passed course (steps (action s) scope) ≡ passed (stepped course (Statement at)) (body_steps (action_row (map action body.items)) scope)
 block_passed course scope at label body s is =

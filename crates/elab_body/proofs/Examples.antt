@@ -12,8 +12,8 @@ use Rattle.elab_scope.specs.Faults.{TooLarge, NotAssignable}
 use Rattle.elab_scope.specs.Names.{Meanings}
 use Rattle.elab_scope.specs.Rules.{fault}
 use Rattle.elab_body.specs.Bodies.{all_turns, loop_faults, steps, turns}
-use Rattle.elab_body.specs.Faultless.{statement_count}
-use Rattle.elab_body.specs.Steps.{Statement, Turn, Faulty, checked, delays_of}
+use Rattle.elab_body.specs.Faultless.{node_total, statement_count}
+use Rattle.elab_body.specs.Steps.{Statement, Turn, Faulty, Nodes, checked, delays_of}
 
 -- a variable d of two bits and integers i and j
 abbrev scope : Meanings
@@ -49,14 +49,31 @@ abbrev one_bit : Action
 one_bit = Assign (Bit (d 50) (Read (i 52))) Blocking None (Read (d 57))
 
 -- a loop is its turns
-two_turns : steps (twice one_bit) scope ≡ Statement 50 ∷ Statement 50 ∷ []
+two_turns : steps (twice one_bit) scope ≡ Statement 50 ∷ Nodes 50 1 ∷ Statement 50 ∷ Nodes 50 1 ∷ []
 unfolding turns all_turns loop_faults
 two_turns = refl
 
 -- the statement that is one too many ends it
-one_left : checked 1 9 (steps (twice one_bit) scope) ≡ fault 50 TooLarge ∷ []
+one_left : checked 1 9 9 (steps (twice one_bit) scope) ≡ fault 50 TooLarge ∷ []
 unfolding turns all_turns loop_faults
 one_left = refl
+
+-- and so does the statement whose nodes are one too many
+one_node_left : checked 9 9 1 (steps (twice one_bit) scope) ≡ fault 50 TooLarge ∷ []
+unfolding turns all_turns loop_faults
+one_node_left = refl
+
+two_nodes_left : checked 9 9 2 (steps (twice one_bit) scope) ≡ []
+unfolding turns all_turns loop_faults
+two_nodes_left = refl
+
+all_nodes : node_total (steps (twice one_bit) scope) ≡ 2
+unfolding turns all_turns loop_faults
+all_nodes = refl
+
+-- if (d + d) ; has the nodes of its condition, and a constant condition has none
+condition_nodes : steps (If 10 (Binary Add 16 (Read (d 14)) (Read (d 18))) (Null 20)) scope ≡ Statement 10 ∷ Nodes 10 3 ∷ []
+condition_nodes = refl
 
 -- a turn that leaves no statement counts as one
 empty_turns : steps (twice (Null 50)) scope ≡ Turn 10 ∷ Turn 10 ∷ []
@@ -88,5 +105,5 @@ not_taken : steps (If 10 (whole 0 14) (Assign (Whole (i 20)) Blocking None (Read
 not_taken = refl
 
 -- outside its loop an integer is neither read nor assigned
-outside : steps (Assign (Whole (i 20)) Blocking None (Read (i 24))) scope ≡ Statement 20 ∷ Faulty (fault 20 (NotAssignable (105 ∷ []))) ∷ Faulty (fault 24 (NotAssignable (105 ∷ []))) ∷ []
+outside : steps (Assign (Whole (i 20)) Blocking None (Read (i 24))) scope ≡ Statement 20 ∷ Nodes 20 1 ∷ Faulty (fault 20 (NotAssignable (105 ∷ []))) ∷ Faulty (fault 24 (NotAssignable (105 ∷ []))) ∷ []
 outside = refl

@@ -8,9 +8,10 @@ use Rattle.rtl_tree.specs.TreeStmt.{action, action_row, branch, branch_row}
 use Rattle.elab_scope.specs.Faults.{Refusal, keep, after}
 use Rattle.elab_body.specs.declared.progress.Left.{Left}
 use Rattle.elab_scope.specs.Names.{Meanings}
+use Rattle.elab_nodes.specs.Spares.{spared}
 use Rattle.elab_body.specs.Bodies.{body_steps, branch_item_steps, branches_steps, steps}
 use Rattle.elab_body.specs.Courses.{is_over}
-use Rattle.elab_body.specs.Steps.{Step, Faulty, Statement, Turn, Delay, Course, faulty, checked, passed, stepped}
+use Rattle.elab_body.specs.Steps.{Step, Faulty, Statement, Turn, Delay, Nodes, Course, faulty, checked, passed, stepped, where_spared, with_nodes}
 
 -- faults where nothing ended the body
 pub passed_faulty : (best : Option Refusal) (left : Left) (filled : Bool) (faults : List Refusal) → passed (record { best = best; left = Some left; filled = filled }) (faulty faults) ≡ record { best = after best faults; left = Some left; filled = filled }
@@ -24,28 +25,51 @@ passed_cut best filled (Faulty x ∷ steps) = passed_cut best filled steps
 passed_cut best filled (Statement at ∷ steps) = passed_cut best filled steps
 passed_cut best filled (Turn at ∷ steps) = passed_cut best filled steps
 passed_cut best filled (Delay at ∷ steps) = passed_cut best filled steps
+passed_cut best filled (Nodes at count ∷ steps) = passed_cut best filled steps
 
 pub passed_append : (course : Course) (xs ys : List Step) → passed course (xs ++ ys) ≡ passed (passed course xs) ys
 passed_append course [] ys = refl
 passed_append course (x ∷ xs) ys = passed_append (stepped course x) xs ys
 
--- what is told on the way is the least of the faults of the steps
-pub passed_checked : (best : Option Refusal) (statements delays : ℕ) (filled : Bool) (steps : List Step) → (passed (record { best = best; left = Some (record { statements = statements; delays = delays }); filled = filled }) steps).best ≡ after best (checked statements delays steps)
-passed_checked best statements delays filled [] = refl
-passed_checked best statements delays filled (Faulty x ∷ steps) =
-    passed_checked (keep best x) statements delays filled steps
-passed_checked best zero delays filled (Statement at ∷ steps) =
+abbrev at_left : Option Refusal → ℕ → ℕ → ℕ → Bool → Course
+at_left best statements delays nodes filled =
+    record { best = best; left = Some (record { statements = statements; delays = delays; nodes = nodes }); filled = filled }
+
+-- what is told behind nodes, where it is so behind those that are left
+spent_checked : (best : Option Refusal) (at statements delays : ℕ) (filled : Bool) (steps : List Step) (next : ℕ → List Refusal) → ((left : ℕ) → (passed (at_left best statements delays left filled) steps).best ≡ after best (next left)) → (spare : Option ℕ) → (passed (with_nodes best at filled statements delays spare) steps).best ≡ after best (where_spared at spare next)
+spent_checked best at statements delays filled steps next here None =
     ap (λ c. c.best) (passed_cut _ _ steps)
-passed_checked best (suc n) delays filled (Statement at ∷ steps) =
-    passed_checked best n delays true steps
-passed_checked best zero delays filled (Turn at ∷ steps) = ap (λ c. c.best) (passed_cut _ _ steps)
-passed_checked best (suc n) delays filled (Turn at ∷ steps) =
-    passed_checked best n delays filled steps
-passed_checked best zero zero filled (Delay at ∷ steps) = ap (λ c. c.best) (passed_cut _ _ steps)
-passed_checked best (suc n) zero filled (Delay at ∷ steps) = ap (λ c. c.best) (passed_cut _ _ steps)
-passed_checked best zero (suc d) filled (Delay at ∷ steps) = passed_checked best zero d filled steps
-passed_checked best (suc n) (suc d) filled (Delay at ∷ steps) =
-    passed_checked best (suc n) d filled steps
+spent_checked best at statements delays filled steps next here (Some left) = here left
+
+-- what is told on the way is the least of the faults of the steps
+pub passed_checked : (best : Option Refusal) (statements delays nodes : ℕ) (filled : Bool) (steps : List Step) → (passed (record { best = best; left = Some (record { statements = statements; delays = delays; nodes = nodes }); filled = filled }) steps).best ≡ after best (checked statements delays nodes steps)
+passed_checked best statements delays nodes filled [] = refl
+passed_checked best statements delays nodes filled (Faulty x ∷ steps) =
+    passed_checked (keep best x) statements delays nodes filled steps
+passed_checked best zero delays nodes filled (Statement at ∷ steps) =
+    ap (λ c. c.best) (passed_cut _ _ steps)
+passed_checked best (suc n) delays nodes filled (Statement at ∷ steps) =
+    passed_checked best n delays nodes true steps
+passed_checked best zero delays nodes filled (Turn at ∷ steps) =
+    ap (λ c. c.best) (passed_cut _ _ steps)
+passed_checked best (suc n) delays nodes filled (Turn at ∷ steps) =
+    passed_checked best n delays nodes filled steps
+passed_checked best zero zero nodes filled (Delay at ∷ steps) =
+    ap (λ c. c.best) (passed_cut _ _ steps)
+passed_checked best (suc n) zero nodes filled (Delay at ∷ steps) =
+    ap (λ c. c.best) (passed_cut _ _ steps)
+passed_checked best zero (suc d) nodes filled (Delay at ∷ steps) =
+    passed_checked best zero d nodes filled steps
+passed_checked best (suc n) (suc d) nodes filled (Delay at ∷ steps) =
+    passed_checked best (suc n) d nodes filled steps
+passed_checked best zero zero nodes filled (Nodes at count ∷ steps) =
+    spent_checked best at zero zero filled steps (λ left. checked zero zero left steps) (λ left. passed_checked best zero zero left filled steps) (spared nodes count)
+passed_checked best zero (suc d) nodes filled (Nodes at count ∷ steps) =
+    spent_checked best at zero (suc d) filled steps (λ left. checked zero (suc d) left steps) (λ left. passed_checked best zero (suc d) left filled steps) (spared nodes count)
+passed_checked best (suc n) zero nodes filled (Nodes at count ∷ steps) =
+    spent_checked best at (suc n) zero filled steps (λ left. checked (suc n) zero left steps) (λ left. passed_checked best (suc n) zero left filled steps) (spared nodes count)
+passed_checked best (suc n) (suc d) nodes filled (Nodes at count ∷ steps) =
+    spent_checked best at (suc n) (suc d) filled steps (λ left. checked (suc n) (suc d) left steps) (λ left. passed_checked best (suc n) (suc d) left filled steps) (spared nodes count)
 
 pub passed_faults : (course : Course) (xs ys : List Refusal) → passed course (faulty (xs ++ ys)) ≡ passed (passed course (faulty xs)) (faulty ys)
 passed_faults course [] ys = refl

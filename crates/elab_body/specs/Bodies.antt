@@ -14,7 +14,9 @@ use Rattle.elab_scope.specs.Faults.{Undeclared, NotAssignable, TooLarge, Refusal
 use Rattle.elab_scope.specs.Names.{Meanings, indexed, numbers_in}
 use Rattle.elab_scope.specs.Rules.{fault, number_faults}
 use Rattle.elab_scope.specs.Targets.{target_faults}
-use Rattle.elab_body.specs.Steps.{Step, Statement, Turn, Delay, faulty, has_statement}
+use Rattle.elab_nodes.specs.Nodes.{node_count}
+use Rattle.elab_nodes.specs.Totals.{assignment_count, case_count}
+use Rattle.elab_body.specs.Steps.{Step, Statement, Turn, Delay, Nodes, faulty, has_statement}
 
 -- the faults of several expressions
 abbrev pub all_faults : Meanings → List Formula → List Refusal
@@ -109,26 +111,26 @@ all_turns body scope head =
 abbrev pub loop_steps : (Meanings → List Step) → Meanings → Head → List Step
 loop_steps body scope head = faulty (loop_faults scope head) ++ all_turns body scope head
 
--- a branch that a condition takes, or both
-abbrev pub branch_steps : ℕ → Outcome → List Refusal → List Step → List Step → List Step
-branch_steps at (Ok number) condition taken otherwise =
+-- a branch that a condition takes, or both; a constant condition isn't in the design, nor are its nodes
+abbrev pub branch_steps : ℕ → Outcome → ℕ → List Refusal → List Step → List Step → List Step
+branch_steps at (Ok number) nodes condition taken otherwise =
     faulty condition ++ (if is_true number then taken else otherwise)
-branch_steps at (Err cause) condition taken otherwise =
-    Statement at ∷ faulty condition ++ taken ++ otherwise
+branch_steps at (Err cause) nodes condition taken otherwise =
+    Statement at ∷ Nodes at nodes ∷ faulty condition ++ taken ++ otherwise
 
 abbrev mutual
-  -- the steps of a statement in a scope
+  -- the steps of a statement in a scope: a statement, what expressions it has itself, and what is wrong with them
   pub steps : Action → Meanings → List Step
   steps (Null at) scope = []
   steps (Delayed pause body) scope = Delay pause.at ∷ steps body scope
   steps (Assign target kind pause value) scope =
-      Statement (target_place target) ∷ faulty (target_faults writer.Procedural scope target) ++ pause_steps pause ++ faulty (faults scope value)
+      Statement (target_place target) ∷ Nodes (target_place target) (assignment_count scope target value) ∷ faulty (target_faults writer.Procedural scope target) ++ pause_steps pause ++ faulty (faults scope value)
   steps (If at condition taken) scope =
-      branch_steps at (constant (numbers_in scope) condition) (faults scope condition) (steps taken scope) []
+      branch_steps at (constant (numbers_in scope) condition) (node_count scope condition) (faults scope condition) (steps taken scope) []
   steps (IfElse at condition taken otherwise) scope =
-      branch_steps at (constant (numbers_in scope) condition) (faults scope condition) (steps taken scope) (steps otherwise scope)
+      branch_steps at (constant (numbers_in scope) condition) (node_count scope condition) (faults scope condition) (steps taken scope) (steps otherwise scope)
   steps (Case at kind full parallel selector branches) scope =
-      Statement at ∷ faulty (faults scope selector) ++ branches_steps branches scope
+      Statement at ∷ Nodes at (case_count scope selector branches) ∷ faulty (faults scope selector) ++ branches_steps branches scope
   steps (For at index start condition stepped step body) scope =
       loop_steps (steps body) scope (record { at = at; index = index; start = start; condition = condition; stepped = stepped; step = step })
   steps (Block at label body) scope = Statement at ∷ body_steps body scope

@@ -12,7 +12,7 @@ use Rattle.elab_body.specs.declared.branches.Chosen.TheVariants.{Taken, Otherwis
 use Rattle.elab_body.specs.declared.head.Head.{Head as Written}
 use Rattle.elab_body.specs.declared.progress.Progress.{Progress}
 use Rattle.elab_body.specs.Bodies.{Head}
-use Rattle.elab_body.specs.Steps.{Course, Step, Statement, Turn, faulty, stepped}
+use Rattle.elab_body.specs.Steps.{Course, Step, Statement, Turn, Nodes, faulty, stepped}
 
 abbrev pub course : Progress → Course
 course progress =
@@ -49,9 +49,9 @@ chosen (Ok number) = if is_true number then Taken else Otherwise
 chosen (Err cause) = Both
 
 -- what counts of an `if` itself: nothing where its condition is constant
-abbrev pub condition_steps : ℕ → Outcome → List Refusal → List Step
-condition_steps at (Ok number) condition = faulty condition
-condition_steps at (Err cause) condition = Statement at ∷ faulty condition
+abbrev pub condition_steps : ℕ → Outcome → ℕ → List Refusal → List Step
+condition_steps at (Ok number) nodes condition = faulty condition
+condition_steps at (Err cause) nodes condition = Statement at ∷ Nodes at nodes ∷ faulty condition
 
 -- the steps of the branches that are left
 abbrev pub chosen_steps : Chosen → List Step → List Step → List Step

@@ -56,7 +56,11 @@ pub fn judge_body<'a>(body: &'a Stmt, names: &mut Names, so_far: Progress<'a>) -
             selector,
             items,
             ..
-        } => judge_items(items, names, so_far.count(*at).judge(selector, names)),
+        } => {
+            let so_far = so_far.count(*at);
+            let so_far = so_far.spend_case(*at, selector, items, names);
+            judge_items(items, names, so_far.judge(selector, names))
+        }
         Stmt::For {
             at,
             index,

@@ -5,6 +5,7 @@ ghost use Rattle.rtl_const.specs.Constant.{constant, is_true};
 ghost use Rattle.rtl_tree.specs.TreeExpr.{formula};
 ghost use Rattle.elab_scope.specs.Expressions.{faults};
 ghost use Rattle.elab_scope.specs.Names.{meanings, numbers_in};
+ghost use Rattle.elab_nodes.specs.Nodes.{node_count};
 ghost use Rattle.elab_body.specs.Courses.{chosen, condition_steps, course, goes_on};
 ghost use Rattle.elab_body.specs.Steps.{passed};
 
@@ -59,10 +60,15 @@ pub fn judge_condition<'a>(
     names: &Names,
     so_far: Progress<'a>,
 ) -> Progress<'a>
-    ensures { course result ≡ passed (course so_far.entry) (condition_steps at (constant (numbers_in (meanings names.now)) (formula condition.now)) (faults (meanings names.now) (formula condition.now))) }
+    ensures { course result ≡ passed (course so_far.entry) (condition_steps at (constant (numbers_in (meanings names.now)) (formula condition.now)) (node_count (meanings names.now) (formula condition.now)) (faults (meanings names.now) (formula condition.now))) }
 {
     match constant(condition, names) {
         Ok(_) => so_far.judge(condition, names),
-        Err(_) => so_far.count(at).judge(condition, names),
+        Err(_) => {
+            let so_far = so_far.count(at);
+            so_far
+                .spend_expression(at, condition, names)
+                .judge(condition, names)
+        }
     }
 }

@@ -64,8 +64,9 @@ pub fn assignment<'a>(
 ) -> Progress<'a>
     ensures { course result ≡ passed (course so_far.entry) (steps (Assign (target written.now) kind (option_map pause delay.now) (formula value.now)) (meanings names.now)) }
 {
-    let so_far = assigned(written, names, so_far.count(written.place()));
-    paused(delay, so_far).judge(value, names)
+    let so_far = so_far.count(written.place());
+    let so_far = so_far.spend_assignment(written, value, names);
+    paused(delay, assigned(written, names, so_far)).judge(value, names)
 }
 
 /// The labels of an item of a case.

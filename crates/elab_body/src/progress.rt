@@ -1,27 +1,36 @@
 //! How far the unrolling of a body goes.
 
-ghost use Rattle.std.specs.Prelude.{◌≡◌};
+ghost use Rattle.std.specs.Prelude.{◌≡◌, map};
 ghost use Rattle.std.specs.Option.{option_map};
 ghost use Rattle.rtl_tree.specs.TreeExpr.{formula};
+ghost use Rattle.rtl_tree.specs.TreeItem.{sensitivity};
+ghost use Rattle.rtl_tree.specs.TreeStmt.{branch, branch_row, target, target_place};
 ghost use Rattle.elab_scope.specs.Expressions.{constant_faults, faults};
 ghost use Rattle.elab_scope.specs.Faults.{TooLarge, keep, refusal};
 ghost use Rattle.elab_scope.specs.Names.{meanings};
 ghost use Rattle.elab_scope.specs.Rules.{fault, number_faults};
-ghost use Rattle.elab_body.specs.Steps.{Delay, Faulty, Statement, Turn, counted_in, faulty, passed, stepped};
+ghost use Rattle.elab_nodes.specs.Nodes.{node_count};
+ghost use Rattle.elab_nodes.specs.Totals.{assignment_count, case_count, listing_count};
+ghost use Rattle.elab_body.specs.Steps.{Delay, Faulty, Nodes, Statement, Turn, counted_in, faulty, passed, stepped, with_nodes};
 ghost use Rattle.elab_body.specs.Courses.{begun, course, ended, is_over, turned};
 
+use elab_nodes::items::{spend_assignment, spend_case, spend_listing};
+use elab_nodes::nodes::spend;
 use elab_scope::fault::{Cause, Fault};
 use elab_scope::judge::{judge, judge_constant};
 use elab_scope::names::Names;
 use elab_scope::rules;
 use rtl_const::fault::ConstFault;
 use rtl_tree::tree::expr::Expr;
+use rtl_tree::tree::item::EventControl;
+use rtl_tree::tree::stmt::{CaseItem, Lvalue};
 
-/// How many statements and delays a design may still have.
+/// How many statements, delays and nodes of expressions a design may still have.
 #[derive(Clone, Copy, PartialEq, Eq, Debug)]
 pub struct Left {
     pub statements: u32,
     pub delays: u32,
+    pub nodes: u32,
 }
 
 /// What is found so far.
@@ -67,11 +76,12 @@ impl<'a> Progress<'a> {
                 left: None,
                 filled,
             },
-            Some(Left { statements, delays }) => Progress {
+            Some(left) => Progress {
                 best: self.best,
                 left: Some(Left {
-                    statements: statements - 1,
-                    delays,
+                    statements: left.statements - 1,
+                    delays: left.delays,
+                    nodes: left.nodes,
                 }),
                 filled,
             },
@@ -137,14 +147,87 @@ impl<'a> Progress<'a> {
                 left: None,
                 filled: self.filled,
             },
-            Some(Left { statements, delays }) => Progress {
+            Some(left) => Progress {
                 best: self.best,
                 left: Some(Left {
-                    statements,
-                    delays: delays - 1,
+                    statements: left.statements,
+                    delays: left.delays - 1,
+                    nodes: left.nodes,
                 }),
                 filled: self.filled,
             },
+        }
+    }
+
+    /// Nodes of expressions more at a place, where so many are left before them and behind them; none where they are too
+    /// many.
+    pub fn spend(self, at: u32, left: Left, spare: Option<u32>) -> Progress<'a>
+        ensures { course result ≡ with_nodes (course self.entry).best at self.entry.filled left.statements left.delays spare }
+    {
+        match spare {
+            None => Progress {
+                best: too_large(at, self.best),
+                left: None,
+                filled: self.filled,
+            },
+            Some(nodes) => Progress {
+                best: self.best,
+                left: Some(Left {
+                    statements: left.statements,
+                    delays: left.delays,
+                    nodes,
+                }),
+                filled: self.filled,
+            },
+        }
+    }
+
+    /// The nodes of an expression more.
+    pub fn spend_expression(self, at: u32, e: &Expr, names: &Names) -> Progress<'a>
+        ensures { course result ≡ stepped (course self.entry) (Nodes at (node_count (meanings names.now) (formula e.now))) }
+    {
+        match self.left {
+            None => self,
+            Some(left) => self.spend(at, left, spend(e, names, left.nodes)),
+        }
+    }
+
+    /// The nodes of an assignment more, at its target.
+    pub fn spend_assignment(self, written: &Lvalue, value: &Expr, names: &Names) -> Progress<'a>
+        ensures { course result ≡ stepped (course self.entry) (Nodes (target_place (target written.now)) (assignment_count (meanings names.now) (target written.now) (formula value.now))) }
+    {
+        match self.left {
+            None => self,
+            Some(left) => {
+                let spare = spend_assignment(written, value, names, left.nodes);
+                self.spend(written.place(), left, spare)
+            }
+        }
+    }
+
+    /// The nodes of a case without its bodies more.
+    pub fn spend_case(
+        self,
+        at: u32,
+        selector: &Expr,
+        items: &[CaseItem],
+        names: &Names,
+    ) -> Progress<'a>
+        ensures { course result ≡ stepped (course self.entry) (Nodes at (case_count (meanings names.now) (formula selector.now) (branch_row (map branch items.now)))) }
+    {
+        match self.left {
+            None => self,
+            Some(left) => self.spend(at, left, spend_case(selector, items, names, left.nodes)),
+        }
+    }
+
+    /// The nodes of a sensitivity list more, at its `always`.
+    pub fn spend_listing(self, at: u32, control: &EventControl, names: &Names) -> Progress<'a>
+        ensures { course result ≡ stepped (course self.entry) (Nodes at (listing_count (meanings names.now) (sensitivity control.now))) }
+    {
+        match self.left {
+            None => self,
+            Some(left) => self.spend(at, left, spend_listing(control, names, left.nodes)),
         }
     }
 
