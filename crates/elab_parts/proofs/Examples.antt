@@ -11,7 +11,7 @@ use Rattle.elab_scope.specs.declared.known.Role.TheVariants.{Input, Net, Variabl
 use Rattle.elab_scope.specs.Faults.{NotAssignable}
 use Rattle.elab_scope.specs.Names.{Meanings}
 use Rattle.elab_scope.specs.Rules.{fault}
-use Rattle.elab_body.specs.Steps.{Delay, Faulty, Statement}
+use Rattle.elab_body.specs.Steps.{Delay, Faulty, Nodes, Statement}
 use Rattle.elab_parts.specs.Delays.{delay_in, item_delays}
 use Rattle.elab_parts.specs.Items.{item_steps, items_places}
 
@@ -49,21 +49,21 @@ abbrev combinational : ModuleItem
 combinational = Always 50 Star (Assign (Whole (r 60)) Blocking (Some (pause 64)) (Read (a 67)))
 
 -- a declaration drives nets alone
-net_driven : item_steps scope (nets (w 18) (a 22)) ≡ []
+net_driven : item_steps scope (nets (w 18) (a 22)) ≡ Nodes 18 1 ∷ []
 net_driven = refl
 
-input_driven : item_steps scope (nets (a 18) (w 22)) ≡ Faulty (fault 18 (NotAssignable (97 ∷ []))) ∷ []
+input_driven : item_steps scope (nets (a 18) (w 22)) ≡ Nodes 18 1 ∷ Faulty (fault 18 (NotAssignable (97 ∷ []))) ∷ []
 input_driven = refl
 
 -- a delay counts for each assignment, and stands in the process of each
-two_delays : item_steps scope drives ≡ Delay 27 ∷ Delay 27 ∷ []
+two_delays : item_steps scope drives ≡ Delay 27 ∷ Nodes 30 1 ∷ Delay 27 ∷ Nodes 37 1 ∷ []
 two_delays = refl
 
 two_processes : item_delays 3 7 scope drives ≡ delay_in 3 7 27 ∷ delay_in 3 8 27 ∷ []
 two_processes = refl
 
 -- an `always` counts its statements and its delays
-one_statement : item_steps scope combinational ≡ Statement 60 ∷ Delay 64 ∷ []
+one_statement : item_steps scope combinational ≡ Nodes 50 0 ∷ Statement 60 ∷ Nodes 60 1 ∷ Delay 64 ∷ []
 one_statement = refl
 
 one_delay : item_delays 3 7 scope combinational ≡ delay_in 3 7 64 ∷ []

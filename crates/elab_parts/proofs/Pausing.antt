@@ -28,7 +28,7 @@ use Rattle.elab_body.specs.declared.branches.Chosen.{Chosen}
 use Rattle.elab_body.specs.declared.branches.Chosen.TheVariants.{Taken, Otherwise, Both}
 use Rattle.elab_body.specs.Bodies.{Head, all_turns, body_steps, branch_item_steps, branch_steps, branches_steps, counted, in_head, in_turn, loop_faults, pause_steps, steps, turns, where_true, with_number}
 use Rattle.elab_body.specs.Courses.{chosen, chosen_steps, goes_on}
-use Rattle.elab_body.specs.Steps.{Step, Faulty, Statement, Turn, Delay, delays_of, faulty, has_statement}
+use Rattle.elab_body.specs.Steps.{Step, Faulty, Statement, Turn, Delay, Nodes, delays_of, faulty, has_statement}
 
 pub pauses_append : (xs ys : List Step) → delays_of (xs ++ ys) ≡ delays_of xs ++ delays_of ys
 pauses_append [] ys = refl
@@ -36,6 +36,7 @@ pauses_append (Faulty x ∷ xs) ys = pauses_append xs ys
 pauses_append (Statement at ∷ xs) ys = pauses_append xs ys
 pauses_append (Turn at ∷ xs) ys = pauses_append xs ys
 pauses_append (Delay at ∷ xs) ys = ap (λ zs. at ∷ zs) (pauses_append xs ys)
+pauses_append (Nodes at count ∷ xs) ys = pauses_append xs ys
 
 pub no_pauses : (faults : List Refusal) → delays_of (faulty faults) ≡ []
 no_pauses [] = refl
@@ -61,12 +62,12 @@ assigned_pauses scope written kind delay value s is =
     ∙ assignment_pauses scope (target written) kind (option_map pause delay) (formula value)
 
 -- an `if` has those of the branches that are left
-pub branch_pauses : (at : ℕ) (outcome : Outcome) (condition : List Refusal) (taken otherwise : List Step) → delays_of (branch_steps at outcome condition taken otherwise) ≡ delays_of (chosen_steps (chosen outcome) taken otherwise)
-branch_pauses at (Ok number) condition taken otherwise = elim (cases_Bool (is_true number)) [
+pub branch_pauses : (at : ℕ) (outcome : Outcome) (nodes : ℕ) (condition : List Refusal) (taken otherwise : List Step) → delays_of (branch_steps at outcome nodes condition taken otherwise) ≡ delays_of (chosen_steps (chosen outcome) taken otherwise)
+branch_pauses at (Ok number) nodes condition taken otherwise = elim (cases_Bool (is_true number)) [
   | inl yes' ↦ rw yes' (behind_faults condition taken)
   | inr no' ↦ rw no' (behind_faults condition otherwise)
 ]
-branch_pauses at (Err cause) condition taken otherwise =
+branch_pauses at (Err cause) nodes condition taken otherwise =
     ap delays_of (append_assoc (faulty condition) taken otherwise)
     ∙ behind_faults condition (taken ++ otherwise)
 
@@ -78,9 +79,9 @@ parts Both taken otherwise =
     ∙ ap (λ xs. delays_of xs ++ delays_of otherwise) (sym (append-nil taken))
 
 -- those of the one branch come before those of the other
-pub else_pauses : (at : ℕ) (outcome : Outcome) (condition : List Refusal) (taken otherwise : List Step) → delays_of (branch_steps at outcome condition taken otherwise) ≡ delays_of (chosen_steps (chosen outcome) taken []) ++ delays_of (chosen_steps (chosen outcome) [] otherwise)
-else_pauses at outcome condition taken otherwise =
-    branch_pauses at outcome condition taken otherwise ∙ parts (chosen outcome) taken otherwise
+pub else_pauses : (at : ℕ) (outcome : Outcome) (nodes : ℕ) (condition : List Refusal) (taken otherwise : List Step) → delays_of (branch_steps at outcome nodes condition taken otherwise) ≡ delays_of (chosen_steps (chosen outcome) taken []) ++ delays_of (chosen_steps (chosen outcome) [] otherwise)
+else_pauses at outcome nodes condition taken otherwise =
+    branch_pauses at outcome nodes condition taken otherwise ∙ parts (chosen outcome) taken otherwise
 
 whole : (at : ℕ) (xs : List Step) → has_statement xs ≡ true → counted at xs ≡ xs
 whole at xs has = rw has refl

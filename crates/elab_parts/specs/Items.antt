@@ -9,14 +9,15 @@ use Rattle.elab_scope.specs.declared.rules.Writer.TheVariants as writer
 use Rattle.elab_scope.specs.Expressions.{faults}
 use Rattle.elab_scope.specs.Names.{Meanings}
 use Rattle.elab_scope.specs.Targets.{target_faults}
+use Rattle.elab_nodes.specs.Totals.{assignment_count, listing_count}
 use Rattle.elab_body.specs.Bodies.{pause_steps, steps}
 use Rattle.elab_body.specs.Events.{sensitivity_faults}
-use Rattle.elab_body.specs.Steps.{Step, faulty}
+use Rattle.elab_body.specs.Steps.{Step, Nodes, faulty}
 
 -- what a continuous assignment comes upon
 abbrev pub assignment_steps : Meanings → Target → Formula → List Step
 assignment_steps scope target value =
-    faulty (target_faults writer.Continuous scope target) ++ faulty (faults scope value)
+    Nodes (target_place target) (assignment_count scope target value) ∷ faulty (target_faults writer.Continuous scope target) ++ faulty (faults scope value)
 
 -- a net with a value is driven whole (section 6.1.1)
 abbrev pub value_steps : Meanings → Identifier → Option Formula → List Step
@@ -33,9 +34,10 @@ drive_steps scope pause [] = []
 drive_steps scope pause (drive ∷ drives) =
     (pause_steps pause ++ assignment_steps scope drive.target drive.value) ++ drive_steps scope pause drives
 
-abbrev pub always_steps : Meanings → Sensitivity → Action → List Step
-always_steps scope sensitivity body =
-    faulty (sensitivity_faults scope sensitivity) ++ steps body scope
+-- what an `always` comes upon: the nodes of its list, what is wrong with it, and its body
+abbrev pub always_steps : Meanings → ℕ → Sensitivity → Action → List Step
+always_steps scope at sensitivity body =
+    Nodes at (listing_count scope sensitivity) ∷ faulty (sensitivity_faults scope sensitivity) ++ steps body scope
 
 -- the steps of an item
 abbrev pub item_steps : Meanings → ModuleItem → List Step
@@ -45,7 +47,7 @@ item_steps scope (Variables at signed bounds variables) = []
 item_steps scope (Integers at names) = []
 item_steps scope (Parameters at kind bounds values) = []
 item_steps scope (Drives at pause drives) = drive_steps scope pause drives
-item_steps scope (Always at sensitivity body) = always_steps scope sensitivity body
+item_steps scope (Always at sensitivity body) = always_steps scope at sensitivity body
 item_steps scope (Instances child parameters instantiations) = []
 
 abbrev pub items_steps : Meanings → List ModuleItem → List Step

@@ -1,4 +1,4 @@
-//! The faults of items, and how far they go towards the limits on statements and delays.
+//! The faults of items, and how far they go towards the limits on statements, delays and nodes of expressions.
 
 ghost use Rattle.std.specs.Prelude.{◌≡◌, IfOk, map};
 ghost use Rattle.std.specs.Option.{option_map};
@@ -8,10 +8,11 @@ ghost use Rattle.rtl_tree.specs.TreeStmt.{Whole, action, pause, target};
 ghost use Rattle.elab_scope.specs.Names.{meanings};
 ghost use Rattle.elab_scope.specs.Targets.{target_faults};
 ghost use Rattle.elab_scope.specs.declared.rules.Writer.TheVariants as writer;
+ghost use Rattle.elab_nodes.specs.Totals.{assignment_count};
 ghost use Rattle.elab_body.specs.Bodies.{pause_steps};
 ghost use Rattle.elab_body.specs.Courses.{course};
 ghost use Rattle.elab_body.specs.Events.{sensitivity_faults};
-ghost use Rattle.elab_body.specs.Steps.{faulty, passed};
+ghost use Rattle.elab_body.specs.Steps.{Nodes, faulty, passed, stepped};
 ghost use Rattle.elab_parts.specs.Items.{always_steps, assignment_steps, drive_steps, item_steps, items_steps, net_steps, value_steps};
 
 use elab_body::body::judge_body;
@@ -47,6 +48,13 @@ fn driven<'a>(name: &'a Name, names: &Names, so_far: Progress<'a>) -> Progress<'
     }
 }
 
+/// The nodes of a net with a value, at its name: a target that is written whole has none.
+fn spend_net<'a>(name: &Name, value: &Expr, names: &Names, so_far: Progress<'a>) -> Progress<'a>
+    ensures { course result ≡ stepped (course so_far.entry) (Nodes name.now.at (assignment_count (meanings names.now) (Whole (identifier name.now)) (formula value.now))) }
+{
+    so_far.spend_expression(name.at, value, names)
+}
+
 #[tactic(auto, using(elab_body::proofs::Passing::passed_append))]
 fn judge_value<'a>(
     name: &'a Name,
@@ -58,7 +66,10 @@ fn judge_value<'a>(
 {
     match value {
         None => so_far,
-        Some(value) => driven(name, names, so_far).judge(value, names),
+        Some(value) => {
+            let so_far = spend_net(name, value, names, so_far);
+            driven(name, names, so_far).judge(value, names)
+        }
     }
 }
 
@@ -114,6 +125,7 @@ fn judge_assignment<'a>(
 ) -> Result<Progress<'a>, Memory>
     ensures { IfOk result (λ judged. course judged ≡ passed (course so_far.entry) (assignment_steps (meanings names.now) (target assignment.now.target) (formula assignment.now.value))) }
 {
+    let so_far = so_far.spend_assignment(&assignment.target, &assignment.value, names);
     let so_far = judge_written(alloc, &assignment.target, names, so_far)?;
     Ok(so_far.judge(&assignment.value, names))
 }
@@ -152,14 +164,16 @@ fn judge_list<'a>(control: &'a EventControl, names: &Names, so_far: Progress<'a>
 
 #[tactic(auto, using(elab_body::proofs::Passing::passed_append))]
 fn judge_always<'a>(
+    at: u32,
     control: &'a EventControl,
     body: &'a Stmt,
     names: &mut Names,
     so_far: Progress<'a>,
 ) -> Progress<'a>
-    ensures told { course result ≡ passed (course so_far.entry) (always_steps (meanings names.old) (sensitivity control.now) (action body.now)) }
+    ensures told { course result ≡ passed (course so_far.entry) (always_steps (meanings names.old) at (sensitivity control.now) (action body.now)) }
     ensures same { meanings names.new ≡ meanings names.old }
 {
+    let so_far = so_far.spend_listing(at, control, names);
     let so_far = judge_list(control, names, so_far);
     judge_body(body, names, so_far)
 }
@@ -180,7 +194,7 @@ pub fn judge_item<'a>(
             let judged = judge_drives(alloc, delay, assignments, names, so_far)?;
             Ok(judged)
         }
-        Item::Always(_, control, body) => Ok(judge_always(control, body, names, so_far)),
+        Item::Always(at, control, body) => Ok(judge_always(*at, control, body, names, so_far)),
         Item::Ports(_, _)
         | Item::Regs { .. }
         | Item::Integers(_, _)
