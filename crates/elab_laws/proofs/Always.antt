@@ -3,7 +3,7 @@ use Rattle.std.proofs.Common.{◌∙◌}
 use Rattle.elab_laws.specs.Laws.{BodyLaw, CombLaw, CountLaw, EdgeLaw, EventsLaw, LimitLaw, TurnLaw}
 use Rattle.elab_laws.proofs.Bodies.{body_made}
 use Rattle.elab_laws.proofs.Lists.{edges_are, events_lawful, list_lawful}
-use Rattle.elab_laws.proofs.Steps.{checked_count, checked_delays, checked_faultless}
+use Rattle.elab_laws.proofs.Steps.{checked_count, checked_delays, checked_faultless, checked_nodes}
 use Rattle.elab_laws.proofs.Turns.{indexed_scope}
 
 pub events : EventsLaw
@@ -20,8 +20,8 @@ pub count : CountLaw
 count file base scope signals d written h = (body_made file base signals written scope d h).count
 
 pub limit : LimitLaw
-limit statements delays all h =
-    (checked_faultless statements delays all h, checked_count statements delays all h, checked_delays statements delays all h)
+limit statements delays nodes all h =
+    (checked_faultless statements delays nodes all h, checked_count statements delays nodes all h, checked_delays statements delays nodes all h, checked_nodes statements delays nodes all h)
 
 pub comb : CombLaw
 comb file base scope signals d list written h is none =

@@ -20,6 +20,7 @@ use Rattle.elab_scope.specs.Targets.{target_faults}
 use Rattle.elab_scope.specs.Trees.{own_context, spot_in, tree_of}
 use Rattle.elab_scope.specs.Widths.{bits}
 use Rattle.elab_scope.proofs.Law.{tree_is_expression}
+use Rattle.elab_nodes.specs.Nodes.{node_count}
 use Rattle.elab_body.specs.Acts.{acts, body_acts, branches_breadth, case_branches, case_context, fallback, first_fallback, with_branch}
 use Rattle.elab_body.specs.Bodies.{all_faults, body_steps, branch_item_steps, branches_steps, pause_steps, steps}
 use Rattle.elab_body.specs.Steps.{Step, faulty}
@@ -111,9 +112,9 @@ mutual
   body_made file base ss (Assign target kind pause value) scope d h =
       set_made file base ss scope d target kind pause value h
   body_made file base ss (If at condition taken) scope d h =
-      made_if ss at (constant (numbers_in scope) condition) (faults scope condition) (steps taken scope) (spot_in file at) (tree_of file base scope condition (own_context scope condition)) (acts file base taken scope) (λ none. own_expression file base scope ss d condition none) (λ none. body_made file base ss taken scope d none) h
+      made_if ss at (constant (numbers_in scope) condition) (node_count scope condition) (faults scope condition) (steps taken scope) (spot_in file at) (tree_of file base scope condition (own_context scope condition)) (acts file base taken scope) (λ none. own_expression file base scope ss d condition none) (λ none. body_made file base ss taken scope d none) h
   body_made file base ss (IfElse at condition taken otherwise) scope d h =
-      made_else ss at (constant (numbers_in scope) condition) (faults scope condition) (steps taken scope) (steps otherwise scope) (spot_in file at) (tree_of file base scope condition (own_context scope condition)) (acts file base taken scope) (acts file base otherwise scope) (λ none. own_expression file base scope ss d condition none) (λ none. body_made file base ss taken scope d none) (λ none. body_made file base ss otherwise scope d none) h
+      made_else ss at (constant (numbers_in scope) condition) (node_count scope condition) (faults scope condition) (steps taken scope) (steps otherwise scope) (spot_in file at) (tree_of file base scope condition (own_context scope condition)) (acts file base taken scope) (acts file base otherwise scope) (λ none. own_expression file base scope ss d condition none) (λ none. body_made file base ss taken scope d none) (λ none. body_made file base ss otherwise scope d none) h
   body_made file base ss (Case at kind full parallel selector branches) scope d h =
       case_made file base ss scope d at kind full parallel selector branches h (λ rest fits. branches_made file base ss branches scope d (case_context scope selector branches) fits.most selector rest fits.below fits.signed)
   body_made file base ss (For at index start condition stepped step body) scope d h =

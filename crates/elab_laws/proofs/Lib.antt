@@ -6,6 +6,7 @@ pub mod Examples
 pub mod Labels
 pub mod Lists
 pub mod Made
+pub mod Nodes
 pub mod Steps
 pub mod Targets
 pub mod Turns

@@ -51,10 +51,10 @@ pub made_chosen : (ss : List Signal) (b : Bool) (xs ys : List Step) (as' bs : Li
 made_chosen ss true xs ys as' bs m n h = m h
 made_chosen ss false xs ys as' bs m n h = n h
 
-pub made_else : (ss : List Signal) (at : ℕ) (o : Outcome) (cond : List Refusal) (xs ys : List Step) (spot : Spot) (test : Tree) (as' bs : List Action) → (cond ≡ [] → IsExpression ss test) → (AreFaultless xs → Made ss xs as') → (AreFaultless ys → Made ss ys bs) → AreFaultless (branch_steps at o cond xs ys) → Made ss (branch_steps at o cond xs ys) (branch_acts o spot test as' (Some bs))
-made_else ss at (Ok number) cond xs ys spot test as' bs e m n h =
+pub made_else : (ss : List Signal) (at : ℕ) (o : Outcome) (nodes : ℕ) (cond : List Refusal) (xs ys : List Step) (spot : Spot) (test : Tree) (as' bs : List Action) → (cond ≡ [] → IsExpression ss test) → (AreFaultless xs → Made ss xs as') → (AreFaultless ys → Made ss ys bs) → AreFaultless (branch_steps at o nodes cond xs ys) → Made ss (branch_steps at o nodes cond xs ys) (branch_acts o spot test as' (Some bs))
+made_else ss at (Ok number) nodes cond xs ys spot test as' bs e m n h =
     made_behind ss cond (if is_true number then xs else ys) (if is_true number then as' else bs) (made_chosen ss (is_true number) xs ys as' bs m n (faultless_right (faulty cond) (if is_true number then xs else ys) h))
-made_else ss at (Err cause) cond xs ys spot test as' bs e m n h =
+made_else ss at (Err cause) nodes cond xs ys spot test as' bs e m n h =
     let front : AreFaultless (faulty cond ++ xs) = faultless_left (faulty cond ++ xs) ys h in
     let none : cond ≡ [] = no_faults cond (faultless_left (faulty cond) xs front) in
     let taken = m (faultless_right (faulty cond) xs front) in
@@ -63,10 +63,10 @@ made_else ss at (Err cause) cond xs ys spot test as' bs e m n h =
     let second : statements_of (body_of bs) ≤ statement_count ys = other.count in
     record { body = ((e none, taken.body, other.body), tt); count = omega (arith, first, second, count_append (faulty cond ++ xs) ys, count_append (faulty cond) xs) }
 
-pub made_if : (ss : List Signal) (at : ℕ) (o : Outcome) (cond : List Refusal) (xs : List Step) (spot : Spot) (test : Tree) (as' : List Action) → (cond ≡ [] → IsExpression ss test) → (AreFaultless xs → Made ss xs as') → AreFaultless (branch_steps at o cond xs []) → Made ss (branch_steps at o cond xs []) (branch_acts o spot test as' None)
-made_if ss at (Ok number) cond xs spot test as' e m h =
+pub made_if : (ss : List Signal) (at : ℕ) (o : Outcome) (nodes : ℕ) (cond : List Refusal) (xs : List Step) (spot : Spot) (test : Tree) (as' : List Action) → (cond ≡ [] → IsExpression ss test) → (AreFaultless xs → Made ss xs as') → AreFaultless (branch_steps at o nodes cond xs []) → Made ss (branch_steps at o nodes cond xs []) (branch_acts o spot test as' None)
+made_if ss at (Ok number) nodes cond xs spot test as' e m h =
     made_behind ss cond (if is_true number then xs else []) (if is_true number then as' else []) (made_chosen ss (is_true number) xs [] as' [] m (λ none. made_none ss []) (faultless_right (faulty cond) (if is_true number then xs else []) h))
-made_if ss at (Err cause) cond xs spot test as' e m h =
+made_if ss at (Err cause) nodes cond xs spot test as' e m h =
     let front : AreFaultless (faulty cond ++ xs) = faultless_left (faulty cond ++ xs) [] h in
     let none : cond ≡ [] = no_faults cond (faultless_left (faulty cond) xs front) in
     let taken = m (faultless_right (faulty cond) xs front) in

@@ -14,6 +14,7 @@ use Rattle.rtl_flat.specs.Process.{Assign, Comb, Edge', Whole, body_of}
 use Rattle.rtl_flat.specs.Signs.{Has, IsExpression, width_in}
 use Rattle.rtl_flat.specs.Sizing.{HaveBits, signed_in, sized}
 use Rattle.rtl_flat.specs.WellFormed.{IsAssignment, IsBody, IsList, IsProcess, IsSignal, IsWatched, has_edge, statements_of}
+use Rattle.rtl_rule.specs.Parts.{nodes}
 use Rattle.elab_scope.specs.declared.context.Context.{Context}
 use Rattle.elab_scope.specs.declared.rules.Writer.TheVariants.{Continuous, Procedural}
 use Rattle.elab_scope.specs.declared.widths.Breadth.{Breadth}
@@ -25,11 +26,12 @@ use Rattle.elab_scope.specs.Sources.{Describes, source}
 use Rattle.elab_scope.specs.Targets.{assigned_context, pieces_of, target_breadth, target_faults}
 use Rattle.elab_scope.specs.Trees.{tree_of}
 use Rattle.elab_scope.specs.Widths.{bits, wider}
+use Rattle.elab_nodes.specs.Nodes.{node_count}
 use Rattle.elab_body.specs.Acts.{acts}
 use Rattle.elab_body.specs.Bodies.{steps}
 use Rattle.elab_body.specs.Events.{is_clocked_by, listing_of, sensitivity_faults, watched_of}
 use Rattle.elab_body.specs.Steps.{Step, checked, delays_of}
-use Rattle.elab_body.specs.Faultless.{AreFaultless, statement_count}
+use Rattle.elab_body.specs.Faultless.{AreFaultless, node_total, statement_count}
 use Rattle.elab_laws.specs.Scopes.{IsScopeOf}
 
 -- ---- signals
@@ -46,6 +48,11 @@ SignalsLaw =
 abbrev pub SizesLaw : Type 0
 SizesLaw =
     (file base : ℕ) (scope : Meanings) (signals : List Signal) → Describes base signals scope → (e : Formula) → faults scope e ≡ [] → (c : Context) → tree_of file base scope e c ≡ sized signals c.width c.signed (source file base scope e)
+
+-- the nodes that are counted of an expression are those of its tree in the design, in each context
+abbrev pub NodesLaw : Type 0
+NodesLaw =
+    (file base : ℕ) (scope : Meanings) (e : Formula) (c : Context) → length (nodes (tree_of file base scope e c)) ≡ node_count scope e
 
 -- ---- assignments
 
@@ -88,10 +95,10 @@ abbrev pub CountLaw : Type 0
 CountLaw =
     (file base : ℕ) (scope : Meanings) (signals : List Signal) → IsScopeOf base signals scope → (body : Action) → AreFaultless (steps body scope) → statements_of (body_of (acts file base body scope)) ≤ statement_count (steps body scope)
 
--- steps of which nothing is told, where so many statements and delays are allowed
+-- steps of which nothing is told, where so many statements, delays and nodes of expressions are allowed
 abbrev pub LimitLaw : Type 0
 LimitLaw =
-    (statements delays : ℕ) (all : List Step) → checked statements delays all ≡ [] → AreFaultless all × (statement_count all ≤ statements) × (length (delays_of all) ≤ delays)
+    (statements delays nodes : ℕ) (all : List Step) → checked statements delays nodes all ≡ [] → AreFaultless all × (statement_count all ≤ statements) × (length (delays_of all) ≤ delays) × (node_total all ≤ nodes)
 
 -- an `always` that waits for no edge
 abbrev pub CombLaw : Type 0

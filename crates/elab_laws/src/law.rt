@@ -1,6 +1,6 @@
 //! Laws of elaboration: in a scope whose names stand for signals of a design, what is without faults is lawful there.
 
-ghost use Rattle.elab_laws.specs.Laws.{BodyLaw, CombLaw, ContinuousLaw, CountLaw, EdgeLaw, EventsLaw, InputLaw, LimitLaw, ListLaw, OutputLaw, ProceduralLaw, ReadLaw, SignalsLaw, SizesLaw, TurnLaw};
+ghost use Rattle.elab_laws.specs.Laws.{BodyLaw, CombLaw, ContinuousLaw, CountLaw, EdgeLaw, EventsLaw, InputLaw, LimitLaw, ListLaw, NodesLaw, OutputLaw, ProceduralLaw, ReadLaw, SignalsLaw, SizesLaw, TurnLaw};
 
 /// Signals of a design have from 1 to 128 bits.
 pub fn signals()
@@ -10,6 +10,11 @@ pub fn signals()
 /// An expression without faults has the sizes and the signs of the standard.
 pub fn sizes()
     ensures { SizesLaw }
+{}
+
+/// The nodes that are counted of an expression are those that it has in the design.
+pub fn nodes()
+    ensures { NodesLaw }
 {}
 
 /// A continuous assignment without faults is a process of the design.
