@@ -32,6 +32,7 @@ use Rattle.elab_links.specs.Ports.{Sockets, sockets_of}
 use Rattle.elab_parts.specs.Items.{item_places, item_steps}
 use Rattle.elab_parts.specs.Tasks.{item_tasks}
 use Rattle.elab_flat.specs.Links.{link_tasks}
+use Rattle.elab_walk.specs.Links.{link_steps}
 use Rattle.elab_walk.specs.Rooms.{connection_places, link_places, part_steps, instantiation_places}
 use Rattle.elab_walk.specs.Placements.{Placement}
 use Rattle.elab_walk.specs.Visits.{Holder, Library, Visit, child_in, holder_of, item_children, placed_children, scope_in}
@@ -146,14 +147,17 @@ pub part_lawful : (library : Library) (placement : Placement) (signals : List Si
 part_lawful library placement signals count kids rest item all are h =
     let own : List Step = item_steps (scope_in placement.visit) item in
     let wrong : List Refusal = link_faults library.lookups library.files placement.visit.way (scope_in placement.visit) item in
+    let links : List Step = link_steps library (scope_in placement.visit) item in
     let none : link_faults library.lookups library.files placement.visit.way (scope_in placement.visit) item ≡ [] =
-    no_faults wrong (faultless_right own (faulty wrong) h) in
+    no_faults wrong (faultless_right (own ++ links) (faulty wrong) h) in
     let p : ℕ = length (item_places item) in
     let q : ℕ = length (link_places item) in
     let s : ℕ = statement_count (item_steps (scope_in placement.visit) item) in
-    let joined : statement_count (part_steps library placement.visit.way (scope_in placement.visit) item) ≡ statement_count (item_steps (scope_in placement.visit) item) + statement_count (faulty wrong) =
-    count_append own (faulty wrong) in
-    tasks_weaker signals count (p + q) (s + 0) (length (item_places item ++ link_places item)) (statement_count (part_steps library placement.visit.way (scope_in placement.visit) item)) (part_tasks library placement (map base_of kids) item) (omega (arith, length-append (item_places item) (link_places item))) (omega arith) (more_tasks signals count p s q 0 (item_tasks placement.visit.place.file placement.base placement.number (scope_in placement.visit) item) (group_tasks placement (map base_of kids) (group_in library placement item)) (item_lawful placement.visit.place.file placement.base placement.number (scope_in placement.visit) signals count item all.scope all.inside (faultless_left own (faulty wrong) h)) (group_lawful library placement signals count kids rest item all are none))
+    let joined : statement_count (part_steps library placement.visit.way (scope_in placement.visit) item) ≡ statement_count (own ++ links) + statement_count (faulty wrong) =
+    count_append (own ++ links) (faulty wrong) in
+    let both : statement_count (own ++ links) ≡ statement_count (item_steps (scope_in placement.visit) item) + statement_count links =
+    count_append own links in
+    tasks_weaker signals count (p + q) (s + 0) (length (item_places item ++ link_places item)) (statement_count (part_steps library placement.visit.way (scope_in placement.visit) item)) (part_tasks library placement (map base_of kids) item) (omega (arith, length-append (item_places item) (link_places item))) (omega arith) (more_tasks signals count p s q 0 (item_tasks placement.visit.place.file placement.base placement.number (scope_in placement.visit) item) (group_tasks placement (map base_of kids) (group_in library placement item)) (item_lawful placement.visit.place.file placement.base placement.number (scope_in placement.visit) signals count item all.scope all.inside (faultless_left own links (faultless_left (own ++ links) (faulty wrong) h))) (group_lawful library placement signals count kids rest item all are none))
 
 -- ---- the children that are left behind an item
 

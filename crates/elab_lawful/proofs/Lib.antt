@@ -5,6 +5,7 @@ pub mod Driven
 pub mod Entries
 pub mod Groups
 pub mod Links
+pub mod Nodes
 pub mod Parts
 pub mod Rooms
 pub mod Scopes

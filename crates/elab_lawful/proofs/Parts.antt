@@ -79,7 +79,7 @@ waited_statements true None body = refl
 waited_statements true (Some events) body = refl
 waited_statements false list body = refl
 
-always_lawful : (file base instance : ℕ) (scope : Meanings) (signals : List Signal) (many at : ℕ) (sensitivity : Sensitivity) (body : Action) → IsScopeOf base signals scope → instance < many → AreFaultless (always_steps scope sensitivity body) → AreTasks signals many 1 (statement_count (always_steps scope sensitivity body)) (always_task file base instance scope at sensitivity body ∷ [])
+always_lawful : (file base instance : ℕ) (scope : Meanings) (signals : List Signal) (many at : ℕ) (sensitivity : Sensitivity) (body : Action) → IsScopeOf base signals scope → instance < many → AreFaultless (always_steps scope at sensitivity body) → AreTasks signals many 1 (statement_count (always_steps scope at sensitivity body)) (always_task file base instance scope at sensitivity body ∷ [])
 always_lawful file base instance scope signals many at sensitivity body d inside h =
     let first : List Step = faulty (sensitivity_faults scope sensitivity) in
     let all : List Step = steps body scope in
@@ -88,12 +88,12 @@ always_lawful file base instance scope signals many at sensitivity body d inside
     let none : AreFaultless (steps body scope) = faultless_right first all h in
     let small : statements_of (body_of (acts file base body scope)) ≤ statement_count (steps body scope) =
     count file base scope signals d body none in
-    let joined : statement_count (always_steps scope sensitivity body) ≡ statement_count first + statement_count (steps body scope) =
+    let joined : statement_count (always_steps scope at sensitivity body) ≡ statement_count first + statement_count (steps body scope) =
     count_append first all in
     let quiet : statement_count first ≡ 0 = count_faulty (sensitivity_faults scope sensitivity) in
     let own : process_statements (waited (is_clocked_by sensitivity) (listing_of file base scope sensitivity) (body_of (acts file base body scope))) ≡ statements_of (body_of (acts file base body scope)) =
     waited_statements (is_clocked_by sensitivity) (listing_of file base scope sensitivity) (body_of (acts file base body scope)) in
-    one_task signals many (statement_count (always_steps scope sensitivity body)) (always_task file base instance scope at sensitivity body) (does_lawful file base scope signals sensitivity body d list none) inside (omega arith)
+    one_task signals many (statement_count (always_steps scope at sensitivity body)) (always_task file base instance scope at sensitivity body) (does_lawful file base scope signals sensitivity body d list none) inside (omega arith)
 
 -- the processes of an item: no more than its places, with no more statements than its steps count
 pub item_lawful : (file base instance : ℕ) (scope : Meanings) (signals : List Signal) (many : ℕ) (item : ModuleItem) → IsScopeOf base signals scope → instance < many → AreFaultless (item_steps scope item) → AreTasks signals many (length (item_places item)) (statement_count (item_steps scope item)) (item_tasks file base instance scope item)

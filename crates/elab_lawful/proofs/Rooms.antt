@@ -25,7 +25,7 @@ use Rattle.elab_lawful.proofs.Trees.{behind_first}
 pub record IsClean (library : Library) (room : Room) (v : Visit) : Type 0 where
   pub number : room.number < 20000
   pub declared : declaration_faults v.settings room.base v.circuit ≡ []
-  pub steps : checked room.left.statements room.left.delays (visit_steps library v) ≡ []
+  pub steps : checked room.left.statements room.left.delays room.left.nodes (visit_steps library v) ≡ []
   pub places : length (process_places v.circuit.items) ≤ room.processes
 
 abbrev pub AreClean : Library → Room → List Visit → Type 0
@@ -57,7 +57,7 @@ clean_one library room v h =
     let both = none_where (has_room room v.circuit) v (own_faults library room v) h in
     let few : nat_lt room.number 20000 ≡ true = first_holds (nat_lt room.number 20000) (nat_le (parameter_count v.circuit) room.parameters) both.0 in
     let declared : List Refusal = declaration_faults v.settings room.base v.circuit in
-    let found : List Refusal = checked room.left.statements room.left.delays (visit_steps library v) in
+    let found : List Refusal = checked room.left.statements room.left.delays room.left.nodes (visit_steps library v) in
     let over : List Refusal = process_faults room.processes (process_places v.circuit.items) in
     let two : declared ++ found ≡ [] = nil_left (declared ++ found) over both.1 in
     record {

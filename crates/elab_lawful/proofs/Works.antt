@@ -23,12 +23,14 @@ use Rattle.elab_parts.specs.Tasks.{item_tasks}
 use Rattle.elab_parts.proofs.Law.{delay_places}
 use Rattle.elab_parts.proofs.Pausing.{no_pauses, pauses_append}
 use Rattle.elab_walk.specs.declared.room.Room.{Room}
+use Rattle.elab_walk.specs.Links.{link_steps}
 use Rattle.elab_walk.specs.Rooms.{link_places, part_steps, parts_steps, process_places, room_after, visit_steps}
 use Rattle.elab_walk.specs.Placements.{Placement, placements}
 use Rattle.elab_walk.specs.Visits.{Library, Visit, children, holder_of, item_children, scope_in}
 use Rattle.elab_flat.specs.Held.{depth_of, held_under}
 use Rattle.elab_flat.specs.Works.{Works, group_in, group_tasks, part_tasks, placed, with_part, with_parts, with_placement, with_placements}
 use Rattle.elab_lawful.proofs.Groups.{AreLinked, IsHolder, IsLinked, base_of, bases_left, children_left, linked_drop, part_lawful}
+use Rattle.elab_lawful.proofs.Nodes.{links_undelayed}
 use Rattle.elab_lawful.proofs.Parts.{IsBefore, before_weaker, delays_inside}
 use Rattle.elab_lawful.proofs.Rooms.{AreClean, IsClean}
 use Rattle.elab_lawful.proofs.Scopes.{IsFit}
@@ -56,10 +58,13 @@ part_delays library placement process item =
     let wrong : List Refusal = link_faults library.lookups library.files placement.visit.way (scope_in placement.visit) item in
     let same : length (map (λ (delay : Delay). delay.spot.at) (item_delays placement.visit.place.file process (scope_in placement.visit) item)) ≡ length (delays_of (item_steps (scope_in placement.visit) item)) =
     ap length (delay_places placement.visit.place.file process (scope_in placement.visit) item) in
-    let joined : length (delays_of (own ++ faulty wrong)) ≡ length (delays_of own ++ delays_of (faulty wrong)) =
-    ap length (pauses_append own (faulty wrong)) in
+    let links : List Step = link_steps library (scope_in placement.visit) item in
+    let joined : length (delays_of (own ++ links ++ faulty wrong)) ≡ length (delays_of own ++ delays_of links ++ delays_of (faulty wrong)) =
+    ap length (pauses_append (own ++ links) (faulty wrong) ∙ ap (λ all. all ++ delays_of (faulty wrong)) (pauses_append own links)) in
     let none : length (delays_of (faulty wrong)) ≡ 0 = ap length (no_pauses wrong) in
-    omega (arith, length-map (item_delays placement.visit.place.file process (scope_in placement.visit) item) (λ (delay : Delay). delay.spot.at), length-append (delays_of own) (delays_of (faulty wrong)))
+    let quiet : length (delays_of links) ≡ 0 =
+    ap length (links_undelayed library (scope_in placement.visit) item) in
+    omega (arith, length-map (item_delays placement.visit.place.file process (scope_in placement.visit) item) (λ (delay : Delay). delay.spot.at), length-append (delays_of own ++ delays_of links) (delays_of (faulty wrong)), length-append (delays_of own) (delays_of links))
 
 part_more : (library : Library) (placement : Placement) (signals : List Signal) (count : ℕ) (kids : List Placement) (rest : List Visit) (item : ModuleItem) (works : Works) → IsHolder placement signals count kids → (length placement.visit.way < 32 → map visit_of kids ≡ item_children library (holder_of placement.visit) item ++ rest) → AreFaultless (part_steps library placement.visit.way (scope_in placement.visit) item) → AreWorks signals count works → AreMore signals count (length (item_places item ++ link_places item)) (statement_count (part_steps library placement.visit.way (scope_in placement.visit) item)) (length (delays_of (part_steps library placement.visit.way (scope_in placement.visit) item))) works (with_part library placement (map base_of kids) works item)
 part_more library placement signals count kids rest item works all are h w =
@@ -177,7 +182,7 @@ pub record HaveRoom (room : Room) (works : Works) : Type 0 where
 
 more_room : (library : Library) (signals : List Signal) (count : ℕ) (room : Room) (v : Visit) (works new : Works) → IsClean library room v → HaveRoom room works → AreMore signals count (length (process_places v.circuit.items)) (statement_count (visit_steps library v)) (length (delays_of (visit_steps library v))) works new → HaveRoom (room_after library room v) new
 more_room library signals count room v works new clean has more =
-    let few = limit room.left.statements room.left.delays (visit_steps library v) clean.steps in
+    let few = limit room.left.statements room.left.delays room.left.nodes (visit_steps library v) clean.steps in
     let places : length (process_places v.circuit.items) ≤ room.processes = clean.places in
     let statements : statement_count (visit_steps library v) ≤ room.left.statements = few.1 in
     let delays : length (delays_of (visit_steps library v)) ≤ room.left.delays = few.2 in
@@ -196,7 +201,7 @@ placements_within library signals count n b room [] works inside are fits clean 
     let delays : length works.delays + room.left.delays ≤ 100000 = has.delays in
     record { lawful = w; tasks = omega arith; statements = omega arith; delays = omega arith }
 placements_within library signals count n b room (v ∷ vs) works inside are fits clean has w =
-    let few = limit room.left.statements room.left.delays (visit_steps library v) clean.0.steps in
+    let few = limit room.left.statements room.left.delays room.left.nodes (visit_steps library v) clean.0.steps in
     let placement : Placement = record { visit = v; number = n; base = b } in
     let next : Works = with_placement library works placement (placements (n + 1) (behind_first v b) vs) in
     let more = placement_more library signals count n b v vs works (omega arith) are.0 fits few.0 w in

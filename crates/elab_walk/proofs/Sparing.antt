@@ -1,27 +1,10 @@
 -- How many parameters are left.
-use Rattle.std.specs.Prelude.{ℕ, ◌+◌, ◌-◌, nat_le, Bool, true, false, Option, None, Some}
-use Rattle.std.specs.Option.{is_some}
-use Rattle.std.proofs.Common.{◌≡◌, ◌∙◌, ◌≤◌, ◌<◌, ap, refl, sym, arith, inl, inr}
-use Rattle.std.proofs.lemmas.Bool.{cases_Bool, cases_lt}
+use Rattle.std.specs.Prelude.{ℕ, ◌-◌, nat_le}
+use Rattle.std.proofs.Common.{◌≡◌, arith, inl, inr, refl}
+use Rattle.std.proofs.lemmas.Bool.{cases_Bool}
 use Rattle.std.proofs.lemmas.Bool.Decides.{nat_tests}
+use Rattle.elab_nodes.specs.Spares.{spared}
 use Rattle.elab_walk.specs.Leavings.{spare_or}
-use Rattle.elab_walk.specs.Rooms.{spared}
-
-pub some_spared : (most count : ℕ) → is_some (spared most count) ≡ nat_le count most
-some_spared most count = elim (cases_Bool (nat_le count most)) [
-  | inl yes' ↦ rw yes' refl
-  | inr no' ↦ rw no' refl
-]
-
-pub spared_some : (most count : ℕ) → count ≤ most → spared most count ≡ Some (most - count)
-spared_some most count h =
-    let few : nat_le count most ≡ true = grind (arith, nat_tests) in
-    rw few refl
-
-pub spared_none : (most count : ℕ) → most < count → spared most count ≡ None
-spared_none most count h =
-    let many : nat_le count most ≡ false = grind (arith, nat_tests) in
-    rw many refl
 
 -- what is left behind a module that has room
 pub spare_is : (most count : ℕ) → spare_or (spared most count) ≡ most - count
@@ -30,29 +13,4 @@ spare_is most count = elim (cases_Bool (nat_le count most)) [
   | inr no' ↦
       let none : most - count ≡ 0 = grind (arith, nat_tests) in
       rw no' cc
-]
-
--- ---- one number of parameters after the other
-
-abbrev pub spared_on : Option ℕ → ℕ → Option ℕ
-spared_on None count = None
-spared_on (Some left) count = spared left count
-
-behind_some : (most a b : ℕ) → a ≤ most → spared most (a + b) ≡ spared (most - a) b
-behind_some most a b h = elim (cases_lt most (a + b)) [
-  | inl many ↦
-      let less : most - a < b = omega arith in
-      spared_none most (a + b) many ∙ sym (spared_none (most - a) b less)
-  | inr few ↦
-      let less : b ≤ most - a = omega arith in
-      let same : most - (a + b) ≡ most - a - b = omega arith in
-      spared_some most (a + b) few ∙ ap Some same ∙ sym (spared_some (most - a) b less)
-]
-
-pub spared_more : (most a b : ℕ) → spared most (a + b) ≡ spared_on (spared most a) b
-spared_more most a b = elim (cases_lt most a) [
-  | inl many ↦
-      let more : most < a + b = omega arith in
-      spared_none most (a + b) more ∙ sym (ap (λ o. spared_on o b) (spared_none most a many))
-  | inr few ↦ behind_some most a b few ∙ sym (ap (λ o. spared_on o b) (spared_some most a few))
 ]

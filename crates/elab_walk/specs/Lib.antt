@@ -1,4 +1,5 @@
 pub mod Leavings
+pub mod Links
 pub mod Placements
 pub mod Refusals
 pub mod Regions

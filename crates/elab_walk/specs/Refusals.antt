@@ -9,12 +9,12 @@ use Rattle.elab_walk.specs.declared.room.Room.{Room}
 use Rattle.elab_walk.specs.Rooms.{has_room, process_faults, process_places, room_after, visit_steps}
 use Rattle.elab_walk.specs.Visits.{Library, Visit}
 
--- the faults of an instance: of its declarations, of its items up to the statement or the delay that is one too many,
--- and the process that is one too many
+-- the faults of an instance: of its declarations, of its items up to the statement, the delay or the expression that is
+-- one too many, and the process that is one too many
 abbrev pub own_faults : Library → Room → Visit → List Refusal
 own_faults library room v =
     declaration_faults v.settings room.base v.circuit
-    ++ checked room.left.statements room.left.delays (visit_steps library v)
+    ++ checked room.left.statements room.left.delays room.left.nodes (visit_steps library v)
     ++ process_faults room.processes (process_places v.circuit.items)
 
 -- an instance that is one too many, or whose parameters are too many, is told where its module is named, and nothing in

@@ -10,12 +10,13 @@ use Rattle.elab_scope.specs.Names.{Meanings}
 use Rattle.elab_scope.specs.Rules.{fault}
 use Rattle.elab_body.specs.Steps.{Step, delays_of, faulty}
 use Rattle.elab_items.specs.Scopes.{listings_of}
-use Rattle.elab_body.specs.Faultless.{statement_count}
+use Rattle.elab_body.specs.Faultless.{node_total, statement_count}
 use Rattle.elab_links.specs.Instances.{link_faults}
 use Rattle.elab_parts.specs.Items.{item_places, item_steps}
 use Rattle.elab_walk.specs.declared.places.Seek.{Seek}
 use Rattle.elab_walk.specs.declared.places.Seek.TheVariants.{Found, Left}
 use Rattle.elab_walk.specs.declared.room.Room.{Room}
+use Rattle.elab_walk.specs.Links.{link_steps}
 use Rattle.elab_walk.specs.Visits.{Library, Visit, scope_in}
 
 -- ---- processes
@@ -57,12 +58,14 @@ abbrev pub process_places : List ModuleItem → List ℕ
 process_places [] = []
 process_places (first ∷ others) = (item_places first ++ link_places first) ++ process_places others
 
--- ---- statements and delays
+-- ---- statements, delays and nodes of expressions
 
 -- what is come upon in an item, where `way` has the names of the modules from the top to the one that holds it
 abbrev pub part_steps : Library → List (List ℕ) → Meanings → ModuleItem → List Step
 part_steps library way scope item =
-    item_steps scope item ++ faulty (link_faults library.lookups library.files way scope item)
+    item_steps scope item
+    ++ link_steps library scope item
+    ++ faulty (link_faults library.lookups library.files way scope item)
 
 -- and in items, in order
 abbrev pub parts_steps : Library → List (List ℕ) → Meanings → List ModuleItem → List Step
@@ -95,20 +98,16 @@ items_parameters (first ∷ others) = item_parameters first + items_parameters o
 abbrev pub parameter_count : Circuit → ℕ
 parameter_count circuit = length circuit.parameters + items_parameters circuit.items
 
--- how many of so many are left behind a number of them; none where there are fewer
-abbrev pub spared : ℕ → ℕ → Option ℕ
-spared most count = if nat_le count most then Some (most - count) else None
-
 -- ---- limits
 
 -- a design has at most 20,000 instances, 200,000 parameters in all of them, 20,000 signals, 20,000 processes, 100,000
--- statements and 100,000 delays
+-- statements, 100,000 delays and 2,000,000 nodes of expressions
 abbrev pub whole_room : Room
 whole_room =
     record {
       base = 0;
       processes = 20000;
-      left = record { statements = 100000; delays = 100000 };
+      left = record { statements = 100000; delays = 100000; nodes = 2000000 };
       number = 0;
       parameters = 200000;
     }
@@ -122,6 +121,7 @@ room_after library room v =
       left = record {
         statements = room.left.statements - statement_count (visit_steps library v);
         delays = room.left.delays - length (delays_of (visit_steps library v));
+        nodes = room.left.nodes - node_total (visit_steps library v);
       };
       number = room.number + 1;
       parameters = room.parameters - parameter_count v.circuit;

@@ -16,7 +16,8 @@ ghost use Rattle.elab_walk.specs.Visits.{library, scope_in, visit};
 ghost use Rattle.elab_scope.specs.Faults.{least};
 
 use crate::library::Library;
-use crate::parameters::spare;
+use crate::links::spend_links;
+use crate::parameters::spare_parameters;
 use crate::places::{Seek, seek_all};
 use crate::room::Room;
 use crate::visit::Visit;
@@ -72,6 +73,7 @@ fn judge_part<'a>(
     ensures same { meanings names.new ≡ meanings names.old }
 {
     let so_far = judge_item(alloc, item, names, so_far)?;
+    let so_far = spend_links(alloc, all, item, names, so_far)?;
     judge_links(alloc, all, way, item, names, so_far)
 }
 
@@ -143,7 +145,7 @@ pub fn judge_visit<'a>(
     let items = met.written.items.as_slice();
     let judged = judge_parts(alloc, all, way, items, &mut names, so_far)?;
     let seek = seek_all(items, Seek::Left(room.processes));
-    let spare = spare(met.written, room.parameters);
+    let spare = spare_parameters(met.written, room.parameters);
     let listed = declared.signals.as_slice();
     let signals = listed.len();
     Ok(Judged {

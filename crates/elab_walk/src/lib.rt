@@ -3,6 +3,7 @@
 
 pub mod judge;
 pub mod library;
+pub mod links;
 pub mod parameters;
 pub mod places;
 pub mod room;

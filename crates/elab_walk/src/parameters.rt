@@ -3,8 +3,10 @@
 ghost use Rattle.std.specs.Prelude.{◌≡◌};
 ghost use Rattle.rtl_tree.specs.TreeItem.{module_item};
 ghost use Rattle.rtl_tree.specs.TreeModule.{circuit};
-ghost use Rattle.elab_walk.specs.Rooms.{item_parameters, parameter_count, spared};
+ghost use Rattle.elab_walk.specs.Rooms.{item_parameters, parameter_count};
+ghost use Rattle.elab_nodes.specs.Spares.{spared};
 
+use elab_nodes::spare::spare;
 use rtl_tree::tree::item::Item;
 use rtl_tree::tree::modules::Module;
 
@@ -23,24 +25,14 @@ fn count_in(item: &Item) -> usize
     }
 }
 
-fn spare_of(most: u32, count: usize) -> Option<u32>
-    ensures { result ≡ spared most count }
-{
-    if count <= most as usize {
-        Some(most - count as u32)
-    } else {
-        None
-    }
-}
-
 /// How many of so many parameters are left behind those of a module; none where it has more.
-#[tactic(auto, using(crate::proofs::Sparing::spared_more))]
-pub fn spare(written: &Module, most: u32) -> Option<u32>
+#[tactic(auto, using(elab_nodes::proofs::Sparing::spared_more))]
+pub fn spare_parameters(written: &Module, most: u32) -> Option<u32>
     ensures { result ≡ spared most (parameter_count (circuit written.now)) }
 {
-    let mut left = spare_of(most, written.parameters.len())?;
+    let mut left = spare(most, written.parameters.len())?;
     for item in &written.items {
-        left = spare_of(left, count_in(item))?;
+        left = spare(left, count_in(item))?;
     }
     Some(left)
 }

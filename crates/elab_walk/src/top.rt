@@ -26,6 +26,9 @@ use std::alloc::Global;
 /// The most modules on the way from the top to an instance, both counted.
 const LEVELS: u32 = 32;
 
+/// The most nodes of all expressions of a design.
+const NODES: u32 = 2_000_000;
+
 /// What a design may have.
 fn whole_room() -> Room
     ensures { result ≡ whole_room }
@@ -37,6 +40,7 @@ fn whole_room() -> Room
         left: Left {
             statements: 100_000,
             delays: 100_000,
+            nodes: NODES,
         },
         parameters: 200_000,
     }

@@ -15,7 +15,7 @@ ghost use Rattle.elab_walk.specs.Visits.{child_of, children, holder, item_childr
 
 use crate::judge::{Judged, judge_visit};
 use crate::library::Library;
-use crate::parameters::spare;
+use crate::parameters::spare_parameters;
 use crate::room::Room;
 use crate::trail::{Placement, Trail};
 use crate::visit::{Holder, Visit, file_of};
@@ -54,11 +54,11 @@ struct Left {
 }
 
 /// Whether a design has room for one instance more, of this module.
-#[tactic(auto, using(crate::proofs::Sparing::some_spared))]
+#[tactic(auto, using(elab_nodes::proofs::Sparing::some_spared))]
 fn has_room(room: Room, written: &Module) -> bool
     ensures { result ≡ has_room room (circuit written.now) }
 {
-    room.number < INSTANCES && spare(written, room.parameters).is_some()
+    room.number < INSTANCES && spare_parameters(written, room.parameters).is_some()
 }
 
 /// An instance of which nothing is told.

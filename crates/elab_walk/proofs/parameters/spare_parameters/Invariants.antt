@@ -1,8 +1,9 @@
 use Rattle.std.proofs.Common.{◌≡◌, map, drop}
 use Rattle.rtl_tree.specs.TreeItem.{module_item}
 use Rattle.rtl_tree.specs.TreeModule.{circuit}
-use Rattle.elab_walk.specs.Rooms.{items_parameters, parameter_count, spared}
-use Rattle.elab_walk.proofs.parameters.spare.Given as goal
+use Rattle.elab_nodes.specs.Spares.{spared}
+use Rattle.elab_walk.specs.Rooms.{items_parameters, parameter_count}
+use Rattle.elab_walk.proofs.parameters.spare_parameters.Given as goal
 
 abbrev pub invariant-loop-item : goal.invariant-loop-item
 invariant-loop-item l =
