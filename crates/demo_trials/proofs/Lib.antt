@@ -1,2 +1,4 @@
 mod Examples
+pub mod Fitting
+pub mod Known
 pub mod Sorts

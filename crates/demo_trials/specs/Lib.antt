@@ -1,3 +1,4 @@
 pub mod Draws
+pub mod Fitting
 pub mod Steps
 pub mod Trials

@@ -1,8 +1,9 @@
 //! What the steps of trials set.
 
-ghost use Rattle.std.specs.Prelude.{◌≡◌, ◌==◌, ◌%◌, ◌&&◌, ◌||◌, IfOk, map, nat_lt, not};
+ghost use Rattle.std.specs.Prelude.{◌≡◌, ◌==◌, ◌%◌, ◌<◌, ◌&&◌, ◌||◌, ℕ, Bool, IfOk, map, nat_lt, not};
 ghost use Rattle.std.specs.List.{count_by, filter, slice_get};
 ghost use Rattle.std.specs.Option.{option_map};
+ghost use Rattle.demo_trials.specs.Fitting.{AreInputsKnown, AreSettingsKnown, InputsMeet, SettingsMeet};
 ghost use Rattle.demo_trials.specs.Steps.{complement_of, controls, data_inputs, drawn_setting, drawn_step, input, step_of, turning_step, zero_setting};
 
 use crate::draw::drawn;
@@ -14,17 +15,31 @@ use std::alloc::Global;
 
 impl Trial {
     /// What a step sets, where the inputs have these values before it. Inputs stand in the order of the header.
-    #[tactic(auto, using(crate::proofs::Sorts::zeros_of))]
     pub fn step(self, alloc: Global, step: u8, inputs: &[Input<'_>]) -> Result<Vec<Setting>, Memory>
-        ensures { IfOk result (λ settings. settings.items ≡ step_of self.number step (map input inputs.now)) }
+        ensures exact { IfOk result (λ settings. settings.items ≡ step_of self.number step (map input inputs.now)) }
+        ensures fitting { IfOk result (λ settings. (test : ℕ → ℕ → Bool) → InputsMeet test inputs.now → SettingsMeet test settings.items) }
+        ensures known { IfOk result (λ settings. (self.number < 32 → AreInputsKnown inputs.now) → AreSettingsKnown settings.items) }
     {
-        if self.number < FIRST_DRAWN {
-            turning_step(alloc, self.number, step, inputs)
-        } else if self.number < POWER_UP {
-            drawn_step(alloc, self.number, step, inputs)
-        } else {
-            zero_step(alloc, inputs)
-        }
+        settings_of(alloc, self.number, step, inputs)
+    }
+}
+
+/// What a step of the trial with a number sets.
+#[tactic(auto, using(crate::proofs::Sorts::zeros_of))]
+fn settings_of(
+    alloc: Global,
+    trial: u8,
+    step: u8,
+    inputs: &[Input<'_>],
+) -> Result<Vec<Setting>, Memory>
+    ensures { IfOk result (λ settings. settings.items ≡ step_of trial step (map input inputs.now)) }
+{
+    if trial < FIRST_DRAWN {
+        turning_step(alloc, trial, step, inputs)
+    } else if trial < POWER_UP {
+        drawn_step(alloc, trial, step, inputs)
+    } else {
+        zero_step(alloc, inputs)
     }
 }
 

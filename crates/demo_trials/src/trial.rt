@@ -1,6 +1,7 @@
 //! A trial by its number.
 
-ghost use Rattle.std.specs.Prelude.{◌≡◌, ◌≤◌, ◌↔◌, IsSome, IfSome};
+ghost use Rattle.std.specs.Prelude.{◌≡◌, ◌≤◌, ◌<◌, ◌↔◌, false, length, IsSome, IfSome};
+ghost use Rattle.rtl_bits.specs.Bits.{has_unknown};
 ghost use Rattle.demo_trials.specs.Trials.{fill_of, policy_of, start_of, step_count};
 
 use crate::draw::drawn;
@@ -87,7 +88,10 @@ impl Trial {
     pub fn start(self, path: &[u8], width: u8) -> Option<Vec4>
         requires not_empty { 1 ≤ width }
         requires at_most { width ≤ 128 }
-        ensures { result ≡ start_of self.number path.now width }
+        ensures exact { result ≡ start_of self.number path.now width }
+        ensures given { IsSome result ↔ (self.number < 32) }
+        ensures width { IfSome result (λ value. length value ≡ width) }
+        ensures known { IfSome result (λ value. has_unknown value ≡ false) }
     {
         if self.number < FIRST_DRAWN {
             let bit = if self.number % 2 == 0 {
