@@ -1,11 +1,12 @@
 -- Trials on small cases.
-use Rattle.std.specs.Prelude.{ℕ, true, false, List, [], ◌∷◌, Bool, codes, Some, None}
+use Rattle.std.specs.Prelude.{ℕ, true, false, List, [], ◌∷◌, codes, Some, None}
 use Rattle.std.proofs.Common.{◌≡◌, ◌%◌, refl, arith}
 use Rattle.rtl_bits.specs.declared.Bit.{Bit}
 use Rattle.rtl_bits.specs.declared.Bit.TheVariants.{Zero, One, X}
 use Rattle.event_model.specs.declared.policy.Policy.TheVariants.{Level, Ascending, Descending}
 use Rattle.event_model.specs.declared.setting.Setting.{Setting}
 use Rattle.net_model.specs.declared.fill.Fill.TheVariants as fill
+use Rattle.demo_trials.specs.Demos.{demo_text, is_path}
 use Rattle.demo_trials.specs.Draws.{draw_text, leading_number}
 use Rattle.demo_trials.specs.Steps.{Input, is_control_step, step_of}
 use Rattle.demo_trials.specs.Trials.{fill_of, policy_of, start_of, step_count}
@@ -121,3 +122,12 @@ any_mod_one n = omega arith
 
 only_clock : step_of 8 2 (clock ∷ three [] X X) ≡ setting 3 (One ∷ []) ∷ []
 only_clock = rw any_mod_one refl
+
+-- ---- demonstrations
+
+demo : demo_text 8 16 (codes "top.q") ≡ codes "trial 8 step 16 signal top.q\n"
+unfolding digits
+demo = refl
+
+path : is_path (codes "top.q") ∷ is_path [] ∷ is_path (codes "q\n") ∷ [] ≡ true ∷ false ∷ false ∷ []
+path = refl

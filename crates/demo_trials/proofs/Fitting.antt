@@ -1,19 +1,19 @@
 -- What holds of all settings of a step.
-use Rattle.std.proofs.Common.{◌≡◌, ℕ, zero, suc, ◌<◌, Bool, true, false, cond, nat_lt, not, Option, None, Some, List, [], ◌∷◌, map, length, refl, ap, ◌∙◌, arith}
-use Rattle.std.specs.Prelude.{Result, Ok, Err, IfOk, Vec, replicate}
+use Rattle.std.proofs.Common.{◌≡◌, ℕ, zero, suc, ◌<◌, Bool, true, false, cond, nat_lt, not, List, [], ◌∷◌, map, length, refl, ap, ◌∙◌, arith}
+use Rattle.std.specs.Prelude.{Result, Ok, Err, IfOk, Vec}
 use Rattle.std.specs.declared.alloc.Global.{Global}
-use Rattle.std.specs.List.{All, filter, slice_get, slice_index_or}
+use Rattle.std.specs.List.{All, slice_get, slice_index_or}
 use Rattle.std.proofs.lemmas.List.{length-map, length-replicate}
 use Rattle.std.proofs.lemmas.List.Elements.{All-nil, All-cons, All-head, All-tail, All-map, All-filter, All-weaker, All-same}
 use Rattle.rtl_bits.specs.Bit.{not_bit}
-use Rattle.rtl_bits.specs.Bits.{has_unknown, bits_of}
+use Rattle.rtl_bits.specs.Bits.{has_unknown}
 use Rattle.rtl_bits.specs.Inside.{length-tabulate}
 use Rattle.rtl_bits.specs.declared.Bit.TheVariants.{Zero}
 use Rattle.event_model.specs.declared.setting.Setting.{Setting}
 use Rattle.demo_trials.specs.declared.input.Input.{Input as Kept}
 use Rattle.demo_trials.specs.Draws.{drawn}
 use Rattle.demo_trials.specs.Fitting.{InputsMeet, SettingsMeet, AreInputsKnown, AreSettingsKnown}
-use Rattle.demo_trials.specs.Steps.{Input, complement, complement_of, controls, data_inputs, drawn_setting, drawn_step, input, is_control_step, step_of, turning_step, zero_setting}
+use Rattle.demo_trials.specs.Steps.{Input, complement, complement_of, controls, data_inputs, drawn_setting, input, is_control_step, step_of, zero_setting}
 use Rattle.demo_trials.proofs.Known.{known_bits, known_copies, known_complement}
 
 choice_holds : (Q : Setting → Type 0) (b : Bool) (xs ys : List Setting) → (b ≡ true → All Q xs) → (b ≡ false → All Q ys) → All Q (cond b xs ys)

@@ -1,14 +1,12 @@
 -- Inputs by their sort: what is kept in the code's form, and what contracts see.
-use Rattle.std.proofs.Common.{◌≡◌, ℕ, zero, suc, ◌+◌, ◌%◌, ◌<◌, Bool, true, false, cond, not, nat_lt, ◌&&◌, ◌||◌, Option, None, Some, List, [], ◌∷◌, map, length, refl, ap, sym, ◌∙◌, arith, codes}
+use Rattle.std.proofs.Common.{◌≡◌, ℕ, zero, suc, ◌+◌, ◌%◌, Bool, true, false, cond, not, nat_lt, ◌&&◌, ◌||◌, List, [], ◌∷◌, map, length, refl, ap, sym, ◌∙◌, arith}
 use Rattle.std.specs.Prelude.{◌==◌}
-use Rattle.std.specs.List.{filter, slice_get, count_by}
+use Rattle.std.specs.List.{filter, count_by}
 use Rattle.std.proofs.lemmas.List.{length-map}
 use Rattle.std.proofs.lemmas.List.Sums.{length-filter}
 use Rattle.std.proofs.lemmas.List.Filters.{length-filter_both}
-use Rattle.event_model.specs.declared.setting.Setting.{Setting}
 use Rattle.demo_trials.specs.declared.input.Input.{Input as Kept}
-use Rattle.demo_trials.specs.Draws.{drawn}
-use Rattle.demo_trials.specs.Steps.{Input, complement_of, controls, data_inputs, drawn_setting, drawn_step, input, is_control_step, zero_setting}
+use Rattle.demo_trials.specs.Steps.{Input, controls, data_inputs, drawn_setting, input, is_control_step, zero_setting}
 
 map_map : {A B C : Type 0} (f : B → C) (g : A → B) (xs : List A) → map f (map g xs) ≡ map (λ x. f (g x)) xs
 map_map f g [] = refl

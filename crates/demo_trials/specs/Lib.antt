@@ -1,3 +1,4 @@
+pub mod Demos
 pub mod Draws
 pub mod Fitting
 pub mod Steps

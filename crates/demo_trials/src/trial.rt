@@ -16,7 +16,7 @@ pub(crate) const POWER_UP: u8 = 32;
 pub(crate) const FIRST_DRAWN: u8 = 8;
 
 /// How many steps a trial has that doesn't begin at power-up.
-const STEPS: u8 = 16;
+pub(crate) const STEPS: u8 = 16;
 
 /// One of the trials 0 to 32.
 #[derive(Clone, Copy, PartialEq, Eq, Debug)]
