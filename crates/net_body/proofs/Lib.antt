@@ -1,0 +1,15 @@
+pub mod Choosing
+pub mod Depths
+pub mod Driving
+pub mod Ending
+pub mod Filled
+pub mod Making
+pub mod May
+pub mod Merging
+pub mod Parts
+pub mod Places
+pub mod Prepared
+pub mod Seen
+pub mod Sides
+pub mod Siding
+pub mod Targets
