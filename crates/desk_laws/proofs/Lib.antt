@@ -1,0 +1,2 @@
+mod OneLevel
+mod OneRun

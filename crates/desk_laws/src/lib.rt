@@ -1,0 +1,4 @@
+//! Laws of what the desk answers.
+#![tactic(auto)]
+
+pub mod law;
