@@ -1,2 +1,4 @@
+mod OneAnswer
+mod OneBuilt
 mod OneLevel
 mod OneRun

@@ -1,0 +1,91 @@
+-- Words have one outcome over given files, and the desk answers it.
+use Rattle.std.proofs.Common.{◌≡◌, ◌∙◌, ℕ, List, Option, Some, None, Result, Ok, Err, sym, ap, subst}
+use Rattle.std.specs.Io.KnownBytes.{Appends}
+use Rattle.desk_io.specs.declared.shelf.ShelfFault.{ShelfFault}
+use Rattle.desk_io.specs.Shelf.{Files, reading}
+use Rattle.elab_flat.specs.Flats.{DesignParts}
+use Rattle.check_all.proofs.Alone.{alone}
+use Rattle.desk_places.specs.Places.{Source}
+use Rattle.desk_steps.specs.Steps.{Steps, file_of}
+use Rattle.desk_top.specs.Answers.{IsAnswered, OverWorld}
+use Rattle.desk_top.specs.Building.{Built, Designed, Refused}
+use Rattle.desk_top.specs.Delivery.{Outcome}
+use Rattle.desk_top.specs.Outcome.{IsAnswer, IsDone, IsJudged, IsOutcome, IsRuled, IsRun, IsSigned, IsSimulating, IsStepped, IsTried, World, names_in, parts_of, ruled, run}
+use Rattle.desk_top.specs.Texts.{named, texts_of}
+use Rattle.desk_top.specs.Words.{Order, Sign, Simulate, order}
+use Rattle.desk_laws.specs.Same.{AreSame, IsUndisturbed}
+use Rattle.desk_laws.proofs.OneBuilt.{OneLine, one_built}
+use Rattle.desk_laws.proofs.OneRun.{one_run}
+
+-- ---- a ruling
+
+one_ruling : (top : List ℕ) (sources : List Source) (flat : DesignParts) (one other : Outcome) → IsRuled top sources flat one → IsRuled top sources flat other → one ≡ other
+one_ruling top sources flat one other first second =
+    first.is ∙ ap (ruled top sources flat) (alone (parts_of flat) first.found second.found first.are_all second.are_all) ∙ sym second.is
+
+answer_once : (top : List ℕ) (sources : List Source) (built : Built) (one other : Outcome) → IsAnswer top sources built one → IsAnswer top sources built other → one ≡ other
+answer_once top sources (Designed flat) one other first second = one_ruling top sources flat one other first second
+answer_once top sources (Refused line) one other first second = first ∙ sym second
+
+judged_once : OneLine → (top : List ℕ) (sources : List Source) (texts : List (List ℕ)) (one other : Outcome) → IsJudged top sources texts one → IsJudged top sources texts other → one ≡ other
+judged_once line top sources texts one other first second =
+    let same : first.built ≡ second.built = one_built line top sources texts first.built second.built first.is_built second.is_built in
+    answer_once top sources second.built one other (subst (λ (built : Built). IsAnswer top sources built one) same first.is) second.is
+
+signed_once : OneLine → (top : List ℕ) (files : List (List ℕ)) (texts : Option (List (List ℕ))) (one other : Outcome) → IsSigned top files texts one → IsSigned top files texts other → one ≡ other
+signed_once line top files None one other first second = first ∙ sym second
+signed_once line top files (Some texts) one other first second = judged_once line top (named files texts) texts one other first second
+
+-- ---- a simulation
+
+run_once : (flat : DesignParts) (read : Result Steps ℕ) (one other : Outcome) → IsRun flat read one → IsRun flat read other → one ≡ other
+run_once flat (Ok steps) one other first second =
+    first.2 ∙ ap run (one_run flat.signals flat.tasks flat.instances steps first.0 second.0 first.1 second.1) ∙ sym second.2
+run_once flat (Err number) one other first second = first ∙ sym second
+
+tried_once : (steps : List ℕ) (built : Built) (one other : Outcome) → IsTried steps built one → IsTried steps built other → one ≡ other
+tried_once steps (Designed flat) one other first second = run_once flat (file_of (names_in flat) steps) one other first second
+tried_once steps (Refused line) one other first second = first ∙ sym second
+
+stepped_once : OneLine → (top : List ℕ) (sources : List Source) (texts : List (List ℕ)) (steps : List ℕ) (one other : Outcome) → IsStepped top sources texts steps one → IsStepped top sources texts steps other → one ≡ other
+stepped_once line top sources texts steps one other first second =
+    let same : first.built ≡ second.built = one_built line top sources texts first.built second.built first.is_built second.is_built in
+    tried_once steps second.built one other (subst (λ (built : Built). IsTried steps built one) same first.is) second.is
+
+simulating_once : OneLine → (top : List ℕ) (files : List (List ℕ)) (steps : Result (List ℕ) ShelfFault) (texts : Option (List (List ℕ))) (one other : Outcome)
+    → IsSimulating top files steps texts one → IsSimulating top files steps texts other → one ≡ other
+simulating_once line top files (Err fault) texts one other first second = first ∙ sym second
+simulating_once line top files (Ok steps) None one other first second = first ∙ sym second
+simulating_once line top files (Ok steps) (Some texts) one other first second = stepped_once line top (named files texts) texts steps one other first second
+
+-- ---- words
+
+done_once : OneLine → (world : World) (command : Option Order) (one other : Outcome) → IsDone world command one → IsDone world command other → one ≡ other
+done_once line world None one other first second = first ∙ sym second
+done_once line world (Some (Sign top files)) one other first second = signed_once line top files (texts_of world.files files) one other first second
+done_once line world (Some (Simulate top steps files)) one other first second =
+    simulating_once line top files (reading (world.before steps)) (texts_of world.files files) one other first second
+
+pub one_outcome : OneLine → (words : List (List ℕ)) (world : World) (one other : Outcome) → IsOutcome words world one → IsOutcome words world other → one ≡ other
+one_outcome line words world one other first second = done_once line world (order words) one other first second
+
+-- ---- answers
+
+-- a world whose files are told is those files
+one_world : (files : Files) (world : World) → files ≡ world.files → files ≡ world.before → world ≡ record { before = files; files = files }
+one_world files world later before =
+    ap (λ (held : Files). record world { files = held }) (sym later) ∙ ap (λ (held : Files). record { before = held; files = files }) (sym before)
+
+pub one_answer : OneLine → (files : Files) (words : List (List ℕ)) (one other : ℕ) (before now old new : Option (List ℕ)) → IsUndisturbed one → IsUndisturbed other
+    → OverWorld (Some files) (IsAnswered words one before now) → OverWorld (Some files) (IsAnswered words other old new) → AreSame one other before now old new
+one_answer line files words one other before now old new fair sure first second =
+    let got = first.holds.answered fair.kept_up in
+    let too = second.holds.answered sure.kept_up in
+    let world : first.world ≡ second.world = one_world files first.world first.agrees first.agrees_before ∙ sym (one_world files second.world second.agrees second.agrees_before) in
+    let same : got.0 ≡ too.0 = one_outcome line words second.world got.0 too.0 (subst (λ (w : World). IsOutcome words w got.0) world got.1) too.1 in
+    record {
+      status = got.2.exact fair.written ∙ ap (λ (outcome : Outcome). outcome.status) same ∙ sym (too.2.exact sure.written);
+      bytes = too.0.bytes;
+      first = subst (λ (outcome : Outcome). Appends before now outcome.bytes) same (got.2.whole fair.written);
+      second = too.2.whole sure.written;
+    }
