@@ -1,0 +1,64 @@
+//! Data inputs that are set.
+
+ghost use Rattle.std.specs.Prelude.{ℕ, ◌≡◌, [], ◌∷◌, length, map};
+ghost use Rattle.std.specs.List.{All};
+ghost use Rattle.rtl_flat.specs.Value.{store};
+ghost use Rattle.event_model.specs.Queue.{flat};
+ghost use Rattle.net_model.specs.Cycle as cycle;
+ghost use Rattle.net_solve.specs.Laws.{AreApart, IsOrder};
+ghost use Rattle.net_work.specs.Work.{IsAble, numbers_of};
+ghost use Rattle.net_settle.specs.Settle.{IsSolved, MakesCycle, SetsInput, setting_view};
+
+use net_body::Maps;
+use net_model::fill::Fill;
+use net_work::work::work;
+use rtl_bits::Vec4;
+use rtl_flat::act::ProcId;
+use rtl_flat::expr::SigId;
+
+/// A top input, and the number that it is set to.
+#[derive(Clone, Copy)]
+pub struct Setting {
+    pub input: SigId,
+    pub number: Vec4,
+}
+
+/// Sets one input.
+fn set_one(maps: &mut Maps, setting: &Setting)
+    requires able { IsAble maps.old }
+    requires sets { SetsInput (flat maps.old.design.now) (setting_view setting.now) }
+    ensures numbers { store maps.new.numbers.items ≡ cycle.given_after (store maps.old.numbers.items) (setting_view setting.now ∷ []) }
+    ensures able { IsAble maps.new }
+    ensures design { maps.new.design ≡ maps.old.design }
+{
+    maps.set(setting.input, setting.number);
+}
+
+/// Sets inputs one after another: of two settings of one input the last counts.
+fn set_all(maps: &mut Maps, settings: &[Setting])
+    requires able { IsAble maps.old }
+    requires sets { All (SetsInput (flat maps.old.design.now)) (map setting_view settings.now) }
+    ensures numbers { store maps.new.numbers.items ≡ cycle.given_after (store maps.old.numbers.items) (map setting_view settings.now) }
+    ensures able { IsAble maps.new }
+    ensures design { maps.new.design ≡ maps.old.design }
+{
+    for setting in settings {
+        set_one(maps, setting);
+    }
+}
+
+/// Sets data inputs and works out what follows: from a solution it comes to the numbers after the step. It takes no memory.
+pub fn settle(maps: &mut Maps, order: &[ProcId], settings: &[Setting], fill: Fill)
+    requires able { IsAble maps.old }
+    requires order { IsOrder (flat maps.old.design.now) (numbers_of order.now) }
+    requires apart { AreApart (flat maps.old.design.now) }
+    requires sets { All (SetsInput (flat maps.old.design.now)) (map setting_view settings.now) }
+    requires solved { IsSolved (flat maps.old.design.now) fill (store maps.old.numbers.items) }
+    ensures cycle { MakesCycle (flat maps.old.design.now) fill (store maps.old.numbers.items) (cycle.Data (map setting_view settings.now)) (store maps.new.numbers.items) }
+    ensures solved { IsSolved (flat maps.old.design.now) fill (store maps.new.numbers.items) }
+    ensures able { IsAble maps.new }
+    ensures design { maps.new.design ≡ maps.old.design }
+{
+    set_all(maps, settings);
+    work(maps, order, fill);
+}

@@ -1,0 +1,5 @@
+pub mod Stays
+pub mod Driven
+pub mod One
+pub mod Able
+pub mod Lawful
