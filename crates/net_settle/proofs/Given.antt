@@ -30,7 +30,7 @@ use Rattle.net_settle.specs.Settle.{IsSolved, MakesCycle, SetsInput, setting_vie
 
 module _ (d : Flat) where
   -- a signal that is no input stays
-  given_other : (n : Values) (all : List Setting) → All (SetsInput d) all → (i : ℕ) → (IsTrue (is_input d i) → ⊥) → given_after n all i ≡ n i
+  pub given_other : (n : Values) (all : List Setting) → All (SetsInput d) all → (i : ℕ) → (IsTrue (is_input d i) → ⊥) → given_after n all i ≡ n i
   given_other n [] sets i none = refl
   given_other n (one ∷ others) sets i none =
       given_other (put n one.input one.number) others (All-tail (SetsInput d) one others sets) i none
@@ -48,7 +48,7 @@ module _ (d : Flat) where
     ];
   }
 
-  given_numbers : (n : Values) (all : List Setting) → AreNumbers d n → All (SetsInput d) all → AreNumbers d (given_after n all)
+  pub given_numbers : (n : Values) (all : List Setting) → AreNumbers d n → All (SetsInput d) all → AreNumbers d (given_after n all)
   given_numbers n [] are sets = are
   given_numbers n (one ∷ others) are sets =
       given_numbers (put n one.input one.number) others (put_numbers n one are (All-head (SetsInput d) one others sets)) (All-tail (SetsInput d) one others sets)

@@ -1,0 +1,9 @@
+pub mod Bridges
+pub mod Changed
+pub mod Put
+pub mod Steps
+pub mod Chosen
+pub mod Turned
+pub mod Numbered
+pub mod Parted
+pub mod Sourced

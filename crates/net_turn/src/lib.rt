@@ -1,0 +1,7 @@
+//! A step in which a clock or a reset changes, and where a simulation begins.
+#![tactic(auto)]
+
+mod choice;
+pub mod law;
+mod take;
+pub mod turn;

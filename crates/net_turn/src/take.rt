@@ -1,0 +1,151 @@
+//! What processes that wait for edges give to their bits, all from the numbers before.
+
+ghost use Rattle.std.specs.Prelude.{ℕ, ◌≡◌, ◌<◌, length};
+ghost use Rattle.std.specs.List.{All};
+ghost use Rattle.rtl_bits.specs.Bits.{tabulate};
+ghost use Rattle.rtl_flat.specs.Value.{store};
+ghost use Rattle.event_model.specs.Queue.{flat, widths};
+ghost use Rattle.event_model.specs.Writes.{put};
+ghost use Rattle.net_model.specs.Numbers.{AreNumbers};
+ghost use Rattle.net_solve.specs.Laws.{AreApart};
+ghost use Rattle.net_work.specs.Work.{IsAble};
+ghost use Rattle.net_turn.specs.Runs.{ArePut, AreRuns, changed, run_bit, run_of, runs_of, turned};
+ghost use Rattle.net_turn.specs.Sources.{CanRun};
+
+use crate::choice::chosen;
+use net_body::Maps;
+use net_list::clocked::Clocked;
+use net_model::fill::Fill;
+use net_settle::settle::Setting;
+use rtl_bits::Vec4;
+use rtl_flat::expr::SigId;
+
+/// Puts aside the digits of a signal that a run changed, and gives it the old ones back.
+fn put_one(maps: &mut Maps, before: &[Vec4], after: &mut [Vec4], place: usize)
+    requires able { IsAble maps.old }
+    requires inside { place < length maps.old.design.now.signals.items }
+    requires many { length before.now ≡ length maps.old.design.now.signals.items }
+    requires many_after { length after.old ≡ length maps.old.design.now.signals.items }
+    requires before { AreNumbers (flat maps.old.design.now) (store before.now) }
+    requires after { AreNumbers (flat maps.old.design.now) (store after.old) }
+    ensures numbers { store maps.new.numbers.items ≡ put (store maps.old.numbers.items) place (store before.now place) }
+    ensures after { store after.new ≡ put (store after.old) place (changed (store before.now place) (store maps.old.numbers.items place) (store after.old place)) }
+    ensures able { IsAble maps.new }
+    ensures design { maps.new.design ≡ maps.old.design }
+{
+    let old = before[place];
+    let ran = maps.numbers[place];
+    let kept = after[place];
+    after[place] = kept.xor(old.xor(ran));
+    maps.set(SigId(place as u32), old);
+}
+
+/// Puts aside all digits that a run changed, and goes back to the old ones.
+fn put_aside(maps: &mut Maps, before: &[Vec4], after: &mut [Vec4])
+    requires able { IsAble maps.old }
+    requires many { length before.now ≡ length maps.old.design.now.signals.items }
+    requires many_after { length after.old ≡ length maps.old.design.now.signals.items }
+    requires before { AreNumbers (flat maps.old.design.now) (store before.now) }
+    requires after { AreNumbers (flat maps.old.design.now) (store after.old) }
+    ensures numbers { (i : ℕ) → store maps.new.numbers.items i ≡ store before.now i }
+    ensures after { (i : ℕ) → store after.new i ≡ changed (store before.now i) (store maps.old.numbers.items i) (store after.old i) }
+    ensures able { IsAble maps.new }
+    ensures design { maps.new.design ≡ maps.old.design }
+{
+    for place in 0..before.len() {
+        put_one(maps, before, after, place);
+    }
+}
+
+/// Runs what one process does, if anything, from the old numbers.
+fn take_one(
+    maps: &mut Maps,
+    one: &Clocked,
+    before: &[Vec4],
+    after: &mut [Vec4],
+    turn: &Option<Setting>,
+    fill: Fill,
+)
+    requires able { IsAble maps.old }
+    requires can { CanRun maps.old.design.now one.now }
+    requires same { (i : ℕ) → store maps.old.numbers.items i ≡ store before.now i }
+    requires many { length before.now ≡ length maps.old.design.now.signals.items }
+    requires many_after { length after.old ≡ length maps.old.design.now.signals.items }
+    requires before { AreNumbers (flat maps.old.design.now) (store before.now) }
+    requires after { AreNumbers (flat maps.old.design.now) (store after.old) }
+    ensures after { let d = flat maps.old.design.now in let old = store before.now in
+        (i : ℕ) → store after.new i ≡ changed (old i) (tabulate (widths d i) (run_bit (widths d) fill old (run_of old (turned old turn.now) one.now) i)) (store after.old i) }
+    ensures same { (i : ℕ) → store maps.new.numbers.items i ≡ store before.now i }
+    ensures able { IsAble maps.new }
+    ensures design { maps.new.design ≡ maps.old.design }
+{
+    if let Some(body) = chosen(one, before, turn) {
+        maps.run(body, fill);
+        put_aside(maps, before, after);
+    }
+}
+
+/// Runs what each process does.
+fn take_all(
+    maps: &mut Maps,
+    clocked: &[Clocked],
+    before: &[Vec4],
+    after: &mut [Vec4],
+    turn: &Option<Setting>,
+    fill: Fill,
+)
+    requires able { IsAble maps.old }
+    requires can { All (CanRun maps.old.design.now) clocked.now }
+    requires apart { AreApart (flat maps.old.design.now) }
+    requires same { (i : ℕ) → store maps.old.numbers.items i ≡ store before.now i }
+    requires many { length before.now ≡ length maps.old.design.now.signals.items }
+    requires begun { after.old ≡ before.now }
+    ensures put { let d = flat maps.old.design.now in let old = store before.now in let runs = runs_of old (turned old turn.now) clocked.now in
+        AreRuns d runs → ArePut d fill old runs (length runs) (store after.new) }
+    ensures after { AreNumbers (flat maps.old.design.now) (store after.new) }
+    ensures able { IsAble maps.new }
+    ensures design { maps.new.design ≡ maps.old.design }
+{
+    for one in clocked {
+        take_one(maps, one, before, after, turn, fill);
+    }
+}
+
+/// Gives all signals the numbers that were put aside.
+fn write_back(maps: &mut Maps, after: &[Vec4])
+    requires able { IsAble maps.old }
+    requires many { length after.now ≡ length maps.old.design.now.signals.items }
+    requires after { AreNumbers (flat maps.old.design.now) (store after.now) }
+    ensures numbers { (i : ℕ) → store maps.new.numbers.items i ≡ store after.now i }
+    ensures able { IsAble maps.new }
+    ensures design { maps.new.design ≡ maps.old.design }
+{
+    for place in 0..after.len() {
+        maps.set(SigId(place as u32), after[place]);
+    }
+}
+
+/// Gives registers what their processes give to them, all from the numbers before; the room for it is given.
+pub(crate) fn take(
+    maps: &mut Maps,
+    clocked: &[Clocked],
+    before: &mut [Vec4],
+    after: &mut [Vec4],
+    turn: &Option<Setting>,
+    fill: Fill,
+)
+    requires able { IsAble maps.old }
+    requires can { All (CanRun maps.old.design.now) clocked.now }
+    requires apart { AreApart (flat maps.old.design.now) }
+    requires many { length before.old ≡ length maps.old.design.now.signals.items }
+    requires many_after { length after.old ≡ length maps.old.design.now.signals.items }
+    ensures put { let d = flat maps.old.design.now in let old = store maps.old.numbers.items in let runs = runs_of old (turned old turn.now) clocked.now in
+        AreRuns d runs → ArePut d fill old runs (length runs) (store maps.new.numbers.items) }
+    ensures able { IsAble maps.new }
+    ensures design { maps.new.design ≡ maps.old.design }
+{
+    before.copy_from_slice(&maps.numbers);
+    after.copy_from_slice(&maps.numbers);
+    take_all(maps, clocked, before, after, turn, fill);
+    write_back(maps, after);
+}
