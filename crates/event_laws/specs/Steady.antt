@@ -1,4 +1,5 @@
 -- What every run of a lawful design keeps.
+-- Worked examples: proofs/Example.antt.
 use Rattle.std.specs.Prelude.{◌≡◌, ℕ, ◌+◌, ◌≤◌, false, List, length, Some, IsSome, IsTrue, unwrap_or}
 use Rattle.std.specs.List.{slice_get, All}
 use Rattle.rtl_bits.specs.declared.Bit.{Bit}

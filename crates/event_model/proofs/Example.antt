@@ -1,5 +1,5 @@
 -- Two registers that exchange their values at a clock's edge.
-use Rattle.std.proofs.Common.{◌≡◌, ℕ, zero, suc, true, false, List, [], ◌∷◌, None, Some, refl}
+use Rattle.std.proofs.Common.{◌≡◌, ℕ, zero, suc, Bool, true, false, List, [], ◌∷◌, None, Some, refl, map}
 use Rattle.rtl_bits.specs.declared.Bit.TheVariants.{Zero, One, X}
 use Rattle.rtl_bits.specs.declared.Edge.TheVariants as edge
 use Rattle.rtl_tree.specs.declared.text.Spot.{Spot}
@@ -8,10 +8,13 @@ use Rattle.rtl_flat.specs.declared.signal.Kind.{Kind}
 use Rattle.rtl_flat.specs.declared.signal.Kind.TheVariants.{TopInput, Var}
 use Rattle.rtl_flat.specs.Expression.{Tree, Sized}
 use Rattle.rtl_flat.specs.Expression as tree
-use Rattle.rtl_flat.specs.Process.{Whole, Action, Set, Done, Then, Doing, Edge'}
+use Rattle.rtl_flat.specs.Paths.{Step, reads_bit, may_write_late}
+use Rattle.rtl_flat.specs.Process.{Whole, Action, Set, If, Actions, Done, Then, Without, Doing, Edge'}
 use Rattle.event_model.specs.declared.policy.Policy.TheVariants.{Descending}
 use Rattle.event_model.specs.Writes.{Values}
 use Rattle.event_model.specs.Queue.{Flat, State, Event, Input, Run, Delayed, Activate, run, offer, settled_at, power_up}
+use Rattle.event_model.specs.Traces.{body_trace, makes, makes_now, makes_late}
+use Rattle.event_model.specs.Bodies.{made}
 use Rattle.event_model.specs.Order.{active}
 use Rattle.event_model.specs.Policies.{chosen, budget, cost}
 
@@ -95,3 +98,47 @@ run_cost_of_it = refl
 
 update_cost : cost design Delayed ≡ 0
 update_cost = refl
+
+-- ---- what one run goes through
+
+abbrev widths_of_it : ℕ → ℕ
+widths_of_it i = 1
+
+-- if (b) a <= a; with the values above, where b is 1, and with a and b at 0
+abbrev held : Actions
+held = Then (If (bit_of 2) (Then (set 1 1) Done) Without spot) Done
+
+abbrev all_zero : Values
+all_zero i = Zero ∷ []
+
+abbrev taken : List Step
+taken = body_trace widths_of_it before held
+
+abbrev skipped : List Step
+skipped = body_trace widths_of_it all_zero held
+
+-- it reads the condition, then what is assigned, then it writes; where the condition is 0 it reads that alone
+reads_condition : map (reads_bit 2 0) taken ≡ true ∷ false ∷ false ∷ []
+reads_condition = refl
+
+reads_value : map (reads_bit 1 0) taken ≡ false ∷ true ∷ false ∷ []
+reads_value = refl
+
+writes_late : map (may_write_late 1 0) taken ≡ false ∷ false ∷ true ∷ []
+writes_late = refl
+
+skips : map (reads_bit 2 0) skipped ≡ true ∷ []
+skips = refl
+
+-- what a <= b makes is a write of bit 0 of a, later and not at once, and of no other bit
+makes_it : map (makes 1 0) (made widths_of_it before (set 1 2)) ≡ true ∷ []
+makes_it = refl
+
+makes_it_late : map (makes_late 1 0) (made widths_of_it before (set 1 2)) ≡ true ∷ []
+makes_it_late = refl
+
+not_at_once : map (makes_now 1 0) (made widths_of_it before (set 1 2)) ≡ false ∷ []
+not_at_once = refl
+
+not_the_next_bit : map (makes 1 1) (made widths_of_it before (set 1 2)) ≡ false ∷ []
+not_the_next_bit = refl

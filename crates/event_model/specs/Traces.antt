@@ -1,4 +1,5 @@
 -- Which steps a body goes through in one run, and which bits it makes (IEEE 1364-2001 sections 9.2 to 9.5).
+-- Worked examples: proofs/Example.antt.
 use Rattle.std.specs.Prelude.{◌≡◌, ℕ, ◌+◌, ◌==◌, nat_lt, nat_le, Bool, false, ◌&&◌, ◌||◌, if◌then◌else◌, List, [], ◌∷◌, ◌++◌, length}
 use Rattle.std.specs.List.{list_any, slice_index_or}
 use Rattle.rtl_bits.specs.declared.Bit.{Bit}

@@ -1,8 +1,9 @@
 -- Sizes and values at work.
 use Rattle.std.proofs.Common.{◌≡◌, ℕ, Bool, true, false, List, [], ◌∷◌, replicate, refl}
-use Rattle.std.specs.Prelude.{negsuc}
+use Rattle.std.specs.Prelude.{pos, negsuc}
 use Rattle.rtl_bits.specs.declared.Bit.{Bit}
 use Rattle.rtl_bits.specs.declared.Bit.TheVariants.{Zero, One, X, Z}
+use Rattle.rtl_bits.specs.declared.Edge.TheVariants.{No, Pos}
 use Rattle.rtl_bits.specs.Bits.{bits_of, is_one_at}
 use Rattle.rtl_tree.specs.declared.text.Spot.{Spot}
 use Rattle.rtl_flat.specs.declared.signal.Signal.{Signal}
@@ -11,7 +12,9 @@ use Rattle.rtl_flat.specs.declared.expr.Join.TheVariants.{Add}
 use Rattle.rtl_flat.specs.declared.expr.Compare.TheVariants.{Equal, Less}
 use Rattle.rtl_flat.specs.declared.expr.Shift.TheVariants.{ArithmeticRight}
 use Rattle.rtl_flat.specs.Sizing.{Source, Number, Whole, BitAt, Joined, Compared, Shifted, Chosen, Concat, Empty, Beside, Recast, alone, assigned, in_case}
+use Rattle.rtl_flat.specs.Process as piece
 use Rattle.rtl_flat.specs.Value.{value}
+use Rattle.rtl_flat.specs.WellFormed.{has_edge, target_width}
 
 abbrev here : Spot
 here = record { file = 0; at = 0 }
@@ -89,3 +92,14 @@ below_range = refl
 selector : value (λ i. bits_of 2 3) (in_case (net 2 false ∷ net 2 false ∷ []) (sum ∷ Number here (bits_of 3 6) false true ∷ []) sum) ≡ bits_of 3 6
 unfolding is_one_at
 selector = refl
+
+-- of a list's items, `posedge clk` has an edge and `a` has none
+rise : has_edge Pos ≡ true
+rise = refl
+
+change : has_edge No ≡ false
+change = refl
+
+-- {a, b[3]} = .. has nine bits, where a has eight
+nine_bits : target_width bytes (record { signal = 0; selection = piece.Whole; spot = here } ∷ record { signal = 1; selection = piece.BitAt 0 (pos 3); spot = here } ∷ []) ≡ 9
+nine_bits = refl

@@ -1,4 +1,5 @@
 -- What holds of every flat design.
+-- Worked examples: proofs/Examples.antt.
 use Rattle.std.specs.Prelude.{ℕ, pos, ◌+◌, ◌≡◌, ◌<◌, ◌≤◌, Bool, true, false, IsTrue, List, [], ◌∷◌, length, sum_by, Option, Some, None}
 use Rattle.std.specs.List.{All, list_any}
 use Rattle.rtl_bits.specs.declared.Edge.{Edge}
