@@ -1,0 +1,6 @@
+pub mod Given
+pub mod Keeping
+pub mod Listed
+pub mod Masking
+pub mod Started
+pub mod Unknowns

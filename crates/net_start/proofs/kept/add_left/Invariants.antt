@@ -1,0 +1,7 @@
+use Rattle.std.proofs.Common.{◌≡◌, ℕ, ◌||◌, ◌&&◌, not, drop}
+use Rattle.rtl_scan.specs.Sets.{has, has_rows}
+use Rattle.net_start.proofs.kept.add_left.Given as goal
+
+abbrev pub invariant-loop-row : goal.invariant-loop-row
+invariant-loop-row l =
+    (s k : ℕ) → (has l.bits.masks s k || (has_rows (drop l.row-index l.rows) s k && not (has l.sure.masks s k))) ≡ (has l.fn.bits.masks s k || (has_rows l.rows s k && not (has l.sure.masks s k)))

@@ -1,0 +1,4 @@
+pub mod Kept
+pub mod Listing
+pub mod Start
+pub mod Stored

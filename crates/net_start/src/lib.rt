@@ -1,0 +1,9 @@
+//! What a simulation of a netlist begins with: which signals are registers, latches and inputs, and their first numbers.
+#![tactic(auto)]
+
+mod kept;
+pub mod start;
+pub mod stored;
+mod unknown;
+
+pub use unknown::first_unknown;
