@@ -12,6 +12,7 @@ use Rattle.rtl_bits.specs.Bits.{has_unknown}
 use Rattle.rtl_flat.specs.Paths.{MayWrite}
 use Rattle.rtl_flat.specs.PathSets.{OfProcess}
 use Rattle.rtl_flat.specs.Process.{Comb, Edge'}
+use Rattle.event_model.specs.declared.setting.Setting as queue
 use Rattle.event_model.specs.Queue.{Flat, is_input, is_input_of, widths}
 use Rattle.event_model.specs.Traces.{Same}
 use Rattle.event_model.specs.Writes.{Values, put}
@@ -25,7 +26,6 @@ use Rattle.net_model.specs.Solution.{IsSolution}
 use Rattle.net_cycles.proofs.Cycles.{cycle}
 use Rattle.net_solve.specs.Laws.{IsBeginning}
 use Rattle.net_solve.proofs.Worked.{no_input_written}
-use Rattle.net_settle.specs.declared.settle.Setting as settle
 use Rattle.net_settle.specs.Settle.{IsSolved, MakesCycle, SetsInput, setting_view}
 
 module _ (d : Flat) where
@@ -82,31 +82,18 @@ module _ (d : Flat) where
         })
         solution
 
-    pub data_solved : (new : Values) → IsSolution d f old (given_after old all) new → IsSolved d f new
-    data_solved new solution = (old, again new (given_after old all) solution)
-      where
-        again : (n given : Values) → IsSolution d f old given n → IsSolution d f old n n
-        again n given s = record {
-          numbers = s.numbers;
-          inputs = λ i is. refl;
-          kept = λ i k is. refl;
-          assigns = s.assigns;
-          blocks = s.blocks;
-          others = s.others;
-        }
-
 -- settings one after another
 pub given_append : (n : Values) (xs ys : List Setting) → given_after n (xs ++ ys) ≡ given_after (given_after n xs) ys
 given_append n [] ys = refl
 given_append n (x ∷ xs) ys = given_append (put n x.input x.number) xs ys
 
 -- the settings up to one more
-pub taken_next : (all : List settle.Setting) (j : ℕ) (x : settle.Setting) → j < length all → x ≡ get_or all j x → map setting_view (take (j + 1) all) ≡ map setting_view (take j all) ++ setting_view x ∷ []
+pub taken_next : (all : List queue.Setting) (j : ℕ) (x : queue.Setting) → j < length all → x ≡ get_or all j x → map setting_view (take (j + 1) all) ≡ map setting_view (take j all) ++ setting_view x ∷ []
 taken_next all j x below is =
     ap (map setting_view) (take_more all j x below ∙ ap (λ y. take j all ++ y ∷ []) (sym is))
     ∙ mapped (take j all)
   where
-    mapped : (xs : List settle.Setting) → map setting_view (xs ++ x ∷ []) ≡ map setting_view xs ++ setting_view x ∷ []
+    mapped : (xs : List queue.Setting) → map setting_view (xs ++ x ∷ []) ≡ map setting_view xs ++ setting_view x ∷ []
     mapped [] = refl
     mapped (y ∷ xs) = ap (λ l. setting_view y ∷ l) (mapped xs)
 

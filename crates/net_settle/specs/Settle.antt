@@ -1,17 +1,17 @@
 -- Steps that set data inputs.
 use Rattle.std.specs.Prelude.{◌≡◌, ℕ, false, length, IsTrue}
 use Rattle.rtl_bits.specs.Bits.{has_unknown}
+use Rattle.event_model.specs.declared.setting.Setting.{Setting}
 use Rattle.event_model.specs.Queue.{Flat, is_input, widths}
 use Rattle.event_model.specs.Writes.{Values}
 use Rattle.net_model.specs.declared.fill.Fill.{Fill}
 use Rattle.net_model.specs.Cycle as cycle
 use Rattle.net_model.specs.Cycle.{Chain, IsCycle, Step}
 use Rattle.net_model.specs.Solution.{IsSolution}
-use Rattle.net_settle.specs.declared.settle.Setting.{Setting}
 
 -- the plain form of a setting
 abbrev pub setting_view : Setting → cycle.Setting
-setting_view setting = record { input = setting.input.0; number = setting.number }
+setting_view setting = record { input = setting.signal.0; number = setting.value }
 
 -- a top input is set to a known value of its width
 pub record SetsInput (d : Flat) (setting : cycle.Setting) : Type 0 where

@@ -9,36 +9,30 @@ ghost use Rattle.net_solve.specs.Laws.{AreApart, IsOrder};
 ghost use Rattle.net_work.specs.Work.{IsAble, numbers_of};
 ghost use Rattle.net_settle.specs.Settle.{IsSolved, MakesCycle, SetsInput, setting_view};
 
+use event_model::setting::Setting;
 use net_body::Maps;
 use net_model::fill::Fill;
 use net_work::work::work;
-use rtl_bits::Vec4;
 use rtl_flat::act::ProcId;
-use rtl_flat::expr::SigId;
-
-/// A top input, and the number that it is set to.
-#[derive(Clone, Copy)]
-pub struct Setting {
-    pub input: SigId,
-    pub number: Vec4,
-}
 
 /// Sets one input.
 fn set_one(maps: &mut Maps, setting: &Setting)
     requires able { IsAble maps.old }
     requires sets { SetsInput (flat maps.old.design.now) (setting_view setting.now) }
-    ensures numbers { store maps.new.numbers.items ≡ cycle.given_after (store maps.old.numbers.items) (setting_view setting.now ∷ []) }
+    ensures numbers { store maps.new.numbers.items
+        ≡ cycle.given_after (store maps.old.numbers.items) (setting_view setting.now ∷ []) }
     ensures able { IsAble maps.new }
     ensures design { maps.new.design ≡ maps.old.design }
 {
-    maps.set(setting.input, setting.number);
+    maps.set(setting.signal, setting.value);
 }
 
 /// Sets inputs one after another: of two settings of one input the last counts.
 fn set_all(maps: &mut Maps, settings: &[Setting])
     requires able { IsAble maps.old }
     requires sets { All (SetsInput (flat maps.old.design.now)) (map setting_view settings.now) }
-    ensures numbers { store maps.new.numbers.items ≡ cycle.given_after (store maps.old.numbers.items) (map setting_view settings.now) }
+    ensures numbers { store maps.new.numbers.items
+        ≡ cycle.given_after (store maps.old.numbers.items) (map setting_view settings.now) }
     ensures able { IsAble maps.new }
     ensures design { maps.new.design ≡ maps.old.design }
 {
@@ -53,9 +47,8 @@ pub fn settle(maps: &mut Maps, order: &[ProcId], settings: &[Setting], fill: Fil
     requires order { IsOrder (flat maps.old.design.now) (numbers_of order.now) }
     requires apart { AreApart (flat maps.old.design.now) }
     requires sets { All (SetsInput (flat maps.old.design.now)) (map setting_view settings.now) }
-    requires solved { IsSolved (flat maps.old.design.now) fill (store maps.old.numbers.items) }
-    ensures cycle { MakesCycle (flat maps.old.design.now) fill (store maps.old.numbers.items) (cycle.Data (map setting_view settings.now)) (store maps.new.numbers.items) }
-    ensures solved { IsSolved (flat maps.old.design.now) fill (store maps.new.numbers.items) }
+    ensures cycle { let d = flat maps.old.design.now in let old = store maps.old.numbers.items in
+        IsSolved d fill old → MakesCycle d fill old (cycle.Data (map setting_view settings.now)) (store maps.new.numbers.items) }
     ensures able { IsAble maps.new }
     ensures design { maps.new.design ≡ maps.old.design }
 {

@@ -13,6 +13,7 @@ use Rattle.rtl_flat.specs.Flows.{body_flow}
 use Rattle.rtl_flat.specs.Paths.{MayWrite}
 use Rattle.rtl_flat.specs.PathSets.{OfProcess}
 use Rattle.rtl_flat.specs.Process.{Actions, Comb, Edge', Watched}
+use Rattle.event_model.specs.declared.setting.Setting.{Setting}
 use Rattle.event_model.specs.Queue.{Flat, doing_at, happens, is_input, widths}
 use Rattle.event_model.specs.Traces.{Same}
 use Rattle.event_model.specs.Writes.{Values, put}
@@ -29,7 +30,6 @@ use Rattle.check_chains.specs.Views.{chain_view}
 use Rattle.net_list.specs.declared.clocked.Clocked.{Clocked}
 use Rattle.net_cycles.proofs.Carried.{carried}
 use Rattle.net_cycles.proofs.Cycles as cycles
-use Rattle.net_settle.specs.declared.settle.Setting.{Setting}
 use Rattle.net_settle.specs.Settle.{SetsInput, setting_view}
 use Rattle.net_settle.proofs.Given.{given_numbers, given_other}
 use Rattle.net_solve.specs.Laws.{AreApart, IsBeginning, place}

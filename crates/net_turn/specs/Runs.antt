@@ -13,6 +13,7 @@ use Rattle.rtl_flat.specs.Paths.{MayWrite}
 use Rattle.rtl_flat.specs.PathSets.{OfProcess}
 use Rattle.rtl_flat.specs.Process.{Actions, action, body_of}
 use Rattle.rtl_flat.specs.WellFormed.{IsBody}
+use Rattle.event_model.specs.declared.setting.Setting.{Setting}
 use Rattle.event_model.specs.Queue.{Flat, happens, widths}
 use Rattle.event_model.specs.Traces.{Same}
 use Rattle.event_model.specs.Writes.{Values}
@@ -23,7 +24,6 @@ use Rattle.net_model.specs.Cycle.{Chain, Guard, given_after, level}
 use Rattle.net_model.specs.Numbers.{bit}
 use Rattle.check_chains.specs.Views.{chain_view}
 use Rattle.net_list.specs.declared.clocked.Clocked.{Clocked}
-use Rattle.net_settle.specs.declared.settle.Setting.{Setting}
 use Rattle.net_settle.specs.Settle.{setting_view}
 
 -- ---- inputs

@@ -13,8 +13,8 @@ ghost use Rattle.check_chains.specs.Views.{guard_view};
 ghost use Rattle.net_turn.specs.Runs.{active_of, branch_of, numbers_of, run_of, turned, view_of};
 
 use check_chains::chain::Guard;
+use event_model::setting::Setting;
 use net_list::clocked::Clocked;
-use net_settle::settle::Setting;
 use rtl_bits::{Bit, Edge, Vec4, edge_of};
 use rtl_flat::act::Act;
 use rtl_flat::expr::SigId;
@@ -32,8 +32,8 @@ fn bit_after(before: &[Vec4], turn: &Option<Setting>, top: SigId) -> Bit
     ensures { result ≡ bit (turned (store before.now) turn.now) top.0 0 }
 {
     if let Some(setting) = turn {
-        if top.0 == setting.input.0 {
-            return first_bit(setting.number);
+        if top.0 == setting.signal.0 {
+            return first_bit(setting.value);
         }
     }
     first_bit(before[top.0 as usize])
@@ -70,7 +70,9 @@ fn active_branch<'a>(
 ) -> Option<&'a [Act]>
     requires as_many { length tops.now ≡ length resets.now }
     requires tops { All (λ top. top.0 < length before.now) tops.now }
-    ensures { option_map (λ branch. view_of branch.now) result ≡ branch_of (active_of (turned (store before.now) turn.now) (map guard_view resets.now) (numbers_of tops.now)) }
+    ensures { option_map (λ branch. view_of branch.now) result
+        ≡ branch_of (active_of (turned (store before.now) turn.now) (map guard_view resets.now)
+        (numbers_of tops.now)) }
 {
     for place in 0..resets.len() {
         let guard = resets[place];
@@ -91,7 +93,8 @@ pub(crate) fn chosen<'a>(
     requires clock { one.now.clock.0 < length before.now }
     requires as_many { length one.now.resets.items ≡ length one.now.chain.resets.items }
     requires tops { All (λ top. top.0 < length before.now) one.now.resets.items }
-    ensures { option_map (λ body. view_of body.now) result ≡ run_of (store before.now) (turned (store before.now) turn.now) one.now }
+    ensures { option_map (λ body. view_of body.now) result
+        ≡ run_of (store before.now) (turned (store before.now) turn.now) one.now }
 {
     let branch = active_branch(&one.chain.resets, &one.resets, before, turn);
     if branch.is_some() {

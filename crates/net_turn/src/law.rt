@@ -21,16 +21,19 @@ pub fn apart()
 
 /// A signal that comes from a top input by plain connections is behind it by links.
 pub fn behind()
-    ensures { (design : Design) (top i : ℕ) → ComesFrom (parts design) top i → IsBehind (flat design) top i }
+    ensures { (design : Design) (top i : ℕ) → ComesFrom (parts design) top i →
+        IsBehind (flat design) top i }
 {}
 
 /// Chains that are inferred are those of the processes that wait for edges, each once, with the top inputs that their
 /// clocks and resets come from.
 pub fn sources()
-    ensures { (design : Design) (all : List Clocked) → AreFormed (parts design) → AreClocked (parts design) all → AreSources (flat design) (chains_of (parts design)) all }
+    ensures { (design : Design) (all : List Clocked) → AreFormed (parts design) →
+        AreClocked (parts design) all → AreSources (flat design) (chains_of (parts design)) all }
 {}
 
 /// What they may run is lawful, and has room.
 pub fn can_run()
-    ensures { (design : Design) (all : List Clocked) → AreFormed (parts design) → AreClocked (parts design) all → All (CanRun design) all }
+    ensures { (design : Design) (all : List Clocked) → AreFormed (parts design) →
+        AreClocked (parts design) all → All (CanRun design) all }
 {}

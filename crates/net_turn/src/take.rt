@@ -13,10 +13,10 @@ ghost use Rattle.net_turn.specs.Runs.{ArePut, AreRuns, changed, run_bit, run_of,
 ghost use Rattle.net_turn.specs.Sources.{CanRun};
 
 use crate::choice::chosen;
+use event_model::setting::Setting;
 use net_body::Maps;
 use net_list::clocked::Clocked;
 use net_model::fill::Fill;
-use net_settle::settle::Setting;
 use rtl_bits::Vec4;
 use rtl_flat::expr::SigId;
 
@@ -28,8 +28,11 @@ fn put_one(maps: &mut Maps, before: &[Vec4], after: &mut [Vec4], place: usize)
     requires many_after { length after.old ≡ length maps.old.design.now.signals.items }
     requires before { AreNumbers (flat maps.old.design.now) (store before.now) }
     requires after { AreNumbers (flat maps.old.design.now) (store after.old) }
-    ensures numbers { store maps.new.numbers.items ≡ put (store maps.old.numbers.items) place (store before.now place) }
-    ensures after { store after.new ≡ put (store after.old) place (changed (store before.now place) (store maps.old.numbers.items place) (store after.old place)) }
+    ensures numbers { store maps.new.numbers.items
+        ≡ put (store maps.old.numbers.items) place (store before.now place) }
+    ensures after { store after.new
+        ≡ put (store after.old) place (changed (store before.now place)
+        (store maps.old.numbers.items place) (store after.old place)) }
     ensures able { IsAble maps.new }
     ensures design { maps.new.design ≡ maps.old.design }
 {
@@ -48,7 +51,8 @@ fn put_aside(maps: &mut Maps, before: &[Vec4], after: &mut [Vec4])
     requires before { AreNumbers (flat maps.old.design.now) (store before.now) }
     requires after { AreNumbers (flat maps.old.design.now) (store after.old) }
     ensures numbers { (i : ℕ) → store maps.new.numbers.items i ≡ store before.now i }
-    ensures after { (i : ℕ) → store after.new i ≡ changed (store before.now i) (store maps.old.numbers.items i) (store after.old i) }
+    ensures after { (i : ℕ) → store after.new i
+        ≡ changed (store before.now i) (store maps.old.numbers.items i) (store after.old i) }
     ensures able { IsAble maps.new }
     ensures design { maps.new.design ≡ maps.old.design }
 {

@@ -12,10 +12,10 @@ ghost use Rattle.net_turn.specs.Sources.{CanRun};
 ghost use Rattle.net_turn.specs.Steps.{Begins, Turns};
 
 use crate::take::take;
+use event_model::setting::Setting;
 use net_body::Maps;
 use net_list::clocked::Clocked;
 use net_model::fill::Fill;
-use net_settle::settle::Setting;
 use net_work::work::work;
 use rtl_bits::Vec4;
 use rtl_flat::act::ProcId;
@@ -38,13 +38,14 @@ pub fn turn(
     requires sets { SetsInput (flat maps.old.design.now) (setting_view setting.now) }
     requires many { length before.old ≡ length maps.old.design.now.signals.items }
     requires many_after { length after.old ≡ length maps.old.design.now.signals.items }
-    ensures turns { Turns (flat maps.old.design.now) fill clocked.now (store maps.old.numbers.items) (setting_view setting.now) (store maps.new.numbers.items) }
+    ensures turns { Turns (flat maps.old.design.now) fill clocked.now
+        (store maps.old.numbers.items) (setting_view setting.now) (store maps.new.numbers.items) }
     ensures able { IsAble maps.new }
     ensures design { maps.new.design ≡ maps.old.design }
 {
     let turn = Some(*setting);
     take(maps, clocked, before, after, &turn, fill);
-    maps.set(setting.input, setting.number);
+    maps.set(setting.signal, setting.value);
     work(maps, order, fill);
 }
 
@@ -63,7 +64,8 @@ pub fn begin(
     requires can { All (CanRun maps.old.design.now) clocked.now }
     requires many { length before.old ≡ length maps.old.design.now.signals.items }
     requires many_after { length after.old ≡ length maps.old.design.now.signals.items }
-    ensures begins { Begins (flat maps.old.design.now) fill clocked.now (store maps.old.numbers.items) (store maps.new.numbers.items) }
+    ensures begins { Begins (flat maps.old.design.now) fill clocked.now
+        (store maps.old.numbers.items) (store maps.new.numbers.items) }
     ensures able { IsAble maps.new }
     ensures design { maps.new.design ≡ maps.old.design }
 {

@@ -9,7 +9,7 @@ use Rattle.net_settle.proofs.settle.set_one.Goals as goal
 
 pub set-requires-clause-there : goal.set-requires-clause-there
 set-requires-clause-there c =
-    input_there (flat c.args.maps.now.design.now) c.args.setting.now.input.0 c.requires.sets.input
+    input_there (flat c.args.maps.now.design.now) c.args.setting.now.signal.0 c.requires.sets.input
 
 pub returns-clause-able : goal.returns-clause-able
 returns-clause-able c =

@@ -21,23 +21,23 @@ set-requires-clause-ready c = c.take.ensures.able.ready
 pub set-requires-clause-there : goal.set-requires-clause-there
 set-requires-clause-there c =
     let d = flat c.args.maps.now.design.now in
-    let i = c.args.setting.now.input.0 in
+    let i = c.args.setting.now.signal.0 in
     subst (λ r. i < length r.now.signals.items) (sym c.take.ensures.design) (input_there d i c.requires.sets.input)
 
 pub set-requires-clause-width : goal.set-requires-clause-width
 set-requires-clause-width c =
     let setting = c.args.setting.now in
-    subst (λ r. length setting.number ≡ widths (flat r.now) setting.input.0) (sym c.take.ensures.design) c.requires.sets.wide
+    subst (λ r. length setting.value ≡ widths (flat r.now) setting.signal.0) (sym c.take.ensures.design) c.requires.sets.wide
 
 pub work-requires-clause-able : goal.work-requires-clause-able
 work-requires-clause-able c =
     let setting = c.args.setting.now in
     let l = c.take.new.maps in
     let dl = flat l.design.now in
-    let wide = subst (λ r. length setting.number ≡ widths (flat r.now) setting.input.0) (sym c.take.ensures.design) c.requires.sets.wide in
+    let wide = subst (λ r. length setting.value ≡ widths (flat r.now) setting.signal.0) (sym c.take.ensures.design) c.requires.sets.wide in
     able_after l c.set.new.self c.take.ensures.able c.set.ensures.ready c.set.ensures.design c.set.ensures.room
     (subst (λ n. AreNumbers dl n) (sym c.set.ensures.numbers)
-    (put_numbers dl (store l.numbers.items) setting.input.0 setting.number c.take.ensures.able.numbers wide c.requires.sets.known))
+    (put_numbers dl (store l.numbers.items) setting.signal.0 setting.value c.take.ensures.able.numbers wide c.requires.sets.known))
 
 pub work-requires-clause-order : goal.work-requires-clause-order
 work-requires-clause-order c =
@@ -56,7 +56,7 @@ returns-clause-turns c =
     let setting = c.args.setting.now in
     let old = store m.numbers.items in
     let kept = store c.take.new.maps.numbers.items in
-    let given = put kept setting.input.0 setting.number in
+    let given = put kept setting.signal.0 setting.value in
     let new = store c.work.new.maps.numbers.items in
     let lawful = lawful_flat m.design.now in
     let sets : All (SetsInput d) (setting_view setting ∷ []) = All-cons (SetsInput d) (setting_view setting) [] c.requires.sets (All-nil (SetsInput d)) in
