@@ -1,0 +1,4 @@
+pub mod Holding
+pub mod Netlists
+pub mod Sims
+pub mod Steps

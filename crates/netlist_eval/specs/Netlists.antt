@@ -1,0 +1,16 @@
+-- It serves inner contracts and proofs; no answer of the program is stated by it.
+-- The design of a netlist.
+use Rattle.std.specs.Prelude.{ℕ}
+use Rattle.rtl_rule.specs.Parts.{parts}
+use Rattle.event_model.specs.Queue.{Flat, flat}
+use Rattle.net_model.specs.Cycle.{Chain}
+use Rattle.net_list.specs.declared.netlist.Netlist.{Netlist}
+use Rattle.net_list.specs.Chosen.{chains_of}
+
+-- its signals and processes
+abbrev pub flat_in : Netlist → Flat
+flat_in netlist = flat netlist.design.now
+
+-- the chains of resets of its processes
+abbrev pub chains_in : Netlist → ℕ → Chain
+chains_in netlist = chains_of (parts netlist.design.now)

@@ -1,0 +1,297 @@
+//! The simulator of a netlist.
+
+ghost use Rattle.std.specs.Prelude.{ℕ, ◌≡◌, ◌↔◌, false, true, slice_index_or, IfErr, IfOk};
+ghost use Rattle.event_model.specs.Queue.{flat};
+ghost use Rattle.net_model.specs.Control.{IsControl};
+ghost use Rattle.net_solve.specs.Laws.{IsOrder};
+ghost use Rattle.net_work.specs.Work.{numbers_of};
+ghost use Rattle.net_start.specs.Stored.{places};
+ghost use Rattle.netlist_eval.specs.Holding.{IsSimulator};
+ghost use Rattle.netlist_eval.specs.Steps.{HasNoCycle, IsOrderFault};
+
+use crate::fault::NetFault;
+use crate::step::Step;
+use check_clocks::tops::{is_top, mark_all};
+use event_model::setting::Setting;
+use infer_regs::controls;
+use net_body::Maps;
+use net_list::netlist::Netlist;
+use net_order::order::{Ranking, order};
+use net_settle::settle::settle;
+use net_start::first_unknown;
+use net_start::start::start;
+use net_start::stored::{stored, top_inputs};
+use net_turn::turn::{begin, turn};
+use rtl_bits::{Bit, Vec4};
+use rtl_flat::act::ProcId;
+use rtl_flat::design::Design;
+use rtl_flat::expr::SigId;
+use rtl_tree::memory::Memory;
+use std::alloc::Global;
+
+/// A simulator of what synthesis means by a design. Only `NetSim::new` takes memory.
+#[derive(Drop)]
+pub struct NetSim<'n> {
+    netlist: &'n Netlist<'n>,
+    /// The processes without edges, each behind those that feed it.
+    order: Vec<ProcId>,
+    maps: Maps<'n>,
+    /// Room for the numbers before a turn, and for those after it.
+    before: Vec<Vec4>,
+    after: Vec<Vec4>,
+    /// Of each signal whether it is a clock or a reset among the top inputs.
+    controls: Vec<bool>,
+    ghost is_simulator: { ∥ IsSimulator netlist.now order.items maps before.items after.items controls.items ∥₁ },
+}
+
+/// The numbers of signals.
+fn places_of(alloc: Global, signals: &[SigId]) -> Result<Vec<u32>, Memory>
+    ensures { IfOk result (λ found. found.items ≡ places signals.now) }
+{
+    let mut found = Vec::new(alloc);
+    for signal in signals {
+        found.push(signal.0)?;
+    }
+    Ok(found)
+}
+
+/// Of each signal whether it is a clock or a reset among the top inputs.
+fn marked_controls(alloc: Global, design: &Design) -> Result<Vec<bool>, Memory>
+    ensures { IfOk result (λ marks. (s : ℕ) →
+        slice_index_or marks.items s false ≡ true ↔ ∥ IsControl (flat design.now) s ∥₁) }
+{
+    let found = controls(alloc, design)?;
+    let places = places_of(alloc, &found)?;
+    let mut marks = vec![in alloc; false; design.signals.len()]?;
+    mark_all(&mut marks, &places);
+    Ok(marks)
+}
+
+fn is_marked(marks: &[bool], signal: SigId) -> bool
+    ensures { result ≡ slice_index_or marks.now signal.0 false }
+{
+    marks.get(signal.0 as usize).copied().unwrap_or(false)
+}
+
+/// The order of processes without edges.
+fn order_of(alloc: Global, design: &Design) -> Result<Vec<ProcId>, NetFault>
+    ensures order { IfOk result (λ order. IsOrder (flat design.now) (numbers_of order.items)) }
+    ensures no_cycle { IfOk result (λ order. HasNoCycle (flat design.now)) }
+    ensures cyclic { IfErr result (λ fault. IsOrderFault (flat design.now) fault) }
+{
+    match order(alloc, design)? {
+        Ranking::Order(order) => Ok(order),
+        Ranking::Cyclic(signal) => Err(NetFault::Cyclic(signal)),
+    }
+}
+
+impl<'n> NetSim<'n> {
+    ghost use Rattle.std.specs.Prelude.{◌≡◌, ◌↔◌, ◌<◌, ◌++◌, false, true, length, IfErr, IfOk};
+    ghost use Rattle.std.specs.List.{All};
+    ghost use Rattle.rtl_bits.specs.Bits.{has_unknown};
+    ghost use Rattle.event_model.specs.Queue.{widths};
+    ghost use Rattle.rtl_flat.specs.Value.{store};
+    ghost use Rattle.net_model.specs.Control.{IsControl};
+    ghost use Rattle.net_model.specs.Cycle.{IsCycle};
+    ghost use Rattle.net_model.specs.Lawful.{SetsData, TurnsControl};
+    ghost use Rattle.net_model.specs.Numbers.{AreNumbers};
+    ghost use Rattle.net_solve.specs.Laws.{IsOrder};
+    ghost use Rattle.net_work.specs.Work.{numbers_of};
+    ghost use Rattle.net_settle.specs.Settle.{SetsInput, setting_view};
+    ghost use Rattle.net_turn.specs.Steps.{AreFilled};
+    ghost use Rattle.net_start.specs.Start.{AreKnown, AreValues};
+    ghost use Rattle.net_start.specs.Stored.{AreInputs, AreStored};
+    ghost use Rattle.netlist_eval.specs.Netlists.{chains_in, flat_in};
+    ghost use Rattle.netlist_eval.specs.Sims.{flat_of, netlist_of, shown};
+    ghost use Rattle.netlist_eval.specs.Steps.{HasNoCycle, IsBegun, IsFault, IsLawful, IsStepOf, Starts, step_view};
+
+    /// A simulator that begins with values for registers and latches (`stored`) and for inputs (`top_inputs`), each in
+    /// order of number.
+    ///
+    /// Fails with `Cyclic` of the least signal of a cycle; where there is none, with `NotKnown` of the first value that has
+    /// an unknown bit; and where memory runs out.
+    pub fn new(
+        alloc: Global,
+        netlist: &'n Netlist<'n>,
+        registers: &[Vec4],
+        inputs: &[Vec4],
+    ) -> Result<NetSim<'n>, NetFault>
+        requires registers { AreValues (flat_in netlist.now) (AreStored
+            (flat_in netlist.now)) registers.now }
+        requires inputs { AreValues (flat_in netlist.now) (AreInputs
+            (flat_in netlist.now)) inputs.now }
+        ensures netlist { IfOk result (λ sim. netlist_of sim ≡ netlist.now) }
+        ensures begun { IfOk result (λ sim. IsBegun (flat_in netlist.now)
+            (chains_in netlist.now) netlist.now.fill registers.now inputs.now (shown sim)) }
+        ensures no_cycle { IfOk result (λ sim. HasNoCycle (flat_in netlist.now)) }
+        ensures known { IfOk result (λ sim. AreKnown (registers.now ++ inputs.now)) }
+        ensures fault { IfErr result (λ fault. IsFault (flat_in netlist.now)
+            (registers.now ++ inputs.now) fault) }
+    {
+        let design = netlist.design;
+        let order = order_of(alloc, design)?;
+        let holders = stored(alloc, design)?;
+        let tops = top_inputs(alloc, design)?;
+        if let Some(at) = first_unknown(registers, inputs) {
+            return Err(NetFault::NotKnown(at));
+        }
+        let numbers = start(
+            alloc,
+            design,
+            &holders,
+            registers,
+            &tops,
+            inputs,
+            netlist.fill,
+        )?;
+        NetSim::begin(alloc, netlist, order, numbers)
+    }
+
+    /// A simulator that begins with numbers.
+    ///
+    /// Fails where memory runs out.
+    fn begin(
+        alloc: Global,
+        netlist: &'n Netlist<'n>,
+        order: Vec<ProcId>,
+        numbers: Vec<Vec4>,
+    ) -> Result<NetSim<'n>, NetFault>
+        requires order { IsOrder (flat_in netlist.now) (numbers_of order.items) }
+        requires many { length numbers.items ≡ length netlist.now.design.now.signals.items }
+        requires numbers { AreNumbers (flat_in netlist.now) (store numbers.items) }
+        requires filled { AreFilled (flat_in netlist.now) netlist.now.fill (store numbers.items) }
+        ensures netlist { IfOk result (λ sim. netlist_of sim ≡ netlist.now) }
+        ensures starts { IfOk result (λ sim. Starts (flat_in netlist.now)
+            (chains_in netlist.now) netlist.now.fill (store numbers.items) (shown sim)) }
+        ensures memory { IfErr result (λ fault. fault ≡ NetFault.Memory) }
+    {
+        let design = netlist.design;
+        let controls = marked_controls(alloc, design)?;
+        let count = design.signals.len();
+        let filler = Vec4::of_bit(Bit::Zero);
+        let mut before = vec![in alloc; filler; count]?;
+        let mut after = vec![in alloc; filler; count]?;
+        let mut maps = Maps::new(alloc, design, numbers)?;
+        begin(
+            &mut maps,
+            &order,
+            &netlist.clocked,
+            &mut before,
+            &mut after,
+            netlist.fill,
+        );
+        Ok(NetSim {
+            netlist,
+            order,
+            maps,
+            before,
+            after,
+            controls,
+        })
+    }
+
+    /// The number of a signal, as known bits of its width.
+    pub fn value(&self, signal: SigId) -> Vec4
+        requires there { signal.0 < length (flat_of self.now).signals }
+        ensures number { result ≡ shown self.now signal.0 }
+        ensures known { has_unknown result ≡ false }
+        ensures width { length result ≡ widths (flat_of self.now) signal.0 }
+    {
+        self.maps.numbers()[signal.0 as usize]
+    }
+
+    /// Whether a setting gives a top input a known value of its width.
+    fn fits(&self, setting: &Setting) -> bool
+        ensures { result ≡ true ↔ SetsInput (flat_of self.now) (setting_view setting.now) }
+    {
+        let design = self.netlist.design;
+        is_top(design, setting.signal)
+            && setting.value.is_known()
+            && setting.value.width() == design.signals[setting.signal.0 as usize].width
+    }
+
+    /// Whether a signal is a clock or a reset among the top inputs.
+    fn is_control(&self, signal: SigId) -> bool
+        ensures { result ≡ true ↔ ∥ IsControl (flat_of self.now) signal.0 ∥₁ }
+    {
+        is_marked(&self.controls, signal)
+    }
+
+    /// Whether a setting gives a data input a known value of its width.
+    fn sets_data(&self, setting: &Setting) -> bool
+        ensures { result ≡ true ↔ SetsData (flat_of self.now) (setting_view setting.now) }
+    {
+        self.fits(setting) && !self.is_control(setting.signal)
+    }
+
+    /// Whether each of some settings does.
+    fn all_set_data(&self, settings: &[Setting]) -> bool
+        ensures { result
+            ≡ true ↔ All (λ setting. SetsData (flat_of self.now)
+            (setting_view setting)) settings.now }
+    {
+        for setting in settings {
+            if !self.sets_data(setting) {
+                return false;
+            }
+        }
+        true
+    }
+
+    /// Whether a setting gives a clock or a reset the other value.
+    fn turns_control(&self, setting: &Setting) -> bool
+        ensures { result
+            ≡ true ↔ ∥ TurnsControl (flat_of self.now) (shown self.now)
+            (setting_view setting.now) ∥₁ }
+    {
+        self.fits(setting)
+            && self.is_control(setting.signal)
+            && !self.value(setting.signal).is_same(setting.value)
+    }
+
+    /// Settings as a step: one setting of a clock or a reset turns it, all others set data inputs.
+    pub fn step_of<'a>(&self, settings: &'a [Setting]) -> Step<'a>
+        ensures { IsStepOf (flat_of self.now) settings.now result }
+    {
+        if let [one] = settings {
+            if self.is_control(one.signal) {
+                return Step::Turn(*one);
+            }
+        }
+        Step::Data(settings)
+    }
+
+    /// Whether a step may be taken: it gives known values of their width to data inputs, or the other value to one clock
+    /// or reset.
+    pub fn lawful(&self, step: &Step) -> bool
+        ensures { result ≡ true ↔ IsLawful (flat_of self.now) (shown self.now) step.now }
+    {
+        match step {
+            Step::Data(settings) => self.all_set_data(settings),
+            Step::Turn(setting) => self.turns_control(setting),
+        }
+    }
+
+    /// Takes a lawful step. It takes no memory.
+    pub fn step(&mut self, step: &Step)
+        requires lawful { IsLawful (flat_of self.old) (shown self.old) step.now }
+        ensures cycle { let netlist = netlist_of self.old in IsCycle (flat_in netlist)
+            (chains_in netlist) netlist.fill (shown self.old) (step_view step.now)
+            (shown self.new) }
+        ensures netlist { netlist_of self.new ≡ netlist_of self.old }
+    {
+        let fill = self.netlist.fill;
+        match step {
+            Step::Data(settings) => settle(&mut self.maps, &self.order, settings, fill),
+            Step::Turn(setting) => turn(
+                &mut self.maps,
+                &self.order,
+                &self.netlist.clocked,
+                &mut self.before,
+                &mut self.after,
+                setting,
+                fill,
+            ),
+        }
+    }
+}
