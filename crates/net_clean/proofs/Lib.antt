@@ -1,0 +1,2 @@
+mod Grades
+pub mod Netlist

@@ -1,0 +1,4 @@
+//! The netlist of a design without findings of the first grade.
+#![tactic(auto)]
+
+pub mod law;
