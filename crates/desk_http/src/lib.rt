@@ -1,0 +1,10 @@
+//! What the desk hears and says in HTTP/1.1: heads of requests, routes, bodies, and heads of replies.
+#![tactic(auto)]
+
+mod ask;
+mod fault;
+mod reply;
+
+pub use ask::{Ask, Request, WaiverAsk};
+pub use fault::BadRequest;
+pub use reply::{BodyKind, MAX_REPLY_HEAD_BYTES, NO_MEMORY, Reply, reply_head};
