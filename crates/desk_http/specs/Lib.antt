@@ -1,2 +1,5 @@
 pub mod Replies
 pub mod Refusals
+pub mod Routes
+pub mod Numbers
+pub mod Lines

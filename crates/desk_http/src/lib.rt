@@ -3,8 +3,12 @@
 
 mod ask;
 mod fault;
+mod lines;
+mod number;
 mod reply;
+mod route;
 
 pub use ask::{Ask, Request, WaiverAsk};
 pub use fault::BadRequest;
+pub use lines::MAX_BODY_BYTES;
 pub use reply::{BodyKind, MAX_REPLY_HEAD_BYTES, NO_MEMORY, Reply, reply_head};

@@ -1,0 +1,42 @@
+// Numbers in decimal digits.
+ghost use Rattle.std.specs.Prelude.{◌≡◌, ◌<◌, ◌^◌, min};
+ghost use Rattle.std.specs.List.{list_all};
+ghost use Rattle.std.specs.Char.{is_ascii_digit};
+ghost use Rattle.desk_http.specs.Numbers.{is_number, number_of, significant};
+
+// Whether a text is one digit or more, and nothing else.
+pub(crate) fn is_number(text: &[u8]) -> bool
+    ensures { result ≡ is_number text.now }
+{
+    !text.is_empty() && are_digits(text)
+}
+
+fn are_digits(text: &[u8]) -> bool
+    ensures { result ≡ list_all is_ascii_digit text.now }
+{
+    text.iter().all(|digit| digit.is_ascii_digit())
+}
+
+// The number that digits write, or `most` where it is greater.
+pub(crate) fn number_up_to(most: u64, text: &[u8]) -> u64
+    requires { most < 2 ^ 40 }
+    ensures { result ≡ min (number_of text.now) most }
+{
+    let mut number = 0;
+    for digit in text {
+        number = (number * 10 + u64::from(digit.saturating_sub(b'0'))).min(most);
+    }
+    number
+}
+
+// The digits of a number behind its leading zeros.
+#[tactic(auto, using(crate::proofs::Numbers::zero_next))]
+pub(crate) fn significant(text: &[u8]) -> &[u8]
+    ensures { result.now ≡ significant text.now }
+{
+    let mut at = 0;
+    while at < text.len() && text[at] == b'0' {
+        at += 1;
+    }
+    text.get(at..).unwrap_or(b"")
+}
