@@ -1,3 +1,4 @@
 mod Cuts
 mod Example
+mod Fronts
 mod Numbers

@@ -3,3 +3,4 @@ pub mod Refusals
 pub mod Routes
 pub mod Numbers
 pub mod Lines
+pub mod Heads

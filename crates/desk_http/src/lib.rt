@@ -3,6 +3,7 @@
 
 mod ask;
 mod fault;
+mod head;
 mod lines;
 mod number;
 mod reply;
@@ -10,5 +11,6 @@ mod route;
 
 pub use ask::{Ask, Request, WaiverAsk};
 pub use fault::BadRequest;
+pub use head::{Head, HeadState, MAX_HEAD_BYTES, MAX_HEADER_LINES, read_head};
 pub use lines::MAX_BODY_BYTES;
 pub use reply::{BodyKind, MAX_REPLY_HEAD_BYTES, NO_MEMORY, Reply, reply_head};
