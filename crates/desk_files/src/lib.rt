@@ -1,0 +1,6 @@
+//! The files of the desk in the order of their names.
+#![tactic(auto)]
+
+mod files;
+
+pub use files::{Files, Ready, SourceFile};
