@@ -1,5 +1,5 @@
 -- Requests, on small cases.
-use Rattle.std.proofs.Common.{◌≡◌, true, false, [], None, Some, refl, codes}
+use Rattle.std.proofs.Common.{◌≡◌, true, false, Some, refl, codes}
 use Rattle.desk_requests.specs.Requests.{changes, label_of}
 use Rattle.desk_requests.specs.declared.ask.Ask.TheVariants.{DropFile, Waivers}
 
