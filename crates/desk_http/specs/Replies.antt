@@ -1,9 +1,9 @@
 -- Heads of replies (RFC 9112, sections 4 and 5).
 -- Worked examples: crates/desk_http/proofs/Example.antt.
 use Rattle.std.specs.Prelude.{ℕ, List, ◌++◌, length, codes, decimal, IsSome, Option, Some, None, if◌then◌else◌, ◌==◌}
-use Rattle.desk_http.specs.declared.reply.BodyKind.{BodyKind}
-use Rattle.desk_http.specs.declared.reply.BodyKind.TheVariants.{Json, Plain}
-use Rattle.desk_http.specs.declared.reply.Reply.{Reply}
+use Rattle.desk_requests.specs.declared.reply.BodyKind.{BodyKind}
+use Rattle.desk_requests.specs.declared.reply.BodyKind.TheVariants.{Json, Plain}
+use Rattle.desk_requests.specs.declared.reply.Reply.{Reply}
 
 -- the phrase of a status that the desk answers (RFC 9110, section 15)
 abbrev pub phrase : ℕ → Option (List ℕ)

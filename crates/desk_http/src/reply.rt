@@ -1,7 +1,8 @@
-// Replies, and the heads under which they go.
+// The heads under which replies go.
 ghost use Rattle.std.specs.Prelude.{◌≡◌, ◌+◌, ◌≤◌, ◌++◌, Some, codes, decimal, length, take};
 ghost use Rattle.desk_http.specs.Replies.{IsStatus, head_of, length_line, phrase, status_line, type_line};
 
+use desk_requests::{BodyKind, Reply};
 use itoa::Buffer;
 
 /// How many bytes the head of a reply may have.
@@ -10,21 +11,6 @@ pub const MAX_REPLY_HEAD_BYTES: usize = 160;
 /// The whole reply to a request for which there is no memory.
 pub const NO_MEMORY: &[u8] =
     b"HTTP/1.1 507 Insufficient Storage\r\nContent-Type: text/plain\r\nContent-Length: 21\r\nConnection: close\r\n\r\nInsufficient Storage\n";
-
-/// What the body of a reply is.
-#[derive(Clone, Copy, PartialEq, Eq, Debug)]
-pub enum BodyKind {
-    Json,
-    Plain,
-}
-
-/// The reply to a request.
-#[derive(Drop)]
-pub struct Reply {
-    pub status: u16,
-    pub kind: BodyKind,
-    pub body: Vec<u8>,
-}
 
 // Puts bytes at a place, and gives the place behind them.
 fn put(out: &mut [u8; 160], at: usize, bytes: &[u8]) -> usize
