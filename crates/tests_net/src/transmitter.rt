@@ -1,0 +1,193 @@
+// A transmitter beside the event queue.
+
+ghost use Rattle.std.specs.Prelude.{◌≡◌, [], IfOk, OnOk};
+ghost use Rattle.std.specs.List.{All};
+ghost use Rattle.desk_steps.specs.Fitting.{AreFitting};
+ghost use Rattle.event_model.specs.Queue.{flat};
+ghost use Rattle.event_queue.specs.Offers.{AreAllowed};
+ghost use Rattle.event_queue.specs.Sims as events;
+ghost use Rattle.netlist_eval.specs.Sims.{flat_of, netlist_of};
+
+use crate::rows::{netlist, simulator, take};
+use desk_steps::read_steps;
+use event_model::policy::Policy;
+use event_model::setting::Setting;
+use event_queue::sim::EventSim;
+use event_queue::start::Start;
+use net_list::netlist::Netlist;
+use net_model::fill::Fill;
+use netlist_eval::sim::NetSim;
+use rtl_flat::design::Design;
+use rtl_flat::expr::SigId;
+use std::alloc::Global;
+use std::test::Fail;
+use tests_designs::designed;
+
+/// `examples/uart_tx.v`, as `top`
+const TRANSMITTER: &[u8] = b"`timescale 1ns/1ps
+module top #(parameter DIV = 4) (
+  input wire clk, rst_n, start,
+  input wire [7:0] data,
+  output wire txd, busy);
+  localparam [1:0] IDLE = 2'd0, LOAD = 2'd1, SEND = 2'd2;
+  reg [1:0] state, next;
+  reg [9:0] frame;
+  reg [3:0] left;
+  wire tick;
+  baud #(.DIV(DIV)) u_baud (.clk(clk), .rst_n(rst_n), .tick(tick));
+  assign txd = frame[0];
+  assign busy = (state != IDLE);
+  always @* begin
+    next = state;
+    case (state)
+      IDLE: if (start) next = LOAD;
+      LOAD: next = SEND;
+      SEND: if (tick && left == 4'd0) next = IDLE;
+      default: next = IDLE;
+    endcase
+  end
+  always @(posedge clk or negedge rst_n)
+    if (!rst_n) begin
+      state <= IDLE; frame <= 10'h3ff; left <= 4'd0;
+    end else begin
+      state <= next;
+      if (state == LOAD) begin
+        frame <= {1'b1, data, 1'b0}; left <= 4'd9;
+      end else if (state == SEND && tick) begin
+        frame <= {1'b1, frame[9:1]}; left <= left - 4'd1;
+      end
+    end
+endmodule
+module baud #(parameter DIV = 4) (input wire clk, rst_n, output wire tick);
+  reg [7:0] n;
+  assign tick = (n == DIV - 1);
+  always @(posedge clk or negedge rst_n)
+    if (!rst_n) n <= 8'd0;
+    else if (tick) n <= 8'd0;
+    else n <= n + 8'd1;
+endmodule
+";
+
+/// Cycles of the clock, each behind data that are drawn; a reset ends in the first, and comes again in the fiftieth.
+fn lines(alloc: Global) -> Result<Vec<u8>, Fail> {
+    let mut out = Vec::new(alloc);
+    let mut drawn: u32 = 1;
+    for cycle in 0u32..65 {
+        drawn = drawn.wrapping_mul(1664525).wrapping_add(1013904223);
+        if cycle == 50 {
+            out.extend_from_slice(b"set rst_n=1'b0\n")?;
+        }
+        let start = drawn / 65536 % 2;
+        let high = drawn / 1048576 % 16;
+        let low = drawn / 16777216 % 16;
+        let line = format!(in alloc;
+            "set start=1'b{start} data=8'h{high:x}{low:x}\nset clk=1'b1\nset clk=1'b0\n"
+        )?;
+        out.extend_from_slice(line.as_bytes())?;
+        if cycle == 0 || cycle == 51 {
+            out.extend_from_slice(b"set rst_n=1'b1\n")?;
+        }
+    }
+    Ok(out)
+}
+
+/// An event queue at rest with the numbers of a netlist.
+fn beside<'d>(alloc: Global, design: &'d Design, sim: &NetSim<'_>) -> Result<EventSim<'d>, Fail>
+    requires { flat_of sim.now ≡ flat design.now }
+    ensures design { IfOk result (λ made. events.flat_of made ≡ flat design.now) }
+    ensures active { IfOk result (λ made. (events.state_of made).activated ≡ []) }
+    ensures delayed { IfOk result (λ made. (events.state_of made).delayed ≡ []) }
+{
+    let mut values = Vec::new(alloc);
+    for number in 0..design.signals.len() {
+        values.push(sim.value(SigId(number as u32)))?;
+    }
+    let start = Start::Values(values);
+    Ok(EventSim::new(alloc, design, &start)?)
+}
+
+/// Takes a step in both, which is lawful and settles.
+fn take_both(
+    sim: &mut NetSim<'_>,
+    queue: &mut EventSim<'_>,
+    settings: &[Setting],
+) -> Result<(), Fail>
+    requires allowed { AreAllowed (events.flat_of queue.old) settings.now }
+    requires active { (events.state_of queue.old).activated ≡ [] }
+    requires delayed { (events.state_of queue.old).delayed ≡ [] }
+    ensures netlist { netlist_of sim.new ≡ netlist_of sim.old }
+    ensures design { OnOk result (events.flat_of queue.new ≡ events.flat_of queue.old) }
+    ensures active { OnOk result ((events.state_of queue.new).activated ≡ []) }
+    ensures delayed { OnOk result ((events.state_of queue.new).delayed ≡ []) }
+{
+    take(sim, settings)?;
+    match queue.step(settings, Policy::Level) {
+        Ok(()) => Ok(()),
+        Err(_) => Err(Fail::new("not settled")),
+    }
+}
+
+/// Whether all signals have the same values.
+fn agree(design: &Design, sim: &NetSim<'_>, queue: &EventSim<'_>) -> bool
+    requires sim { flat_of sim.now ≡ flat design.now }
+    requires queue { events.flat_of queue.now ≡ flat design.now }
+{
+    for number in 0..design.signals.len() {
+        let signal = SigId(number as u32);
+        if !sim.value(signal).is_same(queue.value(signal)) {
+            return false;
+        }
+    }
+    true
+}
+
+/// Takes steps in both, and tells whether all signals have the same values behind each.
+fn alike(
+    design: &Design,
+    sim: &mut NetSim<'_>,
+    queue: &mut EventSim<'_>,
+    steps: &[Vec<Setting>],
+) -> Result<bool, Fail>
+    requires sim { flat_of sim.old ≡ flat design.now }
+    requires queue { events.flat_of queue.old ≡ flat design.now }
+    requires active { (events.state_of queue.old).activated ≡ [] }
+    requires delayed { (events.state_of queue.old).delayed ≡ [] }
+    requires fitting { All (λ step. AreFitting design.now.signals.items step.items) steps.now }
+{
+    for settings in steps {
+        take_both(sim, queue, settings)?;
+        if !agree(design, sim, queue) {
+            return Ok(false);
+        }
+    }
+    Ok(true)
+}
+
+/// How many steps a file has, where a netlist and an event queue have the same values behind each.
+fn steps_alike(alloc: Global, netlist: &Netlist<'_>, text: &[u8]) -> Result<Option<usize>, Fail> {
+    let design = netlist.design;
+    let Ok(file) = read_steps(alloc, design, text) else {
+        return Err(Fail::new("no steps"));
+    };
+    let mut sim = simulator(alloc, netlist, &[], &[])?;
+    let mut queue = beside(alloc, design, &sim)?;
+    if alike(design, &mut sim, &mut queue, &file.steps)? {
+        Ok(Some(file.steps.len()))
+    } else {
+        Ok(None)
+    }
+}
+
+fn steps_alike_in(alloc: Global, design: &Design, text: &[u8]) -> Result<Option<usize>, Fail> {
+    let netlist = netlist(alloc, design, Fill::Zero)?;
+    steps_alike(alloc, &netlist, text)
+}
+
+#[test]
+fn the_transmitter_shows_what_the_queue_shows(rt: HostRuntime) -> Result<(), Fail> {
+    let design = designed(rt.alloc(), b"top", TRANSMITTER)?;
+    let text = lines(rt.alloc())?;
+    let steps = steps_alike_in(rt.alloc(), &design, &text)?;
+    assert_eq!(rt; steps, Some(198));
+    Ok(())
+}
