@@ -1,0 +1,20 @@
+use Rattle.std.proofs.Common.{◌∙◌, ◌<◌, ◌≤◌, length, arith}
+use Rattle.event_model.specs.Queue.{flat, widths}
+use Rattle.net_bench.proofs.Widths.{as_places, next_wide, one_more, whole, wide}
+use Rattle.net_bench.proofs.run.zeros.Goals as goal
+
+pub loop-place-preserved : goal.loop-place-preserved
+loop-place-preserved c =
+    let ws = widths (flat c.args.design.now) in
+    let signals = c.args.signals.now in
+    let n = c.loop-place.place in
+    let inside : n < length signals = omega arith in
+    one_more (wide ws) signals c.loop-place.values.items c.push.new.self.items c.of_number.result n _ c.in_ok-push.ensures.items
+    (c.of_number.ensures.width ∙ c.in_ok-width.ensures.width) (next_wide ws signals n (record { 0 = 0 }) inside) c.loop-place.invariant
+
+pub returns : goal.returns
+returns c =
+    let ws = widths (flat c.args.design.now) in
+    let signals = c.args.signals.now in
+    let past : length signals ≤ c.loop-place.place = omega arith in
+    whole (wide ws) signals c.loop-place.values.items c.loop-place.place past c.loop-place.invariant ∙ as_places ws signals

@@ -1,0 +1,8 @@
+use Rattle.std.proofs.Common.{◌≡◌, ◌++◌, drop, length, map}
+use Rattle.event_model.specs.Queue.{flat, widths}
+use Rattle.net_bench.proofs.Widths.{wide}
+use Rattle.net_bench.proofs.run.zeros.Given as goal
+
+abbrev pub invariant-loop-place : goal.invariant-loop-place
+invariant-loop-place l =
+    map length l.values.items ++ map (wide (widths (flat l.design))) (drop l.place l.signals) ≡ map (wide (widths (flat l.design))) l.signals
