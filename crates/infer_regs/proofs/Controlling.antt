@@ -10,7 +10,7 @@ use Rattle.rtl_flat.specs.declared.signal.Signal.{Signal}
 use Rattle.event_model.specs.Queue.{is_input_kind, is_input_of}
 use Rattle.net_model.specs.Control.{IsControl, IsReached, Itself, Through}
 use Rattle.rtl_rule.specs.Parts.{Parts}
-use Rattle.rtl_scan.specs.Arrows.{Among}
+use Rattle.rtl_scan.specs.Arrows.{Among, AreRising}
 use Rattle.check_clocks.specs.declared.reach.Link.{Link}
 use Rattle.check_clocks.specs.Cone.{AreEdgeMarks, ArePassing, ReachesMarked, flat_of}
 use Rattle.check_clocks.specs.Links.{AreRows}
@@ -19,7 +19,7 @@ use Rattle.check_clocks.specs.Tops.{is_top, is_top_kind}
 use Rattle.check_clocks.proofs.Coned.{reached_from, reached_to}
 use Rattle.check_clocks.proofs.Linked.{bit_inside}
 use Rattle.check_clocks.proofs.Reached.{among_cases, among_left, among_right}
-use Rattle.infer_regs.specs.Forms.{AreControls, AreRising}
+use Rattle.infer_regs.specs.Forms.{AreControls}
 
 -- ---- numbers that rise
 

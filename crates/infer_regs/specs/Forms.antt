@@ -1,7 +1,7 @@
 -- What a process that waits for edges is to inference, and the inputs that are clocks or resets (IEEE 1364.1-2002 section
 -- 5.2.2).
-use Rattle.std.specs.Prelude.{◌≡◌, ◌<◌, ◌⊎◌, ◌↔◌, ℕ, List, [], ◌∷◌, map, Some}
-use Rattle.std.specs.List.{AllByRecursion}
+use Rattle.std.specs.Prelude.{◌≡◌, ◌⊎◌, ◌↔◌, ℕ, List, [], ◌∷◌, map, Some}
+
 use Rattle.rtl_flat.specs.Process.{Watched, Task, watched}
 use Rattle.event_model.specs.Queue.{Flat}
 use Rattle.net_model.specs.Control.{IsControl}
@@ -9,7 +9,7 @@ use Rattle.net_model.specs.Cycle.{Chain, Guard}
 use Rattle.rtl_rule.specs.declared.rule.Rule.{Rule}
 use Rattle.rtl_rule.specs.declared.rule.Rule.TheVariants.{MixedEdges, DerivedClock, ResetShape, ResetPolarity, ResetValue}
 use Rattle.rtl_rule.specs.Parts.{Parts}
-use Rattle.rtl_scan.specs.Arrows.{Among}
+use Rattle.rtl_scan.specs.Arrows.{Among, AreRising}
 use Rattle.check_chains.specs.Chains.{chain_of}
 use Rattle.net_list.specs.Faults.{IsFault}
 use Rattle.infer_regs.specs.declared.forms.Form.{Form}
@@ -46,11 +46,6 @@ IsForm d p task (Clock clock resets) =
     × HasItems d task (watched clock.now) (map (λ item. watched item.now) resets.items)
 
 -- ---- controls
-
--- numbers that rise
-abbrev pub AreRising : List ℕ → Type 0
-AreRising [] = Unit {0}
-AreRising (one ∷ others) = AllByRecursion (λ other. one < other) others × AreRising others
 
 -- the top inputs that are clocks or resets, in order, each once
 pub record AreControls (d : Flat) (found : List ℕ) : Type 0 where

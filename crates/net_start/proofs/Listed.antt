@@ -5,9 +5,9 @@ use Rattle.std.specs.List.{AllByRecursion}
 use Rattle.std.proofs.lemmas.Bool.{cases_eq}
 use Rattle.std.proofs.lemmas.List.{length-append, map-append}
 use Rattle.rtl_flat.specs.declared.expr.SigId.{SigId}
-use Rattle.rtl_scan.specs.Arrows.{Among}
+use Rattle.rtl_scan.specs.Arrows.{Among, AreRising}
 use Rattle.net_start.specs.Listing.{AreBelow}
-use Rattle.net_start.specs.Stored.{AreAll, AreRising, places}
+use Rattle.net_start.specs.Stored.{AreAll, places}
 
 rising_push : (xs : List ℕ) (n : ℕ) → AreRising xs → ((s : ℕ) → Among xs s → s < n) → AreRising (xs ++ n ∷ [])
 rising_push [] n h below = (tt, tt)

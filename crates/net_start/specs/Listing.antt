@@ -11,9 +11,8 @@ use Rattle.rtl_flat.specs.Value.{store}
 use Rattle.event_model.specs.Writes.{Values}
 use Rattle.net_model.specs.declared.fill.Fill.{Fill}
 use Rattle.net_model.specs.Numbers.{bit, fill_bit}
-use Rattle.rtl_scan.specs.Arrows.{Among}
+use Rattle.rtl_scan.specs.Arrows.{Among, AreRising}
 use Rattle.rtl_scan.specs.Sets.{has}
-use Rattle.net_start.specs.Stored.{AreRising}
 
 -- whether there is a variable
 abbrev pub is_var_kind : Kind → Bool

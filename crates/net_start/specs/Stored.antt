@@ -1,7 +1,7 @@
 -- Which signals keep a number from one step to the next: registers, and latches (IEEE 1364.1-2002 sections 5.2 and 5.3).
 -- Worked examples: crates/tests_net/src/stored.rt.
-use Rattle.std.specs.Prelude.{◌≡◌, ◌<◌, ◌↔◌, ℕ, true, false, not, ◌&&◌, List, [], ◌∷◌, map, IsTrue}
-use Rattle.std.specs.List.{AllByRecursion, list_any}
+use Rattle.std.specs.Prelude.{◌≡◌, ◌↔◌, ℕ, true, false, not, ◌&&◌, List, [], ◌∷◌, map, IsTrue}
+use Rattle.std.specs.List.{list_any}
 use Rattle.rtl_flat.specs.declared.expr.SigId.{SigId}
 use Rattle.rtl_flat.specs.declared.signal.Kind.TheVariants.{Var}
 use Rattle.rtl_flat.specs.Flows.{flow_of}
@@ -10,7 +10,7 @@ use Rattle.rtl_flat.specs.Process.{Doing, Assign, Comb, Edge', Task}
 use Rattle.rtl_flat.specs.Signs.{Has}
 use Rattle.event_model.specs.Queue.{Flat, is_input, widths}
 use Rattle.net_model.specs.Solution.{IsLasting}
-use Rattle.rtl_scan.specs.Arrows.{Among}
+use Rattle.rtl_scan.specs.Arrows.{Among, AreRising}
 
 -- ---- bits that are kept
 
@@ -34,11 +34,6 @@ pub record IsStored (d : Flat) (s : ℕ) : Type 0 where
   pub lasting : IsLasting d s
 
 -- ---- lists of signals
-
--- numbers that rise
-abbrev pub AreRising : List ℕ → Type 0
-AreRising [] = Unit {0}
-AreRising (one ∷ others) = AllByRecursion (λ other. one < other) others × AreRising others
 
 -- all numbers of which something holds, in order, each once
 pub record AreAll (P : ℕ → Type 0) (found : List ℕ) : Type 0 where

@@ -45,7 +45,8 @@ fn add_latched(alloc: Global, design: &Design, p: ProcId, bits: &mut BitSet) -> 
     requires there { p.0 < length design.now.processes.items }
     ensures { let d = parts design.now in
         OnOk result ((task : Task) → slice_get d.tasks p.0 ≡ Some task → (s k : ℕ) →
-        has bits.new.masks s k ≡ (has bits.old.masks s k || (written d task.does s k && not (is_sure (flow_of (widths d) task.does) s k)))) }
+        has bits.new.masks s k ≡ (has bits.old.masks s k
+        || (written d task.does s k && not (is_sure (flow_of (widths d) task.does) s k)))) }
 {
     let written = written(alloc, design, p)?;
     let always = sure(alloc, design, p)?;

@@ -7,10 +7,11 @@ ghost use Rattle.rtl_bits.specs.Bit.{is_one};
 ghost use Rattle.rtl_bits.specs.Bits.{has_unknown, is_one_at};
 ghost use Rattle.rtl_flat.specs.Value.{store};
 ghost use Rattle.event_model.specs.Queue.{flat, widths};
+ghost use Rattle.rtl_scan.specs.Arrows.{AreRising};
 ghost use Rattle.net_model.specs.Numbers.{fill_bit};
 ghost use Rattle.net_start.specs.Listing.{AreGiven, AreMasked, fills_of};
 ghost use Rattle.net_start.specs.Start.{AreKnown, IsStart};
-ghost use Rattle.net_start.specs.Stored.{AreInputs, AreRising, AreStored, places};
+ghost use Rattle.net_start.specs.Stored.{AreInputs, AreStored, places};
 
 use crate::kept::kept_bits;
 use net_model::fill::Fill;
@@ -117,7 +118,9 @@ pub fn start(
     requires inputs { map length inputs.now ≡ map (widths (flat design.now)) (places tops.now) }
     requires registers_known { AreKnown registers.now }
     requires inputs_known { AreKnown inputs.now }
-    ensures many { IfOk result (λ numbers. length numbers.items ≡ length design.now.signals.items) }
+    ensures many {
+        IfOk result (λ numbers. length numbers.items ≡ length design.now.signals.items)
+    }
     ensures start { IfOk result (λ numbers. IsStart (flat design.now) fill
         (places stored.now) registers.now (places tops.now) inputs.now (store numbers.items)) }
 {

@@ -77,8 +77,12 @@ fn take_one(
     requires many_after { length after.old ≡ length maps.old.design.now.signals.items }
     requires before { AreNumbers (flat maps.old.design.now) (store before.now) }
     requires after { AreNumbers (flat maps.old.design.now) (store after.old) }
-    ensures after { let d = flat maps.old.design.now in let old = store before.now in
-        (i : ℕ) → store after.new i ≡ changed (old i) (tabulate (widths d i) (run_bit (widths d) fill old (run_of old (turned old turn.now) one.now) i)) (store after.old i) }
+    ensures after {
+        let d = flat maps.old.design.now in
+        let old = store before.now in
+        let run = run_of old (turned old turn.now) one.now in
+        (i : ℕ) → store after.new i
+        ≡ changed (old i) (tabulate (widths d i) (run_bit (widths d) fill old run i)) (store after.old i) }
     ensures same { (i : ℕ) → store maps.new.numbers.items i ≡ store before.now i }
     ensures able { IsAble maps.new }
     ensures design { maps.new.design ≡ maps.old.design }
@@ -104,7 +108,10 @@ fn take_all(
     requires same { (i : ℕ) → store maps.old.numbers.items i ≡ store before.now i }
     requires many { length before.now ≡ length maps.old.design.now.signals.items }
     requires begun { after.old ≡ before.now }
-    ensures put { let d = flat maps.old.design.now in let old = store before.now in let runs = runs_of old (turned old turn.now) clocked.now in
+    ensures put {
+        let d = flat maps.old.design.now in
+        let old = store before.now in
+        let runs = runs_of old (turned old turn.now) clocked.now in
         AreRuns d runs → ArePut d fill old runs (length runs) (store after.new) }
     ensures after { AreNumbers (flat maps.old.design.now) (store after.new) }
     ensures able { IsAble maps.new }
@@ -143,7 +150,10 @@ pub(crate) fn take(
     requires apart { AreApart (flat maps.old.design.now) }
     requires many { length before.old ≡ length maps.old.design.now.signals.items }
     requires many_after { length after.old ≡ length maps.old.design.now.signals.items }
-    ensures put { let d = flat maps.old.design.now in let old = store maps.old.numbers.items in let runs = runs_of old (turned old turn.now) clocked.now in
+    ensures put {
+        let d = flat maps.old.design.now in
+        let old = store maps.old.numbers.items in
+        let runs = runs_of old (turned old turn.now) clocked.now in
         AreRuns d runs → ArePut d fill old runs (length runs) (store maps.new.numbers.items) }
     ensures able { IsAble maps.new }
     ensures design { maps.new.design ≡ maps.old.design }

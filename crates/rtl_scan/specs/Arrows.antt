@@ -2,7 +2,7 @@
 -- The arrows of the level graph, from tables: who writes each signal, and who feeds each process.
 use Rattle.std.specs.Prelude.{ℕ, zero, suc, ◌≡◌, ◌<◌, ◌≤◌, ◌+◌, ◌⊎◌, ◌↔◌, Bool, true, false, not, ◌&&◌, ◌||◌, ◌==◌, bit_and, List, [], ◌∷◌, length, Vec, Option, Some, None, slice_index_or}
 use Rattle.std.specs.declared.alloc.Global.{Global}
-use Rattle.std.specs.List.{slice_get}
+use Rattle.std.specs.List.{AllByRecursion, slice_get}
 use Rattle.std.specs.Option.{IsSomeAnd}
 use Rattle.rtl_flat.specs.declared.signal.Signal.{Signal}
 use Rattle.rtl_flat.specs.declared.act.Process.{Process}
@@ -21,6 +21,11 @@ use Rattle.rtl_scan.specs.Graph.{row, ArrowIn}
 abbrev pub Among : List ℕ → ℕ → Type 0
 Among [] x = ⊥
 Among (y ∷ ys) x = (x ≡ y) ⊎ Among ys x
+
+-- numbers that rise
+abbrev pub AreRising : List ℕ → Type 0
+AreRising [] = Unit {0}
+AreRising (one ∷ others) = AllByRecursion (λ other. one < other) others × AreRising others
 
 -- ---- who writes bits of each signal
 
