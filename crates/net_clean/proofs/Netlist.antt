@@ -24,7 +24,8 @@ use Rattle.net_order.specs.declared.order.Ranking.{Ranking}
 use Rattle.net_order.specs.declared.order.Ranking.TheVariants.{Cyclic, Order}
 use Rattle.net_order.specs.Order.{IsCyclic, IsRanking}
 use Rattle.net_solve.specs.Feeds.{IsFeed}
-use Rattle.net_clean.specs.Netlist.{HasNetlist, InferredByRules, IsOrdered, NetlistByRules}
+use Rattle.netlist_eval.specs.declared.fault.NetFault.TheVariants as net_fault
+use Rattle.net_clean.specs.Netlist.{BeginsByRules, HasNetlist, InferredByRules, IsOrdered, NetlistByRules}
 use Rattle.net_clean.proofs.Grades.{HasNoFinding, no_finding}
 
 -- ---- faults
@@ -122,3 +123,9 @@ inferred design findings are clean =
       blocks = blocks design netlist;
       ordered = ordered design netlist;
     }
+
+pub begins : (design : Design) → BeginsByRules design
+begins design findings are clean values (net_fault.Cyclic signal) is =
+    absurd ((has_netlist (parts design) findings are clean).no_cycle signal.0 is.cyclic)
+begins design findings are clean values (net_fault.NotKnown at) is = tt
+begins design findings are clean values net_fault.Memory is = tt

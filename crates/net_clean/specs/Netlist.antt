@@ -3,6 +3,7 @@
 -- It serves inner contracts and proofs; no answer of the program is stated by it.
 use Rattle.std.specs.Prelude.{◌≡◌, ℕ, List, Vec}
 use Rattle.std.specs.declared.alloc.Global.{Global}
+use Rattle.rtl_bits.specs.declared.Bit.{Bit}
 use Rattle.rtl_flat.specs.declared.act.ProcId.{ProcId}
 use Rattle.rtl_flat.specs.declared.design.Design.{Design}
 use Rattle.event_model.specs.Queue.{flat}
@@ -16,6 +17,9 @@ use Rattle.net_list.specs.Faults.{AreAlone, AreFormed, IsContended, IsShapeless}
 use Rattle.net_order.specs.declared.order.Ranking.{Ranking}
 use Rattle.net_order.specs.declared.order.Ranking.TheVariants.{Order}
 use Rattle.net_order.specs.Order.{IsCyclic, IsRanking}
+use Rattle.netlist_eval.specs.declared.fault.NetFault.{NetFault}
+use Rattle.netlist_eval.specs.declared.fault.NetFault.TheVariants as fault
+use Rattle.netlist_eval.specs.Steps.{IsFault}
 
 -- each process that waits for edges makes registers, no process without edges may write what a lower one may write, and no
 -- signal is written on or behind a cycle of these
@@ -43,3 +47,15 @@ pub record IsInferred (design : Design) : Type 0 where
 abbrev pub InferredByRules : Design → Type 0
 InferredByRules design =
     (findings : List Finding) → AreAllFindings (parts design) findings → IsClean findings → IsInferred design
+
+-- a fault that no cycle gives
+abbrev pub IsNoCycle : NetFault → Type 0
+IsNoCycle (fault.Cyclic signal) = ⊥
+IsNoCycle (fault.NotKnown at) = Unit {0}
+IsNoCycle fault.Memory = Unit {0}
+
+-- whatever values a simulation is to begin with, it fails for no cycle
+abbrev pub BeginsByRules : Design → Type 0
+BeginsByRules design =
+    (findings : List Finding) → AreAllFindings (parts design) findings → IsClean findings →
+    (values : List (List Bit)) (found : NetFault) → IsFault (flat design) values found → IsNoCycle found

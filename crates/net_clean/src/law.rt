@@ -2,7 +2,7 @@
 
 ghost use Rattle.rtl_flat.specs.declared.design.Design.{Design};
 ghost use Rattle.rtl_rule.specs.Parts.{Parts};
-ghost use Rattle.net_clean.specs.Netlist.{InferredByRules, NetlistByRules};
+ghost use Rattle.net_clean.specs.Netlist.{BeginsByRules, InferredByRules, NetlistByRules};
 
 /// Each process of it that waits for edges makes registers, no process without edges may write what a lower one may write,
 /// and none of these feeds itself, be it over others.
@@ -13,4 +13,9 @@ pub fn has_netlist()
 /// So `registers` and `blocks` tell no process of it, and `order` no signal: where they fail, memory was wanting.
 pub fn inferred()
     ensures { (design : Design) → InferredByRules design }
+{}
+
+/// And a simulator of its netlist is made of whatever known values: `NetSim::new` is never `Cyclic`.
+pub fn begins()
+    ensures { (design : Design) → BeginsByRules design }
 {}
