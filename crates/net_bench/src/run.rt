@@ -1,27 +1,20 @@
 //! One run.
 
-ghost use Rattle.std.specs.Prelude.{◌≡◌, ◌≤◌, IfOk, length, map};
-ghost use Rattle.event_model.specs.Queue.{flat, widths};
-ghost use Rattle.netlist_eval.specs.Sims.{flat_of, netlist_of};
-ghost use Rattle.net_start.specs.Stored.{places};
+ghost use Rattle.std.specs.Prelude.{◌≡◌};
+ghost use Rattle.event_model.specs.Queue.{flat};
+ghost use Rattle.netlist_eval.specs.Sims.{flat_of};
 ghost use Rattle.net_bench.specs.declared.run.Stop.TheVariants as stop;
 
 use desk_steps::read_steps;
-use event_model::setting::Setting;
-use event_write::stores::width_of;
-use infer_latches::blocks;
-use infer_regs::registers;
 use net_list::netlist::Netlist;
 use net_model::fill::Fill;
-use net_start::stored::{stored, top_inputs};
 use netlist_eval::sim::NetSim;
-use rtl_bits::Vec4;
 use rtl_flat::design::Design;
 use rtl_flat::expr::SigId;
-use rtl_tree::memory::Memory;
 use std::alloc::{AllocError, AllocFailed, Global};
 use std::io;
 use tests_designs::{NoDesign, designed};
+use tests_netlists::{NoRun, netlist, simulator, take};
 use thiserror::Error;
 
 /// How far a run goes.
@@ -37,14 +30,10 @@ pub enum Goal {
 pub enum Stop {
     #[error("{0}")]
     NoDesign(NoDesign),
-    #[error("the design has no netlist")]
-    NoNetlist,
-    #[error("the netlist isn't simulated")]
-    NotSimulated,
+    #[error("{0}")]
+    NoRun(NoRun),
     #[error("the steps aren't read")]
     Malformed,
-    #[error("a step isn't lawful")]
-    Unlawful,
     #[error("out of memory")]
     Memory,
 }
@@ -57,11 +46,11 @@ impl From<AllocError> for Stop {
     }
 }
 
-impl From<Memory> for Stop {
-    ghost from_gives = { λ _ e. e ≡ stop.Memory };
+impl From<NoRun> for Stop {
+    ghost from_gives = { λ no e. e ≡ stop.NoRun no };
 
-    fn from(_error: Memory) -> Stop {
-        Stop::Memory
+    fn from(no: NoRun) -> Stop {
+        Stop::NoRun(no)
     }
 }
 
@@ -114,69 +103,6 @@ impl Input {
     }
 }
 
-/// The netlist of a design.
-fn netlist(alloc: Global, design: &Design) -> Result<Netlist<'_>, Stop>
-    ensures { IfOk result (λ netlist. netlist.design.now ≡ design.now) }
-{
-    let Ok(registers) = registers(alloc, design) else {
-        return Err(Stop::NoNetlist);
-    };
-    let Ok(blocks) = blocks(alloc, design, Fill::Zero) else {
-        return Err(Stop::NoNetlist);
-    };
-    Ok(Netlist::join(registers, blocks))
-}
-
-/// The width of a signal.
-fn width(design: &Design, signal: SigId) -> Result<u8, Stop>
-    ensures width { IfOk result (λ width. width ≡ widths (flat design.now) signal.0) }
-    ensures within { IfOk result (λ width. (1 ≤ width) × (width ≤ 128)) }
-{
-    if signal.0 as usize >= design.signals.len() {
-        return Err(Stop::NotSimulated);
-    }
-    Ok(width_of(&design.signals, signal))
-}
-
-/// A 0 for each of some signals.
-fn zeros(alloc: Global, design: &Design, signals: &[SigId]) -> Result<Vec<Vec4>, Stop>
-    ensures { IfOk result (λ values. map length values.items
-        ≡ map (widths (flat design.now)) (places signals.now)) }
-{
-    let mut values = Vec::new(alloc);
-    for place in 0..signals.len() {
-        values.push(Vec4::of_number(width(design, signals[place])?, 0))?;
-    }
-    Ok(values)
-}
-
-/// A simulator that begins with 0 everywhere.
-fn simulator<'n>(alloc: Global, netlist: &'n Netlist<'n>) -> Result<NetSim<'n>, Stop>
-    ensures { IfOk result (λ sim. netlist_of sim ≡ netlist.now) }
-{
-    let design = netlist.design;
-    let holders = stored(alloc, design)?;
-    let tops = top_inputs(alloc, design)?;
-    let registers = zeros(alloc, design, &holders)?;
-    let inputs = zeros(alloc, design, &tops)?;
-    match NetSim::new(alloc, netlist, &registers, &inputs) {
-        Ok(sim) => Ok(sim),
-        Err(_) => Err(Stop::NotSimulated),
-    }
-}
-
-/// Takes a step that is lawful.
-fn take(sim: &mut NetSim<'_>, settings: &[Setting]) -> Result<(), Stop>
-    ensures { netlist_of sim.new ≡ netlist_of sim.old }
-{
-    let step = sim.step_of(settings);
-    if !sim.lawful(&step) {
-        return Err(Stop::Unlawful);
-    }
-    sim.step(&step);
-    Ok(())
-}
-
 /// All numbers, folded into one.
 fn checksum(design: &Design, sim: &NetSim<'_>) -> u128
     requires { flat_of sim.now ≡ flat design.now }
@@ -213,9 +139,9 @@ fn stepped(
 /// What a netlist says at its beginning, or behind all steps.
 fn ran(alloc: Global, netlist: &Netlist<'_>, input: &Input, goal: Goal) -> Result<String, Stop> {
     let design = netlist.design;
-    let mut sim = simulator(alloc, netlist)?;
+    let mut sim = simulator(alloc, netlist, &[], &[])?;
     if matches!(goal, Goal::Netlist) {
-        return Ok(format!(in alloc; "checksum {}", checksum(design, &sim))?);
+        return Ok(format!(in alloc; "checksum {:x}", checksum(design, &sim))?);
     }
     stepped(alloc, design, &mut sim, &input.steps)
 }
@@ -228,7 +154,7 @@ fn told_of(alloc: Global, design: &Design, input: &Input, goal: Goal) -> Result<
     if matches!(goal, Goal::Design) {
         return Ok(size);
     }
-    let netlist = netlist(alloc, design)?;
+    let netlist = netlist(alloc, design, Fill::Zero)?;
     let more = ran(alloc, &netlist, input, goal)?;
     Ok(format!(in alloc; "{size} {more}")?)
 }

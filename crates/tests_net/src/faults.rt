@@ -4,7 +4,6 @@ ghost use Rattle.std.specs.Prelude.{◌≡◌, length, map, IfOk};
 ghost use Rattle.event_model.specs.Queue.{flat, widths};
 ghost use Rattle.net_start.specs.Stored.{places};
 
-use crate::rows::{netlist, width};
 use infer_regs::registers;
 use net_list::fault::InferFault;
 use net_list::netlist::Netlist;
@@ -19,6 +18,7 @@ use rtl_flat::expr::SigId;
 use std::alloc::Global;
 use std::test::Fail;
 use tests_designs::designed;
+use tests_netlists::{netlist, width};
 
 /// A bit in every place of the value of each of some signals.
 fn filled(alloc: Global, design: &Design, signals: &[SigId], bit: Bit) -> Result<Vec<Vec4>, Fail>

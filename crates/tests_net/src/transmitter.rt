@@ -8,7 +8,6 @@ ghost use Rattle.event_queue.specs.Offers.{AreAllowed};
 ghost use Rattle.event_queue.specs.Sims as events;
 ghost use Rattle.netlist_eval.specs.Sims.{flat_of, netlist_of};
 
-use crate::rows::{netlist, simulator, take};
 use desk_steps::read_steps;
 use event_model::policy::Policy;
 use event_model::setting::Setting;
@@ -22,6 +21,7 @@ use rtl_flat::expr::SigId;
 use std::alloc::Global;
 use std::test::Fail;
 use tests_designs::designed;
+use tests_netlists::{netlist, simulator, take};
 
 /// `examples/uart_tx.v`, as `top`
 const TRANSMITTER: &[u8] = b"`timescale 1ns/1ps

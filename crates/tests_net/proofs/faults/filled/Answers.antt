@@ -1,6 +1,6 @@
 use Rattle.std.proofs.Common.{◌∙◌, ◌<◌, ◌≤◌, length, arith}
 use Rattle.event_model.specs.Queue.{flat, widths}
-use Rattle.tests_net.proofs.Widths.{as_places, next_wide, one_more, whole, wide}
+use Rattle.tests_netlists.proofs.Widths.{as_places, next_wide, one_more, whole, wide}
 use Rattle.tests_net.proofs.faults.filled.Goals as goal
 
 pub loop-place-preserved : goal.loop-place-preserved

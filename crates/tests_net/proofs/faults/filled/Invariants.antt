@@ -1,6 +1,6 @@
 use Rattle.std.proofs.Common.{◌≡◌, ◌++◌, drop, length, map}
 use Rattle.event_model.specs.Queue.{flat, widths}
-use Rattle.tests_net.proofs.Widths.{wide}
+use Rattle.tests_netlists.proofs.Widths.{wide}
 use Rattle.tests_net.proofs.faults.filled.Given as goal
 
 abbrev pub invariant-loop-place : goal.invariant-loop-place

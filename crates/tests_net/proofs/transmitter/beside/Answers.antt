@@ -1,6 +1,7 @@
 use Rattle.std.proofs.Common.{◌≡◌, ◌∙◌, ◌<◌, ◌≤◌, length, ap, arith}
 use Rattle.event_model.specs.Queue.{Flat, flat, widths}
-use Rattle.tests_net.proofs.Widths.{are_stored, next_width, one_more, whole, width}
+use Rattle.tests_netlists.proofs.Widths.{one_more, whole}
+use Rattle.tests_net.proofs.Widths.{are_stored, next_width, width}
 use Rattle.tests_net.proofs.transmitter.beside.Goals as goal
 
 pub loop-number-preserved : goal.loop-number-preserved

@@ -3,7 +3,7 @@ use Rattle.rtl_bits.specs.declared.Bit.{Bit}
 use Rattle.rtl_flat.specs.declared.expr.SigId.{SigId}
 use Rattle.event_model.specs.Queue.{flat, widths}
 use Rattle.net_start.specs.Stored.{places}
-use Rattle.net_bench.proofs.run.simulator.Goals as goal
+use Rattle.tests_netlists.proofs.simulator.Goals as goal
 
 pub new-requires-clause-registers : goal.new-requires-clause-registers
 new-requires-clause-registers c =

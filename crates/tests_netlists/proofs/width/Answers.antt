@@ -3,7 +3,7 @@ use Rattle.rtl_flat.specs.declared.signal.Signal.{Signal}
 use Rattle.rtl_flat.specs.Signs.{width_in}
 use Rattle.event_write.proofs.Targets.{some_bits}
 use Rattle.rtl_scan.proofs.Processes.{widths_fit}
-use Rattle.net_bench.proofs.run.width.Goals as goal
+use Rattle.tests_netlists.proofs.width.Goals as goal
 
 pub returns-clause-width : goal.returns-clause-width
 returns-clause-width c =

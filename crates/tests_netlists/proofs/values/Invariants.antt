@@ -1,7 +1,7 @@
 use Rattle.std.proofs.Common.{◌≡◌, ◌++◌, drop, length, map}
 use Rattle.event_model.specs.Queue.{flat, widths}
-use Rattle.net_bench.proofs.Widths.{wide}
-use Rattle.net_bench.proofs.run.zeros.Given as goal
+use Rattle.tests_netlists.proofs.Widths.{wide}
+use Rattle.tests_netlists.proofs.values.Given as goal
 
 abbrev pub invariant-loop-place : goal.invariant-loop-place
 invariant-loop-place l =

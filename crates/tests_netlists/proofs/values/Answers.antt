@@ -1,7 +1,7 @@
 use Rattle.std.proofs.Common.{◌∙◌, ◌<◌, ◌≤◌, length, arith}
 use Rattle.event_model.specs.Queue.{flat, widths}
-use Rattle.net_bench.proofs.Widths.{as_places, next_wide, one_more, whole, wide}
-use Rattle.net_bench.proofs.run.zeros.Goals as goal
+use Rattle.tests_netlists.proofs.Widths.{as_places, next_wide, one_more, whole, wide}
+use Rattle.tests_netlists.proofs.values.Goals as goal
 
 pub loop-place-preserved : goal.loop-place-preserved
 loop-place-preserved c =
