@@ -25,7 +25,7 @@ fn year_days(year: u32) -> u32
     if is_leap(year) { 366 } else { 365 }
 }
 
-fn month_days(year: u32, month: u32) -> u32
+pub(crate) fn month_days(year: u32, month: u32) -> u32
     ensures { result ≡ month_days year month }
 {
     match month {

@@ -1,5 +1,5 @@
 -- The front and the end of a text.
-use Rattle.std.proofs.Common.{◌≡◌, ◌∙◌, ◌≤◌, sym, ◌+◌, ◌-◌, ℕ, true, false, List, length, take, drop, refl, ap, Option, None, Some, Bor}
+use Rattle.std.proofs.Common.{◌≡◌, ◌≤◌, ◌+◌, ◌-◌, ℕ, true, false, List, length, take, drop, refl, ap, Option, None, Some, Bor}
 use Rattle.std.proofs.lemmas.List.{take_all}
 use Rattle.std.specs.Prelude.{MatchOption, bytes_eq}
 use Rattle.desk_http.specs.Routes.{before, behind, plain}

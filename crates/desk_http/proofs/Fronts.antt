@@ -1,14 +1,13 @@
 -- What the first bytes say of the head that all of them begin with.
-use Rattle.std.proofs.Common.{◌≡◌, ◌∙◌, ◌⊎◌, ℕ, ◌+◌, ◌-◌, ◌<◌, ◌≤◌, List, [], ◌∷◌, ◌++◌, length, take, drop, map, refl, sym, ap, subst, arith, append_assoc, inl, inr, length-append}
+use Rattle.std.proofs.Common.{◌≡◌, ◌∙◌, ℕ, ◌+◌, ◌-◌, ◌<◌, ◌≤◌, List, ◌++◌, length, take, drop, sym, ap, subst, arith, append_assoc, inl, length-append}
 use Rattle.std.proofs.Math.Seq.{take-append-add}
 use Rattle.std.proofs.lemmas.List.{take-append-le, take-append-drop, length-take, length-map}
 use Rattle.std.specs.Prelude.{option_map}
 use Rattle.httparse.specs.Grammar.{Field, RequestHead, ReadsRequest, HasNoRequest, print_request}
-use Rattle.httparse.specs.Spans.{AreFieldsAt, IsRequestAt, IsRequestWithin, RequestOverflows, header_bytes, name_and_value}
+use Rattle.httparse.specs.Spans.{AreFieldsAt, IsRequestAt, RequestOverflows, header_bytes, name_and_value}
 use Rattle.httparse.specs.declared.spans.HeaderSpan.{HeaderSpan}
-use Rattle.httparse.specs.declared.spans.RequestSpans.{RequestSpans}
 use Rattle.httparse.proofs.GrammarLemmas.{ReadsRequest-append}
-use Rattle.desk_http.specs.Heads.{BeginsWith, HasNoHead, IsFramed, IsStateOf, Shows, heard, said}
+use Rattle.desk_http.specs.Heads.{BeginsWith, HasNoHead, IsFramed, IsStateOf, Shows, heard}
 use Rattle.desk_http.specs.Lines.{capped, stated_length}
 use Rattle.desk_http.specs.declared.head.Head.{Head}
 use Rattle.desk_http.specs.declared.head.HeadState.{HeadState}

@@ -1,4 +1,4 @@
+mod Bodies
 mod Cuts
 mod Example
 mod Fronts
-mod Numbers

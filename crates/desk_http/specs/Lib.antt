@@ -1,6 +1,11 @@
-pub mod Replies
-pub mod Refusals
-pub mod Routes
-pub mod Numbers
-pub mod Lines
+pub mod Aims
+pub mod Gives
 pub mod Heads
+pub mod Labels
+pub mod Lines
+pub mod Places
+pub mod Refusals
+pub mod Replies
+pub mod Requests
+pub mod Routes
+pub mod Waivers

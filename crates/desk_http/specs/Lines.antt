@@ -5,7 +5,7 @@ use Rattle.std.specs.List.{list_all}
 use Rattle.std.specs.Str.{str_eq_ignore_ascii_case}
 use Rattle.httparse.specs.Spans.{header_bytes}
 use Rattle.httparse.specs.declared.spans.HeaderSpan.{HeaderSpan}
-use Rattle.desk_http.specs.Numbers.{is_number, number_of, significant}
+use Rattle.desk_numbers.specs.Numbers.{is_number, number_of, significant}
 
 -- the name and the value of a header line
 abbrev pub Line : Type 0

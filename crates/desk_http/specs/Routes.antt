@@ -1,7 +1,8 @@
 -- Where a method and a target lead. A target is parted as it stands, and its part is decoded then.
 -- Worked examples: crates/desk_http/proofs/Example.antt.
-use Rattle.std.specs.Prelude.{ℕ, ◌-◌, Bool, bytes_eq, List, [], length, take, drop, codes, Option, Some, None, option_map, option_and_then, if◌then◌else◌}
+use Rattle.std.specs.Prelude.{ℕ, ◌-◌, bytes_eq, List, [], length, take, drop, codes, Option, Some, None, option_map, option_and_then, if◌then◌else◌}
 use Rattle.std.specs.Borrow.{Bor}
+use Rattle.std.specs.Option.{option_or}
 use Rattle.desk_http.specs.declared.route.Action.{Action}
 use Rattle.desk_http.specs.declared.route.Action.TheVariants.{PutFile, GetFile, DropFile, Ruling, SignOff, SignOffs, Waive, Waivers, Revoke}
 
@@ -35,15 +36,11 @@ plain_route found = option_map (λ it. (it.0, it.1.now)) found
 abbrev pub part_route : Action → Option (List ℕ) → Option Route
 part_route action part = option_map (λ it. (action, it)) part
 
-abbrev pub or_else : Option Route → Option Route → Option Route
-or_else None other = other
-or_else (Some it) other = Some it
-
 abbrev pub get_route : List ℕ → Option Route
 get_route target =
     if bytes_eq target (codes "/signoffs") then Some (SignOffs, []) else
     if bytes_eq target (codes "/waivers") then Some (Waivers, []) else
-    or_else (part_route GetFile (behind (codes "/files/") target))
+    option_or (part_route GetFile (behind (codes "/files/") target))
     (part_route Ruling (between (codes "/modules/") (codes "/ruling") target))
 
 abbrev pub put_route : List ℕ → Option Route
@@ -56,7 +53,7 @@ post_route target =
 
 abbrev pub delete_route : List ℕ → Option Route
 delete_route target =
-    or_else (part_route DropFile (behind (codes "/files/") target))
+    option_or (part_route DropFile (behind (codes "/files/") target))
     (part_route Revoke (behind (codes "/waivers/") target))
 
 abbrev pub change_route : List ℕ → List ℕ → Option Route

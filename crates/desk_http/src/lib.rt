@@ -1,14 +1,20 @@
 //! What the desk hears and says in HTTP/1.1: heads of requests, routes, bodies, and heads of replies.
 #![tactic(auto)]
 
+mod aim;
+mod checks;
 mod fault;
 mod head;
+mod label;
 mod lines;
-mod number;
+mod place;
 mod reply;
 mod route;
+mod waiver;
 
+pub use checks::{MAX_LABEL_BYTES, request};
 pub use fault::BadRequest;
 pub use head::{Head, HeadState, MAX_HEAD_BYTES, MAX_HEADER_LINES, read_head};
 pub use lines::MAX_BODY_BYTES;
 pub use reply::{MAX_REPLY_HEAD_BYTES, NO_MEMORY, reply_head};
+pub use waiver::MAX_REASON_BYTES;

@@ -5,7 +5,7 @@ ghost use Rattle.std.specs.Str.{str_eq_ignore_ascii_case};
 ghost use Rattle.httparse.specs.Spans.{span_bytes};
 ghost use Rattle.desk_http.specs.Lines.{agrees, capped, first_named, lines_at, stated_length};
 
-use crate::number::{is_number, number_up_to, significant};
+use desk_numbers::{is_number, number_up_to, significant};
 use httparse::spans::{HeaderSpan, Span};
 
 /// How many bytes a body may have.

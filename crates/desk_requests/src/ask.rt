@@ -3,6 +3,7 @@ ghost use Rattle.std.specs.Prelude.{◌≡◌};
 ghost use Rattle.desk_requests.specs.Requests.{changes, label_of};
 
 use desk_tables::{Day, Digest, Name, WaiverId};
+use rtl_rule::rule::Rule;
 use rtl_tree::text::Text;
 
 /// The waiver that is asked for.
@@ -13,8 +14,7 @@ pub struct WaiverAsk {
     /// Where the finding is: `file:line:column`.
     pub place: Text,
     pub reason: Text,
-    /// The code of the rule.
-    pub rule: Text,
+    pub rule: Rule,
     /// The path of the finding's signal, or of its instance.
     pub target: Text,
     pub top: Text,

@@ -1,5 +1,5 @@
 -- What the parser says of the first 16,384 bytes holds of all of them.
-use Rattle.std.proofs.Common.{ℕ, length, inr, arith, subst}
+use Rattle.std.proofs.Common.{inr, arith, subst}
 use Rattle.httparse.specs.Grammar.{HasNoRequest}
 use Rattle.httparse.specs.Spans.{RequestOverflows}
 use Rattle.desk_http.proofs.Fronts.{never_full, never_room, no_head, no_room, shows}

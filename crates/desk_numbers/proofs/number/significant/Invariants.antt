@@ -1,6 +1,6 @@
 use Rattle.std.proofs.Common.{◌≡◌, ◌≤◌, ◌-◌, drop, length}
-use Rattle.desk_http.specs.Numbers.{significant}
-use Rattle.desk_http.proofs.number.significant.Given as goal
+use Rattle.desk_numbers.specs.Numbers.{significant}
+use Rattle.desk_numbers.proofs.number.significant.Given as goal
 
 abbrev pub invariant-loop-at : goal.invariant-loop-at
 invariant-loop-at l = (significant (drop l.at l.text) ≡ significant l.text) × (l.at ≤ length l.text)

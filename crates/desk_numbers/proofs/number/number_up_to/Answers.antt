@@ -1,7 +1,7 @@
 use Rattle.std.proofs.Common.{arith}
 use Rattle.std.proofs.lemmas.Grind.{common_steps}
-use Rattle.desk_http.proofs.Numbers.{next_digit}
-use Rattle.desk_http.proofs.number.number_up_to.Goals as goal
+use Rattle.desk_numbers.proofs.Numbers.{next_digit}
+use Rattle.desk_numbers.proofs.number.number_up_to.Goals as goal
 
 pub loop-digit-preserved : goal.loop-digit-preserved
 loop-digit-preserved c = record {

@@ -1,7 +1,7 @@
 use Rattle.std.proofs.Common.{◌≡◌, ◌≤◌, drop}
 use Rattle.std.specs.Prelude.{min}
-use Rattle.desk_http.specs.Numbers.{number_behind}
-use Rattle.desk_http.proofs.number.number_up_to.Given as goal
+use Rattle.desk_numbers.specs.Numbers.{number_behind}
+use Rattle.desk_numbers.proofs.number.number_up_to.Given as goal
 
 abbrev pub invariant-loop-digit : goal.invariant-loop-digit
 invariant-loop-digit l = record {

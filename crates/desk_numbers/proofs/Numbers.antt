@@ -1,8 +1,8 @@
 -- Digits, one after the other.
-use Rattle.std.proofs.Common.{◌≡◌, ◌≢◌, ◌∙◌, ◌⊎◌, ℕ, ◌+◌, ◌-◌, ◌*◌, ◌<◌, ◌≤◌, List, [], ◌∷◌, length, get_or, drop, refl, sym, ap, arith, add-one, drop-cons, inl, inr}
+use Rattle.std.proofs.Common.{◌≡◌, ◌∙◌, ◌⊎◌, ℕ, ◌+◌, ◌-◌, ◌*◌, ◌<◌, ◌≤◌, List, [], ◌∷◌, length, get_or, drop, refl, sym, ap, arith, add-one, drop-cons, inl, inr}
 use Rattle.std.specs.Prelude.{min}
 use Rattle.std.proofs.lemmas.Bool.{cases_lt}
-use Rattle.desk_http.specs.Numbers.{number_behind, significant}
+use Rattle.desk_numbers.specs.Numbers.{number_behind, significant}
 
 grows : (n : ℕ) (ds : List ℕ) → n ≤ number_behind n ds
 grows n [] = omega arith

@@ -1,6 +1,6 @@
 -- Numbers in decimal digits.
--- Worked examples: crates/desk_http/proofs/Example.antt.
-use Rattle.std.specs.Prelude.{ℕ, ◌+◌, ◌-◌, ◌*◌, Bool, ◌&&◌, ◌==◌, not, List, [], ◌∷◌, length, if◌then◌else◌}
+-- Worked examples: crates/desk_numbers/proofs/Example.antt.
+use Rattle.std.specs.Prelude.{ℕ, ◌+◌, ◌-◌, ◌*◌, Bool, false, ◌&&◌, ◌||◌, ◌==◌, not, List, [], ◌∷◌, length, if◌then◌else◌}
 use Rattle.std.specs.List.{list_all}
 use Rattle.std.specs.Char.{is_ascii_digit}
 
@@ -21,3 +21,15 @@ number_of digits = number_behind 0 digits
 abbrev pub significant : List ℕ → List ℕ
 significant [] = []
 significant (digit ∷ digits) = if digit == 48 then significant digits else digit ∷ digits
+
+abbrev pub opens_with_zero : List ℕ → Bool
+opens_with_zero [] = false
+opens_with_zero (digit ∷ digits) = digit == 48
+
+-- a number from 1, without leading zeros
+abbrev pub is_positive : List ℕ → Bool
+is_positive text = is_number text && not (opens_with_zero text)
+
+-- a number from 0, without leading zeros
+abbrev pub is_plain : List ℕ → Bool
+is_plain text = is_number text && (length text == 1 || not (opens_with_zero text))

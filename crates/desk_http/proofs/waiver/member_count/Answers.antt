@@ -1,0 +1,11 @@
+use Rattle.std.proofs.Common.{◌∙◌, Option, option_map, sym, ap}
+use Rattle.std.specs.Prelude.{unwrap_or}
+use Rattle.serde_json.specs.Data.{Members}
+use Rattle.serde_json.specs.Events.{members_len}
+use Rattle.serde_json.proofs.Views.{members_len-members_view}
+use Rattle.desk_http.proofs.waiver.member_count.Goals as goal
+
+pub returns-in-Some : goal.returns-in-Some
+returns-in-Some c =
+    c.len.ensures.len ∙ sym (members_len-members_view c.in-Some.members.now.entries)
+    ∙ ap (λ (o : Option Members). unwrap_or (option_map members_len o) 0) c.in-Some.ensures
