@@ -5,12 +5,12 @@ ghost use Rattle.std.specs.List.{slice_get};
 ghost use Rattle.rtl_flat.specs.Process.{Task};
 ghost use Rattle.rtl_rule.specs.Parts.{parts, widths};
 ghost use Rattle.rtl_scan.specs.Arrows.{AreArrows};
+ghost use Rattle.check_scans.specs.Scanned.{AreScans};
 ghost use Rattle.check_graph.specs.Feeds.{AreFeeders, FromRow, FromRows, FromWriters, Joins, comes, is_from};
 
 use crate::writers::{Writer, is_node, writers};
-use check_found::sets::{listed, read_outside};
+use check_scans::scans::Scans;
 use rtl_flat::act::ProcId;
-use rtl_flat::design::Design;
 use rtl_scan::bits::Row;
 use rtl_tree::memory::Memory;
 use std::alloc::Global;
@@ -90,21 +90,22 @@ fn add_rows(
 /// The processes that feed one by a bit that it reads, and those others that do by one that it lists.
 fn feeders(
     alloc: Global,
-    design: &Design,
+    scans: &Scans,
     q: ProcId,
     table: &[Vec<Writer>],
 ) -> Result<Vec<u32>, Memory>
-    requires { q.0 < length design.now.processes.items }
-    ensures { let d = parts design.now in IfOk result (λ found.
+    requires scans { AreScans scans.now }
+    requires there { q.0 < length scans.now.design.now.processes.items }
+    ensures { let d = parts scans.now.design.now in IfOk result (λ found.
         (task : Task) → slice_get d.tasks q.0 ≡ Some task →
         AreFeeders (widths d) table.now task q.0 found.items) }
 {
     let mut found = Vec::new(alloc);
-    if !is_node(&design.processes[q.0 as usize].does) {
+    if !is_node(&scans.design.processes[q.0 as usize].does) {
         return Ok(found);
     }
-    let read = read_outside(alloc, design, q)?;
-    let waited = listed(alloc, design, q)?;
+    let read = scans.read_outside(q);
+    let waited = scans.listed(q);
     let reader = Reader {
         process: q.0,
         itself: true,
@@ -119,14 +120,15 @@ fn feeders(
 }
 
 /// The level graph: a row has the processes that feed its process.
-pub(crate) fn arrows(alloc: Global, design: &Design) -> Result<Vec<Vec<u32>>, Memory>
-    ensures { let d = parts design.now in
+pub(crate) fn arrows(alloc: Global, scans: &Scans) -> Result<Vec<Vec<u32>>, Memory>
+    requires { AreScans scans.now }
+    ensures { let d = parts scans.now.design.now in
         IfOk result (λ rows. AreArrows d.signals d.tasks rows.items) }
 {
-    let table = writers(alloc, design)?;
+    let table = writers(alloc, scans)?;
     let mut rows = Vec::new(alloc);
-    for number in 0..design.processes.len() {
-        let found = feeders(alloc, design, ProcId(number as u32), &table)?;
+    for number in 0..scans.design.processes.len() {
+        let found = feeders(alloc, scans, ProcId(number as u32), &table)?;
         rows.push(found)?;
     }
     Ok(rows)

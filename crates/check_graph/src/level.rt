@@ -2,20 +2,22 @@
 
 ghost use Rattle.std.specs.Prelude.{IfOk};
 ghost use Rattle.rtl_rule.specs.Parts.{parts};
+ghost use Rattle.check_scans.specs.Scanned.{AreScans};
 ghost use Rattle.check_graph.specs.Loops.{AreLevelLoops};
 
 use crate::arrows::arrows;
 use check_loops::on_cycles;
-use rtl_flat::design::Design;
+use check_scans::scans::Scans;
 use rtl_tree::memory::Memory;
 use std::alloc::Global;
 
 /// Whether each process is on a cycle of the level graph: one feeds the next by a bit that it may write, and that the
 /// next reads before it has written it, or lists.
-pub fn loops(alloc: Global, design: &Design) -> Result<Vec<bool>, Memory>
-    ensures { let d = parts design.now in
+pub fn loops(alloc: Global, scans: &Scans) -> Result<Vec<bool>, Memory>
+    requires { AreScans scans.now }
+    ensures { let d = parts scans.now.design.now in
         IfOk result (λ answers. AreLevelLoops d.signals d.tasks answers.items) }
 {
-    let rows = arrows(alloc, design)?;
+    let rows = arrows(alloc, scans)?;
     on_cycles(alloc, &rows)
 }

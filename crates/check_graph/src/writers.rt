@@ -5,11 +5,11 @@ ghost use Rattle.std.specs.List.{slice_get};
 ghost use Rattle.rtl_flat.specs.Process.{Task, doing};
 ghost use Rattle.rtl_rule.specs.Parts.{parts, widths};
 ghost use Rattle.rtl_scan.specs.Arrows.{is_node};
+ghost use Rattle.check_scans.specs.Scanned.{AreScans};
 ghost use Rattle.check_graph.specs.Feeds.{AreWriters, Notes, Puts, WritesMore, bucket};
 
-use check_found::sets::written;
+use check_scans::scans::Scans;
 use rtl_flat::act::{Does, ProcId};
-use rtl_flat::design::Design;
 use rtl_scan::bits::Row;
 use rtl_tree::memory::Memory;
 use std::alloc::Global;
@@ -82,29 +82,31 @@ fn note_rows(
 /// Puts a process into the rows of what it may write, unless it has an edge.
 fn note_writes(
     alloc: Global,
-    design: &Design,
+    scans: &Scans,
     p: ProcId,
     table: &mut Vec<Vec<Writer>>,
 ) -> Result<(), Memory>
-    requires { p.0 < length design.now.processes.items }
-    ensures { let d = parts design.now in OnOk result ((task : Task) → slice_get d.tasks p.0 ≡ Some task →
+    requires scans { AreScans scans.now }
+    requires there { p.0 < length scans.now.design.now.processes.items }
+    ensures { let d = parts scans.now.design.now in
+        OnOk result ((task : Task) → slice_get d.tasks p.0 ≡ Some task →
         WritesMore (widths d) task p.0 table.old.items table.new.items) }
 {
-    if !is_node(&design.processes[p.0 as usize].does) {
+    if !is_node(&scans.design.processes[p.0 as usize].does) {
         return Ok(());
     }
-    let bits = written(alloc, design, p)?;
-    note_rows(alloc, table, &bits.rows, p.0)
+    note_rows(alloc, table, &scans.written(p).rows, p.0)
 }
 
 /// The processes that write bits of each signal.
-pub(crate) fn writers(alloc: Global, design: &Design) -> Result<Vec<Vec<Writer>>, Memory>
-    ensures { let d = parts design.now in
+pub(crate) fn writers(alloc: Global, scans: &Scans) -> Result<Vec<Vec<Writer>>, Memory>
+    requires { AreScans scans.now }
+    ensures { let d = parts scans.now.design.now in
         IfOk result (λ table. AreWriters (widths d) d.tasks (length d.tasks) table.items) }
 {
     let mut table = Vec::new(alloc);
-    for number in 0..design.processes.len() {
-        note_writes(alloc, design, ProcId(number as u32), &mut table)?;
+    for number in 0..scans.design.processes.len() {
+        note_writes(alloc, scans, ProcId(number as u32), &mut table)?;
     }
     Ok(table)
 }

@@ -11,19 +11,19 @@ use Rattle.check_graph.proofs.arrows.arrows.Goals as goal
 
 pub loop-number-preserved : goal.loop-number-preserved
 loop-number-preserved c =
-    let d = parts c.args.design.now in
+    let d = parts c.args.scans.now.design.now in
     let table = c.in_ok-table.table.items in
     let n = c.loop-number.number in
-    let (one, there) = task_of c.args.design.now n (omega arith) in
+    let (one, there) = task_of c.args.scans.now.design.now n (omega arith) in
     let are : AreFeeders (widths d) table one n c.in_ok-found.found.items
     = subst (λ (t : List (Vec Writer Global)). AreFeeders (widths d) t one n c.in_ok-found.found.items) c.deref.ensures.value (c.in_ok-found.ensures one there) in
     fed_more (widths d) d.tasks table n one there c.loop-number.rows.items c.push.new.self.items c.in_ok-found.found c.loop-number.invariant are c.in_ok-push.ensures.items
 
 pub returns : goal.returns
 returns c =
-    let d = parts c.args.design.now in
+    let d = parts c.args.scans.now.design.now in
     let table = c.in_ok-table.table.items in
-    let count = task_count c.args.design.now in
+    let count = task_count c.args.scans.now.design.now in
     let e : c.loop-number.number ≡ length d.tasks = omega arith in
     arrows_are d.signals d.tasks table c.loop-number.rows.items c.in_ok-table.ensures
     (subst (λ (n : ℕ). AreFed (widths d) d.tasks table n c.loop-number.rows.items) e c.loop-number.invariant)

@@ -9,15 +9,15 @@ use Rattle.check_graph.proofs.arrows.feeders.Goals as goal
 
 pub returns : goal.returns
 returns c = λ one there.
-    let d = parts c.args.design.now in
+    let d = parts c.args.scans.now.design.now in
     let q = c.args.q.0 in
     let process = c.index.result.now in
-    let at : Some one ≡ Some (task process) = sym there ∙ task_at c.args.design.now q process c.requires c.index.ensures in
+    let at : Some one ≡ Some (task process) = sym there ∙ task_at c.args.scans.now.design.now q process c.requires.there c.index.ensures in
     let same : task process ≡ one = cc in
     let node : c.is_node.result ≡ is_node one.does
     = c.is_node.ensures ∙ ap (λ (t : Task). is_node t.does) same in
     let some : c.is_node.result ≡ true = let isnt = c.if-not-is_node.false in cc in
     feeders_are (widths d) c.args.table.now one q c.is_node.result node some c.deref.result.now c.deref-2.result.now
-    (λ s k. ap (λ xs. has_rows xs s k) c.deref.ensures.value ∙ c.in_ok-read.ensures.bits one there s k)
-    (λ s k. ap (λ xs. has_rows xs s k) c.deref-2.ensures.value ∙ c.in_ok-waited.ensures.bits one there s k)
+    (λ s k. ap (λ xs. has_rows xs s k) c.deref.ensures.value ∙ c.read_outside-read.ensures.bits one there s k)
+    (λ s k. ap (λ xs. has_rows xs s k) c.deref-2.ensures.value ∙ c.listed-waited.ensures.bits one there s k)
     c.new-found.result.items c.add_rows.new.found.items c.add_rows-2.new.found.items c.new-found.ensures.items c.in_ok-add_rows.ensures c.in_ok-add_rows-2.ensures

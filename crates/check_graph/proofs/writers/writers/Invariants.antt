@@ -4,4 +4,4 @@ use Rattle.check_graph.proofs.writers.writers.Given as goal
 
 abbrev pub invariant-loop-number : goal.invariant-loop-number
 invariant-loop-number l =
-    AreWriters (widths (parts l.design)) (parts l.design).tasks l.number l.table.items
+    AreWriters (widths (parts l.scans.design.now)) (parts l.scans.design.now).tasks l.number l.table.items
