@@ -1,13 +1,11 @@
 -- Findings of rules with one site a process, and of processes where no site breaks a rule.
-use Rattle.std.proofs.Common.{◌≡◌, ◌∙◌, ℕ, zero, suc, ◌<◌, Bool, true, false, List, [], ◌∷◌, length, get_or, Option, None, Some, refl, sym, ap, arith, inr}
+use Rattle.std.proofs.Common.{◌≡◌, ℕ, zero, suc, ◌<◌, true, false, List, [], ◌∷◌, length, get_or, Option, None, Some, refl, arith, inr}
 use Rattle.std.specs.List.{slice_get}
-use Rattle.std.proofs.lemmas.Bool.{false≢true}
 use Rattle.rtl_flat.specs.declared.expr.SigId.{SigId}
 use Rattle.rtl_flat.specs.declared.design.Design.{Design}
 use Rattle.rtl_flat.specs.declared.act.Process.{Process}
 use Rattle.rtl_flat.specs.Process.{Watched, Task, task}
-use Rattle.rtl_rule.specs.declared.finding.Finding.{Finding}
-use Rattle.rtl_rule.specs.Parts.{At, parts}
+use Rattle.rtl_rule.specs.Parts.{parts}
 use Rattle.rtl_rule.specs.Sites.{AreThose}
 use Rattle.check_found.proofs.Sites.{task_at, task_count}
 use Rattle.check_sense.specs.Sense.{has_item, signal_of}
