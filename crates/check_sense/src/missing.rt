@@ -5,13 +5,13 @@ ghost use Rattle.std.specs.List.{slice_get};
 ghost use Rattle.rtl_flat.specs.Process.{doing, Task, task};
 ghost use Rattle.rtl_rule.specs.Parts.{parts};
 ghost use Rattle.check_found.specs.Gathered.{Gets, signal_numbers, task_sites};
+ghost use Rattle.check_scans.specs.Scanned.{AreScans};
 ghost use Rattle.check_sense.specs.Sense.{AreSenseMissing, IsSenseMissing, sense_missing_at};
 ghost use Rattle.check_sense.specs.Telling.{has_items, lacking_in};
 
 use crate::masks::Masks;
-use check_found::sets::{listed, read_outside};
+use check_scans::scans::Scans;
 use rtl_flat::act::{Does, Listed, ProcId, Process};
-use rtl_flat::design::Design;
 use rtl_rule::finding::Finding;
 use rtl_rule::rule::Rule;
 use rtl_scan::bits::Row;
@@ -61,33 +61,35 @@ fn push_lacking(
 
 fn push_missing(
     alloc: Global,
-    design: &Design,
+    scans: &Scans,
     p: ProcId,
     found: &mut Vec<Finding>,
 ) -> Result<(), Memory>
-    requires { p.0 < length design.now.processes.items }
-    ensures { OnOk result ((task : Task) → slice_get (parts design.now).tasks p.0 ≡ Some task
-        → Gets (IsSenseMissing (parts design.now)) sense_missing_at
-        (task_sites (signal_numbers (parts design.now)) p.0 task) found.old.items found.new.items) }
+    requires scans { AreScans scans.now }
+    requires there { p.0 < length scans.now.design.now.processes.items }
+    ensures { let d = parts scans.now.design.now in
+        OnOk result ((task : Task) → slice_get d.tasks p.0 ≡ Some task
+        → Gets (IsSenseMissing d) sense_missing_at
+        (task_sites (signal_numbers d) p.0 task) found.old.items found.new.items) }
 {
-    let process = &design.processes[p.0 as usize];
+    let process = &scans.design.processes[p.0 as usize];
     if !has_items(&process.does) {
         return Ok(());
     }
-    let read = read_outside(alloc, design, p)?;
-    let bits = listed(alloc, design, p)?;
-    let masks = Masks::of(alloc, &bits)?;
+    let read = scans.read_outside(p);
+    let masks = Masks::of(alloc, scans.listed(p))?;
     push_lacking(process, &read.rows, &masks, found)
 }
 
 /// Processes with a written list that leaves out a bit which their body reads before it has written
 /// it: a finding for each signal.
-pub fn sense_missing(alloc: Global, design: &Design) -> Result<Vec<Finding>, Memory>
-    ensures { IfOk result (λ found. AreSenseMissing (parts design.now) found.items) }
+pub fn sense_missing(alloc: Global, scans: &Scans) -> Result<Vec<Finding>, Memory>
+    requires { AreScans scans.now }
+    ensures { IfOk result (λ found. AreSenseMissing (parts scans.now.design.now) found.items) }
 {
     let mut found = Vec::new(alloc);
-    for number in 0..design.processes.len() {
-        push_missing(alloc, design, ProcId(number as u32), &mut found)?;
+    for number in 0..scans.design.processes.len() {
+        push_missing(alloc, scans, ProcId(number as u32), &mut found)?;
     }
     Ok(found)
 }

@@ -6,13 +6,14 @@ ghost use Rattle.rtl_flat.specs.Process.{doing, Task};
 ghost use Rattle.rtl_rule.specs.Parts.{parts};
 ghost use Rattle.rtl_scan.specs.Sets.{has_rows};
 ghost use Rattle.check_found.specs.Gathered.{Gets, task_sites};
+ghost use Rattle.check_scans.specs.Scanned.{AreScans};
 ghost use Rattle.check_sense.specs.Sense.{AreNeverWakes, IsNeverWakes, can_wake, is_top, never_wakes_at};
 ghost use Rattle.check_sense.specs.Telling.{AreWriters, GetsWriter, has_level_list, itself, row_wakes, top_at};
 
 use crate::masks::Masks;
-use check_found::sets::{first_written, listed, written};
+use check_found::sets::first_written;
+use check_scans::scans::Scans;
 use rtl_flat::act::{Does, ProcId};
-use rtl_flat::design::Design;
 use rtl_flat::expr::SigId;
 use rtl_flat::signal::{Kind, Signal};
 use rtl_rule::finding::Finding;
@@ -38,17 +39,17 @@ impl Writers {
     }
 
     /// Those of a design.
-    fn of(alloc: Global, design: &Design) -> Result<Writers, Memory>
-        ensures { IfOk result (λ writers.
-            AreWriters (parts design.now) (parts design.now).tasks writers) }
+    fn of(alloc: Global, scans: &Scans) -> Result<Writers, Memory>
+        requires { AreScans scans.now }
+        ensures { let d = parts scans.now.design.now in
+            IfOk result (λ writers. AreWriters d d.tasks writers) }
     {
         let mut writers = Writers {
             once: Masks::new(alloc),
             twice: Masks::new(alloc),
         };
-        for number in 0..design.processes.len() {
-            let written = written(alloc, design, ProcId(number as u32))?;
-            writers.add(&written)?;
+        for number in 0..scans.design.processes.len() {
+            writers.add(scans.written(ProcId(number as u32)))?;
         }
         Ok(writers)
     }
@@ -96,17 +97,17 @@ fn wake_some(signals: &[Signal], writers: &Writers, own: &Masks, rows: &[Row]) -
 }
 
 /// Whether something can wake a process with a level list.
-fn can_wake(alloc: Global, design: &Design, writers: &Writers, p: ProcId) -> Result<bool, Memory>
-    requires inside { p.0 < length design.now.processes.items }
-    requires writers { AreWriters (parts design.now) (parts design.now).tasks writers.now }
-    ensures { IfOk result (λ wakes. (task : Task)
-        → slice_get (parts design.now).tasks p.0 ≡ Some task
-        → wakes ≡ can_wake (parts design.now) p.0 task.does) }
+fn can_wake(alloc: Global, scans: &Scans, writers: &Writers, p: ProcId) -> Result<bool, Memory>
+    requires scans { AreScans scans.now }
+    requires inside { p.0 < length scans.now.design.now.processes.items }
+    requires writers { let d = parts scans.now.design.now in AreWriters d d.tasks writers.now }
+    ensures { let d = parts scans.now.design.now in
+        IfOk result (λ wakes. (task : Task) → slice_get d.tasks p.0 ≡ Some task
+        → wakes ≡ can_wake d p.0 task.does) }
 {
-    let listed = listed(alloc, design, p)?;
-    let written = written(alloc, design, p)?;
-    let own = Masks::of(alloc, &written)?;
-    Ok(wake_some(&design.signals, writers, &own, &listed.rows))
+    let listed = scans.listed(p);
+    let own = Masks::of(alloc, scans.written(p))?;
+    Ok(wake_some(&scans.design.signals, writers, &own, &listed.rows))
 }
 
 /// Whether a process has a list without an edge.
@@ -125,26 +126,28 @@ fn has_level_list(does: &Does) -> bool
 
 fn push_never(
     alloc: Global,
-    design: &Design,
+    scans: &Scans,
     writers: &Writers,
     p: ProcId,
     found: &mut Vec<Finding>,
 ) -> Result<(), Memory>
-    requires inside { p.0 < length design.now.processes.items }
-    requires writers { AreWriters (parts design.now) (parts design.now).tasks writers.now }
-    ensures { OnOk result ((task : Task) → slice_get (parts design.now).tasks p.0 ≡ Some task
-        → Gets (IsNeverWakes (parts design.now)) (never_wakes_at (parts design.now))
+    requires scans { AreScans scans.now }
+    requires inside { p.0 < length scans.now.design.now.processes.items }
+    requires writers { let d = parts scans.now.design.now in AreWriters d d.tasks writers.now }
+    ensures { let d = parts scans.now.design.now in
+        OnOk result ((task : Task) → slice_get d.tasks p.0 ≡ Some task
+        → Gets (IsNeverWakes d) (never_wakes_at d)
         (task_sites itself p.0 task) found.old.items found.new.items) }
 {
-    let process = &design.processes[p.0 as usize];
+    let process = &scans.design.processes[p.0 as usize];
     if !has_level_list(&process.does) {
         return Ok(());
     }
-    let wakes = can_wake(alloc, design, writers, p)?;
+    let wakes = can_wake(alloc, scans, writers, p)?;
     if wakes {
         return Ok(());
     }
-    let signal = first_written(alloc, design, p)?;
+    let signal = first_written(alloc, scans.design, p)?;
     found.push(Finding {
         rule: Rule::NeverWakes,
         signal,
@@ -156,13 +159,14 @@ fn push_never(
 
 /// Processes with a list without edges, of which no bit is of a top input or may be written by
 /// another process.
-pub fn never_wakes(alloc: Global, design: &Design) -> Result<Vec<Finding>, Memory>
-    ensures { IfOk result (λ found. AreNeverWakes (parts design.now) found.items) }
+pub fn never_wakes(alloc: Global, scans: &Scans) -> Result<Vec<Finding>, Memory>
+    requires { AreScans scans.now }
+    ensures { IfOk result (λ found. AreNeverWakes (parts scans.now.design.now) found.items) }
 {
-    let writers = Writers::of(alloc, design)?;
+    let writers = Writers::of(alloc, scans)?;
     let mut found = Vec::new(alloc);
-    for number in 0..design.processes.len() {
-        push_never(alloc, design, &writers, ProcId(number as u32), &mut found)?;
+    for number in 0..scans.design.processes.len() {
+        push_never(alloc, scans, &writers, ProcId(number as u32), &mut found)?;
     }
     Ok(found)
 }

@@ -6,4 +6,4 @@ use Rattle.check_sense.proofs.missing.sense_missing.Given as goal
 
 abbrev pub invariant-loop-number : goal.invariant-loop-number
 invariant-loop-number l =
-    AreFindings (IsSenseMissing (parts l.design)) sense_missing_at (sites_below (signal_numbers (parts l.design)) (parts l.design) l.number) l.found.items
+    AreFindings (IsSenseMissing (parts l.scans.design.now)) sense_missing_at (sites_below (signal_numbers (parts l.scans.design.now)) (parts l.scans.design.now) l.number) l.found.items

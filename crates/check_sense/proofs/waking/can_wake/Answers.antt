@@ -9,11 +9,11 @@ use Rattle.check_sense.proofs.waking.can_wake.Goals as goal
 
 pub returns : goal.returns
 returns c = λ t at.
-    let d = parts c.args.design.now in
+    let d = parts c.args.scans.now.design.now in
     let writers = c.args.writers.now in
     let own = c.in_ok-own.own in
-    let rows = c.in_ok-listed.listed.rows.items in
+    let rows = c.listed-listed.result.now.rows.items in
     c.wake_some.ensures
     ∙ ap (λ (signals : List Signal). list_any (row_wakes signals writers own) c.deref-2.result.now) c.deref.ensures.value
     ∙ ap (λ (rows : List Row). list_any (row_wakes d.signals writers own) rows) c.deref-2.ensures.value
-    ∙ can_wake_is d c.args.p.0 t at writers own c.requires.writers (λ s k. c.in_ok-own.ensures s k ∙ c.in_ok-written.ensures.bits t at s k) rows (c.in_ok-listed.ensures.bits t at)
+    ∙ can_wake_is d c.args.p.0 t at writers own c.requires.writers (λ s k. c.in_ok-own.ensures s k ∙ c.written.ensures.bits t at s k) rows (c.listed-listed.ensures.bits t at)

@@ -7,4 +7,4 @@ use Rattle.check_sense.proofs.waking.never_wakes.Given as goal
 
 abbrev pub invariant-loop-number : goal.invariant-loop-number
 invariant-loop-number l =
-    AreFindings (IsNeverWakes (parts l.design)) (never_wakes_at (parts l.design)) (sites_below itself (parts l.design) l.number) l.found.items
+    AreFindings (IsNeverWakes (parts l.scans.design.now)) (never_wakes_at (parts l.scans.design.now)) (sites_below itself (parts l.scans.design.now) l.number) l.found.items

@@ -8,5 +8,5 @@ use Rattle.check_sense.proofs.waking.Writers.of.Goals as goal
 pub loop-number-preserved : goal.loop-number-preserved
 loop-number-preserved c =
     let n = c.loop-number.number in
-    let (t, at) = process_there c.args.design.now n (omega arith) in
-    writers_more (parts c.args.design.now) n t at (has_rows c.in_ok-written.written.rows.items) (c.in_ok-written.ensures.bits t at) c.loop-number.writers c.add.new.self c.loop-number.invariant c.in_ok-add.ensures
+    let (t, at) = process_there c.args.scans.now.design.now n (omega arith) in
+    writers_more (parts c.args.scans.now.design.now) n t at (has_rows c.written.result.now.rows.items) (c.written.ensures.bits t at) c.loop-number.writers c.add.new.self c.loop-number.invariant c.in_ok-add.ensures

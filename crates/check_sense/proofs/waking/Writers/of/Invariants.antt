@@ -4,4 +4,4 @@ use Rattle.check_sense.specs.Telling.{AreWriters}
 use Rattle.check_sense.proofs.waking.Writers.of.Given as goal
 
 abbrev pub invariant-loop-number : goal.invariant-loop-number
-invariant-loop-number l = AreWriters (parts l.design) (take l.number (parts l.design).tasks) l.writers
+invariant-loop-number l = AreWriters (parts l.scans.design.now) (take l.number (parts l.scans.design.now).tasks) l.writers
