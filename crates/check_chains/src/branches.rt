@@ -9,6 +9,7 @@ ghost use Rattle.rtl_flat.specs.Process.{Doing, Task, action, body_of};
 ghost use Rattle.rtl_flat.specs.WellFormed.{IsBody};
 ghost use Rattle.net_model.specs.Cycle as cycle;
 ghost use Rattle.rtl_rule.specs.Parts.{all_of, parts, within};
+ghost use Rattle.check_scans.specs.Scanned.{AreScans};
 ghost use Rattle.check_chains.specs.Chains as spec;
 ghost use Rattle.check_chains.specs.Branches.{AreRegisters, HasBad, has_kept, is_marked};
 ghost use Rattle.check_chains.specs.Views.{guard_view};
@@ -18,13 +19,13 @@ use crate::constants::reset_of;
 use crate::telling::push_if;
 use check_found::sets::written;
 use check_parts::statements::statements_of;
+use check_scans::scans::Scans;
 use rtl_flat::act::{Act, ProcId};
 use rtl_flat::design::Design;
 use rtl_flat::expr::SigId;
 use rtl_rule::finding::Finding;
 use rtl_rule::rule::Rule;
 use rtl_scan::bits::Row;
-use rtl_scan::temporaries;
 use rtl_tree::memory::Memory;
 use std::alloc::Global;
 use std::collections::BTreeSet;
@@ -151,15 +152,15 @@ pub fn has_bad_reset(
 }
 
 /// Processes with a reset that doesn't give each register one constant, or does something else.
-pub fn reset_value(alloc: Global, design: &Design) -> Result<Vec<Finding>, Memory>
-    ensures { IfOk result (λ found. spec.AreResetValue (parts design.now) found.items) }
+pub fn reset_value(alloc: Global, scans: &Scans) -> Result<Vec<Finding>, Memory>
+    requires { AreScans scans.now }
+    ensures { IfOk result (λ found. spec.AreResetValue (parts scans.now.design.now) found.items) }
 {
-    let temporaries = temporaries(alloc, design)?;
     let mut found = Vec::new(alloc);
-    for number in 0..design.processes.len() {
+    for number in 0..scans.design.processes.len() {
         let p = ProcId(number as u32);
-        let broken = has_bad_reset(alloc, design, &temporaries, p)?;
-        push_if(alloc, design, Rule::ResetValue, p, broken, &mut found)?;
+        let broken = has_bad_reset(alloc, scans.design, scans.temporaries(), p)?;
+        push_if(alloc, scans.design, Rule::ResetValue, p, broken, &mut found)?;
     }
     Ok(found)
 }

@@ -7,4 +7,4 @@ use Rattle.check_chains.proofs.branches.reset_value.Given as goal
 
 abbrev pub invariant-loop-number : goal.invariant-loop-number
 invariant-loop-number l =
-    AreFindings (IsResetValue (parts l.design)) (reset_value_at (parts l.design)) (sites_below itself (parts l.design) l.number) l.found.items
+    AreFindings (IsResetValue (parts l.scans.design.now)) (reset_value_at (parts l.scans.design.now)) (sites_below itself (parts l.scans.design.now) l.number) l.found.items
