@@ -7,11 +7,13 @@ ghost use Rattle.net_model.specs.Control.{InCone};
 ghost use Rattle.rtl_flat.specs.Process.{task};
 ghost use Rattle.rtl_rule.specs.Parts.{parts};
 ghost use Rattle.check_found.specs.Gathered.{Gets, signal_numbers, task_sites};
+ghost use Rattle.check_scans.specs.Scanned.{AreScans};
 ghost use Rattle.check_clocks.specs.Clocks.{AreClockAsData, IsClockAsData, clock_as_data_at};
 
 use crate::cone::cone;
 use crate::data::uses_of;
 use crate::firsts::Firsts;
+use check_scans::scans::Scans;
 use rtl_flat::act::Process;
 use rtl_flat::design::Design;
 use rtl_rule::finding::Finding;
@@ -61,10 +63,11 @@ pub(crate) fn findings(
 /// process lists without an edge or reads as data.
 ///
 /// Fails where memory runs out.
-pub fn clock_as_data(alloc: Global, design: &Design) -> Result<Vec<Finding>, Memory>
-    ensures { let d = parts design.now in
-        IfOk result (λ found. AreClockAsData (InCone (flat design.now)) d found.items) }
+pub fn clock_as_data(alloc: Global, scans: &Scans) -> Result<Vec<Finding>, Memory>
+    requires { AreScans scans.now }
+    ensures { let d = parts scans.now.design.now in
+        IfOk result (λ found. AreClockAsData (InCone (flat scans.now.design.now)) d found.items) }
 {
-    let in_cone = cone(alloc, design)?;
-    findings(alloc, design, &in_cone)
+    let in_cone = cone(alloc, scans)?;
+    findings(alloc, scans.design, &in_cone)
 }

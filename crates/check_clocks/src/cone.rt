@@ -6,6 +6,7 @@ ghost use Rattle.rtl_flat.specs.Process.{doing, task, watched};
 ghost use Rattle.event_model.specs.Queue.{flat};
 ghost use Rattle.net_model.specs.Control.{InCone};
 ghost use Rattle.rtl_rule.specs.Parts.{parts};
+ghost use Rattle.check_scans.specs.Scanned.{AreScans};
 ghost use Rattle.check_clocks.specs.Cone.{AreConed, IsSpread, waited, waited_by};
 ghost use Rattle.check_clocks.specs.Tops.{AreMarkedAlso};
 
@@ -13,9 +14,9 @@ use crate::links::rows_of;
 use crate::passed::passing_links;
 use crate::reach::reached;
 use crate::tops::{is_marked, is_top, mark, mark_all};
+use check_scans::scans::Scans;
 use rtl_bits::Edge;
 use rtl_flat::act::{Does, EventItem, Process};
-use rtl_flat::design::Design;
 use rtl_flat::expr::SigId;
 use rtl_tree::memory::Memory;
 use std::alloc::Global;
@@ -91,27 +92,30 @@ fn spread(
 }
 
 /// Marks the control cone: what is reached from the clocks and resets of the top through input ports.
-pub fn cone(alloc: Global, design: &Design) -> Result<Vec<bool>, Memory>
-    ensures length { IfOk result (λ marks. length marks.items ≡ length design.now.signals.items) }
+pub fn cone(alloc: Global, scans: &Scans) -> Result<Vec<bool>, Memory>
+    requires { AreScans scans.now }
+    ensures length { IfOk result (λ marks.
+        length marks.items ≡ length scans.now.design.now.signals.items) }
     ensures each { IfOk result (λ marks. (s : ℕ) →
-        slice_get marks.items s ≡ Some true ↔ InCone (flat design.now) s) }
+        slice_get marks.items s ≡ Some true ↔ InCone (flat scans.now.design.now) s) }
 {
-    let marks = coned(alloc, design)?;
+    let marks = coned(alloc, scans)?;
     Ok(marks)
 }
 
-fn coned(alloc: Global, design: &Design) -> Result<Vec<bool>, Memory>
-    ensures { let d = parts design.now in
+fn coned(alloc: Global, scans: &Scans) -> Result<Vec<bool>, Memory>
+    requires { AreScans scans.now }
+    ensures { let d = parts scans.now.design.now in
         IfOk result (λ marks. AreConed d (length d.signals) marks.items) }
 {
-    let count = design.signals.len();
-    let links = passing_links(alloc, design)?;
+    let count = scans.design.signals.len();
+    let links = passing_links(alloc, scans)?;
     let rows = rows_of(alloc, count, &links)?;
     let mut edges = vec![in alloc; false; count]?;
-    mark_all_waited(&mut edges, &design.processes);
+    mark_all_waited(&mut edges, &scans.design.processes);
     let mut cone = vec![in alloc; false; count]?;
     for top in 0..count {
-        if is_top(design, SigId(top as u32)) {
+        if is_top(scans.design, SigId(top as u32)) {
             spread(alloc, &rows, &edges, top as u32, &mut cone)?;
         }
     }

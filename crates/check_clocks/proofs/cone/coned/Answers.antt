@@ -13,15 +13,15 @@ use Rattle.check_clocks.proofs.cone.coned.Goals.{then-is_top+in_ok-spread, else-
 
 pub loop-top-init : goal.loop-top-init
 loop-top-init c =
-    let d = parts c.args.design.now in
-    let count : c.len-count.result ≡ length d.signals = c.len-count.ensures ∙ c.args.design.now.signals.ok.0 in
+    let d = parts c.args.scans.now.design.now in
+    let count : c.len-count.result ≡ length d.signals = c.len-count.ensures ∙ c.args.scans.now.design.now.signals.ok.0 in
     let none : c.in_ok-cone.cone.items ≡ replicate (length d.signals) false = c.in_ok-cone.ensures.items_if_clones_equal (λ y e. search rules) ∙ ap (λ n. replicate n false) count in
     coned_none d c.in_ok-cone.cone.items none (ap length none ∙ length-replicate (length d.signals) false)
 
 pub loop-top-preserved : goal.loop-top-preserved
 loop-top-preserved c =
-    let d = parts c.args.design.now in
-    let count : c.len-count.result ≡ length d.signals = c.len-count.ensures ∙ c.args.design.now.signals.ok.0 in
+    let d = parts c.args.scans.now.design.now in
+    let count : c.len-count.result ≡ length d.signals = c.len-count.ensures ∙ c.args.scans.now.design.now.signals.ok.0 in
     let links = c.in_ok-links.links.items in
     let rows = c.in_ok-rows.rows.items in
     let are : AreRows (length d.signals) links rows =
@@ -30,7 +30,7 @@ loop-top-preserved c =
     let size = ap length none ∙ length-replicate (length d.signals) false in
     let marks = c.mark_all_waited.new.marks in
     let f = λ (process : Process). waited (doing process.does) in
-    let waits = ap (flat_map f) c.deref-2.ensures.value ∙ waits_of c.args.design.now.processes.items in
+    let waits = ap (flat_map f) c.deref-2.ensures.value ∙ waits_of c.args.scans.now.design.now.processes.items in
     let marked = subst (λ all. AreMarkedAlso all c.in_ok-edges.edges.items marks) waits (subst (λ old. AreMarkedAlso (flat_map f c.deref-2.result.now) old marks) c.deref_mut.ensures.value c.mark_all_waited.ensures) in
     let edges : AreEdgeMarks d marks = edge_marks d c.in_ok-edges.edges.items marks none size marked in
     elim c.if-is_top.branch [

@@ -7,14 +7,14 @@ use Rattle.check_clocks.proofs.passed.passing_links.Goals as goal
 
 pub loop-number-preserved : goal.loop-number-preserved
 loop-number-preserved c =
-    let d = parts c.args.design.now in
+    let d = parts c.args.scans.now.design.now in
     let n = c.loop-number.number in
-    let (task, there) = task_there c.args.design.now n (omega arith) in
+    let (task, there) = task_there c.args.scans.now.design.now n (omega arith) in
     passing_next d n task c.loop-number.links.items c.push_passing.new.links.items there c.loop-number.invariant (c.in_ok-push_passing.ensures task there)
 
 pub returns : goal.returns
 returns c =
-    let d = parts c.args.design.now in
-    let count = task_count c.args.design.now in
+    let d = parts c.args.scans.now.design.now in
+    let count = task_count c.args.scans.now.design.now in
     let same : c.loop-number.number ≡ length d.tasks = omega (arith, count) in
     subst (λ n. ArePassing d n c.loop-number.links.items) same c.loop-number.invariant
