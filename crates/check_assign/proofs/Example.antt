@@ -1,7 +1,7 @@
 -- The definitions at work on small designs.
-use Rattle.std.proofs.Common.{◌≡◌, refl, ℕ, Bool, true, false, Some, None, List, [], ◌∷◌, map, length}
+use Rattle.std.proofs.Common.{◌≡◌, refl, ℕ, Bool, true, false, List, [], ◌∷◌, map, length}
 use Rattle.rtl_bits.specs.declared.Bit.{Bit}
-use Rattle.rtl_bits.specs.declared.Bit.TheVariants.{Zero, One, X, Z}
+use Rattle.rtl_bits.specs.declared.Bit.TheVariants.{Zero, One, Z}
 use Rattle.rtl_bits.specs.declared.Edge.{Edge}
 use Rattle.rtl_bits.specs.declared.Edge.TheVariants.{Pos, Neg}
 use Rattle.rtl_flat.specs.declared.expr.Fold.TheVariants as fold

@@ -1,6 +1,6 @@
 -- What is wrong with assignments and drivers (IEEE 1364.1-2002 sections 5.2, 5.3 and 5.5).
 -- Worked examples: proofs/Example.antt, crates/tests_rows/stdin.
-use Rattle.std.specs.Prelude.{ℕ, suc, ◌≡◌, ◌==◌, nat_lt, Bool, true, false, not, ◌&&◌, List, [], ◌∷◌, ◌++◌, length, map, Option, Some, None}
+use Rattle.std.specs.Prelude.{ℕ, suc, ◌≡◌, nat_lt, Bool, true, false, not, ◌&&◌, List, []}
 use Rattle.std.specs.List.{enumerate_from, filter_map, flat_map, list_any}
 use Rattle.rtl_tree.specs.declared.text.Spot.{Spot}
 use Rattle.rtl_flat.specs.declared.signal.Kind.{Kind}
@@ -13,7 +13,7 @@ use Rattle.rtl_flat.specs.PathSets.{IsTemporary}
 use Rattle.rtl_flat.specs.Process.{Piece, Action, Set, Doing, Assign, Comb, Edge', Task}
 use Rattle.rtl_rule.specs.declared.finding.Finding.{Finding}
 use Rattle.rtl_rule.specs.declared.rule.Rule.TheVariants.{BlockingState, NonblockingComb, MixedAssign, SeveralDrivers, Undriven, CombLoop, LatchInferred, Tristate}
-use Rattle.rtl_rule.specs.Parts.{Parts, At, sites, signal_sites, process_sites, widths, has_some, some_below, first_written, written, number, found, found_at, least_place, agree, statements, spot_if, is_z, has_literal, literal_places}
+use Rattle.rtl_rule.specs.Parts.{Parts, At, signal_sites, process_sites, widths, has_some, first_written, written, number, found, found_at, least_place, agree, statements, spot_if, is_z, has_literal, literal_places}
 use Rattle.rtl_rule.specs.Sites.{AreFindings}
 
 -- ---- what processes are
