@@ -7,13 +7,14 @@ ghost use Rattle.std.specs.BTreeMap.{get};
 ghost use Rattle.rtl_flat.specs.Process.{Task};
 ghost use Rattle.rtl_rule.specs.Parts.{has_some, parts, widths, written};
 ghost use Rattle.rtl_scan.specs.Sets.{has};
+ghost use Rattle.check_scans.specs.Scanned.{AreScans};
 ghost use Rattle.check_assign.specs.Assigned.{AreSeveralDrivers, AreUndriven, IsSeveralDrivers, IsUndriven, is_input, is_written, lower_writes, several_drivers_at, undriven_at};
 ghost use Rattle.check_assign.specs.Marks.{any_row, shares};
 ghost use Rattle.check_found.specs.Gathered.{Gets, signal_numbers, task_sites};
 
 use crate::marks::{Among, Marks};
 use crate::masks::Masks;
-use check_found::sets::written;
+use check_scans::scans::Scans;
 use rtl_flat::act::ProcId;
 use rtl_flat::design::Design;
 use rtl_flat::expr::{Select, SigId};
@@ -44,23 +45,25 @@ fn mark_shared(rows: &[Row], lower: &Masks, spot: Spot, marks: &mut Marks) -> Re
 /// go into the set.
 fn push_shared(
     alloc: Global,
-    design: &Design,
+    scans: &Scans,
     p: ProcId,
     lower: &mut Masks,
     found: &mut Vec<Finding>,
 ) -> Result<(), Memory>
-    requires inside { p.0 < length design.now.processes.items }
-    requires lower { (s k : ℕ) → has lower.old.masks s k ≡ lower_writes (parts design.now) p.0 s k }
-    ensures found { let d = parts design.now in
+    requires scans { AreScans scans.now }
+    requires inside { p.0 < length scans.now.design.now.processes.items }
+    requires lower { let d = parts scans.now.design.now in
+        (s k : ℕ) → has lower.old.masks s k ≡ lower_writes d p.0 s k }
+    ensures found { let d = parts scans.now.design.now in
         OnOk result ((task : Task) → slice_get d.tasks p.0 ≡ Some task →
         Gets (IsSeveralDrivers d) several_drivers_at (task_sites (signal_numbers d) p.0 task)
         found.old.items found.new.items) }
-    ensures lower { let d = parts design.now in
+    ensures lower { let d = parts scans.now.design.now in
         OnOk result ((task : Task) → slice_get d.tasks p.0 ≡ Some task → (s k : ℕ) →
         has lower.new.masks s k ≡ (has lower.old.masks s k || written d task.does s k)) }
 {
-    let process = &design.processes[p.0 as usize];
-    let written = written(alloc, design, p)?;
+    let process = &scans.design.processes[p.0 as usize];
+    let written = scans.written(p);
     let mut marks = Marks::new(alloc);
     mark_shared(&written.rows, lower, process.spot, &mut marks)?;
     marks.push(Rule::SeveralDrivers, process, Among::All, found)?;
@@ -70,36 +73,38 @@ fn push_shared(
 /// Signals with a bit that a process may write and one of a lower number, too.
 ///
 /// Fails where memory runs out.
-pub fn several_drivers(alloc: Global, design: &Design) -> Result<Vec<Finding>, Memory>
-    ensures { IfOk result (λ found. AreSeveralDrivers (parts design.now) found.items) }
+pub fn several_drivers(alloc: Global, scans: &Scans) -> Result<Vec<Finding>, Memory>
+    requires { AreScans scans.now }
+    ensures { IfOk result (λ found. AreSeveralDrivers (parts scans.now.design.now) found.items) }
 {
     let mut found = Vec::new(alloc);
     let mut lower = Masks::new(alloc);
-    for number in 0..design.processes.len() {
-        push_shared(alloc, design, ProcId(number as u32), &mut lower, &mut found)?;
+    for number in 0..scans.design.processes.len() {
+        push_shared(alloc, scans, ProcId(number as u32), &mut lower, &mut found)?;
     }
     Ok(found)
 }
 
 /// Adds the bits that a process may write.
-fn drive(alloc: Global, design: &Design, p: ProcId, driven: &mut Masks) -> Result<(), Memory>
-    requires { p.0 < length design.now.processes.items }
-    ensures { let d = parts design.now in
+fn drive(scans: &Scans, p: ProcId, driven: &mut Masks) -> Result<(), Memory>
+    requires scans { AreScans scans.now }
+    requires there { p.0 < length scans.now.design.now.processes.items }
+    ensures { let d = parts scans.now.design.now in
         OnOk result ((task : Task) → slice_get d.tasks p.0 ≡ Some task → (s k : ℕ) →
         has driven.new.masks s k ≡ (has driven.old.masks s k || written d task.does s k)) }
 {
-    let written = written(alloc, design, p)?;
-    driven.insert_all(&written.rows)
+    driven.insert_all(&scans.written(p).rows)
 }
 
 /// The bits that some process may write.
-fn driven_bits(alloc: Global, design: &Design) -> Result<Masks, Memory>
+fn driven_bits(alloc: Global, scans: &Scans) -> Result<Masks, Memory>
+    requires { AreScans scans.now }
     ensures { IfOk result (λ driven.
-        (s k : ℕ) → has driven.masks s k ≡ is_written (parts design.now) s k) }
+        (s k : ℕ) → has driven.masks s k ≡ is_written (parts scans.now.design.now) s k) }
 {
     let mut driven = Masks::new(alloc);
-    for number in 0..design.processes.len() {
-        drive(alloc, design, ProcId(number as u32), &mut driven)?;
+    for number in 0..scans.design.processes.len() {
+        drive(scans, ProcId(number as u32), &mut driven)?;
     }
     Ok(driven)
 }
@@ -149,14 +154,16 @@ fn push_undriven(
 /// Signals that aren't top inputs and have a bit that no process may write.
 ///
 /// Fails where memory runs out.
-pub fn undriven(alloc: Global, design: &Design) -> Result<Vec<Finding>, Memory>
-    ensures { IfOk result (λ found. AreUndriven (parts design.now) found.items) }
+pub fn undriven(alloc: Global, scans: &Scans) -> Result<Vec<Finding>, Memory>
+    requires { AreScans scans.now }
+    ensures { IfOk result (λ found. AreUndriven (parts scans.now.design.now) found.items) }
 {
-    let driven = driven_bits(alloc, design)?;
+    let driven = driven_bits(alloc, scans)?;
     let mut found = Vec::new(alloc);
-    for number in 0..design.signals.len() {
-        let signal = &design.signals[number];
-        push_undriven(design, signal, SigId(number as u32), &driven, &mut found)?;
+    for number in 0..scans.design.signals.len() {
+        let signal = &scans.design.signals[number];
+        let signal_id = SigId(number as u32);
+        push_undriven(scans.design, signal, signal_id, &driven, &mut found)?;
     }
     Ok(found)
 }

@@ -4,17 +4,18 @@
 ghost use Rattle.std.specs.Prelude.{ℕ, ◌≡◌, IfOk, OnOk};
 ghost use Rattle.rtl_flat.specs.Process.{doing, task};
 ghost use Rattle.rtl_rule.specs.Parts.{parts};
+ghost use Rattle.check_scans.specs.Scanned.{AreScans};
 ghost use Rattle.check_assign.specs.Assigned.{AreBlockingState, AreMixedAssign, AreNonblockingComb, IsBlockingState, IsMixedAssign, IsNonblockingComb, blocking_state_at, is_clocked, is_comb, mixed_assign_at, nonblocking_comb_at};
 ghost use Rattle.check_found.specs.Gathered.{Gets, signal_numbers, task_sites};
 ghost use Rattle.check_assign.specs.Kept.{AreTemporaries};
 
 use crate::marks::Among;
 use crate::targets::first_targets;
+use check_scans::scans::Scans;
 use rtl_flat::act::{Does, Process};
 use rtl_flat::design::Design;
 use rtl_rule::finding::Finding;
 use rtl_rule::rule::Rule;
-use rtl_scan::temporaries;
 use rtl_tree::memory::Memory;
 use std::alloc::Global;
 
@@ -73,13 +74,14 @@ fn push_blocking(
 /// Variables that a clocked body writes by blocking assignments and that aren't temporaries.
 ///
 /// Fails where memory runs out.
-pub fn blocking_state(alloc: Global, design: &Design) -> Result<Vec<Finding>, Memory>
-    ensures { IfOk result (λ found. AreBlockingState (parts design.now) found.items) }
+pub fn blocking_state(alloc: Global, scans: &Scans) -> Result<Vec<Finding>, Memory>
+    requires { AreScans scans.now }
+    ensures { IfOk result (λ found. AreBlockingState (parts scans.now.design.now) found.items) }
 {
-    let temporaries = temporaries(alloc, design)?;
+    let temporaries = scans.temporaries();
     let mut found = Vec::new(alloc);
-    for process in &design.processes {
-        push_blocking(alloc, design, &temporaries, process, &mut found)?;
+    for process in &scans.design.processes {
+        push_blocking(alloc, scans.design, temporaries, process, &mut found)?;
     }
     Ok(found)
 }

@@ -9,21 +9,21 @@ ghost use Rattle.rtl_flat.specs.Paths.{is_sure};
 ghost use Rattle.rtl_flat.specs.Process.{Task};
 ghost use Rattle.rtl_rule.specs.Parts.{parts, widths};
 ghost use Rattle.rtl_scan.specs.Sets.{has};
+ghost use Rattle.check_scans.specs.Scanned.{AreScans};
 ghost use Rattle.check_assign.specs.Assigned.{AreLatchInferred, IsLatchInferred, latch_inferred_at};
-ghost use Rattle.check_assign.specs.Kept.{AreTemporaries};
 ghost use Rattle.check_assign.specs.Marks.{any_row, leaves};
 ghost use Rattle.check_found.specs.Gathered.{Gets, signal_numbers, task_sites};
 
 use crate::kinds::is_comb;
 use crate::marks::{Among, Marks};
 use crate::masks::Masks;
-use check_found::sets::{sure, written};
+use check_found::sets::sure;
+use check_scans::scans::Scans;
 use rtl_flat::act::ProcId;
 use rtl_flat::design::Design;
 use rtl_rule::finding::Finding;
 use rtl_rule::rule::Rule;
 use rtl_scan::bits::Row;
-use rtl_scan::temporaries;
 use rtl_tree::memory::Memory;
 use rtl_tree::text::Spot;
 use std::alloc::Global;
@@ -57,30 +57,28 @@ fn sure_bits(alloc: Global, design: &Design, p: ProcId) -> Result<Masks, Memory>
 
 fn push_latches(
     alloc: Global,
-    design: &Design,
-    temporaries: &[bool],
+    scans: &Scans,
     p: ProcId,
     found: &mut Vec<Finding>,
 ) -> Result<(), Memory>
-    requires inside { p.0 < length design.now.processes.items }
-    requires temporaries { AreTemporaries (parts design.now) temporaries.now }
-    ensures { let d = parts design.now in
+    requires scans { AreScans scans.now }
+    requires inside { p.0 < length scans.now.design.now.processes.items }
+    ensures { let d = parts scans.now.design.now in
         OnOk result ((task : Task) → slice_get d.tasks p.0 ≡ Some task →
         Gets (IsLatchInferred d) latch_inferred_at (task_sites (signal_numbers d) p.0 task)
         found.old.items found.new.items) }
 {
-    let process = &design.processes[p.0 as usize];
+    let process = &scans.design.processes[p.0 as usize];
     if !is_comb(&process.does) {
         return Ok(());
     }
-    let written = written(alloc, design, p)?;
-    let sure = sure_bits(alloc, design, p)?;
+    let sure = sure_bits(alloc, scans.design, p)?;
     let mut marks = Marks::new(alloc);
-    mark_left(&written.rows, &sure, process.spot, &mut marks)?;
+    mark_left(&scans.written(p).rows, &sure, process.spot, &mut marks)?;
     marks.push(
         Rule::LatchInferred,
         process,
-        Among::Kept(temporaries),
+        Among::Kept(scans.temporaries()),
         found,
     )
 }
@@ -89,19 +87,13 @@ fn push_latches(
 /// temporaries.
 ///
 /// Fails where memory runs out.
-pub fn latch_inferred(alloc: Global, design: &Design) -> Result<Vec<Finding>, Memory>
-    ensures { IfOk result (λ found. AreLatchInferred (parts design.now) found.items) }
+pub fn latch_inferred(alloc: Global, scans: &Scans) -> Result<Vec<Finding>, Memory>
+    requires { AreScans scans.now }
+    ensures { IfOk result (λ found. AreLatchInferred (parts scans.now.design.now) found.items) }
 {
-    let temporaries = temporaries(alloc, design)?;
     let mut found = Vec::new(alloc);
-    for number in 0..design.processes.len() {
-        push_latches(
-            alloc,
-            design,
-            &temporaries,
-            ProcId(number as u32),
-            &mut found,
-        )?;
+    for number in 0..scans.design.processes.len() {
+        push_latches(alloc, scans, ProcId(number as u32), &mut found)?;
     }
     Ok(found)
 }

@@ -6,6 +6,7 @@ ghost use Rattle.net_model.specs.Control.{InCone};
 ghost use Rattle.rtl_rule.specs.Parts.{parts};
 ghost use Rattle.check_chains.specs.Chains.{AreAsyncPair, AreResetPolarity, AreResetShape, AreResetValue};
 ghost use Rattle.check_clocks.specs.Clocks.{AreClockAsData, AreDerivedClock};
+ghost use Rattle.check_scans.specs.Scanned.{AreScans};
 ghost use Rattle.check_assign.specs.Findings.{AreAssignFindings};
 ghost use Rattle.check_assign.specs.Lists.{AreAssigned, AreClocked, AreDriven, AreHeld, AreReset, Both};
 
@@ -17,7 +18,7 @@ use crate::loops::comb_loop;
 use check_chains::{async_pair, reset_polarity, reset_shape, reset_value};
 use check_clocks::{clock_as_data, derived_clock};
 use check_found::order::ranked;
-use rtl_flat::design::Design;
+use check_scans::scans::Scans;
 use rtl_rule::finding::Finding;
 use rtl_tree::memory::Memory;
 use std::alloc::Global;
@@ -30,69 +31,76 @@ fn joined(mut found: Vec<Finding>, more: Vec<Finding>) -> Result<Vec<Finding>, M
 }
 
 /// Which kinds of assignments there are.
-fn assigned(alloc: Global, design: &Design) -> Result<Vec<Finding>, Memory>
-    ensures { IfOk result (λ found. AreAssigned (parts design.now) found.items) }
+fn assigned(alloc: Global, scans: &Scans) -> Result<Vec<Finding>, Memory>
+    requires { AreScans scans.now }
+    ensures { IfOk result (λ found. AreAssigned (parts scans.now.design.now) found.items) }
 {
-    let blocking = blocking_state(alloc, design)?;
-    let nonblocking = nonblocking_comb(alloc, design)?;
-    let mixed = mixed_assign(alloc, design)?;
+    let blocking = blocking_state(alloc, scans)?;
+    let nonblocking = nonblocking_comb(alloc, scans.design)?;
+    let mixed = mixed_assign(alloc, scans.design)?;
     let found = joined(blocking, nonblocking)?;
     joined(found, mixed)
 }
 
 /// What drives signals.
-fn driven(alloc: Global, design: &Design) -> Result<Vec<Finding>, Memory>
-    ensures { IfOk result (λ found. AreDriven (parts design.now) found.items) }
+fn driven(alloc: Global, scans: &Scans) -> Result<Vec<Finding>, Memory>
+    requires { AreScans scans.now }
+    ensures { IfOk result (λ found. AreDriven (parts scans.now.design.now) found.items) }
 {
-    let several = several_drivers(alloc, design)?;
-    let none = undriven(alloc, design)?;
-    let looped = comb_loop(alloc, design)?;
+    let several = several_drivers(alloc, scans)?;
+    let none = undriven(alloc, scans)?;
+    let looped = comb_loop(alloc, scans)?;
     let found = joined(several, none)?;
     joined(found, looped)
 }
 
 /// Which signals are clocks.
-fn clocked(alloc: Global, design: &Design) -> Result<Vec<Finding>, Memory>
+fn clocked(alloc: Global, scans: &Scans) -> Result<Vec<Finding>, Memory>
+    requires { AreScans scans.now }
     ensures { IfOk result (λ found.
-        AreClocked (InCone (flat design.now)) (parts design.now) found.items) }
+        AreClocked (InCone (flat scans.now.design.now)) (parts scans.now.design.now) found.items) }
 {
-    let derived = derived_clock(alloc, design)?;
-    let data = clock_as_data(alloc, design)?;
+    let derived = derived_clock(alloc, scans.design)?;
+    let data = clock_as_data(alloc, scans)?;
     joined(derived, data)
 }
 
 /// What keeps its value without a clock, or lets go of it.
-fn held(alloc: Global, design: &Design) -> Result<Vec<Finding>, Memory>
-    ensures { IfOk result (λ found. AreHeld (parts design.now) found.items) }
+fn held(alloc: Global, scans: &Scans) -> Result<Vec<Finding>, Memory>
+    requires { AreScans scans.now }
+    ensures { IfOk result (λ found. AreHeld (parts scans.now.design.now) found.items) }
 {
-    let latches = latch_inferred(alloc, design)?;
-    let literals = tristate(alloc, design)?;
+    let latches = latch_inferred(alloc, scans)?;
+    let literals = tristate(alloc, scans.design)?;
     joined(latches, literals)
 }
 
 /// How clocked processes are reset.
-fn reset(alloc: Global, design: &Design) -> Result<Vec<Finding>, Memory>
-    ensures { IfOk result (λ found. AreReset (parts design.now) found.items) }
+fn reset(alloc: Global, scans: &Scans) -> Result<Vec<Finding>, Memory>
+    requires { AreScans scans.now }
+    ensures { IfOk result (λ found. AreReset (parts scans.now.design.now) found.items) }
 {
-    let shape = reset_shape(alloc, design)?;
-    let polarity = reset_polarity(alloc, design)?;
-    let pair = async_pair(alloc, design)?;
-    let value = reset_value(alloc, design)?;
+    let shape = reset_shape(alloc, scans.design)?;
+    let polarity = reset_polarity(alloc, scans.design)?;
+    let pair = async_pair(alloc, scans.design)?;
+    let value = reset_value(alloc, scans)?;
     let tested = joined(shape, polarity)?;
     let found = joined(tested, pair)?;
     joined(found, value)
 }
 
 /// All but those of what is held and how it is reset.
-fn first_part(alloc: Global, design: &Design) -> Result<Vec<Finding>, Memory>
-    ensures { let d = parts design.now in
+fn first_part(alloc: Global, scans: &Scans) -> Result<Vec<Finding>, Memory>
+    requires { AreScans scans.now }
+    ensures { let d = parts scans.now.design.now in
         IfOk result (λ found.
-        Both (Both (AreAssigned d) (AreDriven d)) (AreClocked (InCone (flat design.now)) d)
+        Both (Both (AreAssigned d) (AreDriven d))
+        (AreClocked (InCone (flat scans.now.design.now)) d)
         found.items) }
 {
-    let assigned = assigned(alloc, design)?;
-    let driven = driven(alloc, design)?;
-    let clocked = clocked(alloc, design)?;
+    let assigned = assigned(alloc, scans)?;
+    let driven = driven(alloc, scans)?;
+    let clocked = clocked(alloc, scans)?;
     let found = joined(assigned, driven)?;
     joined(found, clocked)
 }
@@ -100,13 +108,15 @@ fn first_part(alloc: Global, design: &Design) -> Result<Vec<Finding>, Memory>
 /// All findings about assignments, drivers, clocks and resets, in the order of findings.
 ///
 /// Fails where memory runs out.
-pub fn check(alloc: Global, design: &Design) -> Result<Vec<Finding>, Memory>
-    ensures { IfOk result (λ found.
-        AreAssignFindings (InCone (flat design.now)) (parts design.now) found.items) }
+pub fn check(alloc: Global, scans: &Scans) -> Result<Vec<Finding>, Memory>
+    requires { AreScans scans.now }
+    ensures { let d = parts scans.now.design.now in
+        IfOk result (λ found.
+        AreAssignFindings (InCone (flat scans.now.design.now)) d found.items) }
 {
-    let first = first_part(alloc, design)?;
-    let held = held(alloc, design)?;
-    let reset = reset(alloc, design)?;
+    let first = first_part(alloc, scans)?;
+    let held = held(alloc, scans)?;
+    let reset = reset(alloc, scans)?;
     let early = joined(first, held)?;
     let found = joined(early, reset)?;
     ranked(found)

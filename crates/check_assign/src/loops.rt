@@ -6,10 +6,12 @@ ghost use Rattle.rtl_flat.specs.Process.{Task};
 ghost use Rattle.rtl_rule.specs.Parts.{parts};
 ghost use Rattle.check_found.specs.Gathered.{Gets, task_sites};
 ghost use Rattle.check_graph.specs.Loops.{IsOnLevelCycle};
+ghost use Rattle.check_scans.specs.Scanned.{AreScans};
 ghost use Rattle.check_assign.specs.Assigned.{AreCombLoop, IsCombLoop, comb_loop_at};
 
 use check_found::sets::first_written;
 use check_graph::loops;
+use check_scans::scans::Scans;
 use rtl_flat::act::ProcId;
 use rtl_flat::design::Design;
 use rtl_rule::finding::Finding;
@@ -50,15 +52,16 @@ fn push_loop(
 /// Processes on a cycle of the level graph.
 ///
 /// Fails where memory runs out.
-pub fn comb_loop(alloc: Global, design: &Design) -> Result<Vec<Finding>, Memory>
-    ensures { IfOk result (λ found. AreCombLoop (parts design.now) found.items) }
+pub fn comb_loop(alloc: Global, scans: &Scans) -> Result<Vec<Finding>, Memory>
+    requires { AreScans scans.now }
+    ensures { IfOk result (λ found. AreCombLoop (parts scans.now.design.now) found.items) }
 {
-    let on_cycle = loops(alloc, design)?;
+    let on_cycle = loops(alloc, scans)?;
     let mut found = Vec::new(alloc);
-    for number in 0..design.processes.len() {
+    for number in 0..scans.design.processes.len() {
         push_loop(
             alloc,
-            design,
+            scans.design,
             ProcId(number as u32),
             on_cycle[number],
             &mut found,

@@ -6,15 +6,15 @@ use Rattle.check_assign.proofs.drivers.driven_bits.Goals as goal
 
 pub loop-number-preserved : goal.loop-number-preserved
 loop-number-preserved c = λ s k.
-    let d = parts c.args.design.now in
+    let d = parts c.args.scans.now.design.now in
     let n = c.loop-number.number in
-    let (one, there) = task_of c.args.design.now n (omega arith) in
+    let (one, there) = task_of c.args.scans.now.design.now n (omega arith) in
     c.in_ok-drive.ensures one there s k ∙ ap (λ t. t || written d one.does s k) (c.loop-number.invariant s k)
     ∙ sym (below_next d n one there s k)
 
 pub returns : goal.returns
 returns c = λ s k.
-    let d = parts c.args.design.now in
-    let count = task_count c.args.design.now in
+    let d = parts c.args.scans.now.design.now in
+    let count = task_count c.args.scans.now.design.now in
     let past : length d.tasks ≤ c.loop-number.number = omega arith in
     c.loop-number.invariant s k ∙ below_all d c.loop-number.number past s k

@@ -6,4 +6,4 @@ use Rattle.check_assign.proofs.drivers.driven_bits.Given as goal
 
 abbrev pub invariant-loop-number : goal.invariant-loop-number
 invariant-loop-number l =
-    (s k : ℕ) → has l.driven.masks s k ≡ below_writes (parts l.design) l.number s k
+    (s k : ℕ) → has l.driven.masks s k ≡ below_writes (parts l.scans.design.now) l.number s k

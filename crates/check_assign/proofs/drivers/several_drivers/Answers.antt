@@ -10,23 +10,23 @@ use Rattle.check_assign.proofs.drivers.several_drivers.Goals as goal
 
 pub loop-number-init : goal.loop-number-init
 loop-number-init c =
-    let d = parts c.args.design.now in (
+    let d = parts c.args.scans.now.design.now in (
       subst (λ (fs : List Finding). AreFindings (IsSeveralDrivers d) several_drivers_at (sites_below (signal_numbers d) d 0) fs) (sym c.new-found.ensures.items) (none_below (IsSeveralDrivers d) several_drivers_at (signal_numbers d) d),
       λ s k. c.new-lower.ensures s k ∙ sym (lower_none d s k),
     )
 
 pub loop-number-preserved : goal.loop-number-preserved
 loop-number-preserved c =
-    let d = parts c.args.design.now in
+    let d = parts c.args.scans.now.design.now in
     let n = c.loop-number.number in
-    let (one, there) = task_of c.args.design.now n (omega arith) in (
+    let (one, there) = task_of c.args.scans.now.design.now n (omega arith) in (
       next_below (IsSeveralDrivers d) several_drivers_at (signal_numbers d) d n one c.loop-number.found.items c.push_shared.new.found.items there c.loop-number.invariant.0 (c.in_ok-push_shared.ensures.found one there),
       λ s k. c.in_ok-push_shared.ensures.lower one there s k ∙ ap (λ t. t || written d one.does s k) (c.loop-number.invariant.1 s k) ∙ sym (lower_next d n one there s k),
     )
 
 pub returns : goal.returns
 returns c =
-    let d = parts c.args.design.now in
-    let count = task_count c.args.design.now in
+    let d = parts c.args.scans.now.design.now in
+    let count = task_count c.args.scans.now.design.now in
     let past : length d.tasks ≤ c.loop-number.number = omega arith in
     all_below (IsSeveralDrivers d) several_drivers_at (signal_numbers d) d c.loop-number.number c.loop-number.found.items past c.loop-number.invariant.0

@@ -8,4 +8,4 @@ use Rattle.check_assign.proofs.drivers.several_drivers.Given as goal
 
 abbrev pub invariant-loop-number : goal.invariant-loop-number
 invariant-loop-number l =
-    AreFindings (IsSeveralDrivers (parts l.design)) several_drivers_at (sites_below (signal_numbers (parts l.design)) (parts l.design) l.number) l.found.items × ((s k : ℕ) → has l.lower.masks s k ≡ lower_writes (parts l.design) l.number s k)
+    AreFindings (IsSeveralDrivers (parts l.scans.design.now)) several_drivers_at (sites_below (signal_numbers (parts l.scans.design.now)) (parts l.scans.design.now) l.number) l.found.items × ((s k : ℕ) → has l.lower.masks s k ≡ lower_writes (parts l.scans.design.now) l.number s k)

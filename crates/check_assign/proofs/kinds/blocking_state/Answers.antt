@@ -8,9 +8,9 @@ use Rattle.check_assign.proofs.kinds.blocking_state.Goals as goal
 
 pub loop-process-preserved : goal.loop-process-preserved
 loop-process-preserved c =
-    let d = parts c.args.design.now in
+    let d = parts c.args.scans.now.design.now in
     let n = c.loop-process.process-index in
     let one = c.process-item.result in
     next_below (IsBlockingState d) (blocking_state_at d) (signal_numbers d) d n (task one) c.loop-process.found.items c.push_blocking.new.found.items
-    (task_there c.args.design.now c.deref-process-items.result.now n one c.deref-process-items.ensures.value c.loop-process-test.true c.process-item.is)
+    (task_there c.args.scans.now.design.now c.deref-process-items.result.now n one c.deref-process-items.ensures.value c.loop-process-test.true c.process-item.is)
     c.loop-process.invariant (c.in_ok-push_blocking.ensures n)

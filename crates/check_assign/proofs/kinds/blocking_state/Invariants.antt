@@ -6,4 +6,4 @@ use Rattle.check_assign.proofs.kinds.blocking_state.Given as goal
 
 abbrev pub invariant-loop-process : goal.invariant-loop-process
 invariant-loop-process l =
-    AreFindings (IsBlockingState (parts l.design)) (blocking_state_at (parts l.design)) (sites_below (signal_numbers (parts l.design)) (parts l.design) l.process-index) l.found.items
+    AreFindings (IsBlockingState (parts l.scans.design.now)) (blocking_state_at (parts l.scans.design.now)) (sites_below (signal_numbers (parts l.scans.design.now)) (parts l.scans.design.now) l.process-index) l.found.items

@@ -6,4 +6,4 @@ use Rattle.check_assign.proofs.latches.latch_inferred.Given as goal
 
 abbrev pub invariant-loop-number : goal.invariant-loop-number
 invariant-loop-number l =
-    AreFindings (IsLatchInferred (parts l.design)) latch_inferred_at (sites_below (signal_numbers (parts l.design)) (parts l.design) l.number) l.found.items
+    AreFindings (IsLatchInferred (parts l.scans.design.now)) latch_inferred_at (sites_below (signal_numbers (parts l.scans.design.now)) (parts l.scans.design.now) l.number) l.found.items

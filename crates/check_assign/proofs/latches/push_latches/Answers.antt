@@ -22,10 +22,10 @@ use Rattle.check_assign.proofs.latches.push_latches.Goals as goal
 
 pub returns-then-not-is_comb : goal.returns-then-not-is_comb
 returns-then-not-is_comb c = λ other there.
-    let d = parts c.args.design.now in
+    let d = parts c.args.scans.now.design.now in
     let p = c.args.p.0 in
     let process = c.index-process.result.now in
-    let at = task_at c.args.design.now p process c.requires.inside c.index-process.ensures in
+    let at = task_at c.args.scans.now.design.now p process c.requires.inside c.index-process.ensures in
     let none : is_comb (doing process.does) ≡ false = cc in
     let same : task process ≡ other = cc (at, there) in
     let comb : is_comb other.does ≡ false = ap (λ (t : Task). is_comb t.does) (sym same) ∙ none in
@@ -33,20 +33,20 @@ returns-then-not-is_comb c = λ other there.
 
 pub returns : goal.returns
 returns c =
-    let d = parts c.args.design.now in
+    let d = parts c.args.scans.now.design.now in
     let p = c.args.p.0 in
     let process = c.index-process.result.now in
     let one = task process in
-    let at = task_at c.args.design.now p process c.requires.inside c.index-process.ensures in
+    let at = task_at c.args.scans.now.design.now p process c.requires.inside c.index-process.ensures in
     let comb : is_comb (doing process.does) ≡ true = cc in
-    let rows = c.in_ok-written.written.rows.items in
+    let rows = c.written.result.now.rows.items in
     let masks = c.in_ok-sure.sure.masks in
-    let answers = c.args.temporaries.now in
+    let answers = c.temporaries.result.now in
     on_ok_weaker c.push.result (λ shows other there.
     let same : one ≡ other = cc (at, there) in
     subst (λ (t : Task). Gets (IsLatchInferred d) latch_inferred_at (task_sites (signal_numbers d) p t) c.args.found.now.items c.push.new.found.items) same
     (gets_shown (IsLatchInferred d) latch_inferred_at LatchInferred one.instance d p one (latch_inside d p one) (λ s. cond (not (slice_index_or answers s false)) (get nat_cmp c.mark_left.new.marks.spots s) None)
-    (λ s. latch_tells d p one answers c.requires.temporaries comb s (any_row (leaves masks) rows s) (leaves_some masks (widths d) (written d one.does) (is_sure (flow_of (widths d) one.does)) rows (written_inside (widths d) one.does) (c.in_ok-written.ensures.bits one at) (c.in_ok-sure.ensures one at) s) (get nat_cmp c.mark_left.new.marks.spots s)
+    (λ s. latch_tells d p one answers (record { each = c.temporaries.ensures }) comb s (any_row (leaves masks) rows s) (leaves_some masks (widths d) (written d one.does) (is_sure (flow_of (widths d) one.does)) rows (written_inside (widths d) one.does) (c.written.ensures.bits one at) (c.in_ok-sure.ensures one at) s) (get nat_cmp c.mark_left.new.marks.spots s)
     (c.in_ok-mark_left.ensures s ∙ ap (λ (rs : List Row). cond (any_row (leaves masks) rs s) (Some process.spot) (get nat_cmp c.new-marks.result.spots s)) c.deref.ensures.value ∙ ap (cond (any_row (leaves masks) rows s) (Some process.spot)) (c.new-marks.ensures s)))
     c.args.found.now.items c.push.new.found.items shows))
     c.push.ensures

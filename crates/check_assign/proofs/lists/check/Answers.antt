@@ -10,6 +10,6 @@ pub returns : goal.returns
 returns c =
     let reset = c.in_ok-reset.reset.items in
     IfOk-weaker c.ranked.result _ _ (λ sorted is.
-    together (InCone (flat c.args.design.now)) (parts c.args.design.now) c.in_ok-first.first.items c.in_ok-held.held.items reset c.in_ok-found.found.items sorted.items c.in_ok-first.ensures c.in_ok-held.ensures c.in_ok-reset.ensures
+    together (InCone (flat c.args.scans.now.design.now)) (parts c.args.scans.now.design.now) c.in_ok-first.first.items c.in_ok-held.held.items reset c.in_ok-found.found.items sorted.items c.in_ok-first.ensures c.in_ok-held.ensures c.in_ok-reset.ensures
     (c.in_ok-found.ensures ∙ ap (λ early. early ++ reset) c.in_ok-early.ensures) is)
     c.ranked.ensures

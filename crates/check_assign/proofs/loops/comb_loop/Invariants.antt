@@ -7,4 +7,4 @@ use Rattle.check_assign.proofs.loops.comb_loop.Given as goal
 
 abbrev pub invariant-loop-number : goal.invariant-loop-number
 invariant-loop-number l =
-    AreFindings (IsCombLoop (parts l.design)) (comb_loop_at (parts l.design)) (sites_below (λ does. does ∷ []) (parts l.design) l.number) l.found.items
+    AreFindings (IsCombLoop (parts l.scans.design.now)) (comb_loop_at (parts l.scans.design.now)) (sites_below (λ does. does ∷ []) (parts l.scans.design.now) l.number) l.found.items
