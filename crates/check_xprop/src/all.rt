@@ -2,15 +2,18 @@
 
 ghost use Rattle.std.specs.Prelude.{◌≡◌, IfOk, OnOk};
 ghost use Rattle.rtl_rule.specs.Parts.{parts};
+ghost use Rattle.check_scans.specs.Scanned.{AreScans};
 ghost use Rattle.check_xprop.specs.Parts.{AreOfDropped, AreOfLiterals, AreOfChoices, AreOfOperators};
 ghost use Rattle.check_xprop.specs.Unknowns.{AreUnknownFindings};
 
 use crate::choices::{wild_selector, x_optimism};
 use crate::divisors::divide_variable;
+use crate::doubt::doubtful;
 use crate::dropped::{delay_ignored, initial_ignored, translate_off};
 use crate::expressions::{case_equality, unknown_literal};
 use crate::selects::select_range;
 use check_found::order::ranked;
+use check_scans::scans::Scans;
 use rtl_flat::design::Design;
 use rtl_rule::finding::Finding;
 use rtl_tree::memory::Memory;
@@ -51,11 +54,14 @@ fn push_dropped(alloc: Global, design: &Design, found: &mut Vec<Finding>) -> Res
 }
 
 /// Adds the findings of what may be x.
-fn push_choices(alloc: Global, design: &Design, found: &mut Vec<Finding>) -> Result<(), Memory>
-    ensures { OnOk result (AreOfChoices (parts design.now) found.old.items found.new.items) }
+fn push_choices(alloc: Global, scans: &Scans, found: &mut Vec<Finding>) -> Result<(), Memory>
+    requires { AreScans scans.now }
+    ensures { let d = parts scans.now.design.now in
+        OnOk result (AreOfChoices d found.old.items found.new.items) }
 {
-    let optimism = x_optimism(alloc, design)?;
-    let wild = wild_selector(alloc, design)?;
+    let marks = doubtful(alloc, scans)?;
+    let optimism = x_optimism(alloc, scans.design, &marks)?;
+    let wild = wild_selector(alloc, scans.design, &marks)?;
     found.extend_from_slice(&optimism)?;
     found.extend_from_slice(&wild)?;
     Ok(())
@@ -64,12 +70,13 @@ fn push_choices(alloc: Global, design: &Design, found: &mut Vec<Finding>) -> Res
 /// All findings about x, z and what synthesis ignores, in their order.
 ///
 /// Fails where memory runs out.
-pub fn check(alloc: Global, design: &Design) -> Result<Vec<Finding>, Memory>
-    ensures { IfOk result (λ found. AreUnknownFindings (parts design.now) found.items) }
+pub fn check(alloc: Global, scans: &Scans) -> Result<Vec<Finding>, Memory>
+    requires { AreScans scans.now }
+    ensures { IfOk result (λ found. AreUnknownFindings (parts scans.now.design.now) found.items) }
 {
-    let mut found = of_literals(alloc, design)?;
-    push_operators(alloc, design, &mut found)?;
-    push_dropped(alloc, design, &mut found)?;
-    push_choices(alloc, design, &mut found)?;
+    let mut found = of_literals(alloc, scans.design)?;
+    push_operators(alloc, scans.design, &mut found)?;
+    push_dropped(alloc, scans.design, &mut found)?;
+    push_choices(alloc, scans, &mut found)?;
     ranked(found)
 }

@@ -1,14 +1,13 @@
 // Conditions, selectors, labels and indices that may read x.
 
-ghost use Rattle.std.specs.Prelude.{◌≡◌, ◌<◌, ◌++◌, false, slice_index_or, map, length, Some, IfOk, OnOk};
+ghost use Rattle.std.specs.Prelude.{ℕ, ◌≡◌, ◌<◌, ◌↔◌, ◌++◌, true, false, slice_index_or, map, length, Some, IfOk, OnOk};
 ghost use Rattle.std.specs.List.{flat_map, slice_get};
 ghost use Rattle.rtl_flat.specs.Expression.{tree};
 ghost use Rattle.rtl_flat.specs.Process.{Task, action, piece};
 ghost use Rattle.rtl_rule.specs.Parts.{own_labels, own_trees, parts, widths};
 ghost use Rattle.check_xprop.specs.Doubts.{AreSought, any_meets, choice_spots, choices_found, choices_of, is_plain, meets, own_reads, rule_of, seeks};
-ghost use Rattle.check_xprop.specs.Unknowns.{AreWildSelector, AreXOptimism, choice, index_choice};
+ghost use Rattle.check_xprop.specs.Unknowns.{AreWildSelector, AreXOptimism, IsDoubtful, choice, index_choice};
 
-use crate::doubt::doubtful;
 use crate::places::push_all;
 use check_parts::expressions::{nodes, own_labels, own_trees};
 use check_parts::statements::statements;
@@ -268,32 +267,41 @@ impl Sought {
     }
 
     /// The findings of all processes.
-    fn findings(self, alloc: Global, design: &Design) -> Result<Vec<Finding>, Memory>
+    fn findings(
+        self,
+        alloc: Global,
+        design: &Design,
+        marks: &[bool],
+    ) -> Result<Vec<Finding>, Memory>
+        requires { (s : ℕ) → slice_get marks.now s ≡ Some true ↔ IsDoubtful (parts design.now) s }
         ensures { IfOk result (λ found. AreSought self (parts design.now) found.items) }
     {
-        let marks = doubtful(alloc, design)?;
         let mut found = Vec::new(alloc);
         for p in 0..design.processes.len() {
-            self.push_process(alloc, design, &marks, ProcId(p as u32), &mut found)?;
+            self.push_process(alloc, design, marks, ProcId(p as u32), &mut found)?;
         }
         Ok(found)
     }
 }
 
-/// The conditions, plain cases and indices that may read x after power-up.
+/// The conditions, plain cases and indices that may read x after power-up, as `doubtful` marks
+/// signals.
 ///
 /// Fails where memory runs out.
-pub fn x_optimism(alloc: Global, design: &Design) -> Result<Vec<Finding>, Memory>
+pub fn x_optimism(alloc: Global, design: &Design, marks: &[bool]) -> Result<Vec<Finding>, Memory>
+    requires { (s : ℕ) → slice_get marks.now s ≡ Some true ↔ IsDoubtful (parts design.now) s }
     ensures { IfOk result (λ found. AreXOptimism (parts design.now) found.items) }
 {
-    Sought::Plain.findings(alloc, design)
+    Sought::Plain.findings(alloc, design, marks)
 }
 
-/// The `casez` and `casex` whose selector or labels may read x after power-up.
+/// The `casez` and `casex` whose selector or labels may read x after power-up, as `doubtful` marks
+/// signals.
 ///
 /// Fails where memory runs out.
-pub fn wild_selector(alloc: Global, design: &Design) -> Result<Vec<Finding>, Memory>
+pub fn wild_selector(alloc: Global, design: &Design, marks: &[bool]) -> Result<Vec<Finding>, Memory>
+    requires { (s : ℕ) → slice_get marks.now s ≡ Some true ↔ IsDoubtful (parts design.now) s }
     ensures { IfOk result (λ found. AreWildSelector (parts design.now) found.items) }
 {
-    Sought::Wild.findings(alloc, design)
+    Sought::Wild.findings(alloc, design, marks)
 }

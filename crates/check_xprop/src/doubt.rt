@@ -7,17 +7,17 @@ ghost use Rattle.check_assign.specs.Assigned.{is_clocked};
 ghost use Rattle.rtl_rule.specs.Parts.{parts};
 ghost use Rattle.rtl_scan.specs.Usage.{has_row_of};
 ghost use Rattle.check_chains.specs.Chains.{chain_of, has_chain};
+ghost use Rattle.check_scans.specs.Scanned.{AreScans};
 ghost use Rattle.check_xprop.specs.Spreading.{Among, AreReaders, IsReader, IsStarting, Marks, Notes, Reaches, Visits, bucket, reads, starts};
 ghost use Rattle.check_xprop.specs.Unknowns.{IsDoubtful};
 
 use crate::choices::is_marked;
 use check_chains::chain::chain_of;
-use check_found::sets::{read_outside, written};
+use check_scans::scans::Scans;
 use rtl_flat::act::{Does, ProcId};
 use rtl_flat::design::Design;
 use rtl_flat::expr::SigId;
 use rtl_scan::bits::Row;
-use rtl_scan::temporaries;
 use rtl_tree::memory::Memory;
 use std::alloc::Global;
 
@@ -104,60 +104,57 @@ fn is_clocked(does: &Does) -> bool
 /// Marks the registers of a clocked process that has no asynchronous reset.
 fn start(
     alloc: Global,
-    design: &Design,
+    scans: &Scans,
     p: ProcId,
     temporaries: &[bool],
     spread: &mut Spread,
 ) -> Result<(), Memory>
-    requires { p.0 < length design.now.processes.items }
-    ensures { OnOk result ((task : Task) → slice_get (parts design.now).tasks p.0 ≡ Some task
-        → Marks (starts (parts design.now) temporaries.now task) spread.old spread.new) }
+    requires scans { AreScans scans.now }
+    requires there { p.0 < length scans.now.design.now.processes.items }
+    ensures { let d = parts scans.now.design.now in
+        OnOk result ((task : Task) → slice_get d.tasks p.0 ≡ Some task
+        → Marks (starts d temporaries.now task) spread.old spread.new) }
 {
-    let does = &design.processes[p.0 as usize].does;
+    let does = &scans.design.processes[p.0 as usize].does;
     if !is_clocked(does) {
         return Ok(());
     }
-    if has_reset(alloc, design, does)? {
+    if has_reset(alloc, scans.design, does)? {
         return Ok(());
     }
-    let bits = written(alloc, design, p)?;
-    spread.mark_kept(&bits.rows, temporaries)
+    spread.mark_kept(&scans.written(p).rows, temporaries)
 }
 
 /// Looks at a process that reads what may be x: all that it writes may be x.
-fn visit(
-    alloc: Global,
-    design: &Design,
-    p: ProcId,
-    seen: &mut [bool],
-    spread: &mut Spread,
-) -> Result<(), Memory>
-    requires there { p.0 < length design.now.processes.items }
-    requires seen { length seen.old ≡ length design.now.processes.items }
-    requires reader { IsReader (parts design.now) p.0 }
-    ensures { OnOk result (Visits (parts design.now) p.0 seen.old spread.old seen.new spread.new) }
+fn visit(scans: &Scans, p: ProcId, seen: &mut [bool], spread: &mut Spread) -> Result<(), Memory>
+    requires scans { AreScans scans.now }
+    requires there { p.0 < length scans.now.design.now.processes.items }
+    requires seen { length seen.old ≡ length scans.now.design.now.processes.items }
+    requires reader { IsReader (parts scans.now.design.now) p.0 }
+    ensures { let d = parts scans.now.design.now in
+        OnOk result (Visits d p.0 seen.old spread.old seen.new spread.new) }
 {
     let place = p.0 as usize;
     if seen[place] {
         return Ok(());
     }
     seen[place] = true;
-    let bits = written(alloc, design, p)?;
-    spread.mark_rows(&bits.rows)
+    spread.mark_rows(&scans.written(p).rows)
 }
 
 /// Marks the registers that no asynchronous reset sets.
-fn started(alloc: Global, design: &Design) -> Result<Spread, Memory>
-    ensures { IfOk result (λ spread.
-        IsStarting (parts design.now) (length design.now.processes.items) spread) }
+fn started(alloc: Global, scans: &Scans) -> Result<Spread, Memory>
+    requires { AreScans scans.now }
+    ensures { let count = length scans.now.design.now.processes.items in
+        IfOk result (λ spread. IsStarting (parts scans.now.design.now) count spread) }
 {
-    let temporaries = temporaries(alloc, design)?;
+    let temporaries = scans.temporaries();
     let mut spread = Spread {
-        marked: vec![in alloc; false; design.signals.len()]?,
+        marked: vec![in alloc; false; scans.design.signals.len()]?,
         waiting: Vec::new(alloc),
     };
-    for p in 0..design.processes.len() {
-        start(alloc, design, ProcId(p as u32), &temporaries, &mut spread)?;
+    for p in 0..scans.design.processes.len() {
+        start(alloc, scans, ProcId(p as u32), temporaries, &mut spread)?;
     }
     Ok(spread)
 }
@@ -197,47 +194,45 @@ fn note_rows(table: &mut Vec<Vec<u32>>, rows: &[Row], p: ProcId) -> Result<(), M
 }
 
 /// Puts a process into the rows of the signals that it reads before it has written them.
-fn note_process(
-    alloc: Global,
-    design: &Design,
-    p: ProcId,
-    table: &mut Vec<Vec<u32>>,
-) -> Result<(), Memory>
-    requires { p.0 < length design.now.processes.items }
-    ensures { OnOk result ((task : Task) → slice_get (parts design.now).tasks p.0 ≡ Some task
-        → Notes (reads (parts design.now) task) p.0 table.old.items table.new.items) }
+fn note_process(scans: &Scans, p: ProcId, table: &mut Vec<Vec<u32>>) -> Result<(), Memory>
+    requires scans { AreScans scans.now }
+    requires there { p.0 < length scans.now.design.now.processes.items }
+    ensures { let d = parts scans.now.design.now in
+        OnOk result ((task : Task) → slice_get d.tasks p.0 ≡ Some task
+        → Notes (reads d task) p.0 table.old.items table.new.items) }
 {
-    let bits = read_outside(alloc, design, p)?;
-    note_rows(table, &bits.rows, p)
+    note_rows(table, &scans.read_outside(p).rows, p)
 }
 
 /// The processes that read each signal before they have written it.
-fn readers(alloc: Global, design: &Design) -> Result<Vec<Vec<u32>>, Memory>
-    ensures { IfOk result (λ table.
-        AreReaders (parts design.now) (length design.now.processes.items) table.items) }
+fn readers(alloc: Global, scans: &Scans) -> Result<Vec<Vec<u32>>, Memory>
+    requires { AreScans scans.now }
+    ensures { let count = length scans.now.design.now.processes.items in
+        IfOk result (λ table. AreReaders (parts scans.now.design.now) count table.items) }
 {
-    let mut table = no_readers(alloc, design.signals.len())?;
-    for p in 0..design.processes.len() {
-        note_process(alloc, design, ProcId(p as u32), &mut table)?;
+    let mut table = no_readers(alloc, scans.design.signals.len())?;
+    for p in 0..scans.design.processes.len() {
+        note_process(scans, ProcId(p as u32), &mut table)?;
     }
     Ok(table)
 }
 
 /// Looks at the processes that read a signal which may be x.
 fn visit_all(
-    alloc: Global,
-    design: &Design,
+    scans: &Scans,
     readers: &[u32],
     seen: &mut [bool],
     spread: &mut Spread,
 ) -> Result<(), Memory>
-    requires seen { length seen.old ≡ length design.now.processes.items }
-    requires readers { (p : ℕ) → Among readers.now p → IsReader (parts design.now) p }
-    ensures { OnOk result
-        (Reaches (parts design.now) readers.now seen.old spread.old seen.new spread.new) }
+    requires scans { AreScans scans.now }
+    requires seen { length seen.old ≡ length scans.now.design.now.processes.items }
+    requires readers { let d = parts scans.now.design.now in
+        (p : ℕ) → Among readers.now p → IsReader d p }
+    ensures { let d = parts scans.now.design.now in
+        OnOk result (Reaches d readers.now seen.old spread.old seen.new spread.new) }
 {
     for p in readers {
-        visit(alloc, design, ProcId(*p), seen, spread)?;
+        visit(scans, ProcId(*p), seen, spread)?;
     }
     Ok(())
 }
@@ -246,23 +241,18 @@ fn visit_all(
 /// process may write that reads such a signal before it has written it.
 ///
 /// Fails where memory runs out.
-pub fn doubtful(alloc: Global, design: &Design) -> Result<Vec<bool>, Memory>
+pub fn doubtful(alloc: Global, scans: &Scans) -> Result<Vec<bool>, Memory>
+    requires { AreScans scans.now }
     ensures length { IfOk result (λ answers. length answers.items
-        ≡ length design.now.signals.items) }
+        ≡ length scans.now.design.now.signals.items) }
     ensures each { IfOk result (λ answers. (s : ℕ) → slice_get answers.items s
-        ≡ Some true ↔ IsDoubtful (parts design.now) s) }
+        ≡ Some true ↔ IsDoubtful (parts scans.now.design.now) s) }
 {
-    let readers = readers(alloc, design)?;
-    let mut seen = vec![in alloc; false; design.processes.len()]?;
-    let mut spread = started(alloc, design)?;
+    let readers = readers(alloc, scans)?;
+    let mut seen = vec![in alloc; false; scans.design.processes.len()]?;
+    let mut spread = started(alloc, scans)?;
     while let Some(signal) = spread.waiting.pop() {
-        visit_all(
-            alloc,
-            design,
-            &readers[signal as usize],
-            &mut seen,
-            &mut spread,
-        )?;
+        visit_all(scans, &readers[signal as usize], &mut seen, &mut spread)?;
     }
     Ok(spread.marked)
 }

@@ -5,8 +5,8 @@ use Rattle.check_xprop.proofs.doubt.doubtful.Given as goal
 
 abbrev pub invariant-loop-signal : goal.invariant-loop-signal
 invariant-loop-signal l =
-    IsSpreading (parts l.design) (length l.design.signals.items) l.seen.items l.spread
-    × (length l.seen.items ≡ length l.design.processes.items)
+    IsSpreading (parts l.scans.design.now) (length l.scans.design.now.signals.items) l.seen.items l.spread
+    × (length l.seen.items ≡ length l.scans.design.now.processes.items)
 
 abbrev pub decreases-loop-signal : goal.decreases-loop-signal
 decreases-loop-signal l = left l.spread.marked.items + length l.spread.waiting.items

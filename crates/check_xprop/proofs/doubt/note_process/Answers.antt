@@ -9,7 +9,7 @@ use Rattle.check_xprop.proofs.doubt.note_process.Goals as goal
 
 pub returns : goal.returns
 returns c =
-    let d = parts c.args.design.now in
+    let d = parts c.args.scans.now.design.now in
     on_ok_weaker c.note_rows.result
-    (λ h. λ task there. notes_as (has_row_of c.deref.result.now) (reads d task) c.args.p.0 c.args.table.now.items c.note_rows.new.table.items (λ s. reads_are d task c.in_ok-bits.bits.rows.items (c.in_ok-bits.ensures.bits task there) c.in_ok-bits.ensures.order s ∙ ap (λ (rows : List Row). has_row_of rows s) (sym c.deref.ensures.value)) h)
+    (λ h. λ task there. notes_as (has_row_of c.deref.result.now) (reads d task) c.args.p.0 c.args.table.now.items c.note_rows.new.table.items (λ s. reads_are d task c.read_outside.result.now.rows.items (c.read_outside.ensures.bits task there) c.read_outside.ensures.order s ∙ ap (λ (rows : List Row). has_row_of rows s) (sym c.deref.ensures.value)) h)
     c.note_rows.ensures

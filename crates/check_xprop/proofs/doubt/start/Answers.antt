@@ -14,13 +14,13 @@ use Rattle.check_xprop.proofs.doubt.start.Goals as goal
 
 pub returns : goal.returns
 returns c =
-    let d = parts c.args.design.now in
+    let d = parts c.args.scans.now.design.now in
     let one = c.index.result.now in
     let temporaries = c.args.temporaries.now in
     let rows = c.deref.result.now in
     on_ok_weaker c.mark_kept.result
     (λ h. λ other there.
-    let same = same_task c.args.design.now.processes.items c.args.p.0 one c.requires c.index.ensures other there in
+    let same = same_task c.args.scans.now.design.now.processes.items c.args.p.0 one c.requires.there c.index.ensures other there in
     let clocked : is_clocked other.does ≡ true
     = ap (λ (t : Task). is_clocked t.does) (sym same) ∙ sym c.is_clocked.ensures ∙ c.if-not-is_clocked.false in
     let free : has_chain (λ chain. nat_lt 0 (length chain.resets)) (chain_of d other.does) ≡ false
@@ -29,6 +29,6 @@ returns c =
     (λ s.
     ap (λ b. (b && not (has_chain (λ chain. nat_lt 0 (length chain.resets)) (chain_of d other.does))) && (writes d other s && not (get_or temporaries s false))) clocked
     ∙ ap (λ b. not b && (writes d other s && not (get_or temporaries s false))) free
-    ∙ ap (λ b. b && not (get_or temporaries s false)) (writes_are d other c.in_ok-bits.bits.rows.items (c.in_ok-bits.ensures.bits other there) c.in_ok-bits.ensures.order s ∙ ap (λ (rs : List Row). has_row_of rs s) (sym c.deref.ensures.value)))
+    ∙ ap (λ b. b && not (get_or temporaries s false)) (writes_are d other c.written.result.now.rows.items (c.written.ensures.bits other there) c.written.ensures.order s ∙ ap (λ (rs : List Row). has_row_of rs s) (sym c.deref.ensures.value)))
     h)
     c.mark_kept.ensures

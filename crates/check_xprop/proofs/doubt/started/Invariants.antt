@@ -3,4 +3,4 @@ use Rattle.check_xprop.specs.Spreading.{IsStarting}
 use Rattle.check_xprop.proofs.doubt.started.Given as goal
 
 abbrev pub invariant-loop-p : goal.invariant-loop-p
-invariant-loop-p l = IsStarting (parts l.design) l.p l.spread
+invariant-loop-p l = IsStarting (parts l.scans.design.now) l.p l.spread

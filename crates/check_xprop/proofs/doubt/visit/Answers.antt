@@ -9,9 +9,9 @@ use Rattle.check_xprop.proofs.doubt.visit.Goals as goal
 
 pub returns : goal.returns
 returns c =
-    let d = parts c.args.design.now in
+    let d = parts c.args.scans.now.design.now in
     let inside : c.args.p.0 < length c.args.seen.now = omega (arith, c.requires.there, c.requires.seen) in
     on_ok_weaker c.mark_rows.result
     (λ h. visited d c.args.p.0 c.args.seen.now c.args.spread.now c.mark_rows.new.self c.requires.reader inside
-    (λ task there. marks_as (has_row_of c.deref.result.now) (writes d task) c.args.spread.now c.mark_rows.new.self (λ s. writes_are d task c.in_ok-bits.bits.rows.items (c.in_ok-bits.ensures.bits task there) c.in_ok-bits.ensures.order s ∙ ap (λ (rows : List Row). has_row_of rows s) (sym c.deref.ensures.value)) h))
+    (λ task there. marks_as (has_row_of c.deref.result.now) (writes d task) c.args.spread.now c.mark_rows.new.self (λ s. writes_are d task c.written.result.now.rows.items (c.written.ensures.bits task there) c.written.ensures.order s ∙ ap (λ (rows : List Row). has_row_of rows s) (sym c.deref.ensures.value)) h))
     c.mark_rows.ensures

@@ -4,7 +4,7 @@ use Rattle.check_xprop.proofs.doubt.visit_all.Goals as goal
 
 pub visit-requires-clause-there : goal.visit-requires-clause-there
 visit-requires-clause-there c =
-    reader_there c.args.design.now _
+    reader_there c.args.scans.now.design.now _
     (c.requires.readers _ (among_at c.args.readers.now c.loop-p.p-index _ c.loop-p-test.true))
 
 pub visit-requires-clause-reader : goal.visit-requires-clause-reader
@@ -13,4 +13,4 @@ visit-requires-clause-reader c =
 
 pub loop-p-preserved : goal.loop-p-preserved
 loop-p-preserved c =
-    reaches_more (parts c.args.design.now) c.args.readers.now c.loop-p.p-index _ c.loop-p-test.true c.args.seen.now c.args.spread.now c.loop-p.seen c.loop-p.spread c.visit.new.seen c.visit.new.spread c.loop-p.invariant c.in_ok-visit.ensures
+    reaches_more (parts c.args.scans.now.design.now) c.args.readers.now c.loop-p.p-index _ c.loop-p-test.true c.args.seen.now c.args.spread.now c.loop-p.seen c.loop-p.spread c.visit.new.seen c.visit.new.spread c.loop-p.invariant c.in_ok-visit.ensures

@@ -5,4 +5,4 @@ use Rattle.check_xprop.proofs.doubt.visit_all.Given as goal
 
 abbrev pub invariant-loop-p : goal.invariant-loop-p
 invariant-loop-p l =
-    Reaches (parts l.design) (take l.p-index l.readers) l.fn.seen l.fn.spread l.seen l.spread
+    Reaches (parts l.scans.design.now) (take l.p-index l.readers) l.fn.seen l.fn.spread l.seen l.spread

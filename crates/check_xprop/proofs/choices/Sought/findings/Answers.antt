@@ -1,8 +1,7 @@
-use Rattle.std.proofs.Common.{◌≡◌, ◌∙◌, ◌++◌, ◌<◌, Bool, List, ap, length, map, arith}
+use Rattle.std.proofs.Common.{◌≡◌, ◌<◌, length, map, arith}
 use Rattle.rtl_flat.specs.Process.{task}
 use Rattle.rtl_rule.specs.Parts.{parts}
 use Rattle.rtl_scan.proofs.Processes.{length-tasks}
-use Rattle.check_xprop.specs.Doubts.{choices_found, choices_of, rule_of}
 use Rattle.check_xprop.proofs.Lists.{below_more}
 use Rattle.check_xprop.proofs.Doubts.{choices_all}
 use Rattle.check_xprop.proofs.Processes.{slice_there}
@@ -22,11 +21,11 @@ loop-p-preserved c =
     let inside : c.loop-p.p < length (map task processes.items)
     = omega (arith, count, c.loop-p-test.true, c.len-p-end.ensures, processes.ok.0) in
     let (one, there) = slice_there (map task processes.items) c.loop-p.p inside in
-    below_more _ (map task processes.items) c.loop-p.p one c.loop-p.found.items c.push_process.new.found.items there c.loop-p.invariant (c.in_ok-push_process.ensures one there ∙ ap (λ (ms : List Bool). c.loop-p.found.items ++ choices_found (rule_of c.args.self) (choices_of c.args.self) (parts c.args.design.now) ms one) c.deref.ensures.value)
+    below_more _ (map task processes.items) c.loop-p.p one c.loop-p.found.items c.push_process.new.found.items there c.loop-p.invariant (c.in_ok-push_process.ensures one there)
 
 pub returns : goal.returns
 returns c =
     let d = parts c.args.design.now in
     let processes = c.args.design.now.processes in
     let count = length-tasks processes.items in
-    choices_all c.args.self d c.in_ok-marks.marks.items c.in_ok-marks.ensures.each c.loop-p.p (let e : c.loop-p.p ≡ length d.tasks = omega (arith, count, c.loop-p-test.false, c.loop-p.auto.p-end, c.len-p-end.ensures, processes.ok.0) in e) c.loop-p.found.items c.loop-p.invariant
+    choices_all c.args.self d c.args.marks.now c.requires c.loop-p.p (let e : c.loop-p.p ≡ length d.tasks = omega (arith, count, c.loop-p-test.false, c.loop-p.auto.p-end, c.len-p-end.ensures, processes.ok.0) in e) c.loop-p.found.items c.loop-p.invariant

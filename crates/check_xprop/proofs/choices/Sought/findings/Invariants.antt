@@ -7,4 +7,4 @@ use Rattle.check_xprop.proofs.choices.Sought.findings.Given as goal
 
 abbrev pub invariant-loop-p : goal.invariant-loop-p
 invariant-loop-p l =
-    l.found.items ≡ below (λ p one. choices_found (rule_of l.self) (choices_of l.self) (parts l.design) l.marks.items one) 0 (map task l.design.processes.items) l.p
+    l.found.items ≡ below (λ p one. choices_found (rule_of l.self) (choices_of l.self) (parts l.design) l.marks one) 0 (map task l.design.processes.items) l.p
