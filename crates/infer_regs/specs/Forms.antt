@@ -1,7 +1,6 @@
 -- What a process that waits for edges is to inference, and the inputs that are clocks or resets (IEEE 1364.1-2002 section
 -- 5.2.2).
 use Rattle.std.specs.Prelude.{◌≡◌, ◌⊎◌, ◌↔◌, ℕ, List, [], ◌∷◌, map, Some}
-
 use Rattle.rtl_flat.specs.Process.{Watched, Task, watched}
 use Rattle.event_model.specs.Queue.{Flat}
 use Rattle.net_model.specs.Control.{IsControl}
