@@ -10,6 +10,7 @@ use check_clocks::links::rows_of;
 use check_clocks::passed::passing_links;
 use check_clocks::reach::reached;
 use check_clocks::tops::is_top;
+use check_scans::scans::Scans;
 use rtl_flat::design::Design;
 use rtl_flat::expr::SigId;
 use rtl_tree::memory::Memory;
@@ -36,7 +37,8 @@ pub fn controls(alloc: Global, design: &Design) -> Result<Vec<SigId>, Memory>
     ensures { IfOk result (λ found. AreControls (flat design.now) (map (λ one. one.0) found.items)) }
 {
     let count = design.signals.len();
-    let links = passing_links(alloc, design)?;
+    let scans = Scans::of(alloc, design)?;
+    let links = passing_links(alloc, &scans)?;
     let rows = rows_of(alloc, count, &links)?;
     let mut edges = vec![in alloc; false; count]?;
     mark_all_waited(&mut edges, &design.processes);

@@ -6,7 +6,7 @@ use Rattle.rtl_flat.specs.declared.act.Process.{Process}
 use Rattle.rtl_flat.specs.declared.expr.SigId.{SigId}
 use Rattle.rtl_flat.specs.Process.{doing}
 use Rattle.rtl_rule.specs.Parts.{parts}
-use Rattle.check_clocks.specs.Cone.{AreEdgeMarks, ReachesMarked, waited}
+use Rattle.check_clocks.specs.Cone.{AreEdgeMarks, ArePassing, ReachesMarked, waited}
 use Rattle.check_clocks.specs.Links.{AreRows}
 use Rattle.check_clocks.specs.Tops.{AreMarkedAlso}
 use Rattle.check_clocks.proofs.Coned.{edge_marks, waits_of, written}
@@ -20,6 +20,7 @@ loop-number-preserved c =
     let d = parts c.args.design.now in
     let count : c.len-count.result ≡ length d.signals = c.len-count.ensures ∙ c.args.design.now.signals.ok.0 in
     let links = c.in_ok-links.links.items in
+    let passing = subst (λ d. ArePassing (parts d) (length (parts d).tasks) links) c.in_ok-scans.ensures.design c.in_ok-links.ensures in
     let rows = c.in_ok-rows.rows.items in
     let are : AreRows (length d.signals) links rows =
     subst (λ n. AreRows n links rows) count (subst (λ l. AreRows c.len-count.result l rows) c.deref.ensures.value c.in_ok-rows.ensures) in
@@ -39,7 +40,7 @@ loop-number-preserved c =
           let b = w.in_ok-reaches_marked.field-0 in
           let by_rows = subst (λ l. b ≡ true ↔ ReachesMarked l w.deref-then-is_top-2.result.now n) w.deref-then-is_top.ensures.value w.in_ok-reaches_marked.ensures in
           let reach : b ≡ true ↔ ReachesMarked rows marks n = subst (λ l. b ≡ true ↔ ReachesMarked rows l n) (w.deref-then-is_top-2.ensures.value ∙ whole) by_rows in
-          let control = control_is d links rows are c.in_ok-links.ensures marks edges n (sym c.is_top.ensures ∙ w.if-is_top.true) (reach.0 w.if-branch.true) in
+          let control = control_is d links rows are passing marks edges n (sym c.is_top.ensures ∙ w.if-is_top.true) (reach.0 w.if-branch.true) in
           subst (λ (v : _). AreBelow d (n + 1) (map name v.items)) (sym w.found-is)
           (push_one d n (map name old) (map name w.push.new.self.items) c.loop-number.invariant control (ap (map name) w.in_ok-push.ensures.items ∙ map-append name old (record { 0 = n } ∷ [])))
       | else-is_top w ↦
@@ -49,7 +50,7 @@ loop-number-preserved c =
                 let b = v.in_ok-reaches_marked.field-0 in
                 let by_rows = subst (λ l. b ≡ true ↔ ReachesMarked l v.deref-then-is_top-2.result.now n) v.deref-then-is_top.ensures.value v.in_ok-reaches_marked.ensures in
                 let reach : b ≡ true ↔ ReachesMarked rows marks n = subst (λ l. b ≡ true ↔ ReachesMarked rows l n) (v.deref-then-is_top-2.ensures.value ∙ whole) by_rows in
-                pass_one d n (map name old) c.loop-number.invariant (λ is. refuted b reach v.if-branch.false (control_reaches d links rows are c.in_ok-links.ensures marks edges n is))
+                pass_one d n (map name old) c.loop-number.invariant (λ is. refuted b reach v.if-branch.false (control_reaches d links rows are passing marks edges n is))
             | else-is_top-via-else-is_top v ↦
                 pass_one d n (map name old) c.loop-number.invariant (no_top d n (sym c.is_top.ensures ∙ v.if-is_top.false))
           ])
