@@ -13,6 +13,7 @@ ghost use Rattle.check_all.specs.Findings.{AreAllFindings, IsClean, has_first_gr
 
 use crate::promise::vouch;
 use check_found::order::merged;
+use check_scans::scans::Scans;
 use rtl_flat::design::Design;
 use rtl_rule::finding::{Finding, Ruling};
 use rtl_rule::rule::first_grade;
@@ -58,10 +59,11 @@ pub fn rule(alloc: Global, design: &Design) -> Result<Ruling, Memory>
 fn all_findings(alloc: Global, design: &Design) -> Result<Vec<Finding>, Memory>
     ensures { IfOk result (λ all. AreAllFindings (parts design.now) all.items) }
 {
-    let sense = check_sense::check(alloc, design)?;
-    let assigned = check_assign::check(alloc, design)?;
+    let scans = Scans::of(alloc, design)?;
+    let sense = check_sense::check(alloc, &scans)?;
+    let assigned = check_assign::check(alloc, &scans)?;
     let cases = check_case::check(alloc, design)?;
-    let unknown = check_xprop::check(alloc, design)?;
+    let unknown = check_xprop::check(alloc, &scans)?;
     let two = merged(alloc, &sense, &assigned)?;
     let three = merged(alloc, &two, &cases)?;
     merged(alloc, &three, &unknown)
