@@ -11,10 +11,7 @@ use Rattle.rtl_bits.proofs.Lists.{tabulate-congr}
 use Rattle.rtl_flat.specs.Value.{store, widths}
 use Rattle.net_model.specs.Block.{Maps, begun, bit_after}
 use Rattle.net_body.specs.declared.mark.Mark.{Mark}
-use Rattle.rtl_bits.specs.Inside.{length-tabulate}
-use Rattle.rtl_flat.specs.declared.signal.Signal.{Signal}
-use Rattle.rtl_flat.specs.Signs.{width_in}
-use Rattle.net_body.specs.Marks.{AreKept, HaveMarks, maps, next_bit, seen}
+use Rattle.net_body.specs.Marks.{maps, next_bit, seen}
 use Rattle.net_body.proofs.Seen.{same_maps, seen_other, seen_read, seen_same}
 
 pub unwrap_pick : (h : Bool) (x y : Bit) → cond h x y ≡ unwrap_or (cond h (Some x) None) y
@@ -41,12 +38,6 @@ pub seen_past : {A B : Type 0} → (f : B → A) (none : A) (xs : List B) (i : �
 seen_past f none [] i past = refl
 seen_past f none (x ∷ xs) zero past = absurd (omega (arith, past))
 seen_past f none (x ∷ xs) (suc i) past = seen_past f none xs i (omega (arith, past))
-
--- past the end there is nothing
-pub settled_past : (numbers new : List (List Bit)) (marks : List Mark) (i : ℕ) → length numbers ≤ i → store new i ≡ store numbers i → store new i ≡ tabulate (widths numbers i) (λ k. bit_after (maps numbers marks) i k)
-settled_past numbers new marks i past same =
-    let empty = store_past numbers i past in
-    same ∙ empty ∙ sym (ap (λ (a : List Bit). tabulate (length a) (λ k. bit_after (maps numbers marks) i k)) empty)
 
 -- one more of a list, where each place has a fact
 pub set_more : {A : Type 0} (P : ℕ → A → Type 0) (f : ℕ → A) (g : ℕ → A) (place : ℕ) (a : A) → ((i : ℕ) → i < place → P i (f i)) → g place ≡ a → P place a → ((i : ℕ) → i ≢ place → g i ≡ f i) → (i : ℕ) → i < place + 1 → P i (g i)
@@ -83,16 +74,6 @@ pub clear_with : (numbers new : List (List Bit)) (marks : List Mark) → maps nu
 clear_with numbers new marks clear =
     same_maps (maps new marks) (begun (store new)) refl
     (ap (λ (m : Maps). m.next) clear) (ap (λ (m : Maps). m.wrote) clear) (ap (λ (m : Maps). m.late) clear)
-
-pub kept_settled : (signals : List Signal) (numbers new : List (List Bit)) (marks marks' : List Mark) (f : ℕ → ℕ → Bit) → AreKept signals numbers marks → length new ≡ length numbers → length marks' ≡ length marks → ((i : ℕ) → store new i ≡ tabulate (widths numbers i) (f i)) → HaveMarks new marks' → AreKept signals new marks'
-kept_settled signals numbers new marks marks' f kept count same settled have =
-    let each : (i : ℕ) → width_in signals i ≡ widths new i = λ i. kept.each i ∙ sym (ap length (settled i) ∙ length-tabulate (widths numbers i) (f i)) in
-    record {
-      stored = kept.stored ∙ sym count;
-      marked = kept.marked ∙ sym same;
-      each = each;
-      next = λ i. each i ∙ have i;
-    }
 
 -- a vector whose slice was written is that slice
 pub kept_front : {A : Type 0} (n : ℕ) (xs ys : List A) → n ≡ length xs → take n (xs ++ ys) ≡ xs

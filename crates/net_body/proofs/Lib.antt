@@ -1,6 +1,8 @@
+pub mod Changed
 pub mod Choosing
 pub mod Depths
 pub mod Driving
+pub mod Ended
 pub mod Ending
 pub mod Filled
 pub mod Making
@@ -13,3 +15,4 @@ pub mod Seen
 pub mod Sides
 pub mod Siding
 pub mod Targets
+pub mod Untouched

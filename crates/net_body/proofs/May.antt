@@ -24,7 +24,7 @@ use Rattle.net_body.proofs.Seen.{same_maps, seen_kept, seen_other, seen_read, se
 
 -- ---- masks
 
-may_other : (ws : ℕ → ℕ) (signal : ℕ) (selection : Selection) (s k : ℕ) → s ≢ signal → may_select ws signal selection s k ≡ false
+pub may_other : (ws : ℕ → ℕ) (signal : ℕ) (selection : Selection) (s k : ℕ) → s ≢ signal → may_select ws signal selection s k ≡ false
 may_other ws signal Whole s k apart =
     ap (λ b. b && (nat_le 0 k && (nat_lt k (ws signal) && nat_lt k (ws signal)))) (ne_eqb s signal apart)
 may_other ws signal (BitAt low index) s k apart =

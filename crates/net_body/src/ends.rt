@@ -1,48 +1,205 @@
-//! The end of a body: what nonblocking assignments gave becomes the digits.
+//! The end of a body: what nonblocking assignments gave becomes the digits. Only signals that its
+//! targets name are looked at, since of all others it wrote nothing.
 
-ghost use Rattle.std.specs.Prelude.{ℕ, ◌≡◌, None, false, length};
-ghost use Rattle.rtl_bits.specs.Bits.{is_one_at, tabulate};
-ghost use Rattle.rtl_flat.specs.Value.{store, widths};
-ghost use Rattle.net_model.specs.Block.{begun, bit_after};
-ghost use Rattle.net_body.specs.Marks.{HaveMarks, maps, next_bit, seen};
+ghost use Rattle.std.specs.Prelude.{◌≡◌, ◌<◌, length, map, true};
+ghost use Rattle.std.specs.List.{All};
+ghost use Rattle.rtl_flat.specs.Process.{action, body_of, piece};
+ghost use Rattle.rtl_flat.specs.Value.{store};
+ghost use Rattle.rtl_flat.specs.WellFormed.{IsAction, IsBody, IsOtherwise};
+ghost use Rattle.rtl_scan.specs.Bodies.{branches_of, other_of};
+ghost use Rattle.net_body.specs.Bodies.{AreBodies};
+ghost use Rattle.net_body.specs.Ends.{AreBeside, ended, ended_one, ending};
+ghost use Rattle.net_body.specs.Marks.{AreKept};
+ghost use Rattle.net_body.specs.Named.{branch_named, named, named_of, other_named, target_named};
 
 use crate::bits::merged;
 use crate::mark::Mark;
 use rtl_bits::Vec4;
+use rtl_flat::act::{Act, CaseItem, TargetPart};
+use rtl_flat::expr::SigId;
+use rtl_flat::signal::Signal;
 
-/// Gives each bit its digit at the end.
-fn settle_numbers(numbers: &mut [Vec4], marks: &[Mark])
-    requires marks { length marks.now ≡ length numbers.old }
-    requires widths { HaveMarks numbers.old marks.now }
-    ensures { (i : ℕ) → store numbers.new i ≡ tabulate (widths numbers.old i) (λ k. bit_after (maps numbers.old marks.now) i k) }
+/// Gives a signal its digits at the end. Where these are put aside, it has those from before again.
+fn end_one(
+    signals: &[Signal],
+    signal: SigId,
+    aside: bool,
+    before: &[Vec4],
+    numbers: &mut [Vec4],
+    marks: &mut [Mark],
+    after: &mut [Vec4],
+)
+    requires there { signal.0 < length signals.now }
+    requires kept { AreKept signals.now numbers.old marks.old }
+    requires beside { aside ≡ true → AreBeside signals.now before.now after.old }
+    ensures ends { ending numbers.new marks.new after.new
+        ≡ ended_one aside (store before.now) (ending numbers.old marks.old after.old) signal.0 }
+    ensures kept { AreKept signals.now numbers.new marks.new }
+    ensures beside { aside ≡ true → AreBeside signals.now before.now after.new }
 {
-    for place in 0..marks.len() {
-        let mark = marks[place];
-        let number = numbers[place];
-        numbers[place] = merged(mark.has_next, mark.next, number);
+    let place = signal.0 as usize;
+    let mark = marks[place];
+    let number = numbers[place];
+    let ran = merged(mark.has_next, mark.next, number);
+    marks[place] = Mark::clear(mark.next);
+    if aside {
+        let old = before[place];
+        let kept = after[place];
+        after[place] = kept.xor(old.xor(ran));
+        numbers[place] = old;
+    } else {
+        numbers[place] = ran;
     }
 }
 
-/// Forgets what was written.
-fn clear_marks(marks: &mut [Mark])
-    ensures next { (i k : ℕ) → seen next_bit (λ j. None) marks.new i k ≡ None }
-    ensures wrote { (i k : ℕ) → seen (λ mark. is_one_at mark.wrote) (λ j. false) marks.new i k ≡ false }
-    ensures late { (i k : ℕ) → seen (λ mark. is_one_at mark.late) (λ j. false) marks.new i k ≡ false }
-    ensures widths { (i : ℕ) → seen (λ mark. length mark.next) 0 marks.new i ≡ seen (λ mark. length mark.next) 0 marks.old i }
+/// Ends the signals of a target.
+fn end_parts(
+    signals: &[Signal],
+    parts: &[TargetPart],
+    aside: bool,
+    before: &[Vec4],
+    numbers: &mut [Vec4],
+    marks: &mut [Mark],
+    after: &mut [Vec4],
+)
+    requires there { All (λ part. part.signal.0 < length signals.now) parts.now }
+    requires kept { AreKept signals.now numbers.old marks.old }
+    requires beside { aside ≡ true → AreBeside signals.now before.now after.old }
+    ensures ends { ending numbers.new marks.new after.new
+        ≡ ended aside (store before.now) (ending numbers.old marks.old after.old)
+        (target_named (map piece parts.now)) }
+    ensures kept { AreKept signals.now numbers.new marks.new }
+    ensures beside { aside ≡ true → AreBeside signals.now before.now after.new }
 {
-    for place in 0..marks.len() {
-        marks[place] = Mark::clear(marks[place].next);
+    for part in parts {
+        end_one(signals, part.signal, aside, before, numbers, marks, after);
     }
 }
 
-/// Ends a body.
-pub(crate) fn settle(numbers: &mut [Vec4], marks: &mut [Mark])
-    requires marks { length marks.old ≡ length numbers.old }
-    requires widths { HaveMarks numbers.old marks.old }
-    ensures numbers { (i : ℕ) → store numbers.new i ≡ tabulate (widths numbers.old i) (λ k. bit_after (maps numbers.old marks.old) i k) }
-    ensures clear { maps numbers.new marks.new ≡ begun (store numbers.new) }
-    ensures widths { HaveMarks numbers.new marks.new }
+/// Ends the signals that targets of statements name.
+#[cycle(ends)]
+pub(crate) fn end_all(
+    signals: &[Signal],
+    acts: &[Act],
+    aside: bool,
+    before: &[Vec4],
+    numbers: &mut [Vec4],
+    marks: &mut [Mark],
+    after: &mut [Vec4],
+)
+    requires body { IsBody signals.now (body_of (map action acts.now)) }
+    requires kept { AreKept signals.now numbers.old marks.old }
+    requires beside { aside ≡ true → AreBeside signals.now before.now after.old }
+    ensures ends { ending numbers.new marks.new after.new
+        ≡ ended aside (store before.now) (ending numbers.old marks.old after.old)
+        (named_of (body_of (map action acts.now))) }
+    ensures kept { AreKept signals.now numbers.new marks.new }
+    ensures beside { aside ≡ true → AreBeside signals.now before.now after.new }
 {
-    settle_numbers(numbers, marks);
-    clear_marks(marks);
+    for act in acts {
+        end_act(signals, act, aside, before, numbers, marks, after);
+    }
+}
+
+/// Ends the signals that targets of a statement name.
+#[cycle(ends)]
+fn end_act(
+    signals: &[Signal],
+    act: &Act,
+    aside: bool,
+    before: &[Vec4],
+    numbers: &mut [Vec4],
+    marks: &mut [Mark],
+    after: &mut [Vec4],
+)
+    requires act { IsAction signals.now (action act.now) }
+    requires kept { AreKept signals.now numbers.old marks.old }
+    requires beside { aside ≡ true → AreBeside signals.now before.now after.old }
+    ensures ends { ending numbers.new marks.new after.new
+        ≡ ended aside (store before.now) (ending numbers.old marks.old after.old)
+        (named (action act.now)) }
+    ensures kept { AreKept signals.now numbers.new marks.new }
+    ensures beside { aside ≡ true → AreBeside signals.now before.now after.new }
+{
+    match act {
+        Act::Set {
+            target,
+            value: _,
+            delayed: _,
+            spot: _,
+        } => end_parts(signals, &target.parts, aside, before, numbers, marks, after),
+        Act::If {
+            test: _,
+            yes,
+            no,
+            spot: _,
+        } => {
+            end_other(signals, no, aside, before, numbers, marks, after);
+            end_all(signals, yes, aside, before, numbers, marks, after);
+        }
+        Act::Case {
+            kind: _,
+            full: _,
+            parallel: _,
+            selector: _,
+            items,
+            fallback,
+            spot: _,
+        } => {
+            end_other(signals, fallback, aside, before, numbers, marks, after);
+            end_items(signals, items, aside, before, numbers, marks, after);
+        }
+        Act::Block(body) => end_all(signals, body, aside, before, numbers, marks, after),
+    }
+}
+
+/// Ends the signals that a body names which may be left out.
+#[cycle(ends)]
+fn end_other(
+    signals: &[Signal],
+    body: &Option<Vec<Act>>,
+    aside: bool,
+    before: &[Vec4],
+    numbers: &mut [Vec4],
+    marks: &mut [Mark],
+    after: &mut [Vec4],
+)
+    requires body { IsOtherwise signals.now (other_of body.now) }
+    requires kept { AreKept signals.now numbers.old marks.old }
+    requires beside { aside ≡ true → AreBeside signals.now before.now after.old }
+    ensures ends { ending numbers.new marks.new after.new
+        ≡ ended aside (store before.now) (ending numbers.old marks.old after.old)
+        (other_named (other_of body.now)) }
+    ensures kept { AreKept signals.now numbers.new marks.new }
+    ensures beside { aside ≡ true → AreBeside signals.now before.now after.new }
+{
+    match body {
+        Some(body) => end_all(signals, body, aside, before, numbers, marks, after),
+        None => {}
+    }
+}
+
+/// Ends the signals that the items of a case name.
+#[cycle(ends)]
+fn end_items(
+    signals: &[Signal],
+    items: &[CaseItem],
+    aside: bool,
+    before: &[Vec4],
+    numbers: &mut [Vec4],
+    marks: &mut [Mark],
+    after: &mut [Vec4],
+)
+    requires bodies { AreBodies signals.now (branches_of items.now) }
+    requires kept { AreKept signals.now numbers.old marks.old }
+    requires beside { aside ≡ true → AreBeside signals.now before.now after.old }
+    ensures ends { ending numbers.new marks.new after.new
+        ≡ ended aside (store before.now) (ending numbers.old marks.old after.old)
+        (branch_named (branches_of items.now)) }
+    ensures kept { AreKept signals.now numbers.new marks.new }
+    ensures beside { aside ≡ true → AreBeside signals.now before.now after.new }
+{
+    for item in items {
+        end_all(signals, &item.body, aside, before, numbers, marks, after);
+    }
 }

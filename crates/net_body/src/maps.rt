@@ -9,9 +9,11 @@ ghost use Rattle.rtl_flat.specs.Process.{Assign, action, body_of, doing, piece};
 ghost use Rattle.rtl_flat.specs.Signs.{width_in};
 ghost use Rattle.rtl_flat.specs.Value.{store};
 ghost use Rattle.rtl_flat.specs.WellFormed.{IsBody, IsProcess, process_statements};
+ghost use Rattle.event_model.specs.Queue.{flat};
 ghost use Rattle.event_model.specs.Writes.{driven, put};
 ghost use Rattle.net_model.specs.Block.{begun, block_bit};
-ghost use Rattle.net_model.specs.Numbers.{bit, digits};
+ghost use Rattle.net_model.specs.Numbers.{AreNumbers, bit, digits};
+ghost use Rattle.net_body.specs.Ends.{changed};
 ghost use Rattle.net_body.specs.Levels.{levels_of, process_levels};
 ghost use Rattle.net_body.specs.Marks.{AreKept, AreStored, HaveMarks, maps, next_bit, seen};
 ghost use Rattle.net_body.specs.Ready.{HasRoom, IsReady};
@@ -19,7 +21,7 @@ ghost use Rattle.net_body.specs.Ready.{HasRoom, IsReady};
 use crate::arms::Aside;
 use crate::choices::evaluate;
 use crate::drives::connect;
-use crate::ends::settle;
+use crate::ends::end_all;
 use crate::entries::Entry;
 use crate::mark::Mark;
 use crate::rooms::process_depth;
@@ -91,7 +93,43 @@ fn run_body(
     ensures clear { maps numbers.new marks.new ≡ begun (store numbers.new) }
 {
     run_all(design, body, fill, numbers, marks, entries, room);
-    settle(numbers, marks);
+    end_all(&design.signals, body, false, &[], numbers, marks, &mut []);
+}
+
+/// Runs a body, puts aside what it changed, and goes back to the digits from before.
+fn run_beside(
+    design: &Design,
+    body: &[Act],
+    fill: Fill,
+    before: &[Vec4],
+    numbers: &mut [Vec4],
+    marks: &mut [Mark],
+    after: &mut [Vec4],
+    entries: &mut [Entry],
+    room: &mut [Aside],
+)
+    requires body { IsBody design.now.signals.items (body_of (map action body.now)) }
+    requires kept { AreKept design.now.signals.items numbers.old marks.old }
+    requires clear { maps numbers.old marks.old ≡ begun (store numbers.old) }
+    requires entries { 128 ≤ length entries.old }
+    requires room { levels_of (body_of (map action body.now)) * length design.now.signals.items
+        ≤ length room.old }
+    requires same { (i : ℕ) → store numbers.old i ≡ store before.now i }
+    requires many { length before.now ≡ length design.now.signals.items }
+    requires many_after { length after.old ≡ length design.now.signals.items }
+    requires before { AreNumbers (flat design.now) (store before.now) }
+    requires after { AreNumbers (flat design.now) (store after.old) }
+    ensures after { let ws = width_in design.now.signals.items in
+        let old = store before.now in
+        let body = body_of (map action body.now) in
+        (i : ℕ) → store after.new i
+        ≡ changed (old i) (tabulate (ws i) (block_bit ws fill old body i)) (store after.old i) }
+    ensures numbers { (i : ℕ) → store numbers.new i ≡ store before.now i }
+    ensures kept { AreKept design.now.signals.items numbers.new marks.new }
+    ensures clear { maps numbers.new marks.new ≡ begun (store numbers.new) }
+{
+    run_all(design, body, fill, numbers, marks, entries, room);
+    end_all(&design.signals, body, true, before, numbers, marks, after);
 }
 
 impl<'d> Maps<'d> {
@@ -180,6 +218,40 @@ impl<'d> Maps<'d> {
             fill,
             &mut self.numbers,
             &mut self.marks,
+            &mut self.entries,
+            &mut self.room,
+        );
+    }
+
+    /// Runs a body from the digits before, puts aside what it changed of them, and goes back to
+    /// them. It takes no memory.
+    pub fn run_aside(&mut self, body: &[Act], fill: Fill, before: &[Vec4], after: &mut [Vec4])
+        requires ready { IsReady self.old }
+        requires body { IsBody self.old.design.now.signals.items (body_of (map action body.now)) }
+        requires room { HasRoom self.old (body_of (map action body.now)) }
+        requires same { (i : ℕ) → store self.old.numbers.items i ≡ store before.now i }
+        requires many { length before.now ≡ length self.old.design.now.signals.items }
+        requires many_after { length after.old ≡ length self.old.design.now.signals.items }
+        requires before { AreNumbers (flat self.old.design.now) (store before.now) }
+        requires after { AreNumbers (flat self.old.design.now) (store after.old) }
+        ensures after { let ws = width_in self.old.design.now.signals.items in
+            let old = store before.now in
+            let body = body_of (map action body.now) in
+            (i : ℕ) → store after.new i
+            ≡ changed (old i) (tabulate (ws i) (block_bit ws fill old body i)) (store after.old i) }
+        ensures numbers { (i : ℕ) → store self.new.numbers.items i ≡ store before.now i }
+        ensures ready { IsReady self.new }
+        ensures design { self.new.design ≡ self.old.design }
+        ensures room { length self.new.room.items ≡ length self.old.room.items }
+    {
+        run_beside(
+            self.design,
+            body,
+            fill,
+            before,
+            &mut self.numbers,
+            &mut self.marks,
+            after,
             &mut self.entries,
             &mut self.room,
         );

@@ -1,5 +1,4 @@
 pub mod Bridges
-pub mod Changed
 pub mod Put
 pub mod Steps
 pub mod Chosen

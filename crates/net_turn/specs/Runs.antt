@@ -4,8 +4,7 @@ use Rattle.std.specs.Prelude.{◌≡◌, ◌≢◌, ◌⊎◌, ℕ, ◌<◌, Boo
 use Rattle.std.specs.List.{slice_get}
 use Rattle.std.specs.Option.{IsSomeAnd}
 use Rattle.rtl_bits.specs.declared.Bit.{Bit}
-use Rattle.rtl_bits.specs.Bit.{xor_bit}
-use Rattle.rtl_bits.specs.Bits.{same_bit, zip_with}
+use Rattle.rtl_bits.specs.Bits.{same_bit}
 use Rattle.rtl_flat.specs.declared.act.Act.{Act}
 use Rattle.rtl_flat.specs.declared.expr.SigId.{SigId}
 use Rattle.rtl_flat.specs.Flows.{body_flow}
@@ -92,10 +91,6 @@ runs_of old new all = map (run_from old new) all
 
 abbrev pub run_at : List Run → ℕ → Run
 run_at runs t = slice_index_or runs t (record { process = 0; body = None })
-
--- digits where those that a run changed are as it made them
-abbrev pub changed : List Bit → List Bit → List Bit → List Bit
-changed old ran after = zip_with xor_bit after (zip_with xor_bit old ran)
 
 -- runs of several processes, each of which writes its own bits alone
 pub record AreRuns (d : Flat) (runs : List Run) : Type 0 where

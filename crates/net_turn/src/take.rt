@@ -1,15 +1,15 @@
 //! What processes that wait for edges give to their bits, all from the numbers before.
 
-ghost use Rattle.std.specs.Prelude.{ℕ, ◌≡◌, ◌<◌, length};
+ghost use Rattle.std.specs.Prelude.{ℕ, ◌≡◌, length};
 ghost use Rattle.std.specs.List.{All};
 ghost use Rattle.rtl_bits.specs.Bits.{tabulate};
 ghost use Rattle.rtl_flat.specs.Value.{store};
 ghost use Rattle.event_model.specs.Queue.{flat, widths};
-ghost use Rattle.event_model.specs.Writes.{put};
 ghost use Rattle.net_model.specs.Numbers.{AreNumbers};
+ghost use Rattle.net_body.specs.Ends.{changed};
 ghost use Rattle.net_solve.specs.Laws.{AreApart};
 ghost use Rattle.net_work.specs.Work.{IsAble};
-ghost use Rattle.net_turn.specs.Runs.{ArePut, AreRuns, changed, run_bit, run_of, runs_of, turned};
+ghost use Rattle.net_turn.specs.Runs.{ArePut, AreRuns, run_bit, run_of, runs_of, turned};
 ghost use Rattle.net_turn.specs.Sources.{CanRun};
 
 use crate::choice::chosen;
@@ -19,47 +19,6 @@ use net_list::clocked::Clocked;
 use net_model::fill::Fill;
 use rtl_bits::Vec4;
 use rtl_flat::expr::SigId;
-
-/// Puts aside the digits of a signal that a run changed, and gives it the old ones back.
-fn put_one(maps: &mut Maps, before: &[Vec4], after: &mut [Vec4], place: usize)
-    requires able { IsAble maps.old }
-    requires inside { place < length maps.old.design.now.signals.items }
-    requires many { length before.now ≡ length maps.old.design.now.signals.items }
-    requires many_after { length after.old ≡ length maps.old.design.now.signals.items }
-    requires before { AreNumbers (flat maps.old.design.now) (store before.now) }
-    requires after { AreNumbers (flat maps.old.design.now) (store after.old) }
-    ensures numbers { store maps.new.numbers.items
-        ≡ put (store maps.old.numbers.items) place (store before.now place) }
-    ensures after { store after.new
-        ≡ put (store after.old) place (changed (store before.now place)
-        (store maps.old.numbers.items place) (store after.old place)) }
-    ensures able { IsAble maps.new }
-    ensures design { maps.new.design ≡ maps.old.design }
-{
-    let old = before[place];
-    let ran = maps.numbers[place];
-    let kept = after[place];
-    after[place] = kept.xor(old.xor(ran));
-    maps.set(SigId(place as u32), old);
-}
-
-/// Puts aside all digits that a run changed, and goes back to the old ones.
-fn put_aside(maps: &mut Maps, before: &[Vec4], after: &mut [Vec4])
-    requires able { IsAble maps.old }
-    requires many { length before.now ≡ length maps.old.design.now.signals.items }
-    requires many_after { length after.old ≡ length maps.old.design.now.signals.items }
-    requires before { AreNumbers (flat maps.old.design.now) (store before.now) }
-    requires after { AreNumbers (flat maps.old.design.now) (store after.old) }
-    ensures numbers { (i : ℕ) → store maps.new.numbers.items i ≡ store before.now i }
-    ensures after { (i : ℕ) → store after.new i
-        ≡ changed (store before.now i) (store maps.old.numbers.items i) (store after.old i) }
-    ensures able { IsAble maps.new }
-    ensures design { maps.new.design ≡ maps.old.design }
-{
-    for place in 0..before.len() {
-        put_one(maps, before, after, place);
-    }
-}
 
 /// Runs what one process does, if anything, from the old numbers.
 fn take_one(
@@ -88,8 +47,7 @@ fn take_one(
     ensures design { maps.new.design ≡ maps.old.design }
 {
     if let Some(body) = chosen(one, before, turn) {
-        maps.run(body, fill);
-        put_aside(maps, before, after);
+        maps.run_aside(body, fill, before, after);
     }
 }
 
