@@ -28,8 +28,10 @@ use Rattle.net_rest.proofs.Numbers.{past_ends}
 use Rattle.net_solve.specs.Laws.{AreApart}
 use Rattle.net_solve.proofs.Same.{its_target}
 use Rattle.net_work.proofs.Stays.{block_stays}
-use Rattle.net_turn.specs.Runs.{ArePut, AreRuns, Run, changed, run_at, run_bit}
-use Rattle.net_turn.proofs.Changed.{changed_at, changed_length, xor_known, xor_left, xor_taken}
+use Rattle.net_body.specs.Ends.{changed}
+use Rattle.net_body.proofs.Changed.{changed_at, xor_left, xor_taken}
+use Rattle.net_body.proofs.Ended.{changed_number}
+use Rattle.net_turn.specs.Runs.{ArePut, AreRuns, Run, run_at, run_bit}
 
 -- ---- numbers
 
@@ -48,22 +50,6 @@ put_numbers d n i bits are wide known = record {
 
 pub bit_known : (d : Flat) (n : Values) → AreNumbers d n → (i k : ℕ) → k < widths d i → KnownBit (bit n i k)
 bit_known d n are i k inside = let size = are.wide i in known_at (n i) k (are.known i) (omega (arith, inside, size))
-
--- what a run changed of a signal
-pub changed_number : (w : ℕ) (old ran after : List Bit) → length old ≡ w → length ran ≡ w → length after ≡ w → Known old → Known ran → Known after → (length (changed old ran after) ≡ w) × Known (changed old ran after)
-changed_number w old ran after wide wide' wide'' known known' known'' =
-    let size = changed_length old ran after (wide' ∙ sym wide) (wide'' ∙ sym wide) in (
-      size ∙ wide'',
-      known_each (changed old ran after) (λ k below.
-          let inside : k < length after = omega (arith, below, size) in
-          ap is_unknown (changed_at old ran after k inside (wide' ∙ sym wide) (wide'' ∙ sym wide))
-          ∙ xor_known (get_or after k X) (xor_bit (get_or old k X) (get_or ran k X)) (known_at after k known'' inside)
-          (xor_known (get_or old k X) (get_or ran k X) (known_at old k known (omega (arith, inside, wide, wide''))) (known_at ran k known' (omega (arith, inside, wide', wide''))))),
-    )
-
--- what holds of a body holds of the one that runs
-pub of_some : (P : Actions → Type 0) (body : Actions) → P body → (other : Actions) → Some body ≡ Some other → P other
-of_some P body h other e = let same : body ≡ other = cc in subst P same h
 
 -- ---- bits of processes
 
@@ -113,12 +99,6 @@ module _ (d : Flat) (f : Fill) (old : Values) (are : AreNumbers d old) where
         let size = ran_wide i in
         let inside : k < ws i = omega (arith, below, size) in
         ap is_unknown (ran_at i k inside) ∙ run_known i k inside)
-
-    pub ran_numbers : (n : Values) → ((i : ℕ) → n i ≡ ran i) → AreNumbers d n
-    ran_numbers n is = record {
-      wide = λ i. ap length (is i) ∙ ran_wide i;
-      known = λ i. ap has_unknown (is i) ∙ ran_known i;
-    }
 
     module _ (after new : Values) (have : AreNumbers d after) (is : (i : ℕ) → new i ≡ changed (old i) (ran i) (after i)) where
       pub new_numbers : AreNumbers d new

@@ -18,11 +18,6 @@ done_more old new goal place x is fact before i below =
       | inr other ↦ ap (λ g. g i) is ∙ (put_other old place i x other ∙ before i (omega (arith, below, other)))
     ]
 
--- all behind it are as they were
-pub left_more : {A : Type 0} (old new goal : ℕ → A) (place : ℕ) (x : A) → new ≡ put old place x → ((i : ℕ) → place ≤ i → old i ≡ goal i) → (i : ℕ) → place + 1 ≤ i → new i ≡ goal i
-left_more old new goal place x is behind i past =
-    ap (λ g. g i) is ∙ (put_other old place i x (λ same. absurd (omega (arith, past, same))) ∙ behind i (omega (arith, past)))
-
 past_signals : (signals : List Signal) (i : ℕ) → length signals ≤ i → width_in signals i ≡ 0
 past_signals [] i past = refl
 past_signals (s ∷ signals) zero past = absurd (omega (arith, past))

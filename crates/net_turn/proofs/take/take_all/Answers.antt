@@ -8,7 +8,8 @@ use Rattle.event_model.specs.Queue.{flat, widths}
 use Rattle.net_model.specs.Numbers.{AreNumbers}
 use Rattle.net_list.specs.declared.clocked.Clocked.{Clocked}
 use Rattle.net_work.proofs.Lawful.{lawful_flat}
-use Rattle.net_turn.specs.Runs.{Run, changed, run_at, run_bit, run_from, run_of, runs_of, turned}
+use Rattle.net_body.specs.Ends.{changed}
+use Rattle.net_turn.specs.Runs.{Run, run_at, run_bit, run_from, run_of, runs_of, turned}
 use Rattle.net_turn.specs.Sources.{CanRun}
 use Rattle.net_turn.proofs.Chosen.{run_part}
 use Rattle.net_turn.proofs.Put.{more_put, new_numbers}
