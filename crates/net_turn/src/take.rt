@@ -36,8 +36,7 @@ fn take_one(
     requires many_after { length after.old ≡ length maps.old.design.now.signals.items }
     requires before { AreNumbers (flat maps.old.design.now) (store before.now) }
     requires after { AreNumbers (flat maps.old.design.now) (store after.old) }
-    ensures after {
-        let d = flat maps.old.design.now in
+    ensures after { let d = flat maps.old.design.now in
         let old = store before.now in
         let run = run_of old (turned old turn.now) one.now in
         (i : ℕ) → store after.new i
@@ -66,8 +65,7 @@ fn take_all(
     requires same { (i : ℕ) → store maps.old.numbers.items i ≡ store before.now i }
     requires many { length before.now ≡ length maps.old.design.now.signals.items }
     requires begun { after.old ≡ before.now }
-    ensures put {
-        let d = flat maps.old.design.now in
+    ensures put { let d = flat maps.old.design.now in
         let old = store before.now in
         let runs = runs_of old (turned old turn.now) clocked.now in
         AreRuns d runs → ArePut d fill old runs (length runs) (store after.new) }
@@ -108,8 +106,7 @@ pub(crate) fn take(
     requires apart { AreApart (flat maps.old.design.now) }
     requires many { length before.old ≡ length maps.old.design.now.signals.items }
     requires many_after { length after.old ≡ length maps.old.design.now.signals.items }
-    ensures put {
-        let d = flat maps.old.design.now in
+    ensures put { let d = flat maps.old.design.now in
         let old = store maps.old.numbers.items in
         let runs = runs_of old (turned old turn.now) clocked.now in
         AreRuns d runs → ArePut d fill old runs (length runs) (store maps.new.numbers.items) }
