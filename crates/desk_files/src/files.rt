@@ -94,9 +94,8 @@ impl Files {
 
     /// A copy of a name and a text, and room for one file more. The files stay.
     pub fn ready(&mut self, name: &[u8], text: &[u8]) -> Result<Ready, Memory>
-        ensures file {
-            IfOk result (λ ready. (ready.file.name ≡ name.now) × (ready.file.text ≡ text.now))
-        }
+        ensures file { IfOk result (λ ready. (ready.file.name ≡ name.now)
+            × (ready.file.text ≡ text.now)) }
         ensures room { OnOk result (1 ≤ room self.new) }
         ensures same { list_of self.new ≡ list_of self.old }
     {

@@ -6,10 +6,10 @@ ghost use Rattle.desk_tables.specs.Rules.{is_file_letter, is_file_name};
 ghost use Rattle.desk_http.specs.Aims.{aim_of, file_at, top_at, waiver_at, waiver_named};
 ghost use Rattle.desk_http.specs.Gives.{Gives};
 
-use crate::label::is_word;
-use desk_numbers::{is_plain, number_up_to};
-use crate::route::Action;
 use crate::BadRequest;
+use crate::label::is_word;
+use crate::route::Action;
+use desk_numbers::{is_plain, number_up_to};
 use desk_requests::Ask;
 use desk_tables::{MAX_FILE_NAME_BYTES, WaiverId};
 use percent_encoding::percent_decode;

@@ -59,9 +59,8 @@ impl<'a> Head<'a> {
 
     // The value of the first header line of this name.
     pub(crate) fn value(&self, name: &[u8]) -> Option<&'a [u8]>
-        ensures {
-            option_map (λ value. value.now) result ≡ first_named name.now (heard self.now).lines
-        }
+        ensures { option_map (λ value. value.now) result
+            ≡ first_named name.now (heard self.now).lines }
     {
         first_named(name, self.bytes, self.spans())
     }
@@ -89,9 +88,8 @@ fn served<'a>(bytes: &[u8], head: Head<'a>) -> HeadState<'a>
 // What is answered where the bytes begin with no head: there may be one where more can come.
 fn unfinished<'a>(bytes: &[u8]) -> HeadState<'a>
     requires now { HasNoHead bytes.now }
-    requires later {
-        MAX_HEAD_BYTES ≤ length bytes.now → (more : List ℕ) → HasNoHead (bytes.now ++ more)
-    }
+    requires later { MAX_HEAD_BYTES ≤ length bytes.now →
+        (more : List ℕ) → HasNoHead (bytes.now ++ more) }
     ensures { IsStateOf bytes.now result }
 {
     if bytes.len() < MAX_HEAD_BYTES {

@@ -33,9 +33,8 @@ pub(crate) fn first_named<'a>(
     bytes: &'a [u8],
     lines: &[HeaderSpan],
 ) -> Option<&'a [u8]>
-    ensures {
-        option_map (λ value. value.now) result ≡ first_named name.now (lines_at bytes.now lines.now)
-    }
+    ensures { option_map (λ value. value.now) result
+        ≡ first_named name.now (lines_at bytes.now lines.now) }
 {
     for line in lines {
         if is_same_name(covered(bytes, line.name), name) {

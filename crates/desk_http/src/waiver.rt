@@ -4,9 +4,9 @@ ghost use Rattle.serde_json.specs.View.{view};
 ghost use Rattle.desk_http.specs.Gives.{Gives, or_malformed};
 ghost use Rattle.desk_http.specs.Waivers.{is_fit, member_count, text_at, texts, texts_of, texts_under, waiver_by, waiver_in, waiver_of, waiver_with};
 
+use crate::BadRequest;
 use crate::label::{is_label, is_word};
 use crate::place::is_place;
-use crate::BadRequest;
 use desk_dates::day_of_text;
 use desk_requests::WaiverAsk;
 use desk_tables::Name;

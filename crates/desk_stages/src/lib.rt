@@ -15,7 +15,8 @@ pub const MOST_STAGES: u32 = 1000;
 pub const TOP: &str = "top";
 
 // The lines before the stages.
-const HEAD: &[u8] = b"module top(input clk, rst_n, input [31:0] d, output [31:0] q);\nwire [31:0] s0;\nassign s0 = d;\n";
+const HEAD: &[u8] =
+    b"module top(input clk, rst_n, input [31:0] d, output [31:0] q);\nwire [31:0] s0;\nassign s0 = d;\n";
 
 // What stands between the names of a register in its declaration and in its block.
 const BLOCK: &[u8] = b";\nalways @(posedge clk or negedge rst_n) if (!rst_n) s";

@@ -47,8 +47,7 @@ pub fn settle(maps: &mut Maps, order: &[ProcId], settings: &[Setting], fill: Fil
     requires order { IsOrder (flat maps.old.design.now) (numbers_of order.now) }
     requires apart { AreApart (flat maps.old.design.now) }
     requires sets { All (SetsInput (flat maps.old.design.now)) (map setting_view settings.now) }
-    ensures cycle {
-        let d = flat maps.old.design.now in
+    ensures cycle { let d = flat maps.old.design.now in
         let old = store maps.old.numbers.items in
         let step = cycle.Data (map setting_view settings.now) in
         IsSolved d fill old → MakesCycle d fill old step (store maps.new.numbers.items) }

@@ -118,9 +118,7 @@ pub fn start(
     requires inputs { map length inputs.now ≡ map (widths (flat design.now)) (places tops.now) }
     requires registers_known { AreKnown registers.now }
     requires inputs_known { AreKnown inputs.now }
-    ensures many {
-        IfOk result (λ numbers. length numbers.items ≡ length design.now.signals.items)
-    }
+    ensures many { IfOk result (λ numbers. length numbers.items ≡ length design.now.signals.items) }
     ensures start { IfOk result (λ numbers. IsStart (flat design.now) fill
         (places stored.now) registers.now (places tops.now) inputs.now (store numbers.items)) }
 {

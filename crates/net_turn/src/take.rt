@@ -40,7 +40,8 @@ fn take_one(
         let old = store before.now in
         let run = run_of old (turned old turn.now) one.now in
         (i : ℕ) → store after.new i
-        ≡ changed (old i) (tabulate (widths d i) (run_bit (widths d) fill old run i)) (store after.old i) }
+        ≡ changed (old i) (tabulate (widths d i) (run_bit (widths d) fill old run i))
+        (store after.old i) }
     ensures same { (i : ℕ) → store maps.new.numbers.items i ≡ store before.now i }
     ensures able { IsAble maps.new }
     ensures design { maps.new.design ≡ maps.old.design }

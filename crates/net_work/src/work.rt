@@ -15,10 +15,8 @@ use rtl_flat::act::{Does, ProcId};
 fn work_one(maps: &mut Maps, p: ProcId, fill: Fill)
     requires able { IsAble maps.old }
     requires node { IsNode (flat maps.old.design.now).tasks p.0 }
-    ensures worked {
-        let old = store maps.old.numbers.items in
-        IsWorked (flat maps.old.design.now) fill p.0 old (store maps.new.numbers.items)
-    }
+    ensures worked { let old = store maps.old.numbers.items in
+        IsWorked (flat maps.old.design.now) fill p.0 old (store maps.new.numbers.items) }
     ensures able { IsAble maps.new }
     ensures design { maps.new.design ≡ maps.old.design }
 {
@@ -36,10 +34,8 @@ pub fn work(maps: &mut Maps, order: &[ProcId], fill: Fill)
     requires able { IsAble maps.old }
     requires order { IsOrder (flat maps.old.design.now) (numbers_of order.now) }
     requires apart { AreApart (flat maps.old.design.now) }
-    ensures solves {
-        let old = store maps.old.numbers.items in
-        Solves (flat maps.old.design.now) fill old (store maps.new.numbers.items)
-    }
+    ensures solves { let old = store maps.old.numbers.items in
+        Solves (flat maps.old.design.now) fill old (store maps.new.numbers.items) }
     ensures able { IsAble maps.new }
     ensures design { maps.new.design ≡ maps.old.design }
 {

@@ -41,7 +41,8 @@ pub struct NetSim<'n> {
     after: Vec<Vec4>,
     /// Of each signal whether it is a clock or a reset among the top inputs.
     controls: Vec<bool>,
-    ghost is_simulator: { ∥ IsSimulator netlist.now order.items maps before.items after.items controls.items ∥₁ },
+    ghost is_simulator: { ∥ IsSimulator netlist.now order.items maps
+        before.items after.items controls.items ∥₁ },
 }
 
 /// The numbers of signals.

@@ -13,7 +13,8 @@ fn replies_have_their_heads(rt: HostRuntime) -> Result<(), Fail> {
         body: Vec::from_slice(rt.alloc(), b"{\"id\":1}")?,
     };
     let count = reply_head(&reply, &mut out);
-    let want = b"HTTP/1.1 201 Created\r\nContent-Type: application/json\r\nContent-Length: 8\r\nConnection: close\r\n\r\n";
+    let want =
+        b"HTTP/1.1 201 Created\r\nContent-Type: application/json\r\nContent-Length: 8\r\nConnection: close\r\n\r\n";
     assert_eq!(rt; out.get(..count), Some(want.as_slice()));
     Ok(())
 }

@@ -2,49 +2,51 @@
 
 use desk_http::{HeadState, MAX_BODY_BYTES, read_head, request};
 use desk_requests::{Ask, Request, WaiverAsk};
+use rtl_tree::text::Text;
 use std::alloc::{AllocError, Global};
 use std::process::Abort;
 use std::test::Fail;
 
-/// Appends words with a space before each.
-fn push_words(out: &mut Vec<u8>, words: &[&[u8]]) -> Result<(), AllocError> {
-    for word in words {
-        out.push(b' ')?;
-        out.extend_from_slice(word)?;
-    }
-    Ok(())
+/// Appends a word with a space before it.
+fn push_word(out: &mut Vec<u8>, word: &[u8]) -> Result<(), AllocError> {
+    out.push(b' ')?;
+    out.extend_from_slice(word)
+}
+
+/// Appends what is asked for, and its name.
+fn push_named(out: &mut Vec<u8>, what: &[u8], name: &Text) -> Result<(), AllocError> {
+    push_word(out, what)?;
+    push_word(out, name.as_bytes())
 }
 
 fn push_waiver(alloc: Global, out: &mut Vec<u8>, waiver: &WaiverAsk) -> Result<(), AllocError> {
     let day = format!(in alloc; "{}", waiver.last_day.number())?;
-    push_words(
-        out,
-        &[
-            b"waive",
-            waiver.top.as_bytes(),
-            waiver.target.as_bytes(),
-            waiver.place.as_bytes(),
-            waiver.rule.row().code.as_bytes(),
-            waiver.owner.as_bytes(),
-            day.as_bytes(),
-            waiver.reason.as_bytes(),
-        ],
-    )
+    push_named(out, b"waive", &waiver.top)?;
+    push_word(out, waiver.target.as_bytes())?;
+    push_word(out, waiver.place.as_bytes())?;
+    push_word(out, waiver.rule.row().code.as_bytes())?;
+    push_word(out, waiver.owner.as_bytes())?;
+    push_word(out, day.as_bytes())?;
+    push_word(out, waiver.reason.as_bytes())
 }
 
 fn push_ask(alloc: Global, out: &mut Vec<u8>, ask: &Ask) -> Result<(), AllocError> {
     match ask {
-        Ask::PutFile(name, text) => push_words(out, &[b"put", name.as_bytes(), text.as_bytes()]),
-        Ask::GetFile(name) => push_words(out, &[b"get", name.as_bytes()]),
-        Ask::DropFile(name) => push_words(out, &[b"drop", name.as_bytes()]),
-        Ask::Ruling(top) => push_words(out, &[b"ruling", top.as_bytes()]),
-        Ask::SignOff(top) => push_words(out, &[b"sign", top.as_bytes()]),
-        Ask::SignOffs => push_words(out, &[b"signoffs"]),
+        Ask::PutFile(name, text) => {
+            push_named(out, b"put", name)?;
+            push_word(out, text.as_bytes())
+        }
+        Ask::GetFile(name) => push_named(out, b"get", name),
+        Ask::DropFile(name) => push_named(out, b"drop", name),
+        Ask::Ruling(top) => push_named(out, b"ruling", top),
+        Ask::SignOff(top) => push_named(out, b"sign", top),
+        Ask::SignOffs => push_word(out, b"signoffs"),
         Ask::Waive(waiver) => push_waiver(alloc, out, waiver),
-        Ask::Waivers => push_words(out, &[b"waivers"]),
+        Ask::Waivers => push_word(out, b"waivers"),
         Ask::Revoke(id) => {
             let number = format!(in alloc; "{}", id.0)?;
-            push_words(out, &[b"revoke", number.as_bytes()])
+            push_word(out, b"revoke")?;
+            push_word(out, number.as_bytes())
         }
     }
 }
@@ -53,8 +55,8 @@ fn push_ask(alloc: Global, out: &mut Vec<u8>, ask: &Ask) -> Result<(), AllocErro
 fn of_request(alloc: Global, asked: &Request) -> Result<Vec<u8>, AllocError> {
     let mut out = Vec::from_slice(alloc, asked.user.as_bytes())?;
     match &asked.id {
-        Some(id) => push_words(&mut out, &[id.as_bytes()])?,
-        None => push_words(&mut out, &[b"-"])?,
+        Some(id) => push_word(&mut out, id.as_bytes())?,
+        None => push_word(&mut out, b"-")?,
     }
     push_ask(alloc, &mut out, &asked.ask)?;
     Ok(out)

@@ -5,8 +5,7 @@ use std::alloc::Global;
 use std::process::Abort;
 use std::test::Fail;
 
-const FRONT: &[u8] =
-    b"POST /waivers HTTP/1.1\nDesk-User: ann\nDesk-Request: 7\nContent-Length: ";
+const FRONT: &[u8] = b"POST /waivers HTTP/1.1\nDesk-User: ann\nDesk-Request: 7\nContent-Length: ";
 
 /// What is heard of the request that has this body.
 fn check_body(rt: &impl Abort, alloc: Global, body: &[u8], want: &[u8]) -> Result<(), Fail> {
@@ -21,10 +20,22 @@ fn check_body(rt: &impl Abort, alloc: Global, body: &[u8], want: &[u8]) -> Resul
 #[test]
 fn bodies_of_waivers_are_read(rt: HostRuntime) -> Result<(), Fail> {
     let rows: [(&[u8], &[u8]); 4] = [
-        (b"{\"last_day\":\"2026-12-31\",\"owner\":\"bob\",\"place\":\"top.v:3:7\",\"reason\":\"known\",\"rule\":\"A1\",\"target\":\"top.q\",\"top\":\"top\"}", b"ann 7 waive top top.q top.v:3:7 A1 bob 20818 known"),
-        (b"{\"top\":\"t\\u006fp\",\"target\":\"top.q\",\"rule\":\"A1\",\"reason\":\"known\",\"place\":\"top.v:3:7\",\"owner\":\"bob\",\"last_day\":\"2026-12-31\"}", b"ann 7 waive top top.q top.v:3:7 A1 bob 20818 known"),
-        (b" {\"owner\":\"Bob\",\"last_day\":\"2026-12-31\" ,\n\"owner\":\"bob\" ,\n\"place\":\"top.v:3:7\" ,\n\"reason\":\"known\" ,\n\"rule\":\"A1\" ,\n\"target\":\"top.q\" ,\n\"top\":\"top\"}", b"ann 7 waive top top.q top.v:3:7 A1 bob 20818 known"),
-        (b"{\"last_day\":\"0000-01-01\",\"owner\":\"bob\",\"place\":\"a b:c:99999999999:1\",\"reason\":\"~ \",\"rule\":\"U2\",\"target\":\"\",\"top\":\"top\"}", b"ann 7 waive top  a b:c:99999999999:1 U2 bob -719528 ~ "),
+        (
+            b"{\"last_day\":\"2026-12-31\",\"owner\":\"bob\",\"place\":\"top.v:3:7\",\"reason\":\"known\",\"rule\":\"A1\",\"target\":\"top.q\",\"top\":\"top\"}",
+            b"ann 7 waive top top.q top.v:3:7 A1 bob 20818 known",
+        ),
+        (
+            b"{\"top\":\"t\\u006fp\",\"target\":\"top.q\",\"rule\":\"A1\",\"reason\":\"known\",\"place\":\"top.v:3:7\",\"owner\":\"bob\",\"last_day\":\"2026-12-31\"}",
+            b"ann 7 waive top top.q top.v:3:7 A1 bob 20818 known",
+        ),
+        (
+            b" {\"owner\":\"Bob\",\"last_day\":\"2026-12-31\" ,\n\"owner\":\"bob\" ,\n\"place\":\"top.v:3:7\" ,\n\"reason\":\"known\" ,\n\"rule\":\"A1\" ,\n\"target\":\"top.q\" ,\n\"top\":\"top\"}",
+            b"ann 7 waive top top.q top.v:3:7 A1 bob 20818 known",
+        ),
+        (
+            b"{\"last_day\":\"0000-01-01\",\"owner\":\"bob\",\"place\":\"a b:c:99999999999:1\",\"reason\":\"~ \",\"rule\":\"U2\",\"target\":\"\",\"top\":\"top\"}",
+            b"ann 7 waive top  a b:c:99999999999:1 U2 bob -719528 ~ ",
+        ),
     ];
     for (body, want) in rows {
         check_body(&rt, rt.alloc(), body, want)?;

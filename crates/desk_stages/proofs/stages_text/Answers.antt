@@ -13,5 +13,5 @@ loop-stage-preserved c = record {
 pub returns-clause-short : goal.returns-clause-short
 returns-clause-short c =
     let items = short_text c.loop-stage.out.items c.push_numbered.new.out.items c.extend_from_slice-2.new.self.items c.args.count c.loop-stage.stage
-            (omega arith) (omega arith) c.in_ok-push_numbered.ensures c.in_ok-extend_from_slice-2.ensures.items c.loop-stage.invariant.short in
+    (omega arith) (omega arith) c.in_ok-push_numbered.ensures c.in_ok-extend_from_slice-2.ensures.items c.loop-stage.invariant.short in
     omega (arith, items, c.extend_from_slice-2.new.self.ok)
