@@ -1,18 +1,19 @@
 -- Words have one outcome over given files, and the desk answers it.
-use Rattle.std.proofs.Common.{◌≡◌, ◌∙◌, ℕ, List, Option, Some, None, Result, Ok, Err, sym, ap, subst}
+use Rattle.std.proofs.Common.{◌≡◌, ◌∙◌, ℕ, List, [], ◌∷◌, codes, Option, Some, None, Result, Ok, Err, sym, ap, subst}
 use Rattle.std.specs.Io.KnownBytes.{Appends}
 use Rattle.desk_io.specs.declared.shelf.ShelfFault.{ShelfFault}
 use Rattle.desk_io.specs.Shelf.{Files, reading}
 use Rattle.elab_flat.specs.Flats.{DesignParts}
 use Rattle.check_all.proofs.Alone.{alone}
 use Rattle.desk_places.specs.Places.{Source}
+use Rattle.desk_stages.specs.Stages.{stages_text}
 use Rattle.desk_steps.specs.Steps.{Steps, file_of}
 use Rattle.desk_top.specs.Answers.{IsAnswered, OverWorld}
 use Rattle.desk_top.specs.Building.{Built, Designed, Refused}
 use Rattle.desk_top.specs.Delivery.{Outcome}
-use Rattle.desk_top.specs.Outcome.{IsAnswer, IsDone, IsJudged, IsOutcome, IsRuled, IsRun, IsSigned, IsSimulating, IsStepped, IsTried, World, names_in, parts_of, ruled, run}
+use Rattle.desk_top.specs.Outcome.{IsAnswer, IsDone, IsGenerated, IsJudged, IsOutcome, IsRuled, IsRun, IsSigned, IsSimulating, IsStaged, IsStepped, IsTried, World, counted, generated, names_in, parts_of, ruled, run}
 use Rattle.desk_top.specs.Texts.{named, texts_of}
-use Rattle.desk_top.specs.Words.{Order, Sign, Simulate, order}
+use Rattle.desk_top.specs.Words.{Order, Sign, Simulate, Generate, order}
 use Rattle.desk_laws.specs.Same.{AreSame, IsUndisturbed}
 use Rattle.desk_laws.proofs.OneBuilt.{OneLine, one_built}
 use Rattle.desk_laws.proofs.OneRun.{one_run}
@@ -58,6 +59,18 @@ simulating_once line top files (Err fault) texts one other first second = first 
 simulating_once line top files (Ok steps) None one other first second = first ∙ sym second
 simulating_once line top files (Ok steps) (Some texts) one other first second = stepped_once line top (named files texts) texts steps one other first second
 
+-- ---- a generated design
+
+staged_once : (stages : ℕ) (built : Built) (one other : Outcome) → IsStaged stages built one → IsStaged stages built other → one ≡ other
+staged_once stages (Designed flat) one other first second =
+    first.is ∙ ap (counted stages flat) (alone (parts_of flat) first.found second.found first.are_all second.are_all) ∙ sym second.is
+staged_once stages (Refused line) one other first second = first ∙ sym second
+
+generated_once : OneLine → (stages : ℕ) (one other : Outcome) → IsGenerated stages one → IsGenerated stages other → one ≡ other
+generated_once line stages one other first second =
+    let same : first.built ≡ second.built = one_built line (codes "top") (generated stages) (stages_text stages ∷ []) first.built second.built first.is_built second.is_built in
+    staged_once stages second.built one other (subst (λ (built : Built). IsStaged stages built one) same first.is) second.is
+
 -- ---- words
 
 done_once : OneLine → (world : World) (command : Option Order) (one other : Outcome) → IsDone world command one → IsDone world command other → one ≡ other
@@ -65,6 +78,7 @@ done_once line world None one other first second = first ∙ sym second
 done_once line world (Some (Sign top files)) one other first second = signed_once line top files (texts_of world.files files) one other first second
 done_once line world (Some (Simulate top steps files)) one other first second =
     simulating_once line top files (reading (world.before steps)) (texts_of world.files files) one other first second
+done_once line world (Some (Generate stages)) one other first second = generated_once line stages one other first second
 
 pub one_outcome : OneLine → (words : List (List ℕ)) (world : World) (one other : Outcome) → IsOutcome words world one → IsOutcome words world other → one ≡ other
 one_outcome line words world one other first second = done_once line world (order words) one other first second

@@ -52,3 +52,9 @@ head_lines top clean firm count =
 abbrev pub report_text : List ℕ → List Source → List Signal → List Instance → List Finding → Bool → Bool → List ℕ
 report_text top sources signals instances findings clean firm =
     head_lines top clean firm (length findings) ++ flat_map (finding_line sources signals instances) findings
+
+-- what is told of a generated design: how many stages and processes it has, whether it is clean, and how many findings it has
+abbrev pub stages_report : ℕ → ℕ → Bool → ℕ → List ℕ
+stages_report stages processes clean count =
+    line (codes "stages " ++ decimal stages) ++ line (codes "processes " ++ decimal processes)
+    ++ line (codes "clean " ++ yes_or_no clean) ++ line (codes "findings " ++ decimal count)

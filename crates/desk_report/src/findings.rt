@@ -4,7 +4,7 @@ ghost use Rattle.std.specs.Prelude.{◌≡◌, ◌++◌, codes, length, IfOk, On
 ghost use Rattle.std.specs.List.{flat_map};
 ghost use Rattle.rtl_rule.specs.Rows.{row_of};
 ghost use Rattle.desk_places.specs.Places.{sources_of};
-ghost use Rattle.desk_report.specs.Reports.{finding_line, head_lines, line, report_text, target_in, yes_or_no};
+ghost use Rattle.desk_report.specs.Reports.{finding_line, head_lines, line, report_text, stages_report, target_in, yes_or_no};
 
 use desk_places::sources::Sources;
 use itoa::Buffer;
@@ -43,6 +43,26 @@ fn push_head(out: &mut Vec<u8>, top: &[u8], ruling: &Ruling) -> Result<(), Memor
     push_line(out, b"firm ", yes_or_no(ruling.firm))?;
     push_line(out, b"findings ", count.as_bytes())?;
     push_line(out, b"waived ", b"0")
+}
+
+/// What is told of the ruling of a design that was generated with so many stages, and has so many processes.
+pub fn stages_report(
+    alloc: Global,
+    stages: u32,
+    processes: usize,
+    ruling: &Ruling,
+) -> Result<Vec<u8>, Memory>
+    ensures { IfOk result (λ text. text.items ≡ stages_report stages processes ruling.now.clean
+        (length ruling.now.findings.items)) }
+{
+    let mut out = Vec::new(alloc);
+    let mut digits = Buffer::new();
+    push_line(&mut out, b"stages ", digits.format(stages).as_bytes())?;
+    push_line(&mut out, b"processes ", digits.format(processes).as_bytes())?;
+    push_line(&mut out, b"clean ", yes_or_no(ruling.clean))?;
+    let count = digits.format(ruling.findings.len());
+    push_line(&mut out, b"findings ", count.as_bytes())?;
+    Ok(out)
 }
 
 /// A line of a label and a text.

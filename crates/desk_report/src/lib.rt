@@ -4,5 +4,5 @@
 mod findings;
 mod value;
 
-pub use crate::findings::report;
+pub use crate::findings::{report, stages_report};
 pub use crate::value::{push_value, value_text};

@@ -12,7 +12,7 @@ use Rattle.desk_top.specs.declared.deliver.Stop.TheVariants.{Unread, NoFile, Mem
 use Rattle.desk_top.specs.declared.deliver.Work.{Work}
 use Rattle.desk_top.specs.declared.simulate.Plan.{Plan}
 use Rattle.desk_top.specs.declared.simulate.Plan.TheVariants.{Told, Run}
-use Rattle.desk_top.specs.Words.{Order, Sign, Simulate, is_sign, is_simulate, order}
+use Rattle.desk_top.specs.Words.{Order, Sign, Simulate, Generate, is_sign, is_simulate, order}
 use Rattle.desk_top.specs.Delivery.{Outcome, Delivers, Finishes, IsCut, Front as Begun, Nothing, IsWork, gave_up, no_file, outcome_of}
 use Rattle.desk_top.specs.Building.{AreSpelled, Built, Front, Modules, Faulty, IsFront, built_of, elaborated_or_not}
 use Rattle.desk_top.specs.Outcome.{World, IsAnswer, IsDone, IsOutcome, IsRuled, IsSigned, report_of}
@@ -163,6 +163,7 @@ zero_is_clean words world wanted before now asked is zero written = by_order (or
     by_order None command outcome = clash 3 (ap (λ o. o.status) outcome) (λ same. omega (arith, same))
     by_order (Some (Sign top files)) command outcome = by_texts top files command (texts_of world.files files) refl outcome
     by_order (Some (Simulate top steps files)) command outcome = absurd (let no : false ≡ true = ap is_sign (sym command) ∙ asked in cc)
+    by_order (Some (Generate stages)) command outcome = absurd (let no : false ≡ true = ap is_sign (sym command) ∙ asked in cc)
 
 -- the headline from the answer 0
 pub signed_clean : (words : List (List ℕ)) (world : World) (before now : Option (List ℕ)) → is_sign (order words) ≡ true → IsAnswered words 0 before now world → IsSignedClean words before now world

@@ -1,12 +1,13 @@
 -- The answer of the desk, over the world that is told or some world.
-use Rattle.std.proofs.Common.{◌≡◌, ℕ, List, Option, None, Some, Result, true, false, sym, ap, subst}
+use Rattle.std.proofs.Common.{◌≡◌, ◌≢◌, ◌∙◌, ℕ, List, Option, None, Some, Result, Ok, Err, true, false, refl, sym, ap, subst, arith}
 use Rattle.desk_io.specs.Shelf.{Files}
 use Rattle.desk_top.specs.declared.deliver.Stop.{Stop}
+use Rattle.desk_top.specs.declared.deliver.Stop.TheVariants.{Unread, NoFile, Memory}
 use Rattle.desk_top.specs.declared.deliver.Work.{Work}
 use Rattle.desk_top.specs.declared.simulate.Plan.{Plan}
-use Rattle.desk_top.specs.Words.{Order, is_sign, is_simulate, order}
+use Rattle.desk_top.specs.Words.{Order, Generate, is_sign, is_simulate, order}
 use Rattle.desk_top.specs.Delivery.{Delivers, Finishes, IsWork, gave_up}
-use Rattle.desk_top.specs.Outcome.{IsDone, usage}
+use Rattle.desk_top.specs.Outcome.{IsDone, IsGenerated, usage}
 use Rattle.desk_top.specs.Plans.{IsPlan, Performs}
 use Rattle.desk_top.specs.Answers.{OverWorld, IsAnswered, IsSignedClean}
 use Rattle.desk_top.proofs.Answered.{answered, answered_usage, performed, signed_clean}
@@ -19,6 +20,19 @@ pub over_answered : (files : Option Files) (words : List (List ℕ)) (command : 
 over_answered files words command work status before now is over finishes =
     over_map {P = λ world. IsWork (IsDone world (Some command)) work} {Q = IsAnswered words status before now} files over
     (λ world wanted. answered words world command work status before now (sym is) wanted finishes)
+
+-- what is generated is answered alike in every world
+pub over_generated : (files : Option Files) (stages : ℕ) (work : Result Work Stop) → IsWork (IsGenerated stages) work → OverWorld files (λ world. IsWork (IsDone world (Some (Generate stages))) work)
+over_generated files stages work is =
+    over_any {P = λ world. IsWork (IsDone world (Some (Generate stages))) work} files (λ world. is)
+
+-- work that reads nothing doesn't end as a read that failed
+pub never_unread : (work : Result Work Stop) (status : ℕ) (before now : Option (List ℕ)) → work ≢ Err Unread → Finishes work status before now → status ≡ 4 → ⊥
+never_unread (Ok work) status before now read finishes unread =
+    let same : true ≡ false = ap gave_up (sym unread) ∙ finishes.0 in cc
+never_unread (Err Unread) status before now read finishes unread = read refl
+never_unread (Err NoFile) status before now read finishes unread = omega (arith, finishes.0, unread)
+never_unread (Err Memory) status before now read finishes unread = omega (arith, finishes.0, unread)
 
 -- a simulation that is planned and carried out is answered
 pub over_performed : (files : Option Files) (words : List (List ℕ)) (command : Order) (plan : Result Plan Stop) (status : ℕ) (before now : Option (List ℕ))

@@ -1,15 +1,17 @@
 -- It serves inner contracts and proofs; no answer of the program is stated by it.
 -- What the code's commands mean.
-use Rattle.std.specs.Prelude.{◌≡◌, true}
+use Rattle.std.specs.Prelude.{◌≡◌, ◌≤◌, true}
 use Rattle.desk_top.specs.declared.words.Command.{Command}
 use Rattle.desk_top.specs.declared.words.Command.TheVariants as code
-use Rattle.desk_top.specs.Words.{Order, Sign, Simulate, are_files, texts}
+use Rattle.desk_top.specs.Words.{Order, Sign, Simulate, Generate, are_files, texts}
 
 abbrev pub order_of : Command → Order
 order_of (code.Sign top files) = Sign top.now (texts files.now)
 order_of (code.Simulate top steps files) = Simulate top.now steps.now (texts files.now)
+order_of (code.Generate stages) = Generate stages
 
--- the files of a command are a list of files
-abbrev pub HasFiles : Order → Type 0
-HasFiles (Sign top files) = are_files files ≡ true
-HasFiles (Simulate top steps files) = are_files files ≡ true
+-- the files of a command are a list of files, and its stages are no more than there can be
+abbrev pub IsWithin : Order → Type 0
+IsWithin (Sign top files) = are_files files ≡ true
+IsWithin (Simulate top steps files) = are_files files ≡ true
+IsWithin (Generate stages) = stages ≤ 1000

@@ -1,6 +1,6 @@
 -- What the desk answers to its words, over the files of a shelf.
 -- Worked examples: examples/stored/several_drivers.out, examples/stored/exchange.out.
-use Rattle.std.specs.Prelude.{◌≡◌, ℕ, List, [], ◌∷◌, ◌++◌, Bool, true, false, not, Option, None, Some, Result, Ok, Err, if◌then◌else◌, codes}
+use Rattle.std.specs.Prelude.{◌≡◌, ℕ, List, [], ◌∷◌, ◌++◌, Bool, true, false, not, length, Option, None, Some, Result, Ok, Err, if◌then◌else◌, codes}
 use Rattle.std.specs.Fmt.{decimal}
 use Rattle.desk_io.specs.declared.shelf.ShelfFault.{ShelfFault}
 use Rattle.desk_io.specs.Shelf.{Files, reading}
@@ -14,12 +14,13 @@ use Rattle.desk_steps.specs.Names.{Names, ahead, names_from}
 use Rattle.desk_steps.specs.Steps.{Steps, file_of}
 use Rattle.desk_runs.specs.Runs.{Shown, IsSimulated}
 use Rattle.desk_places.specs.Places.{Source}
-use Rattle.desk_report.specs.Reports.{report_text}
+use Rattle.desk_report.specs.Reports.{report_text, stages_report}
+use Rattle.desk_stages.specs.Stages.{stages_text}
 use Rattle.desk_top.specs.Building.{Built, Designed, Refused, IsBuilt}
 use Rattle.desk_top.specs.Delivery.{Outcome, no_file}
 use Rattle.desk_top.specs.declared.deliver.TheConstants.{DONE, OPEN, REFUSED, NO_COMMAND, UNSETTLED, MALFORMED}
 use Rattle.desk_top.specs.Texts.{named, texts_of}
-use Rattle.desk_top.specs.Words.{Order, Sign, Simulate, order}
+use Rattle.desk_top.specs.Words.{Order, Sign, Simulate, Generate, order}
 
 -- what the outside holds: the files by their names, when the sources are read, and before that, when the steps of a
 -- simulation are
@@ -125,6 +126,33 @@ IsSimulating top files (Err fault) texts outcome = outcome ≡ no_file
 IsSimulating top files (Ok steps) None outcome = outcome ≡ no_file
 IsSimulating top files (Ok steps) (Some texts) outcome = IsStepped top (named files texts) texts steps outcome
 
+-- ---- generated designs
+
+-- a generated text as a file, which has this name where it is told
+abbrev pub generated : ℕ → List Source
+generated stages = record { name = codes "generated"; text = stages_text stages } ∷ []
+
+-- what is told of a design with these findings
+abbrev pub counted : ℕ → DesignParts → List Finding → Outcome
+counted stages flat found =
+    record { status = DONE; bytes = stages_report stages (length flat.tasks) (is_clean found) (length found) }
+
+-- the answer for a design: all its findings are counted
+pub record IsCounted (stages : ℕ) (flat : DesignParts) (outcome : Outcome) : Type 0 where
+  pub found : List Finding
+  pub are_all : AreAllFindings (parts_of flat) found
+  pub is : outcome ≡ counted stages flat found
+
+abbrev pub IsStaged : ℕ → Built → Outcome → Type 0
+IsStaged stages (Designed flat) outcome = IsCounted stages flat outcome
+IsStaged stages (Refused line) outcome = outcome ≡ refused line
+
+-- the answer for a design of so many stages
+pub record IsGenerated (stages : ℕ) (outcome : Outcome) : Type 0 where
+  pub built : Built
+  pub is_built : IsBuilt (codes "top") (generated stages) (stages_text stages ∷ []) built
+  pub is : IsStaged stages built outcome
+
 -- the usage of the whole program, with the commands that are still to come
 abbrev pub usage : List ℕ
 usage =
@@ -136,6 +164,7 @@ IsDone world None outcome = outcome ≡ record { status = NO_COMMAND; bytes = us
 IsDone world (Some (Sign top files)) outcome = IsSigned top files (texts_of world.files files) outcome
 IsDone world (Some (Simulate top steps files)) outcome =
     IsSimulating top files (reading (world.before steps)) (texts_of world.files files) outcome
+IsDone world (Some (Generate stages)) outcome = IsGenerated stages outcome
 
 -- the outcome of the words
 abbrev pub IsOutcome : List (List ℕ) → World → Outcome → Type 0

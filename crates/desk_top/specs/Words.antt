@@ -3,11 +3,13 @@
 use Rattle.std.specs.Prelude.{ℕ, ◌==◌, nat_le, List, [], ◌∷◌, length, Option, None, Some, Bool, true, false, not, ◌&&◌, if◌then◌else◌, map, codes, String, string_bytes, bytes_eq}
 use Rattle.std.specs.List.{list_all, list_any}
 use Rattle.std.specs.declared.alloc.Global.{Global}
+use Rattle.desk_numbers.specs.Numbers.{is_positive, number_of}
 
--- a command: `sign TOP FILE..`, or `simulate TOP STEPS FILE..`
+-- a command: `sign TOP FILE..`, `simulate TOP STEPS FILE..`, or `generate N`
 pub data Order : Type 0 where
   Sign : (top : List ℕ) (files : List (List ℕ)) → Order
   Simulate : (top steps : List ℕ) (files : List (List ℕ)) → Order
+  Generate : (stages : ℕ) → Order
 
 -- the words as lists of bytes
 abbrev pub texts : List (String Global) → List (List ℕ)
@@ -38,12 +40,25 @@ simulate_order (top ∷ []) = None
 simulate_order (top ∷ steps ∷ files) =
     if is_name top && (is_name steps && are_files files) then Some (Simulate top steps files) else None
 
+-- a number from 1 to 1000, without leading zeros
+abbrev pub is_stages : List ℕ → Bool
+is_stages word = is_positive word && nat_le (number_of word) 1000
+
+abbrev pub stages_order : List ℕ → Option Order
+stages_order word = if is_stages word then Some (Generate (number_of word)) else None
+
+abbrev pub generate_order : List (List ℕ) → Option Order
+generate_order [] = None
+generate_order (stages ∷ []) = stages_order stages
+generate_order (stages ∷ more ∷ others) = None
+
 -- the command that the words are, if they are one
 abbrev pub order : List (List ℕ) → Option Order
 order [] = None
 order (name ∷ rest) =
     if bytes_eq name (codes "sign") then sign_order rest
     else if bytes_eq name (codes "simulate") then simulate_order rest
+    else if bytes_eq name (codes "generate") then generate_order rest
     else None
 
 -- whether a command asks for a simulation
@@ -51,9 +66,11 @@ abbrev pub is_simulate : Option Order → Bool
 is_simulate None = false
 is_simulate (Some (Sign top files)) = false
 is_simulate (Some (Simulate top steps files)) = true
+is_simulate (Some (Generate stages)) = false
 
 -- whether a command asks for a ruling
 abbrev pub is_sign : Option Order → Bool
 is_sign None = false
 is_sign (Some (Sign top files)) = true
 is_sign (Some (Simulate top steps files)) = false
+is_sign (Some (Generate stages)) = false

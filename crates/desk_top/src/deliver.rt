@@ -10,7 +10,8 @@ use desk_io::{Failed, Sink};
 use rtl_tree::memory::Memory as NoMemory;
 use std::alloc::{AllocError, AllocFailed};
 
-/// The exit status where the work was done: after `sign` the design is clean, after `simulate` each step came to rest.
+/// The exit status where the work was done: after `sign` the design is clean, after `simulate` each step came to rest,
+/// after `generate` the design is ruled.
 pub const DONE: u8 = 0;
 
 /// The exit status where a rule of the first grade has a finding.
@@ -57,6 +58,8 @@ pub enum Ending {
     Unsettled,
     /// The file of steps has a line that is none.
     Malformed,
+    /// A generated design is ruled.
+    Counted,
 }
 
 /// Why work was not done.
@@ -114,6 +117,7 @@ impl Ending {
             Ending::Settled => DONE,
             Ending::Unsettled => UNSETTLED,
             Ending::Malformed => MALFORMED,
+            Ending::Counted => DONE,
         }
     }
 }

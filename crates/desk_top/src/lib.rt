@@ -4,6 +4,7 @@
 pub mod deliver;
 pub mod files;
 pub mod front;
+pub mod generate;
 pub mod sign;
 pub mod simulate;
 pub mod start;

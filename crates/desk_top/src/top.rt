@@ -4,12 +4,13 @@ ghost use Rattle.std.specs.Prelude.{◌≡◌, ◌≢◌, ◌≤◌, ◌<◌, So
 ghost use Rattle.desk_io.specs.Causes.{Rose};
 ghost use Rattle.desk_top.specs.declared.deliver.TheConstants.{DONE, NO_FILE, UNREAD, UNWRITTEN};
 ghost use Rattle.desk_top.specs.Answers.{IsAnswered, IsSignedClean, OverWorld};
-ghost use Rattle.desk_top.specs.Commands.{HasFiles, order_of};
+ghost use Rattle.desk_top.specs.Commands.{IsWithin, order_of};
 ghost use Rattle.desk_top.specs.Delivery.{gave_up, IsCalmWork, IsWork};
 ghost use Rattle.desk_top.specs.Outcome.{IsDone};
 ghost use Rattle.desk_top.specs.Words.{is_sign, order, texts};
 
 use crate::deliver::{Ending, deliver, finish};
+use crate::generate::generate;
 use crate::sign::sign;
 use crate::simulate::simulate;
 use crate::stream::perform;
@@ -22,7 +23,8 @@ pub const USAGE: &[u8] =
     b"usage: desk sign TOP FILE.. | simulate TOP STEPS FILE.. | replay TOP DEMO FILE.. | serve PORT COUNT | report TOP | generate N\n";
 
 /// Does what the words of the command line say, with the files of a shelf, writes to a sink, and answers the exit status:
-/// 0 where the module is signed clean, or where each step of a simulation came to rest; 1 where a rule of the first grade
+/// 0 where the module is signed clean, where each step of a simulation came to rest, or where a generated design is
+/// ruled; 1 where a rule of the first grade
 /// has a finding, 2 where the source is refused, 3 where the words are no command, 4 where a read failed, 5 where a write
 /// failed, 9 where a file isn't there or is too long, 11 where a step didn't come to rest within its budget, 12 where a
 /// line of the steps is none, and 20 where memory ran out.
@@ -54,5 +56,6 @@ pub fn desk<F: Shelf, S: Sink>(alloc: Global, words: &[String], shelf: &mut F, o
         Some(Command::Simulate { top, steps, files }) => {
             perform(alloc, simulate(alloc, top, steps, files, shelf), out)
         }
+        Some(Command::Generate { stages }) => finish(generate(alloc, stages), out),
     }
 }

@@ -2,8 +2,11 @@
 
 ghost use Rattle.std.specs.Prelude.{◌≡◌, option_map, bytes_eq};
 ghost use Rattle.std.specs.List.{list_all, list_any};
-ghost use Rattle.desk_top.specs.Words.{all_different, are_files, is_name, order, sign_order, simulate_order, texts};
+ghost use Rattle.desk_top.specs.Words.{all_different, are_files, generate_order, is_name, order, sign_order, simulate_order, stages_order, texts};
 ghost use Rattle.desk_top.specs.Commands.{order_of};
+
+use desk_numbers::{is_positive, number_up_to};
+use desk_stages::MOST_STAGES;
 
 /// The most files that a command is given.
 const MOST_FILES: usize = 64;
@@ -22,6 +25,10 @@ pub enum Command<'a> {
         steps: &'a str,
         files: &'a [String],
     },
+    /// Rules a generated design of so many stages.
+    Generate {
+        stages: u32,
+    },
 }
 
 /// The command that the words are, if they are one.
@@ -32,6 +39,7 @@ pub fn read_command(words: &[String]) -> Option<Command<'_>>
     match name.as_str() {
         "sign" => read_sign(rest),
         "simulate" => read_simulate(rest),
+        "generate" => read_generate(rest),
         _ => None,
     }
 }
@@ -60,6 +68,31 @@ fn read_simulate(words: &[String]) -> Option<Command<'_>>
             top: top.as_str(),
             steps: steps.as_str(),
             files,
+        })
+    } else {
+        None
+    }
+}
+
+fn read_generate(words: &[String]) -> Option<Command<'_>>
+    ensures { option_map order_of result ≡ generate_order (texts words.now) }
+{
+    let (stages, rest) = words.split_first()?;
+    if rest.is_empty() {
+        read_stages(stages.as_bytes())
+    } else {
+        None
+    }
+}
+
+// A number of stages.
+fn read_stages(word: &[u8]) -> Option<Command<'static>>
+    ensures { option_map order_of result ≡ stages_order word.now }
+{
+    let stages = number_up_to(1 + u64::from(MOST_STAGES), word);
+    if is_positive(word) && stages <= u64::from(MOST_STAGES) {
+        Some(Command::Generate {
+            stages: stages as u32,
         })
     } else {
         None

@@ -1,19 +1,19 @@
 use Rattle.std.proofs.Common.{◌≡◌, Some, refl, subst}
 use Rattle.desk_top.specs.declared.words.Command.{Command}
 use Rattle.desk_top.specs.Commands.{order_of}
-use Rattle.desk_top.specs.Words.{Sign, Simulate, order, texts}
-use Rattle.desk_top.proofs.Answering.{over_answered, over_performed, over_signed_clean, over_usage}
-use Rattle.desk_top.proofs.Ordered.{has_files}
+use Rattle.desk_top.specs.Words.{Sign, Simulate, Generate, order, texts}
+use Rattle.desk_top.proofs.Answering.{over_answered, never_unread, over_generated, over_performed, over_signed_clean, over_usage}
+use Rattle.desk_top.proofs.Ordered.{within}
 use Rattle.desk_top.proofs.top.desk.Goals as goal
 
 pub sign-requires : goal.sign-requires
 sign-requires g c =
-    has_files (texts c.args.words.now) (Sign c.in-Some-Sign.top.now (texts c.in-Some-Sign.files.now))
+    within (texts c.args.words.now) (Sign c.in-Some-Sign.top.now (texts c.in-Some-Sign.files.now))
     (subst (λ (command : Command). Some (order_of command) ≡ order (texts c.args.words.now)) c.in-Some-Sign.field-0-is c.in-Some-Sign.ensures)
 
 pub simulate-requires : goal.simulate-requires
 simulate-requires g c =
-    has_files (texts c.args.words.now) (Simulate c.in-Some-Simulate.top.now c.in-Some-Simulate.steps.now (texts c.in-Some-Simulate.files.now))
+    within (texts c.args.words.now) (Simulate c.in-Some-Simulate.top.now c.in-Some-Simulate.steps.now (texts c.in-Some-Simulate.files.now))
     (subst (λ (command : Command). Some (order_of command) ≡ order (texts c.args.words.now)) c.in-Some-Simulate.field-0-is c.in-Some-Simulate.ensures)
 
 pub returns-in-None-clause-answer : goal.returns-in-None-clause-answer
@@ -42,3 +42,19 @@ returns-in-Some-Simulate-clause-answer g c =
     (g.S.Sink.taken c.args.out.now) (g.S.Sink.taken c.perform.new.out)
     (subst (λ (command : Command). Some (order_of command) ≡ order (texts c.args.words.now)) c.in-Some-Simulate.field-0-is c.in-Some-Simulate.ensures)
     refl c.simulate.ensures.plan c.perform.ensures.performs
+
+pub generate-requires : goal.generate-requires
+generate-requires g c =
+    within (texts c.args.words.now) (Generate c.in-Some-Generate.stages)
+    (subst (λ (command : Command). Some (order_of command) ≡ order (texts c.args.words.now)) c.in-Some-Generate.field-0-is c.in-Some-Generate.ensures)
+
+pub returns-in-Some-Generate-clause-answer : goal.returns-in-Some-Generate-clause-answer
+returns-in-Some-Generate-clause-answer g c =
+    over_answered (g.F.Shelf.files c.args.shelf.now) (texts c.args.words.now) (Generate c.in-Some-Generate.stages) c.generate.result c.finish-in-Some-Generate.result
+    (g.S.Sink.taken c.args.out.now) (g.S.Sink.taken c.finish-in-Some-Generate.new.out)
+    (subst (λ (command : Command). Some (order_of command) ≡ order (texts c.args.words.now)) c.in-Some-Generate.field-0-is c.in-Some-Generate.ensures)
+    (over_generated (g.F.Shelf.files c.args.shelf.now) c.in-Some-Generate.stages c.generate.result c.generate.ensures.work) c.finish-in-Some-Generate.ensures.finishes
+
+pub returns-in-Some-Generate-clause-unread : goal.returns-in-Some-Generate-clause-unread
+returns-in-Some-Generate-clause-unread g c =
+    λ unread. absurd (never_unread c.generate.result c.finish-in-Some-Generate.result (g.S.Sink.taken c.args.out.now) (g.S.Sink.taken c.finish-in-Some-Generate.new.out) c.generate.ensures.read c.finish-in-Some-Generate.ensures.finishes unread)
