@@ -1,0 +1,122 @@
+-- The bodies of replies in JSON (RFC 8259), without spaces, the keys in the order of their bytes.
+-- Worked examples: crates/desk_bodies/proofs/Example.antt.
+use Rattle.std.specs.Prelude.{ℕ, ℤ, List, [], ◌∷◌, ◌++◌, length, flat_map, decimal, codes, Option, Some, None}
+use Rattle.hex.specs.Hex.{encode_lower}
+use Rattle.json.specs.Print.{quoted}
+use Rattle.desk_dates.specs.Dates.{date_text}
+use Rattle.desk_tables.specs.declared.rows.FileRow.{FileRow}
+use Rattle.desk_tables.specs.declared.rows.Grade.{Grade}
+use Rattle.desk_tables.specs.declared.rows.Grade.TheVariants.{Clean, Waived}
+use Rattle.desk_tables.specs.declared.rows.SignOffRow.{SignOffRow}
+use Rattle.desk_tables.specs.declared.rows.WaiverRow.{WaiverRow}
+
+-- ---- parts of objects
+
+-- what leads to a text, and the text
+unfoldable pub with_text : List ℕ → List ℕ → List ℕ
+with_text lead text = lead ++ quoted text
+
+-- what leads to a number, and the number
+unfoldable pub with_number : List ℕ → ℕ → List ℕ
+with_number lead number = lead ++ decimal number
+
+-- what leads to a digest, and the digest in hexadecimal
+unfoldable pub with_digest : List ℕ → List ℕ → List ℕ
+with_digest lead digest = lead ++ codes "\"" ++ encode_lower digest ++ codes "\""
+
+-- what leads to a day, and the day as a date
+unfoldable pub with_day : List ℕ → ℤ → List ℕ
+with_day lead day = lead ++ codes "\"" ++ date_text day ++ codes "\""
+
+-- the same, where there may be no day
+unfoldable pub with_day_or_null : List ℕ → Option ℤ → List ℕ
+with_day_or_null lead None = lead ++ codes "null"
+with_day_or_null lead (Some day) = with_day lead day
+
+-- what the text of each of these is, with commas between
+unfoldable pub listed : {Row : Type 0} → (Row → List ℕ) → List Row → List ℕ
+listed text [] = []
+listed text (row ∷ rows) = text row ++ flat_map (λ other. codes "," ++ text other) rows
+
+-- a list of what the text of each of these is
+unfoldable pub array : {Row : Type 0} → (Row → List ℕ) → List Row → List ℕ
+array text rows = codes "[" ++ listed text rows ++ codes "]"
+
+-- ---- files
+
+-- a file
+unfoldable pub file_text : FileRow → List ℕ
+file_text row =
+    with_number (codes "{\"bytes\":") (length row.text)
+    ++ with_digest (codes ",\"digest\":") row.digest
+    ++ with_text (codes ",\"name\":") row.name ++ codes "}"
+
+-- a file with who last put it
+unfoldable pub edited_text : FileRow → List ℕ
+edited_text row =
+    with_number (codes "{\"bytes\":") (length row.text)
+    ++ with_digest (codes ",\"digest\":") row.digest
+    ++ with_text (codes ",\"editor\":") row.editor
+    ++ with_text (codes ",\"name\":") row.name ++ codes "}"
+
+-- a name alone
+unfoldable pub name_text : List ℕ → List ℕ
+name_text name = with_text (codes "{\"name\":") name ++ codes "}"
+
+-- ---- sign-offs
+
+abbrev pub grade_text : Grade → List ℕ
+grade_text Clean = codes "clean"
+grade_text Waived = codes "waived"
+
+-- a number alone
+unfoldable pub id_text : ℕ → List ℕ
+id_text id = with_number (codes "{\"id\":") id ++ codes "}"
+
+-- the grade and the number of a sign-off
+unfoldable pub granted_text : Grade → ℕ → List ℕ
+granted_text grade id =
+    with_text (codes "{\"grade\":") (grade_text grade)
+    ++ with_number (codes ",\"id\":") id ++ codes "}"
+
+-- the members from `day` to `id`
+unfoldable pub signoff_front : SignOffRow → List ℕ
+signoff_front row =
+    with_day (codes "{\"day\":") row.day ++ with_text (codes ",\"grade\":") (grade_text row.grade)
+    ++ with_number (codes ",\"id\":") row.id
+
+-- the members from `reach` to `who`
+unfoldable pub signoff_end : SignOffRow → List ℕ
+signoff_end row =
+    with_digest (codes ",\"reach\":") row.reach ++ with_text (codes ",\"top\":") row.top
+    ++ with_text (codes ",\"who\":") row.who ++ codes "}"
+
+-- a sign-off
+abbrev pub signoff_text : SignOffRow → List ℕ
+signoff_text row = signoff_front row ++ signoff_end row
+
+-- ---- waivers
+
+-- the members from `asker` to `file`
+unfoldable pub waiver_front : WaiverRow → List ℕ
+waiver_front row =
+    with_text (codes "{\"asker\":") row.asker ++ with_number (codes ",\"at\":") row.at
+    ++ with_digest (codes ",\"digest\":") row.digest
+    ++ with_day_or_null (codes ",\"ended\":") row.ended
+    ++ with_text (codes ",\"file\":") row.file
+
+-- the members from `id` to `reason`
+unfoldable pub waiver_middle : WaiverRow → List ℕ
+waiver_middle row =
+    with_number (codes ",\"id\":") row.id.0 ++ with_day (codes ",\"last_day\":") row.last_day
+    ++ with_text (codes ",\"owner\":") row.owner ++ with_text (codes ",\"reason\":") row.reason
+
+-- the members from `rule` to `top`
+unfoldable pub waiver_end : WaiverRow → List ℕ
+waiver_end row =
+    with_text (codes ",\"rule\":") row.rule ++ with_text (codes ",\"target\":") row.target
+    ++ with_text (codes ",\"top\":") row.top ++ codes "}"
+
+-- a waiver
+abbrev pub waiver_text : WaiverRow → List ℕ
+waiver_text row = waiver_front row ++ waiver_middle row ++ waiver_end row
