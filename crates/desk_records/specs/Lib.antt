@@ -1,0 +1,4 @@
+pub mod Outcomes
+pub mod Machine
+pub mod Repeats
+pub mod Room

@@ -1,0 +1,15 @@
+//! What the desk keeps, held in memory: what a request comes to by it, and changes of it that a
+//! keeper has made first.
+#![tactic(auto)]
+
+mod decision;
+mod files;
+pub mod law;
+mod limits;
+mod records;
+mod revoke;
+mod settle;
+
+pub use decision::Decision;
+pub use limits::{full, full_table};
+pub use records::{Records, Stop};
