@@ -69,3 +69,8 @@ if_says d Parallel test taken other spot = refl
 pub block_says : (d : Parts) (claim : Claim) (body : Actions) → claims_falsely d claim (Block body) ≡ false
 block_says d Full body = refl
 block_says d Parallel body = refl
+
+-- a list without elements
+pub no_elements : {A : Type 0} (xs : List A) → length xs ≡ 0 → xs ≡ []
+no_elements [] none = refl
+no_elements (x ∷ xs) none = absurd (omega (arith, none))

@@ -155,8 +155,11 @@ fn push_unknown(
         found.old.items found.new.items) }
 {
     let process = &design.processes[p.0 as usize];
-    let signal = first_written(alloc, design, p)?;
     let all = statements(alloc, &process.does)?;
+    if all.is_empty() {
+        return Ok(());
+    }
+    let signal = first_written(alloc, design, p)?;
     for one in &all {
         push_statement(alloc, process, signal, one, found)?;
     }

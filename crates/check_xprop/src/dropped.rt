@@ -120,8 +120,11 @@ fn push_delay(
 pub fn delay_ignored(alloc: Global, design: &Design) -> Result<Vec<Finding>, Memory>
     ensures { IfOk result (λ found. AreDelayIgnored (parts design.now) found.items) }
 {
-    let firsts = firsts(alloc, design)?;
     let mut found = Vec::new(alloc);
+    if design.delays.is_empty() {
+        return Ok(found);
+    }
+    let firsts = firsts(alloc, design)?;
     for delay in &design.delays {
         push_delay(design, &firsts, delay, &mut found)?;
     }
