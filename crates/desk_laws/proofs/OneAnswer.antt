@@ -11,7 +11,7 @@ use Rattle.desk_steps.specs.Steps.{Steps, file_of}
 use Rattle.desk_top.specs.Answers.{IsAnswered, OverWorld}
 use Rattle.desk_top.specs.Building.{Built, Designed, Refused}
 use Rattle.desk_top.specs.Delivery.{Outcome}
-use Rattle.desk_top.specs.Outcome.{IsAnswer, IsDone, IsGenerated, IsJudged, IsOutcome, IsRuled, IsRun, IsSigned, IsSimulating, IsStaged, IsStepped, IsTried, World, counted, generated, names_in, parts_of, ruled, run}
+use Rattle.desk_top.specs.Outcome.{IsAnswer, IsDone, IsGenerated, IsJudged, IsOutcome, IsRuled, IsRun, IsSigned, IsSimulating, IsStaged, IsStepped, IsTried, World, generated_sources, generation_outcome, names_in, parts_of, ruling_outcome, run}
 use Rattle.desk_top.specs.Texts.{named, texts_of}
 use Rattle.desk_top.specs.Words.{Order, Sign, Simulate, Generate, order}
 use Rattle.desk_laws.specs.Same.{AreSame, IsUndisturbed}
@@ -22,7 +22,7 @@ use Rattle.desk_laws.proofs.OneRun.{one_run}
 
 one_ruling : (top : List ℕ) (sources : List Source) (flat : DesignParts) (one other : Outcome) → IsRuled top sources flat one → IsRuled top sources flat other → one ≡ other
 one_ruling top sources flat one other first second =
-    first.is ∙ ap (ruled top sources flat) (alone (parts_of flat) first.found second.found first.are_all second.are_all) ∙ sym second.is
+    first.is ∙ ap (ruling_outcome top sources flat) (alone (parts_of flat) first.found second.found first.are_all second.are_all) ∙ sym second.is
 
 answer_once : (top : List ℕ) (sources : List Source) (built : Built) (one other : Outcome) → IsAnswer top sources built one → IsAnswer top sources built other → one ≡ other
 answer_once top sources (Designed flat) one other first second = one_ruling top sources flat one other first second
@@ -63,12 +63,12 @@ simulating_once line top files (Ok steps) (Some texts) one other first second = 
 
 staged_once : (stages : ℕ) (built : Built) (one other : Outcome) → IsStaged stages built one → IsStaged stages built other → one ≡ other
 staged_once stages (Designed flat) one other first second =
-    first.is ∙ ap (counted stages flat) (alone (parts_of flat) first.found second.found first.are_all second.are_all) ∙ sym second.is
+    first.is ∙ ap (generation_outcome stages flat) (alone (parts_of flat) first.found second.found first.are_all second.are_all) ∙ sym second.is
 staged_once stages (Refused line) one other first second = first ∙ sym second
 
 generated_once : OneLine → (stages : ℕ) (one other : Outcome) → IsGenerated stages one → IsGenerated stages other → one ≡ other
 generated_once line stages one other first second =
-    let same : first.built ≡ second.built = one_built line (codes "top") (generated stages) (stages_text stages ∷ []) first.built second.built first.is_built second.is_built in
+    let same : first.built ≡ second.built = one_built line (codes "top") (generated_sources stages) (stages_text stages ∷ []) first.built second.built first.is_built second.is_built in
     staged_once stages second.built one other (subst (λ (built : Built). IsStaged stages built one) same first.is) second.is
 
 -- ---- words

@@ -14,7 +14,7 @@ use Rattle.desk_requests.specs.Requests.{changes, label_of}
 use Rattle.desk_requests.specs.declared.ask.Ask.{Ask}
 use Rattle.desk_requests.specs.declared.ask.Ask.TheVariants as ask
 use Rattle.desk_requests.specs.declared.ask.Request.{Request}
-use Rattle.desk_records.specs.Machine.{by_tables, dropped, full_table, got, is_to, not_revoked, once, revocation, revoked, settled, unless_full, unless_kept}
+use Rattle.desk_records.specs.Machine.{by_tables, change_outcome, drop_outcome, file_answer, full_table, is_to, request_outcome, revocation, revoke_outcome, revoke_refusal, unless_full, unless_kept}
 use Rattle.desk_records.specs.Outcomes.{Outcome, Told, Done, Open, kept_said}
 use Rattle.desk_records.specs.Repeats.{IsReplyTo, after}
 use Rattle.desk_records.proofs.Repeats.{repeats}
@@ -35,21 +35,21 @@ makes_none P request (Told answer) told = tt
 makes_none P request (Done change) told = absurd told
 makes_none P request Open told = tt
 
-got_told : (found : Option FileRow) → IsTold (got found)
+got_told : (found : Option FileRow) → IsTold (file_answer found)
 got_told None = tt
 got_told (Some row) = tt
 
-dropped_makes : (P : Type 0) (request : Request) (found : Option FileRow) (name : List ℕ) → P → Makes P request (dropped found name request)
+dropped_makes : (P : Type 0) (request : Request) (found : Option FileRow) (name : List ℕ) → P → Makes P request (drop_outcome found name request)
 dropped_makes P request None name is = tt
 dropped_makes P request (Some row) name is =
     (is, record { user = refl; name = refl; digest = refl })
 
-fault_makes : (P : Type 0) (request : Request) (fault : RevokeFault) → Makes P request (not_revoked fault)
+fault_makes : (P : Type 0) (request : Request) (fault : RevokeFault) → Makes P request (revoke_refusal fault)
 fault_makes P request NoSuchWaiver = tt
 fault_makes P request (NotOwner owner) = tt
 fault_makes P request (Ended day) = tt
 
-revoked_makes : (P : Type 0) (request : Request) (why : Option RevokeFault) (id : WaiverId) (today : ℤ) → P → Makes P request (revoked why id request today)
+revoked_makes : (P : Type 0) (request : Request) (why : Option RevokeFault) (id : WaiverId) (today : ℤ) → P → Makes P request (revoke_outcome why id request today)
 revoked_makes P request None id today is = (is, record { user = refl; name = refl; digest = refl })
 revoked_makes P request (Some fault) id today is = fault_makes P request fault
 
@@ -57,7 +57,7 @@ by_tables_makes : (P : Type 0) (it : Ask) (request : Request) (today : ℤ) (kep
 by_tables_makes P (ask.PutFile name text) request today kept is =
     (is, record { user = refl; name = refl; digest = refl })
 by_tables_makes P (ask.GetFile name) request today kept is =
-    makes_none P request (got (find (has_name name) kept.files))
+    makes_none P request (file_answer (find (has_name name) kept.files))
     (got_told (find (has_name name) kept.files))
 by_tables_makes P (ask.DropFile name) request today kept is =
     dropped_makes P request (find (has_name name) kept.files) name is
@@ -86,7 +86,7 @@ abbrev IsNew : Request → Kept → Type 0
 IsNew request kept =
     (changes request.ask ≡ true) × (find (is_to request.user (label_of request.id)) kept.replies ≡ None)
 
-unless_full_makes : (P : Type 0) (request : Request) (full : Option Table) (it : Outcome) → Makes P request it → Makes P request (unless_full full it)
+unless_full_makes : (P : Type 0) (request : Request) (table : Option Table) (it : Outcome) → Makes P request it → Makes P request (unless_full table it)
 unless_full_makes P request None it makes = makes
 unless_full_makes P request (Some table) it makes = tt
 
@@ -94,7 +94,7 @@ unless_kept_makes : (request : Request) (kept : Kept) (found : Option ReplyRow) 
 unless_kept_makes request kept None it does none makes = makes (does, none)
 unless_kept_makes request kept (Some row) it does found makes = tt
 
-once_makes : (request : Request) (today : ℤ) (kept : Kept) → changes request.ask ≡ true → Makes (IsNew request kept) request (once request today kept)
+once_makes : (request : Request) (today : ℤ) (kept : Kept) → changes request.ask ≡ true → Makes (IsNew request kept) request (change_outcome request today kept)
 once_makes request today kept does =
     unless_kept_makes request kept (find (is_to request.user (label_of request.id)) kept.replies)
     (unless_full (full_table request.ask kept) (by_tables request.ask request today kept)) does refl
@@ -102,13 +102,13 @@ once_makes request today kept does =
     (by_tables request.ask request today kept)
     (by_tables_makes (IsNew request kept) request.ask request today kept is))
 
-settled_makes : (request : Request) (today : ℤ) (kept : Kept) (does : Bool) → changes request.ask ≡ does → Makes (IsNew request kept) request (if does then once request today kept else by_tables request.ask request today kept)
+settled_makes : (request : Request) (today : ℤ) (kept : Kept) (does : Bool) → changes request.ask ≡ does → Makes (IsNew request kept) request (if does then change_outcome request today kept else by_tables request.ask request today kept)
 settled_makes request today kept true does = once_makes request today kept does
 settled_makes request today kept false doesnt =
     makes_none (IsNew request kept) request (by_tables request.ask request today kept)
     (unchanged_told request.ask request today kept doesnt)
 
-pub accepted_once : (request : Request) (change : Change) (later : List Change) (day today : ℤ) (kept : Kept) → settled request day kept ≡ Done change → settled request today (after later (changed change kept)) ≡ Told (kept_said (reply_of change))
+pub accepted_once : (request : Request) (change : Change) (later : List Change) (day today : ℤ) (kept : Kept) → request_outcome request day kept ≡ Done change → request_outcome request today (after later (changed change kept)) ≡ Told (kept_said (reply_of change))
 accepted_once request change later day today kept accepted =
     let made : Makes (IsNew request kept) request (Done change) = subst (Makes (IsNew request kept) request) accepted (settled_makes request day kept (changes request.ask) refl) in
     repeats request change later today kept made.0.0 made.0.1 made.1

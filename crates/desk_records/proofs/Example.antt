@@ -8,7 +8,7 @@ use Rattle.desk_tables.specs.declared.rows.ReplyRow.{ReplyRow}
 use Rattle.desk_requests.specs.declared.ask.Ask.TheVariants.{DropFile}
 use Rattle.desk_requests.specs.declared.ask.Request.{Request}
 use Rattle.desk_requests.specs.declared.reply.BodyKind.TheVariants.{Plain}
-use Rattle.desk_records.specs.Machine.{settled}
+use Rattle.desk_records.specs.Machine.{request_outcome}
 use Rattle.desk_records.specs.Outcomes.{Told, kept_said}
 use Rattle.desk_records.specs.Repeats.{after}
 
@@ -22,18 +22,18 @@ abbrev drop_of : List ℕ → List ℕ → Request
 drop_of label its_digest =
     record { user = codes "jo"; id = Some label; digest = its_digest; ask = DropFile (codes "tx.v") }
 
-a_request_that_comes_again_gets_its_reply : settled (drop_of (codes "drop-1") (1 ∷ [])) (pos 0) kept ≡ Told (kept_said row)
+a_request_that_comes_again_gets_its_reply : request_outcome (drop_of (codes "drop-1") (1 ∷ [])) (pos 0) kept ≡ Told (kept_said row)
 a_request_that_comes_again_gets_its_reply = refl
 
-another_request_must_not_have_its_name : settled (drop_of (codes "drop-1") (2 ∷ [])) (pos 0) kept ≡ Told (record { status = 409; kind = Plain; body = codes "RequestIdReused\n" })
+another_request_must_not_have_its_name : request_outcome (drop_of (codes "drop-1") (2 ∷ [])) (pos 0) kept ≡ Told (record { status = 409; kind = Plain; body = codes "RequestIdReused\n" })
 another_request_must_not_have_its_name = refl
 
-a_file_that_is_not_there_is_not_dropped : settled (drop_of (codes "drop-2") (2 ∷ [])) (pos 0) kept ≡ Told (record { status = 404; kind = Plain; body = codes "Not Found\n" })
+a_file_that_is_not_there_is_not_dropped : request_outcome (drop_of (codes "drop-2") (2 ∷ [])) (pos 0) kept ≡ Told (record { status = 404; kind = Plain; body = codes "Not Found\n" })
 a_file_that_is_not_there_is_not_dropped = refl
 
 -- another user's request of the same name was accepted
 abbrev later : Change
 later = change.DropFile (codes "a.v") (record row { user = codes "al" })
 
-it_gets_its_reply_after_other_changes : settled (drop_of (codes "drop-1") (1 ∷ [])) (pos 9) (after (later ∷ []) kept) ≡ Told (kept_said row)
+it_gets_its_reply_after_other_changes : request_outcome (drop_of (codes "drop-1") (1 ∷ [])) (pos 9) (after (later ∷ []) kept) ≡ Told (kept_said row)
 it_gets_its_reply_after_other_changes = refl

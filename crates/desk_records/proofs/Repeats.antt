@@ -12,7 +12,7 @@ use Rattle.desk_tables.specs.declared.change.Change.TheVariants.{PutFile, DropFi
 use Rattle.desk_tables.specs.declared.rows.ReplyRow.{ReplyRow}
 use Rattle.desk_requests.specs.Requests.{changes, label_of}
 use Rattle.desk_requests.specs.declared.ask.Request.{Request}
-use Rattle.desk_records.specs.Machine.{again, by_tables, full_table, is_to, once, settled, unless_full, unless_kept}
+use Rattle.desk_records.specs.Machine.{by_tables, change_outcome, full_table, is_to, repeat_outcome, request_outcome, unless_full, unless_kept}
 use Rattle.desk_records.specs.Outcomes.{Told, kept_said}
 use Rattle.desk_records.specs.Repeats.{IsReplyTo, after}
 
@@ -52,18 +52,18 @@ to_it request reply is =
     (same_bytes reply.user request.user is.user)
     (same_bytes reply.request (label_of request.id) is.name)
 
-same_again : (request : Request) (reply : ReplyRow) → IsReplyTo request reply → again reply request.digest ≡ Told (kept_said reply)
+same_again : (request : Request) (reply : ReplyRow) → IsReplyTo request reply → repeat_outcome reply request.digest ≡ Told (kept_said reply)
 same_again request reply is =
     ap Told (cond-true (bytes_eq reply.digest request.digest) (kept_said reply) _ (same_bytes reply.digest request.digest is.digest))
 
 -- where a reply is found for it, a request that changes the tables gets that
-settled_again : (request : Request) (today : ℤ) (kept : Kept) (reply : ReplyRow) → changes request.ask ≡ true → find (is_to request.user (label_of request.id)) kept.replies ≡ Some reply → IsReplyTo request reply → settled request today kept ≡ Told (kept_said reply)
+settled_again : (request : Request) (today : ℤ) (kept : Kept) (reply : ReplyRow) → changes request.ask ≡ true → find (is_to request.user (label_of request.id)) kept.replies ≡ Some reply → IsReplyTo request reply → request_outcome request today kept ≡ Told (kept_said reply)
 settled_again request today kept reply does found is =
-    cond-true (changes request.ask) (once request today kept) (by_tables request.ask request today kept) does
+    cond-true (changes request.ask) (change_outcome request today kept) (by_tables request.ask request today kept) does
     ∙ ap (λ it. unless_kept it request.digest (unless_full (full_table request.ask kept) (by_tables request.ask request today kept))) found
     ∙ same_again request reply is
 
-pub repeats : (request : Request) (change : Change) (later : List Change) (today : ℤ) (kept : Kept) → changes request.ask ≡ true → find (is_to request.user (label_of request.id)) kept.replies ≡ None → IsReplyTo request (reply_of change) → settled request today (after later (changed change kept)) ≡ Told (kept_said (reply_of change))
+pub repeats : (request : Request) (change : Change) (later : List Change) (today : ℤ) (kept : Kept) → changes request.ask ≡ true → find (is_to request.user (label_of request.id)) kept.replies ≡ None → IsReplyTo request (reply_of change) → request_outcome request today (after later (changed change kept)) ≡ Told (kept_said (reply_of change))
 repeats request change later today kept does none is =
     settled_again request today (after later (changed change kept)) (reply_of change) does
     (found_after (is_to request.user (label_of request.id)) later (changed change kept) (reply_of change)

@@ -33,8 +33,8 @@ abbrev pub is_to : List ℕ → List ℕ → ReplyRow → Bool
 is_to user label row = bytes_eq row.user user && bytes_eq row.request label
 
 -- a request that comes again gets the kept reply again; another one must not have its name
-abbrev pub again : ReplyRow → List ℕ → Outcome
-again row digest =
+abbrev pub repeat_outcome : ReplyRow → List ℕ → Outcome
+repeat_outcome row digest =
     Told (if bytes_eq row.digest digest then kept_said row
     else conflict_with (word_line (codes "RequestIdReused")))
 
@@ -70,8 +70,8 @@ table_name SignOffs = codes "signoffs"
 table_name Replies = codes "replies"
 
 -- the table is full
-abbrev pub full : Table → Outcome
-full table = Told (conflict_with (value_line (codes "Full") (table_name table)))
+abbrev pub full_refusal : Table → Outcome
+full_refusal table = Told (conflict_with (value_line (codes "Full") (table_name table)))
 
 -- ---- files
 
@@ -91,20 +91,20 @@ abbrev pub file_row : List ℕ → List ℕ → List ℕ → FileRow
 file_row name text user = record { name = name; text = text; digest = sha256 text; editor = user }
 
 -- it is answered with these bytes of JSON
-abbrev pub answered : List ℕ → Outcome
-answered body = Told (record { status = 200; kind = Json; body = body })
+abbrev pub json_answer : List ℕ → Outcome
+json_answer body = Told (record { status = 200; kind = Json; body = body })
 
-abbrev pub got : Option FileRow → Outcome
-got None = Told not_found
-got (Some row) = answered (edited_text row)
+abbrev pub file_answer : Option FileRow → Outcome
+file_answer None = Told not_found
+file_answer (Some row) = json_answer (edited_text row)
 
-abbrev pub dropped : Option FileRow → List ℕ → Request → Outcome
-dropped None name request = Told not_found
-dropped (Some row) name request =
+abbrev pub drop_outcome : Option FileRow → List ℕ → Request → Outcome
+drop_outcome None name request = Told not_found
+drop_outcome (Some row) name request =
     Done (change.DropFile name (kept_row request 200 (name_text name)))
 
-abbrev pub put : FileRow → Request → Outcome
-put row request = Done (change.PutFile row (kept_row request 200 (file_text row)))
+abbrev pub put_outcome : FileRow → Request → Outcome
+put_outcome row request = Done (change.PutFile row (kept_row request 200 (file_text row)))
 
 -- ---- revocations
 
@@ -115,46 +115,46 @@ revocation (Some row) who today =
     if not (bytes_eq row.owner who) then Some (NotOwner row.owner)
     else option_map Ended (end_by today row.last_day row.ended)
 
-abbrev pub not_revoked : RevokeFault → Outcome
-not_revoked NoSuchWaiver = Told not_found
-not_revoked (NotOwner owner) = Told (conflict_with (value_line (codes "NotOwner") owner))
-not_revoked (Ended day) = Told (conflict_with (value_line (codes "Ended") (date_text day)))
+abbrev pub revoke_refusal : RevokeFault → Outcome
+revoke_refusal NoSuchWaiver = Told not_found
+revoke_refusal (NotOwner owner) = Told (conflict_with (value_line (codes "NotOwner") owner))
+revoke_refusal (Ended day) = Told (conflict_with (value_line (codes "Ended") (date_text day)))
 
-abbrev pub revoked : Option RevokeFault → WaiverId → Request → ℤ → Outcome
-revoked None id request today = Done (change.Revoke id today (kept_row request 200 (id_text id.0)))
-revoked (Some fault) id request today = not_revoked fault
+abbrev pub revoke_outcome : Option RevokeFault → WaiverId → Request → ℤ → Outcome
+revoke_outcome None id request today = Done (change.Revoke id today (kept_row request 200 (id_text id.0)))
+revoke_outcome (Some fault) id request today = revoke_refusal fault
 
 -- ---- requests
 
 -- what a request comes to by itself, where the tables alone settle it
 abbrev pub by_tables : Ask → Request → ℤ → Kept → Outcome
-by_tables (ask.PutFile name text) request today kept = put (file_row name text request.user) request
-by_tables (ask.GetFile name) request today kept = got (find (has_name name) kept.files)
+by_tables (ask.PutFile name text) request today kept = put_outcome (file_row name text request.user) request
+by_tables (ask.GetFile name) request today kept = file_answer (find (has_name name) kept.files)
 by_tables (ask.DropFile name) request today kept =
-    dropped (find (has_name name) kept.files) name request
-by_tables ask.SignOffs request today kept = answered (array signoff_text kept.signoffs)
-by_tables ask.Waivers request today kept = answered (array waiver_text kept.waivers)
+    drop_outcome (find (has_name name) kept.files) name request
+by_tables ask.SignOffs request today kept = json_answer (array signoff_text kept.signoffs)
+by_tables ask.Waivers request today kept = json_answer (array waiver_text kept.waivers)
 by_tables (ask.Revoke id) request today kept =
-    revoked (revocation (find (has_id id) kept.waivers) request.user today) id request today
+    revoke_outcome (revocation (find (has_id id) kept.waivers) request.user today) id request today
 by_tables _ request today kept = Open
 
 abbrev pub unless_full : Option Table → Outcome → Outcome
 unless_full None it = it
-unless_full (Some table) it = full table
+unless_full (Some table) it = full_refusal table
 
 abbrev pub unless_kept : Option ReplyRow → List ℕ → Outcome → Outcome
 unless_kept None digest it = it
-unless_kept (Some row) digest it = again row digest
+unless_kept (Some row) digest it = repeat_outcome row digest
 
 -- a request that changes the tables: its kept reply where there is one; else a full table; else
 -- what it comes to by itself
-abbrev pub once : Request → ℤ → Kept → Outcome
-once request today kept =
+abbrev pub change_outcome : Request → ℤ → Kept → Outcome
+change_outcome request today kept =
     unless_kept (find (is_to request.user (label_of request.id)) kept.replies) request.digest
     (unless_full (full_table request.ask kept) (by_tables request.ask request today kept))
 
 -- what a request comes to by what is kept, on a day
-abbrev pub settled : Request → ℤ → Kept → Outcome
-settled request today kept =
-    if changes request.ask then once request today kept
+abbrev pub request_outcome : Request → ℤ → Kept → Outcome
+request_outcome request today kept =
+    if changes request.ask then change_outcome request today kept
     else by_tables request.ask request today kept

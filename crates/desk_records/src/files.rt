@@ -2,11 +2,11 @@
 ghost use Rattle.std.specs.Prelude.{◌≡◌, bytes_eq, find, option_copied, IfOk};
 ghost use Rattle.desk_tables.specs.Changes.{has_name};
 ghost use Rattle.desk_tables.specs.Tables.{kept_of};
-ghost use Rattle.desk_records.specs.Machine.{again, answered, by_tables, dropped, file_row, got, is_to, kept_row, put};
+ghost use Rattle.desk_records.specs.Machine.{by_tables, drop_outcome, file_answer, file_row, is_to, json_answer, kept_row, put_outcome, repeat_outcome};
 ghost use Rattle.desk_records.specs.Outcomes.{outcome};
 
 use crate::Decision;
-use crate::revoke::revoked;
+use crate::revoke::revoke_outcome;
 use crate::settle::reply_in;
 use desk_bodies::{
     conflict, edited_body, file_body, name_body, not_found, signoffs_body, waivers_body,
@@ -51,8 +51,12 @@ fn is_same_digest(row: &ReplyRow, digest: &[u8]) -> bool
 }
 
 // A request that comes again, or another one that has its name.
-pub(crate) fn again(alloc: Global, row: &ReplyRow, digest: &[u8]) -> Result<Decision, Memory>
-    ensures { IfOk result (λ made. outcome made ≡ again row.now digest.now) }
+pub(crate) fn repeat_outcome(
+    alloc: Global,
+    row: &ReplyRow,
+    digest: &[u8],
+) -> Result<Decision, Memory>
+    ensures { IfOk result (λ made. outcome made ≡ repeat_outcome row.now digest.now) }
 {
     if !is_same_digest(row, digest) {
         return Ok(Decision::Tells(conflict(alloc, b"RequestIdReused")?));
@@ -93,9 +97,14 @@ fn file_row(alloc: Global, name: &Text, text: &Text, request: &Request) -> Resul
     })
 }
 
-fn put(alloc: Global, name: &Text, text: &Text, request: &Request) -> Result<Decision, Memory>
+fn put_outcome(
+    alloc: Global,
+    name: &Text,
+    text: &Text,
+    request: &Request,
+) -> Result<Decision, Memory>
     ensures { IfOk result (λ made. outcome made
-        ≡ put (file_row name.now text.now request.now.user) request.now) }
+        ≡ put_outcome (file_row name.now text.now request.now.user) request.now) }
 {
     let row = file_row(alloc, name, text, request)?;
     let body = file_body(alloc, &row)?;
@@ -103,8 +112,8 @@ fn put(alloc: Global, name: &Text, text: &Text, request: &Request) -> Result<Dec
     Ok(Decision::Makes(Change::PutFile(row, reply)))
 }
 
-fn answered(body: Vec<u8>) -> Decision
-    ensures { outcome result ≡ answered body.items }
+fn json_answer(body: Vec<u8>) -> Decision
+    ensures { outcome result ≡ json_answer body.items }
 {
     Decision::Tells(Reply {
         status: 200,
@@ -113,23 +122,24 @@ fn answered(body: Vec<u8>) -> Decision
     })
 }
 
-fn got(alloc: Global, files: &[FileRow], name: &Text) -> Result<Decision, Memory>
-    ensures { IfOk result (λ made. outcome made ≡ got (find (has_name name.now) files.now)) }
+fn file_answer(alloc: Global, files: &[FileRow], name: &Text) -> Result<Decision, Memory>
+    ensures { IfOk result (λ made.
+        outcome made ≡ file_answer (find (has_name name.now) files.now)) }
 {
     match file_of(files, name) {
         None => Ok(Decision::Tells(not_found(alloc)?)),
-        Some(row) => Ok(answered(edited_body(alloc, row)?)),
+        Some(row) => Ok(json_answer(edited_body(alloc, row)?)),
     }
 }
 
-fn dropped(
+fn drop_outcome(
     alloc: Global,
     files: &[FileRow],
     name: &Text,
     request: &Request,
 ) -> Result<Decision, Memory>
     ensures { IfOk result (λ made. outcome made
-        ≡ dropped (find (has_name name.now) files.now) name.now request.now) }
+        ≡ drop_outcome (find (has_name name.now) files.now) name.now request.now) }
 {
     match file_of(files, name) {
         None => Ok(Decision::Tells(not_found(alloc)?)),
@@ -153,12 +163,12 @@ pub(crate) fn by_tables(
         ≡ by_tables request.now.ask request.now today (kept_of tables.now)) }
 {
     match &request.ask {
-        Ask::PutFile(name, text) => put(alloc, name, text, request),
-        Ask::GetFile(name) => got(alloc, &tables.files, name),
-        Ask::DropFile(name) => dropped(alloc, &tables.files, name, request),
-        Ask::SignOffs => Ok(answered(signoffs_body(alloc, &tables.signoffs)?)),
-        Ask::Waivers => Ok(answered(waivers_body(alloc, &tables.waivers)?)),
-        Ask::Revoke(id) => revoked(alloc, *id, request, today, &tables.waivers),
+        Ask::PutFile(name, text) => put_outcome(alloc, name, text, request),
+        Ask::GetFile(name) => file_answer(alloc, &tables.files, name),
+        Ask::DropFile(name) => drop_outcome(alloc, &tables.files, name, request),
+        Ask::SignOffs => Ok(json_answer(signoffs_body(alloc, &tables.signoffs)?)),
+        Ask::Waivers => Ok(json_answer(waivers_body(alloc, &tables.waivers)?)),
+        Ask::Revoke(id) => revoke_outcome(alloc, *id, request, today, &tables.waivers),
         Ask::Ruling(_) | Ask::SignOff(_) | Ask::Waive(_) => Ok(Decision::Open),
     }
 }

@@ -5,7 +5,7 @@ ghost use Rattle.desk_tables.specs.Tables.{Kept};
 ghost use Rattle.desk_tables.specs.declared.change.Change.{Change};
 ghost use Rattle.desk_requests.specs.Requests.{changes, label_of};
 ghost use Rattle.desk_requests.specs.declared.ask.Request.{Request};
-ghost use Rattle.desk_records.specs.Machine.{is_to, settled};
+ghost use Rattle.desk_records.specs.Machine.{is_to, request_outcome};
 ghost use Rattle.desk_records.specs.Outcomes.{Done, Told, kept_said};
 ghost use Rattle.desk_records.specs.Repeats.{IsReplyTo, after};
 
@@ -13,8 +13,8 @@ ghost use Rattle.desk_records.specs.Repeats.{IsReplyTo, after};
 /// kept.
 pub fn accepted_once()
     ensures { (request : Request) (change : Change) (later : List Change) (day today : ℤ)
-        (kept : Kept) → settled request day kept ≡ Done change
-        → settled request today (after later (changed change kept))
+        (kept : Kept) → request_outcome request day kept ≡ Done change
+        → request_outcome request today (after later (changed change kept))
         ≡ Told (kept_said (reply_of change)) }
 {}
 
@@ -24,6 +24,6 @@ pub fn kept_again()
         (kept : Kept) → changes request.ask ≡ true
         → find (is_to request.user (label_of request.id)) kept.replies ≡ None
         → IsReplyTo request (reply_of change)
-        → settled request today (after later (changed change kept))
+        → request_outcome request today (after later (changed change kept))
         ≡ Told (kept_said (reply_of change)) }
 {}

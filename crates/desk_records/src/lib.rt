@@ -11,5 +11,5 @@ mod revoke;
 mod settle;
 
 pub use decision::Decision;
-pub use limits::{full, full_table};
+pub use limits::{full_refusal, full_table};
 pub use records::{Records, Stop};

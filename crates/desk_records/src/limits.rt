@@ -3,7 +3,7 @@ ghost use Rattle.std.specs.Prelude.{◌≡◌, ◌≤◌, ◌+◌, ◌^◌, ◌-
 ghost use Rattle.desk_tables.specs.Changes.{has_name, without_file};
 ghost use Rattle.desk_tables.specs.Rules.{all_bytes};
 ghost use Rattle.desk_tables.specs.Tables.{kept_of};
-ghost use Rattle.desk_records.specs.Machine.{fills_files, fills_signoffs, fills_waivers, full, full_table, table_name};
+ghost use Rattle.desk_records.specs.Machine.{fills_files, fills_signoffs, fills_waivers, full_refusal, full_table, table_name};
 ghost use Rattle.desk_records.specs.Outcomes.{outcome};
 
 use crate::Decision;
@@ -115,8 +115,8 @@ fn table_name(table: Table) -> &'static [u8]
 }
 
 /// The refusal for want of room in a table.
-pub fn full(alloc: Global, table: Table) -> Result<Decision, Memory>
-    ensures { IfOk result (λ made. outcome made ≡ full table) }
+pub fn full_refusal(alloc: Global, table: Table) -> Result<Decision, Memory>
+    ensures { IfOk result (λ made. outcome made ≡ full_refusal table) }
 {
     Ok(Decision::Tells(refused_with(alloc, b"Full", table_name(table))?))
 }

@@ -4,12 +4,12 @@ ghost use Rattle.desk_io.specs.Causes.{Rose};
 ghost use Rattle.desk_tables.specs.Changes.{changed, reply_of};
 ghost use Rattle.desk_tables.specs.Tables.{kept_of};
 ghost use Rattle.desk_requests.specs.Replies.{said};
-ghost use Rattle.desk_records.specs.Machine.{by_tables, full_table, once, settled, unless_full};
+ghost use Rattle.desk_records.specs.Machine.{by_tables, change_outcome, full_table, request_outcome, unless_full};
 ghost use Rattle.desk_records.specs.Outcomes.{kept_said, outcome};
 
 use crate::Decision;
-use crate::files::{again, by_tables, kept_reply};
-use crate::limits::{full, full_table};
+use crate::files::{by_tables, kept_reply, repeat_outcome};
+use crate::limits::{full_refusal, full_table};
 use crate::settle::{ready, settle};
 use desk_requests::{Reply, Request};
 use desk_tables::{Change, Day, Keeper, KeeperFault, Tables};
@@ -87,29 +87,31 @@ impl Records {
             (by_tables request.now.ask request.now today self.now)) }
     {
         match full_table(&request.ask, &self.tables) {
-            Some(table) => full(self.alloc, table),
+            Some(table) => full_refusal(self.alloc, table),
             None => by_tables(self.alloc, request, today, &self.tables),
         }
     }
 
     // A request that changes the tables: its kept reply, a full table, or what it comes to by
     // itself.
-    fn once(&self, request: &Request, today: Day) -> Result<Decision, Memory>
-        ensures { IfOk result (λ made. outcome made ≡ once request.now today self.now) }
+    fn change_outcome(&self, request: &Request, today: Day) -> Result<Decision, Memory>
+        ensures { IfOk result (λ made.
+            outcome made ≡ change_outcome request.now today self.now) }
     {
         let user = request.user.as_bytes();
         match kept_reply(&self.tables.replies, user, request.label()) {
-            Some(row) => again(self.alloc, row, &request.digest),
+            Some(row) => repeat_outcome(self.alloc, row, &request.digest),
             None => self.unless_full(request, today),
         }
     }
 
     /// What a request comes to by what is kept, on a day.
     pub fn decide(&self, request: &Request, today: Day) -> Result<Decision, Memory>
-        ensures { IfOk result (λ made. outcome made ≡ settled request.now today self.now) }
+        ensures { IfOk result (λ made.
+            outcome made ≡ request_outcome request.now today self.now) }
     {
         if request.ask.changes() {
-            self.once(request, today)
+            self.change_outcome(request, today)
         } else {
             by_tables(self.alloc, request, today, &self.tables)
         }

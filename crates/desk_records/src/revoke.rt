@@ -3,7 +3,7 @@ ghost use Rattle.std.specs.Prelude.{◌≡◌, find, option_copied, IfOk};
 ghost use Rattle.desk_bodies.specs.Refusals.{conflict_with, value_line};
 ghost use Rattle.desk_tables.specs.Changes.{has_id};
 ghost use Rattle.waiver_book.specs.Waivers.{end_by};
-ghost use Rattle.desk_records.specs.Machine.{not_revoked, revocation, revoked};
+ghost use Rattle.desk_records.specs.Machine.{revocation, revoke_outcome, revoke_refusal};
 ghost use Rattle.desk_records.specs.Outcomes.{Told, outcome};
 
 use crate::Decision;
@@ -59,8 +59,8 @@ fn refused(alloc: Global, word: &[u8], value: &[u8]) -> Result<Decision, Memory>
     Ok(Decision::Tells(refused_with(alloc, word, value)?))
 }
 
-fn not_revoked(alloc: Global, fault: &RevokeFault) -> Result<Decision, Memory>
-    ensures { IfOk result (λ made. outcome made ≡ not_revoked fault.now) }
+fn revoke_refusal(alloc: Global, fault: &RevokeFault) -> Result<Decision, Memory>
+    ensures { IfOk result (λ made. outcome made ≡ revoke_refusal fault.now) }
 {
     match fault {
         RevokeFault::NoSuchWaiver => Ok(Decision::Tells(not_found(alloc)?)),
@@ -70,7 +70,7 @@ fn not_revoked(alloc: Global, fault: &RevokeFault) -> Result<Decision, Memory>
 }
 
 // A request to revoke a waiver: why it isn't revoked, or that it ends today.
-pub(crate) fn revoked(
+pub(crate) fn revoke_outcome(
     alloc: Global,
     id: WaiverId,
     request: &Request,
@@ -78,11 +78,11 @@ pub(crate) fn revoked(
     waivers: &[WaiverRow],
 ) -> Result<Decision, Memory>
     ensures { IfOk result (λ made. outcome made
-        ≡ revoked (revocation (find (has_id id) waivers.now) request.now.user today)
+        ≡ revoke_outcome (revocation (find (has_id id) waivers.now) request.now.user today)
         id request.now today) }
 {
     match revocation(waiver_of(waivers, id), &request.user, today) {
-        Some(fault) => not_revoked(alloc, &fault),
+        Some(fault) => revoke_refusal(alloc, &fault),
         None => {
             let body = id_body(alloc, id.0)?;
             let reply = kept_row(alloc, request, 200, body)?;

@@ -9,17 +9,17 @@ head_lines =
     codes "module top(input clk, rst_n, input [31:0] d, output [31:0] q);\nwire [31:0] s0;\nassign s0 = d;\n"
 
 -- a text with a number behind it
-abbrev pub numbered : List ℕ → ℕ → List ℕ
-numbered text number = text ++ decimal number
+abbrev pub text_with_number : List ℕ → ℕ → List ℕ
+text_with_number text number = text ++ decimal number
 
 -- the register of a stage, and the block that writes it
 abbrev pub stage_lines : ℕ → List ℕ
 stage_lines stage =
-    numbered (codes "reg [31:0] s") stage
-    ++ numbered (codes ";\nalways @(posedge clk or negedge rst_n) if (!rst_n) s") stage
-    ++ numbered (codes " <= 32'd0; else s") stage
-    ++ numbered (codes " <= s") (stage - 1)
-    ++ numbered (codes " + 32'd") stage ++ codes ";\n"
+    text_with_number (codes "reg [31:0] s") stage
+    ++ text_with_number (codes ";\nalways @(posedge clk or negedge rst_n) if (!rst_n) s") stage
+    ++ text_with_number (codes " <= 32'd0; else s") stage
+    ++ text_with_number (codes " <= s") (stage - 1)
+    ++ text_with_number (codes " + 32'd") stage ++ codes ";\n"
 
 -- the stages up to a number
 abbrev pub stages : ℕ → List ℕ
@@ -29,4 +29,4 @@ stages (suc number) = stages number ++ stage_lines (suc number)
 -- the module
 abbrev pub stages_text : ℕ → List ℕ
 stages_text count =
-    head_lines ++ stages count ++ numbered (codes "assign q = s") count ++ codes ";\nendmodule\n"
+    head_lines ++ stages count ++ text_with_number (codes "assign q = s") count ++ codes ";\nendmodule\n"

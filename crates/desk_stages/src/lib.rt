@@ -2,7 +2,7 @@
 #![tactic(auto)]
 
 ghost use Rattle.std.specs.Prelude.{◌≡◌, ◌≤◌, ◌++◌, vec_len, IfOk, OnOk};
-ghost use Rattle.desk_stages.specs.Stages.{numbered, stage_lines, stages_text};
+ghost use Rattle.desk_stages.specs.Stages.{stage_lines, stages_text, text_with_number};
 
 use itoa::Buffer;
 use rtl_tree::memory::Memory;
@@ -23,7 +23,7 @@ const BLOCK: &[u8] = b";\nalways @(posedge clk or negedge rst_n) if (!rst_n) s";
 
 // A text with a number behind it.
 fn push_numbered(out: &mut Vec<u8>, text: &[u8], number: u32) -> Result<(), Memory>
-    ensures { OnOk result (out.new.items ≡ out.old.items ++ numbered text.now number) }
+    ensures { OnOk result (out.new.items ≡ out.old.items ++ text_with_number text.now number) }
 {
     let mut digits = Buffer::new();
     out.extend_from_slice(text)?;

@@ -13,7 +13,7 @@ use Rattle.desk_top.specs.declared.front.Built.{Built as Made}
 use Rattle.desk_top.specs.declared.simulate.Plan.{Plan}
 use Rattle.desk_top.specs.Building.{AreSpelled, Built, Modules, IsBuilt, built, elaborated_or_not}
 use Rattle.desk_top.specs.Delivery.{IsWork}
-use Rattle.desk_top.specs.Outcome.{IsAnswer, IsGenerated, IsJudged, IsStaged, IsStepped, IsTried, generated}
+use Rattle.desk_top.specs.Outcome.{IsAnswer, IsGenerated, IsJudged, IsStaged, IsStepped, IsTried, generated_sources}
 use Rattle.desk_top.specs.Plans.{IsPlan}
 use Rattle.desk_top.proofs.Answered.{plan_map, work_map}
 
@@ -43,20 +43,20 @@ one_text now made empty text stages same is none says =
 -- and as a file by its name
 pub one_source : (all : List Source) (names names_made no_names : List (String Global)) (name : String Global) (now made empty : List (Vec ℕ Global)) (text : Vec ℕ Global) (stages : ℕ)
     → all ≡ sources names now → names ≡ names_made → names_made ≡ no_names ++ name ∷ [] → no_names ≡ [] → string_bytes name ≡ codes "generated"
-    → now ≡ made → made ≡ empty ++ text ∷ [] → empty ≡ [] → text.items ≡ stages_text stages → all ≡ generated stages
+    → now ≡ made → made ≡ empty ++ text ∷ [] → empty ≡ [] → text.items ≡ stages_text stages → all ≡ generated_sources stages
 one_source all names names_made no_names name now made empty text stages are same_names name_is no_name called same is none says =
     are ∙ (ap (λ ns. sources ns now) (one_pushed names names_made no_names name same_names name_is no_name)
     ∙ (ap (sources (name ∷ [])) (one_pushed now made empty text same is none)
     ∙ (ap (λ n. record { name = n; text = text.items } ∷ []) called ∙ ap (λ t. record { name = codes "generated"; text = t } ∷ []) says)))
 
 -- the answer for a generated text over what it makes
-pub generated_of : (stages : ℕ) (s : List Source) (texts : List (List ℕ)) (b : Built) (work : Result Work Stop) → s ≡ generated stages → texts ≡ stages_text stages ∷ [] → IsBuilt (codes "top") s texts b
+pub generated_of : (stages : ℕ) (s : List Source) (texts : List (List ℕ)) (b : Built) (work : Result Work Stop) → s ≡ generated_sources stages → texts ≡ stages_text stages ∷ [] → IsBuilt (codes "top") s texts b
     → IsWork (IsStaged stages b) work → IsWork (IsGenerated stages) work
 generated_of stages s texts b work same all made is =
     work_map {P = IsStaged stages b} {Q = IsGenerated stages} work is
     (λ outcome it. record {
       built = b;
-      is_built = subst (λ (ts : List (List ℕ)). IsBuilt (codes "top") (generated stages) ts b) all (subst (λ (ss : List Source). IsBuilt (codes "top") ss texts b) same made);
+      is_built = subst (λ (ts : List (List ℕ)). IsBuilt (codes "top") (generated_sources stages) ts b) all (subst (λ (ss : List Source). IsBuilt (codes "top") ss texts b) same made);
       is = it;
     })
 

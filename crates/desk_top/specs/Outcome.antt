@@ -54,8 +54,8 @@ report_of top sources flat found =
     report_text top sources flat.signals flat.instances found (is_clean found) (is_firm found)
 
 -- the design is clean, or has a finding of the first grade
-abbrev pub ruled : List ℕ → List Source → DesignParts → List Finding → Outcome
-ruled top sources flat found =
+abbrev pub ruling_outcome : List ℕ → List Source → DesignParts → List Finding → Outcome
+ruling_outcome top sources flat found =
     record { status = if is_clean found then DONE else OPEN; bytes = report_of top sources flat found }
 
 -- the answer for a design: all its findings are told; and where none of them is of the first grade, simulation agrees with
@@ -63,7 +63,7 @@ ruled top sources flat found =
 pub record IsRuled (top : List ℕ) (sources : List Source) (flat : DesignParts) (outcome : Outcome) : Type 0 where
   pub found : List Finding
   pub are_all : AreAllFindings (parts_of flat) found
-  pub is : outcome ≡ ruled top sources flat found
+  pub is : outcome ≡ ruling_outcome top sources flat found
   pub promised : IsClean found → IsPromised (queue_of flat)
 
 -- the source is refused
@@ -129,19 +129,19 @@ IsSimulating top files (Ok steps) (Some texts) outcome = IsStepped top (named fi
 -- ---- generated designs
 
 -- a generated text as a file, which has this name where it is told
-abbrev pub generated : ℕ → List Source
-generated stages = record { name = codes "generated"; text = stages_text stages } ∷ []
+abbrev pub generated_sources : ℕ → List Source
+generated_sources stages = record { name = codes "generated"; text = stages_text stages } ∷ []
 
 -- what is told of a design with these findings
-abbrev pub counted : ℕ → DesignParts → List Finding → Outcome
-counted stages flat found =
+abbrev pub generation_outcome : ℕ → DesignParts → List Finding → Outcome
+generation_outcome stages flat found =
     record { status = DONE; bytes = stages_report stages (length flat.tasks) (is_clean found) (length found) }
 
 -- the answer for a design: all its findings are counted
 pub record IsCounted (stages : ℕ) (flat : DesignParts) (outcome : Outcome) : Type 0 where
   pub found : List Finding
   pub are_all : AreAllFindings (parts_of flat) found
-  pub is : outcome ≡ counted stages flat found
+  pub is : outcome ≡ generation_outcome stages flat found
 
 abbrev pub IsStaged : ℕ → Built → Outcome → Type 0
 IsStaged stages (Designed flat) outcome = IsCounted stages flat outcome
@@ -150,7 +150,7 @@ IsStaged stages (Refused line) outcome = outcome ≡ refused line
 -- the answer for a design of so many stages
 pub record IsGenerated (stages : ℕ) (outcome : Outcome) : Type 0 where
   pub built : Built
-  pub is_built : IsBuilt (codes "top") (generated stages) (stages_text stages ∷ []) built
+  pub is_built : IsBuilt (codes "top") (generated_sources stages) (stages_text stages ∷ []) built
   pub is : IsStaged stages built outcome
 
 -- the usage of the whole program, with the commands that are still to come

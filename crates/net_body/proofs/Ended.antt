@@ -22,9 +22,9 @@ use Rattle.net_model.specs.Numbers.{AreNumbers, bit}
 use Rattle.net_laws.proofs.Known.{Known, known_at, known_each}
 use Rattle.net_laws.proofs.Laws.{block_known}
 use Rattle.net_body.specs.declared.mark.Mark.{Mark}
-use Rattle.net_body.specs.Ends.{Ending, changed, ended, ended_one, ending, settled}
+use Rattle.net_body.specs.Ends.{Ending, bits_after, changed, ending, ending_after, ending_after_one}
 use Rattle.net_body.specs.Marks.{maps, next_bit, seen}
-use Rattle.net_body.specs.Named.{is_among, named_of}
+use Rattle.net_body.specs.Named.{body_signals, is_among}
 use Rattle.net_body.proofs.Changed.{changed_at, changed_length, xor_known, xor_left}
 use Rattle.net_body.proofs.Ending.{clear_maps}
 use Rattle.net_body.proofs.Filled.{tabulate_own}
@@ -33,14 +33,14 @@ use Rattle.net_body.proofs.Untouched.{body_stays}
 
 -- ---- from one part to the next
 
-ended_append : (aside : Bool) (before : Values) (e : Ending) (xs ys : List ℕ) → ended aside before e (xs ++ ys) ≡ ended aside before (ended aside before e xs) ys
+ended_append : (aside : Bool) (before : Values) (e : Ending) (xs ys : List ℕ) → ending_after aside before e (xs ++ ys) ≡ ending_after aside before (ending_after aside before e xs) ys
 ended_append aside before e [] ys = refl
 ended_append aside before e (x ∷ xs) ys =
-    ended_append aside before (ended_one aside before e x) xs ys
+    ended_append aside before (ending_after_one aside before e x) xs ys
 
-pub ended_more : (aside : Bool) (before : Values) (e e' : Ending) (xs ys : List ℕ) → e' ≡ ended aside before e xs → ended aside before e' ys ≡ ended aside before e (xs ++ ys)
+pub ended_more : (aside : Bool) (before : Values) (e e' : Ending) (xs ys : List ℕ) → e' ≡ ending_after aside before e xs → ending_after aside before e' ys ≡ ending_after aside before e (xs ++ ys)
 ended_more aside before e e' xs ys is =
-    ap (λ (x : Ending). ended aside before x ys) is ∙ sym (ended_append aside before e xs ys)
+    ap (λ (x : Ending). ending_after aside before x ys) is ∙ sym (ended_append aside before e xs ys)
 
 -- ---- one signal in the lists
 
@@ -131,18 +131,18 @@ pub record IsClear (i : ℕ) (m : Maps) : Type 0 where
   pub wrote : (k : ℕ) → m.wrote i k ≡ false
   pub late : (k : ℕ) → m.late i k ≡ false
 
-settled_with : (m : Maps) (i : ℕ) (bits : List Bit) → m.now i ≡ bits → ((k : ℕ) → m.next i k ≡ None) → settled m i ≡ bits
+settled_with : (m : Maps) (i : ℕ) (bits : List Bit) → m.now i ≡ bits → ((k : ℕ) → m.next i k ≡ None) → bits_after m i ≡ bits
 settled_with m i bits is none =
     tabulate-congr (length (m.now i)) (bit_after m i) (λ k. get_or (m.now i) k X)
     (λ k below. ap (λ (o : Option Bit). unwrap_or o (bit m.now i k)) (none k))
     ∙ tabulate_own (m.now i) ∙ is
 
-clear_settled : (i : ℕ) (m : Maps) → IsClear i m → settled m i ≡ m.now i
+clear_settled : (i : ℕ) (m : Maps) → IsClear i m → bits_after m i ≡ m.now i
 clear_settled i m clear = settled_with m i (m.now i) refl clear.next
 
 module _ (aside : Bool) (before : Values) (e : Ending) (i : ℕ) where
   abbrev then : ℕ → Maps
-  then j = (ended_one aside before e j).maps
+  then j = (ending_after_one aside before e j).maps
 
   clear_here : (j : ℕ) → i ≡ j → IsClear i (then j)
   clear_here j here = record {
@@ -165,44 +165,44 @@ module _ (aside : Bool) (before : Values) (e : Ending) (i : ℕ) where
         | inr apart ↦ clear_there j apart clear
       ]
 
-  now_here : (j : ℕ) → i ≡ j → (then j).now i ≡ cond aside (before i) (settled e.maps i)
+  now_here : (j : ℕ) → i ≡ j → (then j).now i ≡ cond aside (before i) (bits_after e.maps i)
   now_here j here =
-      put_at e.maps.now j i (cond aside (before j) (settled e.maps j)) here
-      ∙ ap (λ s. cond aside (before s) (settled e.maps s)) (sym here)
+      put_at e.maps.now j i (cond aside (before j) (bits_after e.maps j)) here
+      ∙ ap (λ s. cond aside (before s) (bits_after e.maps s)) (sym here)
 
   now_there : (j : ℕ) → i ≢ j → (then j).now i ≡ e.maps.now i
-  now_there j apart = put_other e.maps.now j i (cond aside (before j) (settled e.maps j)) apart
+  now_there j apart = put_other e.maps.now j i (cond aside (before j) (bits_after e.maps j)) apart
 
-  settled_there : (j : ℕ) → i ≢ j → settled (then j) i ≡ settled e.maps i
+  settled_there : (j : ℕ) → i ≢ j → bits_after (then j) i ≡ bits_after e.maps i
   settled_there j apart =
       ap (λ (bits : List Bit). tabulate (length bits) (λ k. unwrap_or ((then j).next i k) (get_or bits k X))) (now_there j apart)
       ∙ ap (λ (g : ℕ → Option Bit). tabulate (length (e.maps.now i)) (λ k. unwrap_or (g k) (bit e.maps.now i k))) (put_other e.maps.next j i (λ l. None) apart)
 
-  settled_here : (j : ℕ) → i ≡ j → settled (then j) i ≡ cond aside (before i) (settled e.maps i)
+  settled_here : (j : ℕ) → i ≡ j → bits_after (then j) i ≡ cond aside (before i) (bits_after e.maps i)
   settled_here j here =
-      settled_with (then j) i (cond aside (before i) (settled e.maps i)) (now_here j here) (clear_here j here).next
+      settled_with (then j) i (cond aside (before i) (bits_after e.maps i)) (now_here j here) (clear_here j here).next
 
 -- a signal that is named, or of which nothing is written
-all_clear : (aside : Bool) (before : Values) (i : ℕ) (e : Ending) (xs : List ℕ) → (is_among i xs ≡ true) ⊎ IsClear i e.maps → IsClear i (ended aside before e xs).maps
+all_clear : (aside : Bool) (before : Values) (i : ℕ) (e : Ending) (xs : List ℕ) → (is_among i xs ≡ true) ⊎ IsClear i e.maps → IsClear i (ending_after aside before e xs).maps
 all_clear aside before i e [] (inl h) = absurd (false≢true h)
 all_clear aside before i e [] (inr clear) = clear
 all_clear aside before i e (j ∷ xs) (inr clear) =
-    all_clear aside before i (ended_one aside before e j) xs (inr (clear_one aside before e i j clear))
+    all_clear aside before i (ending_after_one aside before e j) xs (inr (clear_one aside before e i j clear))
 all_clear aside before i e (j ∷ xs) (inl h) =
-    elim (cases_eq i j) as (λ _. IsClear i (ended aside before (ended_one aside before e j) xs).maps) [
-      | inl here ↦ all_clear aside before i (ended_one aside before e j) xs (inr (clear_here aside before e i j here))
+    elim (cases_eq i j) as (λ _. IsClear i (ending_after aside before (ending_after_one aside before e j) xs).maps) [
+      | inl here ↦ all_clear aside before i (ending_after_one aside before e j) xs (inr (clear_here aside before e i j here))
       | inr apart ↦
-          all_clear aside before i (ended_one aside before e j) xs
+          all_clear aside before i (ending_after_one aside before e j) xs
           (inl (sym (ap (λ b. b || is_among i xs) (ne_eqb j i (λ same. apart (sym same)))) ∙ h))
     ]
 
 -- ---- digits that stay
 
-settled_kept : (before : Values) (i : ℕ) (e : Ending) (xs : List ℕ) → settled (ended false before e xs).maps i ≡ settled e.maps i
+settled_kept : (before : Values) (i : ℕ) (e : Ending) (xs : List ℕ) → bits_after (ending_after false before e xs).maps i ≡ bits_after e.maps i
 settled_kept before i e [] = refl
 settled_kept before i e (j ∷ xs) =
-    settled_kept before i (ended_one false before e j) xs
-    ∙ elim (cases_eq i j) as (λ _. settled (ended_one false before e j).maps i ≡ settled e.maps i) [
+    settled_kept before i (ending_after_one false before e j) xs
+    ∙ elim (cases_eq i j) as (λ _. bits_after (ending_after_one false before e j).maps i ≡ bits_after e.maps i) [
       | inl here ↦ settled_here false before e i j here
       | inr apart ↦ settled_there false before e i j apart
     ]
@@ -210,50 +210,50 @@ settled_kept before i e (j ∷ xs) =
 -- ---- digits that are put aside
 
 module _ (before : Values) (i : ℕ) where
-  now_one : (e : Ending) (j : ℕ) → e.maps.now i ≡ before i → (ended_one true before e j).maps.now i ≡ before i
+  now_one : (e : Ending) (j : ℕ) → e.maps.now i ≡ before i → (ending_after_one true before e j).maps.now i ≡ before i
   now_one e j same =
-      elim (cases_eq i j) as (λ _. (ended_one true before e j).maps.now i ≡ before i) [
+      elim (cases_eq i j) as (λ _. (ending_after_one true before e j).maps.now i ≡ before i) [
         | inl here ↦ now_here true before e i j here
         | inr apart ↦ now_there true before e i j apart ∙ same
       ]
 
   -- the old digits are there again
-  all_back : (e : Ending) (xs : List ℕ) → (is_among i xs ≡ true) ⊎ (e.maps.now i ≡ before i) → (ended true before e xs).maps.now i ≡ before i
+  all_back : (e : Ending) (xs : List ℕ) → (is_among i xs ≡ true) ⊎ (e.maps.now i ≡ before i) → (ending_after true before e xs).maps.now i ≡ before i
   all_back e [] (inl h) = absurd (false≢true h)
   all_back e [] (inr same) = same
   all_back e (j ∷ xs) (inr same) =
-      all_back (ended_one true before e j) xs (inr (now_one e j same))
+      all_back (ending_after_one true before e j) xs (inr (now_one e j same))
   all_back e (j ∷ xs) (inl h) =
-      elim (cases_eq i j) as (λ _. (ended true before (ended_one true before e j) xs).maps.now i ≡ before i) [
-        | inl here ↦ all_back (ended_one true before e j) xs (inr (now_here true before e i j here))
+      elim (cases_eq i j) as (λ _. (ending_after true before (ending_after_one true before e j) xs).maps.now i ≡ before i) [
+        | inl here ↦ all_back (ending_after_one true before e j) xs (inr (now_here true before e i j here))
         | inr apart ↦
-            all_back (ended_one true before e j) xs
+            all_back (ending_after_one true before e j) xs
             (inl (sym (ap (λ b. b || is_among i xs) (ne_eqb j i (λ same. apart (sym same)))) ∙ h))
       ]
 
   module _ (w : ℕ) (old : Fits w (before i)) where
     abbrev made : Ending → List Bit
-    made e = changed (before i) (settled e.maps i) (e.after i)
+    made e = changed (before i) (bits_after e.maps i) (e.after i)
 
     record AreFit (e : Ending) : Type 0 where
-      pub ran : Fits w (settled e.maps i)
+      pub ran : Fits w (bits_after e.maps i)
       pub after : Fits w (e.after i)
 
-    after_here : (e : Ending) (j : ℕ) → i ≡ j → (ended_one true before e j).after i ≡ made e
+    after_here : (e : Ending) (j : ℕ) → i ≡ j → (ending_after_one true before e j).after i ≡ made e
     after_here e j here =
-        put_at e.after j i (changed (before j) (settled e.maps j) (e.after j)) here
-        ∙ ap (λ s. changed (before s) (settled e.maps s) (e.after s)) (sym here)
+        put_at e.after j i (changed (before j) (bits_after e.maps j) (e.after j)) here
+        ∙ ap (λ s. changed (before s) (bits_after e.maps s) (e.after s)) (sym here)
 
-    after_there : (e : Ending) (j : ℕ) → i ≢ j → (ended_one true before e j).after i ≡ e.after i
+    after_there : (e : Ending) (j : ℕ) → i ≢ j → (ending_after_one true before e j).after i ≡ e.after i
     after_there e j apart =
-        put_other e.after j i (changed (before j) (settled e.maps j) (e.after j)) apart
+        put_other e.after j i (changed (before j) (bits_after e.maps j) (e.after j)) apart
 
-    fit_one : (e : Ending) (j : ℕ) → AreFit e → AreFit (ended_one true before e j)
+    fit_one : (e : Ending) (j : ℕ) → AreFit e → AreFit (ending_after_one true before e j)
     fit_one e j are =
-        elim (cases_eq i j) as (λ _. AreFit (ended_one true before e j)) [
+        elim (cases_eq i j) as (λ _. AreFit (ending_after_one true before e j)) [
           | inl here ↦ record {
             ran = subst (Fits w) (sym (settled_here true before e i j here)) old;
-            after = subst (Fits w) (sym (after_here e j here)) (fits_changed w (before i) (settled e.maps i) (e.after i) old are.ran are.after);
+            after = subst (Fits w) (sym (after_here e j here)) (fits_changed w (before i) (bits_after e.maps i) (e.after i) old are.ran are.after);
           }
           | inr apart ↦ record {
             ran = subst (Fits w) (sym (settled_there true before e i j apart)) are.ran;
@@ -261,31 +261,31 @@ module _ (before : Values) (i : ℕ) where
           }
         ]
 
-    made_one : (e : Ending) (j : ℕ) → AreFit e → made (ended_one true before e j) ≡ made e
+    made_one : (e : Ending) (j : ℕ) → AreFit e → made (ending_after_one true before e j) ≡ made e
     made_one e j are =
-        elim (cases_eq i j) as (λ _. made (ended_one true before e j) ≡ made e) [
+        elim (cases_eq i j) as (λ _. made (ending_after_one true before e j) ≡ made e) [
           | inl here ↦
-              ap (λ (ran : List Bit). changed (before i) ran ((ended_one true before e j).after i)) (settled_here true before e i j here)
+              ap (λ (ran : List Bit). changed (before i) ran ((ending_after_one true before e j).after i)) (settled_here true before e i j here)
               ∙ ap (changed (before i) (before i)) (after_here e j here)
-              ∙ changed_none w (before i) (made e) old (fits_changed w (before i) (settled e.maps i) (e.after i) old are.ran are.after)
+              ∙ changed_none w (before i) (made e) old (fits_changed w (before i) (bits_after e.maps i) (e.after i) old are.ran are.after)
           | inr apart ↦
-              ap (λ (ran : List Bit). changed (before i) ran ((ended_one true before e j).after i)) (settled_there true before e i j apart)
-              ∙ ap (changed (before i) (settled e.maps i)) (after_there e j apart)
+              ap (λ (ran : List Bit). changed (before i) ran ((ending_after_one true before e j).after i)) (settled_there true before e i j apart)
+              ∙ ap (changed (before i) (bits_after e.maps i)) (after_there e j apart)
         ]
 
-    all_fit : (e : Ending) (xs : List ℕ) → AreFit e → AreFit (ended true before e xs)
+    all_fit : (e : Ending) (xs : List ℕ) → AreFit e → AreFit (ending_after true before e xs)
     all_fit e [] are = are
-    all_fit e (j ∷ xs) are = all_fit (ended_one true before e j) xs (fit_one e j are)
+    all_fit e (j ∷ xs) are = all_fit (ending_after_one true before e j) xs (fit_one e j are)
 
-    all_made : (e : Ending) (xs : List ℕ) → AreFit e → made (ended true before e xs) ≡ made e
+    all_made : (e : Ending) (xs : List ℕ) → AreFit e → made (ending_after true before e xs) ≡ made e
     all_made e [] are = refl
     all_made e (j ∷ xs) are =
-        all_made (ended_one true before e j) xs (fit_one e j are) ∙ made_one e j are
+        all_made (ending_after_one true before e j) xs (fit_one e j are) ∙ made_one e j are
 
-    pub put_beside : (e : Ending) (xs : List ℕ) → Fits w (settled e.maps i) → Fits w (e.after i) → IsClear i (ended true before e xs).maps → (ended true before e xs).maps.now i ≡ before i → (ended true before e xs).after i ≡ changed (before i) (settled e.maps i) (e.after i)
+    pub put_beside : (e : Ending) (xs : List ℕ) → Fits w (bits_after e.maps i) → Fits w (e.after i) → IsClear i (ending_after true before e xs).maps → (ending_after true before e xs).maps.now i ≡ before i → (ending_after true before e xs).after i ≡ changed (before i) (bits_after e.maps i) (e.after i)
     put_beside e xs ran after clear back =
         let are : AreFit e = record { ran = ran; after = after } in
-        let last = ended true before e xs in
+        let last = ending_after true before e xs in
         sym (changed_none w (before i) (last.after i) old (all_fit e xs are).after)
         ∙ ap (λ (bits : List Bit). changed (before i) bits (last.after i)) (sym (clear_settled i last.maps clear ∙ back))
         ∙ all_made e xs are
@@ -294,9 +294,9 @@ module _ (before : Values) (i : ℕ) where
 
 module _ (ws : ℕ → ℕ) (f : Fill) (n : Values) (body : Actions) (e : Ending) (ran : e.maps ≡ acts ws f (begun n) body) (i : ℕ) where
   -- what isn't named is as it was
-  named_or_clear : (is_among i (named_of body) ≡ true) ⊎ IsClear i e.maps
+  named_or_clear : (is_among i (body_signals body) ≡ true) ⊎ IsClear i e.maps
   named_or_clear =
-      elim (cases_Bool (is_among i (named_of body))) as (λ _. (is_among i (named_of body) ≡ true) ⊎ IsClear i e.maps) [
+      elim (cases_Bool (is_among i (body_signals body))) as (λ _. (is_among i (body_signals body) ≡ true) ⊎ IsClear i e.maps) [
         | inl there ↦ inl there
         | inr none ↦ inr (subst (IsClear i) (sym ran) (record {
           next = (body_stays ws f i (begun n) body none).next;
@@ -305,35 +305,35 @@ module _ (ws : ℕ → ℕ) (f : Fill) (n : Values) (body : Actions) (e : Ending
         }))
       ]
 
-  named_or_same : (before : Values) → n i ≡ before i → (is_among i (named_of body) ≡ true) ⊎ (e.maps.now i ≡ before i)
+  named_or_same : (before : Values) → n i ≡ before i → (is_among i (body_signals body) ≡ true) ⊎ (e.maps.now i ≡ before i)
   named_or_same before same =
-      elim (cases_Bool (is_among i (named_of body))) as (λ _. (is_among i (named_of body) ≡ true) ⊎ (e.maps.now i ≡ before i)) [
+      elim (cases_Bool (is_among i (body_signals body))) as (λ _. (is_among i (body_signals body) ≡ true) ⊎ (e.maps.now i ≡ before i)) [
         | inl there ↦ inl there
         | inr none ↦ inr (ap (λ (m : Maps). m.now i) ran ∙ (body_stays ws f i (begun n) body none).now ∙ same)
       ]
 
-  pub settled_block : length (e.maps.now i) ≡ ws i → settled e.maps i ≡ tabulate (ws i) (block_bit ws f n body i)
+  pub settled_block : length (e.maps.now i) ≡ ws i → bits_after e.maps i ≡ tabulate (ws i) (block_bit ws f n body i)
   settled_block wide =
       ap (λ w. tabulate w (bit_after e.maps i)) wide
       ∙ ap (λ (m : Maps). tabulate (ws i) (bit_after m i)) ran
 
-  pub ended_clear : (aside : Bool) (before : Values) → IsClear i (ended aside before e (named_of body)).maps
-  ended_clear aside before = all_clear aside before i e (named_of body) named_or_clear
+  pub ended_clear : (aside : Bool) (before : Values) → IsClear i (ending_after aside before e (body_signals body)).maps
+  ended_clear aside before = all_clear aside before i e (body_signals body) named_or_clear
 
-  pub ended_now : (before : Values) → (ended false before e (named_of body)).maps.now i ≡ settled e.maps i
+  pub ended_now : (before : Values) → (ending_after false before e (body_signals body)).maps.now i ≡ bits_after e.maps i
   ended_now before =
-      sym (clear_settled i (ended false before e (named_of body)).maps (ended_clear false before))
-      ∙ settled_kept before i e (named_of body)
+      sym (clear_settled i (ending_after false before e (body_signals body)).maps (ended_clear false before))
+      ∙ settled_kept before i e (body_signals body)
 
-  pub ended_back : (before : Values) → n i ≡ before i → (ended true before e (named_of body)).maps.now i ≡ before i
-  ended_back before same = all_back before i e (named_of body) (named_or_same before same)
+  pub ended_back : (before : Values) → n i ≡ before i → (ending_after true before e (body_signals body)).maps.now i ≡ before i
+  ended_back before same = all_back before i e (body_signals body) (named_or_same before same)
 
-  pub ended_aside : (before : Values) (w : ℕ) → n i ≡ before i → Fits w (before i) → Fits w (settled e.maps i) → Fits w (e.after i) → (ended true before e (named_of body)).after i ≡ changed (before i) (settled e.maps i) (e.after i)
+  pub ended_aside : (before : Values) (w : ℕ) → n i ≡ before i → Fits w (before i) → Fits w (bits_after e.maps i) → Fits w (e.after i) → (ending_after true before e (body_signals body)).after i ≡ changed (before i) (bits_after e.maps i) (e.after i)
   ended_aside before w same old run after =
-      put_beside before i w old e (named_of body) run after (ended_clear true before) (ended_back before same)
+      put_beside before i w old e (body_signals body) run after (ended_clear true before) (ended_back before same)
 
 -- maps at their end
-pub all_ended : (ws : ℕ → ℕ) (f : Fill) (n : Values) (body : Actions) (e : Ending) → e.maps ≡ acts ws f (begun n) body → (aside : Bool) (before : Values) (numbers : List (List Bit)) (marks : List Mark) (after : List (List Bit)) → ending numbers marks after ≡ ended aside before e (named_of body) → maps numbers marks ≡ begun (store numbers)
+pub all_ended : (ws : ℕ → ℕ) (f : Fill) (n : Values) (body : Actions) (e : Ending) → e.maps ≡ acts ws f (begun n) body → (aside : Bool) (before : Values) (numbers : List (List Bit)) (marks : List Mark) (after : List (List Bit)) → ending numbers marks after ≡ ending_after aside before e (body_signals body) → maps numbers marks ≡ begun (store numbers)
 all_ended ws f n body e ran aside before numbers marks after is =
     clear_maps numbers marks
     (λ i k. ap (λ (x : Ending). x.maps.next i k) is ∙ (ended_clear ws f n body e ran i aside before).next k)

@@ -21,7 +21,7 @@ use Rattle.net_model.specs.declared.fill.Fill.{Fill}
 use Rattle.net_model.specs.Block.{Maps, act, act_arms, act_first, act_other, acts, arm_bits, arms_late, arms_write, digit_writes, filled_case, fresh, item_meets, joined_arms, some_meets, span_by, with_bits, write_each, write_next, write_now}
 use Rattle.net_model.specs.Numbers.{bit, digits, fill_bit}
 use Rattle.net_body.specs.Marks.{is_over}
-use Rattle.net_body.specs.Named.{branch_named, is_among, named, named_of, other_named, target_named}
+use Rattle.net_body.specs.Named.{action_signals, body_signals, branch_signals, is_among, other_signals, target_signals}
 use Rattle.net_body.proofs.Filled.{some_case, some_then, tabulate_own}
 use Rattle.net_body.proofs.May.{may_other}
 
@@ -40,28 +40,28 @@ apart_from j i h e = true≢false (sym (eq-eqb j i (sym e)) ∙ h)
 -- ---- what a body may write
 
 module _ (ws : ℕ → ℕ) (i : ℕ) where
-  target_none : (k : ℕ) (target : List Piece) → is_among i (target_named target) ≡ false → may_target ws target i k ≡ false
+  target_none : (k : ℕ) (target : List Piece) → is_among i (target_signals target) ≡ false → may_target ws target i k ≡ false
   target_none k [] h = refl
   target_none k (piece ∷ others) h =
-      let parts = or_parts (piece.signal == i) (is_among i (target_named others)) h in
+      let parts = or_parts (piece.signal == i) (is_among i (target_signals others)) h in
       or_from (may_select ws piece.signal piece.selection i k) (may_target ws others i k)
       (may_other ws piece.signal piece.selection i k (apart_from piece.signal i parts.0)) (target_none k others parts.1)
 
   -- no step of it passes a test that only writes of the signal pass
-  module _ (t : Step → Bool) (on_read : (bits : BitSet) → t (Read bits) ≡ false) (on_write : (delayed : Bool) (target : List Piece) → is_among i (target_named target) ≡ false → t (Write delayed (may_target ws target) (targets ws target)) ≡ false) where
+  module _ (t : Step → Bool) (on_read : (bits : BitSet) → t (Read bits) ≡ false) (on_write : (delayed : Bool) (target : List Piece) → is_among i (target_signals target) ≡ false → t (Write delayed (may_target ws target) (targets ws target)) ≡ false) where
     mutual
-      action_none : (a : Action) → is_among i (named a) ≡ false → some t (action_then ws a End) ≡ false
+      action_none : (a : Action) → is_among i (action_signals a) ≡ false → some t (action_then ws a End) ≡ false
       action_none (Set target e delayed spot) h =
           or_from (t (Read (either (reads ws e) (target_reads ws target)))) (t (Write delayed (may_target ws target) (targets ws target)) || false)
           (on_read (either (reads ws e) (target_reads ws target)))
           (or_from (t (Write delayed (may_target ws target) (targets ws target))) false (on_write delayed target h) refl)
       action_none (If test taken other spot) h =
-          let parts = none_append i (other_named other) (named_of taken) h in
+          let parts = none_append i (other_signals other) (body_signals taken) h in
           or_from (t (Read (reads ws test))) ((some t (other_flow ws other) || some t (body_flow ws taken)) || false) (on_read (reads ws test))
           (or_from (some t (other_flow ws other) || some t (body_flow ws taken)) false
           (or_from (some t (other_flow ws other)) (some t (body_flow ws taken)) (other_none other parts.0) (body_none taken parts.1)) refl)
       action_none (Case kind full parallel selector branches fallback spot) h =
-          let parts = none_append i (other_named fallback) (branch_named branches) h in
+          let parts = none_append i (other_signals fallback) (branch_signals branches) h in
           let complete = is_complete ws kind full selector branches in
           let bits = either (reads ws selector) (reads_all ws (labels_of branches)) in
           let all = some_way t (ways ws (way_past ws complete fallback) branches) in
@@ -71,28 +71,28 @@ module _ (ws : ℕ → ℕ) (i : ℕ) where
           ∙ or_from (some t (other_flow ws fallback)) (some_item t ws branches) (other_none fallback parts.0) (items_none branches parts.1)) refl)
       action_none (Block body) h = body_none body h
 
-      body_none : (body : Actions) → is_among i (named_of body) ≡ false → some t (body_flow ws body) ≡ false
+      body_none : (body : Actions) → is_among i (body_signals body) ≡ false → some t (body_flow ws body) ≡ false
       body_none Done h = refl
       body_none (Then first others) h =
-          let parts = none_append i (named first) (named_of others) h in
+          let parts = none_append i (action_signals first) (body_signals others) h in
           some_then t ws first others
           ∙ or_from (some t (action_then ws first End)) (some t (body_flow ws others)) (action_none first parts.0) (body_none others parts.1)
 
-      other_none : (other : Otherwise) → is_among i (other_named other) ≡ false → some t (other_flow ws other) ≡ false
+      other_none : (other : Otherwise) → is_among i (other_signals other) ≡ false → some t (other_flow ws other) ≡ false
       other_none Without h = refl
       other_none (With body) h = body_none body h
 
-      items_none : (branches : Branches) → is_among i (branch_named branches) ≡ false → some_item t ws branches ≡ false
+      items_none : (branches : Branches) → is_among i (branch_signals branches) ≡ false → some_item t ws branches ≡ false
       items_none NoBranch h = refl
       items_none (Branch labels body others) h =
-          let parts = none_append i (named_of body) (branch_named others) h in
+          let parts = none_append i (body_signals body) (branch_signals others) h in
           or_from (some t (body_flow ws body)) (some_item t ws others) (body_none body parts.0) (items_none others parts.1)
 
-  now_none : (a : Action) → is_among i (named a) ≡ false → (k : ℕ) → may_write_blocking (action_then ws a End) i k ≡ false
+  now_none : (a : Action) → is_among i (action_signals a) ≡ false → (k : ℕ) → may_write_blocking (action_then ws a End) i k ≡ false
   now_none a h k =
       action_none (may_write_now i k) (λ bits. refl) (λ delayed target apart. and_none (not delayed) (may_target ws target i k) (target_none k target apart)) a h
 
-  late_none : (a : Action) → is_among i (named a) ≡ false → (k : ℕ) → may_write_delayed (action_then ws a End) i k ≡ false
+  late_none : (a : Action) → is_among i (action_signals a) ≡ false → (k : ℕ) → may_write_delayed (action_then ws a End) i k ≡ false
   late_none a h k =
       action_none (may_write_late i k) (λ bits. refl) (λ delayed target apart. and_none delayed (may_target ws target i k) (target_none k target apart)) a h
 
@@ -155,10 +155,10 @@ module _ (ws : ℕ → ℕ) (f : Fill) (i : ℕ) where
   part_apart signal None bits h = refl
   part_apart signal (Some at) bits h = or_from (signal == i) false h refl
 
-  writes_apart : (n : Values) (target : List Piece) (bits : List Bit) → is_among i (target_named target) ≡ false → list_any (λ w. w.signal == i) (digit_writes ws f n target bits) ≡ false
+  writes_apart : (n : Values) (target : List Piece) (bits : List Bit) → is_among i (target_signals target) ≡ false → list_any (λ w. w.signal == i) (digit_writes ws f n target bits) ≡ false
   writes_apart n [] bits h = refl
   writes_apart n (piece ∷ others) bits h =
-      let parts = or_parts (piece.signal == i) (is_among i (target_named others)) h in
+      let parts = or_parts (piece.signal == i) (is_among i (target_signals others)) h in
       let part = selected (counts ws others) (count_of ws piece.signal piece.selection) bits in
       let here = write_at piece.signal (span_by ws f n piece.signal piece.selection) part in
       let later = digit_writes ws f n others bits in
@@ -215,16 +215,16 @@ module _ (ws : ℕ → ℕ) (f : Fill) (i : ℕ) where
   -- ---- statements
 
   mutual
-    action_stays : (m : Maps) (a : Action) → is_among i (named a) ≡ false → Stays i m (act ws f m a)
+    action_stays : (m : Maps) (a : Action) → is_among i (action_signals a) ≡ false → Stays i m (act ws f m a)
     action_stays m (Set target e delayed spot) h =
         let bits = digits f m.now e in
         each_stays delayed m (digit_writes ws f m.now target bits) (writes_apart m.now target bits h)
     action_stays m (If test taken other spot) h =
-        let parts = none_append i (other_named other) (named_of taken) h in
+        let parts = none_append i (other_signals other) (body_signals taken) h in
         stays_either (is_one (truth_bit (digits f m.now test))) m (acts ws f m taken) (act_other ws f m m other)
         (body_stays m taken parts.1) (other_stays m m (stays_same m) other parts.0)
     action_stays m (Case kind full parallel selector branches fallback spot) h =
-        let parts = none_append i (other_named fallback) (branch_named branches) h in
+        let parts = none_append i (other_signals fallback) (branch_signals branches) h in
         let one = Case kind full parallel selector branches fallback spot in
         let bits = digits f m.now selector in
         let at_once : BitSet = may_write_blocking (action_then ws one End) in
@@ -237,27 +237,27 @@ module _ (ws : ℕ → ℕ) (f : Fill) (i : ℕ) where
         (other_stays m past (promised_stays full at_once later m (now_none ws i one h) (late_none ws i one h)) fallback parts.0) branches parts.1)
     action_stays m (Block body) h = body_stays m body h
 
-    pub body_stays : (m : Maps) (body : Actions) → is_among i (named_of body) ≡ false → Stays i m (acts ws f m body)
+    pub body_stays : (m : Maps) (body : Actions) → is_among i (body_signals body) ≡ false → Stays i m (acts ws f m body)
     body_stays m Done h = stays_same m
     body_stays m (Then first others) h =
-        let parts = none_append i (named first) (named_of others) h in
+        let parts = none_append i (action_signals first) (body_signals others) h in
         stays_then m (act ws f m first) (acts ws f (act ws f m first) others) (action_stays m first parts.0) (body_stays (act ws f m first) others parts.1)
 
-    other_stays : (m past : Maps) → Stays i m past → (other : Otherwise) → is_among i (other_named other) ≡ false → Stays i m (act_other ws f m past other)
+    other_stays : (m past : Maps) → Stays i m past → (other : Otherwise) → is_among i (other_signals other) ≡ false → Stays i m (act_other ws f m past other)
     other_stays m past without Without h = without
     other_stays m past without (With body) h = body_stays m body h
 
-    items_stay : (m : Maps) (kind : CaseKind) (bits : List Bit) (none : Maps) → Stays i m none → (branches : Branches) → is_among i (branch_named branches) ≡ false → Stays i m (act_first ws f m kind bits none branches)
+    items_stay : (m : Maps) (kind : CaseKind) (bits : List Bit) (none : Maps) → Stays i m none → (branches : Branches) → is_among i (branch_signals branches) ≡ false → Stays i m (act_first ws f m kind bits none branches)
     items_stay m kind bits none past NoBranch h = past
     items_stay m kind bits none past (Branch labels body others) h =
-        let parts = none_append i (named_of body) (branch_named others) h in
+        let parts = none_append i (body_signals body) (branch_signals others) h in
         stays_either (some_meets f m.now kind bits labels) m (acts ws f m body) (act_first ws f m kind bits none others)
         (body_stays m body parts.0) (items_stay m kind bits none past others parts.1)
 
-    arms_free : (m : Maps) (kind : CaseKind) (bits : List Bit) (branches : Branches) → is_among i (branch_named branches) ≡ false → AreFree (act_arms ws f m kind bits branches)
+    arms_free : (m : Maps) (kind : CaseKind) (bits : List Bit) (branches : Branches) → is_among i (branch_signals branches) ≡ false → AreFree (act_arms ws f m kind bits branches)
     arms_free m kind bits NoBranch h = tt
     arms_free m kind bits (Branch labels body others) h =
-        let parts = none_append i (named_of body) (branch_named others) h in
+        let parts = none_append i (body_signals body) (branch_signals others) h in
         let arm = body_stays (fresh m) body parts.0 in
         free_either (some_meets f m.now kind bits labels) (acts ws f (fresh m) body) (act_arms ws f m kind bits others) (λ k. (arm.wrote k, arm.late k))
         (arms_free m kind bits others parts.1)

@@ -16,8 +16,8 @@ abbrev pub changed : List Bit → List Bit → List Bit → List Bit
 changed old ran after = zip_with xor_bit after (zip_with xor_bit old ran)
 
 -- the digits of a signal at the end
-abbrev pub settled : Maps → ℕ → List Bit
-settled m i = tabulate (length (m.now i)) (bit_after m i)
+abbrev pub bits_after : Maps → ℕ → List Bit
+bits_after m i = tabulate (length (m.now i)) (bit_after m i)
 
 -- the maps, and the digits that are put aside
 pub record Ending : Type 0 where
@@ -28,22 +28,22 @@ abbrev pub ending : List (List Bit) → List Mark → List (List Bit) → Ending
 ending numbers marks after = record { maps = maps numbers marks; after = store after }
 
 -- one signal at its end, with its digits put aside or not
-abbrev pub ended_one : Bool → Values → Ending → ℕ → Ending
-ended_one aside before e i =
+abbrev pub ending_after_one : Bool → Values → Ending → ℕ → Ending
+ending_after_one aside before e i =
     record {
       maps = record {
-        now = put e.maps.now i (cond aside (before i) (settled e.maps i));
+        now = put e.maps.now i (cond aside (before i) (bits_after e.maps i));
         next = put e.maps.next i (λ k. None);
         wrote = put e.maps.wrote i (λ k. false);
         late = put e.maps.late i (λ k. false);
       };
-      after = cond aside (put e.after i (changed (before i) (settled e.maps i) (e.after i))) e.after;
+      after = cond aside (put e.after i (changed (before i) (bits_after e.maps i) (e.after i))) e.after;
     }
 
 -- one signal after another
-abbrev pub ended : Bool → Values → Ending → List ℕ → Ending
-ended aside before e [] = e
-ended aside before e (i ∷ others) = ended aside before (ended_one aside before e i) others
+abbrev pub ending_after : Bool → Values → Ending → List ℕ → Ending
+ending_after aside before e [] = e
+ending_after aside before e (i ∷ others) = ending_after aside before (ending_after_one aside before e i) others
 
 -- digits of its width for each signal, from before a run and put aside
 pub record AreBeside (signals : List Signal) (before after : List (List Bit)) : Type 0 where

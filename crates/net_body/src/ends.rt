@@ -8,9 +8,9 @@ ghost use Rattle.rtl_flat.specs.Value.{store};
 ghost use Rattle.rtl_flat.specs.WellFormed.{IsAction, IsBody, IsOtherwise};
 ghost use Rattle.rtl_scan.specs.Bodies.{branches_of, other_of};
 ghost use Rattle.net_body.specs.Bodies.{AreBodies};
-ghost use Rattle.net_body.specs.Ends.{AreBeside, ended, ended_one, ending};
+ghost use Rattle.net_body.specs.Ends.{AreBeside, ending, ending_after, ending_after_one};
 ghost use Rattle.net_body.specs.Marks.{AreKept};
-ghost use Rattle.net_body.specs.Named.{branch_named, named, named_of, other_named, target_named};
+ghost use Rattle.net_body.specs.Named.{action_signals, body_signals, branch_signals, other_signals, target_signals};
 
 use crate::bits::merged;
 use crate::mark::Mark;
@@ -33,7 +33,7 @@ fn end_one(
     requires kept { AreKept signals.now numbers.old marks.old }
     requires beside { aside ≡ true → AreBeside signals.now before.now after.old }
     ensures ends { ending numbers.new marks.new after.new
-        ≡ ended_one aside (store before.now) (ending numbers.old marks.old after.old) signal.0 }
+        ≡ ending_after_one aside (store before.now) (ending numbers.old marks.old after.old) signal.0 }
     ensures kept { AreKept signals.now numbers.new marks.new }
     ensures beside { aside ≡ true → AreBeside signals.now before.now after.new }
 {
@@ -66,8 +66,8 @@ fn end_parts(
     requires kept { AreKept signals.now numbers.old marks.old }
     requires beside { aside ≡ true → AreBeside signals.now before.now after.old }
     ensures ends { ending numbers.new marks.new after.new
-        ≡ ended aside (store before.now) (ending numbers.old marks.old after.old)
-        (target_named (map piece parts.now)) }
+        ≡ ending_after aside (store before.now) (ending numbers.old marks.old after.old)
+        (target_signals (map piece parts.now)) }
     ensures kept { AreKept signals.now numbers.new marks.new }
     ensures beside { aside ≡ true → AreBeside signals.now before.now after.new }
 {
@@ -91,8 +91,8 @@ pub(crate) fn end_all(
     requires kept { AreKept signals.now numbers.old marks.old }
     requires beside { aside ≡ true → AreBeside signals.now before.now after.old }
     ensures ends { ending numbers.new marks.new after.new
-        ≡ ended aside (store before.now) (ending numbers.old marks.old after.old)
-        (named_of (body_of (map action acts.now))) }
+        ≡ ending_after aside (store before.now) (ending numbers.old marks.old after.old)
+        (body_signals (body_of (map action acts.now))) }
     ensures kept { AreKept signals.now numbers.new marks.new }
     ensures beside { aside ≡ true → AreBeside signals.now before.now after.new }
 {
@@ -116,8 +116,8 @@ fn end_act(
     requires kept { AreKept signals.now numbers.old marks.old }
     requires beside { aside ≡ true → AreBeside signals.now before.now after.old }
     ensures ends { ending numbers.new marks.new after.new
-        ≡ ended aside (store before.now) (ending numbers.old marks.old after.old)
-        (named (action act.now)) }
+        ≡ ending_after aside (store before.now) (ending numbers.old marks.old after.old)
+        (action_signals (action act.now)) }
     ensures kept { AreKept signals.now numbers.new marks.new }
     ensures beside { aside ≡ true → AreBeside signals.now before.now after.new }
 {
@@ -168,8 +168,8 @@ fn end_other(
     requires kept { AreKept signals.now numbers.old marks.old }
     requires beside { aside ≡ true → AreBeside signals.now before.now after.old }
     ensures ends { ending numbers.new marks.new after.new
-        ≡ ended aside (store before.now) (ending numbers.old marks.old after.old)
-        (other_named (other_of body.now)) }
+        ≡ ending_after aside (store before.now) (ending numbers.old marks.old after.old)
+        (other_signals (other_of body.now)) }
     ensures kept { AreKept signals.now numbers.new marks.new }
     ensures beside { aside ≡ true → AreBeside signals.now before.now after.new }
 {
@@ -194,8 +194,8 @@ fn end_items(
     requires kept { AreKept signals.now numbers.old marks.old }
     requires beside { aside ≡ true → AreBeside signals.now before.now after.old }
     ensures ends { ending numbers.new marks.new after.new
-        ≡ ended aside (store before.now) (ending numbers.old marks.old after.old)
-        (branch_named (branches_of items.now)) }
+        ≡ ending_after aside (store before.now) (ending numbers.old marks.old after.old)
+        (branch_signals (branches_of items.now)) }
     ensures kept { AreKept signals.now numbers.new marks.new }
     ensures beside { aside ≡ true → AreBeside signals.now before.now after.new }
 {

@@ -15,8 +15,8 @@ use Rattle.rtl_scan.specs.Loads.{load, other_load, items_load}
 use Rattle.rtl_scan.proofs.Labels.{left_at}
 use Rattle.rtl_scan.proofs.Weights.{if_load, case_load, block_load, act_load, item_load}
 use Rattle.net_body.specs.Bodies.{AreBodies}
-use Rattle.net_body.specs.Ends.{Ending, ended, ending}
-use Rattle.net_body.specs.Named.{branch_named, named, named_of, other_named, target_named}
+use Rattle.net_body.specs.Ends.{Ending, ending, ending_after}
+use Rattle.net_body.specs.Named.{action_signals, body_signals, branch_signals, other_signals, target_signals}
 use Rattle.net_body.proofs.Choosing.{are_bodies, block_action, case_action, if_action}
 use Rattle.net_body.proofs.Ended.{ended_more}
 use Rattle.net_body.proofs.Targets.{parts_below}
@@ -36,8 +36,8 @@ end_act-returns-in-Set-clause-ends t c =
     let before = store c.args.before.now in
     let aside = c.args.aside in
     c.end_parts.ensures.ends
-    ∙ ap (λ (ps : List TargetPart). ended aside before e (target_named (map piece ps))) c.deref.ensures.value
-    ∙ ap (λ (a : Act). ended aside before e (named (action a))) (sym c.in-Set.is)
+    ∙ ap (λ (ps : List TargetPart). ending_after aside before e (target_signals (map piece ps))) c.deref.ensures.value
+    ∙ ap (λ (a : Act). ending_after aside before e (action_signals (action a))) (sym c.in-Set.is)
 
 pub end_act-end_other-requires : goal.end_act-end_other-requires
 end_act-end_other-requires t c =
@@ -69,9 +69,9 @@ end_act-returns-in-If-clause-ends t c =
     let aside = c.args.aside in
     let is = if_action c.args.act.now c.in-If.test c.in-If.yes c.in-If.no c.in-If.spot c.in-If.is in
     c.end_all.ensures.ends
-    ∙ ap (λ (xs : List Act). ended aside before e' (named_of (body_of (map action xs)))) c.deref-in-If.ensures.value
-    ∙ ended_more aside before e e' (other_named (other_of c.in-If.no)) (named_of (body_of (map action c.in-If.yes.items))) c.end_other.ensures.ends
-    ∙ ap (λ (a : Action). ended aside before e (named a)) (sym is)
+    ∙ ap (λ (xs : List Act). ending_after aside before e' (body_signals (body_of (map action xs)))) c.deref-in-If.ensures.value
+    ∙ ended_more aside before e e' (other_signals (other_of c.in-If.no)) (body_signals (body_of (map action c.in-If.yes.items))) c.end_other.ensures.ends
+    ∙ ap (λ (a : Action). ending_after aside before e (action_signals a)) (sym is)
 
 pub end_act-end_other-requires-in-Case : goal.end_act-end_other-requires-in-Case
 end_act-end_other-requires-in-Case t c =
@@ -103,9 +103,9 @@ end_act-returns-in-Case-clause-ends t c =
     let aside = c.args.aside in
     let is = case_action c.args.act.now c.in-Case.kind c.in-Case.full c.in-Case.parallel c.in-Case.selector c.in-Case.items c.in-Case.fallback c.in-Case.spot c.in-Case.is in
     c.end_items.ensures.ends
-    ∙ ap (λ (xs : List CaseItem). ended aside before e' (branch_named (branches_of xs))) c.deref-in-Case.ensures.value
-    ∙ ended_more aside before e e' (other_named (other_of c.in-Case.fallback)) (branch_named (branches_of c.in-Case.items.items)) c.end_other-in-Case.ensures.ends
-    ∙ ap (λ (a : Action). ended aside before e (named a)) (sym is)
+    ∙ ap (λ (xs : List CaseItem). ending_after aside before e' (branch_signals (branches_of xs))) c.deref-in-Case.ensures.value
+    ∙ ended_more aside before e e' (other_signals (other_of c.in-Case.fallback)) (branch_signals (branches_of c.in-Case.items.items)) c.end_other-in-Case.ensures.ends
+    ∙ ap (λ (a : Action). ending_after aside before e (action_signals a)) (sym is)
 
 pub end_act-end_all-requires-in-Block : goal.end_act-end_all-requires-in-Block
 end_act-end_all-requires-in-Block t c =
@@ -126,8 +126,8 @@ end_act-returns-in-Block-clause-ends t c =
     let aside = c.args.aside in
     let is = block_action c.args.act.now c.in-Block.body c.in-Block.is in
     c.end_all-in-Block.ensures.ends
-    ∙ ap (λ (xs : List Act). ended aside before e (named_of (body_of (map action xs)))) c.deref-in-Block.ensures.value
-    ∙ ap (λ (a : Action). ended aside before e (named a)) (sym is)
+    ∙ ap (λ (xs : List Act). ending_after aside before e (body_signals (body_of (map action xs)))) c.deref-in-Block.ensures.value
+    ∙ ap (λ (a : Action). ending_after aside before e (action_signals a)) (sym is)
 
 -- ---- statements in order
 
@@ -156,15 +156,15 @@ end_all-loop-act-preserved t c =
       c.end_act.ensures.kept,
       c.end_act.ensures.beside,
       lawful.1,
-      ended_more aside before e e' (named (action c.act-item.result)) (named_of others) c.end_act.ensures.ends
-          ∙ ap (λ (xs : List Act). ended aside before e (named_of (body_of (map action xs)))) (sym left)
+      ended_more aside before e e' (action_signals (action c.act-item.result)) (body_signals others) c.end_act.ensures.ends
+          ∙ ap (λ (xs : List Act). ending_after aside before e (body_signals (body_of (map action xs)))) (sym left)
           ∙ inv.3,
     )
 
 pub end_all-returns-clause-ends : goal.end_all-returns-clause-ends
 end_all-returns-clause-ends t c =
     let e : Ending = ending c.loop-act.numbers c.loop-act.marks c.loop-act.after in
-    sym (at_drop_all (λ (xs : List Act). ended c.args.aside (store c.args.before.now) e (named_of (body_of (map action xs)))) c.args.acts.now c.loop-act.act-index c.loop-act-test.false)
+    sym (at_drop_all (λ (xs : List Act). ending_after c.args.aside (store c.args.before.now) e (body_signals (body_of (map action xs)))) c.args.acts.now c.loop-act.act-index c.loop-act-test.false)
     ∙ c.loop-act.invariant.3
 
 -- ---- a body that may be left out
@@ -172,7 +172,7 @@ end_all-returns-clause-ends t c =
 pub end_other-returns-in-None-clause-ends : goal.end_other-returns-in-None-clause-ends
 end_other-returns-in-None-clause-ends t c =
     let e : Ending = ending c.args.numbers.now c.args.marks.now c.args.after.now in
-    sym (ap (λ (o : Option (Vec Act Global)). ended c.args.aside (store c.args.before.now) e (other_named (other_of o))) c.in-None.is)
+    sym (ap (λ (o : Option (Vec Act Global)). ending_after c.args.aside (store c.args.before.now) e (other_signals (other_of o))) c.in-None.is)
 
 pub end_other-returns-in-Some-clause-ends : goal.end_other-returns-in-Some-clause-ends
 end_other-returns-in-Some-clause-ends t c =
@@ -180,8 +180,8 @@ end_other-returns-in-Some-clause-ends t c =
     let before = store c.args.before.now in
     let aside = c.args.aside in
     c.end_all.ensures.ends
-    ∙ ap (λ (xs : List Act). ended aside before e (named_of (body_of (map action xs)))) c.deref.ensures.value
-    ∙ sym (ap (λ (o : Option (Vec Act Global)). ended aside before e (other_named (other_of o))) c.in-Some.is)
+    ∙ ap (λ (xs : List Act). ending_after aside before e (body_signals (body_of (map action xs)))) c.deref.ensures.value
+    ∙ sym (ap (λ (o : Option (Vec Act Global)). ending_after aside before e (other_signals (other_of o))) c.in-Some.is)
 
 -- ---- items of a case
 
@@ -213,14 +213,14 @@ end_items-loop-item-preserved t c =
       c.end_all.ensures.kept,
       c.end_all.ensures.beside,
       lawful.1,
-      ended_more aside before e e' (named_of (body_of (map action item.body.items))) (branch_named others)
-          (c.end_all.ensures.ends ∙ ap (λ (xs : List Act). ended aside before e (named_of (body_of (map action xs)))) c.deref.ensures.value)
-          ∙ ap (λ (xs : List CaseItem). ended aside before e (branch_named (branches_of xs))) (sym left)
+      ended_more aside before e e' (body_signals (body_of (map action item.body.items))) (branch_signals others)
+          (c.end_all.ensures.ends ∙ ap (λ (xs : List Act). ending_after aside before e (body_signals (body_of (map action xs)))) c.deref.ensures.value)
+          ∙ ap (λ (xs : List CaseItem). ending_after aside before e (branch_signals (branches_of xs))) (sym left)
           ∙ inv.3,
     )
 
 pub end_items-returns-clause-ends : goal.end_items-returns-clause-ends
 end_items-returns-clause-ends t c =
     let e : Ending = ending c.loop-item.numbers c.loop-item.marks c.loop-item.after in
-    sym (at_drop_all (λ (xs : List CaseItem). ended c.args.aside (store c.args.before.now) e (branch_named (branches_of xs))) c.args.items.now c.loop-item.item-index c.loop-item-test.false)
+    sym (at_drop_all (λ (xs : List CaseItem). ending_after c.args.aside (store c.args.before.now) e (branch_signals (branches_of xs))) c.args.items.now c.loop-item.item-index c.loop-item-test.false)
     ∙ c.loop-item.invariant.3

@@ -5,9 +5,9 @@ use Rattle.rtl_flat.specs.WellFormed.{IsBody, statements}
 use Rattle.rtl_scan.specs.Bodies.{branches_of}
 use Rattle.rtl_scan.specs.Loads.{load, other_load, items_load}
 use Rattle.net_body.specs.Bodies.{AreBodies}
-use Rattle.net_body.specs.Ends.{AreBeside, ended, ending}
+use Rattle.net_body.specs.Ends.{AreBeside, ending, ending_after}
 use Rattle.net_body.specs.Marks.{AreKept}
-use Rattle.net_body.specs.Named.{branch_named, named_of}
+use Rattle.net_body.specs.Named.{body_signals, branch_signals}
 use Rattle.net_body.proofs.ends.+ends.Given as goal
 
 abbrev pub invariant-end_all-loop-act : goal.invariant-end_all-loop-act
@@ -15,16 +15,16 @@ invariant-end_all-loop-act l =
     AreKept l.signals l.numbers l.marks
     × (l.aside ≡ true → AreBeside l.signals l.before l.after)
     × IsBody l.signals (body_of (map action (drop l.act-index l.acts)))
-    × (ended l.aside (store l.before) (ending l.numbers l.marks l.after) (named_of (body_of (map action (drop l.act-index l.acts))))
-    ≡ ended l.aside (store l.before) (ending l.initial.numbers l.initial.marks l.initial.after) (named_of (body_of (map action l.acts))))
+    × (ending_after l.aside (store l.before) (ending l.numbers l.marks l.after) (body_signals (body_of (map action (drop l.act-index l.acts))))
+    ≡ ending_after l.aside (store l.before) (ending l.initial.numbers l.initial.marks l.initial.after) (body_signals (body_of (map action l.acts))))
 
 abbrev pub invariant-end_items-loop-item : goal.invariant-end_items-loop-item
 invariant-end_items-loop-item l =
     AreKept l.signals l.numbers l.marks
     × (l.aside ≡ true → AreBeside l.signals l.before l.after)
     × AreBodies l.signals (branches_of (drop l.item-index l.items))
-    × (ended l.aside (store l.before) (ending l.numbers l.marks l.after) (branch_named (branches_of (drop l.item-index l.items)))
-    ≡ ended l.aside (store l.before) (ending l.initial.numbers l.initial.marks l.initial.after) (branch_named (branches_of l.items)))
+    × (ending_after l.aside (store l.before) (ending l.numbers l.marks l.after) (branch_signals (branches_of (drop l.item-index l.items)))
+    ≡ ending_after l.aside (store l.before) (ending l.initial.numbers l.initial.marks l.initial.after) (branch_signals (branches_of l.items)))
 
 abbrev pub decreases-end_all : goal.decreases-end_all
 decreases-end_all l = 4 * load l.acts.now + 1

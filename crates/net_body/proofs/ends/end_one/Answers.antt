@@ -1,7 +1,7 @@
 use Rattle.std.proofs.Common.{◌≡◌, ◌∙◌, ◌<◌, length, set, sym, ap, arith, true}
 use Rattle.rtl_flat.specs.Value.{store}
 use Rattle.event_model.specs.Writes.{put}
-use Rattle.net_body.specs.Ends.{Ending, changed, ended_one, ending, settled}
+use Rattle.net_body.specs.Ends.{Ending, bits_after, changed, ending, ending_after_one}
 use Rattle.net_model.specs.Block.{Maps}
 use Rattle.net_body.proofs.Ended.{beside_is, cleared_is, number_read}
 use Rattle.net_body.proofs.Ending.{settled_one}
@@ -38,7 +38,7 @@ returns-then-aside-clause-ends c =
     let old_here : i < length before = omega (arith, below, old_stored) in
     let after_here : i < length after = omega (arith, below, after_stored) in
     let e : Ending = ending numbers marks after in
-    let run = settled e.maps i in
+    let run = bits_after e.maps i in
     let number_is = number_read numbers i c.index-numbers-place.result here c.index-numbers-place.is in
     let ran : c.merged-ran.result ≡ run = settled_one numbers marks i c.index-marks-place.result c.index-numbers-place.result c.merged-ran.result within c.index-marks-place.is number_is c.merged-ran.ensures.bits in
     let old_is = number_read before i c.index-before-place.result old_here c.index-before-place.is in
@@ -48,9 +48,9 @@ returns-then-aside-clause-ends c =
     ∙ ap (changed (store before i) run) kept_is in
     ap (λ (m : Maps). record { maps = m; after = store (set after i c.xor-then-aside.result) })
     (cleared_is numbers marks i c.index-before-place.result (store before i) c.clear.result here within old_is c.clear.ensures.next c.clear.ensures.wrote c.clear.ensures.late)
-    ∙ ap (λ n. record { maps = (ended_one true (store before) e i).maps; after = n })
+    ∙ ap (λ n. record { maps = (ending_after_one true (store before) e i).maps; after = n })
     (store_set after i c.xor-then-aside.result after_here ∙ ap (put (store after) i) beside_number)
-    ∙ sym (ap (λ a. ended_one a (store before) e i) c.if-aside.true)
+    ∙ sym (ap (λ a. ending_after_one a (store before) e i) c.if-aside.true)
 
 pub returns-then-aside-clause-kept : goal.returns-then-aside-clause-kept
 returns-then-aside-clause-kept c =
@@ -83,10 +83,10 @@ returns-else-aside-clause-ends c =
     let here : i < length numbers = omega (arith, below, stored) in
     let e : Ending = ending numbers marks c.args.after.now in
     let number_is = number_read numbers i c.index-numbers-place.result here c.index-numbers-place.is in
-    let ran : c.merged-ran.result ≡ settled e.maps i = settled_one numbers marks i c.index-marks-place.result c.index-numbers-place.result c.merged-ran.result within c.index-marks-place.is number_is c.merged-ran.ensures.bits in
+    let ran : c.merged-ran.result ≡ bits_after e.maps i = settled_one numbers marks i c.index-marks-place.result c.index-numbers-place.result c.merged-ran.result within c.index-marks-place.is number_is c.merged-ran.ensures.bits in
     ap (λ (m : Maps). record { maps = m; after = store c.args.after.now })
-    (cleared_is numbers marks i c.merged-ran.result (settled e.maps i) c.clear.result here within ran c.clear.ensures.next c.clear.ensures.wrote c.clear.ensures.late)
-    ∙ sym (ap (λ a. ended_one a (store before) e i) c.if-aside.false)
+    (cleared_is numbers marks i c.merged-ran.result (bits_after e.maps i) c.clear.result here within ran c.clear.ensures.next c.clear.ensures.wrote c.clear.ensures.late)
+    ∙ sym (ap (λ a. ending_after_one a (store before) e i) c.if-aside.false)
 
 pub returns-else-aside-clause-kept : goal.returns-else-aside-clause-kept
 returns-else-aside-clause-kept c =

@@ -4,8 +4,8 @@ use Rattle.rtl_flat.specs.declared.act.TargetPart.{TargetPart}
 use Rattle.rtl_flat.specs.Process.{piece}
 use Rattle.rtl_flat.specs.Value.{store}
 use Rattle.rtl_scan.proofs.Labels.{left_at}
-use Rattle.net_body.specs.Ends.{Ending, ended, ending}
-use Rattle.net_body.specs.Named.{target_named}
+use Rattle.net_body.specs.Ends.{Ending, ending, ending_after}
+use Rattle.net_body.specs.Named.{target_signals}
 use Rattle.net_body.proofs.Ended.{ended_more}
 use Rattle.net_body.proofs.ends.end_parts.Goals as goal
 
@@ -30,13 +30,13 @@ loop-part-preserved c =
     let e' : Ending = ending c.end_one.new.numbers c.end_one.new.marks c.end_one.new.after in (
       c.end_one.ensures.kept,
       c.end_one.ensures.beside,
-      ended_more aside before e e' (item.signal.0 ∷ []) (target_named (map piece (drop (at + 1) c.args.parts.now))) c.end_one.ensures.ends
-          ∙ ap (λ (ps : List TargetPart). ended aside before e (target_named (map piece ps))) (sym left)
+      ended_more aside before e e' (item.signal.0 ∷ []) (target_signals (map piece (drop (at + 1) c.args.parts.now))) c.end_one.ensures.ends
+          ∙ ap (λ (ps : List TargetPart). ending_after aside before e (target_signals (map piece ps))) (sym left)
           ∙ c.loop-part.invariant.2,
     )
 
 pub returns-clause-ends : goal.returns-clause-ends
 returns-clause-ends c =
     let e : Ending = ending c.loop-part.numbers c.loop-part.marks c.loop-part.after in
-    sym (at_drop_all (λ (ps : List TargetPart). ended c.args.aside (store c.args.before.now) e (target_named (map piece ps))) c.args.parts.now c.loop-part.part-index c.loop-part-test.false)
+    sym (at_drop_all (λ (ps : List TargetPart). ending_after c.args.aside (store c.args.before.now) e (target_signals (map piece ps))) c.args.parts.now c.loop-part.part-index c.loop-part-test.false)
     ∙ c.loop-part.invariant.2
