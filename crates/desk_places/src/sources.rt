@@ -1,6 +1,6 @@
 //! The files that were read.
 
-ghost use Rattle.std.specs.Prelude.{◌≡◌, ◌≤◌, ◌++◌, All, codes, decimal, IfOk, length, OnOk};
+ghost use Rattle.std.specs.Prelude.{◌≡◌, ◌≤◌, ◌∷◌, ◌++◌, [], All, codes, decimal, IfOk, length, OnErr, OnOk};
 ghost use Rattle.desk_places.specs.Places.{file_of, place_in, place_text, source, sources, sources_of, text_of};
 
 use crate::lines::LineTable;
@@ -12,24 +12,25 @@ use std::alloc::Global;
 /// A file by its name, with the lines of its text.
 #[derive(Drop)]
 struct SourceFile<'a> {
-    name: &'a str,
+    name: &'a [u8],
     lines: LineTable<'a>,
 }
 
 /// The files that were read, in their order: a spot names its file by the position there.
 #[derive(Drop)]
 pub struct Sources<'a> {
+    alloc: Global,
     files: Vec<SourceFile<'a>>,
 }
 
 impl<'a> SourceFile<'a> {
-    fn new(alloc: Global, name: &'a String, text: &'a Vec<u8>) -> Result<SourceFile<'a>, Memory>
-        requires { length text.now.items ≤ 1048576 }
-        ensures { IfOk result (λ file. file_of file ≡ source name.now text.now) }
+    fn new(alloc: Global, name: &'a [u8], text: &'a [u8]) -> Result<SourceFile<'a>, Memory>
+        requires { length text.now ≤ 1048576 }
+        ensures { IfOk result (λ file. file_of file ≡ record { name = name.now; text = text.now }) }
     {
         Ok(SourceFile {
-            name: name.as_str(),
-            lines: LineTable::new(alloc, text.as_slice())?,
+            name,
+            lines: LineTable::new(alloc, text)?,
         })
     }
 
@@ -38,7 +39,7 @@ impl<'a> SourceFile<'a> {
         ensures { OnOk result (out.new.items ≡ out.old.items ++ place_text self.now.name.now (text_of self.now.lines) at) }
     {
         let position = self.lines.position(at);
-        out.extend_from_slice(self.name.as_bytes())?;
+        out.extend_from_slice(self.name)?;
         push_number(out, position.line)?;
         push_number(out, position.column)
     }
@@ -57,9 +58,32 @@ impl<'a> Sources<'a> {
     {
         let mut files = Vec::new(alloc);
         for number in 0..names.len() {
-            files.push(SourceFile::new(alloc, &names[number], &texts[number])?)?;
+            let name = names[number].as_bytes();
+            files.push(SourceFile::new(alloc, name, texts[number].as_slice())?)?;
         }
-        Ok(Sources { files })
+        Ok(Sources { alloc, files })
+    }
+
+    /// No file yet.
+    pub fn empty(alloc: Global) -> Sources<'a>
+        ensures { sources_of result ≡ [] }
+    {
+        Sources {
+            alloc,
+            files: Vec::new(alloc),
+        }
+    }
+
+    /// Puts a file behind the others, its text of at most 1 MiB. At an error the files stay.
+    pub fn push(&mut self, name: &'a [u8], text: &'a [u8]) -> Result<(), Memory>
+        requires { length text.now ≤ 1048576 }
+        ensures ok { OnOk result (sources_of self.new
+            ≡ sources_of self.old ++ record { name = name.now; text = text.now } ∷ []) }
+        ensures err { OnErr result (sources_of self.new ≡ sources_of self.old) }
+    {
+        let file = SourceFile::new(self.alloc, name, text)?;
+        self.files.push(file)?;
+        Ok(())
     }
 
     /// Writes a place as `file:line:column` behind other text, and nothing where there is no such file.
