@@ -1,2 +1,3 @@
 mod Examples
 pub mod Digits
+pub mod Telling

@@ -1,2 +1,4 @@
+pub mod Demos
 pub mod Reports
+pub mod Tellings
 pub mod Values

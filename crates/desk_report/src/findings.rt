@@ -1,48 +1,65 @@
 //! The report of a ruling.
 
-ghost use Rattle.std.specs.Prelude.{◌≡◌, ◌++◌, codes, length, IfOk, OnOk};
-ghost use Rattle.std.specs.List.{flat_map};
+ghost use Rattle.std.specs.Prelude.{◌≡◌, ◌++◌, codes, filter, is_some, length, IfOk, OnOk};
 ghost use Rattle.rtl_rule.specs.Rows.{row_of};
+ghost use Rattle.desk_dates.specs.Dates.{date_text};
 ghost use Rattle.desk_places.specs.Places.{sources_of};
-ghost use Rattle.desk_report.specs.Reports.{finding_line, head_lines, line, report_text, stages_report, target_in, yes_or_no};
+ghost use Rattle.desk_report.specs.Reports.{finding_line, finding_text, findings_text, head_lines, line, report_text, shown_line, stages_report, waiver_text, yes_or_no};
 
+use crate::demos::push_demo;
+use demo_told::Told;
+use desk_dates::date_digits;
 use desk_places::sources::Sources;
+use desk_tables::{Day, WaiverId};
 use itoa::Buffer;
-use rtl_flat::design::Design;
 use rtl_rule::finding::{Finding, Ruling};
 use rtl_tree::memory::Memory;
 use std::alloc::Global;
 
-/// The report of a top's ruling: its head, and for each finding a line with the rule, what it is about, and the place.
+/// The report of a top's ruling: its head, and for each finding a line with the rule, what it is
+/// about, the place and the waiver that stands, and below it one that shows it. For each finding
+/// there is what is told of it, and its waiver with the last day, where one stands.
 pub fn report(
     alloc: Global,
     top: &[u8],
     sources: &Sources<'_>,
-    design: &Design,
     ruling: &Ruling,
+    told: &[Told],
+    waivers: &[Option<(WaiverId, Day)>],
 ) -> Result<Vec<u8>, Memory>
+    requires told { length told.now ≡ length ruling.now.findings.items }
+    requires waivers { length waivers.now ≡ length ruling.now.findings.items }
     ensures { IfOk result (λ text. text.items ≡ report_text top.now (sources_of sources.now)
-        design.now.signals.items design.now.instances.items
-        ruling.now.findings.items ruling.now.clean ruling.now.firm) }
+        ruling.now.findings.items told.now waivers.now ruling.now.clean ruling.now.firm) }
 {
     let mut out = Vec::new(alloc);
-    push_head(&mut out, top, ruling)?;
-    push_findings(&mut out, sources, design, &ruling.findings)?;
+    push_head(&mut out, top, ruling, count_of(waivers))?;
+    push_findings(alloc, &mut out, sources, &ruling.findings, told, waivers)?;
     Ok(out)
 }
 
-/// The top, whether its design is clean and firm, and how many findings there are.
-fn push_head(out: &mut Vec<u8>, top: &[u8], ruling: &Ruling) -> Result<(), Memory>
+/// How many waivers stand.
+fn count_of(waivers: &[Option<(WaiverId, Day)>]) -> usize
+    ensures { result ≡ length (filter is_some waivers.now) }
+{
+    waivers.iter().filter(|one| one.is_some()).count()
+}
+
+/// The top, whether its design is clean and firm, how many findings there are, and how many of them
+/// are waived.
+fn push_head(out: &mut Vec<u8>, top: &[u8], ruling: &Ruling, waived: usize) -> Result<(), Memory>
     ensures { OnOk result (out.new.items ≡ out.old.items
-        ++ head_lines top.now ruling.now.clean ruling.now.firm (length ruling.now.findings.items)) }
+        ++ head_lines top.now ruling.now.clean ruling.now.firm
+        (length ruling.now.findings.items) waived) }
 {
     let mut digits = Buffer::new();
-    let count = digits.format(ruling.findings.len());
     push_line(out, b"module ", top)?;
     push_line(out, b"clean ", yes_or_no(ruling.clean))?;
     push_line(out, b"firm ", yes_or_no(ruling.firm))?;
+    let count = digits.format(ruling.findings.len());
     push_line(out, b"findings ", count.as_bytes())?;
-    push_line(out, b"waived ", b"0")
+    let mut digits = Buffer::new();
+    push_line(out, b"waived ", digits.format(waived).as_bytes())
 }
 
 /// What is told of the ruling of a design that was generated with so many stages, and has so many processes.
@@ -81,40 +98,65 @@ fn yes_or_no(answer: bool) -> &'static [u8]
     if answer { b"yes" } else { b"no" }
 }
 
+/// The lines of findings.
 fn push_findings(
+    alloc: Global,
     out: &mut Vec<u8>,
     sources: &Sources<'_>,
-    design: &Design,
     findings: &[Finding],
+    told: &[Told],
+    waivers: &[Option<(WaiverId, Day)>],
 ) -> Result<(), Memory>
+    requires told { length told.now ≡ length findings.now }
+    requires waivers { length waivers.now ≡ length findings.now }
     ensures { OnOk result (out.new.items ≡ out.old.items
-        ++ flat_map (finding_line (sources_of sources.now)
-        design.now.signals.items design.now.instances.items) findings.now) }
+        ++ findings_text (sources_of sources.now) findings.now told.now waivers.now) }
 {
-    for finding in findings {
-        push_finding(out, sources, design, finding)?;
+    for place in 0..findings.len() {
+        push_finding(
+            out,
+            sources,
+            &findings[place],
+            &told[place],
+            &waivers[place],
+        )?;
+        push_shown(alloc, out, &told[place])?;
     }
     Ok(())
 }
 
-/// A finding's line: the rule by its code and its name, what it is about, and the place.
+/// A finding's line, with the waiver that stands.
 fn push_finding(
     out: &mut Vec<u8>,
     sources: &Sources<'_>,
-    design: &Design,
     finding: &Finding,
+    told: &Told,
+    waiver: &Option<(WaiverId, Day)>,
 ) -> Result<(), Memory>
     ensures { OnOk result (out.new.items ≡ out.old.items
-        ++ finding_line (sources_of sources.now)
-        design.now.signals.items design.now.instances.items finding.now) }
+        ++ finding_line (sources_of sources.now) finding.now told.now waiver.now) }
+{
+    push_words(out, sources, finding, told)?;
+    push_waiver(out, waiver)?;
+    out.push(b'\n')?;
+    Ok(())
+}
+
+/// The rule by its code and its name, what the finding is about, and its place.
+fn push_words(
+    out: &mut Vec<u8>,
+    sources: &Sources<'_>,
+    finding: &Finding,
+    told: &Told,
+) -> Result<(), Memory>
+    ensures { OnOk result (out.new.items ≡ out.old.items
+        ++ finding_text (sources_of sources.now) finding.now told.now) }
 {
     let row = finding.rule.row();
     push_word(out, row.code.as_bytes())?;
     push_word(out, row.name.as_bytes())?;
-    push_word(out, target_in(design, finding))?;
-    sources.push_place(out, finding.spot)?;
-    out.push(b'\n')?;
-    Ok(())
+    push_word(out, told.target.as_bytes())?;
+    sources.push_place(out, finding.spot)
 }
 
 /// A word and a space.
@@ -126,18 +168,27 @@ fn push_word(out: &mut Vec<u8>, word: &[u8]) -> Result<(), Memory>
     Ok(())
 }
 
-/// The path of a finding's signal, or of its instance where it names none; empty where there is none.
-fn target_in<'d>(design: &'d Design, finding: &Finding) -> &'d [u8]
-    ensures { result.now ≡ target_in design.now.signals.items design.now.instances.items finding.now }
+/// The number of the waiver that stands, and its last day.
+fn push_waiver(out: &mut Vec<u8>, waiver: &Option<(WaiverId, Day)>) -> Result<(), Memory>
+    ensures { OnOk result (out.new.items ≡ out.old.items ++ waiver_text waiver.now) }
 {
-    match finding.signal {
-        Some(number) => match design.signals.get(number.0 as usize) {
-            Some(signal) => signal.path.as_bytes(),
-            None => b"",
-        },
-        None => match design.instances.get(finding.instance as usize) {
-            Some(instance) => instance.path.as_bytes(),
-            None => b"",
-        },
+    let Some((id, day)) = waiver else {
+        return Ok(());
+    };
+    let mut digits = Buffer::new();
+    out.extend_from_slice(b" waived ")?;
+    out.extend_from_slice(digits.format(id.0).as_bytes())?;
+    out.extend_from_slice(b" until ")?;
+    out.extend_from_slice(&date_digits(*day))?;
+    Ok(())
+}
+
+/// The line that shows a finding, where it shows.
+fn push_shown(alloc: Global, out: &mut Vec<u8>, told: &Told) -> Result<(), Memory>
+    ensures { OnOk result (out.new.items ≡ out.old.items ++ shown_line told.now.demo) }
+{
+    match &told.demo {
+        Some((demo, path, shown)) => push_demo(alloc, demo, path.as_bytes(), shown, out),
+        None => Ok(()),
     }
 }

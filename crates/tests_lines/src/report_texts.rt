@@ -2,8 +2,11 @@
 
 ghost use Rattle.std.specs.Prelude.{◌≡◌, IfOk};
 
+use demo_told::{Demo, Shown, Told};
+use desk_dates::day_of_text;
 use desk_places::sources::Sources;
-use desk_report::{push_value, report, value_text};
+use desk_report::{push_value, report, tell, value_text};
+use desk_tables::{Day, WaiverId};
 use rtl_bits::{Bit, Vec4};
 use rtl_flat::design::Design;
 use rtl_flat::expr::SigId;
@@ -120,8 +123,50 @@ fn finding(rule: Rule, signal: Option<SigId>, file: u32, at: u32) -> Finding {
     }
 }
 
-const OPEN: &[u8] = b"module top\nclean no\nfirm no\nfindings 3\nwaived 0\n\
-A4 SeveralDrivers top.y r28.v:3:8\nA5 Undriven top.z r29.v:1:31\nD2 InitialIgnored top r29.v:3:1\n";
+/// The report of a ruling, with what is told of each finding, and its waiver.
+fn reported(
+    alloc: Global,
+    top: &[u8],
+    sources: &Sources<'_>,
+    ruling: &Ruling,
+    told: &[Told],
+    waivers: &[Option<(WaiverId, Day)>],
+) -> Result<Vec<u8>, Fail> {
+    let count = ruling.findings.len();
+    if told.len() != count || waivers.len() != count {
+        return Err(Fail::new("not one for each finding"));
+    }
+    match report(alloc, top, sources, ruling, told, waivers) {
+        Ok(text) => Ok(text),
+        Err(Memory) => Err(Fail::new("no memory")),
+    }
+}
+
+const OPEN: &[u8] = b"module top\nclean no\nfirm no\nfindings 3\nwaived 1\n\
+A4 SeveralDrivers top.y r28.v:3:8\n  trial 8 step 2 signal top.y simulated 1'bx synthesised 1'b0\n\
+A5 Undriven top.z r29.v:1:31 waived 7 until 2026-12-31\nD2 InitialIgnored top r29.v:3:1\n";
+
+/// The design's output `y`, after the second step of a trial.
+fn shown() -> (Demo, Shown) {
+    let demo = Demo {
+        trial: 8,
+        step: 2,
+        signal: SigId(1),
+    };
+    let shown = Shown {
+        simulated: Vec4::filled(1, Bit::X),
+        synthesised: Vec4::filled(1, Bit::Zero),
+    };
+    (demo, shown)
+}
+
+/// A waiver that ends with the year.
+fn waiver() -> Result<(WaiverId, Day), Fail> {
+    match day_of_text(b"2026-12-31") {
+        Some(day) => Ok((WaiverId(7), day)),
+        None => Err(Fail::new("no day")),
+    }
+}
 
 #[test]
 fn rulings_are_reported(rt: HostRuntime) -> Result<(), Fail> {
@@ -142,9 +187,15 @@ fn rulings_are_reported(rt: HostRuntime) -> Result<(), Fail> {
     let never = finding(Rule::Undriven, Some(SigId(2)), 1, 30);
     let initial = finding(Rule::InitialIgnored, None, 1, 48);
     let open = ruling(vec![in rt.alloc(); twice, never, initial]?);
-    let design = design(rt.alloc())?;
-    let text = report(rt.alloc(), b"top", &sources, &design, &open)?;
-    assert_eq!(&rt; text.as_slice(), OPEN);
+    let told = tell(
+        rt.alloc(),
+        &design(rt.alloc())?,
+        &open.findings,
+        &[Some(shown())],
+    )?;
+    let waivers = [None, Some(waiver()?), None];
+    let text = reported(rt.alloc(), b"top", &sources, &open, &told, &waivers)?;
+    assert_eq!(rt; text.as_slice(), OPEN);
     Ok(())
 }
 
@@ -156,8 +207,7 @@ fn a_clean_ruling_is_a_head(rt: HostRuntime) -> Result<(), Fail> {
     let texts = Vec::new(rt.alloc());
     let sources = Sources::new(rt.alloc(), &names, &texts)?;
     let clean = ruling(Vec::new(rt.alloc()));
-    let design = design(rt.alloc())?;
-    let text = report(rt.alloc(), b"mux2", &sources, &design, &clean)?;
+    let text = reported(rt.alloc(), b"mux2", &sources, &clean, &[], &[])?;
     assert_eq!(&rt; text.as_slice(), CLEAN);
     Ok(())
 }
