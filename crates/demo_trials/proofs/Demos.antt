@@ -51,7 +51,7 @@ same_front (x ∷ a) (y ∷ b) r s p q e =
     let rest = same_front a b r s (or_right _ _ p) (or_right _ _ q) (ap other_bytes e) in
     (ap (λ u. u ∷ a) (ap head_byte e) ∙ ap (λ v. y ∷ v) rest.0, rest.1)
 
-same_number : (m n : ℕ) (r s : List ℕ) → m < 2 ^ 64 → n < 2 ^ 64 → decimal m ++ 32 ∷ r ≡ decimal n ++ 32 ∷ s → (m ≡ n) × (r ≡ s)
+pub same_number : (m n : ℕ) (r s : List ℕ) → m < 2 ^ 64 → n < 2 ^ 64 → decimal m ++ 32 ∷ r ≡ decimal n ++ 32 ∷ s → (m ≡ n) × (r ≡ s)
 same_number m n r s small below e =
     let parts = same_front (decimal m) (decimal n) r s (no_space m small) (no_space n below) e in
     (decimal_injective m n small below parts.0, parts.1)

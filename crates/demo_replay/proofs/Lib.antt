@@ -1,0 +1,12 @@
+pub mod Comparing
+pub mod Differing
+pub mod Going
+pub mod Lawful
+pub mod Marking
+pub mod Passing
+pub mod Replaying
+pub mod Running
+pub mod Seeking
+pub mod Setting
+pub mod Showing
+pub mod Starting

@@ -1,0 +1,7 @@
+pub mod Compared
+pub mod Firsts
+pub mod Setups
+pub mod Progress
+pub mod Replays
+pub mod Runs
+pub mod Tables

@@ -1,0 +1,168 @@
+// The first difference that trials show for findings.
+
+ghost use Rattle.std.specs.Prelude.{◌≡◌, ◌+◌, ◌≤◌, None, length, map, replicate, IfOk, MatchBool};
+ghost use Rattle.std.specs.Bool.{OnFalse};
+ghost use Rattle.rtl_rule.specs.Parts.{parts};
+ghost use Rattle.demo_replay.specs.Compared.{is_trial_of};
+ghost use Rattle.demo_replay.specs.Firsts.{AreFirsts, IsFirst, told};
+ghost use Rattle.demo_replay.specs.Setups.{LacksNetlist};
+ghost use Rattle.demo_replay.specs.Tables.{AreClocked, AreShownBelow, IsCourseOf, IsOf, IsUnwanted, compared, first_in, told_of};
+
+use crate::compare::{Difference, clocked_signals, first_among, is_unwoken};
+use crate::course::course_of;
+use crate::setup::Setup;
+use crate::start::POWER_UP;
+use demo_told::{Demo, Shown};
+use demo_trials::Trial;
+use rtl_flat::design::Design;
+use rtl_rule::finding::Finding;
+use rtl_rule::rule::Rule;
+use rtl_tree::memory::Memory;
+use std::alloc::Global;
+
+/// Whether a trial is run for findings of a rule: the last for those on lists that never wake their
+/// process, and all others for any other.
+fn is_trial_of(rule: Rule, trial: Trial) -> bool
+    ensures { result ≡ is_trial_of rule trial.number }
+{
+    (trial.number() == POWER_UP) == is_unwoken(rule)
+}
+
+/// Whether a trial is run for some finding for which nothing is shown yet.
+fn is_wanted(trial: Trial, findings: &[Finding], found: &[Option<(Demo, Shown)>]) -> bool
+    requires { length found.now ≡ length findings.now }
+    ensures { OnFalse result (IsUnwanted trial.number findings.now found.now) }
+{
+    for at in 0..findings.len() {
+        if found[at].is_none() && is_trial_of(findings[at].rule, trial) {
+            return true;
+        }
+    }
+    false
+}
+
+/// The first difference that a trial shows for a finding.
+fn first_in(
+    setup: &Setup,
+    clocked: &[bool],
+    finding: &Finding,
+    trial: Trial,
+    steps: &[Vec<Difference>],
+) -> Option<(Demo, Shown)>
+    requires { length steps.now ≤ 16 }
+    ensures { told result ≡ told_of trial.number
+        (first_in (compared setup.now clocked.now finding.now) 1 steps.now) }
+{
+    for (before, differences) in steps.iter().enumerate() {
+        if let Some(first) = first_among(setup, clocked, finding, differences) {
+            let demo = Demo {
+                trial: trial.number(),
+                step: before as u8 + 1,
+                signal: first.signal,
+            };
+            return Some((demo, first.shown));
+        }
+    }
+    None
+}
+
+/// Takes what a trial shows for each finding for which it is run and nothing is shown yet.
+fn show(
+    setup: &Setup,
+    clocked: &[bool],
+    trial: Trial,
+    steps: &[Vec<Difference>],
+    findings: &[Finding],
+    found: &mut [Option<(Demo, Shown)>],
+)
+    requires is_of { IsOf setup.now.design.now setup.now }
+    requires course { IsCourseOf setup.now.design.now setup.now trial.number steps.now }
+    requires clocked { AreClocked (parts setup.now.design.now) clocked.now }
+    requires below { AreShownBelow setup.now.design.now setup.now clocked.now findings.now
+        trial.number found.old }
+    ensures { AreShownBelow setup.now.design.now setup.now clocked.now findings.now
+        (trial.number + 1) found.new }
+{
+    for at in 0..findings.len() {
+        if found[at].is_none() && is_trial_of(findings[at].rule, trial) {
+            found[at] = first_in(setup, clocked, &findings[at], trial, steps);
+        }
+    }
+}
+
+/// Runs a trial, if it is wanted; tells whether the design has a netlist as far as is known.
+fn run_trial(
+    alloc: Global,
+    setup: &Setup<'_>,
+    clocked: &[bool],
+    trial: Trial,
+    findings: &[Finding],
+    found: &mut [Option<(Demo, Shown)>],
+) -> Result<bool, Memory>
+    requires is_of { IsOf setup.now.design.now setup.now }
+    requires clocked { AreClocked (parts setup.now.design.now) clocked.now }
+    requires below { AreShownBelow setup.now.design.now setup.now clocked.now findings.now
+        trial.number found.old }
+    ensures { IfOk result (λ has. MatchBool has
+        (AreShownBelow setup.now.design.now setup.now clocked.now findings.now
+        (trial.number + 1) found.new)
+        (LacksNetlist (parts setup.now.design.now))) }
+{
+    if !is_wanted(trial, findings, found) {
+        return Ok(true);
+    }
+    let Some(steps) = course_of(alloc, setup, trial)? else {
+        return Ok(false);
+    };
+    show(setup, clocked, trial, &steps, findings, found);
+    Ok(true)
+}
+
+/// Nothing for each of so many findings.
+fn nothing(alloc: Global, count: usize) -> Result<Vec<Option<(Demo, Shown)>>, Memory>
+    ensures { IfOk result (λ found. found.items ≡ replicate count None) }
+{
+    let found = vec![in alloc; None; count]?;
+    Ok(found)
+}
+
+/// The first difference that the trials show for each of some findings. A trial is run once for all
+/// of them.
+///
+/// Fails where memory runs out.
+pub fn attach_all(
+    alloc: Global,
+    design: &Design,
+    findings: &[Finding],
+) -> Result<Vec<Option<(Demo, Shown)>>, Memory>
+    ensures { IfOk result (λ found.
+        AreFirsts (parts design.now) findings.now (map told found.items)) }
+{
+    let Some(setup) = Setup::of(alloc, design)? else {
+        return nothing(alloc, findings.len());
+    };
+    let clocked = clocked_signals(alloc, design)?;
+    let mut found = nothing(alloc, findings.len())?;
+    for number in 0..POWER_UP + 1 {
+        if let Some(trial) = Trial::new(number) {
+            if !run_trial(alloc, &setup, &clocked, trial, findings, &mut found)? {
+                return nothing(alloc, findings.len());
+            }
+        }
+    }
+    Ok(found)
+}
+
+/// The first difference that the trials show for a finding. None exactly where they show none.
+///
+/// Fails where memory runs out.
+pub fn attach(
+    alloc: Global,
+    design: &Design,
+    finding: &Finding,
+) -> Result<Option<(Demo, Shown)>, Memory>
+    ensures { IfOk result (λ found. IsFirst (parts design.now) finding.now (told found)) }
+{
+    let found = attach_all(alloc, design, &[*finding])?;
+    Ok(found[0])
+}

@@ -1,0 +1,140 @@
+// What all trials of a design begin with.
+
+ghost use Rattle.std.specs.Prelude.{ℕ, ◌≡◌, ◌↔◌, true, IfOk, IfSome, MatchOption};
+ghost use Rattle.event_model.specs.Queue.{flat};
+ghost use Rattle.net_list.specs.Faults.{AreAlone, AreFormed};
+ghost use Rattle.net_model.specs.Control.{IsControl};
+ghost use Rattle.rtl_rule.specs.Parts.{parts};
+ghost use Rattle.demo_replay.specs.Setups.{LacksNetlist};
+ghost use Rattle.demo_replay.specs.Tables.{IsNetlistOf, is_marked};
+
+use check_clocks::tops::mark_all;
+use infer_latches::blocks;
+use infer_regs::{controls, registers};
+use net_list::fault::InferFault;
+use net_list::netlist::Netlist;
+use net_model::fill::Fill;
+use net_start::stored::{stored, top_inputs};
+use rtl_flat::design::Design;
+use rtl_flat::expr::SigId;
+use rtl_scan::temporaries;
+use rtl_tree::memory::Memory;
+use std::alloc::Global;
+
+/// A design with what its trials begin with.
+#[derive(Drop)]
+pub(crate) struct Setup<'d> {
+    pub design: &'d Design,
+    /// Its netlist with 0 for bits that have no number, and with 1.
+    zero: Netlist<'d>,
+    one: Netlist<'d>,
+    /// Its registers and latches, and its top inputs, in order of number.
+    pub stored: Vec<SigId>,
+    pub tops: Vec<SigId>,
+    /// Of each signal whether it is a clock or a reset among the top inputs, and whether it is a
+    /// temporary.
+    controls: Vec<bool>,
+    pub temporaries: Vec<bool>,
+}
+
+/// The netlist of a design, if it has one.
+fn netlist_of<'d>(
+    alloc: Global,
+    design: &'d Design,
+    fill: Fill,
+) -> Result<Option<Netlist<'d>>, Memory>
+    ensures netlist { IfOk result (λ found.
+        MatchOption found (LacksNetlist (parts design.now)) (IsNetlistOf design.now fill)) }
+    ensures formed { IfOk result (λ found. IfSome found (λ _. AreFormed (parts design.now))) }
+    ensures alone { IfOk result (λ found. IfSome found (λ _. AreAlone (parts design.now))) }
+{
+    let registers = match registers(alloc, design) {
+        Ok(registers) => registers,
+        Err(InferFault::Shape(_)) => return Ok(None),
+        Err(InferFault::Memory) => return Err(Memory),
+    };
+    match blocks(alloc, design, fill) {
+        Ok(blocks) => Ok(Some(Netlist::join(registers, blocks))),
+        Err(InferFault::Shape(_)) => Ok(None),
+        Err(InferFault::Memory) => Err(Memory),
+    }
+}
+
+/// Of each signal whether it is a clock or a reset among the top inputs.
+fn marked_controls(alloc: Global, design: &Design) -> Result<Vec<bool>, Memory>
+    ensures { IfOk result (λ marks. (s : ℕ)
+        → is_marked marks.items s ≡ true ↔ IsControl (flat design.now) s) }
+{
+    let found = controls(alloc, design)?;
+    let numbers: Vec<u32> = found.iter().map(|top| top.0).collect(alloc)?;
+    let mut marks = vec![in alloc; false; design.signals.len()]?;
+    mark_all(&mut marks, &numbers);
+    Ok(marks)
+}
+
+impl<'d> Setup<'d> {
+    ghost use Rattle.std.specs.Prelude.{◌≡◌, IfOk, MatchOption};
+    ghost use Rattle.demo_replay.specs.Setups.{LacksNetlist};
+    ghost use Rattle.demo_replay.specs.Tables.{IsNetlistOf, IsOf, is_marked};
+
+    /// That of a design, if the design has a netlist.
+    pub(crate) fn of(alloc: Global, design: &'d Design) -> Result<Option<Setup<'d>>, Memory>
+        ensures { IfOk result (λ found.
+            MatchOption found (LacksNetlist (parts design.now)) (IsOf design.now)) }
+    {
+        let stored = stored(alloc, design)?;
+        let tops = top_inputs(alloc, design)?;
+        let controls = marked_controls(alloc, design)?;
+        let temporaries = temporaries(alloc, design)?;
+        let Some(zero) = netlist_of(alloc, design, Fill::Zero)? else {
+            return Ok(None);
+        };
+        let Some(one) = netlist_of(alloc, design, Fill::One)? else {
+            return Ok(None);
+        };
+        Ok(Some(Setup {
+            design,
+            zero,
+            one,
+            stored,
+            tops,
+            controls,
+            temporaries,
+        }))
+    }
+
+    /// The netlist with a fill.
+    pub(crate) fn netlist(&self, fill: Fill) -> &Netlist<'d>
+        requires { IsOf self.now.design.now self.now }
+        ensures { IsNetlistOf self.now.design.now fill result.now }
+    {
+        match fill {
+            Fill::Zero => &self.zero,
+            Fill::One => &self.one,
+        }
+    }
+
+    /// Whether a signal is a clock or a reset among the top inputs.
+    pub(crate) fn is_control(&self, signal: SigId) -> bool
+        ensures { result ≡ is_marked self.now.controls.items signal.0 }
+    {
+        is_marked(&self.controls, signal)
+    }
+
+    /// Whether a signal is a temporary.
+    pub(crate) fn is_temporary(&self, signal: SigId) -> bool
+        ensures { result ≡ is_marked self.now.temporaries.items signal.0 }
+    {
+        is_marked(&self.temporaries, signal)
+    }
+}
+
+/// Whether a signal is marked.
+pub(crate) fn is_marked(marks: &[bool], signal: SigId) -> bool
+    ensures { result ≡ is_marked marks.now signal.0 }
+{
+    match marks.get(signal.0 as usize) {
+        Some(mark) => *mark,
+        None => false,
+    }
+}
