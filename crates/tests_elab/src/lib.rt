@@ -4,6 +4,8 @@
 #[cfg(test)]
 mod expressions;
 #[cfg(test)]
+mod files;
+#[cfg(test)]
 mod items;
 #[cfg(test)]
 mod refusals;

@@ -29,7 +29,8 @@ fn texts_of(alloc: Global, text: &[u8]) -> Result<Vec<Vec<u8>>, AllocError>
     Ok(texts)
 }
 
-fn read<L: Ledger>(
+/// The modules of texts, file by file.
+pub fn read<L: Ledger>(
     alloc: Global,
     texts: &[Vec<u8>],
     blank: Blank,

@@ -1,0 +1,3 @@
+mod Example
+mod Marking
+mod Searching
