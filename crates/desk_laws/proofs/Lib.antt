@@ -1,4 +1,4 @@
 mod OneAnswer
 mod OneBuilt
-mod OneLevel
+mod OneDemo
 mod OneRun

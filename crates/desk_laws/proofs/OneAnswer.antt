@@ -1,5 +1,5 @@
 -- Words have one outcome over given files, and the desk answers it.
-use Rattle.std.proofs.Common.{◌≡◌, ◌∙◌, ℕ, List, [], ◌∷◌, codes, Option, Some, None, Result, Ok, Err, sym, ap, subst}
+use Rattle.std.proofs.Common.{◌≡◌, ◌∙◌, ℕ, List, [], ◌∷◌, codes, map, take, Option, Some, None, Result, Ok, Err, sym, ap, subst}
 use Rattle.std.specs.Io.KnownBytes.{Appends}
 use Rattle.desk_io.specs.declared.shelf.ShelfFault.{ShelfFault}
 use Rattle.desk_io.specs.Shelf.{Files, reading}
@@ -9,29 +9,42 @@ use Rattle.desk_places.specs.Places.{Source}
 use Rattle.desk_stages.specs.Stages.{stages_text}
 use Rattle.desk_steps.specs.Steps.{Steps, file_of}
 use Rattle.desk_top.specs.Answers.{IsAnswered, OverWorld}
-use Rattle.desk_top.specs.Building.{Built, Designed, Refused}
+use Rattle.rtl_rule.specs.declared.finding.Finding.{Finding}
+use Rattle.demo_replay.specs.Firsts.{AreFirsts, told}
+use Rattle.demo_laws.specs.Laws.{AreProcesses}
+use Rattle.desk_build.specs.Building.{Built, Designed, IsBuilt, Refused}
+use Rattle.desk_verdict.specs.declared.verdict.TheConstants.{MAX_SHOWN}
+use Rattle.desk_verdict.specs.Verdicts.{parts_of}
 use Rattle.desk_top.specs.Delivery.{Outcome}
-use Rattle.desk_top.specs.Outcome.{IsAnswer, IsDone, IsGenerated, IsJudged, IsOutcome, IsRuled, IsRun, IsSigned, IsSimulating, IsStaged, IsStepped, IsTried, World, generated_sources, generation_outcome, names_in, parts_of, ruling_outcome, run}
+use Rattle.desk_top.specs.Outcome.{IsAnswer, IsDone, IsGenerated, IsJudged, IsOutcome, IsReplayIn, IsReplaying, IsRuled, IsRun, IsShownIn, IsSigned, IsSimulating, IsStaged, IsStepped, IsTried, World, generated_sources, generation_outcome, names_in, ruling_outcome, run}
 use Rattle.desk_top.specs.Texts.{named, texts_of}
-use Rattle.desk_top.specs.Words.{Order, Sign, Simulate, Generate, order}
+use Rattle.desk_top.specs.Words.{Order, Sign, Simulate, Replay, Generate, order}
 use Rattle.desk_laws.specs.Same.{AreSame, IsUndisturbed}
 use Rattle.desk_laws.proofs.OneBuilt.{OneLine, one_built}
+use Rattle.desk_laws.proofs.OneDemo.{demo_once, firsts_once, processes_of}
 use Rattle.desk_laws.proofs.OneRun.{one_run}
 
 -- ---- a ruling
 
-one_ruling : (top : List ℕ) (sources : List Source) (flat : DesignParts) (one other : Outcome) → IsRuled top sources flat one → IsRuled top sources flat other → one ≡ other
-one_ruling top sources flat one other first second =
-    first.is ∙ ap (ruling_outcome top sources flat) (alone (parts_of flat) first.found second.found first.are_all second.are_all) ∙ sym second.is
+one_ruling : (top : List ℕ) (sources : List Source) (flat : DesignParts) → AreProcesses (parts_of flat) → (one other : Outcome) → IsRuled top sources flat one → IsRuled top sources flat other → one ≡ other
+one_ruling top sources flat lawful one other first second =
+    let d = parts_of flat in
+    let found : first.found ≡ second.found = alone d first.found second.found first.are_all second.are_all in
+    let shown : first.shown ≡ second.shown = firsts_once d lawful (take MAX_SHOWN second.found) first.shown second.shown
+    (subst (λ (fs : List Finding). AreFirsts d (take MAX_SHOWN fs) (map told first.shown)) found first.are_shown) second.are_shown in
+    first.is
+    ∙ ap (λ (fs : List Finding). ruling_outcome top sources flat fs first.shown) found
+    ∙ ap (ruling_outcome top sources flat second.found) shown
+    ∙ sym second.is
 
-answer_once : (top : List ℕ) (sources : List Source) (built : Built) (one other : Outcome) → IsAnswer top sources built one → IsAnswer top sources built other → one ≡ other
-answer_once top sources (Designed flat) one other first second = one_ruling top sources flat one other first second
-answer_once top sources (Refused line) one other first second = first ∙ sym second
+answer_once : (top : List ℕ) (sources : List Source) (texts : List (List ℕ)) (built : Built) (one other : Outcome) → IsBuilt top sources texts built → IsAnswer top sources built one → IsAnswer top sources built other → one ≡ other
+answer_once top sources texts (Designed flat) one other made first second = one_ruling top sources flat (processes_of top sources texts flat made) one other first second
+answer_once top sources texts (Refused line) one other made first second = first ∙ sym second
 
 judged_once : OneLine → (top : List ℕ) (sources : List Source) (texts : List (List ℕ)) (one other : Outcome) → IsJudged top sources texts one → IsJudged top sources texts other → one ≡ other
 judged_once line top sources texts one other first second =
     let same : first.built ≡ second.built = one_built line top sources texts first.built second.built first.is_built second.is_built in
-    answer_once top sources second.built one other (subst (λ (built : Built). IsAnswer top sources built one) same first.is) second.is
+    answer_once top sources texts second.built one other second.is_built (subst (λ (built : Built). IsAnswer top sources built one) same first.is) second.is
 
 signed_once : OneLine → (top : List ℕ) (files : List (List ℕ)) (texts : Option (List (List ℕ))) (one other : Outcome) → IsSigned top files texts one → IsSigned top files texts other → one ≡ other
 signed_once line top files None one other first second = first ∙ sym second
@@ -59,6 +72,23 @@ simulating_once line top files (Err fault) texts one other first second = first 
 simulating_once line top files (Ok steps) None one other first second = first ∙ sym second
 simulating_once line top files (Ok steps) (Some texts) one other first second = stepped_once line top (named files texts) texts steps one other first second
 
+-- ---- a demonstration
+
+shown_once : (top : List ℕ) (sources : List Source) (texts : List (List ℕ)) (demo : List ℕ) (built : Built) (one other : Outcome) → IsBuilt top sources texts built → IsShownIn demo built one → IsShownIn demo built other → one ≡ other
+shown_once top sources texts demo (Designed flat) one other made first second = demo_once flat (processes_of top sources texts flat made) demo one other first second
+shown_once top sources texts demo (Refused line) one other made first second = first ∙ sym second
+
+replay_once : OneLine → (top : List ℕ) (sources : List Source) (texts : List (List ℕ)) (demo : List ℕ) (one other : Outcome) → IsReplayIn top sources texts demo one → IsReplayIn top sources texts demo other → one ≡ other
+replay_once line top sources texts demo one other first second =
+    let same : first.built ≡ second.built = one_built line top sources texts first.built second.built first.is_built second.is_built in
+    shown_once top sources texts demo second.built one other second.is_built (subst (λ (built : Built). IsShownIn demo built one) same first.is) second.is
+
+replaying_once : OneLine → (top : List ℕ) (files : List (List ℕ)) (demo : Result (List ℕ) ShelfFault) (texts : Option (List (List ℕ))) (one other : Outcome)
+    → IsReplaying top files demo texts one → IsReplaying top files demo texts other → one ≡ other
+replaying_once line top files (Err fault) texts one other first second = first ∙ sym second
+replaying_once line top files (Ok demo) None one other first second = first ∙ sym second
+replaying_once line top files (Ok demo) (Some texts) one other first second = replay_once line top (named files texts) texts demo one other first second
+
 -- ---- a generated design
 
 staged_once : (stages : ℕ) (built : Built) (one other : Outcome) → IsStaged stages built one → IsStaged stages built other → one ≡ other
@@ -78,6 +108,8 @@ done_once line world None one other first second = first ∙ sym second
 done_once line world (Some (Sign top files)) one other first second = signed_once line top files (texts_of world.files files) one other first second
 done_once line world (Some (Simulate top steps files)) one other first second =
     simulating_once line top files (reading (world.before steps)) (texts_of world.files files) one other first second
+done_once line world (Some (Replay top demo files)) one other first second =
+    replaying_once line top files (reading (world.before demo)) (texts_of world.files files) one other first second
 done_once line world (Some (Generate stages)) one other first second = generated_once line stages one other first second
 
 pub one_outcome : OneLine → (words : List (List ℕ)) (world : World) (one other : Outcome) → IsOutcome words world one → IsOutcome words world other → one ≡ other

@@ -12,9 +12,9 @@ use Rattle.desk_top.specs.declared.deliver.Stop.TheVariants.{Unread, NoFile, Mem
 use Rattle.desk_top.specs.declared.deliver.Work.{Work}
 use Rattle.desk_top.specs.declared.simulate.Plan.{Plan}
 use Rattle.desk_top.specs.declared.simulate.Plan.TheVariants.{Told, Run}
-use Rattle.desk_top.specs.Words.{Order, Sign, Simulate, Generate, is_sign, is_simulate, order}
+use Rattle.desk_top.specs.Words.{Order, Sign, Simulate, Replay, Generate, is_sign, is_simulate, order}
 use Rattle.desk_top.specs.Delivery.{Outcome, Delivers, Finishes, IsCut, Front as Begun, Nothing, IsWork, gave_up, no_file, outcome_of}
-use Rattle.desk_top.specs.Building.{AreSpelled, Built, Front, Modules, Faulty, IsFront, built_of, elaborated_or_not}
+use Rattle.desk_build.specs.Building.{AreSpelled, Built, Front, Modules, Faulty, IsFront, built_of, elaborated_or_not}
 use Rattle.desk_top.specs.Outcome.{World, IsAnswer, IsDone, IsOutcome, IsRuled, IsSigned, report_of}
 use Rattle.desk_top.specs.Plans.{IsPlan, Performs}
 use Rattle.desk_top.specs.Texts.{named, texts_of}
@@ -116,7 +116,7 @@ zero_is_clean words world wanted before now asked is zero written = by_order (or
 
     by_grade : (top : List ℕ) (files texts : List (List ℕ)) (circuits : List (List Circuit)) (design : DesignParts) → order words ≡ Some (Sign top files) → texts_of world.files files ≡ Some texts
         → AreSpelled texts circuits → elaborated (library_of circuits) top ≡ Ok design → (ruled : IsRuled top (named files texts) design wanted)
-        → (b : Bool) → has_first_grade ruled.found ≡ b → wanted ≡ record { status = cond (not b) 0 1; bytes = report_of top (named files texts) design ruled.found } → IsSignedClean words before now world
+        → (b : Bool) → has_first_grade ruled.found ≡ b → wanted ≡ record { status = cond (not b) 0 1; bytes = report_of top (named files texts) design ruled.found ruled.shown } → IsSignedClean words before now world
     by_grade top files texts circuits design command held spelled made ruled true some outcome = clash 1 (ap (λ o. o.status) outcome) (λ same. omega (arith, same))
     by_grade top files texts circuits design command held spelled made ruled false none outcome =
         let promised = ruled.promised none in
@@ -133,6 +133,8 @@ zero_is_clean words world wanted before now asked is zero written = by_order (or
           flat = made;
           found = ruled.are_all;
           clean = none;
+          shown = ruled.shown;
+          are_shown = ruled.are_shown;
           reported = rw (← ap (λ o. o.bytes) outcome) written;
           chains = promised.chains;
           chained = promised.chained;
@@ -163,6 +165,7 @@ zero_is_clean words world wanted before now asked is zero written = by_order (or
     by_order None command outcome = clash 3 (ap (λ o. o.status) outcome) (λ same. omega (arith, same))
     by_order (Some (Sign top files)) command outcome = by_texts top files command (texts_of world.files files) refl outcome
     by_order (Some (Simulate top steps files)) command outcome = absurd (let no : false ≡ true = ap is_sign (sym command) ∙ asked in cc)
+    by_order (Some (Replay top demo files)) command outcome = absurd (let no : false ≡ true = ap is_sign (sym command) ∙ asked in cc)
     by_order (Some (Generate stages)) command outcome = absurd (let no : false ≡ true = ap is_sign (sym command) ∙ asked in cc)
 
 -- the headline from the answer 0

@@ -1,27 +1,17 @@
 -- What texts make of a top, and the answer that follows.
-use Rattle.std.proofs.Common.{◌≡◌, ◌∙◌, ℕ, List, [], ◌∷◌, ◌++◌, map, codes, Result, Ok, Err, Vec, String, ap, subst}
-use Rattle.std.specs.Prelude.{IfOk, string_bytes}
+use Rattle.std.proofs.Common.{◌≡◌, ◌∙◌, ℕ, List, [], ◌∷◌, ◌++◌, map, codes, Result, Vec, String, ap, subst}
+use Rattle.std.specs.Prelude.{string_bytes}
 use Rattle.std.specs.declared.alloc.Global.{Global}
-use Rattle.rtl_tree.specs.TreeModule.{Circuit}
-use Rattle.rtl_elab.specs.Designs.{library_of}
-use Rattle.rtl_elab.specs.Elaborated.{elaborated}
 use Rattle.desk_places.specs.Places.{Source, sources}
 use Rattle.desk_stages.specs.Stages.{stages_text}
 use Rattle.desk_top.specs.declared.deliver.Stop.{Stop}
 use Rattle.desk_top.specs.declared.deliver.Work.{Work}
-use Rattle.desk_top.specs.declared.front.Built.{Built as Made}
 use Rattle.desk_top.specs.declared.simulate.Plan.{Plan}
-use Rattle.desk_top.specs.Building.{AreSpelled, Built, Modules, IsBuilt, built, elaborated_or_not}
+use Rattle.desk_build.specs.Building.{Built, IsBuilt}
 use Rattle.desk_top.specs.Delivery.{IsWork}
-use Rattle.desk_top.specs.Outcome.{IsAnswer, IsGenerated, IsJudged, IsStaged, IsStepped, IsTried, generated_sources}
+use Rattle.desk_top.specs.Outcome.{IsAnswer, IsGenerated, IsJudged, IsReplayIn, IsShownIn, IsStaged, IsStepped, IsTried, generated_sources}
 use Rattle.desk_top.specs.Plans.{IsPlan}
 use Rattle.desk_top.proofs.Answered.{plan_map, work_map}
-
--- what modules make
-pub built_ok : (top : List ℕ) (sources : List Source) (texts : List (List ℕ)) (circuits : List (List Circuit)) (r : Result Made Stop) → AreSpelled texts circuits
-    → IfOk r (λ made. built made ≡ elaborated_or_not sources (elaborated (library_of circuits) top)) → IfOk r (λ made. IsBuilt top sources texts (built made))
-built_ok top sources texts circuits (Ok made) read is = record { front = Modules circuits; is_front = read; is = is }
-built_ok top sources texts circuits (Err stop) read is = tt
 
 -- the answer for what texts make
 pub judged_of : (top : List ℕ) (s t : List Source) (texts : List (List ℕ)) (b : Built) (work : Result Work Stop) → s ≡ t → IsBuilt top s texts b
@@ -65,4 +55,11 @@ pub stepped_of : (top : List ℕ) (s t : List Source) (texts : List (List ℕ)) 
     → IsPlan (IsTried steps b) plan → IsPlan (IsStepped top t texts steps) plan
 stepped_of top s t texts steps b plan same made is =
     plan_map {P = IsTried steps b} {Q = IsStepped top t texts steps} plan is
+    (λ outcome it. record { built = b; is_built = subst (λ (all : List Source). IsBuilt top all texts b) same made; is = it })
+
+-- the answer for a demonstration over what texts make
+pub replayed_of : (top : List ℕ) (s t : List Source) (texts : List (List ℕ)) (demo : List ℕ) (b : Built) (work : Result Work Stop) → s ≡ t → IsBuilt top s texts b
+    → IsWork (IsShownIn demo b) work → IsWork (IsReplayIn top t texts demo) work
+replayed_of top s t texts demo b work same made is =
+    work_map {P = IsShownIn demo b} {Q = IsReplayIn top t texts demo} work is
     (λ outcome it. record { built = b; is_built = subst (λ (all : List Source). IsBuilt top all texts b) same made; is = it })

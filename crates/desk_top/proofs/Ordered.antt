@@ -5,7 +5,7 @@ use Rattle.std.proofs.lemmas.Bool.{and_parts}
 use Rattle.std.proofs.lemmas.Bool.Decides.{nat_tests}
 use Rattle.desk_numbers.specs.Numbers.{is_positive, number_of}
 use Rattle.desk_top.specs.Commands.{IsWithin}
-use Rattle.desk_top.specs.Words.{Order, Sign, Simulate, Generate, are_files, generate_order, is_name, order, sign_order, simulate_order}
+use Rattle.desk_top.specs.Words.{Order, Sign, Simulate, Replay, Generate, ahead_order, are_files, generate_order, is_name, order, sign_order}
 
 sign_has : (words : List (List ℕ)) (o : Order) → Some o ≡ sign_order words → IsWithin o
 sign_has [] o is = absurd (cc)
@@ -17,15 +17,15 @@ sign_has (top ∷ files) o is = by_test (is_name top && are_files files) refl is
         subst IsWithin same (and_parts (is_name top) (are_files files) test).1
     by_test false test is = absurd (cc)
 
-simulate_has : (words : List (List ℕ)) (o : Order) → Some o ≡ simulate_order words → IsWithin o
-simulate_has [] o is = absurd (cc)
-simulate_has (top ∷ []) o is = absurd (cc)
-simulate_has (top ∷ steps ∷ files) o is = by_test (is_name top && (is_name steps && are_files files)) refl is
+ahead_has : (made : List ℕ → List ℕ → List (List ℕ) → Order) (words : List (List ℕ)) (o : Order) → ((top ahead : List ℕ) (files : List (List ℕ)) → are_files files ≡ true → IsWithin (made top ahead files)) → Some o ≡ ahead_order made words → IsWithin o
+ahead_has made [] o has is = absurd (cc)
+ahead_has made (top ∷ []) o has is = absurd (cc)
+ahead_has made (top ∷ ahead ∷ files) o has is = by_test (is_name top && (is_name ahead && are_files files)) refl is
   where
-    by_test : (b : Bool) → (is_name top && (is_name steps && are_files files)) ≡ b → Some o ≡ cond b (Some (Simulate top steps files)) None → IsWithin o
+    by_test : (b : Bool) → (is_name top && (is_name ahead && are_files files)) ≡ b → Some o ≡ cond b (Some (made top ahead files)) None → IsWithin o
     by_test true test is =
-        let same : Simulate top steps files ≡ o = cc in
-        subst IsWithin same (and_parts (is_name steps) (are_files files) (and_parts (is_name top) (is_name steps && are_files files) test).1).1
+        let same : made top ahead files ≡ o = cc in
+        subst IsWithin same (has top ahead files (and_parts (is_name ahead) (are_files files) (and_parts (is_name top) (is_name ahead && are_files files) test).1).1)
     by_test false test is = absurd (cc)
 
 generate_has : (words : List (List ℕ)) (o : Order) → Some o ≡ generate_order words → IsWithin o
@@ -49,10 +49,14 @@ within (name ∷ rest) o is = by_sign (bytes_eq name (codes "sign")) is
     by_generate true is = generate_has rest o is
     by_generate false is = absurd (cc)
 
-    by_simulate : (b : Bool) → Some o ≡ cond b (simulate_order rest) (cond (bytes_eq name (codes "generate")) (generate_order rest) None) → IsWithin o
-    by_simulate true is = simulate_has rest o is
-    by_simulate false is = by_generate (bytes_eq name (codes "generate")) is
+    by_replay : (b : Bool) → Some o ≡ cond b (ahead_order Replay rest) (cond (bytes_eq name (codes "generate")) (generate_order rest) None) → IsWithin o
+    by_replay true is = ahead_has Replay rest o (λ top demo files are. are) is
+    by_replay false is = by_generate (bytes_eq name (codes "generate")) is
 
-    by_sign : (b : Bool) → Some o ≡ cond b (sign_order rest) (cond (bytes_eq name (codes "simulate")) (simulate_order rest) (cond (bytes_eq name (codes "generate")) (generate_order rest) None)) → IsWithin o
+    by_simulate : (b : Bool) → Some o ≡ cond b (ahead_order Simulate rest) (cond (bytes_eq name (codes "replay")) (ahead_order Replay rest) (cond (bytes_eq name (codes "generate")) (generate_order rest) None)) → IsWithin o
+    by_simulate true is = ahead_has Simulate rest o (λ top steps files are. are) is
+    by_simulate false is = by_replay (bytes_eq name (codes "replay")) is
+
+    by_sign : (b : Bool) → Some o ≡ cond b (sign_order rest) (cond (bytes_eq name (codes "simulate")) (ahead_order Simulate rest) (cond (bytes_eq name (codes "replay")) (ahead_order Replay rest) (cond (bytes_eq name (codes "generate")) (generate_order rest) None))) → IsWithin o
     by_sign true is = sign_has rest o is
     by_sign false is = by_simulate (bytes_eq name (codes "simulate")) is

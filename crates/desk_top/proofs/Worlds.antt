@@ -17,7 +17,7 @@ use Rattle.desk_top.specs.declared.deliver.Work.{Work}
 use Rattle.desk_top.specs.declared.simulate.Plan.{Plan}
 use Rattle.desk_top.specs.Answers.{Agrees, OverWorld}
 use Rattle.desk_top.specs.Delivery.{IsWork, stop_of}
-use Rattle.desk_top.specs.Outcome.{World, IsJudged, IsSigned, IsSimulating, IsStepped}
+use Rattle.desk_top.specs.Outcome.{World, IsJudged, IsReplayIn, IsReplaying, IsSigned, IsSimulating, IsStepped}
 use Rattle.desk_top.specs.Plans.{IsPlan}
 use Rattle.desk_top.specs.Texts.{named, texts_of, with_text}
 use Rattle.desk_top.specs.Words.{all_different, are_files, is_name, texts}
@@ -168,7 +168,7 @@ signed_stop files top names NoFile told are = signed_missing files top names (mi
 signed_stop files top names Unread told are = signed_not files top names Unread (λ same. absurd cc)
 signed_stop files top names Memory told are = signed_not files top names Memory (λ same. absurd cc)
 
--- ---- simulations
+-- ---- a file that is read ahead
 
 -- a file that was read, or why it wasn't
 over_reading : (files : Option Files) (name : List ℕ) (answer : Result (Vec ℕ Global) ShelfFault)
@@ -179,33 +179,76 @@ over_reading None name answer told short =
     record { held = λ wanted. some.0; agrees = tt; holds = some.1 }
 over_reading (Some held) name answer told short = record { held = held; agrees = refl; holds = told }
 
-pub stepped_texts : (files : Option Files) (top steps : List ℕ) (names : List (List ℕ)) (text : Vec ℕ Global) (bytes : List ℕ) (made : List (Vec ℕ Global)) (plan : Result Plan Stop)
-    → IfSome files (λ held. IsReading (reading (held steps)) (Ok text)) → vec_len text ≤ MAX_FILE_BYTES → bytes ≡ text.items
+-- it and the files were read
+over_ahead : (Q : Result (List ℕ) ShelfFault → Option (List (List ℕ)) → Type 0) (files : Option Files) (ahead : List ℕ) (names : List (List ℕ)) (text : Vec ℕ Global) (made : List (Vec ℕ Global))
+    → IfSome files (λ held. IsReading (reading (held ahead)) (Ok text)) → vec_len text ≤ MAX_FILE_BYTES
     → IfSome files (λ held. texts_of held names ≡ Some (items made)) → length made ≡ length names → All (λ text. vec_len text ≤ MAX_FILE_BYTES) made → are_files names ≡ true
-    → IsPlan (IsStepped top (named names (items made)) (items made) bytes) plan → OverWorld files (λ world. IsPlan (IsSimulating top names (reading (world.before steps)) (texts_of world.files names)) plan)
-stepped_texts files top steps names text bytes made plan had fits same told count short are is =
-    over_map {P = λ world. IsReading (reading (world.before steps)) (Ok text) × (texts_of world.files names ≡ Some (items made))} {Q = λ world. IsPlan (IsSimulating top names (reading (world.before steps)) (texts_of world.files names)) plan}
-    files (over_both files (over_reading files steps (Ok text) had fits) (over_texts files names (items made) told (different_of names are) (count_items made ∙ count) (short_items made short)))
-    (λ world both. subst (λ (r : Result (List ℕ) ShelfFault). IsPlan (IsSimulating top names r (texts_of world.files names)) plan) (sym both.0)
-    (subst (λ (o : Option (List (List ℕ))). IsPlan (IsSimulating top names (Ok text.items) o) plan) (sym both.1)
-    (subst (λ (all : List ℕ). IsPlan (IsStepped top (named names (items made)) (items made) all) plan) same is)))
+    → Q (Ok text.items) (Some (items made)) → OverWorld files (λ world. Q (reading (world.before ahead)) (texts_of world.files names))
+over_ahead Q files ahead names text made had fits told count short are is =
+    over_map {P = λ world. IsReading (reading (world.before ahead)) (Ok text) × (texts_of world.files names ≡ Some (items made))} {Q = λ world. Q (reading (world.before ahead)) (texts_of world.files names)}
+    files (over_both files (over_reading files ahead (Ok text) had fits) (over_texts files names (items made) told (different_of names are) (count_items made ∙ count) (short_items made short)))
+    (λ world both. subst (λ (r : Result (List ℕ) ShelfFault). Q r (texts_of world.files names)) (sym both.0)
+    (subst (λ (o : Option (List (List ℕ))). Q (Ok text.items) o) (sym both.1) is))
 
-pub stepped_fault : (files : Option Files) (top steps : List ℕ) (names : List (List ℕ)) (fault : ShelfFault) → IfSome files (λ held. IsReading (reading (held steps)) (Err fault))
-    → OverWorld files (λ world. IsPlan (IsSimulating top names (reading (world.before steps)) (texts_of world.files names)) (Err (stop_of fault)))
-stepped_fault files top steps names fault had =
-    over_map {P = λ world. IsReading (reading (world.before steps)) (Err fault) × Unit {0}} {Q = λ world. IsPlan (IsSimulating top names (reading (world.before steps)) (texts_of world.files names)) (Err (stop_of fault))}
-    files (over_both {Q = λ held. Unit {0}} files (over_reading files steps (Err fault) had tt) (any files)) (by_fault fault)
+-- it wasn't: nothing is said where the read failed or memory ran out
+abbrev IsFault : (Result (List ℕ) ShelfFault → Option (List (List ℕ)) → Type 0) → ShelfFault → Type 0
+IsFault Q NoSuchFile = (o : Option (List (List ℕ))) → Q (Err NoSuchFile) o
+IsFault Q TooLong = (o : Option (List (List ℕ))) → Q (Err TooLong) o
+IsFault Q Failed = (r : Result (List ℕ) ShelfFault) (o : Option (List (List ℕ))) → Q r o
+IsFault Q NoMemory = (r : Result (List ℕ) ShelfFault) (o : Option (List (List ℕ))) → Q r o
+
+over_ahead_fault : (Q : Result (List ℕ) ShelfFault → Option (List (List ℕ)) → Type 0) (files : Option Files) (ahead : List ℕ) (names : List (List ℕ)) (fault : ShelfFault)
+    → IfSome files (λ held. IsReading (reading (held ahead)) (Err fault)) → IsFault Q fault
+    → OverWorld files (λ world. Q (reading (world.before ahead)) (texts_of world.files names))
+over_ahead_fault Q files ahead names fault had is =
+    over_map {P = λ world. IsReading (reading (world.before ahead)) (Err fault) × Unit {0}} {Q = λ world. Q (reading (world.before ahead)) (texts_of world.files names)}
+    files (over_both {Q = λ held. Unit {0}} files (over_reading files ahead (Err fault) had tt) (any files)) (by_fault fault is)
   where
     any : (files : Option Files) → OverFiles files (λ held. Unit {0})
     any None = record { held = no_files; agrees = tt; holds = tt }
     any (Some held) = record { held = held; agrees = refl; holds = tt }
 
-    by_fault : (fault : ShelfFault) (world : World) → IsReading (reading (world.before steps)) (Err fault) × Unit {0}
-        → IsPlan (IsSimulating top names (reading (world.before steps)) (texts_of world.files names)) (Err (stop_of fault))
-    by_fault Failed world both = tt
-    by_fault NoMemory world both = tt
-    by_fault NoSuchFile world both = rw both.0 refl
-    by_fault TooLong world both = rw both.0 refl
+    by_fault : (fault : ShelfFault) → IsFault Q fault → (world : World) → IsReading (reading (world.before ahead)) (Err fault) × Unit {0} → Q (reading (world.before ahead)) (texts_of world.files names)
+    by_fault Failed is world both = is (reading (world.before ahead)) (texts_of world.files names)
+    by_fault NoMemory is world both = is (reading (world.before ahead)) (texts_of world.files names)
+    by_fault NoSuchFile is world both = subst (λ (r : Result (List ℕ) ShelfFault). Q r (texts_of world.files names)) (sym both.0) (is (texts_of world.files names))
+    by_fault TooLong is world both = subst (λ (r : Result (List ℕ) ShelfFault). Q r (texts_of world.files names)) (sym both.0) (is (texts_of world.files names))
+
+-- it was, and one of the files isn't there
+over_ahead_missing : (Q : Result (List ℕ) ShelfFault → Option (List (List ℕ)) → Type 0) (files : Option Files) (ahead : List ℕ) (names : List (List ℕ)) (text : Vec ℕ Global)
+    → IfSome files (λ held. IsReading (reading (held ahead)) (Ok text)) → vec_len text ≤ MAX_FILE_BYTES
+    → IfSome files (λ held. gone NoFile ≡ Err NoFile → texts_of held names ≡ None) → are_files names ≡ true
+    → Q (Ok text.items) None → OverWorld files (λ world. Q (reading (world.before ahead)) (texts_of world.files names))
+over_ahead_missing Q files ahead names text had fits told are is =
+    over_map {P = λ world. IsReading (reading (world.before ahead)) (Ok text) × (texts_of world.files names ≡ None)} {Q = λ world. Q (reading (world.before ahead)) (texts_of world.files names)}
+    files (over_both files (over_reading files ahead (Ok text) had fits) (over_missing files names (missing files told) (some_of names are)))
+    (λ world both. subst (λ (r : Result (List ℕ) ShelfFault). Q r (texts_of world.files names)) (sym both.0)
+    (subst (λ (o : Option (List (List ℕ))). Q (Ok text.items) o) (sym both.1) is))
+  where
+    missing : (files : Option Files) → IfSome files (λ held. gone NoFile ≡ Err NoFile → texts_of held names ≡ None) → IfSome files (λ held. texts_of held names ≡ None)
+    missing None told = tt
+    missing (Some held) told = told refl
+
+-- ---- simulations
+
+pub stepped_texts : (files : Option Files) (top steps : List ℕ) (names : List (List ℕ)) (text : Vec ℕ Global) (bytes : List ℕ) (made : List (Vec ℕ Global)) (plan : Result Plan Stop)
+    → IfSome files (λ held. IsReading (reading (held steps)) (Ok text)) → vec_len text ≤ MAX_FILE_BYTES → bytes ≡ text.items
+    → IfSome files (λ held. texts_of held names ≡ Some (items made)) → length made ≡ length names → All (λ text. vec_len text ≤ MAX_FILE_BYTES) made → are_files names ≡ true
+    → IsPlan (IsStepped top (named names (items made)) (items made) bytes) plan → OverWorld files (λ world. IsPlan (IsSimulating top names (reading (world.before steps)) (texts_of world.files names)) plan)
+stepped_texts files top steps names text bytes made plan had fits same told count short are is =
+    over_ahead (λ r o. IsPlan (IsSimulating top names r o) plan) files steps names text made had fits told count short are
+    (subst (λ (all : List ℕ). IsPlan (IsStepped top (named names (items made)) (items made) all) plan) same is)
+
+pub stepped_fault : (files : Option Files) (top steps : List ℕ) (names : List (List ℕ)) (fault : ShelfFault) → IfSome files (λ held. IsReading (reading (held steps)) (Err fault))
+    → OverWorld files (λ world. IsPlan (IsSimulating top names (reading (world.before steps)) (texts_of world.files names)) (Err (stop_of fault)))
+stepped_fault files top steps names fault had =
+    over_ahead_fault (λ r o. IsPlan (IsSimulating top names r o) (Err (stop_of fault))) files steps names fault had (by_fault fault)
+  where
+    by_fault : (fault : ShelfFault) → IsFault (λ r o. IsPlan (IsSimulating top names r o) (Err (stop_of fault))) fault
+    by_fault Failed = λ r o. tt
+    by_fault NoMemory = λ r o. tt
+    by_fault NoSuchFile = λ o. refl
+    by_fault TooLong = λ o. refl
 
 -- the stop of files that weren't read
 pub stepped_stop : (files : Option Files) (top steps : List ℕ) (names : List (List ℕ)) (text : Vec ℕ Global) (stop : Stop)
@@ -215,11 +258,34 @@ pub stepped_stop : (files : Option Files) (top steps : List ℕ) (names : List (
 stepped_stop files top steps names text Unread had fits told are = over_any {P = λ world. IsPlan (IsSimulating top names (reading (world.before steps)) (texts_of world.files names)) (Err Unread)} files (λ world. tt)
 stepped_stop files top steps names text Memory had fits told are = over_any {P = λ world. IsPlan (IsSimulating top names (reading (world.before steps)) (texts_of world.files names)) (Err Memory)} files (λ world. tt)
 stepped_stop files top steps names text NoFile had fits told are =
-    over_map {P = λ world. IsReading (reading (world.before steps)) (Ok text) × (texts_of world.files names ≡ None)} {Q = λ world. IsPlan (IsSimulating top names (reading (world.before steps)) (texts_of world.files names)) (Err NoFile)}
-    files (over_both files (over_reading files steps (Ok text) had fits) (over_missing files names (missing files told) (some_of names are)))
-    (λ world both. subst (λ (r : Result (List ℕ) ShelfFault). IsPlan (IsSimulating top names r (texts_of world.files names)) (Err NoFile)) (sym both.0)
-    (subst (λ (o : Option (List (List ℕ))). IsPlan (IsSimulating top names (Ok text.items) o) (Err NoFile)) (sym both.1) refl))
+    over_ahead_missing (λ r o. IsPlan (IsSimulating top names r o) (Err NoFile)) files steps names text had fits told are refl
+
+-- ---- demonstrations
+
+pub replayed_texts : (files : Option Files) (top demo : List ℕ) (names : List (List ℕ)) (text : Vec ℕ Global) (bytes : List ℕ) (made : List (Vec ℕ Global)) (work : Result Work Stop)
+    → IfSome files (λ held. IsReading (reading (held demo)) (Ok text)) → vec_len text ≤ MAX_FILE_BYTES → bytes ≡ text.items
+    → IfSome files (λ held. texts_of held names ≡ Some (items made)) → length made ≡ length names → All (λ text. vec_len text ≤ MAX_FILE_BYTES) made → are_files names ≡ true
+    → IsWork (IsReplayIn top (named names (items made)) (items made) bytes) work → OverWorld files (λ world. IsWork (IsReplaying top names (reading (world.before demo)) (texts_of world.files names)) work)
+replayed_texts files top demo names text bytes made work had fits same told count short are is =
+    over_ahead (λ r o. IsWork (IsReplaying top names r o) work) files demo names text made had fits told count short are
+    (subst (λ (all : List ℕ). IsWork (IsReplayIn top (named names (items made)) (items made) all) work) same is)
+
+pub replayed_fault : (files : Option Files) (top demo : List ℕ) (names : List (List ℕ)) (fault : ShelfFault) → IfSome files (λ held. IsReading (reading (held demo)) (Err fault))
+    → OverWorld files (λ world. IsWork (IsReplaying top names (reading (world.before demo)) (texts_of world.files names)) (Err (stop_of fault)))
+replayed_fault files top demo names fault had =
+    over_ahead_fault (λ r o. IsWork (IsReplaying top names r o) (Err (stop_of fault))) files demo names fault had (by_fault fault)
   where
-    missing : (files : Option Files) → IfSome files (λ held. gone NoFile ≡ Err NoFile → texts_of held names ≡ None) → IfSome files (λ held. texts_of held names ≡ None)
-    missing None told = tt
-    missing (Some held) told = told refl
+    by_fault : (fault : ShelfFault) → IsFault (λ r o. IsWork (IsReplaying top names r o) (Err (stop_of fault))) fault
+    by_fault Failed = λ r o. tt
+    by_fault NoMemory = λ r o. tt
+    by_fault NoSuchFile = λ o. refl
+    by_fault TooLong = λ o. refl
+
+pub replayed_stop : (files : Option Files) (top demo : List ℕ) (names : List (List ℕ)) (text : Vec ℕ Global) (stop : Stop)
+    → IfSome files (λ held. IsReading (reading (held demo)) (Ok text)) → vec_len text ≤ MAX_FILE_BYTES
+    → IfSome files (λ held. gone stop ≡ Err NoFile → texts_of held names ≡ None) → are_files names ≡ true
+    → OverWorld files (λ world. IsWork (IsReplaying top names (reading (world.before demo)) (texts_of world.files names)) (Err stop))
+replayed_stop files top demo names text Unread had fits told are = over_any {P = λ world. IsWork (IsReplaying top names (reading (world.before demo)) (texts_of world.files names)) (Err Unread)} files (λ world. tt)
+replayed_stop files top demo names text Memory had fits told are = over_any {P = λ world. IsWork (IsReplaying top names (reading (world.before demo)) (texts_of world.files names)) (Err Memory)} files (λ world. tt)
+replayed_stop files top demo names text NoFile had fits told are =
+    over_ahead_missing (λ r o. IsWork (IsReplaying top names r o) (Err NoFile)) files demo names text had fits told are refl

@@ -16,8 +16,11 @@ use Rattle.rtl_rule.specs.declared.finding.Finding.{Finding}
 use Rattle.check_all.specs.Findings.{AreAllFindings, IsClean}
 use Rattle.desk_top.specs.declared.deliver.TheConstants.{UNREAD, NO_MEMORY}
 use Rattle.desk_top.specs.Delivery.{Outcome, Delivers, IsCut, gave_up}
-use Rattle.desk_top.specs.Building.{AreSpelled}
-use Rattle.desk_top.specs.Outcome.{World, IsOutcome, parts_of, queue_of, report_of}
+use Rattle.desk_build.specs.Building.{AreSpelled}
+use Rattle.demo_told.specs.declared.demo.Demo.{Demo}
+use Rattle.demo_told.specs.declared.demo.Shown.{Shown}
+use Rattle.desk_verdict.specs.Verdicts.{AreShown, parts_of, queue_of}
+use Rattle.desk_top.specs.Outcome.{World, IsOutcome, report_of}
 use Rattle.desk_top.specs.Texts.{named, texts_of}
 use Rattle.desk_top.specs.Words.{Sign, is_simulate, order}
 
@@ -58,7 +61,9 @@ pub record IsSignedClean (words : List (List ℕ)) (before now : Option (List �
   pub flat : elaborated (library_of circuits) top ≡ Ok design
   pub found : AreAllFindings (parts_of design) findings
   pub clean : IsClean findings
-  pub reported : Appends before now (report_of top (named files texts) design findings)
+  pub shown : List (Option (Demo × Shown))
+  pub are_shown : AreShown design findings shown
+  pub reported : Appends before now (report_of top (named files texts) design findings shown)
   pub chains : ℕ → Chain
   pub chained : AreChains (queue_of design) chains
   pub agrees : (fill : Fill) → Agree (queue_of design) chains fill

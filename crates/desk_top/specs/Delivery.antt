@@ -5,9 +5,9 @@ use Rattle.std.specs.Io.KnownBytes.{Appends}
 use Rattle.desk_io.specs.declared.shelf.ShelfFault.{ShelfFault}
 use Rattle.desk_io.specs.declared.shelf.ShelfFault.TheVariants as fault
 use Rattle.desk_io.specs.Shelf.{Files}
-use Rattle.desk_top.specs.declared.deliver.TheConstants.{DONE, OPEN, REFUSED, NO_COMMAND, UNREAD, UNWRITTEN, NO_FILE, UNSETTLED, MALFORMED, NO_MEMORY}
+use Rattle.desk_top.specs.declared.deliver.TheConstants.{DONE, OPEN, REFUSED, NO_COMMAND, UNREAD, UNWRITTEN, NO_FILE, NO_DIFFERENCE, UNSETTLED, MALFORMED, NO_NETLIST, NO_MEMORY}
 use Rattle.desk_top.specs.declared.deliver.Ending.{Ending}
-use Rattle.desk_top.specs.declared.deliver.Ending.TheVariants.{Clean, Open, Refused, NoCommand, Settled, Unsettled, Malformed, Counted}
+use Rattle.desk_top.specs.declared.deliver.Ending.TheVariants.{Clean, Open, Refused, NoCommand, Settled, Unsettled, Malformed, Shown, Same, NoNetlist, Counted}
 use Rattle.desk_top.specs.declared.deliver.Stop.{Stop}
 use Rattle.desk_top.specs.declared.deliver.Stop.TheVariants.{Unread, NoFile, Memory}
 use Rattle.desk_top.specs.declared.deliver.Work.{Work}
@@ -25,6 +25,9 @@ status_of NoCommand = NO_COMMAND
 status_of Settled = DONE
 status_of Unsettled = UNSETTLED
 status_of Malformed = MALFORMED
+status_of Shown = DONE
+status_of Same = NO_DIFFERENCE
+status_of NoNetlist = NO_NETLIST
 status_of Counted = DONE
 
 abbrev pub stop_status : Stop → ℕ

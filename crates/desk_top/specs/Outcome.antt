@@ -1,69 +1,64 @@
 -- What the desk answers to its words, over the files of a shelf.
 -- Worked examples: examples/stored/several_drivers.out, examples/stored/exchange.out.
-use Rattle.std.specs.Prelude.{◌≡◌, ℕ, List, [], ◌∷◌, ◌++◌, Bool, true, false, not, length, Option, None, Some, Result, Ok, Err, if◌then◌else◌, codes}
+use Rattle.std.specs.Prelude.{◌≡◌, ℕ, List, [], ◌∷◌, ◌++◌, length, replicate, slice_get, Option, None, Some, Result, Ok, Err, if◌then◌else◌, codes}
 use Rattle.std.specs.Fmt.{decimal}
 use Rattle.desk_io.specs.declared.shelf.ShelfFault.{ShelfFault}
 use Rattle.desk_io.specs.Shelf.{Files, reading}
 use Rattle.elab_flat.specs.Flats.{DesignParts}
-use Rattle.event_model.specs.Queue as queue
 use Rattle.rtl_rule.specs.declared.finding.Finding.{Finding}
-use Rattle.rtl_rule.specs.Parts.{Parts}
-use Rattle.check_all.specs.Findings.{AreAllFindings, IsClean, has_first_grade}
+use Rattle.check_all.specs.Findings.{AreAllFindings, IsClean}
 use Rattle.check_clean.specs.Promise.{IsPromised}
+use Rattle.demo_told.specs.declared.demo.Demo.{Demo}
+use Rattle.demo_told.specs.declared.demo.Shown.{Shown as Values}
+use Rattle.demo_replay.specs.declared.fault.ReplayFault.{ReplayFault}
+use Rattle.demo_replay.specs.declared.fault.ReplayFault.TheVariants.{Illegal, NoNetlist, Unsettled, Same, Memory}
+use Rattle.demo_replay.specs.Replays.{IsReplayed, IsReplayFault}
+use Rattle.desk_demo.specs.Files.{IsMalformed, IsTold}
+use Rattle.desk_verdict.specs.Verdicts.{AreShown, is_clean, is_firm, parts_of, queue_of}
 use Rattle.desk_steps.specs.Names.{Names, ahead, names_from}
 use Rattle.desk_steps.specs.Steps.{Steps, file_of}
 use Rattle.desk_runs.specs.Runs.{Shown, IsSimulated}
 use Rattle.desk_places.specs.Places.{Source}
+use Rattle.desk_report.specs.Demos.{replay_line}
 use Rattle.desk_report.specs.Reports.{report_text, stages_report}
+use Rattle.desk_report.specs.Tellings.{signal_path, tellings}
 use Rattle.desk_stages.specs.Stages.{stages_text}
-use Rattle.desk_top.specs.Building.{Built, Designed, Refused, IsBuilt}
+use Rattle.desk_build.specs.Building.{Built, Designed, Refused, IsBuilt}
 use Rattle.desk_top.specs.Delivery.{Outcome, no_file}
-use Rattle.desk_top.specs.declared.deliver.TheConstants.{DONE, OPEN, REFUSED, NO_COMMAND, UNSETTLED, MALFORMED}
+use Rattle.desk_top.specs.declared.deliver.TheConstants.{DONE, OPEN, REFUSED, NO_COMMAND, NO_DIFFERENCE, UNSETTLED, MALFORMED, NO_NETLIST}
 use Rattle.desk_top.specs.Texts.{named, texts_of}
-use Rattle.desk_top.specs.Words.{Order, Sign, Simulate, Generate, order}
+use Rattle.desk_top.specs.Words.{Order, Sign, Simulate, Replay, Generate, order}
 
--- what the outside holds: the files by their names, when the sources are read, and before that, when the steps of a
--- simulation are
+-- what the outside holds: the files by their names, when the sources are read, and before that, when
+-- the steps of a simulation or a demonstration are
 pub record World : Type 0 where
   pub before : Files
   pub files : Files
 
 -- ---- rulings
 
--- a flat design as rules look at it
-abbrev pub parts_of : DesignParts → Parts
-parts_of flat =
-    record { signals = flat.signals; tasks = flat.tasks; delays = flat.delays; dropped = flat.dropped }
-
--- a flat design as the event queue runs it
-abbrev pub queue_of : DesignParts → queue.Flat
-queue_of flat = record { signals = flat.signals; tasks = flat.tasks }
-
--- whether no finding is of the first grade
-abbrev pub is_clean : List Finding → Bool
-is_clean found = not (has_first_grade found)
-
--- whether there is no finding
-abbrev pub is_firm : List Finding → Bool
-is_firm [] = true
-is_firm (finding ∷ others) = false
-
--- the report of a design with these findings
-abbrev pub report_of : List ℕ → List Source → DesignParts → List Finding → List ℕ
-report_of top sources flat found =
-    report_text top sources flat.signals flat.instances found (is_clean found) (is_firm found)
+-- the report of a design with these findings, of which the first ones show; no waivers stand
+abbrev pub report_of : List ℕ → List Source → DesignParts → List Finding → List (Option (Demo × Values)) → List ℕ
+report_of top sources flat found shown =
+    report_text top sources found (tellings flat.signals flat.instances found shown)
+    (replicate (length found) None) (is_clean found) (is_firm found)
 
 -- the design is clean, or has a finding of the first grade
-abbrev pub ruling_outcome : List ℕ → List Source → DesignParts → List Finding → Outcome
-ruling_outcome top sources flat found =
-    record { status = if is_clean found then DONE else OPEN; bytes = report_of top sources flat found }
+abbrev pub ruling_outcome : List ℕ → List Source → DesignParts → List Finding → List (Option (Demo × Values)) → Outcome
+ruling_outcome top sources flat found shown =
+    record {
+      status = if is_clean found then DONE else OPEN;
+      bytes = report_of top sources flat found shown;
+    }
 
--- the answer for a design: all its findings are told; and where none of them is of the first grade, simulation agrees with
--- synthesis
+-- the answer for a design: all its findings are told, the first of them with where they show; and
+-- where none of them is of the first grade, simulation agrees with synthesis
 pub record IsRuled (top : List ℕ) (sources : List Source) (flat : DesignParts) (outcome : Outcome) : Type 0 where
   pub found : List Finding
   pub are_all : AreAllFindings (parts_of flat) found
-  pub is : outcome ≡ ruling_outcome top sources flat found
+  pub shown : List (Option (Demo × Values))
+  pub are_shown : AreShown flat found shown
+  pub is : outcome ≡ ruling_outcome top sources flat found shown
   pub promised : IsClean found → IsPromised (queue_of flat)
 
 -- the source is refused
@@ -126,6 +121,60 @@ IsSimulating top files (Err fault) texts outcome = outcome ≡ no_file
 IsSimulating top files (Ok steps) None outcome = outcome ≡ no_file
 IsSimulating top files (Ok steps) (Some texts) outcome = IsStepped top (named files texts) texts steps outcome
 
+-- ---- demonstrations
+
+-- what a demonstration shows that is run again: two values that differ
+abbrev pub replay_outcome : DesignParts → Demo → Values → Outcome
+replay_outcome flat demo values =
+    record {
+      status = DONE;
+      bytes = replay_line demo (signal_path (slice_get flat.signals demo.signal.0)) values;
+    }
+
+-- why it shows nothing; its one line is malformed where it names what the design doesn't have
+abbrev pub fault_outcome : ReplayFault → Option Outcome
+fault_outcome (Illegal part) = Some (malformed 1)
+fault_outcome NoNetlist = Some (record { status = NO_NETLIST; bytes = codes "no netlist\n" })
+fault_outcome (Unsettled step) = Some (record { status = UNSETTLED; bytes = codes "unsettled\n" })
+fault_outcome (Same value) =
+    Some (record { status = NO_DIFFERENCE; bytes = codes "no difference\n" })
+fault_outcome Memory = None
+
+-- the answer for a demonstration
+pub data IsRerun (flat : DesignParts) (demo : Demo) : Outcome → Type 0 where
+  Differs :
+      (values : Values) → IsReplayed (parts_of flat) demo values →
+      IsRerun flat demo (replay_outcome flat demo values)
+  Fails :
+      (fault : ReplayFault) (outcome : Outcome) → IsReplayFault (parts_of flat) demo fault →
+      fault_outcome fault ≡ Some outcome → IsRerun flat demo outcome
+
+-- the answer for the text of a demonstration file
+pub data IsDemoRun (flat : DesignParts) (text : List ℕ) : Outcome → Type 0 where
+  Read :
+      (demo : Demo) (outcome : Outcome) → IsTold flat.signals text demo →
+      IsRerun flat demo outcome → IsDemoRun flat text outcome
+  Unread :
+      (line : ℕ) → IsMalformed flat.signals text line → IsDemoRun flat text (malformed line)
+
+abbrev pub IsShownIn : List ℕ → Built → Outcome → Type 0
+IsShownIn demo (Designed flat) outcome = IsDemoRun flat demo outcome
+IsShownIn demo (Refused line) outcome = outcome ≡ refused line
+
+-- the answer for texts and the text of a demonstration file
+pub record IsReplayIn (top : List ℕ) (sources : List Source) (texts : List (List ℕ)) (demo : List ℕ) (outcome : Outcome) : Type 0 where
+  pub built : Built
+  pub is_built : IsBuilt top sources texts built
+  pub is : IsShownIn demo built outcome
+
+-- the answer for files; none of it where one of them, or the one with the demonstration, isn't there
+-- or is too long
+abbrev pub IsReplaying : List ℕ → List (List ℕ) → Result (List ℕ) ShelfFault → Option (List (List ℕ)) → Outcome → Type 0
+IsReplaying top files (Err fault) texts outcome = outcome ≡ no_file
+IsReplaying top files (Ok demo) None outcome = outcome ≡ no_file
+IsReplaying top files (Ok demo) (Some texts) outcome =
+    IsReplayIn top (named files texts) texts demo outcome
+
 -- ---- generated designs
 
 -- a generated text as a file, which has this name where it is told
@@ -164,6 +213,8 @@ IsDone world None outcome = outcome ≡ record { status = NO_COMMAND; bytes = us
 IsDone world (Some (Sign top files)) outcome = IsSigned top files (texts_of world.files files) outcome
 IsDone world (Some (Simulate top steps files)) outcome =
     IsSimulating top files (reading (world.before steps)) (texts_of world.files files) outcome
+IsDone world (Some (Replay top demo files)) outcome =
+    IsReplaying top files (reading (world.before demo)) (texts_of world.files files) outcome
 IsDone world (Some (Generate stages)) outcome = IsGenerated stages outcome
 
 -- the outcome of the words

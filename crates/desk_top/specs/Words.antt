@@ -5,10 +5,11 @@ use Rattle.std.specs.List.{list_all, list_any}
 use Rattle.std.specs.declared.alloc.Global.{Global}
 use Rattle.desk_numbers.specs.Numbers.{is_positive, number_of}
 
--- a command: `sign TOP FILE..`, `simulate TOP STEPS FILE..`, or `generate N`
+-- a command: `sign TOP FILE..`, `simulate TOP STEPS FILE..`, `replay TOP DEMO FILE..`, or `generate N`
 pub data Order : Type 0 where
   Sign : (top : List ℕ) (files : List (List ℕ)) → Order
   Simulate : (top steps : List ℕ) (files : List (List ℕ)) → Order
+  Replay : (top demo : List ℕ) (files : List (List ℕ)) → Order
   Generate : (stages : ℕ) → Order
 
 -- the words as lists of bytes
@@ -34,11 +35,12 @@ abbrev pub sign_order : List (List ℕ) → Option Order
 sign_order [] = None
 sign_order (top ∷ files) = if is_name top && are_files files then Some (Sign top files) else None
 
-abbrev pub simulate_order : List (List ℕ) → Option Order
-simulate_order [] = None
-simulate_order (top ∷ []) = None
-simulate_order (top ∷ steps ∷ files) =
-    if is_name top && (is_name steps && are_files files) then Some (Simulate top steps files) else None
+-- a top, a file that is read ahead, and files; as what this makes of them
+abbrev pub ahead_order : (List ℕ → List ℕ → List (List ℕ) → Order) → List (List ℕ) → Option Order
+ahead_order made [] = None
+ahead_order made (top ∷ []) = None
+ahead_order made (top ∷ ahead ∷ files) =
+    if is_name top && (is_name ahead && are_files files) then Some (made top ahead files) else None
 
 -- a number from 1 to 1000, without leading zeros
 abbrev pub is_stages : List ℕ → Bool
@@ -57,7 +59,8 @@ abbrev pub order : List (List ℕ) → Option Order
 order [] = None
 order (name ∷ rest) =
     if bytes_eq name (codes "sign") then sign_order rest
-    else if bytes_eq name (codes "simulate") then simulate_order rest
+    else if bytes_eq name (codes "simulate") then ahead_order Simulate rest
+    else if bytes_eq name (codes "replay") then ahead_order Replay rest
     else if bytes_eq name (codes "generate") then generate_order rest
     else None
 
@@ -66,6 +69,7 @@ abbrev pub is_simulate : Option Order → Bool
 is_simulate None = false
 is_simulate (Some (Sign top files)) = false
 is_simulate (Some (Simulate top steps files)) = true
+is_simulate (Some (Replay top demo files)) = false
 is_simulate (Some (Generate stages)) = false
 
 -- whether a command asks for a ruling
@@ -73,4 +77,5 @@ abbrev pub is_sign : Option Order → Bool
 is_sign None = false
 is_sign (Some (Sign top files)) = true
 is_sign (Some (Simulate top steps files)) = false
+is_sign (Some (Replay top demo files)) = false
 is_sign (Some (Generate stages)) = false

@@ -10,8 +10,8 @@ use desk_io::{Failed, Sink};
 use rtl_tree::memory::Memory as NoMemory;
 use std::alloc::{AllocError, AllocFailed};
 
-/// The exit status where the work was done: after `sign` the design is clean, after `simulate` each step came to rest,
-/// after `generate` the design is ruled.
+/// The exit status where the work was done: after `sign` the design is clean, after `simulate` each
+/// step came to rest, after `replay` the two values differ, after `generate` the design is ruled.
 pub const DONE: u8 = 0;
 
 /// The exit status where a rule of the first grade has a finding.
@@ -32,11 +32,17 @@ pub const UNWRITTEN: u8 = 5;
 /// The exit status where a file isn't there or is too long.
 pub const NO_FILE: u8 = 9;
 
+/// The exit status where a demonstration shows no difference.
+pub const NO_DIFFERENCE: u8 = 10;
+
 /// The exit status where a step didn't come to rest within its budget.
 pub const UNSETTLED: u8 = 11;
 
-/// The exit status where the file of steps has a line that is none.
+/// The exit status where the file of steps or of a demonstration has a line that is none.
 pub const MALFORMED: u8 = 12;
+
+/// The exit status where a demonstration's design has no netlist.
+pub const NO_NETLIST: u8 = 13;
 
 /// The exit status where memory ran out.
 pub const NO_MEMORY: u8 = 20;
@@ -56,8 +62,14 @@ pub enum Ending {
     Settled,
     /// A step didn't come to rest within its budget.
     Unsettled,
-    /// The file of steps has a line that is none.
+    /// The file of steps or of a demonstration has a line that is none.
     Malformed,
+    /// A demonstration shows two values that differ.
+    Shown,
+    /// A demonstration shows no difference.
+    Same,
+    /// A demonstration's design has no netlist.
+    NoNetlist,
     /// A generated design is ruled.
     Counted,
 }
@@ -117,6 +129,9 @@ impl Ending {
             Ending::Settled => DONE,
             Ending::Unsettled => UNSETTLED,
             Ending::Malformed => MALFORMED,
+            Ending::Shown => DONE,
+            Ending::Same => NO_DIFFERENCE,
+            Ending::NoNetlist => NO_NETLIST,
             Ending::Counted => DONE,
         }
     }

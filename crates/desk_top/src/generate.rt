@@ -6,12 +6,13 @@ ghost use Rattle.desk_top.specs.Delivery.{IsWork};
 ghost use Rattle.desk_top.specs.Outcome.{IsCounted, IsGenerated};
 
 use crate::deliver::{Ending, Stop, Work};
-use crate::front::{Built, build};
 use crate::sign::refuse;
+use desk_build::{Built, build};
 use desk_places::sources::Sources;
 use desk_report::stages_report;
 use desk_stages::{MOST_STAGES, TOP, stages_text};
 use rtl_flat::design::Design;
+use rtl_tree::memory::Memory;
 use sign_off::rule::rule;
 use std::alloc::Global;
 
@@ -29,7 +30,7 @@ pub fn generate(alloc: Global, stages: u32) -> Result<Work, Stop>
     match build(alloc, TOP, &sources, &texts) {
         Ok(Built::Designed(design)) => count(alloc, stages, &design),
         Ok(Built::Refused(line)) => refuse(line),
-        Err(stop) => Err(stop),
+        Err(Memory) => Err(Stop::Memory),
     }
 }
 

@@ -3,8 +3,8 @@
 
 pub mod deliver;
 pub mod files;
-pub mod front;
 pub mod generate;
+pub mod replay;
 pub mod sign;
 pub mod simulate;
 pub mod start;

@@ -15,13 +15,14 @@ ghost use Rattle.desk_top.specs.Words.{are_files, texts};
 
 use crate::deliver::{Ending, Stop, Work};
 use crate::files::read_texts;
-use crate::front::{Built, build};
+use desk_build::{Built, build};
 use desk_io::Shelf;
 use desk_places::sources::Sources;
 use desk_report::report;
+use desk_verdict::Verdict;
 use rtl_flat::design::Design;
-use sign_off::Ruling;
-use sign_off::rule::rule;
+use rtl_rule::finding::Ruling;
+use rtl_tree::memory::Memory;
 use std::alloc::Global;
 
 /// Rules the module of this name among those of these files, and writes the report.
@@ -54,7 +55,7 @@ fn judge(alloc: Global, top: &str, files: &[String], made: &[Vec<u8>]) -> Result
     match build(alloc, top, &sources, made) {
         Ok(Built::Designed(design)) => judge_design(alloc, top, &sources, &design),
         Ok(Built::Refused(line)) => refuse(line),
-        Err(stop) => Err(stop),
+        Err(Memory) => Err(Stop::Memory),
     }
 }
 
@@ -68,10 +69,12 @@ fn judge_design(
     ensures work { IsWork (IsRuled top.now (sources_of sources.now) (flat_in design.now)) result }
     ensures read { result ≢ Err Stop.Unread }
 {
-    let ruling = rule(alloc, design)?;
-    let bytes = report(alloc, top.as_bytes(), sources, design, &ruling)?;
+    let said = Verdict::of(alloc, design)?;
+    let waivers = vec![in alloc; None; said.ruling.findings.len()]?;
+    let top = top.as_bytes();
+    let bytes = report(alloc, top, sources, &said.ruling, &said.told, &waivers)?;
     Ok(Work {
-        ending: ending_of(&ruling),
+        ending: ending_of(&said.ruling),
         bytes,
     })
 }

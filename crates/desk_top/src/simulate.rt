@@ -1,6 +1,6 @@
 // The command `simulate TOP STEPS FILE..`, up to its run.
 
-ghost use Rattle.std.specs.Prelude.{◌≡◌, ◌≢◌, ◌≤◌, map, length, true, vec_len};
+ghost use Rattle.std.specs.Prelude.{◌≡◌, ◌≢◌, ◌≤◌, IfOk, map, length, true, vec_len};
 ghost use Rattle.std.specs.List.{All};
 ghost use Rattle.desk_io.specs.Causes.{Rose};
 ghost use Rattle.desk_io.specs.Shelf.{reading};
@@ -16,12 +16,13 @@ ghost use Rattle.desk_top.specs.Words.{are_files, texts};
 
 use crate::deliver::{Ending, Stop, Work};
 use crate::files::{read_texts, stop_of};
-use crate::front::{Built, build};
+use desk_build::{Built, build};
 use desk_io::Shelf;
 use desk_places::sources::Sources;
 use desk_steps::{Steps, StepsFault, read_steps};
 use itoa::Buffer;
 use rtl_flat::design::Design;
+use rtl_tree::memory::Memory;
 use std::alloc::Global;
 
 /// What is to be done when all is read.
@@ -76,7 +77,7 @@ fn try_steps(
     match build(alloc, top, &sources, made) {
         Ok(Built::Designed(design)) => make_plan(alloc, steps, design),
         Ok(Built::Refused(line)) => Ok(Plan::Told(refused(line))),
-        Err(stop) => Err(stop),
+        Err(Memory) => Err(Stop::Memory),
     }
 }
 
@@ -88,7 +89,7 @@ fn make_plan(alloc: Global, text: &[u8], design: Design) -> Result<Plan, Stop>
 {
     match read_steps(alloc, &design, text) {
         Ok(steps) => Ok(Plan::Run(design, steps)),
-        Err(StepsFault::Malformed(number)) => malformed(alloc, number),
+        Err(StepsFault::Malformed(number)) => Ok(Plan::Told(malformed(alloc, number)?)),
         Err(StepsFault::Memory) => Err(Stop::Memory),
     }
 }
@@ -103,17 +104,16 @@ fn refused(line: Vec<u8>) -> Work
     }
 }
 
-fn malformed(alloc: Global, number: u32) -> Result<Plan, Stop>
-    ensures plan { IsPlan (λ outcome. outcome ≡ malformed number) result }
-    ensures fitting { HasFitting result }
-    ensures read { result ≢ Err Stop.Unread }
+// The work that is done with a line that is none.
+pub fn malformed(alloc: Global, number: u32) -> Result<Work, Memory>
+    ensures { IfOk result (λ work. outcome_of work ≡ malformed number) }
 {
     let mut bytes = Vec::from_slice(alloc, b"malformed line ")?;
     let mut digits = Buffer::new();
     bytes.extend_from_slice(digits.format(number).as_bytes())?;
     bytes.push(b'\n')?;
-    Ok(Plan::Told(Work {
+    Ok(Work {
         ending: Ending::Malformed,
         bytes,
-    }))
+    })
 }

@@ -11,6 +11,7 @@ ghost use Rattle.desk_top.specs.Words.{is_sign, order, texts};
 
 use crate::deliver::{Ending, deliver, finish};
 use crate::generate::generate;
+use crate::replay::replay;
 use crate::sign::sign;
 use crate::simulate::simulate;
 use crate::stream::perform;
@@ -23,11 +24,12 @@ pub const USAGE: &[u8] =
     b"usage: desk sign TOP FILE.. | simulate TOP STEPS FILE.. | replay TOP DEMO FILE.. | serve PORT COUNT | report TOP | generate N\n";
 
 /// Does what the words of the command line say, with the files of a shelf, writes to a sink, and answers the exit status:
-/// 0 where the module is signed clean, where each step of a simulation came to rest, or where a generated design is
-/// ruled; 1 where a rule of the first grade
-/// has a finding, 2 where the source is refused, 3 where the words are no command, 4 where a read failed, 5 where a write
-/// failed, 9 where a file isn't there or is too long, 11 where a step didn't come to rest within its budget, 12 where a
-/// line of the steps is none, and 20 where memory ran out.
+/// 0 where the module is signed clean, where each step of a simulation came to rest, where a demonstration shows two values
+/// that differ, or where a generated design is ruled; 1 where a rule of the first grade has a finding, 2 where the source
+/// is refused, 3 where the words are no command, 4 where a read failed, 5 where a write failed, 9 where a file isn't there
+/// or is too long, 10 where a demonstration shows no difference, 11 where a step didn't come to rest within its budget, 12
+/// where a line of the steps or of the demonstration is none, 13 where a demonstration's design has no netlist, and 20
+/// where memory ran out.
 pub fn desk<F: Shelf, S: Sink>(alloc: Global, words: &[String], shelf: &mut F, out: &mut S) -> u8
     // What is answered and written, over the files that are told, or over some files.
     ensures answer { OverWorld (F.files shelf.old)
@@ -55,6 +57,9 @@ pub fn desk<F: Shelf, S: Sink>(alloc: Global, words: &[String], shelf: &mut F, o
         Some(Command::Sign { top, files }) => finish(sign(alloc, top, files, shelf), out),
         Some(Command::Simulate { top, steps, files }) => {
             perform(alloc, simulate(alloc, top, steps, files, shelf), out)
+        }
+        Some(Command::Replay { top, demo, files }) => {
+            finish(replay(alloc, top, demo, files, shelf), out)
         }
         Some(Command::Generate { stages }) => finish(generate(alloc, stages), out),
     }

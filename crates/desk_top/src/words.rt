@@ -2,7 +2,7 @@
 
 ghost use Rattle.std.specs.Prelude.{◌≡◌, option_map, bytes_eq};
 ghost use Rattle.std.specs.List.{list_all, list_any};
-ghost use Rattle.desk_top.specs.Words.{all_different, are_files, generate_order, is_name, order, sign_order, simulate_order, stages_order, texts};
+ghost use Rattle.desk_top.specs.Words.{Replay, Simulate, all_different, are_files, generate_order, is_name, order, sign_order, ahead_order, stages_order, texts};
 ghost use Rattle.desk_top.specs.Commands.{order_of};
 
 use desk_numbers::{is_positive, number_up_to};
@@ -25,6 +25,12 @@ pub enum Command<'a> {
         steps: &'a str,
         files: &'a [String],
     },
+    /// Runs the demonstration of a file again in the module of this name among those of these files.
+    Replay {
+        top: &'a str,
+        demo: &'a str,
+        files: &'a [String],
+    },
     /// Rules a generated design of so many stages.
     Generate {
         stages: u32,
@@ -39,6 +45,7 @@ pub fn read_command(words: &[String]) -> Option<Command<'_>>
     match name.as_str() {
         "sign" => read_sign(rest),
         "simulate" => read_simulate(rest),
+        "replay" => read_replay(rest),
         "generate" => read_generate(rest),
         _ => None,
     }
@@ -59,7 +66,7 @@ fn read_sign(words: &[String]) -> Option<Command<'_>>
 }
 
 fn read_simulate(words: &[String]) -> Option<Command<'_>>
-    ensures { option_map order_of result ≡ simulate_order (texts words.now) }
+    ensures { option_map order_of result ≡ ahead_order Simulate (texts words.now) }
 {
     let (top, rest) = words.split_first()?;
     let (steps, files) = rest.split_first()?;
@@ -67,6 +74,22 @@ fn read_simulate(words: &[String]) -> Option<Command<'_>>
         Some(Command::Simulate {
             top: top.as_str(),
             steps: steps.as_str(),
+            files,
+        })
+    } else {
+        None
+    }
+}
+
+fn read_replay(words: &[String]) -> Option<Command<'_>>
+    ensures { option_map order_of result ≡ ahead_order Replay (texts words.now) }
+{
+    let (top, rest) = words.split_first()?;
+    let (demo, files) = rest.split_first()?;
+    if is_name(top.as_str()) && (is_name(demo.as_str()) && are_files(files)) {
+        Some(Command::Replay {
+            top: top.as_str(),
+            demo: demo.as_str(),
             files,
         })
     } else {

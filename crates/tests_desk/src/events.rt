@@ -4,8 +4,8 @@ ghost use Rattle.std.specs.Prelude.{◌≡◌, IfOk};
 ghost use Rattle.event_model.specs.Queue.{flat};
 ghost use Rattle.event_queue.specs.Sims.{flat_of};
 
+use desk_build::{design_of, modules_of};
 use desk_steps::read_steps;
-use desk_top::front::{design_of, modules_of};
 use event_queue::sim::EventSim;
 use event_queue::start::Start;
 use rtl_flat::design::Design;

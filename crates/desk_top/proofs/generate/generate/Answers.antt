@@ -1,8 +1,8 @@
 use Rattle.std.proofs.Common.{codes, map, subst}
 use Rattle.rtl_elab.specs.Designs.{flat_in}
 use Rattle.desk_places.specs.Places.{sources_of}
-use Rattle.desk_top.specs.declared.front.Built.{Built as Made}
-use Rattle.desk_top.specs.Building.{Designed, IsBuilt, Refused, built}
+use Rattle.desk_build.specs.declared.front.Built.{Built as Made}
+use Rattle.desk_build.specs.Building.{Designed, IsBuilt, Refused, built}
 use Rattle.desk_top.proofs.Buildings.{generated_of, one_source, one_text}
 use Rattle.desk_top.proofs.generate.generate.Goals as goal
 
@@ -12,7 +12,7 @@ returns-in-Ok-Refused-clause-work c =
     (one_source (sources_of c.in_ok-sources.sources) c.deref.result.now c.push.new.self.items c.new-names.result.items c.in_ok-from_str.field-0 c.deref-2.result.now c.push-2.new.self.items c.new-texts.result.items c.in_ok-stages_text.field-0 c.args.stages
     c.in_ok-sources.ensures c.deref.ensures.value c.in_ok-push.ensures.items c.new-names.ensures.items c.in_ok-from_str.ensures.ok c.deref-2.ensures.value c.in_ok-push-2.ensures.items c.new-texts.ensures.items c.in_ok-stages_text.ensures.text)
     (one_text c.deref-3.result.now c.push-2.new.self.items c.new-texts.result.items c.in_ok-stages_text.field-0 c.args.stages c.deref-3.ensures.value c.in_ok-push-2.ensures.items c.new-texts.ensures.items c.in_ok-stages_text.ensures.text)
-    (subst (λ (m : Made). IsBuilt (codes "top") (sources_of c.in_ok-sources.sources) (map (λ text. text.items) c.deref-3.result.now) (built m)) c.in-Ok-Refused.field-0-is c.in-Ok-Refused.ensures.built)
+    (subst (λ (m : Made). IsBuilt (codes "top") (sources_of c.in_ok-sources.sources) (map (λ text. text.items) c.deref-3.result.now) (built m)) c.in-Ok-Refused.field-0-is c.in-Ok-Refused.ensures)
     c.refuse.ensures.work
 
 pub returns-in-Ok-Designed-clause-work : goal.returns-in-Ok-Designed-clause-work
@@ -21,5 +21,5 @@ returns-in-Ok-Designed-clause-work c =
     (one_source (sources_of c.in_ok-sources.sources) c.deref.result.now c.push.new.self.items c.new-names.result.items c.in_ok-from_str.field-0 c.deref-2.result.now c.push-2.new.self.items c.new-texts.result.items c.in_ok-stages_text.field-0 c.args.stages
     c.in_ok-sources.ensures c.deref.ensures.value c.in_ok-push.ensures.items c.new-names.ensures.items c.in_ok-from_str.ensures.ok c.deref-2.ensures.value c.in_ok-push-2.ensures.items c.new-texts.ensures.items c.in_ok-stages_text.ensures.text)
     (one_text c.deref-3.result.now c.push-2.new.self.items c.new-texts.result.items c.in_ok-stages_text.field-0 c.args.stages c.deref-3.ensures.value c.in_ok-push-2.ensures.items c.new-texts.ensures.items c.in_ok-stages_text.ensures.text)
-    (subst (λ (m : Made). IsBuilt (codes "top") (sources_of c.in_ok-sources.sources) (map (λ text. text.items) c.deref-3.result.now) (built m)) c.in-Ok-Designed.field-0-is c.in-Ok-Designed.ensures.built)
+    (subst (λ (m : Made). IsBuilt (codes "top") (sources_of c.in_ok-sources.sources) (map (λ text. text.items) c.deref-3.result.now) (built m)) c.in-Ok-Designed.field-0-is c.in-Ok-Designed.ensures)
     c.count.ensures.work

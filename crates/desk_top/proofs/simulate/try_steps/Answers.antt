@@ -1,9 +1,9 @@
 use Rattle.std.proofs.Common.{◌∙◌, Ok, map, subst}
 use Rattle.desk_places.specs.Places.{sources_of}
-use Rattle.desk_top.specs.declared.front.Built.{Built as Made}
+use Rattle.desk_build.specs.declared.front.Built.{Built as Made}
 use Rattle.desk_top.specs.declared.simulate.Plan.TheVariants.{Told}
 use Rattle.rtl_elab.specs.Designs.{flat_in}
-use Rattle.desk_top.specs.Building.{Designed, IsBuilt, Refused, built}
+use Rattle.desk_build.specs.Building.{Designed, IsBuilt, Refused, built}
 use Rattle.desk_top.specs.Texts.{named}
 use Rattle.desk_top.specs.Words.{texts}
 use Rattle.desk_top.proofs.Buildings.{stepped_of}
@@ -14,12 +14,12 @@ pub returns-in-Ok-Refused-clause-plan : goal.returns-in-Ok-Refused-clause-plan
 returns-in-Ok-Refused-clause-plan c =
     stepped_of c.args.top.now (sources_of c.in_ok-sources.sources) (named (texts c.args.files.now) (map (λ text. text.items) c.args.made.now)) (map (λ text. text.items) c.args.made.now) c.args.steps.now (Refused c.in-Ok-Refused.line.items) (Ok (Told c.refused.result))
     (c.in_ok-sources.ensures ∙ named_of c.args.files.now c.args.made.now)
-    (subst (λ (m : Made). IsBuilt c.args.top.now (sources_of c.in_ok-sources.sources) (map (λ text. text.items) c.args.made.now) (built m)) c.in-Ok-Refused.field-0-is c.in-Ok-Refused.ensures.built)
+    (subst (λ (m : Made). IsBuilt c.args.top.now (sources_of c.in_ok-sources.sources) (map (λ text. text.items) c.args.made.now) (built m)) c.in-Ok-Refused.field-0-is c.in-Ok-Refused.ensures)
     c.refused.ensures
 
 pub returns-in-Ok-Designed-clause-plan : goal.returns-in-Ok-Designed-clause-plan
 returns-in-Ok-Designed-clause-plan c =
     stepped_of c.args.top.now (sources_of c.in_ok-sources.sources) (named (texts c.args.files.now) (map (λ text. text.items) c.args.made.now)) (map (λ text. text.items) c.args.made.now) c.args.steps.now (Designed (flat_in c.in-Ok-Designed.design)) c.make_plan.result
     (c.in_ok-sources.ensures ∙ named_of c.args.files.now c.args.made.now)
-    (subst (λ (m : Made). IsBuilt c.args.top.now (sources_of c.in_ok-sources.sources) (map (λ text. text.items) c.args.made.now) (built m)) c.in-Ok-Designed.field-0-is c.in-Ok-Designed.ensures.built)
+    (subst (λ (m : Made). IsBuilt c.args.top.now (sources_of c.in_ok-sources.sources) (map (λ text. text.items) c.args.made.now) (built m)) c.in-Ok-Designed.field-0-is c.in-Ok-Designed.ensures)
     c.make_plan.ensures.plan

@@ -1,7 +1,7 @@
 use Rattle.std.proofs.Common.{◌≡◌, Some, refl, subst}
 use Rattle.desk_top.specs.declared.words.Command.{Command}
 use Rattle.desk_top.specs.Commands.{order_of}
-use Rattle.desk_top.specs.Words.{Sign, Simulate, Generate, order, texts}
+use Rattle.desk_top.specs.Words.{Sign, Simulate, Replay, Generate, order, texts}
 use Rattle.desk_top.proofs.Answering.{over_answered, never_unread, over_generated, over_performed, over_signed_clean, over_usage}
 use Rattle.desk_top.proofs.Ordered.{within}
 use Rattle.desk_top.proofs.top.desk.Goals as goal
@@ -42,6 +42,18 @@ returns-in-Some-Simulate-clause-answer g c =
     (g.S.Sink.taken c.args.out.now) (g.S.Sink.taken c.perform.new.out)
     (subst (λ (command : Command). Some (order_of command) ≡ order (texts c.args.words.now)) c.in-Some-Simulate.field-0-is c.in-Some-Simulate.ensures)
     refl c.simulate.ensures.plan c.perform.ensures.performs
+
+pub replay-requires : goal.replay-requires
+replay-requires g c =
+    within (texts c.args.words.now) (Replay c.in-Some-Replay.top.now c.in-Some-Replay.demo.now (texts c.in-Some-Replay.files.now))
+    (subst (λ (command : Command). Some (order_of command) ≡ order (texts c.args.words.now)) c.in-Some-Replay.field-0-is c.in-Some-Replay.ensures)
+
+pub returns-in-Some-Replay-clause-answer : goal.returns-in-Some-Replay-clause-answer
+returns-in-Some-Replay-clause-answer g c =
+    over_answered (g.F.Shelf.files c.args.shelf.now) (texts c.args.words.now) (Replay c.in-Some-Replay.top.now c.in-Some-Replay.demo.now (texts c.in-Some-Replay.files.now)) c.replay.result c.finish-in-Some-Replay.result
+    (g.S.Sink.taken c.args.out.now) (g.S.Sink.taken c.finish-in-Some-Replay.new.out)
+    (subst (λ (command : Command). Some (order_of command) ≡ order (texts c.args.words.now)) c.in-Some-Replay.field-0-is c.in-Some-Replay.ensures)
+    c.replay.ensures.work c.finish-in-Some-Replay.ensures.finishes
 
 pub generate-requires : goal.generate-requires
 generate-requires g c =

@@ -11,8 +11,8 @@ use Rattle.rtl_elab.specs.Designs.{flat_in, library_of}
 use Rattle.rtl_elab.specs.Elaborated.{elaborated}
 use Rattle.desk_places.specs.Places.{Source}
 use Rattle.desk_refusals.specs.Refusals.{design_line, source_line}
-use Rattle.desk_top.specs.declared.front.Built.{Built as Made}
-use Rattle.desk_top.specs.declared.front.Built.TheVariants as made
+use Rattle.desk_build.specs.declared.front.Built.{Built as Made}
+use Rattle.desk_build.specs.declared.front.Built.TheVariants as made
 
 -- the modules that texts spell, file by file; or the first file that spells none, and why
 pub data Front : Type 0 where

@@ -8,18 +8,18 @@ use Rattle.elab_links.specs.Modules.{circuits_of}
 use Rattle.rtl_elab.specs.Designs.{library_of}
 use Rattle.rtl_elab.specs.Elaborated.{elaborated}
 use Rattle.desk_places.specs.Places.{sources_of}
-use Rattle.desk_top.specs.Building.{Faulty, Refused, built, elaborated_or_not}
-use Rattle.desk_top.proofs.Buildings.{built_ok}
-use Rattle.desk_top.proofs.front.build.Goals as goal
+use Rattle.desk_build.specs.Building.{Faulty, Refused, built, elaborated_or_not}
+use Rattle.desk_build.proofs.Spelled.{built_ok}
+use Rattle.desk_build.proofs.front.build.Goals as goal
 
-pub returns-in-Ok-clause-built : goal.returns-in-Ok-clause-built
-returns-in-Ok-clause-built c =
+pub returns-in-Ok : goal.returns-in-Ok
+returns-in-Ok c =
     built_ok c.args.top.now (sources_of c.args.sources.now) (map (λ text. text.items) c.args.texts.now) (circuits_of c.in-Ok.modules.items) c.build_modules.result (record { read = c.in-Ok.ensures.read; only = c.in-Ok.ensures.only })
-    (subst (λ (ms : List (Vec Module Global)). IfOk c.build_modules.result (λ made. built made ≡ elaborated_or_not (sources_of c.args.sources.now) (elaborated (library_of (circuits_of ms)) c.args.top.now))) c.deref.ensures.value c.build_modules.ensures.built)
+    (subst (λ (ms : List (Vec Module Global)). IfOk c.build_modules.result (λ made. built made ≡ elaborated_or_not (sources_of c.args.sources.now) (elaborated (library_of (circuits_of ms)) c.args.top.now))) c.deref.ensures.value c.build_modules.ensures)
 
-pub returns-in_ok-source_refusal-in-Err-Refused-clause-built :
-    goal.returns-in_ok-source_refusal-in-Err-Refused-clause-built
-returns-in_ok-source_refusal-in-Err-Refused-clause-built c =
+pub returns-in_ok-source_refusal-in-Err-Refused :
+    goal.returns-in_ok-source_refusal-in-Err-Refused
+returns-in_ok-source_refusal-in-Err-Refused c =
     record {
       front = Faulty c.in-Err-Refused.file c.in-Err-Refused.fault;
       is_front = subst (λ (f : SourceFault). IsFirstFaulty (map (λ text. text.items) c.args.texts.now) f) c.in-Err-Refused.field-0-is c.in-Err-Refused.ensures.fault;

@@ -1,9 +1,9 @@
-// The front end: what texts make of a top.
+//! The front end: what texts make of a top.
 
 ghost use Rattle.std.specs.Prelude.{◌≡◌, ◌≢◌, ◌≤◌, ◌<◌, List, IfErr, IfOk, Ok, Err, length, map, vec_len};
 ghost use Rattle.rtl_tree.specs.TreeModule.{Circuit};
 ghost use Rattle.std.specs.List.{All};
-ghost use Rattle.desk_io.specs.declared.shelf.TheConstants.{MAX_FILE_BYTES};
+ghost use Rattle.rtl_tree.specs.declared.text.TheConstants.{MAX_BYTES};
 ghost use Rattle.elab_scope.specs.Faults.{answer};
 ghost use Rattle.elab_links.specs.Modules.{circuits_of};
 ghost use Rattle.elab_walk.specs.Trails.{IsTold};
@@ -11,9 +11,8 @@ ghost use Rattle.rtl_elab.specs.Designs.{flat_in, library_of};
 ghost use Rattle.rtl_elab.specs.Elaborated.{elaborated, refused};
 ghost use Rattle.rtl_front.specs.Fronts.{AreRead, IsFirstFaulty};
 ghost use Rattle.desk_places.specs.Places.{sources_of};
-ghost use Rattle.desk_top.specs.Building.{IsBuilt, built, elaborated_or_not};
+ghost use Rattle.desk_build.specs.Building.{IsBuilt, built, elaborated_or_not};
 
-use crate::deliver::Stop;
 use desk_places::sources::Sources;
 use desk_refusals::{design_refusal, source_refusal};
 use elab_links::module_set::ModuleSet;
@@ -44,17 +43,17 @@ pub fn build(
     top: &str,
     sources: &Sources<'_>,
     texts: &[Vec<u8>],
-) -> Result<Built, Stop>
-    requires { All (λ text. vec_len text ≤ MAX_FILE_BYTES) texts.now }
-    ensures built { IfOk result (λ made. IsBuilt top.now (sources_of sources.now) (map (λ text. text.items) texts.now) (built made)) }
-    ensures stop { IfErr result (λ stop. stop ≡ Stop.Memory) }
+) -> Result<Built, Memory>
+    requires { All (λ text. vec_len text ≤ MAX_BYTES) texts.now }
+    ensures { IfOk result (λ made. IsBuilt top.now (sources_of sources.now)
+        (map (λ text. text.items) texts.now) (built made)) }
 {
     match modules_of(alloc, texts) {
         Ok(modules) => build_modules(alloc, top, sources, &modules),
         Err(SourceFault::Refused(file, fault)) => Ok(Built::Refused(source_refusal(
             alloc, sources, file, &fault,
         )?)),
-        Err(SourceFault::Memory) => Err(Stop::Memory),
+        Err(SourceFault::Memory) => Err(Memory),
     }
 }
 
@@ -63,23 +62,22 @@ fn build_modules(
     top: &str,
     sources: &Sources<'_>,
     modules: &[Vec<Module>],
-) -> Result<Built, Stop>
-    ensures built { IfOk result (λ made. built made
+) -> Result<Built, Memory>
+    ensures { IfOk result (λ made. built made
         ≡ elaborated_or_not (sources_of sources.now)
         (elaborated (library_of (circuits_of modules.now)) top.now)) }
-    ensures stop { IfErr result (λ stop. stop ≡ Stop.Memory) }
 {
     let name = name_of(alloc, top)?;
     match design_of(alloc, modules, &name) {
         Ok(design) => Ok(Built::Designed(design)),
-        Err(ElabFault::Memory) => Err(Stop::Memory),
+        Err(ElabFault::Memory) => Err(Memory),
         Err(fault) => Ok(Built::Refused(design_refusal(alloc, sources, &fault)?)),
     }
 }
 
 /// The modules that texts spell, file by file; or the first text that spells none, and why.
 pub fn modules_of(alloc: Global, texts: &[Vec<u8>]) -> Result<Vec<Vec<Module>>, SourceFault>
-    requires { All (λ text. vec_len text ≤ MAX_FILE_BYTES) texts.now }
+    requires { All (λ text. vec_len text ≤ MAX_BYTES) texts.now }
     ensures read { IfOk result (λ files. AreRead (map (λ text. text.items) texts.now) (circuits_of files.items)) }
     ensures only { IfOk result (λ files. (others : List (List Circuit)) → AreRead (map (λ text. text.items) texts.now) others → others ≡ circuits_of files.items) }
     ensures fault { IfErr result (λ fault. IsFirstFaulty (map (λ text. text.items) texts.now) fault) }
@@ -92,7 +90,7 @@ fn count_modules<L: Ledger>(
     texts: &[Vec<u8>],
     blank: Blank,
 ) -> Result<Vec<Vec<Module>>, SourceFault>
-    requires short { All (λ text. vec_len text ≤ MAX_FILE_BYTES) texts.now }
+    requires short { All (λ text. vec_len text ≤ MAX_BYTES) texts.now }
     requires name { blank.name ≡ L.name }
     requires parts { blank.parts ≡ L.parts }
     requires some { 0 < L.parts }

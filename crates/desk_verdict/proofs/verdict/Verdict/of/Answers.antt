@@ -1,0 +1,47 @@
+use Rattle.std.proofs.Common.{◌≡◌, ◌∙◌, List, Option, length, map, min, take, rules, sym, ap, subst}
+use Rattle.std.proofs.lemmas.List.{take_min}
+use Rattle.rtl_elab.specs.Designs.{flat_in}
+use Rattle.rtl_rule.specs.declared.finding.Finding.{Finding}
+use Rattle.demo_told.specs.declared.demo.Demo.{Demo}
+use Rattle.demo_told.specs.declared.demo.Shown.{Shown}
+use Rattle.demo_replay.specs.Firsts.{AreFirsts, told}
+use Rattle.desk_report.specs.Tellings.{tellings}
+use Rattle.desk_verdict.specs.declared.verdict.TheConstants.{MAX_SHOWN}
+use Rattle.desk_verdict.specs.Verdicts.{parts_of}
+use Rattle.desk_verdict.proofs.Said.{clean_is, count_told, firm_is}
+use Rattle.desk_verdict.proofs.verdict.Verdict.of.Goals as goal
+
+pub returns-clause-said : goal.returns-clause-said
+returns-clause-said c =
+    let flat = flat_in c.args.design.now in
+    let found = c.in_ok-ruling.ruling.findings.items in
+    let shown = c.in_ok-shown.shown.items in
+    let is = c.in_ok-ruling.ensures in
+    let count : c.min-count.result ≡ min MAX_SHOWN (length found) = search rules in
+    let taken : take c.min-count.result c.deref.result.now ≡ take MAX_SHOWN found =
+    ap (λ n. take n c.deref.result.now) count ∙ ap (take (min MAX_SHOWN (length found))) c.deref.ensures.value ∙ take_min MAX_SHOWN found in
+    record {
+      are_all = is.findings;
+      clean = clean_is c.in_ok-ruling.ruling.clean found is.clean;
+      firm = firm_is c.in_ok-ruling.ruling.firm found is.firm;
+      shown = shown;
+      are_shown = subst (λ (some : List Finding). AreFirsts (parts_of flat) some (map told shown)) taken c.in_ok-shown.ensures;
+      told_is =
+          c.in_ok-told.ensures
+          ∙ ap (λ (some : List Finding). tellings flat.signals flat.instances some c.deref-3.result.now) c.deref-2.ensures.value
+          ∙ ap (tellings flat.signals flat.instances found) c.deref-3.ensures.value;
+      promised = λ none. (record {
+        chains = (is.chained (is.clean.1 none)).0;
+        chained = (is.chained (is.clean.1 none)).1;
+        agrees = is.sound (is.clean.1 none);
+        brought_up = is.brought_up (is.clean.1 none);
+        ends = is.ended (is.clean.1 none);
+      });
+    }
+
+pub returns-clause-count : goal.returns-clause-count
+returns-clause-count c =
+    let flat = flat_in c.args.design.now in
+    ap length c.in_ok-told.ensures
+    ∙ count_told flat.signals flat.instances c.deref-2.result.now c.deref-3.result.now
+    ∙ ap length c.deref-2.ensures.value

@@ -1,0 +1,7 @@
+//! What the desk says of a design: all findings, what each is about, and where the first of them
+//! show.
+#![tactic(auto)]
+
+mod verdict;
+
+pub use crate::verdict::{MAX_SHOWN, Verdict};
