@@ -64,8 +64,8 @@ pub(crate) fn repeat_outcome(
     Ok(Decision::Tells(reply_in(alloc, row)?))
 }
 
-// The reply to a request, as it is kept.
-pub(crate) fn kept_row(
+/// The reply to a request with this status and this JSON, as it is kept.
+pub fn kept_row(
     alloc: Global,
     request: &Request,
     status: u16,

@@ -1,0 +1,7 @@
+mod Example
+pub mod Indexed
+pub mod Kept
+pub mod Least
+pub mod Loops
+pub mod Room
+pub mod Subjects

@@ -1,0 +1,6 @@
+pub mod Rulings
+pub mod Books
+pub mod Grants
+pub mod SignOffs
+pub mod Index
+pub mod Steps
