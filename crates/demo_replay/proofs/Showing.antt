@@ -212,3 +212,8 @@ none_first design findings lacks =
           let (shown, at, same) = mapped (replicate (length findings) None) k one here in
           subst (IsFirst (parts design) finding) (ap told (sym (nothing_at (length findings) k shown at)) ∙ same) (NoNetlist lacks);
     }
+
+-- nothing is shown for no finding
+pub no_firsts : (design : Design) (findings : List Finding) → length findings ≡ 0 → AreFirsts (parts design) findings []
+no_firsts design [] none = record { count = refl; each = λ k finding one there shown. absurd (cc) }
+no_firsts design (finding ∷ findings) none = absurd (omega (arith, none))

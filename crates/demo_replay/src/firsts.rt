@@ -126,11 +126,8 @@ fn nothing(alloc: Global, count: usize) -> Result<Vec<Option<(Demo, Shown)>>, Me
     Ok(found)
 }
 
-/// The first difference that the trials show for each of some findings. A trial is run once for all
-/// of them.
-///
-/// Fails where memory runs out.
-pub fn attach_all(
+/// The same of findings for which trials are to be run.
+fn attach_some(
     alloc: Global,
     design: &Design,
     findings: &[Finding],
@@ -151,6 +148,24 @@ pub fn attach_all(
         }
     }
     Ok(found)
+}
+
+/// The first difference that the trials show for each of some findings. A trial is run once for all
+/// of them, and none where there is no finding.
+///
+/// Fails where memory runs out.
+pub fn attach_all(
+    alloc: Global,
+    design: &Design,
+    findings: &[Finding],
+) -> Result<Vec<Option<(Demo, Shown)>>, Memory>
+    ensures { IfOk result (λ found.
+        AreFirsts (parts design.now) findings.now (map told found.items)) }
+{
+    if findings.is_empty() {
+        return Ok(Vec::new(alloc));
+    }
+    attach_some(alloc, design, findings)
 }
 
 /// The first difference that the trials show for a finding. None exactly where they show none.

@@ -1,5 +1,5 @@
 use Rattle.demo_replay.specs.Tables.{AreShownBelow}
-use Rattle.demo_replay.proofs.firsts.attach_all.Given as goal
+use Rattle.demo_replay.proofs.firsts.attach_some.Given as goal
 
 abbrev pub invariant-loop-number : goal.invariant-loop-number
 invariant-loop-number l =
