@@ -22,7 +22,8 @@ pub struct Malformed {
 /// line feed ends.
 pub fn read_file(design: &Design, text: &[u8]) -> Result<Demo, Malformed>
     ensures told { IfOk result (IsTold design.now.signals.items text.now) }
-    ensures malformed { IfErr result (λ fault. IsMalformed design.now.signals.items text.now fault.line) }
+    ensures malformed { IfErr result (λ fault.
+        IsMalformed design.now.signals.items text.now fault.line) }
 {
     let (line, rest) = split_line(text);
     let Some(told) = read_demo(line) else {

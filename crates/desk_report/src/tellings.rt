@@ -73,7 +73,8 @@ fn demo_in(
 
 /// The path of a finding's signal, or of its instance where it names none; empty where there is none.
 fn target_in<'d>(design: &'d Design, finding: &Finding) -> &'d [u8]
-    ensures { result.now ≡ target_in design.now.signals.items design.now.instances.items finding.now }
+    ensures { result.now ≡ target_in
+        design.now.signals.items design.now.instances.items finding.now }
 {
     match finding.signal {
         Some(number) => match design.signals.get(number.0 as usize) {

@@ -82,7 +82,8 @@ impl Search {
     #[tactic(auto, using(crate::proofs::Searching::finds_nothing))]
     fn add_all(&mut self, set: &ModuleSet, written: Option<&Module>) -> Result<(), Memory>
         ensures { OnOk result (Finds
-            (named_by (lookups_of set.now) (option_map (λ written. circuit written.now) written.entry))
+            (named_by (lookups_of set.now)
+            (option_map (λ written. circuit written.now) written.entry))
             self.old self.new) }
     {
         match written {

@@ -33,7 +33,8 @@ fn end_one(
     requires kept { AreKept signals.now numbers.old marks.old }
     requires beside { aside ≡ true → AreBeside signals.now before.now after.old }
     ensures ends { ending numbers.new marks.new after.new
-        ≡ ending_after_one aside (store before.now) (ending numbers.old marks.old after.old) signal.0 }
+        ≡ ending_after_one aside (store before.now)
+        (ending numbers.old marks.old after.old) signal.0 }
     ensures kept { AreKept signals.now numbers.new marks.new }
     ensures beside { aside ≡ true → AreBeside signals.now before.now after.new }
 {
