@@ -1,0 +1,58 @@
+-- The columns of the database in which the rows of the tables stand.
+-- Worked examples: crates/tests_keeper/src/changes.rt.
+use Rattle.std.specs.Prelude.{◌≡◌, ℕ, ℤ, ◌+◌, pos, codes, List, [], ◌∷◌, Option, Some, None}
+use Rattle.sqlite_value.specs.declared.value.Value.{Value}
+use Rattle.sqlite_value.specs.declared.value.Value.TheVariants.{Null, Int, Text, Blob}
+use Rattle.sqlite_value.specs.Order.{Row, column}
+use Rattle.desk_tables.specs.declared.rows.Grade.{Grade}
+use Rattle.desk_tables.specs.declared.rows.Grade.TheVariants.{Clean, Waived}
+use Rattle.desk_tables.specs.declared.rows.MetaRow.{MetaRow}
+use Rattle.desk_tables.specs.declared.rows.FileRow.{FileRow}
+use Rattle.desk_tables.specs.declared.rows.WaiverRow.{WaiverRow}
+use Rattle.desk_tables.specs.declared.rows.SignOffRow.{SignOffRow}
+use Rattle.desk_tables.specs.declared.rows.ReplyRow.{ReplyRow}
+
+-- a number of the tables
+abbrev pub number : ℕ → Value
+number n = Int (pos n)
+
+-- the word of a grade
+abbrev pub grade_word : Grade → List ℕ
+grade_word Clean = codes "clean"
+grade_word Waived = codes "waived"
+
+-- the day on which a waiver was revoked, or NULL
+abbrev pub end_day : Option ℤ → Value
+end_day None = Null
+end_day (Some day) = Int day
+
+-- ---- the columns of a row, in their order
+
+abbrev pub meta_columns : MetaRow → List Value
+meta_columns row = number row.version ∷ []
+
+abbrev pub file_columns : FileRow → List Value
+file_columns row = Text row.name ∷ Blob row.text ∷ Blob row.digest ∷ Text row.editor ∷ []
+
+abbrev pub waiver_columns : WaiverRow → List Value
+waiver_columns row =
+    number row.id.0 ∷ Text row.top ∷ Text row.rule ∷ Text row.target ∷ Text row.file ∷ number row.at ∷ Blob row.digest ∷ Text row.owner ∷ Text row.asker ∷ Text row.reason ∷ Int row.last_day ∷ end_day row.ended ∷ []
+
+abbrev pub signoff_columns : SignOffRow → List Value
+signoff_columns row =
+    number row.id ∷ Text row.top ∷ Text row.who ∷ Int row.day ∷ Text (grade_word row.grade) ∷ Blob row.reach ∷ []
+
+abbrev pub reply_columns : ReplyRow → List Value
+reply_columns row =
+    Text row.user ∷ Text row.request ∷ Blob row.digest ∷ number row.status ∷ Blob row.body ∷ []
+
+-- ---- a row of an answer
+
+-- from this place on a row has these values
+abbrev pub HoldsFrom : ℕ → Row → List Value → Type 0
+HoldsFrom at row [] = Unit {0}
+HoldsFrom at row (value ∷ values) = (column row at ≡ value) × HoldsFrom (at + 1) row values
+
+-- a row begins with these values
+abbrev pub Holds : Row → List Value → Type 0
+Holds row values = HoldsFrom 0 row values
