@@ -1,0 +1,4 @@
+//! Laws of the desk's tables under what it accepts.
+#![tactic(auto)]
+
+pub mod law;
