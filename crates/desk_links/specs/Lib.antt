@@ -1,0 +1,4 @@
+pub mod Clocks
+pub mod Links
+pub mod Doors
+pub mod Held

@@ -1,0 +1,121 @@
+// A door at a port of this machine.
+ghost use Rattle.std.specs.Prelude.{◌≡◌, None, IfOk, IfSome, OnOk};
+ghost use Rattle.desk_io.specs.Causes.{HasCause};
+ghost use Rattle.desk_links.specs.Held.{stream_faults, tcp_faults};
+
+use super::Door;
+use crate::link::{Link, StreamLink};
+use desk_io::Failed;
+use std::net::{Net, OpenListener, OpenStream, Shutdown, SocketAddr};
+use std::time::Duration;
+
+// How long a client may be silent.
+const READ_SECONDS: u64 = 10;
+
+// How long a link that ends waits for what its client still sends.
+const END_SECONDS: u64 = 1;
+
+// How many pieces of such are read away, and how large they are.
+const END_PIECES: usize = 16;
+
+const PIECE_BYTES: usize = 4_096;
+
+/// A door at a port of this machine, for clients on the same machine. It tells nothing of them. A
+/// link that is silent for ten seconds fails; one that is given back says that all is said, reads
+/// away up to 64 KiB that its client still sends within a second at a time, and closes.
+#[derive(Drop)]
+pub struct TcpDoor<R: Net + Drop> {
+    net: R,
+    listener: Option<R::Listener>,
+    faults: u64,
+}
+
+impl<R: Net + Drop> TcpDoor<R> {
+    ghost use Rattle.std.specs.Prelude.{◌≡◌, ◌≤◌, IfSome};
+    ghost use Rattle.desk_io.specs.Causes.{Rose};
+    ghost use Rattle.desk_links.specs.Held.{stream_faults, tcp_faults};
+
+    /// A door of this network, which isn't open yet.
+    pub fn new(net: R) -> TcpDoor<R>
+        ensures { tcp_faults result ≡ 0 }
+    {
+        TcpDoor {
+            net,
+            listener: None,
+            faults: 0,
+        }
+    }
+
+    // The next client, where there is one.
+    fn accepted(&self) -> Option<StreamLink<R::Stream>>
+        ensures { IfSome result (λ link. stream_faults link ≡ 0) }
+    {
+        let listener = self.listener.as_ref()?;
+        let (stream, _) = listener.accept().ok()?;
+        let limit = Duration::from_secs(READ_SECONDS);
+        stream.set_read_timeout(Some(limit)).ok()?;
+        Some(StreamLink::new(stream))
+    }
+
+    fn count_fault(&mut self) -> Failed
+        ensures rose { Rose (tcp_faults self.old) (tcp_faults self.new) }
+        ensures later { tcp_faults self.old ≤ tcp_faults self.new }
+    {
+        self.faults = self.faults.saturating_add(1);
+        Failed
+    }
+}
+
+// Reads away what a client still sends, up to a bound.
+fn read_away<L: Link>(link: &mut L) {
+    let mut piece = [0; PIECE_BYTES];
+    for _ in 0..END_PIECES {
+        match link.read(&mut piece) {
+            Ok(count) if count > 0 => {}
+            _ => return,
+        }
+    }
+}
+
+impl<R: Net + Drop> Door for TcpDoor<R> {
+    type L = StreamLink<R::Stream>;
+
+    ghost visits = { λ _. None };
+
+    ghost faults = { λ door. tcp_faults door };
+
+    fn listen(&mut self, port: u16) -> Result<(), Failed>
+        ensures cause { HasCause (tcp_faults self.old) (tcp_faults self.new) result }
+        ensures calm { OnOk result (tcp_faults self.new ≡ tcp_faults self.old) }
+    {
+        match self.net.bind(SocketAddr::from(([127, 0, 0, 1], port))) {
+            Ok(listener) => {
+                self.listener = Some(listener);
+                Ok(())
+            }
+            Err(_) => Err(self.count_fault()),
+        }
+    }
+
+    fn next(&mut self) -> Result<StreamLink<R::Stream>, Failed>
+        ensures unharmed { IfOk result (λ link. stream_faults link ≡ 0) }
+        ensures cause { HasCause (tcp_faults self.old) (tcp_faults self.new) result }
+        ensures calm { OnOk result (tcp_faults self.new ≡ tcp_faults self.old) }
+    {
+        match self.accepted() {
+            Some(link) => Ok(link),
+            None => Err(self.count_fault()),
+        }
+    }
+
+    fn ended(&mut self, link: StreamLink<R::Stream>)
+        ensures count { tcp_faults self.new ≡ tcp_faults self.old }
+    {
+        let mut link = link;
+        let said = link.stream.shutdown(Shutdown::Write).is_ok();
+        let limit = Duration::from_secs(END_SECONDS);
+        if said && link.stream.set_read_timeout(Some(limit)).is_ok() {
+            read_away(&mut link);
+        }
+    }
+}
