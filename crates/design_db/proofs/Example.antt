@@ -1,0 +1,32 @@
+-- Files and the last answer, on small cases.
+use Rattle.std.proofs.Common.{◌≡◌, ℕ, List, [], ◌∷◌, codes, refl}
+use Rattle.std.proofs.lemmas.List.Elements.{All-cons, All-nil}
+use Rattle.std.specs.Prelude.{true, Some, None}
+use Rattle.desk_files.specs.Sources.{is_before}
+use Rattle.desk_files.specs.declared.files.SourceFile.{SourceFile}
+use Rattle.design_db.specs.Fresh.{names_at}
+use Rattle.design_db.specs.Orders.{AreInOrder}
+use Rattle.design_db.specs.Stores.{answer_in}
+use Rattle.design_db.specs.declared.answer.Answer.{Answer}
+
+abbrev file : List ℕ → List ℕ → SourceFile
+file its_name its_text = record { name = its_name; text = its_text }
+
+abbrev first : SourceFile
+first = file (codes "a.v") (codes "1")
+
+abbrev second : SourceFile
+second = file (codes "b.v") (codes "2")
+
+they_are_in_order : AreInOrder (first ∷ second ∷ [])
+they_are_in_order =
+    (All-cons (λ other. is_before other.name first ≡ true) second [] refl (All-nil (λ other. is_before other.name first ≡ true)), (All-nil (λ other. is_before other.name second ≡ true), tt))
+
+a_file_that_is_not_there_has_no_name : names_at (first ∷ second ∷ []) (1 ∷ 7 ∷ []) ≡ codes "b.v" ∷ []
+a_file_that_is_not_there_has_no_name = refl
+
+the_last_answer_is_of_its_top : (answer : Answer) → answer_in (Some (record { top = codes "adder"; answer = answer })) (codes "adder") ≡ Some answer
+the_last_answer_is_of_its_top answer = refl
+
+it_is_of_no_other_top : (answer : Answer) → answer_in (Some (record { top = codes "adder"; answer = answer })) (codes "add") ≡ None
+it_is_of_no_other_top answer = refl

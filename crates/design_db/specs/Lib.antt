@@ -1,0 +1,4 @@
+pub mod Fresh
+pub mod Orders
+pub mod Shown
+pub mod Stores
