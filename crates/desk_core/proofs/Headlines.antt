@@ -1,0 +1,149 @@
+-- What is signed clean shows in every simulation what its hardware shows.
+use Rattle.std.proofs.Common.{◌≡◌, ◌∙◌, Bool, true, false, ℕ, List, Option, Some, None, get_or, refl, ap, subst, arith}
+use Rattle.std.specs.Prelude.{ℤ, nat_lt, Result, Ok, Err, if◌then◌else◌}
+use Rattle.std.proofs.lemmas.Bool.{cond-true}
+use Rattle.json.specs.Print.{escape_byte}
+use Rattle.rtl_tree.specs.TreeModule.{Circuit}
+use Rattle.elab_scope.specs.Faults.{Answer as Fault}
+use Rattle.elab_flat.specs.Flats.{DesignParts}
+use Rattle.rtl_elab.specs.Designs.{library_of}
+use Rattle.rtl_elab.specs.Elaborated.{elaborated}
+use Rattle.desk_build.specs.Building.{AreSpelled, Front, IsFront, Modules, Faulty}
+use Rattle.desk_files.specs.declared.files.SourceFile.{SourceFile}
+use Rattle.desk_tables.specs.Changes.{reply_of}
+use Rattle.desk_tables.specs.Tables.{Kept}
+use Rattle.desk_tables.specs.declared.rows.FileRow.{FileRow}
+use Rattle.desk_tables.specs.declared.rows.Grade.{Grade}
+use Rattle.desk_tables.specs.declared.rows.Grade.TheVariants.{Clean, Waived}
+use Rattle.desk_tables.specs.declared.rows.SignOffRow.{SignOffRow}
+use Rattle.desk_tables.specs.declared.rows.Table.{Table}
+use Rattle.desk_requests.specs.Replies.{Said}
+use Rattle.desk_requests.specs.Requests.{changes}
+use Rattle.desk_requests.specs.declared.ask.Ask.TheVariants as ask
+use Rattle.desk_requests.specs.declared.ask.Request.{Request}
+use Rattle.desk_bodies.specs.Bodies.{granted_text, with_number, with_text}
+use Rattle.desk_records.specs.Machine.{by_tables, change_outcome, full_refusal, full_table, request_outcome, unless_full, unless_kept}
+use Rattle.desk_records.specs.Outcomes.{Outcome, Told, Done, Open, kept_said}
+use Rattle.desk_rulings.specs.Rulings.{Verdict, has_first_grade, left_of, standing_of}
+use Rattle.desk_rulings.specs.SignOffs.{accepted, edited_by, findings_stand, rows_of, signoff_outcome, signoff_row, unless_edited}
+use Rattle.design_db.specs.Fresh.{IsOfDesign, IsOfFront, texts_in}
+use Rattle.design_db.specs.declared.answer.Answer.{Answer}
+use Rattle.design_db.specs.declared.answer.Answer.TheVariants.{Ruled, Refused}
+use Rattle.desk_core.specs.Files.{AreFilesOf}
+use Rattle.desk_core.specs.Headline.{IsNewSignOff, IsSignedClean, SaysClean}
+use Rattle.desk_core.specs.Outcomes.{IsJudged, IsJudgedFor, IsOutcome, IsSettled, judged_with, top_of, with_answer}
+use Rattle.desk_core.specs.Reports.{verdict_in}
+use Rattle.desk_core.specs.Serving.{IsServed, Answered, Accepted, Serves, Served, Unavailable, OutOfMemory}
+
+-- ---- grades by their texts
+
+-- their texts differ at the first letter
+graded_clean : (grade : Grade) (id id' : ℕ) → granted_text grade id ≡ granted_text Clean id' → grade ≡ Clean
+unfolding granted_text with_text with_number escape_byte
+graded_clean Clean id id' same = refl
+graded_clean Waived id id' same =
+    let letters : 119 ≡ 99 = ap (λ (text : List ℕ). get_or text 10 0) same in
+    absurd (omega (arith, letters))
+
+-- ---- replies that say clean
+
+-- what an outcome says
+abbrev SaysCleanIn : Outcome → Type 0
+SaysCleanIn (Told answer) = SaysClean answer
+SaysCleanIn (Done change) = SaysClean (kept_said (reply_of change))
+SaysCleanIn Open = ⊥
+
+-- a verdict of which that is so is clean
+first_clean : (b : Bool) → (if b then Waived else Clean) ≡ Clean → b ≡ false
+first_clean true is = absurd (cc)
+first_clean false is = refl
+
+clean_row : (row : SignOffRow) (request : Request) → SaysCleanIn (accepted row request) → row.grade ≡ Clean
+clean_row row request says = graded_clean row.grade row.id says.id says.graded
+
+unedited_clean : (found : Option FileRow) (row : SignOffRow) (request : Request) → SaysCleanIn (unless_edited found (accepted row request)) → row.grade ≡ Clean
+unedited_clean None row request says = clean_row row request says
+unedited_clean (Some held) row request says = absurd (let no : 409 ≡ 201 = says.accepted in omega (arith, no))
+
+signed_by : (stand : Bool) (left : ℕ) (found : Option FileRow) (row : SignOffRow) (request : Request) → SaysCleanIn (if stand then findings_stand left else unless_edited found (accepted row request)) → row.grade ≡ Clean
+signed_by true left found row request says = absurd (let no : 409 ≡ 201 = says.accepted in omega (arith, no))
+signed_by false left found row request says = unedited_clean found row request says
+
+signed_clean : (top : List ℕ) (request : Request) (today : ℤ) (kept : Kept) (verdict : Verdict) → SaysCleanIn (signoff_outcome top request today kept verdict) → has_first_grade verdict.findings ≡ false
+signed_clean top request today kept verdict says =
+    let left : ℕ = left_of verdict.findings (standing_of today kept verdict) in
+    first_clean (has_first_grade verdict.findings)
+    (signed_by (nat_lt 0 left) left (edited_by request.user (rows_of kept.files verdict.reached))
+    (signoff_row top request today kept verdict) request says)
+
+-- ---- the design of an answer
+
+of_design : (kept : Kept) (top : List ℕ) (files : List SourceFile) → AreFilesOf kept.files files → (circuits : List (List Circuit)) → AreSpelled (texts_in files) circuits → (made : Result DesignParts Fault) → elaborated (library_of circuits) top ≡ made → (answer : Answer) → IsOfDesign files circuits top made answer → (request : Request) (today : ℤ) → SaysCleanIn (judged_with (ask.SignOff top) request today kept files answer) → IsSignedClean kept top
+of_design kept top files are circuits spelled (Ok flat) same (Ruled verdict reached) is request today says =
+    let clean : has_first_grade verdict.ruling.findings.items ≡ false = signed_clean top request today kept (verdict_in files verdict reached.items) says in
+    record {
+      files = files;
+      are_files = are;
+      circuits = circuits;
+      spelled = spelled;
+      design = flat;
+      flat = same;
+      findings = verdict.ruling.findings.items;
+      found = is.0.are_all;
+      clean = clean;
+      promised = is.0.promised clean;
+    }
+of_design kept top files are circuits spelled (Ok flat) same (Refused line) is request today says = absurd is
+of_design kept top files are circuits spelled (Err fault) same (Ruled verdict reached) is request today says = absurd is
+of_design kept top files are circuits spelled (Err fault) same (Refused line) is request today says =
+    absurd (let no : 422 ≡ 201 = says.accepted in omega (arith, no))
+
+of_front : (kept : Kept) (top : List ℕ) (files : List SourceFile) → AreFilesOf kept.files files → (front : Front) → IsFront (texts_in files) front → (answer : Answer) → IsOfFront files top front answer → (request : Request) (today : ℤ) → SaysCleanIn (judged_with (ask.SignOff top) request today kept files answer) → IsSignedClean kept top
+of_front kept top files are (Modules circuits) spelled answer is request today says =
+    of_design kept top files are circuits spelled (elaborated (library_of circuits) top) refl answer is request today says
+of_front kept top files are (Faulty number fault) spelled (Ruled verdict reached) is request today says = absurd is
+of_front kept top files are (Faulty number fault) spelled (Refused line) is request today says =
+    absurd (let no : 422 ≡ 201 = says.accepted in omega (arith, no))
+
+-- ---- requests
+
+judged_clean : (request : Request) (today : ℤ) (kept : Kept) (top : List ℕ) (outcome : Outcome) → request.ask ≡ ask.SignOff top → IsJudged request today kept top outcome → SaysCleanIn outcome → IsSignedClean kept top
+judged_clean request today kept top outcome asks is says =
+    let same : outcome ≡ judged_with (ask.SignOff top) request today kept is.files is.answer =
+    is.is ∙ ap (λ it. with_answer it request today kept is.files is.answer) asks in
+    of_front kept top is.files is.are_files is.fresh.front is.fresh.is_front is.answer is.fresh.is request today
+    (subst SaysCleanIn same says)
+
+with_room : (full : Option Table) (request : Request) (today : ℤ) (kept : Kept) (top : List ℕ) (outcome : Outcome) → request.ask ≡ ask.SignOff top → IsSettled request today kept (unless_full full Open) outcome → SaysCleanIn outcome → IsSignedClean kept top
+with_room None request today kept top outcome asks is says =
+    judged_clean request today kept top outcome asks
+    (subst (λ (found : Option (List ℕ)). IsJudgedFor request today kept found outcome) (ap top_of asks) is) says
+with_room (Some table) request today kept top outcome asks is says =
+    let told : SaysCleanIn (full_refusal table) = subst SaysCleanIn is says in
+    absurd (let no : 409 ≡ 201 = told.accepted in omega (arith, no))
+
+-- the tables refuse a new sign-off only where one is full
+new_outcome : (request : Request) (today : ℤ) (kept : Kept) (top : List ℕ) → IsNewSignOff request kept top → request_outcome request today kept ≡ unless_full (full_table request.ask kept) Open
+new_outcome request today kept top new =
+    cond-true (changes request.ask) (change_outcome request today kept) (by_tables request.ask request today kept) (ap changes new.asks)
+    ∙ ap (λ it. unless_kept it request.digest (unless_full (full_table request.ask kept) (by_tables request.ask request today kept))) new.none
+    ∙ ap (λ it. unless_full (full_table request.ask kept) (by_tables it request today kept)) new.asks
+
+outcome_clean : (request : Request) (today : ℤ) (kept : Kept) (top : List ℕ) (outcome : Outcome) → IsNewSignOff request kept top → IsOutcome request today kept outcome → SaysCleanIn outcome → IsSignedClean kept top
+outcome_clean request today kept top outcome new is says =
+    with_room (full_table request.ask kept) request today kept top outcome new.asks
+    (subst (λ (it : Outcome). IsSettled request today kept it outcome) (new_outcome request today kept top new) is) says
+
+served_clean : (request : Request) (today : ℤ) (kept : Kept) (top : List ℕ) (kept' : Kept) (answer : Said) → IsServed request today kept kept' answer → IsNewSignOff request kept top → SaysClean answer → IsSignedClean kept top
+served_clean request today kept top kept' answer (Answered told is) new says =
+    outcome_clean request today kept top (Told told) new is says
+served_clean request today kept top kept' answer (Accepted change is) new says =
+    outcome_clean request today kept top (Done change) new is says
+
+pub headline : (request : Request) (today : ℤ) (faults faults' : ℕ) (kept : Kept) (top : List ℕ) (kept' : Kept) (answer : Said) → Serves request today faults faults' kept kept' answer → IsNewSignOff request kept top → SaysClean answer → IsSignedClean kept top
+headline request today faults faults' kept top kept' answer (Served after told is) new says =
+    served_clean request today kept top after told is new says
+headline request today faults faults' kept top kept' answer (Unavailable rose) new says =
+    absurd (let no : 503 ≡ 201 = says.accepted in omega (arith, no))
+headline request today faults faults' kept top kept' answer OutOfMemory new says =
+    absurd (let no : 507 ≡ 201 = says.accepted in omega (arith, no))

@@ -1,0 +1,11 @@
+pub mod Accepted
+pub mod Files
+pub mod FirstFiles
+pub mod Headlines
+pub mod Made
+pub mod Paired
+pub mod Places
+pub mod Rules
+pub mod Settled
+pub mod Started
+pub mod Told

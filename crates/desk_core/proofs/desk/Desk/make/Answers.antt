@@ -1,0 +1,20 @@
+use Rattle.std.proofs.Common.{◌≡◌, ◌∙◌, refl, ap}
+use Rattle.desk_requests.specs.Replies.{said}
+use Rattle.desk_core.specs.Machine.{Machine}
+use Rattle.desk_core.proofs.Made.{is_unmade}
+use Rattle.desk_core.proofs.desk.Desk.make.Goals as goal
+use Rattle.desk_core.proofs.desk.Desk.make.Goals.{in-PutFile-1, in-DropFile-1, in-Grant-1, in-Revoke-1, in-SignOff-1}
+
+pub returns-in-Err-clause-made : goal.returns-in-Err-clause-made
+returns-in-Err-clause-made g c =
+    let kept = λ (machine : Machine). machine.kept in
+    let count = g.K.Keeper.count c.args.keeper.now in
+    let stays : c.match-change.self.kept ≡ c.args.self.now.kept =
+    elim c.match-change.branch [
+      | in-PutFile-1 w ↦ ap kept w.self-is ∙ ap kept c.self.view_is
+      | in-DropFile-1 w ↦ ap kept w.self-is ∙ ap kept c.self.view_is
+      | in-Grant-1 w ↦ ap kept w.self-is ∙ ap kept c.self.view_is
+      | in-Revoke-1 w ↦ ap kept w.self-is ∙ ap kept c.self.view_is
+      | in-SignOff-1 w ↦ ap kept w.self-is ∙ ap kept c.self.view_is
+    ] in
+    is_unmade c.args.change count count c.args.self.now.kept c.match-change.self.kept (said c.no_memory.result) stays c.no_memory.ensures refl

@@ -1,0 +1,60 @@
+use Rattle.std.proofs.Common.{ap, subst}
+use Rattle.desk_requests.specs.Replies.{said}
+use Rattle.desk_records.specs.Outcomes.{outcome}
+use Rattle.desk_records.specs.declared.decision.Decision.{Decision}
+use Rattle.desk_core.specs.Machine.{Machine}
+use Rattle.desk_core.specs.Outcomes.{IsOutcome}
+use Rattle.desk_core.proofs.Headlines.{headline}
+use Rattle.desk_core.proofs.Made.{made_status, serves_made, serves_none, serves_told}
+use Rattle.desk_core.proofs.Settled.{never_open, sound_change, told_status}
+use Rattle.desk_core.proofs.desk.Desk.serve.Goals as goal
+
+pub make-requires-clause-short : goal.make-requires-clause-short
+make-requires-clause-short g c =
+    let is = subst (λ (made : Decision). IsOutcome c.args.request.now c.args.today c.self.inside.records (outcome made)) c.in-Ok-Makes.field-0-is c.in-Ok-Makes.ensures.is in
+    (sound_change c.args.request.now c.args.today c.self.inside.records c.in-Ok-Makes.change c.self.invariant.accepted c.requires.short is).short
+
+pub make-requires-clause-accepted : goal.make-requires-clause-accepted
+make-requires-clause-accepted g c =
+    let is = subst (λ (made : Decision). IsOutcome c.args.request.now c.args.today c.self.inside.records (outcome made)) c.in-Ok-Makes.field-0-is c.in-Ok-Makes.ensures.is in
+    (sound_change c.args.request.now c.args.today c.self.inside.records c.in-Ok-Makes.change c.self.invariant.accepted c.requires.short is).accepted
+
+pub unreachable-requires : goal.unreachable-requires
+unreachable-requires g c =
+    let is = subst (λ (made : Decision). IsOutcome c.args.request.now c.args.today c.self.inside.records (outcome made)) c.in-Ok-Open.field-0-is c.in-Ok-Open.ensures.is in
+    never_open c.args.request.now c.args.today c.self.inside.records c.self.invariant.accepted c.requires.short is
+
+pub returns-in-Ok-Tells-clause-status : goal.returns-in-Ok-Tells-clause-status
+returns-in-Ok-Tells-clause-status g c =
+    let is = subst (λ (made : Decision). IsOutcome c.args.request.now c.args.today c.self.inside.records (outcome made)) c.in-Ok-Tells.field-0-is c.in-Ok-Tells.ensures.is in
+    told_status c.args.request.now c.args.today c.self.inside.records (said c.in-Ok-Tells.reply) c.self.invariant.accepted c.requires.short is
+
+pub returns-in-Ok-Makes-clause-status : goal.returns-in-Ok-Makes-clause-status
+returns-in-Ok-Makes-clause-status g c =
+    let is = subst (λ (made : Decision). IsOutcome c.args.request.now c.args.today c.self.inside.records (outcome made)) c.in-Ok-Makes.field-0-is c.in-Ok-Makes.ensures.is in
+    made_status c.in-Ok-Makes.change (g.K.Keeper.count c.args.keeper.now) (g.K.Keeper.count c.make.new.keeper) c.self.inside.records c.make.new.self.kept (said c.make.result)
+    (sound_change c.args.request.now c.args.today c.self.inside.records c.in-Ok-Makes.change c.self.invariant.accepted c.requires.short is).accepted c.make.ensures.made
+
+pub returns-in-Ok-Tells-clause-served : goal.returns-in-Ok-Tells-clause-served
+returns-in-Ok-Tells-clause-served g c =
+    let count = g.K.Keeper.count c.args.keeper.now in
+    let is = subst (λ (made : Decision). IsOutcome c.args.request.now c.args.today c.self.inside.records (outcome made)) c.in-Ok-Tells.field-0-is c.in-Ok-Tells.ensures.is in
+    serves_told c.args.request.now c.args.today count count c.args.self.now.kept c.self.inside.records (said c.in-Ok-Tells.reply)
+    (ap (λ (machine : Machine). machine.kept) c.self.view_is) is
+
+pub returns-in-Ok-Makes-clause-served : goal.returns-in-Ok-Makes-clause-served
+returns-in-Ok-Makes-clause-served g c =
+    let is = subst (λ (made : Decision). IsOutcome c.args.request.now c.args.today c.self.inside.records (outcome made)) c.in-Ok-Makes.field-0-is c.in-Ok-Makes.ensures.is in
+    serves_made c.args.request.now c.args.today c.in-Ok-Makes.change (g.K.Keeper.count c.args.keeper.now) (g.K.Keeper.count c.make.new.keeper) c.args.self.now.kept c.self.inside.records c.make.new.self.kept (said c.make.result)
+    (ap (λ (machine : Machine). machine.kept) c.self.view_is) is c.make.ensures.made
+
+pub returns-in-Ok-Makes-clause-headline : goal.returns-in-Ok-Makes-clause-headline
+returns-in-Ok-Makes-clause-headline g c =
+    λ top new says. headline c.args.request.now c.args.today (g.K.Keeper.count c.args.keeper.now) (g.K.Keeper.count c.make.new.keeper) c.args.self.now.kept top c.make.new.self.kept (said c.make.result)
+    (returns-in-Ok-Makes-clause-served g c) new says
+
+pub returns-in-Err-clause-served : goal.returns-in-Err-clause-served
+returns-in-Err-clause-served g c =
+    let count = g.K.Keeper.count c.args.keeper.now in
+    serves_none c.args.request.now c.args.today count count c.args.self.now.kept c.self.inside.records (said c.no_memory.result)
+    (ap (λ (machine : Machine). machine.kept) c.self.view_is) c.no_memory.ensures

@@ -1,0 +1,49 @@
+-- What a sign-off with the grade `clean` promises of its module.
+-- Worked examples: crates/tests_core/src/desks.rt.
+use Rattle.std.specs.Prelude.{◌≡◌, ℕ, List, find, None, Ok}
+use Rattle.rtl_tree.specs.TreeModule.{Circuit}
+use Rattle.rtl_rule.specs.declared.finding.Finding.{Finding}
+use Rattle.check_all.specs.Findings.{AreAllFindings, IsClean}
+use Rattle.check_clean.specs.Promise.{IsPromised}
+use Rattle.elab_flat.specs.Flats.{DesignParts}
+use Rattle.rtl_elab.specs.Designs.{library_of}
+use Rattle.rtl_elab.specs.Elaborated.{elaborated}
+use Rattle.desk_build.specs.Building.{AreSpelled}
+use Rattle.desk_verdict.specs.Verdicts.{parts_of, queue_of}
+use Rattle.desk_files.specs.declared.files.SourceFile.{SourceFile}
+use Rattle.desk_tables.specs.Tables.{Kept}
+use Rattle.desk_tables.specs.declared.rows.Grade.TheVariants.{Clean}
+use Rattle.desk_requests.specs.Replies.{Said}
+use Rattle.desk_requests.specs.Requests.{label_of}
+use Rattle.desk_requests.specs.declared.ask.Request.{Request}
+use Rattle.desk_requests.specs.declared.ask.Ask.TheVariants.{SignOff}
+use Rattle.desk_bodies.specs.Bodies.{granted_text}
+use Rattle.desk_records.specs.Machine.{is_to}
+use Rattle.design_db.specs.Fresh.{texts_in}
+use Rattle.desk_core.specs.Files.{AreFilesOf}
+
+-- the request asks for a sign-off of the module, and no reply is kept for it
+pub record IsNewSignOff (request : Request) (kept : Kept) (top : List ℕ) : Type 0 where
+  pub asks : request.ask ≡ SignOff top
+  pub none : find (is_to request.user (label_of request.id)) kept.replies ≡ None
+
+-- the reply says that it was accepted with the grade `clean`
+pub record SaysClean (answer : Said) : Type 0 where
+  pub id : ℕ
+  pub accepted : answer.status ≡ 201
+  pub graded : answer.body ≡ granted_text Clean id
+
+-- The headline. The texts of the files of the rows spell modules, and no others; of these the
+-- module with the top's name means a flat design; none of its findings is of the first grade; and
+-- simulation agrees with synthesis on that design
+pub record IsSignedClean (kept : Kept) (top : List ℕ) : Type 0 where
+  pub files : List SourceFile
+  pub are_files : AreFilesOf kept.files files
+  pub circuits : List (List Circuit)
+  pub spelled : AreSpelled (texts_in files) circuits
+  pub design : DesignParts
+  pub flat : elaborated (library_of circuits) top ≡ Ok design
+  pub findings : List Finding
+  pub found : AreAllFindings (parts_of design) findings
+  pub clean : IsClean findings
+  pub promised : IsPromised (queue_of design)

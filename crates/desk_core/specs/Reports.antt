@@ -1,0 +1,64 @@
+-- What is told of a module on a day.
+-- Worked examples: crates/tests_core/src/desks.rt.
+use Rattle.std.specs.Prelude.{◌≡◌, ℕ, ℤ, Bool, true, false, List}
+use Rattle.desk_report.specs.Reports.{report_text}
+use Rattle.desk_files.specs.declared.files.SourceFile.{SourceFile}
+use Rattle.desk_tables.specs.Tables.{Kept}
+use Rattle.desk_verdict.specs.declared.verdict.Verdict.{Verdict as Made}
+use Rattle.desk_rulings.specs.Rulings.{Verdict, left_of, standing_of}
+use Rattle.design_db.specs.Fresh.{IsFresh, sources_in}
+use Rattle.design_db.specs.declared.answer.Answer.{Answer}
+use Rattle.design_db.specs.declared.answer.Answer.TheVariants.{Ruled, Refused}
+use Rattle.desk_core.specs.Files.{AreFilesOf}
+use Rattle.desk_core.specs.declared.report.TopReport.{TopReport}
+
+-- what the rules say of a module, as waivers and sign-offs look at it
+abbrev pub verdict_in : List SourceFile → Made → List (List ℕ) → Verdict
+verdict_in files made reached = record {
+  findings = made.ruling.findings.items;
+  told = made.told.items;
+  files = files;
+  reached = reached;
+}
+
+-- what is told of a module: the bytes, whether they are a refusal, and how many findings of the
+-- first grade have no waiver
+pub record Telling : Type 0 where
+  pub bytes : List ℕ
+  pub refused : Bool
+  pub left : ℕ
+
+-- the report of the rules with the waivers that stand on the day
+abbrev pub ruled_telling : List ℕ → ℤ → Kept → List SourceFile → Made → List (List ℕ) → Telling
+ruled_telling top today kept files made reached =
+    let verdict = verdict_in files made reached in
+    let waivers = standing_of today kept verdict in
+    record {
+      bytes = report_text top (sources_in files) verdict.findings verdict.told waivers
+          made.ruling.clean made.ruling.firm;
+      refused = false;
+      left = left_of verdict.findings waivers;
+    }
+
+-- the line of a refusal
+abbrev pub refused_telling : List ℕ → Telling
+refused_telling line = record { bytes = line; refused = true; left = 0 }
+
+-- what an answer tells on a day
+abbrev pub telling : List ℕ → ℤ → Kept → List SourceFile → Answer → Telling
+telling top today kept files (Ruled made reached) =
+    ruled_telling top today kept files made reached.items
+telling top today kept files (Refused line) = refused_telling line.items
+
+-- what is told of a module on a day: its files are those of the rows, and the answer is what they
+-- say
+pub record IsTold (top : List ℕ) (today : ℤ) (kept : Kept) (told : Telling) : Type 0 where
+  pub files : List SourceFile
+  pub are_files : AreFilesOf kept.files files
+  pub answer : Answer
+  pub fresh : IsFresh files top answer
+  pub is : told ≡ telling top today kept files answer
+
+-- what a contract sees of a report
+abbrev pub told_in : TopReport → Telling
+told_in report = record { bytes = report.bytes.items; refused = report.refused; left = report.left }

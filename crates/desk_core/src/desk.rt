@@ -1,0 +1,35 @@
+// The desk.
+ghost use Rattle.std.specs.Prelude.{◌≡◌};
+
+use design_db::Db;
+use desk_records::Records;
+use std::alloc::Global;
+use std::marker::Model;
+
+/// What the desk keeps, and its files with what they said of a module last. The files are those of
+/// its tables, and each reply that is kept is to what was accepted.
+#[derive(Drop)]
+pub struct Desk {
+    pub(crate) alloc: Global,
+    pub(crate) records: Records,
+    pub(crate) db: Db,
+}
+
+impl Model for Desk {
+    ghost use Rattle.desk_core.specs.Machine.{IsMachine, Machine};
+
+    ghost Value = { Machine };
+
+    ghost view = { λ desk. record { kept = desk.records; store = desk.db } };
+
+    ghost invariant = { λ desk. IsMachine (record { kept = desk.records; store = desk.db }) };
+}
+
+impl Desk {
+    /// The desk's files, with what they said last.
+    pub fn db(&self) -> &Db
+        ensures { result.now ≡ self.now.store }
+    {
+        &self.db
+    }
+}

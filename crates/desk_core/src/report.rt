@@ -1,0 +1,118 @@
+// What is told of a module on a day.
+ghost use Rattle.std.specs.Prelude.{◌≡◌, ◌≤◌, length, IfOk};
+ghost use Rattle.desk_places.specs.Places.{sources_of};
+ghost use Rattle.desk_tables.specs.Tables.{kept_of};
+ghost use Rattle.desk_rulings.specs.Rulings.{verdict_of};
+ghost use Rattle.design_db.specs.Fresh.{sources_in};
+ghost use Rattle.design_db.specs.Orders.{AreShort};
+ghost use Rattle.desk_core.specs.Reports.{refused_telling, ruled_telling, telling, told_in, verdict_in};
+ghost use Rattle.desk_core.specs.Steps.{IsPaired};
+
+use design_db::{Answer, SourceFile};
+use desk_places::sources::Sources;
+use desk_report::report;
+use desk_rulings::{Ruled, left, standing};
+use desk_tables::{Day, Tables};
+use desk_verdict::Verdict;
+use rtl_tree::memory::Memory;
+use rtl_tree::text::Text;
+use std::alloc::Global;
+
+/// What is told of a module on a day.
+#[derive(Drop)]
+pub struct TopReport {
+    /// The report, or the line that says why there is none.
+    pub bytes: Vec<u8>,
+    /// Whether the module has no design.
+    pub refused: bool,
+    /// How many findings of the first grade have no waiver that stands; 0 where it is refused.
+    pub left: usize,
+}
+
+// The files, as places are written of them.
+fn sources_in<'d>(alloc: Global, files: &'d [SourceFile]) -> Result<Sources<'d>, Memory>
+    requires { AreShort files.now }
+    ensures { IfOk result (λ sources. sources_of sources ≡ sources_in files.now) }
+{
+    let mut sources = Sources::empty(alloc);
+    for file in files {
+        sources.push(file.name.as_bytes(), file.text.as_bytes())?;
+    }
+    Ok(sources)
+}
+
+// A verdict, as waivers and sign-offs look at it.
+pub(crate) fn ruled_of<'d>(
+    files: &'d [SourceFile],
+    verdict: &'d Verdict,
+    reached: &'d [Text],
+) -> Ruled<'d>
+    ensures { verdict_of result ≡ verdict_in files.now verdict.now reached.now }
+{
+    Ruled {
+        findings: &verdict.ruling.findings,
+        told: &verdict.told,
+        files,
+        reached,
+    }
+}
+
+// The report of a verdict.
+fn ruled_report(
+    alloc: Global,
+    tables: &Tables,
+    ruled: &Ruled<'_>,
+    verdict: &Verdict,
+    top: &Text,
+    today: Day,
+) -> Result<TopReport, Memory>
+    requires findings { verdict.now.ruling.findings.items ≡ ruled.now.findings.now }
+    requires told { verdict.now.told.items ≡ ruled.now.told.now }
+    requires as_many { length ruled.now.findings.now ≡ length ruled.now.told.now }
+    requires short { AreShort ruled.now.files.now }
+    ensures { IfOk result (λ report. told_in report ≡ ruled_telling top.now today
+        (kept_of tables.now) ruled.now.files.now verdict.now ruled.now.reached.now) }
+{
+    let waivers = standing(alloc, ruled, tables, today)?;
+    let sources = sources_in(alloc, ruled.files)?;
+    let top = top.as_bytes();
+    let bytes = report(alloc, top, &sources, &verdict.ruling, ruled.told, &waivers)?;
+    Ok(TopReport {
+        bytes,
+        refused: false,
+        left: left(ruled.findings, &waivers),
+    })
+}
+
+fn refused_report(alloc: Global, line: &[u8]) -> Result<TopReport, Memory>
+    ensures { IfOk result (λ report. told_in report ≡ refused_telling line.now) }
+{
+    Ok(TopReport {
+        bytes: Vec::from_slice(alloc, line)?,
+        refused: true,
+        left: 0,
+    })
+}
+
+// What an answer tells of its module on a day.
+pub(crate) fn report_of(
+    alloc: Global,
+    tables: &Tables,
+    files: &[SourceFile],
+    answer: &Answer,
+    top: &Text,
+    today: Day,
+) -> Result<TopReport, Memory>
+    requires paired { IsPaired answer.now }
+    requires short { AreShort files.now }
+    ensures { IfOk result (λ report. told_in report
+        ≡ telling top.now today (kept_of tables.now) files.now answer.now) }
+{
+    match answer {
+        Answer::Ruled(verdict, reached) => {
+            let ruled = ruled_of(files, verdict, reached);
+            ruled_report(alloc, tables, &ruled, verdict, top, today)
+        }
+        Answer::Refused(line) => refused_report(alloc, line),
+    }
+}
