@@ -56,3 +56,10 @@ HoldsFrom at row (value ∷ values) = (column row at ≡ value) × HoldsFrom (at
 -- a row begins with these values
 abbrev pub Holds : Row → List Value → Type 0
 Holds row values = HoldsFrom 0 row values
+
+-- these are the rows of an answer, each in its place
+abbrev pub HoldAll : {R : Type 0} → (R → List Value) → List Row → List R → Type 0
+HoldAll columns [] [] = Unit {0}
+HoldAll columns [] (it ∷ its) = ⊥
+HoldAll columns (row ∷ rows) [] = ⊥
+HoldAll columns (row ∷ rows) (it ∷ its) = Holds row (columns it) × HoldAll columns rows its

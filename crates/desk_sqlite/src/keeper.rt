@@ -1,5 +1,5 @@
 // A keeper whose tables stand in a database.
-ghost use Rattle.std.specs.Prelude.{◌≡◌, ◌≤◌, None};
+ghost use Rattle.std.specs.Prelude.{◌≡◌, ◌≢◌, ◌≤◌, None, OnOk, IsErrOf};
 ghost use Rattle.desk_io.specs.Causes.{Rose};
 
 use crate::change::change_tables;
@@ -21,6 +21,7 @@ pub struct SqlKeeper<O: Source + Drop> {
 
 // Counts an error but want of memory, and tells it.
 fn counted(faults: &mut u64, error: Error) -> KeeperFault
+    ensures other { error ≢ Error.SqliteFailure ErrorCode.OutOfMemory → result ≡ KeeperFault.Failed }
     ensures later { faults.old ≤ faults.new }
     ensures failed { result ≡ KeeperFault.Failed → Rose faults.old faults.new }
     ensures no_memory { result ≡ KeeperFault.Memory → faults.new ≡ faults.old }
@@ -51,7 +52,8 @@ fn load_from<O: Source>(
 impl<O: Source + Drop> SqlKeeper<O> {
     /// A keeper of the database that a source opens. It opens none yet.
     pub fn new(alloc: Global, source: O) -> Self
-        ensures { result.faults ≡ 0 }
+        ensures faults { result.faults ≡ 0 }
+        ensures unopened { result.connection ≡ None }
     {
         SqlKeeper {
             alloc,
@@ -81,7 +83,13 @@ impl<O: Source + Drop> Keeper for SqlKeeper<O> {
     }
 
     /// Does one change whole, or leaves the tables. Before any `load` it is a fault.
-    fn commit(&mut self, change: &Change) -> Result<(), KeeperFault> {
+    fn commit(&mut self, change: &Change) -> Result<(), KeeperFault>
+        ensures unopened { self.old.connection ≡ None → IsErrOf result KeeperFault.Failed }
+        ensures later { self.old.faults ≤ self.new.faults }
+        ensures failed { IsErrOf result KeeperFault.Failed → Rose self.old.faults self.new.faults }
+        ensures no_memory { IsErrOf result KeeperFault.Memory → self.new.faults ≡ self.old.faults }
+        ensures calm { OnOk result (self.new.faults ≡ self.old.faults) }
+    {
         let changed = match &mut self.connection {
             Some(conn) => change_tables(conn, change),
             None => Err(Error::SqliteFailure(ErrorCode::CannotOpen)),

@@ -1,7 +1,7 @@
 // The rows of the tables, as queries give them.
 ghost use Rattle.std.specs.Prelude.{List, IfOk};
 ghost use Rattle.sqlite_value.specs.declared.value.Value.{Value};
-ghost use Rattle.desk_sqlite.specs.Columns.{Holds, file_columns, meta_columns, reply_columns, signoff_columns, waiver_columns};
+ghost use Rattle.desk_sqlite.specs.Columns.{Holds, HoldAll, file_columns, meta_columns, reply_columns, signoff_columns, waiver_columns};
 
 use crate::values::{
     blob_at, day_at, digest_at, end_at, grade_at, name_at, number_at, status_at, text_at,
@@ -10,13 +10,23 @@ use desk_tables::{FileRow, MetaRow, ReplyRow, SignOffRow, Tables, WaiverId, Waiv
 use sqlite::{Alter, Connection, Error, Row};
 use std::alloc::Global;
 
+// All rows of a table, in their order.
+const META: &str = "SELECT version FROM meta ORDER BY rowid";
+
+const FILES: &str = "SELECT name, text, digest, editor FROM files ORDER BY rowid";
+
+const WAIVERS: &str =
+    "SELECT id, top, rule, target, file, at, digest, owner, asker, reason, last_day, ended \
+     FROM waivers ORDER BY rowid";
+
+const SIGNOFFS: &str = "SELECT id, top, who, day, grade, reach FROM signoffs ORDER BY rowid";
+
+const REPLIES: &str = "SELECT user, request, digest, status, body FROM replies ORDER BY rowid";
+
 // A row of a table.
 trait Stored: Drop {
     // Its columns.
     ghost columns: { Self → List Value };
-
-    // All rows of the table, in their order.
-    const QUERY: &'static str;
 
     // What a row of the query's answer holds; an error where the type of a column can't hold its value.
     fn read(alloc: Global, row: &Row) -> Result<Self, Error>
@@ -25,8 +35,6 @@ trait Stored: Drop {
 
 impl Stored for MetaRow {
     ghost columns = { meta_columns };
-
-    const QUERY: &'static str = "SELECT version FROM meta ORDER BY rowid";
 
     fn read(_alloc: Global, row: &Row) -> Result<Self, Error> {
         Ok(MetaRow {
@@ -37,8 +45,6 @@ impl Stored for MetaRow {
 
 impl Stored for FileRow {
     ghost columns = { file_columns };
-
-    const QUERY: &'static str = "SELECT name, text, digest, editor FROM files ORDER BY rowid";
 
     fn read(alloc: Global, row: &Row) -> Result<Self, Error> {
         Ok(FileRow {
@@ -52,10 +58,6 @@ impl Stored for FileRow {
 
 impl Stored for WaiverRow {
     ghost columns = { waiver_columns };
-
-    const QUERY: &'static str =
-        "SELECT id, top, rule, target, file, at, digest, owner, asker, reason, last_day, ended \
-         FROM waivers ORDER BY rowid";
 
     fn read(alloc: Global, row: &Row) -> Result<Self, Error> {
         Ok(WaiverRow {
@@ -78,9 +80,6 @@ impl Stored for WaiverRow {
 impl Stored for SignOffRow {
     ghost columns = { signoff_columns };
 
-    const QUERY: &'static str =
-        "SELECT id, top, who, day, grade, reach FROM signoffs ORDER BY rowid";
-
     fn read(alloc: Global, row: &Row) -> Result<Self, Error> {
         Ok(SignOffRow {
             id: number_at(row, 0)?,
@@ -96,9 +95,6 @@ impl Stored for SignOffRow {
 impl Stored for ReplyRow {
     ghost columns = { reply_columns };
 
-    const QUERY: &'static str =
-        "SELECT user, request, digest, status, body FROM replies ORDER BY rowid";
-
     fn read(alloc: Global, row: &Row) -> Result<Self, Error> {
         Ok(ReplyRow {
             user: name_at(row, 0)?,
@@ -111,7 +107,10 @@ impl Stored for ReplyRow {
 }
 
 // What these rows of an answer hold.
-fn read_all<R: Stored>(alloc: Global, answer: &[Row]) -> Result<Vec<R>, Error> {
+#[tactic(auto, using(crate::proofs::HoldMore::hold_more, std::proofs::lemmas::List::take_more, std::proofs::lemmas::List::take_all))]
+fn read_all<R: Stored>(alloc: Global, answer: &[Row]) -> Result<Vec<R>, Error>
+    ensures { IfOk result (λ rows. HoldAll R.columns answer.now rows.items) }
+{
     let mut rows = Vec::new(alloc);
     for row in answer {
         rows.push(R::read(alloc, row)?)?;
@@ -119,12 +118,13 @@ fn read_all<R: Stored>(alloc: Global, answer: &[Row]) -> Result<Vec<R>, Error> {
     Ok(rows)
 }
 
-// All rows of a table.
+// The rows that a query shows.
 fn table_rows<S: Alter, R: Stored>(
     alloc: Global,
     conn: &mut Connection<S>,
+    query: &str,
 ) -> Result<Vec<R>, Error> {
-    let answer = conn.query_all(R::QUERY, &[])?;
+    let answer = conn.query_all(query, &[])?;
     read_all(alloc, &answer)
 }
 
@@ -134,10 +134,10 @@ pub(crate) fn read_tables<S: Alter>(
     conn: &mut Connection<S>,
 ) -> Result<Tables, Error> {
     Ok(Tables {
-        meta: table_rows(alloc, conn)?,
-        files: table_rows(alloc, conn)?,
-        waivers: table_rows(alloc, conn)?,
-        signoffs: table_rows(alloc, conn)?,
-        replies: table_rows(alloc, conn)?,
+        meta: table_rows(alloc, conn, META)?,
+        files: table_rows(alloc, conn, FILES)?,
+        waivers: table_rows(alloc, conn, WAIVERS)?,
+        signoffs: table_rows(alloc, conn, SIGNOFFS)?,
+        replies: table_rows(alloc, conn, REPLIES)?,
     })
 }

@@ -1,4 +1,5 @@
 // Where a keeper has its connection from.
+ghost use Rattle.std.specs.Prelude.{◌≡◌, Some, None, IsErr, MatchOption};
 
 use sqlite::{Alter, Connection, Error, ErrorCode, File, FileStore};
 
@@ -41,7 +42,9 @@ pub struct Adopted<S: Alter + Drop> {
 
 impl<S: Alter + Drop> Adopted<S> {
     /// Hands this connection on.
-    pub fn new(connection: Connection<S>) -> Self {
+    pub fn new(connection: Connection<S>) -> Self
+        ensures { result.connection ≡ Some connection }
+    {
         Adopted {
             connection: Some(connection),
         }
@@ -51,7 +54,10 @@ impl<S: Alter + Drop> Adopted<S> {
 impl<S: Alter + Drop> Source for Adopted<S> {
     type Store = S;
 
-    fn open(&mut self) -> Result<Connection<S>, Error> {
+    fn open(&mut self) -> Result<Connection<S>, Error>
+        ensures handed { MatchOption self.old.connection (IsErr result) (λ held. result ≡ Ok held) }
+        ensures once { self.new.connection ≡ None }
+    {
         match self.connection.take() {
             Some(connection) => Ok(connection),
             None => Err(Error::SqliteFailure(ErrorCode::CannotOpen)),
