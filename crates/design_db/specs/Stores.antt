@@ -1,5 +1,5 @@
 -- The files of the desk with the last answer: what contracts see of them.
--- Worked examples: proofs/Example.antt, crates/tests_core/src/rulings.rt.
+-- Worked examples: proofs/Example.antt, crates/tests_exchanges/src/rows.rt.
 use Rattle.std.specs.Prelude.{ℕ, List, Option, Some, None, IfSome, bytes_eq, if◌then◌else◌}
 use Rattle.std.specs.Option.{option_and_then}
 use Rattle.desk_files.specs.declared.files.SourceFile.{SourceFile}

@@ -1,5 +1,5 @@
 -- What each request comes to, with what the files say where the tables alone don't settle it.
--- Worked examples: crates/tests_core/src/desks.rt.
+-- Worked examples: crates/tests_exchanges/src/rows.rt.
 use Rattle.std.specs.Prelude.{◌≡◌, ℕ, ℤ, List, Option, Some, None, if◌then◌else◌}
 use Rattle.desk_files.specs.declared.files.SourceFile.{SourceFile}
 use Rattle.desk_tables.specs.Tables.{Kept}

@@ -1,5 +1,5 @@
 -- What is told of a module on a day.
--- Worked examples: crates/tests_core/src/desks.rt.
+-- Worked examples: crates/tests_exchanges/src/rows.rt.
 use Rattle.std.specs.Prelude.{◌≡◌, ℕ, ℤ, Bool, true, false, List}
 use Rattle.desk_report.specs.Reports.{report_text}
 use Rattle.desk_files.specs.declared.files.SourceFile.{SourceFile}

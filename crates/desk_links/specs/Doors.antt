@@ -1,5 +1,5 @@
 -- Links that come through a door.
--- Worked examples: crates/tests_links/src/outside.rt.
+-- Worked examples: crates/tests_exchanges/src/failing.rt.
 use Rattle.std.specs.Prelude.{◌≡◌, ℕ, List, [], ◌∷◌, ◌++◌, Option, None, Some, ⊤}
 use Rattle.desk_links.specs.Links.{Talk, fresh_talk}
 

@@ -1,7 +1,8 @@
-//! Databases in memory, keepers over them, and the values of rows.
+//! Databases in memory, keepers over them, and what is done to them. A keeper and tables stand in boxes: they are
+//! large, and each place where a test may end lets them go.
 
 use desk_sqlite::{Adopted, SqlKeeper};
-use desk_tables::{Day, Digest, Keeper, KeeperFault, Name, ReplyRow, Tables};
+use desk_tables::{Change, Day, Digest, Keeper, KeeperFault, Name, ReplyRow, Tables};
 use rtl_tree::text::Text;
 use sqlite::{Connection, MemStore};
 use std::alloc::Global;
@@ -10,24 +11,57 @@ use std::test::Fail;
 /// A keeper over a database in memory.
 pub type MemoryDatabase = SqlKeeper<Adopted<MemStore>>;
 
-/// A keeper over a database in memory that these statements make.
-pub fn keeper_over(alloc: Global, sql: &str) -> Result<MemoryDatabase, Fail> {
+// A database in memory that these statements make.
+fn database(alloc: Global, sql: &str) -> Result<Connection<MemStore>, Fail> {
     let mut connection = Connection::open_in_memory(alloc)?;
     connection.execute_batch(sql)?;
-    Ok(SqlKeeper::new(alloc, Adopted::new(connection)))
+    Ok(connection)
+}
+
+/// A keeper over a database in memory that these statements make.
+pub fn keeper_over(alloc: Global, sql: &str) -> Result<Box<MemoryDatabase>, Fail> {
+    let keeper = SqlKeeper::new(alloc, Adopted::new(database(alloc, sql)?));
+    match Box::new(alloc, keeper) {
+        Ok(keeper) => Ok(keeper),
+        Err(_) => Err(Fail::new("no memory")),
+    }
 }
 
 /// What a keeper loads.
-pub fn loaded(keeper: &mut MemoryDatabase) -> Result<Tables, Fail> {
+pub fn loaded(alloc: Global, keeper: &mut MemoryDatabase) -> Result<Box<Tables>, Fail> {
     match keeper.load() {
-        Ok(tables) => Ok(tables),
+        Ok(tables) => match Box::new(alloc, tables) {
+            Ok(tables) => Ok(tables),
+            Err(_) => Err(Fail::new("no memory")),
+        },
         Err(_) => Err(Fail::new("not loaded")),
     }
 }
 
-/// Whether a load fails.
-pub fn fails(keeper: &mut MemoryDatabase) -> bool {
-    matches!(keeper.load(), Err(KeeperFault::Failed))
+/// Whether a load succeeds.
+pub fn loads(keeper: &mut MemoryDatabase) -> bool {
+    keeper.load().is_ok()
+}
+
+/// Whether a load fails, and that is the fault of this number.
+pub fn fails(keeper: &mut MemoryDatabase, number: u64) -> bool {
+    matches!(keeper.load(), Err(KeeperFault::Failed)) && keeper.faults() == number
+}
+
+/// Whether a change is made.
+pub fn is_made(keeper: &mut MemoryDatabase, change: Change) -> bool {
+    keeper.commit(&change).is_ok()
+}
+
+/// How many rows the tables have, in the order of the tables.
+pub fn counts(tables: &Tables) -> [usize; 5] {
+    [
+        tables.meta.len(),
+        tables.files.len(),
+        tables.waivers.len(),
+        tables.signoffs.len(),
+        tables.replies.len(),
+    ]
 }
 
 pub fn text(alloc: Global, bytes: &[u8]) -> Result<Text, Fail> {

@@ -1,79 +1,77 @@
 //! Each kind of change, and what is loaded after it.
 
-use crate::base::{MemoryDatabase, day, digest, keeper_over, loaded, name, reply, text};
+use crate::base::{
+    MemoryDatabase, counts, day, digest, is_made, keeper_over, loaded, loads, name, reply, text,
+};
 use desk_tables::{Change, FileRow, Grade, Keeper, SignOffRow, Tables, WaiverId, WaiverRow};
 use std::alloc::Global;
 use std::test::Fail;
+
+fn file(alloc: Global, name_of: &[u8], bytes: &[u8]) -> Result<FileRow, Fail> {
+    Ok(FileRow {
+        name: text(alloc, name_of)?,
+        text: text(alloc, bytes)?,
+        digest: digest(1),
+        editor: name(b"jo")?,
+    })
+}
 
 // Puts a text as a file.
 fn put(
     alloc: Global,
     keeper: &mut MemoryDatabase,
     request: &[u8],
-    file: &[u8],
+    name: &[u8],
     bytes: &[u8],
 ) -> Result<bool, Fail> {
-    let row = FileRow {
-        name: text(alloc, file)?,
-        text: text(alloc, bytes)?,
-        digest: digest(1),
-        editor: name(b"jo")?,
-    };
-    let change = Change::PutFile(row, reply(alloc, request)?);
-    Ok(keeper.commit(&change).is_ok())
+    let reply = reply(alloc, request)?;
+    let row = file(alloc, name, bytes)?;
+    Ok(is_made(keeper, Change::PutFile(row, reply)))
 }
 
 fn drop_file(
     alloc: Global,
     keeper: &mut MemoryDatabase,
     request: &[u8],
-    file: &[u8],
+    name: &[u8],
 ) -> Result<bool, Fail> {
-    let change = Change::DropFile(text(alloc, file)?, reply(alloc, request)?);
-    Ok(keeper.commit(&change).is_ok())
+    let reply = reply(alloc, request)?;
+    let name = text(alloc, name)?;
+    Ok(is_made(keeper, Change::DropFile(name, reply)))
 }
 
-// The names of the files, each with a line feed.
-fn file_names(alloc: Global, tables: &Tables) -> Result<Vec<u8>, Fail> {
-    let mut names = Vec::new(alloc);
-    for file in &tables.files {
-        names.extend_from_slice(file.name.as_bytes())?;
-        names.push(b'\n')?;
-    }
-    Ok(names)
+// The counts of the rows that a keeper loads.
+fn counted(alloc: Global, keeper: &mut MemoryDatabase) -> Result<[usize; 5], Fail> {
+    let tables = loaded(alloc, keeper)?;
+    Ok(counts(&tables))
 }
 
-// How many rows the tables have, in the order of the tables.
-fn counts(tables: &Tables) -> [usize; 5] {
-    [
-        tables.meta.len(),
-        tables.files.len(),
-        tables.waivers.len(),
-        tables.signoffs.len(),
-        tables.replies.len(),
-    ]
+// The rows of an empty database, loaded twice.
+fn counted_twice(alloc: Global) -> Result<([usize; 5], [usize; 5]), Fail> {
+    let mut keeper = keeper_over(alloc, "")?;
+    let once = counted(alloc, &mut keeper)?;
+    Ok((once, counted(alloc, &mut keeper)?))
 }
 
 #[test]
 fn an_empty_database_becomes_a_new_one(rt: HostRuntime) -> Result<(), Fail> {
-    let mut keeper = keeper_over(rt.alloc(), "")?;
-    let tables = loaded(&mut keeper)?;
-    assert_eq!(rt; counts(&tables), [1, 0, 0, 0, 0]);
-    let again = loaded(&mut keeper)?;
-    assert_eq!(rt; counts(&again), [1, 0, 0, 0, 0]);
-    assert_eq!(rt; again.meta.len(), 1);
-    assert_eq!(rt; again.meta[0].version, 1);
-    assert_eq!(rt; keeper.faults(), 0);
+    assert_eq!(rt;
+        counted_twice(rt.alloc())?,
+        ([1, 0, 0, 0, 0], [1, 0, 0, 0, 0])
+    );
     Ok(())
+}
+
+// Whether nothing is committed before a load.
+fn is_refused_before(alloc: Global) -> Result<bool, Fail> {
+    let mut keeper = keeper_over(alloc, "")?;
+    let made = put(alloc, &mut keeper, b"1", b"a.v", b"x")?;
+    Ok(!made && keeper.faults() == 1 && counted(alloc, &mut keeper)? == [1, 0, 0, 0, 0])
 }
 
 #[test]
 fn nothing_is_committed_before_a_load(rt: HostRuntime) -> Result<(), Fail> {
-    let mut keeper = keeper_over(rt.alloc(), "")?;
-    assert_eq!(rt; put(rt.alloc(), &mut keeper, b"1", b"a.v", b"x")?, false);
-    assert_eq!(rt; keeper.faults(), 1);
-    let tables = loaded(&mut keeper)?;
-    assert_eq!(rt; counts(&tables), [1, 0, 0, 0, 0]);
+    assert_eq!(rt; is_refused_before(rt.alloc())?, true);
     Ok(())
 }
 
@@ -87,33 +85,45 @@ fn put_and_drop(alloc: Global, keeper: &mut MemoryDatabase) -> Result<bool, Fail
     Ok(first && second && third && again && dropped)
 }
 
+// Whether the first file is the one that was put twice, and another stands behind it.
+fn are_put(tables: &Tables) -> bool {
+    match tables.files.as_slice() {
+        [first, second] => {
+            first.name.as_bytes() == b"b.v".as_slice()
+                && first.text.as_bytes() == b"\xff four".as_slice()
+                && first.digest == digest(1)
+                && first.editor.as_bytes() == b"jo".as_slice()
+                && second.name.as_bytes() == b"c.v".as_slice()
+        }
+        _ => false,
+    }
+}
+
+fn keeps_its_place(alloc: Global) -> Result<bool, Fail> {
+    let mut keeper = keeper_over(alloc, "")?;
+    let made = loads(&mut keeper) && put_and_drop(alloc, &mut keeper)?;
+    let tables = loaded(alloc, &mut keeper)?;
+    Ok(made && are_put(&tables) && counts(&tables) == [1, 2, 0, 0, 5])
+}
+
 #[test]
 fn a_replaced_file_keeps_its_place(rt: HostRuntime) -> Result<(), Fail> {
-    let mut keeper = keeper_over(rt.alloc(), "")?;
-    let _new = loaded(&mut keeper)?;
-    assert_eq!(rt; put_and_drop(rt.alloc(), &mut keeper)?, true);
-    let tables = loaded(&mut keeper)?;
-    assert_eq!(rt; counts(&tables), [1, 2, 0, 0, 5]);
-    let names = file_names(rt.alloc(), &tables)?;
-    assert_eq!(rt; names.as_slice(), b"b.v\nc.v\n".as_slice());
-    assert_eq!(rt; tables.files.len(), 2);
-    let file = &tables.files[0];
-    assert_eq!(rt; file.text.as_bytes(), b"\xff four".as_slice());
-    assert_eq!(rt; file.digest, digest(1));
-    assert_eq!(rt; file.editor.as_bytes(), b"jo".as_slice());
+    assert_eq!(rt; keeps_its_place(rt.alloc())?, true);
     Ok(())
+}
+
+// Whether a change goes back whose reply is there already.
+fn goes_back(alloc: Global) -> Result<bool, Fail> {
+    let mut keeper = keeper_over(alloc, "")?;
+    let made = loads(&mut keeper) && put(alloc, &mut keeper, b"1", b"a.v", b"one")?;
+    let refused = !put(alloc, &mut keeper, b"1", b"b.v", b"two")? && keeper.faults() == 1;
+    let same = counted(alloc, &mut keeper)? == [1, 1, 0, 0, 1];
+    Ok(made && refused && same && put(alloc, &mut keeper, b"2", b"b.v", b"two")?)
 }
 
 #[test]
 fn a_refused_reply_takes_its_row_back(rt: HostRuntime) -> Result<(), Fail> {
-    let mut keeper = keeper_over(rt.alloc(), "")?;
-    let _new = loaded(&mut keeper)?;
-    assert_eq!(rt; put(rt.alloc(), &mut keeper, b"1", b"a.v", b"one")?, true);
-    assert_eq!(rt; put(rt.alloc(), &mut keeper, b"1", b"b.v", b"two")?, false);
-    assert_eq!(rt; keeper.faults(), 1);
-    let tables = loaded(&mut keeper)?;
-    assert_eq!(rt; counts(&tables), [1, 1, 0, 0, 1]);
-    assert_eq!(rt; put(rt.alloc(), &mut keeper, b"2", b"b.v", b"two")?, true);
+    assert_eq!(rt; goes_back(rt.alloc())?, true);
     Ok(())
 }
 
@@ -134,44 +144,69 @@ fn waiver(alloc: Global, id: u32) -> Result<WaiverRow, Fail> {
     })
 }
 
+fn grant(
+    alloc: Global,
+    keeper: &mut MemoryDatabase,
+    request: &[u8],
+    id: u32,
+) -> Result<bool, Fail> {
+    let reply = reply(alloc, request)?;
+    let row = waiver(alloc, id)?;
+    Ok(is_made(keeper, Change::Grant(row, reply)))
+}
+
+fn revoke(alloc: Global, keeper: &mut MemoryDatabase, id: u32) -> Result<bool, Fail> {
+    let day = day(-1)?;
+    let reply = reply(alloc, b"revoke")?;
+    Ok(is_made(keeper, Change::Revoke(WaiverId(id), day, reply)))
+}
+
 // Grants two waivers, and revokes the second.
 fn grant_and_revoke(alloc: Global, keeper: &mut MemoryDatabase) -> Result<bool, Fail> {
-    let first = Change::Grant(waiver(alloc, 1)?, reply(alloc, b"1")?);
-    let second = Change::Grant(waiver(alloc, 2)?, reply(alloc, b"2")?);
-    let revoked = Change::Revoke(WaiverId(2), day(-1)?, reply(alloc, b"3")?);
-    Ok(
-        keeper.commit(&first).is_ok()
-            && keeper.commit(&second).is_ok()
-            && keeper.commit(&revoked).is_ok(),
-    )
+    let first = grant(alloc, keeper, b"1", 1)?;
+    let second = grant(alloc, keeper, b"2", 2)?;
+    Ok(first && second && revoke(alloc, keeper, 2)?)
+}
+
+// Whether a row has the texts of the waiver that was granted.
+fn has_texts(row: &WaiverRow) -> bool {
+    row.top.as_bytes() == b"top".as_slice()
+        && row.rule.as_bytes() == b"X1".as_slice()
+        && row.target.as_bytes() == b"u.q".as_slice()
+        && row.file.as_bytes() == b"a.v".as_slice()
+        && row.owner.as_bytes() == b"al".as_slice()
+        && row.asker.as_bytes() == b"jo".as_slice()
+        && row.reason.as_bytes() == b"\"why\"\n".as_slice()
 }
 
 // Whether a row is the waiver that was granted, revoked on this day.
 fn is_granted(row: &WaiverRow, id: u32, ended: Option<i32>) -> bool {
+    let revoked = row.ended.map(|day| day.number());
     row.id.0 == id
-        && row.top.as_bytes() == b"top".as_slice()
-        && row.rule.as_bytes() == b"X1".as_slice()
-        && row.target.as_bytes() == b"u.q".as_slice()
-        && row.file.as_bytes() == b"a.v".as_slice()
         && row.at == 4_294_967_295
         && row.digest == digest(2)
-        && row.owner.as_bytes() == b"al".as_slice()
-        && row.asker.as_bytes() == b"jo".as_slice()
-        && row.reason.as_bytes() == b"\"why\"\n".as_slice()
         && row.last_day.number() == 20_785
-        && row.ended.map(|day| day.number()) == ended
+        && revoked == ended
+        && has_texts(row)
+}
+
+fn are_granted(tables: &Tables) -> bool {
+    match tables.waivers.as_slice() {
+        [first, second] => is_granted(first, 1, None) && is_granted(second, 2, Some(-1)),
+        _ => false,
+    }
+}
+
+fn grants_and_revokes(alloc: Global) -> Result<bool, Fail> {
+    let mut keeper = keeper_over(alloc, "")?;
+    let made = loads(&mut keeper) && grant_and_revoke(alloc, &mut keeper)?;
+    let tables = loaded(alloc, &mut keeper)?;
+    Ok(made && are_granted(&tables) && counts(&tables) == [1, 0, 2, 0, 3])
 }
 
 #[test]
 fn waivers_are_granted_and_revoked(rt: HostRuntime) -> Result<(), Fail> {
-    let mut keeper = keeper_over(rt.alloc(), "")?;
-    let _new = loaded(&mut keeper)?;
-    assert_eq!(rt; grant_and_revoke(rt.alloc(), &mut keeper)?, true);
-    let tables = loaded(&mut keeper)?;
-    assert_eq!(rt; counts(&tables), [1, 0, 2, 0, 3]);
-    assert_eq!(rt; tables.waivers.len(), 2);
-    assert_eq!(rt; is_granted(&tables.waivers[0], 1, None), true);
-    assert_eq!(rt; is_granted(&tables.waivers[1], 2, Some(-1)), true);
+    assert_eq!(rt; grants_and_revokes(rt.alloc())?, true);
     Ok(())
 }
 
@@ -186,41 +221,49 @@ fn signoff(alloc: Global, id: u32, grade: Grade) -> Result<SignOffRow, Fail> {
     })
 }
 
-fn sign_off_twice(alloc: Global, keeper: &mut MemoryDatabase) -> Result<bool, Fail> {
-    let first = Change::SignOff(signoff(alloc, 1, Grade::Waived)?, reply(alloc, b"1")?);
-    let second = Change::SignOff(signoff(alloc, 2, Grade::Clean)?, reply(alloc, b"2")?);
-    Ok(keeper.commit(&first).is_ok() && keeper.commit(&second).is_ok())
+fn sign(
+    alloc: Global,
+    keeper: &mut MemoryDatabase,
+    request: &[u8],
+    id: u32,
+    grade: Grade,
+) -> Result<bool, Fail> {
+    let reply = reply(alloc, request)?;
+    let row = signoff(alloc, id, grade)?;
+    Ok(is_made(keeper, Change::SignOff(row, reply)))
+}
+
+fn is_signed(row: &SignOffRow, id: u32, grade: Grade) -> bool {
+    row.id == id && row.grade == grade && row.day.number() == -719_528 && row.reach == digest(3)
+}
+
+// Whether the tables have two sign-offs, and the replies to both.
+fn are_signed(tables: &Tables) -> bool {
+    match (tables.signoffs.as_slice(), tables.replies.as_slice()) {
+        ([first, second], [reply, _]) => {
+            is_signed(first, 1, Grade::Waived)
+                && is_signed(second, 2, Grade::Clean)
+                && reply.user.as_bytes() == b"jo".as_slice()
+                && reply.request.as_bytes() == b"1".as_slice()
+                && reply.digest == digest(9)
+                && reply.status == 201
+                && reply.body.as_bytes() == b"{\"id\":1}".as_slice()
+        }
+        _ => false,
+    }
+}
+
+fn signs_twice(alloc: Global) -> Result<bool, Fail> {
+    let mut keeper = keeper_over(alloc, "")?;
+    let loaded_first = loads(&mut keeper);
+    let first = sign(alloc, &mut keeper, b"1", 1, Grade::Waived)?;
+    let second = sign(alloc, &mut keeper, b"2", 2, Grade::Clean)?;
+    let tables = loaded(alloc, &mut keeper)?;
+    Ok(loaded_first && first && second && are_signed(&tables))
 }
 
 #[test]
 fn modules_are_signed_off(rt: HostRuntime) -> Result<(), Fail> {
-    let mut keeper = keeper_over(rt.alloc(), "")?;
-    let _new = loaded(&mut keeper)?;
-    assert_eq!(rt; sign_off_twice(rt.alloc(), &mut keeper)?, true);
-    let tables = loaded(&mut keeper)?;
-    assert_eq!(rt; counts(&tables), [1, 0, 0, 2, 2]);
-    assert_eq!(rt; tables.signoffs.len(), 2);
-    let row = &tables.signoffs[0];
-    assert_eq!(rt; row.id, 1);
-    assert_eq!(rt; row.grade, Grade::Waived);
-    assert_eq!(rt; row.day.number(), -719_528);
-    assert_eq!(rt; row.reach, digest(3));
-    assert_eq!(rt; tables.signoffs[1].grade, Grade::Clean);
-    Ok(())
-}
-
-#[test]
-fn a_reply_is_kept(rt: HostRuntime) -> Result<(), Fail> {
-    let mut keeper = keeper_over(rt.alloc(), "")?;
-    let _new = loaded(&mut keeper)?;
-    assert_eq!(rt; put(rt.alloc(), &mut keeper, b"put-1", b"a.v", b"")?, true);
-    let tables = loaded(&mut keeper)?;
-    assert_eq!(rt; tables.replies.len(), 1);
-    let row = &tables.replies[0];
-    assert_eq!(rt; row.user.as_bytes(), b"jo".as_slice());
-    assert_eq!(rt; row.request.as_bytes(), b"put-1".as_slice());
-    assert_eq!(rt; row.digest, digest(9));
-    assert_eq!(rt; row.status, 201);
-    assert_eq!(rt; row.body.as_bytes(), b"{\"id\":1}".as_slice());
+    assert_eq!(rt; signs_twice(rt.alloc())?, true);
     Ok(())
 }

@@ -1,0 +1,32 @@
+use Rattle.std.proofs.Common.{Ok, Err, ap}
+use Rattle.desk_requests.specs.Replies.{said}
+use Rattle.desk_server.specs.Exchanges.{around}
+use Rattle.desk_server.specs.Hearing.{IsHeard}
+use Rattle.desk_server.specs.declared.hear.Unheard.{Unheard}
+use Rattle.desk_server.proofs.Connecting.{connected_none, connected_reply}
+use Rattle.desk_server.proofs.exchange.connection.Goals as goal
+
+pub returns-in-Ok-clause-connected : goal.returns-in-Ok-clause-connected
+returns-in-Ok-clause-connected g c =
+    connected_reply (g.L.Link.talk c.args.link.now) (g.L.Link.talk c.hear_request.new.link) (g.L.Link.talk c.give.new.link)
+    (Ok c.in-Ok.request) c.give.result
+    (g.L.Link.faults c.args.link.now) (g.L.Link.faults c.hear_request.new.link) (g.L.Link.faults c.give.new.link)
+    _ _ _ _ (said c.serve_today.result) c.in-Ok.ensures.heard c.hear_request.ensures.later
+    c.serve_today.ensures.reply c.give.ensures.delivered
+
+pub returns-in-Some-clause-connected : goal.returns-in-Some-clause-connected
+returns-in-Some-clause-connected g c =
+    connected_reply (g.L.Link.talk c.args.link.now) (g.L.Link.talk c.hear_request.new.link) (g.L.Link.talk c.give-in-Some.new.link)
+    (Err c.in-Err.unheard) c.give-in-Some.result
+    (g.L.Link.faults c.args.link.now) (g.L.Link.faults c.hear_request.new.link) (g.L.Link.faults c.give-in-Some.new.link)
+    (around (g.C.Clock.days c.args.clock.now) (g.C.Clock.faults c.args.clock.now) (g.K.Keeper.count c.args.keeper.now))
+    (around (g.C.Clock.days c.args.clock.now) (g.C.Clock.faults c.args.clock.now) (g.K.Keeper.count c.args.keeper.now))
+    c.args.desk.now.kept c.args.desk.now.kept (said c.in-Some.reply) c.in-Err.ensures.heard c.hear_request.ensures.later
+    (λ input heard. c.in-Some.ensures.reply input _ _ heard) c.give-in-Some.ensures.delivered
+
+pub returns-in-None-clause-connected : goal.returns-in-None-clause-connected
+returns-in-None-clause-connected g c =
+    connected_none (g.L.Link.talk c.args.link.now) (g.L.Link.talk c.hear_request.new.link)
+    (IsHeard (Err c.in-Err.unheard)) (g.L.Link.faults c.args.link.now) (g.L.Link.faults c.hear_request.new.link)
+    (around (g.C.Clock.days c.args.clock.now) (g.C.Clock.faults c.args.clock.now) (g.K.Keeper.count c.args.keeper.now))
+    c.args.desk.now.kept c.in-Err.ensures.heard (c.in-Err.ensures.failed (ap (λ (why : Unheard). Err why) c.in-None.ensures.none))

@@ -1,0 +1,5 @@
+use Rattle.desk_server.proofs.Headlines.{asked_same}
+use Rattle.desk_server.proofs.law.asked_once.Goals as goal
+
+pub returns : goal.returns
+returns c = asked_same

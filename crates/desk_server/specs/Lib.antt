@@ -1,0 +1,4 @@
+pub mod Exchanges
+pub mod Connections
+pub mod Servings
+pub mod Hearing

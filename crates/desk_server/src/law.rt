@@ -1,0 +1,23 @@
+// Laws: an input asks one thing, and a sign-off that is told to be clean is.
+ghost use Rattle.std.specs.Prelude.{◌≡◌, ℕ, List};
+ghost use Rattle.desk_tables.specs.Tables.{Kept};
+ghost use Rattle.desk_requests.specs.Replies.{Said};
+ghost use Rattle.desk_requests.specs.declared.ask.Request.{Request};
+ghost use Rattle.desk_core.specs.Headline.{IsNewSignOff, IsSignedClean, SaysClean};
+ghost use Rattle.desk_server.specs.Exchanges.{Around, Asked, Asks, IsAsked, IsReply};
+
+/// Of an input at most one thing is said to be asked.
+pub fn asked_once()
+    ensures { (input : List ℕ) (asked other : Asked) → IsAsked input asked
+        → IsAsked input other → asked ≡ other }
+{}
+
+/// The headline. Where an input asks for a sign-off of a module, and no reply is kept for it, and
+/// the reply says that it was accepted with the grade `clean`, the module is signed clean: what
+/// simulation shows of it is what its hardware shows.
+pub fn signed_clean()
+    ensures { (input : List ℕ) (before after : Around) (kept later : Kept) (answer : Said)
+        (request : Request) (top : List ℕ) → IsReply input before after kept later answer
+        → IsAsked input (Asks request) → IsNewSignOff request kept top → SaysClean answer
+        → IsSignedClean kept top }
+{}

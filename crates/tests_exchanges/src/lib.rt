@@ -1,0 +1,11 @@
+//! A desk over links in memory, as clients see it.
+#![tactic(auto)]
+
+#[cfg(test)]
+mod bytes;
+#[cfg(test)]
+mod failing;
+#[cfg(test)]
+mod rows;
+#[cfg(test)]
+mod server;
