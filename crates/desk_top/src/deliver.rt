@@ -177,8 +177,8 @@ pub fn deliver<S: Sink>(ending: Ending, bytes: &[u8], out: &mut S) -> u8
     }
 }
 
-// Writes until all the bytes are taken.
-pub(crate) fn write_whole<S: Sink>(bytes: &[u8], out: &mut S) -> Result<(), Failed>
+/// Writes until all the bytes are taken. At an error a front of them was.
+pub fn write_whole<S: Sink>(bytes: &[u8], out: &mut S) -> Result<(), Failed>
     ensures whole { OnOk result (Appends (S.taken out.old) (S.taken out.new) bytes.now) }
     ensures front { FrontAppended (S.taken out.old) (S.taken out.new) bytes.now }
     ensures some_bytes { OnErr result (0 < length bytes.now) }

@@ -1,0 +1,5 @@
+pub mod Sourced
+pub mod Started
+pub mod Served
+pub mod Told
+pub mod Commanded

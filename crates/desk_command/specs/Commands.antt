@@ -1,0 +1,126 @@
+-- What commands over the tables answer.
+-- Worked examples: examples/server.sh.
+use Rattle.std.specs.Prelude.{◌≡◌, ℕ, ℤ, List, [], ◌++◌, ◌==◌, codes, decimal, Option, None, Some, Result, Ok, Err, IfSome, if◌then◌else◌, ⊤}
+use Rattle.std.specs.Io.KnownBytes.{Appends}
+use Rattle.desk_io.specs.Causes.{Rose}
+use Rattle.desk_io.specs.declared.failed.Failed.{Failed}
+use Rattle.desk_tables.specs.Rules.{broken_row}
+use Rattle.desk_tables.specs.Tables.{Kept}
+use Rattle.desk_tables.specs.declared.rows.Table.{Table}
+use Rattle.desk_records.specs.Machine.{table_name}
+use Rattle.desk_core.specs.Reports.{IsTold, Telling}
+use Rattle.desk_links.specs.Doors.{Tells, Visits, IsSameVisits}
+use Rattle.desk_server.specs.Exchanges.{Around, TakesDay}
+use Rattle.desk_server.specs.Servings.{ServesCount}
+use Rattle.desk_top.specs.Delivery.{Delivers, Outcome}
+use Rattle.desk_top.specs.declared.deliver.TheConstants.{DONE, NO_MEMORY, OPEN, REFUSED}
+use Rattle.desk_command.specs.Words.{Order, Report, Serve}
+use Rattle.desk_command.specs.declared.ending.TheConstants.{BAD_TABLES, NO_DAY, NO_DOOR, UNKEPT}
+
+-- what a sink has taken, before and after
+pub record Taken : Type 0 where
+  pub before : Option (List ℕ)
+  pub after : Option (List ℕ)
+
+abbrev pub taken_between : Option (List ℕ) → Option (List ℕ) → Taken
+taken_between before after = record { before = before; after = after }
+
+-- nothing is written
+abbrev pub Keeps : Taken → Type 0
+Keeps taken = Appends taken.before taken.after []
+
+abbrev pub Writes : Outcome → ℕ → Taken → Type 0
+Writes outcome status taken = Delivers outcome status taken.before taken.after
+
+-- a row of a table breaks a rule
+abbrev pub bad_tables : Table → ℕ → Outcome
+bad_tables table row = record {
+  status = BAD_TABLES;
+  bytes = codes "bad table " ++ table_name table ++ codes " row " ++ decimal row ++ codes "\n";
+}
+
+-- the report of a module: each finding of the first grade has a waiver, or one hasn't, or there is
+-- no design
+abbrev pub report_outcome : Telling → Outcome
+report_outcome told = record {
+  status = if told.refused then REFUSED else (if told.left == 0 then DONE else OPEN);
+  bytes = told.bytes;
+}
+
+-- what is done over sound tables, those that the keeper tells, where it tells them
+pub record OverTables (told : Option Kept) (P : Kept → Type 0) : Type 0 where
+  pub held : Kept
+  pub are_told : IfSome told (λ tables. tables ≡ held)
+  pub sound : broken_row held ≡ None
+  pub holds : P held
+
+-- the tables couldn't be read, there was no memory, or a row breaks a rule
+pub data IsUnstarted (told : Option Kept) (faults faults' : ℕ) (status : ℕ) (taken : Taken) : Type 0 where
+  Unkept : status ≡ UNKEPT → Rose faults faults' → Keeps taken → IsUnstarted told faults faults' status taken
+  NoMemory : status ≡ NO_MEMORY → Keeps taken → IsUnstarted told faults faults' status taken
+  BadTables :
+      (held : Kept) (table : Table) (row : ℕ) → IfSome told (λ tables. tables ≡ held) →
+      broken_row held ≡ Some (table, row) → Writes (bad_tables table row) status taken →
+      IsUnstarted told faults faults' status taken
+
+-- what `report` answers over tables on a day: there was no memory, or the report of the day
+pub data IsReportOn (top : List ℕ) (kept : Kept) (today : ℤ) (status : ℕ) (taken : Taken) : Type 0 where
+  OutOfMemory : status ≡ NO_MEMORY → Keeps taken → IsReportOn top kept today status taken
+  Reported :
+      (told : Telling) → IsTold top today kept told → Writes (report_outcome told) status taken →
+      IsReportOn top kept today status taken
+
+-- what `report` answers over tables: the clock failed, or what it answers on the day that the clock
+-- gives
+pub data IsReport (top : List ℕ) (kept : Kept) (before after : Around) (status : ℕ) (taken : Taken) : Type 0 where
+  NoDay :
+      status ≡ NO_DAY → Rose before.clock after.clock → Keeps taken →
+      IsReport top kept before after status taken
+  OnDay :
+      (today : ℤ) → TakesDay before.days after.days today → IsReportOn top kept today status taken →
+      IsReport top kept before after status taken
+
+-- what `report` answers: the desk didn't start, or what it answers over the tables
+pub data IsReported (top : List ℕ) (told : Option Kept) (before after : Around) (status : ℕ) (taken : Taken) : Type 0 where
+  Unstarted :
+      IsUnstarted told before.keeper after.keeper status taken →
+      IsReported top told before after status taken
+  Started :
+      OverTables told (λ held. IsReport top held before after status taken) →
+      IsReported top told before after status taken
+
+-- all links were served, or the door failed
+abbrev pub IsEnded : Result Unit Failed → ℕ → ℕ → ℕ → Type 0
+IsEnded (Ok done) door door' status = status ≡ DONE
+IsEnded (Err fault) door door' status = (status ≡ NO_DOOR) × Rose door door'
+
+-- links of a door were served, one after the other
+pub record IsLinked (count : ℕ) (visits visits' : Option Visits) (door door' : ℕ) (before after : Around) (status : ℕ) (kept kept' : Kept) : Type 0 where
+  pub result : Result Unit Failed
+  pub served : Tells visits visits' (ServesCount count result before after kept kept')
+  pub ended : IsEnded result door door' status
+
+-- what `serve` does over tables: it leaves those of the links, and writes nothing
+pub record IsServing (count : ℕ) (told' : Option Kept) (visits visits' : Option Visits) (door door' : ℕ) (before after : Around) (status : ℕ) (taken : Taken) (held : Kept) : Type 0 where
+  pub kept : Kept
+  pub are_kept : IfSome told' (λ tables. tables ≡ kept)
+  pub linked : IsLinked count visits visits' door door' before after status held kept
+  pub silent : Keeps taken
+
+-- what `serve` does: the desk didn't start and nothing changes, or what it does over the tables
+pub data IsServed (count : ℕ) (told told' : Option Kept) (visits visits' : Option Visits) (door door' : ℕ) (before after : Around) (status : ℕ) (taken : Taken) : Type 0 where
+  Unopened :
+      IsUnstarted told before.keeper after.keeper status taken →
+      told' ≡ told → Tells visits visits' IsSameVisits →
+      IsServed count told told' visits visits' door door' before after status taken
+  Opened :
+      OverTables told (IsServing count told' visits visits' door door' before after status taken) →
+      IsServed count told told' visits visits' door door' before after status taken
+
+-- what the words ask for is done, where they are a command over the tables
+abbrev pub IsCommanded : Option Order → Option Kept → Option Kept → Option Visits → Option Visits → ℕ → ℕ → Around → Around → ℕ → Taken → Type 0
+IsCommanded None told told' visits visits' door door' before after status taken = ⊤
+IsCommanded (Some (Report top)) told told' visits visits' door door' before after status taken =
+    IsReported top told before after status taken × (told' ≡ told)
+IsCommanded (Some (Serve port count)) told told' visits visits' door door' before after status taken =
+    IsServed count told told' visits visits' door door' before after status taken
