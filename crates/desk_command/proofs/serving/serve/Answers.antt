@@ -1,5 +1,5 @@
 use Rattle.desk_command.specs.Commands.{Unopened}
-use Rattle.desk_command.proofs.Served.{same_visits}
+use Rattle.desk_command.proofs.Served.{opened, same_visits}
 use Rattle.desk_command.proofs.serving.serve.Goals as goal
 
 pub returns-in-Err-clause-served : goal.returns-in-Err-clause-served
@@ -8,3 +8,11 @@ returns-in-Err-clause-served g c =
     c.in-Err.ensures.started (λ same. c.in-Err.ensures.unkept (cc)))
     c.in-Err.ensures.same
     (same_visits (g.D.Door.visits c.args.door.now))
+
+pub returns-in-Ok-clause-served : goal.returns-in-Ok-clause-served
+returns-in-Ok-clause-served g c =
+    opened c.args.count (g.K.Keeper.tables c.args.keeper.now) (g.K.Keeper.tables c.open.new.keeper) c.in-Ok.desk c.open.new.desk
+    (g.D.Door.visits c.args.door.now) (g.D.Door.visits c.open.new.door) (g.D.Door.faults c.args.door.now) (g.D.Door.faults c.open.new.door)
+    (g.C.Clock.days c.args.clock.now) (g.C.Clock.faults c.args.clock.now) (g.K.Keeper.count c.args.keeper.now) (g.K.Keeper.count c.start.new.keeper)
+    _ c.open.result (g.S.Sink.taken c.args.out.now)
+    c.in-Ok.ensures.started (c.in-Ok.ensures.calm (λ same. cc)) c.open.ensures.linked c.open.ensures.held
