@@ -4,6 +4,8 @@
 #[cfg(test)]
 mod bytes;
 #[cfg(test)]
+mod commands;
+#[cfg(test)]
 mod failing;
 #[cfg(test)]
 mod rows;

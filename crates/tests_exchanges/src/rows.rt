@@ -305,8 +305,8 @@ const CHANGED: [Row; 4] = [
     },
 ];
 
-// Findings that stand, and a sign-off over a waiver.
-const SIGNED: [Row; 8] = [
+// Findings that stand, a sign-off over a waiver, and what is refused of waivers.
+const SIGNED: [Row; 14] = [
     Row {
         day: 19723,
         user: "ann",
@@ -386,6 +386,66 @@ const SIGNED: [Row; 8] = [
         body: "{\"last_day\":\"2024-03-31\",\"owner\":\"bob\",\"place\":\"r3.v:2:1\",\"reason\":\"old block\",\"rule\":\"S1\",\"target\":\"top.b\",\"top\":\"top\"}",
         status: "409 Conflict",
         answer: "OwnerIsAsker\n",
+    },
+    Row {
+        day: 19723,
+        user: "ann",
+        label: "5",
+        method: "POST",
+        target: "/waivers",
+        body: "{\"last_day\":\"2024-03-31\",\"owner\":\"bob\",\"place\":\"r3.v:2:1\",\"reason\":\"old block\",\"rule\":\"A6\",\"target\":\"top.b\",\"top\":\"top\"}",
+        status: "409 Conflict",
+        answer: "NotWaivable A6\n",
+    },
+    Row {
+        day: 19723,
+        user: "ann",
+        label: "6",
+        method: "POST",
+        target: "/waivers",
+        body: "{\"last_day\":\"2023-12-31\",\"owner\":\"bob\",\"place\":\"r3.v:2:1\",\"reason\":\"old block\",\"rule\":\"S1\",\"target\":\"top.b\",\"top\":\"top\"}",
+        status: "409 Conflict",
+        answer: "TermPast 2023-12-31\n",
+    },
+    Row {
+        day: 19723,
+        user: "ann",
+        label: "6",
+        method: "POST",
+        target: "/waivers",
+        body: "{\"last_day\":\"2024-03-31\",\"owner\":\"bob\",\"place\":\"r3.v:2:1\",\"reason\":\"old block\",\"rule\":\"S1\",\"target\":\"top.b\",\"top\":\"none\"}",
+        status: "422 Unprocessable Entity",
+        answer: "refused NoSuchModule none\n",
+    },
+    Row {
+        day: 19723,
+        user: "ann",
+        label: "2",
+        method: "POST",
+        target: "/waivers",
+        body: "{\"last_day\":\"2024-03-30\",\"owner\":\"bob\",\"place\":\"r3.v:2:1\",\"reason\":\"old block\",\"rule\":\"S1\",\"target\":\"top.b\",\"top\":\"top\"}",
+        status: "409 Conflict",
+        answer: "RequestIdReused\n",
+    },
+    Row {
+        day: 19723,
+        user: "bob",
+        label: "5",
+        method: "DELETE",
+        target: "/waivers/9",
+        body: "",
+        status: "404 Not Found",
+        answer: "Not Found\n",
+    },
+    Row {
+        day: 19723,
+        user: "bob",
+        label: "6",
+        method: "DELETE",
+        target: "/files/none.v",
+        body: "",
+        status: "404 Not Found",
+        answer: "Not Found\n",
     },
 ];
 
