@@ -62,7 +62,7 @@ fn keeper(alloc: Global, files: usize) -> Result<Box<MemoryKeeper>, Fail> {
     boxed(alloc, MemoryKeeper::new(alloc, tables))
 }
 
-fn outside(alloc: Global, files: usize) -> Result<Outside, Fail> {
+fn new_outside(alloc: Global, files: usize) -> Result<Outside, Fail> {
     let keeper = keeper(alloc, files)?;
     let door = boxed(alloc, MemoryDoor::new(alloc))?;
     Ok(Outside {
@@ -108,13 +108,13 @@ impl Outside {
 
 // Whether each fault of the outside has its status.
 fn have_their_status(alloc: Global) -> Result<bool, Fail> {
-    let mut first = outside(alloc, 0)?;
+    let mut first = new_outside(alloc, 0)?;
     first.keeper.fail_at(1)?;
     let unkept = first.answers("serve 8080 1", 6, b"")?;
-    let mut second = outside(alloc, 0)?;
+    let mut second = new_outside(alloc, 0)?;
     second.clock.fail_at(1)?;
     let no_day = second.answers("report top", 7, b"")?;
-    let mut third = outside(alloc, 0)?;
+    let mut third = new_outside(alloc, 0)?;
     third.door.fail_at(1)?;
     Ok(unkept && no_day && third.answers("serve 8080 1", 8, b"")?)
 }
@@ -127,9 +127,9 @@ fn each_fault_has_its_status(rt: HostRuntime) -> Result<(), Fail> {
 
 // Whether two files of one name are told, and one isn't.
 fn are_told(alloc: Global) -> Result<bool, Fail> {
-    let mut twice = outside(alloc, 2)?;
+    let mut twice = new_outside(alloc, 2)?;
     let bad = twice.answers("report top", 14, b"bad table files row 2\n")?;
-    let mut once = outside(alloc, 1)?;
+    let mut once = new_outside(alloc, 1)?;
     Ok(bad && once.answers("report top", 2, b"refused NoSuchModule top\n")?)
 }
 
@@ -141,7 +141,7 @@ fn a_row_that_breaks_a_rule_is_told(rt: HostRuntime) -> Result<(), Fail> {
 
 // Whether two links are served in their order, and each is given back.
 fn are_served(alloc: Global) -> Result<bool, Fail> {
-    let mut outside = outside(alloc, 1)?;
+    let mut outside = new_outside(alloc, 1)?;
     let get = b"GET /files/e.v HTTP/1.1\r\nDesk-User: ann\r\n\r\n";
     outside
         .door
