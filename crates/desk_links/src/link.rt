@@ -26,7 +26,8 @@ pub trait Link {
     fn read(&mut self, buf: &mut [u8]) -> Result<usize, Failed>
         ensures bound { ReadsAtMost result buf.new }
         ensures told { GoesOn (talk self.old) (talk self.new) (moved result buf.new) [] }
-        ensures end { IfOk result (λ count. count ≡ 0 → 0 < length buf.new → IsAtEnd (talk self.new)) }
+        ensures end { IfOk result
+            (λ count. count ≡ 0 → 0 < length buf.new → IsAtEnd (talk self.new)) }
         ensures cause { HasCause (faults self.old) (faults self.new) result }
         ensures calm { OnOk result (faults self.new ≡ faults self.old) };
 

@@ -21,7 +21,8 @@ pub struct SqlKeeper<O: Source + Drop> {
 
 // Counts an error but want of memory, and tells it.
 fn counted(faults: &mut u64, error: Error) -> KeeperFault
-    ensures other { error ≢ Error.SqliteFailure ErrorCode.OutOfMemory → result ≡ KeeperFault.Failed }
+    ensures other { error ≢ Error.SqliteFailure ErrorCode.OutOfMemory
+        → result ≡ KeeperFault.Failed }
     ensures later { faults.old ≤ faults.new }
     ensures failed { result ≡ KeeperFault.Failed → Rose faults.old faults.new }
     ensures no_memory { result ≡ KeeperFault.Memory → faults.new ≡ faults.old }

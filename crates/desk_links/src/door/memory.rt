@@ -163,7 +163,8 @@ impl Door for MemoryDoor {
     ghost faults = { λ door. door_faults door };
 
     fn listen(&mut self, _port: u16) -> Result<(), Failed>
-        ensures same { Tells (Some (door_visits self.old)) (Some (door_visits self.new)) IsSameVisits }
+        ensures same { Tells (Some (door_visits self.old)) (Some (door_visits self.new))
+            IsSameVisits }
         ensures cause { HasCause (door_faults self.old) (door_faults self.new) result }
         ensures calm { OnOk result (door_faults self.new ≡ door_faults self.old) }
     {
@@ -174,10 +175,12 @@ impl Door for MemoryDoor {
     }
 
     fn next(&mut self) -> Result<MemoryLink, Failed>
-        ensures gives { IfOk result (λ link. Tells (Some (door_visits self.old)) (Some (door_visits self.new))
+        ensures gives { IfOk result
+            (λ link. Tells (Some (door_visits self.old)) (Some (door_visits self.new))
             (GivesLink (Some (link_talk link)) (link_faults link))) }
         ensures unharmed { IfOk result (λ link. link_faults link ≡ 0) }
-        ensures same { OnErr result (Tells (Some (door_visits self.old)) (Some (door_visits self.new)) IsSameVisits) }
+        ensures same { OnErr result
+            (Tells (Some (door_visits self.old)) (Some (door_visits self.new)) IsSameVisits) }
         ensures cause { HasCause (door_faults self.old) (door_faults self.new) result }
         ensures calm { OnOk result (door_faults self.new ≡ door_faults self.old) }
     {

@@ -138,8 +138,10 @@ impl Link for MemoryLink {
 
     fn read(&mut self, buf: &mut [u8]) -> Result<usize, Failed>
         ensures bound { ReadsAtMost result buf.new }
-        ensures told { GoesOn (Some (link_talk self.old)) (Some (link_talk self.new)) (moved result buf.new) [] }
-        ensures end { IfOk result (λ count. count ≡ 0 → 0 < length buf.new → IsAtEnd (Some (link_talk self.new))) }
+        ensures told { GoesOn (Some (link_talk self.old)) (Some (link_talk self.new))
+            (moved result buf.new) [] }
+        ensures end { IfOk result
+            (λ count. count ≡ 0 → 0 < length buf.new → IsAtEnd (Some (link_talk self.new))) }
         ensures cause { HasCause (link_faults self.old) (link_faults self.new) result }
         ensures calm { OnOk result (link_faults self.new ≡ link_faults self.old) }
     {
@@ -155,7 +157,8 @@ impl Link for MemoryLink {
     fn write(&mut self, bytes: &[u8]) -> Result<usize, Failed>
         ensures bound { WritesAtMost result bytes.now }
         ensures some { IfOk result (λ count. 0 < length bytes.now → 0 < count) }
-        ensures told { GoesOn (Some (link_talk self.old)) (Some (link_talk self.new)) [] (moved result bytes.now) }
+        ensures told { GoesOn (Some (link_talk self.old)) (Some (link_talk self.new)) []
+            (moved result bytes.now) }
         ensures cause { HasCause (link_faults self.old) (link_faults self.new) result }
         ensures calm { OnOk result (link_faults self.new ≡ link_faults self.old) }
     {
