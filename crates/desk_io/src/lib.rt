@@ -9,6 +9,7 @@ mod failed;
 mod shelf;
 mod sink;
 
+pub use calls::Calls;
 pub use failed::Failed;
 pub use shelf::{FileShelf, MAX_FILE_BYTES, MemoryShelf, Opener, Shelf, ShelfFault, SystemFiles};
 pub use sink::{MemorySink, Sink, WriterSink};

@@ -8,7 +8,6 @@
 mod clock;
 mod door;
 mod link;
-mod turns;
 
 pub use clock::{Clock, MemoryClock, SystemClock};
 pub use door::{Door, MemoryDoor, TcpDoor};

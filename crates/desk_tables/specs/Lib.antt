@@ -1,6 +1,5 @@
 pub mod Days
 pub mod Names
-pub mod Calls
 pub mod Tables
 pub mod Changes
 pub mod Rules

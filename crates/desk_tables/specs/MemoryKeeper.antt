@@ -1,8 +1,7 @@
 -- It serves inner contracts and proofs; no answer of the program is stated by it.
 -- What a keeper in memory holds.
 use Rattle.std.specs.Prelude.{ℕ}
-use Rattle.desk_io.specs.Calls.{Schedule}
-use Rattle.desk_tables.specs.Calls.{schedule_of}
+use Rattle.desk_io.specs.Calls.{Schedule, schedule_of}
 use Rattle.desk_tables.specs.Tables.{Kept, kept_of}
 use Rattle.desk_tables.specs.declared.keeper.memory.MemoryKeeper.{MemoryKeeper}
 

@@ -1,7 +1,6 @@
 //! What the desk keeps: days, names, the rows of its tables, what a change does to them, and the keeper that has them.
 #![tactic(auto)]
 
-mod calls;
 mod change;
 mod day;
 mod keeper;

@@ -5,8 +5,7 @@ ghost use Rattle.desk_links.specs.Clocks.{GivesFirst};
 ghost use Rattle.desk_links.specs.Held.{clock_days, clock_faults};
 
 use super::Clock;
-use crate::turns::Turns;
-use desk_io::Failed;
+use desk_io::{Calls, Failed};
 use desk_tables::Day;
 use rtl_tree::memory::Memory;
 use std::alloc::Global;
@@ -17,7 +16,7 @@ use std::alloc::Global;
 pub struct MemoryClock {
     days: Vec<Day>,
     at: usize,
-    calls: Turns,
+    calls: Calls,
     faults: u64,
 }
 
@@ -33,7 +32,7 @@ impl MemoryClock {
         MemoryClock {
             days,
             at: 0,
-            calls: Turns::new(alloc),
+            calls: Calls::new(alloc),
             faults: 0,
         }
     }
@@ -43,7 +42,7 @@ impl MemoryClock {
         ensures days { clock_days self.new ≡ clock_days self.old }
         ensures faults { clock_faults self.new ≡ clock_faults self.old }
     {
-        self.calls.fail_at(call)
+        Ok(self.calls.fail_at(call)?)
     }
 
     /// How many calls have failed.

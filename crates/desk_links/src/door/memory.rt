@@ -7,8 +7,7 @@ ghost use Rattle.desk_links.specs.Held.{door_faults, door_visits, link_faults, l
 
 use super::Door;
 use crate::link::{MemoryLink, Past};
-use crate::turns::Turns;
-use desk_io::Failed;
+use desk_io::{Calls, Failed};
 use rtl_tree::memory::Memory;
 use std::alloc::Global;
 use std::collections::VecDeque;
@@ -30,7 +29,7 @@ pub struct MemoryDoor {
     waiting: VecDeque<MemoryLink>,
     given: Vec<Vec<u8>>,
     ended: Chain,
-    calls: Turns,
+    calls: Calls,
     faults: u64,
 }
 
@@ -50,7 +49,7 @@ impl MemoryDoor {
             waiting: VecDeque::new(alloc),
             given: Vec::new(alloc),
             ended: Chain::End,
-            calls: Turns::new(alloc),
+            calls: Calls::new(alloc),
             faults: 0,
         }
     }
@@ -71,7 +70,7 @@ impl MemoryDoor {
         ensures visits { door_visits self.new ≡ door_visits self.old }
         ensures faults { door_faults self.new ≡ door_faults self.old }
     {
-        self.calls.fail_at(call)
+        Ok(self.calls.fail_at(call)?)
     }
 
     /// What was written to the link that was given back as the last but so many; None where there

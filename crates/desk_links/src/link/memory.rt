@@ -7,8 +7,7 @@ ghost use Rattle.desk_links.specs.Held.{link_faults, link_talk, talk_of};
 
 use super::Link;
 use crate::door::Chain;
-use crate::turns::Turns;
-use desk_io::Failed;
+use desk_io::{Calls, Failed};
 use rtl_tree::memory::Memory;
 use std::alloc::Global;
 
@@ -28,8 +27,8 @@ pub(crate) struct Past {
 pub struct MemoryLink {
     pub(crate) past: Past,
     pub(crate) most: usize,
-    pub(crate) reads: Turns,
-    pub(crate) writes: Turns,
+    pub(crate) reads: Calls,
+    pub(crate) writes: Calls,
     // Its place in the list of links that were given back.
     pub(crate) place: Box<Chain>,
 }
@@ -86,8 +85,8 @@ impl MemoryLink {
                 faults: 0,
             },
             most: usize::MAX,
-            reads: Turns::new(alloc),
-            writes: Turns::new(alloc),
+            reads: Calls::new(alloc),
+            writes: Calls::new(alloc),
             place,
         })
     }
@@ -105,7 +104,7 @@ impl MemoryLink {
         ensures talk { link_talk self.new ≡ link_talk self.old }
         ensures faults { link_faults self.new ≡ link_faults self.old }
     {
-        self.reads.fail_at(call)
+        Ok(self.reads.fail_at(call)?)
     }
 
     /// Has the write with this number fail.
@@ -113,7 +112,7 @@ impl MemoryLink {
         ensures talk { link_talk self.new ≡ link_talk self.old }
         ensures faults { link_faults self.new ≡ link_faults self.old }
     {
-        self.writes.fail_at(call)
+        Ok(self.writes.fail_at(call)?)
     }
 
     /// What was written to it.

@@ -7,8 +7,8 @@ ghost use Rattle.desk_tables.specs.MemoryKeeper.{fault_count, held, schedule};
 ghost use Rattle.desk_tables.specs.Tables.{kept_of};
 
 use super::{Keeper, KeeperFault};
-use crate::calls::Calls;
 use crate::{Change, Tables};
+use desk_io::Calls;
 use std::alloc::{AllocError, Global};
 
 /// A keeper whose tables stand in memory, with the numbers of the calls that fail. The first call has the number 1.
