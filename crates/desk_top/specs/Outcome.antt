@@ -202,7 +202,7 @@ pub record IsGenerated (stages : ℕ) (outcome : Outcome) : Type 0 where
   pub is_built : IsBuilt (codes "top") (generated_sources stages) (stages_text stages ∷ []) built
   pub is : IsStaged stages built outcome
 
--- the usage of the whole program, with the commands that are still to come
+-- the usage of the whole program
 abbrev pub usage : List ℕ
 usage =
     codes "usage: desk sign TOP FILE.. | simulate TOP STEPS FILE.. | replay TOP DEMO FILE.. | serve PORT COUNT | report TOP | generate N" ++ 10 ∷ []

@@ -7,7 +7,6 @@ pub mod generate;
 pub mod replay;
 pub mod sign;
 pub mod simulate;
-pub mod start;
 pub mod stream;
 pub mod top;
 pub mod words;

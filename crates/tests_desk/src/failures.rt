@@ -2,8 +2,10 @@
 
 ghost use Rattle.std.specs.Prelude.{None};
 
+use desk_command::start;
 use desk_io::{MemoryShelf, MemorySink, Shelf, ShelfFault};
-use desk_top::start::start;
+use desk_links::{MemoryClock, MemoryDoor};
+use desk_tables::{MemoryKeeper, Tables};
 use desk_top::top::desk;
 use std::alloc::Global;
 use std::io;
@@ -58,7 +60,21 @@ fn started(alloc: Global, line: io::Result<Vec<String>>) -> Result<(u8, Vec<u8>)
     shelf.add("r.v", CLEAN)?;
     let mut sink = MemorySink::new(alloc);
     let words = line.map(|words| words.into_iter());
-    let status = start(alloc, words, &mut shelf, &mut sink);
+    let Ok(tables) = Tables::new(alloc) else {
+        return Err(Fail::new("no memory"));
+    };
+    let mut keeper = MemoryKeeper::new(alloc, tables);
+    let mut clock = MemoryClock::new(alloc, Vec::new(alloc));
+    let mut door = MemoryDoor::new(alloc);
+    let status = start(
+        alloc,
+        words,
+        &mut shelf,
+        &mut keeper,
+        &mut clock,
+        &mut door,
+        &mut sink,
+    );
     Ok((status, Vec::from_slice(alloc, sink.bytes())?))
 }
 
