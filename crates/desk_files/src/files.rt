@@ -28,7 +28,8 @@ pub struct Ready {
     pub file: SourceFile,
 }
 
-fn is_named(file: &SourceFile, name: &[u8]) -> bool
+/// Whether a file has a name.
+pub fn is_named(file: &SourceFile, name: &[u8]) -> bool
     ensures { result ≡ is_named name.now file.now }
 {
     file.name.as_bytes() == name
@@ -40,8 +41,8 @@ fn is_before(file: &SourceFile, name: &[u8]) -> bool
     file.name.as_bytes().cmp(name).is_lt()
 }
 
-// The first place of a file whose name isn't less.
-fn place_of(files: &[SourceFile], name: &[u8]) -> Option<usize>
+/// The first place of a file whose name isn't less.
+pub fn place_of(files: &[SourceFile], name: &[u8]) -> Option<usize>
     ensures { result ≡ place_of name.now files.now }
 {
     files.iter().position(|file| !is_before(file, name))
