@@ -10,7 +10,7 @@ use Rattle.desk_command.specs.Words.{Order, Report, Serve}
 pub commanded : (order : Option Order) (told told' : Option Kept) (visits visits' : Option Visits) (door door' : ℕ) (before after : Around) (status : ℕ) (taken : Taken)
     → ((top : List ℕ) → order ≡ Some (Report top) → IsReported top told before after status taken)
     → ((top : List ℕ) → order ≡ Some (Report top) → told' ≡ told)
-    → ((port count : ℕ) → order ≡ Some (Serve port count) → IsServed count told told' visits visits' door door' before after status taken)
+    → ((port count : ℕ) → order ≡ Some (Serve port count) → IsServed port count told told' visits visits' door door' before after status taken)
     → IsCommanded order told told' visits visits' door door' before after status taken
 commanded None told told' visits visits' door door' before after status taken reported unchanged served = tt
 commanded (Some (Report top)) told told' visits visits' door door' before after status taken reported unchanged served = (reported top refl, unchanged top refl)

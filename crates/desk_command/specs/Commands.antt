@@ -9,7 +9,7 @@ use Rattle.desk_tables.specs.Tables.{Kept}
 use Rattle.desk_tables.specs.declared.rows.Table.{Table}
 use Rattle.desk_records.specs.Machine.{table_name}
 use Rattle.desk_core.specs.Reports.{IsTold, Telling}
-use Rattle.desk_links.specs.Doors.{Tells, Visits, IsSameVisits}
+use Rattle.desk_links.specs.Doors.{Tells, Visits, IsSameVisits, with_port}
 use Rattle.desk_server.specs.Exchanges.{Around, TakesDay}
 use Rattle.desk_server.specs.Servings.{ServesCount}
 use Rattle.desk_top.specs.Delivery.{Delivers, Outcome}
@@ -94,28 +94,34 @@ abbrev pub IsEnded : Result Unit Failed → ℕ → ℕ → ℕ → Type 0
 IsEnded (Ok done) door door' status = status ≡ DONE
 IsEnded (Err fault) door door' status = (status ≡ NO_DOOR) × Rose door door'
 
--- links of a door were served, one after the other
-pub record IsLinked (count : ℕ) (visits visits' : Option Visits) (door door' : ℕ) (before after : Around) (status : ℕ) (kept kept' : Kept) : Type 0 where
-  pub result : Result Unit Failed
-  pub served : Tells visits visits' (ServesCount count result before after kept kept')
-  pub ended : IsEnded result door door' status
+-- the door failed to open and nothing changes; or it was opened at the port and no other, and then
+-- links of it were served, one after the other
+pub data IsLinked (port count : ℕ) (visits visits' : Option Visits) (door door' : ℕ) (before after : Around) (status : ℕ) (kept : Kept) : Kept → Type 0 where
+  Shut :
+      status ≡ NO_DOOR → Rose door door' → Tells visits visits' IsSameVisits → after ≡ before →
+      IsLinked port count visits visits' door door' before after status kept kept
+  Linked :
+      (kept' : Kept) (result : Result Unit Failed) →
+      Tells visits visits' (λ shut. ServesCount count result before after kept kept' (with_port port shut)) →
+      IsEnded result door door' status →
+      IsLinked port count visits visits' door door' before after status kept kept'
 
 -- what `serve` does over tables: it leaves those of the links, and writes nothing
-pub record IsServing (count : ℕ) (told' : Option Kept) (visits visits' : Option Visits) (door door' : ℕ) (before after : Around) (status : ℕ) (taken : Taken) (held : Kept) : Type 0 where
+pub record IsServing (port count : ℕ) (told' : Option Kept) (visits visits' : Option Visits) (door door' : ℕ) (before after : Around) (status : ℕ) (taken : Taken) (held : Kept) : Type 0 where
   pub kept : Kept
   pub are_kept : IfSome told' (λ tables. tables ≡ kept)
-  pub linked : IsLinked count visits visits' door door' before after status held kept
+  pub linked : IsLinked port count visits visits' door door' before after status held kept
   pub silent : Keeps taken
 
 -- what `serve` does: the desk didn't start and nothing changes, or what it does over the tables
-pub data IsServed (count : ℕ) (told told' : Option Kept) (visits visits' : Option Visits) (door door' : ℕ) (before after : Around) (status : ℕ) (taken : Taken) : Type 0 where
+pub data IsServed (port count : ℕ) (told told' : Option Kept) (visits visits' : Option Visits) (door door' : ℕ) (before after : Around) (status : ℕ) (taken : Taken) : Type 0 where
   Unopened :
       IsUnstarted told before.keeper after.keeper status taken →
       told' ≡ told → Tells visits visits' IsSameVisits →
-      IsServed count told told' visits visits' door door' before after status taken
+      IsServed port count told told' visits visits' door door' before after status taken
   Opened :
-      OverTables told (IsServing count told' visits visits' door door' before after status taken) →
-      IsServed count told told' visits visits' door door' before after status taken
+      OverTables told (IsServing port count told' visits visits' door door' before after status taken) →
+      IsServed port count told told' visits visits' door door' before after status taken
 
 -- what the words ask for is done, where they are a command over the tables
 abbrev pub IsCommanded : Option Order → Option Kept → Option Kept → Option Visits → Option Visits → ℕ → ℕ → Around → Around → ℕ → Taken → Type 0
@@ -123,4 +129,4 @@ IsCommanded None told told' visits visits' door door' before after status taken 
 IsCommanded (Some (Report top)) told told' visits visits' door door' before after status taken =
     IsReported top told before after status taken × (told' ≡ told)
 IsCommanded (Some (Serve port count)) told told' visits visits' door door' before after status taken =
-    IsServed count told told' visits visits' door door' before after status taken
+    IsServed port count told told' visits visits' door door' before after status taken

@@ -57,7 +57,7 @@ pub fn desk<F: Shelf, K: Keeper, C: Clock, D: Door, S: Sink>(
     ensures no_visits { (top : List ℕ) → order (texts words.now) ≡ Some (Report top)
         → D.visits door.new ≡ D.visits door.old }
     ensures served { (port count : ℕ) → order (texts words.now) ≡ Some (Serve port count)
-        → IsServed count (K.tables keeper.old) (K.tables keeper.new)
+        → IsServed port count (K.tables keeper.old) (K.tables keeper.new)
         (D.visits door.old) (D.visits door.new) (D.faults door.old) (D.faults door.new)
         (around (C.days clock.old) (C.faults clock.old) (K.count keeper.old))
         (around (C.days clock.new) (C.faults clock.new) (K.count keeper.new))

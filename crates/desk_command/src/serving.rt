@@ -26,7 +26,7 @@ fn open<D: Door, K: Keeper, C: Clock>(
     clock: &mut C,
 ) -> u8
     requires { IfSome (K.tables keeper.old) (λ held. held ≡ desk.old.kept) }
-    ensures linked { IsLinked count (D.visits door.old) (D.visits door.new) (D.faults door.old)
+    ensures linked { IsLinked port count (D.visits door.old) (D.visits door.new) (D.faults door.old)
         (D.faults door.new) (around (C.days clock.old) (C.faults clock.old) (K.count keeper.old))
         (around (C.days clock.new) (C.faults clock.new) (K.count keeper.new)) result
         desk.old.kept desk.new.kept }
@@ -53,7 +53,7 @@ pub(crate) fn serve<K: Keeper, C: Clock, D: Door, S: Sink>(
     door: &mut D,
     out: &mut S,
 ) -> u8
-    ensures served { IsServed count (K.tables keeper.old) (K.tables keeper.new)
+    ensures served { IsServed port count (K.tables keeper.old) (K.tables keeper.new)
         (D.visits door.old) (D.visits door.new) (D.faults door.old) (D.faults door.new)
         (around (C.days clock.old) (C.faults clock.old) (K.count keeper.old))
         (around (C.days clock.new) (C.faults clock.new) (K.count keeper.new))

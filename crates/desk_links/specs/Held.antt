@@ -47,8 +47,11 @@ chain_links (More' past _ older) =
     chain_links older ++ record { talk = talk_of past; faults = past.faults } ∷ []
 
 abbrev pub door_visits : MemoryDoor → Visits
-door_visits door =
-    record { given = map (λ input. input.items) door.given.items; ended = chain_links door.ended }
+door_visits door = record {
+  ports = door.ports.items;
+  given = map (λ input. input.items) door.given.items;
+  ended = chain_links door.ended;
+}
 
 abbrev pub door_faults : MemoryDoor → ℕ
 door_faults door = door.faults

@@ -1,7 +1,7 @@
 // A door that clients come through, as the desk sees it.
 ghost use Rattle.std.specs.Prelude.{◌≡◌, ℕ, Option, IfOk, OnErr, OnOk};
 ghost use Rattle.desk_io.specs.Causes.{HasCause};
-ghost use Rattle.desk_links.specs.Doors.{GivesLink, IsSameVisits, TakesLink, Tells, Visits};
+ghost use Rattle.desk_links.specs.Doors.{GivesLink, IsSameVisits, Opens, TakesLink, Tells, Visits};
 
 mod memory;
 mod tcp;
@@ -17,7 +17,8 @@ pub trait Door {
     /// A link to a client.
     type L: Link + Drop;
 
-    /// The links that it gave and those that were given back, where the door tells them.
+    /// The ports at which it was opened, the links that it gave and those that were given back,
+    /// where the door tells them.
     ghost visits: { Self → Option Visits };
 
     /// How many calls have failed. It stops at the last value of a `u64`.
@@ -25,7 +26,7 @@ pub trait Door {
 
     /// Opens the door at a port of this machine.
     fn listen(&mut self, port: u16) -> Result<(), Failed>
-        ensures same { Tells (visits self.old) (visits self.new) IsSameVisits }
+        ensures opens { Tells (visits self.old) (visits self.new) (Opens port result) }
         ensures cause { HasCause (faults self.old) (faults self.new) result }
         ensures calm { OnOk result (faults self.new ≡ faults self.old) };
 

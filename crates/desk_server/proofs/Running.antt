@@ -33,6 +33,7 @@ running_none (Some visits) around kept = record {
   serves = record {
     inputs = [];
     links = [];
+    ports = refl;
     given = sym (append-nil visits.given);
     ended = sym (append-nil visits.ended);
     run = Done around kept;
@@ -81,6 +82,7 @@ served_more v v' v'' v''' talk talk' faults faults' a a' a'' k k' k'' count serv
       serves = record {
         inputs = it.serves.inputs ++ gives.input ∷ [];
         links = it.serves.links ++ link ∷ [];
+        ports = takes.ports ∙ gives.ports ∙ it.serves.ports;
         given = takes.given ∙ gives.given ∙ ap (λ l. l ++ gives.input ∷ []) it.serves.given ∙ append_assoc v.given it.serves.inputs (gives.input ∷ []);
         ended = takes.ended out.told out.is ∙ ap (λ l. l ++ link ∷ []) gives.ended ∙ ap (λ l. l ++ link ∷ []) it.serves.ended ∙ append_assoc v.ended it.serves.links (link ∷ []);
         run = run_more it.serves.inputs it.serves.links a a' a'' k k' k'' gives.input link it.serves.run one;

@@ -29,6 +29,7 @@ pub data Run : List (List ℕ) → List Ended → Around → Around → Kept →
 pub record ServesLinks (around around' : Around) (kept kept' : Kept) (before after : Visits) : Type 0 where
   pub inputs : List (List ℕ)
   pub links : List Ended
+  pub ports : after.ports ≡ before.ports
   pub given : after.given ≡ before.given ++ inputs
   pub ended : after.ended ≡ before.ended ++ links
   pub run : Run inputs links around around' kept kept'

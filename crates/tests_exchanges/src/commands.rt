@@ -160,3 +160,19 @@ fn links_are_served_and_given_back(rt: HostRuntime) -> Result<(), Fail> {
     assert_eq!(rt; are_served(rt.alloc())?, true);
     Ok(())
 }
+
+// Whether the door is opened at the port that is told, and at no other.
+fn is_opened_once(alloc: Global) -> Result<bool, Fail> {
+    let mut outside = new_outside(alloc, 0)?;
+    outside
+        .door
+        .add(MemoryLink::new(alloc, Vec::from_slice(alloc, b"none")?)?)?;
+    let served = outside.answers("serve 8080 1", 0, b"")?;
+    Ok(served && matches!(outside.door.ports(), [8080]))
+}
+
+#[test]
+fn the_door_is_opened_at_its_port(rt: HostRuntime) -> Result<(), Fail> {
+    assert_eq!(rt; is_opened_once(rt.alloc())?, true);
+    Ok(())
+}

@@ -1,7 +1,7 @@
 // A door that clients of a list come through.
 ghost use Rattle.std.specs.Prelude.{◌≡◌, Some, IfOk, OnErr, OnOk};
 ghost use Rattle.desk_io.specs.Causes.{HasCause};
-ghost use Rattle.desk_links.specs.Doors.{GivesLink, IsSameVisits, TakesLink, Tells, with_given};
+ghost use Rattle.desk_links.specs.Doors.{GivesLink, IsSameVisits, Opens, TakesLink, Tells, with_given};
 ghost use Rattle.desk_links.specs.Links.{fresh_talk};
 ghost use Rattle.desk_links.specs.Held.{door_faults, door_visits, link_faults, link_talk};
 
@@ -27,6 +27,7 @@ pub(crate) enum Chain {
 pub struct MemoryDoor {
     alloc: Global,
     waiting: VecDeque<MemoryLink>,
+    ports: Vec<u16>,
     given: Vec<Vec<u8>>,
     ended: Chain,
     calls: Calls,
@@ -47,6 +48,7 @@ impl MemoryDoor {
         MemoryDoor {
             alloc,
             waiting: VecDeque::new(alloc),
+            ports: Vec::new(alloc),
             given: Vec::new(alloc),
             ended: Chain::End,
             calls: Calls::new(alloc),
@@ -71,6 +73,13 @@ impl MemoryDoor {
         ensures faults { door_faults self.new ≡ door_faults self.old }
     {
         Ok(self.calls.fail_at(call)?)
+    }
+
+    /// The ports at which it was opened, in their order.
+    pub fn ports(&self) -> &[u16]
+        ensures { result.now ≡ (door_visits self.now).ports }
+    {
+        &self.ports
     }
 
     /// What was written to the link that was given back as the last but so many; None where there
@@ -161,13 +170,13 @@ impl Door for MemoryDoor {
 
     ghost faults = { λ door. door_faults door };
 
-    fn listen(&mut self, _port: u16) -> Result<(), Failed>
-        ensures same { Tells (Some (door_visits self.old)) (Some (door_visits self.new))
-            IsSameVisits }
+    fn listen(&mut self, port: u16) -> Result<(), Failed>
+        ensures opens { Tells (Some (door_visits self.old)) (Some (door_visits self.new))
+            (Opens port result) }
         ensures cause { HasCause (door_faults self.old) (door_faults self.new) result }
         ensures calm { OnOk result (door_faults self.new ≡ door_faults self.old) }
     {
-        if self.calls.next_fails() {
+        if self.calls.next_fails() || self.ports.push(port).is_err() {
             return Err(self.count_fault());
         }
         Ok(())

@@ -11,7 +11,7 @@ returns-in-Err-clause-served g c =
 
 pub returns-in-Ok-clause-served : goal.returns-in-Ok-clause-served
 returns-in-Ok-clause-served g c =
-    opened c.args.count (g.K.Keeper.tables c.args.keeper.now) (g.K.Keeper.tables c.open.new.keeper) c.in-Ok.desk c.open.new.desk
+    opened c.args.port c.args.count (g.K.Keeper.tables c.args.keeper.now) (g.K.Keeper.tables c.open.new.keeper) c.in-Ok.desk c.open.new.desk
     (g.D.Door.visits c.args.door.now) (g.D.Door.visits c.open.new.door) (g.D.Door.faults c.args.door.now) (g.D.Door.faults c.open.new.door)
     (g.C.Clock.days c.args.clock.now) (g.C.Clock.faults c.args.clock.now) (g.K.Keeper.count c.args.keeper.now) (g.K.Keeper.count c.start.new.keeper)
     _ c.open.result (g.S.Sink.taken c.args.out.now)
