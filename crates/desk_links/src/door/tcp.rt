@@ -12,17 +12,17 @@ use std::time::Duration;
 // How long a client may be silent.
 const READ_SECONDS: u64 = 10;
 
-// How long a link that ends waits for what its client still sends.
-const END_SECONDS: u64 = 1;
-
-// How many pieces of such are read away, and how large they are.
+// How many pieces of what its client still sends are read away where a link ends, how large they
+// are, and how long each is waited for: a second for all of them, however slowly they come.
 const END_PIECES: usize = 16;
+
+const END_MILLIS: u64 = 62;
 
 const PIECE_BYTES: usize = 4_096;
 
 /// A door at a port of this machine, for clients on the same machine. It tells nothing of them. A
 /// link that is silent for ten seconds fails; one that is given back says that all is said, reads
-/// away up to 64 KiB that its client still sends within a second at a time, and closes.
+/// away up to 64 KiB that its client still sends within a second at most, and closes.
 #[derive(Drop)]
 pub struct TcpDoor<R: Net + Drop> {
     net: R,
@@ -113,7 +113,7 @@ impl<R: Net + Drop> Door for TcpDoor<R> {
     {
         let mut link = link;
         let said = link.stream.shutdown(Shutdown::Write).is_ok();
-        let limit = Duration::from_secs(END_SECONDS);
+        let limit = Duration::from_millis(END_MILLIS);
         if said && link.stream.set_read_timeout(Some(limit)).is_ok() {
             read_away(&mut link);
         }
