@@ -7,8 +7,9 @@ use Rattle.desk_links.specs.Doors.{Ended, GivesLink, IsSameVisits, TakesLink, Te
 use Rattle.desk_links.specs.Links.{Talk, fresh_talk, input_of}
 use Rattle.desk_server.specs.Connections.{IsConnected, OverTalk}
 use Rattle.desk_server.specs.Exchanges.{Around}
-use Rattle.desk_server.specs.Servings.{Done, IsServedLink, Next, Run, ServesCount, ServesLinks}
+use Rattle.desk_server.specs.Servings.{AreLater, Done, IsServedLink, Next, Run, ServesCount, ServesLinks}
 use Rattle.desk_server.specs.declared.exchange.Served.{Served}
+use Rattle.desk_server.proofs.Few.{are_few}
 
 -- one link more
 run_more : (inputs : List (List ℕ)) (links : List Ended) (before middle after : Around) (kept kept' kept'' : Kept)
@@ -37,6 +38,7 @@ running_none (Some visits) around kept = record {
     given = sym (append-nil visits.given);
     ended = sym (append-nil visits.ended);
     run = Done around kept;
+    few = are_few [] [] around around kept kept (Done around kept);
   };
   counted = refl;
 }
@@ -68,8 +70,9 @@ served_more : (v v' v'' v''' : Visits) (talk talk' : Option Talk) (faults faults
     (a a' a'' : Around) (k k' k'' : Kept) (count : ℕ) (served : Served)
     → IsRunning count a a' k k' v v' → GivesLink talk faults v' v'' → TakesLink talk' faults' v'' v'''
     → OverTalk talk talk' (λ input written. IsConnected input written faults faults' a' a'' k' k'' served)
+    → AreLater a' a''
     → IsRunning (count + 1) a a'' k k'' v v'''
-served_more v v' v'' v''' talk talk' faults faults' a a' a'' k k' k'' count served it gives takes over =
+served_more v v' v'' v''' talk talk' faults faults' a a' a'' k k' k'' count served it gives takes over later =
     let P : List ℕ → List ℕ → Type 0 = λ input written. IsConnected input written faults faults' a' a'' k' k'' served in
     let out = heard_out gives.input talk talk' P gives.fresh over in
     let link : Ended = record { talk = out.told; faults = faults' } in
@@ -77,7 +80,10 @@ served_more v v' v'' v''' talk talk' faults faults' a a' a'' k k' k'' count serv
       heard = out.all;
       served = served;
       connected = subst (λ n. IsConnected gives.input out.told.written n faults' a' a'' k' k'' served) gives.unharmed out.holds;
+      later = later;
     } in
+    let run : Run (it.serves.inputs ++ gives.input ∷ []) (it.serves.links ++ link ∷ []) a a'' k k'' =
+    run_more it.serves.inputs it.serves.links a a' a'' k k' k'' gives.input link it.serves.run one in
     record {
       serves = record {
         inputs = it.serves.inputs ++ gives.input ∷ [];
@@ -85,7 +91,8 @@ served_more v v' v'' v''' talk talk' faults faults' a a' a'' k k' k'' count serv
         ports = takes.ports ∙ gives.ports ∙ it.serves.ports;
         given = takes.given ∙ gives.given ∙ ap (λ l. l ++ gives.input ∷ []) it.serves.given ∙ append_assoc v.given it.serves.inputs (gives.input ∷ []);
         ended = takes.ended out.told out.is ∙ ap (λ l. l ++ link ∷ []) gives.ended ∙ ap (λ l. l ++ link ∷ []) it.serves.ended ∙ append_assoc v.ended it.serves.links (link ∷ []);
-        run = run_more it.serves.inputs it.serves.links a a' a'' k k' k'' gives.input link it.serves.run one;
+        run = run;
+        few = are_few (it.serves.inputs ++ gives.input ∷ []) (it.serves.links ++ link ∷ []) a a'' k k'' run;
       };
       counted = length_push it.serves.inputs gives.input ∙ ap (λ n. n + 1) it.counted;
     }
@@ -96,13 +103,13 @@ pub running_more : (v v' v'' v''' : Option Visits) (talk talk' : Option Talk) (f
     → Tells v v' (IsRunning count a a' k k') → Tells v' v'' (GivesLink talk faults)
     → Tells v'' v''' (TakesLink talk' faults')
     → OverTalk talk talk' (λ input written. IsConnected input written faults faults' a' a'' k' k'' served)
-    → Tells v v''' (IsRunning (count + 1) a a'' k k'')
-running_more None v' v'' v''' talk talk' faults faults' a a' a'' k k' k'' count served it gives takes over = tt
-running_more (Some v) None v'' v''' talk talk' faults faults' a a' a'' k k' k'' count served it gives takes over = absurd it
-running_more (Some v) (Some v') None v''' talk talk' faults faults' a a' a'' k k' k'' count served it gives takes over = absurd gives
-running_more (Some v) (Some v') (Some v'') None talk talk' faults faults' a a' a'' k k' k'' count served it gives takes over = absurd takes
-running_more (Some v) (Some v') (Some v'') (Some v''') talk talk' faults faults' a a' a'' k k' k'' count served it gives takes over =
-    served_more v v' v'' v''' talk talk' faults faults' a a' a'' k k' k'' count served it gives takes over
+    → AreLater a' a'' → Tells v v''' (IsRunning (count + 1) a a'' k k'')
+running_more None v' v'' v''' talk talk' faults faults' a a' a'' k k' k'' count served it gives takes over later = tt
+running_more (Some v) None v'' v''' talk talk' faults faults' a a' a'' k k' k'' count served it gives takes over later = absurd it
+running_more (Some v) (Some v') None v''' talk talk' faults faults' a a' a'' k k' k'' count served it gives takes over later = absurd gives
+running_more (Some v) (Some v') (Some v'') None talk talk' faults faults' a a' a'' k k' k'' count served it gives takes over later = absurd takes
+running_more (Some v) (Some v') (Some v'') (Some v''') talk talk' faults faults' a a' a'' k k' k'' count served it gives takes over later =
+    served_more v v' v'' v''' talk talk' faults faults' a a' a'' k k' k'' count served it gives takes over later
 
 -- all are served that were wanted
 pub served_all : (v v' : Option Visits) (a a' : Around) (k k' : Kept) (count wanted : ℕ)

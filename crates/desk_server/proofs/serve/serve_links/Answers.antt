@@ -22,7 +22,8 @@ loop-preserved g c = record {
       (around (g.C.Clock.days c.loop.clock) (g.C.Clock.faults c.loop.clock) (g.K.Keeper.count c.loop.keeper))
       (around (g.C.Clock.days c.connection-served.new.clock) (g.C.Clock.faults c.connection-served.new.clock) (g.K.Keeper.count c.connection-served.new.keeper))
       c.args.desk.now.kept c.loop.desk.kept c.connection-served.new.desk.kept c.loop.counter c.connection-served.result
-      c.loop.invariant.so_far c.in-Ok.ensures.gives c.ended.ensures.takes c.connection-served.ensures.connected;
+      c.loop.invariant.so_far c.in-Ok.ensures.gives c.ended.ensures.takes c.connection-served.ensures.connected
+      (record { clock = c.connection-served.ensures.later_clock; keeper = c.connection-served.ensures.later });
   held = c.connection-served.ensures.held;
   later = omega (arith, c.loop.invariant.later, c.connection-served.ensures.later);
   later_door = omega (arith, c.loop.invariant.later_door, c.in-Ok.ensures.calm, c.ended.ensures.count);
