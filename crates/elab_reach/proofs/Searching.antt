@@ -16,8 +16,8 @@ use Rattle.elab_links.specs.declared.module_set.Lookup.TheVariants.{Missing, Fou
 use Rattle.elab_links.specs.declared.module_set.Place.{Place}
 use Rattle.elab_links.specs.Modules.{Lookups, circuit_at, circuits_of, listed_at}
 use Rattle.elab_reach.specs.declared.search.Search.{Search}
-use Rattle.elab_reach.specs.Reach.{AreFilesReached, Held, IsFileReached, IsReached, Top, meant, named_by, named_in, named_in_item}
-use Rattle.elab_reach.specs.Searches.{AreMarked, AreMarkedRows, AreSeen, Finds, IsBlank, IsIn, all_unmarked, blank, mark, marks_of, row, with_mark}
+use Rattle.elab_reach.specs.Reach.{AreFilesReached, AreHeld, Held, IsFileReached, IsHeld, IsReached, Top, meant, named_by, named_in, named_in_item}
+use Rattle.elab_reach.specs.Searches.{AreMarked, AreMarkedRows, AreSeen, Finds, IsBlank, IsDone, IsIn, all_unmarked, blank, mark, marks_of, row, with_mark}
 use Rattle.elab_reach.proofs.Marking.{cases_place, has_that_mark, in_rows, mark_in, mark_inside, marked_here, marked_there, one_fewer, same_size}
 
 pub none_in : {X : Type 0} (x : X) → Contains [] x → ⊥
@@ -306,7 +306,20 @@ search_ends lookups files top next search h past =
         = get_or_default search.found.items n nowhere holder there ∙ held.2 in
         h.followed n (omega (arith, there, past)) place (subst (λ (q : Place). Contains (named_by lookups (circuit_at files q)) place) (sym is) among) inside
 
--- ---- the files
+-- ---- the modules and the files
+
+pub all_held : (lookups : Lookups) (files : List (List Circuit)) (top : List ℕ) (search : Search) → IsDone lookups files top search → AreHeld lookups files top search.found.items
+all_held lookups files top search done = record { each = λ place. (to place, from place) }
+  where
+    to : (place : Place) → Contains search.found.items place → IsHeld lookups files top place
+    to place among =
+        let (inside, reached) = (done.seen.each place).0 ((done.marked.each place).1 among) in
+        let (one, there) = circuit_there files place.file place.index inside in
+        record { circuit = one; there = there; reached = reached }
+
+    from : (place : Place) → IsHeld lookups files top place → Contains search.found.items place
+    from place is =
+        (done.marked.each place).0 ((done.seen.each place).1 (circuit_inside files place.file place.index is.circuit is.there, is.reached))
 
 pub files_reached : (lookups : Lookups) (files : List (List Circuit)) (top : List ℕ) (marks : List (List Bool)) (numbers : List ℕ) → AreSeen lookups files top marks → AreMarkedRows marks numbers → AreFilesReached lookups files top numbers
 files_reached lookups files top marks numbers seen listed =

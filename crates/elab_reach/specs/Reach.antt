@@ -45,6 +45,16 @@ pub data IsReached (lookups : Lookups) (files : List (List Circuit)) (top : List
       (holder place : Place) → IsReached lookups files top holder →
       Contains (named_by lookups (circuit_at files holder)) place → IsReached lookups files top place
 
+-- a module of the top that is there
+pub record IsHeld (lookups : Lookups) (files : List (List Circuit)) (top : List ℕ) (place : Place) : Type 0 where
+  pub circuit : Circuit
+  pub there : circuit_at files place ≡ Some circuit
+  pub reached : IsReached lookups files top place
+
+-- all such modules
+pub record AreHeld (lookups : Lookups) (files : List (List Circuit)) (top : List ℕ) (places : List Place) : Type 0 where
+  pub each : (place : Place) → Contains places place ↔ IsHeld lookups files top place
+
 -- a file in which a module of the top stands
 pub record IsFileReached (lookups : Lookups) (files : List (List Circuit)) (top : List ℕ) (file : ℕ) : Type 0 where
   pub index : ℕ

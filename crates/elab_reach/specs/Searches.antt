@@ -88,3 +88,8 @@ pub record Finds (places : List Place) (old new : Search) : Type 0 where
 -- the marked modules are just those of the top
 pub record AreSeen (lookups : Lookups) (files : List (List Circuit)) (top : List ℕ) (marks : List (List Bool)) : Type 0 where
   pub each : (place : Place) → mark marks place ≡ true ↔ (IsIn files place × IsReached lookups files top place)
+
+-- the search is at its end: all modules of the top are found and marked
+pub record IsDone (lookups : Lookups) (files : List (List Circuit)) (top : List ℕ) (search : Search) : Type 0 where
+  pub seen : AreSeen lookups files top (marks_of search)
+  pub marked : AreMarked search

@@ -1,4 +1,4 @@
-//! The files in which the modules of a top stand.
+//! The modules of a top, and the files in which they stand.
 #![tactic(auto)]
 
 mod marks;
@@ -14,6 +14,7 @@ use elab_links::module_set::ModuleSet;
 use rtl_tree::memory::Memory;
 use rtl_tree::text::Text;
 use rtl_tree::tree::modules::Module;
+pub use search::reached_places;
 use std::alloc::Global;
 
 /// The numbers of the files, from 0 and ascending, in which a module of the top stands: the one that its name means, or

@@ -5,8 +5,8 @@ ghost use Rattle.std.specs.Option.{option_map};
 ghost use Rattle.rtl_tree.specs.TreeItem.{module_item};
 ghost use Rattle.rtl_tree.specs.TreeModule.{circuit};
 ghost use Rattle.elab_links.specs.Modules.{circuits_of, lookups_of};
-ghost use Rattle.elab_reach.specs.Reach.{meant, named_by, named_in, named_in_item};
-ghost use Rattle.elab_reach.specs.Searches.{AreSeen, Finds, IsBlank, rows_of};
+ghost use Rattle.elab_reach.specs.Reach.{AreHeld, meant, named_by, named_in, named_in_item};
+ghost use Rattle.elab_reach.specs.Searches.{AreSeen, Finds, IsBlank, IsDone, rows_of};
 
 use crate::marks::{mark, unmarked};
 use elab_links::module_set::{Lookup, ModuleSet, Place, module_at};
@@ -93,6 +93,27 @@ impl Search {
     }
 }
 
+/// The modules that the top holds.
+fn searched(
+    alloc: Global,
+    files: &[Vec<Module>],
+    set: &ModuleSet,
+    top: &Text,
+) -> Result<Search, Memory>
+    ensures { IfOk result (λ search.
+        IsDone (lookups_of set.now) (circuits_of files.now) top.now search) }
+{
+    let mut search = Search::new(alloc, files)?;
+    search.add(set.find(top))?;
+    let mut next = 0;
+    while next < search.found.len() {
+        let place = search.found[next];
+        search.add_all(set, module_at(files, place))?;
+        next += 1;
+    }
+    Ok(search)
+}
+
 /// Whether each module of each file is held by the top.
 pub(crate) fn reached(
     alloc: Global,
@@ -103,13 +124,23 @@ pub(crate) fn reached(
     ensures { IfOk result (λ seen.
         AreSeen (lookups_of set.now) (circuits_of files.now) top.now (rows_of seen.items)) }
 {
-    let mut search = Search::new(alloc, files)?;
-    search.add(set.find(top))?;
-    let mut next = 0;
-    while next < search.found.len() {
-        let place = search.found[next];
-        search.add_all(set, module_at(files, place))?;
-        next += 1;
-    }
+    let search = searched(alloc, files, set, top)?;
     Ok(search.seen)
+}
+
+/// Where the modules of a top stand: the one that its name means, and each that an instance item
+/// of such a module names. A name that no module has, or more than one, leads nowhere.
+///
+/// Each module is gone through once. It fails only for want of memory.
+pub fn reached_places(
+    alloc: Global,
+    files: &[Vec<Module>],
+    set: &ModuleSet,
+    top: &Text,
+) -> Result<Vec<Place>, Memory>
+    ensures { IfOk result (λ places.
+        AreHeld (lookups_of set.now) (circuits_of files.now) top.now places.items) }
+{
+    let search = searched(alloc, files, set, top)?;
+    Ok(search.found)
 }

@@ -2,7 +2,7 @@ use Rattle.std.proofs.Common.{◌+◌, ◌-◌, length}
 use Rattle.elab_links.specs.Modules.{circuits_of, lookups_of}
 use Rattle.elab_reach.specs.Searches.{all_unmarked, marks_of}
 use Rattle.elab_reach.proofs.Searching.{IsSearched}
-use Rattle.elab_reach.proofs.search.reached.Given as goal
+use Rattle.elab_reach.proofs.search.searched.Given as goal
 
 abbrev pub invariant-loop-next : goal.invariant-loop-next
 invariant-loop-next l =

@@ -6,7 +6,7 @@ use Rattle.elab_links.specs.Modules.{circuit_at, circuits_of, lookups_of}
 use Rattle.elab_reach.specs.Reach.{meant, named_by}
 use Rattle.elab_reach.specs.Searches.{Finds}
 use Rattle.elab_reach.proofs.Searching.{nowhere, search_begins, search_ends, search_goes_on}
-use Rattle.elab_reach.proofs.search.reached.Goals as goal
+use Rattle.elab_reach.proofs.search.searched.Goals as goal
 
 pub loop-next-init : goal.loop-next-init
 loop-next-init c =
@@ -28,4 +28,7 @@ loop-next-preserved c =
 pub returns : goal.returns
 returns c =
     let past : length c.loop-next.search.found.items ≤ c.loop-next.next = omega arith in
-    search_ends (lookups_of c.args.set.now) (circuits_of c.args.files.now) c.args.top.now c.loop-next.next c.loop-next.search c.loop-next.invariant past
+    record {
+      seen = search_ends (lookups_of c.args.set.now) (circuits_of c.args.files.now) c.args.top.now c.loop-next.next c.loop-next.search c.loop-next.invariant past;
+      marked = c.loop-next.invariant.marked;
+    }
