@@ -1,0 +1,5 @@
+use Rattle.elab_names.proofs.Designs.{design_same}
+use Rattle.elab_names.proofs.law.same_design.Goals as goal
+
+pub returns : goal.returns
+returns c = design_same

@@ -1,0 +1,124 @@
+// The names that a top looks up.
+
+ghost use Rattle.std.specs.Prelude.{◌≡◌, [], ◌∷◌, IfOk, OnOk, map};
+ghost use Rattle.std.specs.Option.{option_map};
+ghost use Rattle.name_map.specs.Values.{no_values, values_of};
+ghost use Rattle.rtl_tree.specs.TreeItem.{module_item};
+ghost use Rattle.rtl_tree.specs.TreeModule.{circuit};
+ghost use Rattle.elab_links.specs.Modules.{all_placed, circuits_of, found, lookups_of};
+ghost use Rattle.rtl_elab.specs.Designs.{library_of};
+ghost use Rattle.elab_names.specs.Asking.{Asks};
+ghost use Rattle.elab_names.specs.LookUps.{AreLookUps, name_in_item, names_by, names_in};
+
+use crate::look_up::LookUp;
+use elab_links::module_set::{Lookup, ModuleSet, module_at};
+use elab_reach::reached_places;
+use name_map::NameMap;
+use rtl_tree::memory::Memory;
+use rtl_tree::text::Text;
+use rtl_tree::tree::item::Item;
+use rtl_tree::tree::modules::Module;
+use std::alloc::Global;
+
+/// The names that are looked up so far, each once.
+#[derive(Drop)]
+pub(crate) struct Asked {
+    known: NameMap<Lookup>,
+    found: Vec<LookUp>,
+}
+
+impl Asked {
+    /// No name is looked up yet.
+    fn new(alloc: Global) -> Asked
+        ensures known { values_of result.known ≡ no_values }
+        ensures found { result.found.items ≡ [] }
+    {
+        Asked {
+            known: NameMap::new(alloc),
+            found: Vec::new(alloc),
+        }
+    }
+
+    /// A name, where it isn't there yet.
+    fn add(&mut self, alloc: Global, set: &ModuleSet, name: &Text) -> Result<(), Memory>
+        ensures { OnOk result (Asks (lookups_of set.now) (name.now ∷ []) self.old self.new) }
+    {
+        if self.known.find(name).is_some() {
+            return Ok(());
+        }
+        let meant = set.find(name);
+        let copy = Text::from_bytes(alloc, name.as_bytes())?;
+        self.known.put(&copy, meant)?;
+        self.found.push(LookUp { name: copy, meant })?;
+        Ok(())
+    }
+
+    /// The name of the module whose instances an item places.
+    #[tactic(auto, using(crate::proofs::Asking::asks_nothing))]
+    fn add_item(&mut self, alloc: Global, set: &ModuleSet, item: &Item) -> Result<(), Memory>
+        ensures { OnOk result
+            (Asks (lookups_of set.now) (name_in_item (module_item item.now)) self.old self.new) }
+    {
+        match item {
+            Item::Instances { child, .. } => self.add(alloc, set, &child.text),
+            Item::Ports(_, _)
+            | Item::Wires { .. }
+            | Item::Regs { .. }
+            | Item::Integers(_, _)
+            | Item::Parameters { .. }
+            | Item::Assigns(_, _, _)
+            | Item::Always(_, _, _) => Ok(()),
+        }
+    }
+
+    /// The names of the modules whose instances items place.
+    #[tactic(auto, using(crate::proofs::Asking::asks_nothing))]
+    fn add_items(&mut self, alloc: Global, set: &ModuleSet, items: &[Item]) -> Result<(), Memory>
+        ensures { OnOk result
+            (Asks (lookups_of set.now) (names_in (map module_item items.now)) self.old self.new) }
+    {
+        for item in items {
+            self.add_item(alloc, set, item)?;
+        }
+        Ok(())
+    }
+
+    /// The names of the modules that a module places, where it is there.
+    #[tactic(auto, using(crate::proofs::Asking::asks_nothing))]
+    fn add_all(
+        &mut self,
+        alloc: Global,
+        set: &ModuleSet,
+        written: Option<&Module>,
+    ) -> Result<(), Memory>
+        ensures { OnOk result (Asks (lookups_of set.now)
+            (names_by (option_map (λ written. circuit written.now) written.entry))
+            self.old self.new) }
+    {
+        match written {
+            None => Ok(()),
+            Some(written) => self.add_items(alloc, set, &written.items),
+        }
+    }
+}
+
+/// The names that the modules of a top look up, its own first and each once, with what they mean.
+/// Each module of the top is gone through once. It fails only for want of memory.
+pub fn look_ups(
+    alloc: Global,
+    files: &[Vec<Module>],
+    set: &ModuleSet,
+    top: &Text,
+) -> Result<Vec<LookUp>, Memory>
+    requires { lookups_of set.now ≡ found (all_placed (circuits_of files.now)) }
+    ensures { IfOk result (λ found.
+        AreLookUps (library_of (circuits_of files.now)) top.now found.items) }
+{
+    let places = reached_places(alloc, files, set, top)?;
+    let mut asked = Asked::new(alloc);
+    asked.add(alloc, set, top)?;
+    for place in &places {
+        asked.add_all(alloc, set, module_at(files, *place))?;
+    }
+    Ok(asked.found)
+}
