@@ -8,6 +8,8 @@ mod files;
 #[cfg(test)]
 mod items;
 #[cfg(test)]
+mod lookups;
+#[cfg(test)]
 mod refusals;
 #[cfg(test)]
 mod rows;
