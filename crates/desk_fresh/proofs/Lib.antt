@@ -1,0 +1,3 @@
+mod Example
+pub mod Answered
+pub mod Loops
