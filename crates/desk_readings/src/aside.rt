@@ -1,0 +1,51 @@
+// What was read beside what is kept.
+ghost use Rattle.std.specs.Prelude.{◌≡◌, ◌++◌, ◌∷◌, [], None, Some, OnOk};
+
+use crate::reading::{Fresh, Reading};
+use rtl_tree::memory::Memory;
+use rtl_tree::tree::modules::Module;
+use std::alloc::Global;
+
+/// For each file, in the order of the files: what changes places with what is kept of it, or
+/// nothing.
+#[derive(Drop)]
+pub struct Aside {
+    pub(crate) readings: Vec<Option<Option<Reading>>>,
+    pub(crate) modules: Vec<Option<Vec<Module>>>,
+}
+
+impl Aside {
+    pub(crate) fn new(alloc: Global) -> Aside
+        ensures readings { result.readings.items ≡ [] }
+        ensures modules { result.modules.items ≡ [] }
+    {
+        Aside {
+            readings: Vec::new(alloc),
+            modules: Vec::new(alloc),
+        }
+    }
+
+    // What is kept of the next file stays.
+    pub(crate) fn push_none(&mut self) -> Result<(), Memory>
+        ensures readings { OnOk result
+            (self.new.readings.items ≡ self.old.readings.items ++ None ∷ []) }
+        ensures modules { OnOk result
+            (self.new.modules.items ≡ self.old.modules.items ++ None ∷ []) }
+    {
+        self.readings.push(None)?;
+        self.modules.push(None)?;
+        Ok(())
+    }
+
+    pub(crate) fn push(&mut self, fresh: Fresh) -> Result<(), Memory>
+        ensures readings { OnOk result
+            (self.new.readings.items ≡ self.old.readings.items ++ Some (Some fresh.reading) ∷ []) }
+        ensures modules { OnOk result
+            (self.new.modules.items ≡ self.old.modules.items ++ Some fresh.modules ∷ []) }
+    {
+        let Fresh { reading, modules } = fresh;
+        self.readings.push(Some(Some(reading)))?;
+        self.modules.push(Some(modules))?;
+        Ok(())
+    }
+}
