@@ -1,0 +1,122 @@
+-- When rulings hold, on small cases.
+use Rattle.std.proofs.Common.{◌≡◌, ℕ, List, [], ◌∷◌, codes, refl}
+use Rattle.std.specs.Prelude.{true, false, None, Some}
+use Rattle.rtl_tree.specs.TreeModule.{Absent, Circuit}
+use Rattle.elab_links.specs.declared.module_set.Lookup.{Lookup}
+use Rattle.elab_links.specs.declared.module_set.Lookup.TheVariants.{Missing, Found, Twice}
+use Rattle.elab_links.specs.declared.module_set.Place.{Place}
+use Rattle.elab_names.specs.declared.look_up.LookUp.{LookUp}
+use Rattle.desk_files.specs.declared.files.SourceFile.{SourceFile}
+use Rattle.desk_fresh.specs.declared.answer.Answer.{Answer}
+use Rattle.desk_memo.specs.Rulings.{Ruling, Used, current_of, is_absent, is_current, is_meant, is_there, others_of, with_ruling}
+
+abbrev file : List ℕ → List ℕ → SourceFile
+file its_name its_text = record { name = its_name; text = its_text }
+
+abbrev files : List SourceFile
+files = file (codes "a.v") (codes "1") ∷ file (codes "b.v") (codes "2") ∷ []
+
+-- module NAME; endmodule
+abbrev module_of : List ℕ → Circuit
+module_of its_name =
+    record {
+      at = 0;
+      name = record { text = its_name; at = 0 };
+      parameters = [];
+      header = Absent;
+      items = [];
+      dropped = [];
+    }
+
+-- the first file has a module t, the second one l
+abbrev modules : List (List Circuit)
+modules = (module_of (codes "t") ∷ []) ∷ (module_of (codes "l") ∷ []) ∷ []
+
+-- both have a module l
+abbrev doubled : List (List Circuit)
+doubled =
+    (module_of (codes "t") ∷ module_of (codes "l") ∷ []) ∷ (module_of (codes "l") ∷ []) ∷ []
+
+abbrev first_in : ℕ → Lookup
+first_in number = let place : Place = record { file = number; index = 0 } in Found place
+
+abbrev meant : List ℕ → Lookup → LookUp
+meant its_name lookup = record { name = its_name; meant = lookup }
+
+abbrev used : ℕ → List ℕ → List ℕ → Used
+used number its_name its_text = record { number = number; file = file its_name its_text }
+
+-- ---- names
+
+it_means_the_same : is_meant modules (meant (codes "l") (first_in 1)) ≡ true
+it_means_the_same = refl
+
+it_stands_elsewhere : is_meant modules (meant (codes "l") (first_in 0)) ≡ false
+it_stands_elsewhere = refl
+
+a_missing_module_is_there_now : is_meant modules (meant (codes "l") Missing) ≡ false
+a_missing_module_is_there_now = refl
+
+it_is_still_missing : is_meant modules (meant (codes "m") Missing) ≡ true
+it_is_still_missing = refl
+
+a_second_file_has_it : is_meant doubled (meant (codes "l") (first_in 1)) ≡ false
+a_second_file_has_it = refl
+
+two_files_have_it_still : is_meant doubled (meant (codes "l") Twice) ≡ true
+two_files_have_it_still = refl
+
+-- ---- files
+
+it_is_there : is_there files (used 1 (codes "b.v") (codes "2")) ≡ true
+it_is_there = refl
+
+it_has_another_text : is_there files (used 1 (codes "b.v") (codes "3")) ≡ false
+it_has_another_text = refl
+
+it_has_another_number : is_there files (used 0 (codes "b.v") (codes "2")) ≡ false
+it_has_another_number = refl
+
+it_is_gone : is_there files (used 2 (codes "c.v") (codes "2")) ≡ false
+it_is_gone = refl
+
+-- ---- rulings
+
+-- t, which holds l
+abbrev of_t : Answer → Ruling
+of_t answer =
+    record {
+      top = codes "t";
+      look_ups = meant (codes "t") (first_in 0) ∷ meant (codes "l") (first_in 1) ∷ [];
+      used = used 0 (codes "a.v") (codes "1") ∷ used 1 (codes "b.v") (codes "2") ∷ [];
+      answer = answer;
+    }
+
+-- m, which no file has
+abbrev of_m : Answer → Ruling
+of_m answer =
+    record { top = codes "m"; look_ups = meant (codes "m") Missing ∷ []; used = []; answer = answer }
+
+it_holds : (answer : Answer) → is_current files modules (of_t answer) ≡ true
+it_holds answer = refl
+
+it_holds_no_more : (answer : Answer) → is_current files doubled (of_t answer) ≡ false
+it_holds_no_more answer = refl
+
+that_of_the_top_is_found : (one other : Answer) → current_of files modules (codes "t") (of_m one ∷ of_t other ∷ []) ≡ Some (of_t other)
+that_of_the_top_is_found one other = refl
+
+one_that_holds_no_more_is_not : (one other : Answer) → current_of files doubled (codes "t") (of_m one ∷ of_t other ∷ []) ≡ None
+one_that_holds_no_more_is_not one other = refl
+
+others_are_of_other_tops : (one other : Answer) → others_of (codes "t") (of_m one ∷ of_t other ∷ []) ≡ of_m one ∷ []
+others_are_of_other_tops one other = refl
+
+it_goes_in_place_of_that_of_its_top : (one other new : Answer) → with_ruling (of_m new) (of_m one ∷ of_t other ∷ []) ≡ of_m new ∷ of_t other ∷ []
+it_goes_in_place_of_that_of_its_top one other new = refl
+
+a_missing_top_is_absent : (answer : Answer) → is_absent (of_m answer) ≡ true
+a_missing_top_is_absent answer = refl
+
+a_top_with_a_module_is_not : (answer : Answer) → is_absent (of_t answer) ≡ false
+a_top_with_a_module_is_not answer = refl

@@ -1,0 +1,70 @@
+-- It serves inner contracts and proofs; no answer of the program is stated by it.
+-- What contracts see of the rulings that are kept.
+use Rattle.std.specs.Prelude.{ℕ, ◌≡◌, Bool, true, find, List, ◌++◌, Option, None, Some, IfSome, map, option_to_list, slice_get, take}
+use Rattle.std.specs.List.{All, filter_map}
+use Rattle.std.specs.Option.{option_map}
+use Rattle.rtl_tree.specs.TreeModule.{Circuit}
+use Rattle.desk_files.specs.declared.files.SourceFile.{SourceFile}
+use Rattle.desk_memo.specs.Rulings.{Ruling, Used, is_current}
+use Rattle.desk_memo.specs.declared.kept.Kept.{Kept}
+use Rattle.desk_memo.specs.declared.memo.Memo.{Memo}
+use Rattle.desk_memo.specs.declared.used.Used.{Used as Held}
+
+abbrev pub used_of : Held → Used
+used_of held = record { number = held.number; file = held.file.value }
+
+abbrev pub all_used : List Held → List Used
+all_used held = map used_of held
+
+abbrev pub ruling_of : Kept → Ruling
+ruling_of kept =
+    record {
+      top = kept.top;
+      look_ups = kept.look_ups.items;
+      used = all_used kept.used.items;
+      answer = kept.answer.value;
+    }
+
+-- the rulings of tops that modules are named by, in the order in which they came first
+abbrev pub rulings_of : Memo → List Ruling
+rulings_of memo = map ruling_of memo.rulings.items
+
+-- that of the last top that no module, or more than one, is named by
+abbrev pub absent_of : Memo → Option Ruling
+absent_of memo = option_map ruling_of memo.absent
+
+abbrev pub all_of : Memo → List Ruling
+all_of memo = rulings_of memo ++ option_to_list (absent_of memo)
+
+-- ---- what is known to hold
+
+-- where the flag is set, the ruling holds among files and their modules
+abbrev pub IsChecked : List SourceFile → List (List Circuit) → Kept → Type 0
+IsChecked files modules kept =
+    kept.is_checked ≡ true → is_current files modules (ruling_of kept) ≡ true
+
+abbrev pub AreAllChecked : List SourceFile → List (List Circuit) → List Kept → Type 0
+AreAllChecked files modules kept = All (IsChecked files modules) kept
+
+pub record AreChecked (files : List SourceFile) (modules : List (List Circuit)) (memo : Memo) : Type 0 where
+  pub rulings : AreAllChecked files modules memo.rulings.items
+  pub absent : IfSome memo.absent (IsChecked files modules)
+
+-- ---- places
+
+-- the place of the first ruling that passes a test
+abbrev pub IsPlaceOf : (Ruling → Bool) → List Ruling → Option ℕ → Type 0
+IsPlaceOf test rulings None = find test rulings ≡ None
+IsPlaceOf test rulings (Some place) =
+    (ruling : Ruling) × (slice_get rulings place ≡ Some ruling) × (test ruling ≡ true)
+    × (find test (take place rulings) ≡ None)
+
+-- ---- the files that a top uses
+
+abbrev pub used_at : ℕ → Option SourceFile → Option Used
+used_at number file =
+    option_map (λ (it : SourceFile). record { number = number; file = it }) file
+
+-- the files with these numbers, where there are such
+abbrev pub used_among : (ℕ → Option SourceFile) → List ℕ → List Used
+used_among file_of numbers = filter_map (λ number. used_at number (file_of number)) numbers

@@ -1,0 +1,230 @@
+// The rulings that are kept.
+ghost use Rattle.std.specs.Prelude.{◌≡◌, ◌++◌, ◌∷◌, [], false, if◌then◌else◌, is_some, List};
+ghost use Rattle.std.specs.Prelude.{map, None, OnErr, OnOk, option_copied, option_to_list, Some};
+ghost use Rattle.std.specs.List.{Contains};
+ghost use Rattle.rtl_tree.specs.TreeModule.{Circuit};
+ghost use Rattle.elab_links.specs.Modules.{circuits_of};
+ghost use Rattle.desk_files.specs.declared.files.SourceFile.{SourceFile};
+ghost use Rattle.desk_memo.specs.Rulings.{Ruling, current_answer, current_of, is_absent};
+ghost use Rattle.desk_memo.specs.Rulings.{is_current_of, is_of, others_of, with_ruling};
+ghost use Rattle.desk_memo.specs.Shown.{AreAllChecked, AreChecked, IsPlaceOf};
+ghost use Rattle.desk_memo.specs.Shown.{absent_of, all_of, ruling_of, rulings_of};
+
+use crate::kept::Kept;
+use desk_files::SourceFile;
+use desk_fresh::Answer;
+use rtl_tree::memory::Memory;
+use rtl_tree::text::Text;
+use rtl_tree::tree::modules::Module;
+use std::alloc::Global;
+
+/// The rulings of tops, one for each, and that of the last top that no module, or more than one, is
+/// named by: of such tops only the last is kept, so that requests for names that aren't there take
+/// no memory for good.
+#[derive(Drop)]
+pub struct Memo {
+    rulings: Vec<Kept>,
+    absent: Option<Kept>,
+}
+
+// The place of the ruling of a top.
+fn place_of(rulings: &[Kept], top: &[u8]) -> Option<usize>
+    ensures { IsPlaceOf (is_of top.now) (map ruling_of rulings.now) result }
+{
+    for (place, kept) in rulings.iter().enumerate() {
+        if kept.is_of(top) {
+            return Some(place);
+        }
+    }
+    None
+}
+
+// The place of the ruling of a top that holds among files and their modules.
+fn current_place(
+    rulings: &[Kept],
+    files: &[SourceFile],
+    modules: &[Vec<Module>],
+    top: &[u8],
+) -> Option<usize>
+    requires { AreAllChecked files.now (circuits_of modules.now) rulings.now }
+    ensures { IsPlaceOf (is_current_of files.now (circuits_of modules.now) top.now)
+        (map ruling_of rulings.now) result }
+{
+    for (place, kept) in rulings.iter().enumerate() {
+        if kept.is_of(top) && kept.is_current(files, modules) {
+            return Some(place);
+        }
+    }
+    None
+}
+
+// Keeps a ruling in place of that of its top, or behind all.
+fn keep_in(rulings: &mut Vec<Kept>, kept: Kept) -> Result<(), Memory>
+    requires { kept.is_checked ≡ false }
+    ensures rulings { OnOk result (map ruling_of rulings.new.items
+        ≡ with_ruling (ruling_of kept) (map ruling_of rulings.old.items)) }
+    ensures same { OnErr result (map ruling_of rulings.new.items
+        ≡ map ruling_of rulings.old.items) }
+    ensures checked { (files : List SourceFile) (modules : List (List Circuit))
+        → AreAllChecked files modules rulings.old.items
+        → AreAllChecked files modules rulings.new.items }
+{
+    match place_of(rulings, kept.top.as_bytes()) {
+        Some(place) => {
+            rulings[place] = kept;
+            Ok(())
+        }
+        None => {
+            rulings.push(kept)?;
+            Ok(())
+        }
+    }
+}
+
+// None of the rulings is known to hold.
+fn doubt_all(rulings: &mut [Kept])
+    ensures rulings { map ruling_of rulings.new ≡ map ruling_of rulings.old }
+    ensures checked { (files : List SourceFile) (modules : List (List Circuit))
+        → AreAllChecked files modules rulings.new }
+{
+    for place in 0..rulings.len() {
+        rulings[place].is_checked = false;
+    }
+}
+
+impl Memo {
+    /// No rulings.
+    pub fn new(alloc: Global) -> Memo
+        ensures rulings { rulings_of result ≡ [] }
+        ensures absent { absent_of result ≡ None }
+        ensures checked { (files : List SourceFile) (modules : List (List Circuit))
+            → AreChecked files modules result }
+    {
+        Memo {
+            rulings: Vec::new(alloc),
+            absent: None,
+        }
+    }
+
+    /// No ruling is known to hold from now on. It takes no memory.
+    pub fn doubt(&mut self)
+        ensures rulings { rulings_of self.new ≡ rulings_of self.old }
+        ensures absent { absent_of self.new ≡ absent_of self.old }
+        ensures checked { (files : List SourceFile) (modules : List (List Circuit))
+            → AreChecked files modules self.new }
+    {
+        doubt_all(&mut self.rulings);
+        if let Some(kept) = &mut self.absent {
+            kept.is_checked = false;
+        }
+    }
+
+    /// The answer of a top that holds among files and their modules. It takes no memory.
+    pub fn answer(
+        &self,
+        files: &[SourceFile],
+        modules: &[Vec<Module>],
+        top: &Text,
+    ) -> Option<&Answer>
+        requires { AreChecked files.now (circuits_of modules.now) self.now }
+        ensures { option_copied result
+            ≡ current_answer files.now (circuits_of modules.now) top.now (all_of self.now) }
+    {
+        match current_place(&self.rulings, files, modules, top.as_bytes()) {
+            Some(place) => Some(&self.rulings[place].answer),
+            None => self.absent_answer(files, modules, top),
+        }
+    }
+
+    // That of the absent top.
+    fn absent_answer(
+        &self,
+        files: &[SourceFile],
+        modules: &[Vec<Module>],
+        top: &Text,
+    ) -> Option<&Answer>
+        requires { AreChecked files.now (circuits_of modules.now) self.now }
+        ensures { option_copied result ≡ current_answer files.now (circuits_of modules.now) top.now
+            (option_to_list (absent_of self.now)) }
+    {
+        match &self.absent {
+            Some(kept) => {
+                if kept.is_of(top.as_bytes()) && kept.is_current(files, modules) {
+                    Some(&kept.answer)
+                } else {
+                    None
+                }
+            }
+            None => None,
+        }
+    }
+
+    /// Whether there is a ruling of a top that holds among files and their modules, which is known
+    /// from then on. It takes no memory.
+    pub fn check(&mut self, files: &[SourceFile], modules: &[Vec<Module>], top: &Text) -> bool
+        requires { AreChecked files.now (circuits_of modules.now) self.old }
+        ensures found { result
+            ≡ is_some (current_of files.now (circuits_of modules.now) top.now (all_of self.old)) }
+        ensures rulings { rulings_of self.new ≡ rulings_of self.old }
+        ensures absent { absent_of self.new ≡ absent_of self.old }
+        ensures checked { AreChecked files.now (circuits_of modules.now) self.new }
+    {
+        match current_place(&self.rulings, files, modules, top.as_bytes()) {
+            Some(place) => {
+                self.rulings[place].is_checked = true;
+                true
+            }
+            None => self.check_absent(files, modules, top),
+        }
+    }
+
+    // The same of the absent top.
+    fn check_absent(&mut self, files: &[SourceFile], modules: &[Vec<Module>], top: &Text) -> bool
+        requires { AreChecked files.now (circuits_of modules.now) self.old }
+        ensures found { result ≡ is_some (current_of files.now (circuits_of modules.now) top.now
+            (option_to_list (absent_of self.old))) }
+        ensures rulings { rulings_of self.new ≡ rulings_of self.old }
+        ensures absent { absent_of self.new ≡ absent_of self.old }
+        ensures checked { AreChecked files.now (circuits_of modules.now) self.new }
+    {
+        let Some(kept) = &mut self.absent else {
+            return false;
+        };
+        let holds = kept.is_of(top.as_bytes()) && kept.is_current(files, modules);
+        if holds {
+            kept.is_checked = true;
+        }
+        holds
+    }
+
+    /// Keeps a ruling in place of that of its top; one of an absent top in place of the last such.
+    ///
+    /// # Errors
+    ///
+    /// Memory ran out. All rulings stay then.
+    pub fn keep(&mut self, kept: Kept) -> Result<(), Memory>
+        ensures placed { OnOk result (rulings_of self.new
+            ≡ if is_absent (ruling_of kept) then rulings_of self.old
+            else with_ruling (ruling_of kept) (rulings_of self.old)) }
+        ensures alone { OnOk result (absent_of self.new
+            ≡ if is_absent (ruling_of kept) then Some (ruling_of kept) else absent_of self.old) }
+        ensures others { OnOk result (others_of (ruling_of kept).top (rulings_of self.new)
+            ≡ others_of (ruling_of kept).top (rulings_of self.old)) }
+        ensures there { OnOk result (Contains (all_of self.new) (ruling_of kept)) }
+        ensures from { OnOk result ((ruling : Ruling) → Contains (all_of self.new) ruling
+            → Contains (all_of self.old ++ ruling_of kept ∷ []) ruling) }
+        ensures rulings { OnErr result (rulings_of self.new ≡ rulings_of self.old) }
+        ensures absent { OnErr result (absent_of self.new ≡ absent_of self.old) }
+        ensures checked { (files : List SourceFile) (modules : List (List Circuit))
+            → AreChecked files modules self.old → AreChecked files modules self.new }
+    {
+        if kept.is_absent() {
+            self.absent = Some(kept.doubted());
+            return Ok(());
+        }
+        match keep_in(&mut self.rulings, kept.doubted()) {
+            Ok(()) => Ok(()),
+            Err(error) => Err(error),
+        }
+    }
+}

@@ -1,0 +1,50 @@
+// The files that a top used.
+ghost use Rattle.std.specs.Prelude.{◌≡◌, ◌++◌, ◌∷◌, [], IfOk, OnOk};
+ghost use Rattle.desk_readings.specs.Readings.{file_at};
+ghost use Rattle.desk_readings.specs.Shown.{readings_of};
+ghost use Rattle.desk_memo.specs.Shown.{all_used, used_among};
+
+use desk_files::SourceFile;
+use desk_readings::Readings;
+use rtl_tree::memory::Memory;
+use std::alloc::Global;
+use std::rc::Rc;
+
+/// A file in which a module of a top stood, with its number among the files.
+#[derive(Drop)]
+pub(crate) struct Used {
+    pub(crate) number: usize,
+    pub(crate) file: Rc<SourceFile>,
+}
+
+// A file as it was read, behind others. It is shared with the readings.
+fn push_used(readings: &Readings, number: usize, used: &mut Vec<Used>) -> Result<(), Memory>
+    ensures { OnOk result (all_used used.new.items
+        ≡ all_used used.old.items
+        ++ used_among (file_at (readings_of readings.now)) (number ∷ [])) }
+{
+    match readings.file(number) {
+        Ok(Some(file)) => {
+            used.push(Used { number, file })?;
+            Ok(())
+        }
+        Ok(None) => Ok(()),
+        Err(error) => Err(error),
+    }
+}
+
+// The files with these numbers, as they were read.
+pub(crate) fn used_files(
+    alloc: Global,
+    readings: &Readings,
+    numbers: &[usize],
+) -> Result<Vec<Used>, Memory>
+    ensures { IfOk result (λ used. all_used used.items
+        ≡ used_among (file_at (readings_of readings.now)) numbers.now) }
+{
+    let mut used = Vec::new(alloc);
+    for number in numbers {
+        push_used(readings, *number, &mut used)?;
+    }
+    Ok(used)
+}
