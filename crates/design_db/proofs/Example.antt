@@ -1,32 +1,55 @@
--- Files and the last answer, on small cases.
+-- Which answers are there, on small cases.
 use Rattle.std.proofs.Common.{◌≡◌, ℕ, List, [], ◌∷◌, codes, refl}
-use Rattle.std.proofs.lemmas.List.Elements.{All-cons, All-nil}
-use Rattle.std.specs.Prelude.{true, Some, None}
-use Rattle.desk_files.specs.Sources.{is_before}
+use Rattle.std.specs.Prelude.{Option, Some, None}
 use Rattle.desk_files.specs.declared.files.SourceFile.{SourceFile}
-use Rattle.design_db.specs.Fresh.{names_at}
-use Rattle.design_db.specs.Orders.{AreInOrder}
-use Rattle.design_db.specs.Stores.{answer_in}
-use Rattle.design_db.specs.declared.answer.Answer.{Answer}
+use Rattle.desk_fresh.specs.declared.answer.Answer.{Answer}
+use Rattle.desk_readings.specs.Readings.{Reading}
+use Rattle.desk_memo.specs.Rulings.{Ruling}
+use Rattle.design_db.specs.Stores.{Store, answer_of, changed_in, lasting_answer}
 
-abbrev file : List ℕ → List ℕ → SourceFile
-file its_name its_text = record { name = its_name; text = its_text }
+abbrev file : List ℕ → SourceFile
+file text = record { name = codes "a.v"; text = text }
 
-abbrev first : SourceFile
-first = file (codes "a.v") (codes "1")
+abbrev reading : List ℕ → Option Answer → Option Reading
+reading text refusal = Some (record { file = file text; refusal = refusal })
 
-abbrev second : SourceFile
-second = file (codes "b.v") (codes "2")
+-- it looked nothing up
+abbrev ruling : List ℕ → Answer → Ruling
+ruling top answer = record { top = top; look_ups = []; used = []; answer = answer }
 
-they_are_in_order : AreInOrder (first ∷ second ∷ [])
-they_are_in_order =
-    (All-cons (λ other. is_before other.name first ≡ true) second [] refl (All-nil (λ other. is_before other.name first ≡ true)), (All-nil (λ other. is_before other.name second ≡ true), tt))
+abbrev stored : List ℕ → Option Reading → List Ruling → Option Ruling → Store
+stored text read rulings absent = record {
+  files = file text ∷ [];
+  room = 0;
+  readings = read ∷ [];
+  modules = [];
+  rulings = rulings;
+  absent = absent;
+}
 
-a_file_that_is_not_there_has_no_name : names_at (first ∷ second ∷ []) (1 ∷ 7 ∷ []) ≡ codes "b.v" ∷ []
-a_file_that_is_not_there_has_no_name = refl
+a_new_file_has_changed : changed_in (stored (codes "1") None [] None) ≡ 1
+a_new_file_has_changed = refl
 
-the_last_answer_is_of_its_top : (answer : Answer) → answer_in (Some (record { top = codes "adder"; answer = answer })) (codes "adder") ≡ Some answer
-the_last_answer_is_of_its_top answer = refl
+so_has_one_with_another_text : changed_in (stored (codes "2") (reading (codes "1") None) [] None) ≡ 1
+so_has_one_with_another_text = refl
 
-it_is_of_no_other_top : (answer : Answer) → answer_in (Some (record { top = codes "adder"; answer = answer })) (codes "add") ≡ None
-it_is_of_no_other_top answer = refl
+not_one_as_it_was_read : changed_in (stored (codes "1") (reading (codes "1") None) [] None) ≡ 0
+not_one_as_it_was_read = refl
+
+a_ruling_is_an_answer_for_its_top : (answer : Answer) → answer_of (stored (codes "1") (reading (codes "1") None) (ruling (codes "adder") answer ∷ []) None) (codes "adder") ≡ Some answer
+a_ruling_is_an_answer_for_its_top answer = refl
+
+for_no_other_top : (answer : Answer) → answer_of (stored (codes "1") (reading (codes "1") None) (ruling (codes "adder") answer ∷ []) None) (codes "add") ≡ None
+for_no_other_top answer = refl
+
+for_none_where_a_text_has_changed : (answer : Answer) → answer_of (stored (codes "2") (reading (codes "1") None) (ruling (codes "adder") answer ∷ []) None) (codes "adder") ≡ None
+for_none_where_a_text_has_changed answer = refl
+
+a_refusal_is_one_for_each_top : (answer refusal : Answer) → answer_of (stored (codes "1") (reading (codes "1") (Some refusal)) (ruling (codes "adder") answer ∷ []) None) (codes "adder") ≡ Some refusal
+a_refusal_is_one_for_each_top answer refusal = refl
+
+the_last_absent_top_has_one : (answer : Answer) → answer_of (stored (codes "1") (reading (codes "1") None) [] (Some (ruling (codes "add") answer))) (codes "add") ≡ Some answer
+the_last_absent_top_has_one answer = refl
+
+it_does_not_last : (answer : Answer) → lasting_answer (stored (codes "1") (reading (codes "1") None) [] (Some (ruling (codes "add") answer))) (codes "add") ≡ None
+it_does_not_last answer = refl

@@ -1,5 +1,5 @@
 mod Example
-pub mod Answered
+pub mod Finds
 pub mod InOrder
-pub mod Loops
-pub mod Stored
+pub mod Kept
+pub mod Whole

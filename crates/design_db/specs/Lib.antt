@@ -1,4 +1,2 @@
-pub mod Fresh
-pub mod Orders
 pub mod Shown
 pub mod Stores

@@ -1,15 +1,26 @@
 -- It serves inner contracts and proofs; no answer of the program is stated by it.
--- What the desk's files show with the last answer.
-use Rattle.std.specs.Prelude.{Option}
-use Rattle.std.specs.Option.{option_map}
+-- What the desk's files show with what was read of them and the rulings that are kept.
+use Rattle.std.specs.Prelude.{min}
 use Rattle.desk_files.specs.Shown.{list_of, room}
 use Rattle.desk_files.specs.declared.files.Files.{Files}
-use Rattle.design_db.specs.Stores.{Given, Store}
-use Rattle.design_db.specs.declared.db.Last.{Last}
+use Rattle.desk_readings.specs.Shown.{AreFlagged, held_modules_of, modules_of, readings_of, room_of}
+use Rattle.desk_readings.specs.declared.readings.Readings.{Readings}
+use Rattle.desk_memo.specs.Shown.{AreChecked, absent_of, rulings_of}
+use Rattle.desk_memo.specs.declared.memo.Memo.{Memo}
+use Rattle.design_db.specs.Stores.{IsStore, Store}
 
-abbrev pub given : Last → Given
-given last = record { top = last.top; answer = last.answer.value }
+abbrev pub store : Files → Readings → Memo → Store
+store files readings memo = record {
+  files = list_of files;
+  room = min (room files) (room_of readings);
+  readings = readings_of readings;
+  modules = held_modules_of readings;
+  rulings = rulings_of memo;
+  absent = absent_of memo;
+}
 
-abbrev pub store : Files → Option Last → Store
-store files last =
-    record { files = list_of files; room = room files; last = option_map given last }
+-- what is kept is right, and so are the flags by which it is known without a look at a text
+pub record IsWhole (files : Files) (readings : Readings) (memo : Memo) : Type 0 where
+  pub store : IsStore (store files readings memo)
+  pub flagged : AreFlagged (list_of files) readings
+  pub checked : AreChecked (list_of files) (modules_of readings) memo

@@ -1,15 +1,25 @@
-// The files of the desk, and what they said of a top last.
-ghost use Rattle.std.specs.Prelude.{◌≡◌, ◌≤◌, ◌+◌, [], None, length, IfOk, IfSome, OnErr, OnOk, IsOk, IsSome, option_copied};
+// The files of the desk, what was read of them, and what they said of tops.
+ghost use Rattle.std.specs.Prelude.{◌≡◌, ◌≤◌, ◌+◌, ℕ, List, [], None, length, IfOk, IfSome, IsOk, IsSome, OnErr, OnOk, option_copied};
+ghost use Rattle.std.specs.List.{All};
 ghost use Rattle.std.specs.Option.{option_map};
+ghost use Rattle.rtl_tree.specs.TreeModule.{Circuit};
 ghost use Rattle.rtl_tree.specs.declared.text.TheConstants.{MAX_BYTES};
 ghost use Rattle.desk_files.specs.Sources.{has_file, with_file, without_file};
-ghost use Rattle.design_db.specs.Fresh.{IsFresh};
-ghost use Rattle.design_db.specs.Shown.{given};
-ghost use Rattle.design_db.specs.Stores.{answer_in, given_for, reached_in};
+ghost use Rattle.desk_fresh.specs.Fresh.{IsFresh, texts_in};
+ghost use Rattle.desk_fresh.specs.Orders.{AreShort};
+ghost use Rattle.desk_readings.specs.Readings.{AreDefined, AreReadings, changed_count, first_refusal, with_blank, without};
+ghost use Rattle.desk_readings.specs.Shown.{modules_of, readings_of};
+ghost use Rattle.desk_memo.specs.Rulings.{IsRuling, current_answer, current_of, others_of};
+ghost use Rattle.desk_memo.specs.Shown.{AreChecked, absent_of, all_of, rulings_of};
+ghost use Rattle.design_db.specs.Stores.{all_rulings, answer_of, changed_in, circuits_in, lasting_answer, reached_in, refusal_or};
 
-use crate::answer::Answer;
-use crate::fresh::fresh;
 use desk_files::{Files, Ready, SourceFile};
+use desk_fresh::Answer;
+use desk_memo::law::still_fresh;
+use desk_memo::{Kept, Memo};
+use desk_readings::Readings;
+use desk_readings::law::{all_refused, all_spelled, one_list};
+use elab_links::module_set::ModuleSet;
 use rtl_tree::memory::Memory;
 use rtl_tree::text::Text;
 use std::alloc::Global;
@@ -17,57 +27,85 @@ use std::marker::Model;
 use std::sync::ledger::Ledger;
 use steps::Steps;
 
-// An answer with the top that it is of.
-#[derive(Drop)]
-struct Last {
-    top: Text,
-    answer: Box<Answer>,
-}
-
-impl Last {
-    // The answer, where it is of this top.
-    fn answer_for(&self, top: &Text) -> Option<&Answer>
-        ensures { option_copied result ≡ given_for top.now (given self.now) }
-    {
-        if self.top.as_bytes() == top.as_bytes() {
-            Some(&self.answer)
-        } else {
-            None
-        }
-    }
-}
-
-/// Files in the order of the bytes of their names, each of at most 1 MiB, and the answer that was
-/// given last, as long as it is what they say. It holds one answer, however many are asked for.
+/// Files in the order of the bytes of their names, each of at most 1 MiB, with what was read of
+/// each last, and what the files said of tops, with all that it rests on: so an edit costs no more
+/// than what it touches.
 #[derive(Drop)]
 pub struct Db {
     alloc: Global,
     files: Files,
-    last: Option<Last>,
+    readings: Readings,
+    memo: Memo,
 }
 
 impl Model for Db {
-    ghost use Rattle.design_db.specs.Stores.{IsStore, Store};
+    ghost use Rattle.design_db.specs.Stores.{Store};
 
     ghost Value = { Store };
 
-    ghost use Rattle.design_db.specs.Shown.{store};
+    ghost use Rattle.rtl_tree.specs.contracts.tree.modules.Module as written;
+    ghost use Rattle.std.specs.Coded.{codes};
 
-    ghost view = { λ db. store db.files db.last };
+    ghost coded = { Prim.hlevel (codes, written.the_row.coded) };
 
-    ghost invariant = { λ db. IsStore (store db.files db.last) };
+    ghost use Rattle.design_db.specs.Shown.{IsWhole, store};
+
+    ghost view = { λ db. store db.files db.readings db.memo };
+
+    ghost invariant = { λ db. IsWhole db.files db.readings db.memo };
+}
+
+// Keeps what files that were read say of a top, where no ruling that is kept still holds.
+fn rule<L: Ledger>(
+    alloc: Global,
+    files: &[SourceFile],
+    readings: &Readings,
+    memo: &mut Memo,
+    top: &Text,
+    steps: &mut Steps<L>,
+) -> Result<(), Memory>
+    requires short { AreShort files.now }
+    requires right { AreReadings files.now (readings_of readings.now) (modules_of readings.now) }
+    requires unchanged { changed_count files.now (readings_of readings.now) ≡ 0 }
+    requires checked { AreChecked files.now (modules_of readings.now) memo.old }
+    requires rulings { All IsRuling (all_of memo.old) }
+    ensures counted { steps.new ≤ steps.old + 1 }
+    ensures untouched { IsSome (current_of files.now (modules_of readings.now) top.now
+        (all_of memo.old)) → steps.new ≤ steps.old }
+    ensures answered { OnOk result (IsSome (refusal_or (first_refusal (readings_of readings.now))
+        (current_answer files.now (modules_of readings.now) top.now (all_of memo.new)))) }
+    ensures others { OnOk result
+        (others_of top.now (rulings_of memo.new) ≡ others_of top.now (rulings_of memo.old)) }
+    ensures rulings { All IsRuling (all_of memo.new) }
+    ensures same { OnErr result (rulings_of memo.new ≡ rulings_of memo.old) }
+    ensures absent { OnErr result (absent_of memo.new ≡ absent_of memo.old) }
+    ensures checked { AreChecked files.now (modules_of readings.now) memo.new }
+{
+    if readings.refusal().is_some() {
+        return Ok(());
+    }
+    if memo.check(files, readings.modules(), top) {
+        return Ok(());
+    }
+    let set = ModuleSet::new(alloc, readings.modules())?;
+    let kept = Kept::of(alloc, files, readings, &set, top, steps)?;
+    memo.keep(kept)
 }
 
 impl Db {
     /// No files.
     pub fn new(alloc: Global) -> Db
         ensures files { result.files ≡ [] }
-        ensures last { result.last ≡ None }
+        ensures readings { result.readings ≡ [] }
+        ensures modules { circuits_in result ≡ [] }
+        ensures rulings { result.rulings ≡ [] }
+        ensures absent { result.absent ≡ None }
     {
         Db {
             alloc,
             files: Files::new(alloc),
-            last: None,
+            readings: Readings::new(alloc),
+            memo: Memo::new(alloc),
         }
     }
 
@@ -78,7 +116,7 @@ impl Db {
         self.files.as_slice()
     }
 
-    /// A copy of a name and a text, and room for one file more. Files and answer stay.
+    /// A copy of a name and a text, and room for one file more. All that is kept stays.
     ///
     /// # Errors
     ///
@@ -88,24 +126,36 @@ impl Db {
             × (ready.file.text ≡ text.now)) }
         ensures room { OnOk result (1 ≤ self.new.room) }
         ensures files { self.new.files ≡ self.old.files }
-        ensures last { self.new.last ≡ self.old.last }
+        ensures readings { self.new.readings ≡ self.old.readings }
+        ensures modules { circuits_in self.new ≡ circuits_in self.old }
+        ensures rulings { self.new.rulings ≡ self.old.rulings }
+        ensures absent { self.new.absent ≡ self.old.absent }
+        ensures answers { (top : List ℕ) → answer_of self.new top ≡ answer_of self.old top }
     {
-        self.files.ready(name.as_bytes(), text.as_bytes())
+        let ready = self.files.ready(name.as_bytes(), text.as_bytes())?;
+        self.readings.reserve()?;
+        Ok(ready)
     }
 
-    /// Puts a file that is ready, in place of the one that has its name; the answer goes. It takes
-    /// no memory.
+    /// Puts a file that is ready, in place of the one that has its name, which keeps what was read
+    /// of it. It takes no memory.
     pub fn put_ready(&mut self, ready: Ready)
         requires room { 1 ≤ self.old.room }
         requires short { length ready.file.text ≤ MAX_BYTES }
         ensures files { self.new.files ≡ with_file ready.file self.old.files }
-        ensures last { self.new.last ≡ None }
+        ensures readings { self.new.readings
+            ≡ with_blank None ready.file.name self.old.files self.old.readings }
+        ensures modules { circuits_in self.new
+            ≡ with_blank [] ready.file.name self.old.files (circuits_in self.old) }
+        ensures rulings { self.new.rulings ≡ self.old.rulings }
+        ensures absent { self.new.absent ≡ self.old.absent }
     {
+        self.readings.put(self.files.as_slice(), &ready.file);
         self.files.put_ready(ready);
-        self.last = None;
+        self.memo.doubt();
     }
 
-    /// Puts a file, and the answer goes.
+    /// Puts a file.
     ///
     /// # Errors
     ///
@@ -114,66 +164,176 @@ impl Db {
         requires { length text.now ≤ MAX_BYTES }
         ensures ok { OnOk result (self.new.files
             ≡ with_file (record { name = name.now; text = text.now }) self.old.files) }
-        ensures gone { OnOk result (self.new.last ≡ None) }
+        ensures readings { OnOk result (self.new.readings
+            ≡ with_blank None name.now self.old.files self.old.readings) }
+        ensures modules { OnOk result (circuits_in self.new
+            ≡ with_blank [] name.now self.old.files (circuits_in self.old)) }
         ensures same { OnErr result (self.new.files ≡ self.old.files) }
-        ensures kept { OnErr result (self.new.last ≡ self.old.last) }
+        ensures read { OnErr result (self.new.readings ≡ self.old.readings) }
+        ensures spelled { OnErr result (circuits_in self.new ≡ circuits_in self.old) }
+        ensures rulings { self.new.rulings ≡ self.old.rulings }
+        ensures absent { self.new.absent ≡ self.old.absent }
     {
         let ready = self.ready(name, text)?;
         self.put_ready(ready);
         Ok(())
     }
 
-    /// Drops the file of a name, and says whether there was one; the answer goes. It takes no
-    /// memory.
+    /// Drops the file of a name with what was read of it, and says whether there was one. It takes
+    /// no memory.
     pub fn drop_file(&mut self, name: &Text) -> bool
         ensures found { result ≡ has_file name.now self.old.files }
         ensures files { self.new.files ≡ without_file name.now self.old.files }
-        ensures last { self.new.last ≡ None }
+        ensures readings { self.new.readings ≡ without name.now self.old.files self.old.readings }
+        ensures modules { circuits_in self.new
+            ≡ without name.now self.old.files (circuits_in self.old) }
+        ensures rulings { self.new.rulings ≡ self.old.rulings }
+        ensures absent { self.new.absent ≡ self.old.absent }
     {
-        self.last = None;
-        self.files.drop_file(name.as_bytes())
+        let name = name.as_bytes();
+        self.readings.drop_file(self.files.as_slice(), name);
+        self.memo.doubt();
+        self.files.drop_file(name)
     }
 
-    /// Works out what the files say of a top, where that wasn't the last that was asked for. It
-    /// takes at most one step for each file and one more, and none where the answer is there.
+    // Works out what the files say of a top, where some file isn't as it was read last. What was
+    // read stands beside what is kept until nothing can fail any more.
+    fn read_and_rule<L: Ledger>(&mut self, top: &Text, steps: &mut Steps<L>) -> Result<(), Memory>
+        ensures counted { steps.new ≤ steps.old + changed_in self.old + 1 }
+        ensures untouched { (modules : List (List Circuit))
+            → AreDefined (texts_in self.old.files) modules
+            → IsSome (current_of self.old.files modules top.now (all_rulings self.old))
+            → steps.new ≤ steps.old + changed_in self.old }
+        ensures files { self.new.files ≡ self.old.files }
+        ensures answered { OnOk result (IsSome (answer_of self.new top.now)) }
+        ensures others { OnOk result
+            (others_of top.now self.new.rulings ≡ others_of top.now self.old.rulings) }
+        ensures same { OnErr result (self.new ≡ self.old) }
+    {
+        one_list();
+        let mut aside = self.readings.read_changed(self.files.as_slice(), steps)?;
+        self.readings.exchange(&mut aside);
+        self.memo.doubt();
+        let files = self.files.as_slice();
+        match rule(
+            self.alloc,
+            files,
+            &self.readings,
+            &mut self.memo,
+            top,
+            steps,
+        ) {
+            Ok(()) => Ok(()),
+            Err(Memory) => {
+                self.readings.exchange(&mut aside);
+                self.memo.doubt();
+                Err(Memory)
+            }
+        }
+    }
+
+    // Works out what the files say of a top, where all are as they were read last.
+    fn rule_again<L: Ledger>(&mut self, top: &Text, steps: &mut Steps<L>) -> Result<(), Memory>
+        requires unchanged { changed_in self.old ≡ 0 }
+        ensures counted { steps.new ≤ steps.old + 1 }
+        ensures untouched { (modules : List (List Circuit))
+            → AreDefined (texts_in self.old.files) modules
+            → IsSome (current_of self.old.files modules top.now (all_rulings self.old))
+            → steps.new ≤ steps.old }
+        ensures files { self.new.files ≡ self.old.files }
+        ensures readings { self.new.readings ≡ self.old.readings }
+        ensures modules { self.new.modules ≡ self.old.modules }
+        ensures answered { OnOk result (IsSome (answer_of self.new top.now)) }
+        ensures others { OnOk result
+            (others_of top.now self.new.rulings ≡ others_of top.now self.old.rulings) }
+        ensures same { OnErr result (self.new ≡ self.old) }
+    {
+        one_list();
+        let files = self.files.as_slice();
+        rule(
+            self.alloc,
+            files,
+            &self.readings,
+            &mut self.memo,
+            top,
+            steps,
+        )
+    }
+
+    /// Works out what the files say of a top, where that isn't known. It takes at most one step for
+    /// each file that is new or has another text than when it was read last, and one more where no
+    /// ruling of the top that is kept still holds. Where the answer is there it takes neither a step
+    /// nor memory.
     ///
     /// # Errors
     ///
     /// Memory ran out. Nothing changes then.
     pub fn ruling<L: Ledger>(&mut self, top: &Text, steps: &mut Steps<L>) -> Result<(), Memory>
-        ensures counted { steps.new ≤ steps.old + length self.old.files + 1 }
-        ensures again { IsSome (answer_in self.old.last top.now) → steps.new ≡ steps.old }
-        ensures there { IsSome (answer_in self.old.last top.now) → IsOk result }
-        ensures kept { IsSome (answer_in self.old.last top.now) → self.new.last ≡ self.old.last }
+        ensures counted { steps.new ≤ steps.old + changed_in self.old + 1 }
+        // Where the modules that the texts define mean the same by all that the top looked up, it
+        // isn't elaborated.
+        ensures untouched { (modules : List (List Circuit))
+            → AreDefined (texts_in self.old.files) modules
+            → IsSome (current_of self.old.files modules top.now (all_rulings self.old))
+            → steps.new ≤ steps.old + changed_in self.old }
+        ensures again { IsSome (answer_of self.old top.now) → steps.new ≡ steps.old }
+        ensures there { IsSome (answer_of self.old top.now) → IsOk result }
+        ensures kept { IsSome (answer_of self.old top.now) → self.new ≡ self.old }
         ensures files { self.new.files ≡ self.old.files }
-        ensures answered { OnOk result (IsSome (answer_in self.new.last top.now)) }
-        ensures same { OnErr result (self.new.last ≡ self.old.last) }
+        ensures answered { OnOk result (IsSome (answer_of self.new top.now)) }
+        ensures others { OnOk result
+            (others_of top.now self.new.rulings ≡ others_of top.now self.old.rulings) }
+        ensures lasting { (other : List ℕ) → IsSome (lasting_answer self.old other)
+            → answer_of self.new other ≡ answer_of self.old other }
+        ensures same { OnErr result (self.new ≡ self.old) }
     {
         if self.answer(top).is_some() {
+            self.check(top);
             return Ok(());
         }
-        let answer = fresh(self.alloc, self.files.as_slice(), top, steps)?;
-        let top = Text::from_bytes(self.alloc, top.as_bytes())?;
-        self.last = Some(Last { top, answer });
-        Ok(())
+        if self.changed() == 0 {
+            return self.rule_again(top, steps);
+        }
+        self.read_and_rule(top, steps)
     }
 
-    /// What the files say of a top, where it was the last that was asked for.
-    pub fn answer(&self, top: &Text) -> Option<&Answer>
-        ensures last { option_copied result ≡ answer_in self.now.last top.now }
-        ensures fresh { IfSome (answer_in self.now.last top.now)
-            (IsFresh self.now.files top.now) }
+    // How many files aren't as they were read last.
+    fn changed(&self) -> usize
+        ensures { result ≡ changed_in self.now }
     {
-        match &self.last {
-            Some(last) => last.answer_for(top),
-            None => None,
+        self.readings.changed(self.files.as_slice())
+    }
+
+    // From now on it is known that the answer of a top holds, so that asking again is quick.
+    fn check(&mut self, top: &Text)
+        ensures { self.new ≡ self.old }
+    {
+        self.memo
+            .check(self.files.as_slice(), self.readings.modules(), top);
+    }
+
+    /// What the files say of a top, where that is known. It takes no memory.
+    pub fn answer(&self, top: &Text) -> Option<&Answer>
+        ensures is { option_copied result ≡ answer_of self.now top.now }
+        ensures fresh { IfSome (answer_of self.now top.now) (IsFresh self.now.files top.now) }
+    {
+        still_fresh();
+        all_refused();
+        all_spelled();
+        let files = self.files.as_slice();
+        if self.readings.changed(files) != 0 {
+            return None;
+        }
+        match self.readings.refusal() {
+            Some(refusal) => Some(refusal),
+            None => self.memo.answer(files, self.readings.modules(), top),
         }
     }
 
-    /// The names of the files in which the modules of a top stand, where it was the last that was
-    /// asked for and has a design.
+    /// The names of the files in which the modules of a top stand, where its answer is known and it
+    /// has a design.
     pub fn reached(&self, top: &Text) -> Option<&[Text]>
-        ensures { option_map (λ names. names.now) result ≡ reached_in self.now.last top.now }
+        ensures { option_map (λ names. names.now) result ≡ reached_in self.now top.now }
     {
         match self.answer(top) {
             Some(Answer::Ruled(_, reached)) => Some(reached),

@@ -1,10 +1,8 @@
-//! The files of the desk, and what they say of a module, worked out afresh from their texts.
+//! The files of the desk with what was read of them, and what they say of a module.
 #![tactic(auto)]
 
-mod answer;
 mod db;
-mod fresh;
 
-pub use answer::Answer;
 pub use db::Db;
 pub use desk_files::{Ready, SourceFile};
+pub use desk_fresh::Answer;

@@ -1,0 +1,132 @@
+-- What the desk keeps stays right when a file comes or goes.
+use Rattle.std.proofs.Common.{◌≡◌, ◌≤◌, ◌⊎◌, inl, inr, ℕ, List, [], ◌∷◌, ◌++◌, length, min, ap, refl, subst, sym, ◌∙◌}
+use Rattle.std.specs.Prelude.{OnErr, OnOk, Option, Result, Ok, Err, Vec, option_to_list}
+use Rattle.std.specs.List.{All, Contains}
+use Rattle.std.specs.declared.alloc.Global.{Global}
+use Rattle.std.proofs.lemmas.List.Elements.{All-contains, All-contains_itself, All-weaker, Contains-push_cases}
+use Rattle.rtl_tree.specs.TreeModule.{Circuit}
+use Rattle.rtl_tree.specs.declared.text.TheConstants.{MAX_BYTES}
+use Rattle.rtl_tree.specs.declared.tree.modules.Module.{Module}
+use Rattle.elab_links.specs.Modules.{circuits_of}
+use Rattle.desk_files.specs.Shown.{list_of, room}
+use Rattle.desk_files.specs.Sources.{with_file, without_file}
+use Rattle.desk_files.specs.declared.files.Files.{Files}
+use Rattle.desk_files.specs.declared.files.SourceFile.{SourceFile}
+use Rattle.desk_fresh.specs.Orders.{AreInOrder, AreShort}
+use Rattle.desk_readings.specs.Readings.{AreReadings, Reading, changed_count}
+use Rattle.desk_readings.specs.Shown.{AreFlagged, IsBeside, are_as_read, flags_by, flags_of, held_modules_by, held_modules_of, modules_by, modules_of, readings_by, readings_of, room_of}
+use Rattle.desk_readings.specs.declared.aside.Aside.{Aside}
+use Rattle.desk_readings.specs.declared.readings.Readings.{Readings}
+use Rattle.desk_memo.specs.Rulings.{IsRuling, Ruling}
+use Rattle.desk_memo.specs.Shown.{AreChecked, absent_of, all_of, rulings_of}
+use Rattle.desk_memo.specs.declared.memo.Memo.{Memo}
+use Rattle.design_db.specs.Shown.{IsWhole, store}
+use Rattle.design_db.specs.Stores.{Store}
+use Rattle.design_db.proofs.InOrder.{in_order_with, in_order_without, short_with, short_without}
+
+-- the rulings that are kept are right where they are as before
+pub rulings_same : (old new : Memo) → rulings_of new ≡ rulings_of old → absent_of new ≡ absent_of old → All IsRuling (all_of old) → All IsRuling (all_of new)
+rulings_same old new rulings absent all =
+    let same : all_of new ≡ all_of old =
+    ap (λ (it : List Ruling). it ++ option_to_list (absent_of new)) rulings
+    ∙ ap (λ (it : Option Ruling). rulings_of old ++ option_to_list it) absent
+    in subst (λ (it : List Ruling). All IsRuling it) (sym same) all
+
+pub whole : (files : Files) (readings : Readings) (memo : Memo) (held : List SourceFile) → list_of files ≡ held → AreInOrder held → AreShort held → AreReadings held (readings_of readings) (modules_of readings) → AreFlagged held readings → All IsRuling (all_of memo) → AreChecked held (modules_of readings) memo → IsWhole files readings memo
+whole files readings memo held is order short right flagged rulings checked = record {
+  store = record {
+    in_order = subst AreInOrder (sym is) order;
+    short = subst AreShort (sym is) short;
+    readings = subst (λ (it : List SourceFile). AreReadings it (readings_of readings) (modules_of readings)) (sym is) right;
+    rulings = rulings;
+  };
+  flagged = subst (λ (it : List SourceFile). AreFlagged it readings) (sym is) flagged;
+  checked = subst (λ (it : List SourceFile). AreChecked it (modules_of readings) memo) (sym is) checked;
+}
+
+pub is_put : (old new : Files) (readings : Readings) (before after : Memo) (file : SourceFile) (seen : List SourceFile) → seen ≡ list_of old → list_of new ≡ with_file file (list_of old) → length file.text ≤ MAX_BYTES → AreInOrder (list_of old) → AreShort (list_of old) → AreReadings (with_file file seen) (readings_of readings) (modules_of readings) → AreFlagged (with_file file seen) readings → rulings_of after ≡ rulings_of before → absent_of after ≡ absent_of before → All IsRuling (all_of before) → ((files : List SourceFile) (modules : List (List Circuit)) → AreChecked files modules after) → IsWhole new readings after
+is_put old new readings before after file seen sees is fits order short right flagged rulings absent all checked =
+    let held = with_file file seen in
+    whole new readings after held (is ∙ ap (λ (it : List SourceFile). with_file file it) (sym sees))
+    (in_order_with file seen (subst AreInOrder (sym sees) order))
+    (short_with file seen fits (subst AreShort (sym sees) short)) right flagged
+    (rulings_same before after rulings absent all) (checked held (modules_of readings))
+
+pub is_dropped : (old new : Files) (readings : Readings) (before after : Memo) (name : List ℕ) (seen : List SourceFile) → seen ≡ list_of old → list_of new ≡ without_file name (list_of old) → AreInOrder (list_of old) → AreShort (list_of old) → AreReadings (without_file name seen) (readings_of readings) (modules_of readings) → AreFlagged (without_file name seen) readings → rulings_of after ≡ rulings_of before → absent_of after ≡ absent_of before → All IsRuling (all_of before) → ((files : List SourceFile) (modules : List (List Circuit)) → AreChecked files modules after) → IsWhole new readings after
+is_dropped old new readings before after name seen sees is order short right flagged rulings absent all checked =
+    let held = without_file name seen in
+    whole new readings after held (is ∙ ap (λ (it : List SourceFile). without_file name it) (sym sees))
+    (in_order_without name seen (subst AreInOrder (sym sees) order))
+    (short_without name seen (subst AreShort (sym sees) short)) right flagged
+    (rulings_same before after rulings absent all) (checked held (modules_of readings))
+
+-- there is more room, and all else is as before
+pub is_ready : (old new : Files) (before after : Readings) (memo : Memo) → list_of new ≡ list_of old → readings_of after ≡ readings_of before → modules_of after ≡ modules_of before → flags_of after ≡ flags_of before → IsWhole old before memo → IsWhole new after memo
+is_ready old new before after memo is readings modules flags right =
+    whole new after memo (list_of old) is right.store.in_order right.store.short
+    (subst (λ (it : List (Option Reading)). AreReadings (list_of old) it (modules_of after)) (sym readings)
+    (subst (λ (it : List (List Circuit)). AreReadings (list_of old) (readings_of before) it) (sym modules) right.store.readings))
+    (flags ∙ right.flagged ∙ ap (λ (it : List (Option Reading)). are_as_read (list_of old) it) (sym readings))
+    right.store.rulings
+    (subst (λ (it : List (List Circuit)). AreChecked (list_of old) it memo) (sym modules) right.checked)
+
+-- ---- what was read beside
+
+-- what was read beside the readings stands in their place
+pub record IsReadNow (files : List SourceFile) (kept : Readings) : Type 0 where
+  pub right : AreReadings files (readings_of kept) (modules_of kept)
+  pub flagged : AreFlagged files kept
+  pub unchanged : changed_count files (readings_of kept) ≡ 0
+
+pub is_read_now : (files seen : List SourceFile) (before after : Readings) (aside : Aside) → seen ≡ files → IsBeside seen before aside → readings_of after ≡ readings_by aside before → held_modules_of after ≡ held_modules_by aside before → flags_of after ≡ flags_by aside before → IsReadNow files after
+is_read_now files seen before after aside sees beside readings held flags =
+    let modules : modules_of after ≡ modules_by aside before =
+    ap (λ (it : List (Vec Module Global)). circuits_of it) held
+    in
+    subst (λ (it : List SourceFile). IsReadNow it after) sees
+    (record {
+      right =
+          subst (λ (it : List (Option Reading)). AreReadings seen it (modules_of after)) (sym readings)
+          (subst (λ (it : List (List Circuit)). AreReadings seen (readings_by aside before) it) (sym modules) beside.right);
+      flagged = flags ∙ beside.flagged ∙ ap (λ (it : List (Option Reading)). are_as_read seen it) (sym readings);
+      unchanged = ap (λ (it : List (Option Reading)). changed_count seen it) readings ∙ beside.unchanged;
+    })
+
+-- after a second exchange all is as before
+pub is_undone : (files : Files) (before after : Readings) (old new : Memo) → readings_of after ≡ readings_of before → modules_of after ≡ modules_of before → flags_of after ≡ flags_of before → rulings_of new ≡ rulings_of old → absent_of new ≡ absent_of old → ((files : List SourceFile) (modules : List (List Circuit)) → AreChecked files modules new) → IsWhole files before old → IsWhole files after new
+is_undone files before after old new readings modules flags rulings absent checked right =
+    let held = list_of files in
+    whole files after new held refl right.store.in_order right.store.short
+    (subst (λ (it : List (Option Reading)). AreReadings held it (modules_of after)) (sym readings)
+    (subst (λ (it : List (List Circuit)). AreReadings held (readings_of before) it) (sym modules) right.store.readings))
+    (flags ∙ right.flagged ∙ ap (λ (it : List (Option Reading)). are_as_read held it) (sym readings))
+    (rulings_same old new rulings absent right.store.rulings)
+    (checked held (modules_of after))
+
+abbrev made : List SourceFile → ℕ → List (Option Reading) → List (Vec Module Global) → List Ruling → Option Ruling → Store
+made files room readings modules rulings absent =
+    record { files = files; room = room; readings = readings; modules = modules; rulings = rulings; absent = absent }
+
+pub is_same : (files : Files) (before after : Readings) (old new : Memo) → readings_of after ≡ readings_of before → held_modules_of after ≡ held_modules_of before → room_of after ≡ room_of before → rulings_of new ≡ rulings_of old → absent_of new ≡ absent_of old → store files after new ≡ store files before old
+is_same files before after old new readings modules more rulings absent =
+    let held = list_of files in
+    ap (λ (it : ℕ). made held (min (room files) it) (readings_of after) (held_modules_of after) (rulings_of new) (absent_of new)) more
+    ∙ ap (λ (it : List (Option Reading)). made held (min (room files) (room_of before)) it (held_modules_of after) (rulings_of new) (absent_of new)) readings
+    ∙ ap (λ (it : List (Vec Module Global)). made held (min (room files) (room_of before)) (readings_of before) it (rulings_of new) (absent_of new)) modules
+    ∙ ap (λ (it : List Ruling). made held (min (room files) (room_of before)) (readings_of before) (held_modules_of before) it (absent_of new)) rulings
+    ∙ ap (λ (it : Option Ruling). made held (min (room files) (room_of before)) (readings_of before) (held_modules_of before) (rulings_of old) it) absent
+
+-- ---- rulings
+
+right_by : (old : List Ruling) (kept one : Ruling) → All IsRuling old → IsRuling kept → (Contains old one ⊎ (kept ≡ one)) → IsRuling one
+right_by old kept one all right (inl there) = All-contains IsRuling old one all there
+right_by old kept one all right (inr same) = subst IsRuling same right
+
+-- what is kept is right when a right ruling comes, and where there was no memory for it
+pub rulings_kept : {T E : Type 0} (old new : Memo) (kept : Ruling) (r : Result T E) → OnOk r ((ruling : Ruling) → Contains (all_of new) ruling → Contains (all_of old ++ kept ∷ []) ruling) → OnErr r (rulings_of new ≡ rulings_of old) → OnErr r (absent_of new ≡ absent_of old) → All IsRuling (all_of old) → IsRuling kept → All IsRuling (all_of new)
+rulings_kept old new kept (Ok done) from rulings absent all right =
+    All-weaker (Contains (all_of new)) IsRuling
+    (λ one there. right_by (all_of old) kept one all right (Contains-push_cases (all_of old) kept one (from one there)))
+    (all_of new) (All-contains_itself (all_of new))
+rulings_kept old new kept (Err error) from rulings absent all right =
+    rulings_same old new rulings absent all

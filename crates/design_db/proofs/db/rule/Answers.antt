@@ -1,0 +1,19 @@
+use Rattle.std.proofs.lemmas.Result.{on_ok_weaker}
+use Rattle.desk_readings.specs.Readings.{first_refusal}
+use Rattle.desk_readings.specs.Shown.{modules_of, readings_of}
+use Rattle.desk_memo.specs.Shown.{all_of, ruling_of}
+use Rattle.design_db.proofs.Kept.{known_kept}
+use Rattle.design_db.proofs.Whole.{rulings_kept, rulings_same}
+use Rattle.design_db.proofs.db.rule.Goals as goal
+
+pub returns-clause-answered : goal.returns-clause-answered
+returns-clause-answered g c =
+    on_ok_weaker c.keep.result
+    (known_kept c.args.files.now (modules_of c.args.readings.now) c.args.top.now (first_refusal (readings_of c.args.readings.now)) (ruling_of c.in_ok-kept.kept) (all_of c.keep.new.self)
+    c.in_ok-kept.ensures.top c.in_ok-kept.ensures.current)
+    c.keep.ensures.there
+
+pub returns-clause-rulings : goal.returns-clause-rulings
+returns-clause-rulings g c =
+    rulings_kept c.check.new.self c.keep.new.self (ruling_of c.in_ok-kept.kept) c.keep.result c.keep.ensures.from c.keep.ensures.rulings c.keep.ensures.absent
+    (rulings_same c.args.memo.now c.check.new.self c.check.ensures.rulings c.check.ensures.absent c.requires.rulings) c.in_ok-kept.ensures.ruling
