@@ -31,9 +31,13 @@ flags_in helds = map is_current helds
 abbrev pub readings_of : Kept → List (Option Reading)
 readings_of kept = readings_in kept.readings.items
 
--- of each file the modules, in the order of the files
+-- of each file the modules as the code holds them, in the order of the files
+abbrev pub held_modules_of : Kept → List (Vec Module Global)
+held_modules_of kept = kept.modules.items
+
+-- the same as contracts of designs see them
 abbrev pub modules_of : Kept → List (List Circuit)
-modules_of kept = circuits_of kept.modules.items
+modules_of kept = circuits_of (held_modules_of kept)
 
 -- of each file the flag, in the order of the files
 abbrev pub flags_of : Kept → List Bool
@@ -68,8 +72,11 @@ down_count (flag ∷ flags) = (if flag then 0 else 1) + down_count flags
 abbrev pub readings_by : Aside → Kept → List (Option Reading)
 readings_by aside kept = readings_in (put_in aside.readings.items kept.readings.items)
 
+abbrev pub held_modules_by : Aside → Kept → List (Vec Module Global)
+held_modules_by aside kept = put_in aside.modules.items kept.modules.items
+
 abbrev pub modules_by : Aside → Kept → List (List Circuit)
-modules_by aside kept = circuits_of (put_in aside.modules.items kept.modules.items)
+modules_by aside kept = circuits_of (held_modules_by aside kept)
 
 abbrev pub flags_by : Aside → Kept → List Bool
 flags_by aside kept = flags_in (put_in aside.readings.items kept.readings.items)

@@ -5,7 +5,7 @@ ghost use Rattle.elab_links.specs.Modules.{circuits_of};
 ghost use Rattle.desk_files.specs.Sources.{with_file, without_file};
 ghost use Rattle.desk_fresh.specs.Orders.{AreShort};
 ghost use Rattle.desk_readings.specs.Readings.{AreReadings, changed_count, file_at, first_refusal, with_blank, without};
-ghost use Rattle.desk_readings.specs.Shown.{AreFlagged, IsBeside, down_count, flags_by, flags_in, flags_of, modules_by, modules_of, readings_by, readings_in, readings_of, room_of};
+ghost use Rattle.desk_readings.specs.Shown.{AreFlagged, IsBeside, down_count, flags_by, flags_in, flags_of, held_modules_by, held_modules_of, modules_of, readings_by, readings_in, readings_of, room_of};
 
 use crate::aside::Aside;
 use crate::exchange::exchange;
@@ -202,10 +202,10 @@ impl Readings {
     /// memory.
     pub fn exchange(&mut self, aside: &mut Aside)
         ensures readings { readings_of self.new ≡ readings_by aside.old self.old }
-        ensures modules { modules_of self.new ≡ modules_by aside.old self.old }
+        ensures held { held_modules_of self.new ≡ held_modules_by aside.old self.old }
         ensures flags { flags_of self.new ≡ flags_by aside.old self.old }
         ensures undone_readings { readings_by aside.new self.new ≡ readings_of self.old }
-        ensures undone_modules { modules_by aside.new self.new ≡ modules_of self.old }
+        ensures undone_held { held_modules_by aside.new self.new ≡ held_modules_of self.old }
         ensures undone_flags { flags_by aside.new self.new ≡ flags_of self.old }
         ensures room { room_of self.new ≡ room_of self.old }
     {
