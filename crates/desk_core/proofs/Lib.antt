@@ -6,6 +6,7 @@ pub mod Made
 pub mod Paired
 pub mod Places
 pub mod Rules
+pub mod Same
 pub mod Settled
 pub mod Started
 pub mod Told

@@ -1,6 +1,6 @@
 -- What a request is answered, and what the tables are after it.
 -- Worked examples: crates/tests_exchanges/src/rows.rt.
-use Rattle.std.specs.Prelude.{◌≤◌, ◌==◌, ◌||◌, [], ℕ, ℤ, Bool, length, codes, ⊤}
+use Rattle.std.specs.Prelude.{◌≡◌, ◌≤◌, ◌==◌, ◌||◌, [], ℕ, ℤ, Bool, false, length, codes, ⊤}
 use Rattle.rtl_tree.specs.declared.text.TheConstants.{MAX_BYTES}
 use Rattle.desk_io.specs.Causes.{Rose}
 use Rattle.desk_tables.specs.Changes.{changed, reply_of}
@@ -42,6 +42,10 @@ unavailable = plainly 503 (codes "Service Unavailable\n")
 -- there is no memory
 abbrev pub no_memory : Said
 no_memory = plainly 507 []
+
+-- the reply says that nothing was accepted
+abbrev pub Leaves : Said → Type 0
+Leaves answer = is_accepted answer.status ≡ false
 
 -- the reply is that of the machine; or the keeper failed, or there was no memory, and then the
 -- tables stay

@@ -11,8 +11,9 @@ use Rattle.desk_tables.specs.declared.change.Change.{Change}
 use Rattle.desk_tables.specs.declared.change.Change.TheVariants.{PutFile, DropFile, Grant, Revoke, SignOff}
 use Rattle.desk_requests.specs.Replies.{Said}
 use Rattle.desk_records.specs.Outcomes.{kept_said}
-use Rattle.design_db.specs.declared.answer.Answer.{Answer}
-use Rattle.design_db.specs.declared.answer.Answer.TheVariants.{Ruled, Refused}
+use Rattle.desk_fresh.specs.declared.answer.Answer.{Answer}
+use Rattle.desk_fresh.specs.declared.answer.Answer.TheVariants.{Ruled, Refused}
+use Rattle.design_db.specs.Stores.{Store, answer_of}
 use Rattle.desk_core.specs.Serving.{no_memory, unavailable}
 use Rattle.desk_core.specs.declared.next.Next.{Next}
 use Rattle.desk_core.specs.declared.next.Next.TheVariants.{Puts, Drops, Stays}
@@ -36,6 +37,11 @@ abbrev pub CanFollow : Next → ℕ → Type 0
 CanFollow (Puts ready) room = (1 ≤ room) × (length ready.file.text ≤ MAX_BYTES)
 CanFollow (Drops name) room = ⊤
 CanFollow Stays room = ⊤
+
+-- the files stay, and so do all answers
+pub record IsSameStore (old new : Store) : Type 0 where
+  pub files : new.files ≡ old.files
+  pub answers : (top : List ℕ) → answer_of new top ≡ answer_of old top
 
 -- something is told of each finding
 abbrev pub IsPaired : Answer → Type 0

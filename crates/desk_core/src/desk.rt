@@ -6,8 +6,8 @@ use desk_records::Records;
 use std::alloc::Global;
 use std::marker::Model;
 
-/// What the desk keeps, and its files with what they said of a module last. The files are those of
-/// its tables, and each reply that is kept is to what was accepted.
+/// What the desk keeps, and its files with what they said of modules. The files are those of its
+/// tables, and each reply that is kept is to what was accepted.
 #[derive(Drop)]
 pub struct Desk {
     pub(crate) alloc: Global,
@@ -20,13 +20,18 @@ impl Model for Desk {
 
     ghost Value = { Machine };
 
+    ghost use Rattle.rtl_tree.specs.contracts.tree.modules.Module as written;
+    ghost use Rattle.std.specs.Coded.{codes};
+
+    ghost coded = { Prim.hlevel (codes, written.the_row.coded) };
+
     ghost view = { λ desk. record { kept = desk.records; store = desk.db } };
 
     ghost invariant = { λ desk. IsMachine (record { kept = desk.records; store = desk.db }) };
 }
 
 impl Desk {
-    /// The desk's files, with what they said last.
+    /// The desk's files, with what they said of modules.
     pub fn db(&self) -> &Db
         ensures { result.now ≡ self.now.store }
     {

@@ -4,9 +4,10 @@ ghost use Rattle.desk_tables.specs.Tables.{kept_of};
 ghost use Rattle.desk_records.specs.Machine.{request_outcome};
 ghost use Rattle.desk_records.specs.Outcomes.{Open, outcome};
 ghost use Rattle.desk_rulings.specs.Rulings.{verdict_of};
-ghost use Rattle.design_db.specs.Orders.{AreShort};
-ghost use Rattle.design_db.specs.Stores.{answer_in};
+ghost use Rattle.desk_fresh.specs.Orders.{AreShort};
+ghost use Rattle.design_db.specs.Stores.{answer_of};
 ghost use Rattle.desk_core.specs.Files.{AreFilesOf};
+ghost use Rattle.desk_core.specs.Machine.{KeepsAnswers};
 ghost use Rattle.desk_core.specs.Outcomes.{IsJudgedFor, IsOutcome, judged_with, refusal, ruling_outcome, top_of, with_answer, with_ruling};
 ghost use Rattle.desk_core.specs.Reports.{told_in};
 ghost use Rattle.desk_core.specs.Steps.{IsPaired};
@@ -41,20 +42,22 @@ fn count_ruling<L: Ledger>(db: &mut Db, top: &Text, blank: Blank) -> Result<(), 
     requires parts { blank.parts ≡ L.parts }
     requires some { 0 < L.parts }
     ensures files { db.new.files ≡ db.old.files }
-    ensures answered { OnOk result (IsSome (answer_in db.new.last top.now)) }
-    ensures kept { IsSome (answer_in db.old.last top.now) → db.new.last ≡ db.old.last }
-    ensures same { OnErr result (db.new.last ≡ db.old.last) }
+    ensures answered { OnOk result (IsSome (answer_of db.new top.now)) }
+    ensures kept { IsSome (answer_of db.old top.now) → db.new ≡ db.old }
+    ensures lasting { KeepsAnswers db.old db.new }
+    ensures same { OnErr result (db.new ≡ db.old) }
 {
     let mut steps = Steps::<L>::new(blank);
     db.ruling(top, &mut steps)
 }
 
-// Sees to it that what the files say of a module was said last.
+// Sees to it that what the files say of a module is known.
 pub(crate) fn rule(db: &mut Db, top: &Text) -> Result<(), Memory>
     ensures files { db.new.files ≡ db.old.files }
-    ensures answered { OnOk result (IsSome (answer_in db.new.last top.now)) }
-    ensures kept { IsSome (answer_in db.old.last top.now) → db.new.last ≡ db.old.last }
-    ensures same { OnErr result (db.new.last ≡ db.old.last) }
+    ensures answered { OnOk result (IsSome (answer_of db.new top.now)) }
+    ensures kept { IsSome (answer_of db.old top.now) → db.new ≡ db.old }
+    ensures lasting { KeepsAnswers db.old db.new }
+    ensures same { OnErr result (db.new ≡ db.old) }
 {
     count_ruling::<Brand>(db, top, Blank::new(1))
 }
@@ -154,6 +157,7 @@ fn judge(
     ensures is { IfOk result (λ made.
         IsJudgedFor request.now today records.now (top_of request.now.ask) (outcome made)) }
     ensures files { db.new.files ≡ db.old.files }
+    ensures lasting { KeepsAnswers db.old db.new }
 {
     // Only these requests look at a module.
     let Some(top) = top_of(&request.ask) else {
@@ -180,6 +184,7 @@ pub(crate) fn decide(
     requires { AreFilesOf records.now.files db.old.files }
     ensures is { IfOk result (λ made. IsOutcome request.now today records.now (outcome made)) }
     ensures files { db.new.files ≡ db.old.files }
+    ensures lasting { KeepsAnswers db.old db.new }
 {
     match records.decide(request, today) {
         Ok(Decision::Open) => judge(alloc, records, db, request, today),

@@ -2,7 +2,7 @@
 ghost use Rattle.std.specs.Prelude.{◌≡◌, List, IfOk};
 ghost use Rattle.desk_files.specs.declared.files.SourceFile.{SourceFile};
 ghost use Rattle.desk_core.specs.Files.{files_changed};
-ghost use Rattle.desk_core.specs.Steps.{CanFollow, IsShortChange, files_next};
+ghost use Rattle.desk_core.specs.Steps.{CanFollow, IsSameStore, IsShortChange, files_next};
 
 use design_db::{Db, Ready};
 use desk_tables::Change;
@@ -24,7 +24,7 @@ pub(crate) fn next_of(alloc: Global, db: &mut Db, change: &Change) -> Result<Nex
     ensures next { IfOk result (λ next.
         (files : List SourceFile) → files_next next files ≡ files_changed change.now files) }
     ensures room { IfOk result (λ next. CanFollow next db.new.room) }
-    ensures files { db.new.files ≡ db.old.files }
+    ensures same { IsSameStore db.old db.new }
 {
     match change {
         Change::PutFile(row, _) => Ok(Next::Puts(db.ready(&row.name, &row.text)?)),

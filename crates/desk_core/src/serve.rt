@@ -1,15 +1,15 @@
 // What a request is answered.
-ghost use Rattle.std.specs.Prelude.{◌≡◌, ◌≢◌, ◌≤◌, ◌⊎◌, ℕ, true, List, IfOk, IfSome, IsSome, OnErr, OnOk};
+ghost use Rattle.std.specs.Prelude.{◌≡◌, ◌≢◌, ◌≤◌, ℕ, true, List, IfOk, IfSome, IsSome, OnOk};
 ghost use Rattle.desk_files.specs.declared.files.SourceFile.{SourceFile};
 ghost use Rattle.desk_tables.specs.Changes.{reply_of};
 ghost use Rattle.desk_requests.specs.Replies.{said};
-ghost use Rattle.design_db.specs.Stores.{answer_in};
+ghost use Rattle.design_db.specs.Stores.{answer_of};
 ghost use Rattle.desk_core.specs.Files.{AreFilesOf, files_changed};
 ghost use Rattle.desk_core.specs.Headline.{IsNewSignOff, IsSignedClean, SaysClean};
-ghost use Rattle.desk_core.specs.Machine.{AreAccepted, is_accepted};
+ghost use Rattle.desk_core.specs.Machine.{AreAccepted, KeepsAnswers, is_accepted};
 ghost use Rattle.desk_core.specs.Reports.{IsTold, told_in};
-ghost use Rattle.desk_core.specs.Serving.{IsShort, Serves, is_answered, unavailable};
-ghost use Rattle.desk_core.specs.Steps.{CanFollow, IsMade, IsShortChange, files_next};
+ghost use Rattle.desk_core.specs.Serving.{IsShort, Leaves, Serves, is_answered, unavailable};
+ghost use Rattle.desk_core.specs.Steps.{CanFollow, IsMade, IsSameStore, IsShortChange, files_next};
 
 use crate::Desk;
 use crate::judge::{decide, rule};
@@ -38,7 +38,7 @@ fn plan_of(alloc: Global, db: &mut Db, change: &Change) -> Result<Plan, Memory>
         (files : List SourceFile) → files_next plan.next files ≡ files_changed change.now files) }
     ensures room { IfOk result (λ plan. CanFollow plan.next db.new.room) }
     ensures unkept { IfOk result (λ plan. said plan.unkept ≡ unavailable) }
-    ensures files { db.new.files ≡ db.old.files }
+    ensures same { IsSameStore db.old db.new }
 {
     let unkept = unavailable(alloc)?;
     let next = next_of(alloc, db, change)?;
@@ -69,6 +69,7 @@ fn commit<K: Keeper>(
     ensures later { K.count keeper.old ≤ K.count keeper.new }
     ensures files { AreFilesOf records.new.files db.new.files }
     ensures replies { AreAccepted records.new.replies }
+    ensures left { Leaves (said result) → IsSameStore db.old db.new }
 {
     let Plan { next, unkept } = plan;
     match records.make(keeper, change) {
@@ -91,6 +92,7 @@ impl Desk {
             self.new.kept (said result) }
         ensures held { IfSome (K.tables keeper.new) (λ held. held ≡ self.new.kept) }
         ensures later { K.count keeper.old ≤ K.count keeper.new }
+        ensures left { Leaves (said result) → IsSameStore self.old.store self.new.store }
     {
         match plan_of(self.alloc, &mut self.db, &change) {
             Ok(plan) => commit(
@@ -118,6 +120,11 @@ impl Desk {
         ensures status { is_answered (said result).status ≡ true }
         ensures calm { (said result).status ≢ 503 → K.count keeper.new ≡ K.count keeper.old }
 
+        // Where nothing was accepted, as where the keeper failed or memory ran out, the files stay,
+        // and so do the answers that were there.
+        ensures lasting { Leaves (said result) → KeepsAnswers self.old.store self.new.store }
+        ensures left { Leaves (said result) → self.new.store.files ≡ self.old.store.files }
+
         // What is signed clean shows in every simulation what its hardware shows.
         ensures headline { (top : List ℕ) → IsNewSignOff request.now self.old.kept top
             → SaysClean (said result) → IsSignedClean self.old.kept top }
@@ -132,20 +139,18 @@ impl Desk {
     }
 
     /// What is told of a module on a day: its report, with the waivers that stand, or why it has no
-    /// design. It is worked out anew where its answer wasn't the last that was asked for. Fails
-    /// where memory runs out.
+    /// design. It is worked out where its answer isn't known. Fails where memory runs out.
     pub fn report(&mut self, top: &Text, today: Day) -> Result<TopReport, Memory>
         ensures told { IfOk result (λ report.
             IsTold top.now today self.old.kept (told_in report)) }
         ensures kept { self.new.kept ≡ self.old.kept }
         ensures files { self.new.store.files ≡ self.old.store.files }
-        ensures answered { OnOk result (IsSome (answer_in self.new.store.last top.now)) }
-        ensures again { IsSome (answer_in self.old.store.last top.now)
-            → self.new.store.last ≡ self.old.store.last }
+        ensures answered { OnOk result (IsSome (answer_of self.new.store top.now)) }
+        ensures again { IsSome (answer_of self.old.store top.now)
+            → self.new.store ≡ self.old.store }
 
-        // At an error the last answer is as it was, or that of the module.
-        ensures refused { OnErr result ((self.new.store.last ≡ self.old.store.last)
-            ⊎ IsSome (answer_in self.new.store.last top.now)) }
+        // The answers of other modules stay, at an error too.
+        ensures lasting { KeepsAnswers self.old.store self.new.store }
     {
         rule(&mut self.db, top)?;
         match self.db.answer(top) {

@@ -3,6 +3,7 @@ use Rattle.desk_requests.specs.Replies.{said}
 use Rattle.desk_core.proofs.Accepted.{replies_made}
 use Rattle.desk_core.proofs.Files.{files_made}
 use Rattle.desk_core.proofs.Made.{is_made, is_unkept, is_unmade}
+use Rattle.desk_core.proofs.Same.{never_left}
 use Rattle.desk_core.proofs.serve.commit.Goals as goal
 
 pub returns-in-Ok-clause-made : goal.returns-in-Ok-clause-made
@@ -28,3 +29,7 @@ pub returns-clause-made : goal.returns-clause-made
 returns-clause-made g c =
     is_unmade c.args.change (g.K.Keeper.count c.args.keeper.now) (g.K.Keeper.count c.make.new.keeper) c.args.records.now c.make.new.self (said c.no_memory.result)
     c.in-Err-Memory.ensures.same c.no_memory.ensures (c.in-Err-Memory.ensures.no_memory (cc))
+
+pub returns-in-Ok-clause-left : goal.returns-in-Ok-clause-left
+returns-in-Ok-clause-left g c =
+    λ leaves. absurd (never_left c.args.change (said c.in-Ok.reply) c.in-Ok.ensures.ok c.requires.accepted leaves)

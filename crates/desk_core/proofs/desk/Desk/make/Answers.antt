@@ -1,7 +1,9 @@
-use Rattle.std.proofs.Common.{◌≡◌, ◌∙◌, refl, ap}
+use Rattle.std.proofs.Common.{◌≡◌, ◌∙◌, refl, ap, subst}
 use Rattle.desk_requests.specs.Replies.{said}
 use Rattle.desk_core.specs.Machine.{Machine}
+use Rattle.desk_core.specs.Steps.{IsSameStore}
 use Rattle.desk_core.proofs.Made.{is_unmade}
+use Rattle.desk_core.proofs.Same.{same_then}
 use Rattle.desk_core.proofs.desk.Desk.make.Goals as goal
 use Rattle.desk_core.proofs.desk.Desk.make.Goals.{in-PutFile-1, in-DropFile-1, in-Grant-1, in-Revoke-1, in-SignOff-1}
 
@@ -18,3 +20,8 @@ returns-in-Err-clause-made g c =
       | in-SignOff-1 w ↦ ap kept w.self-is ∙ ap kept c.self.view_is
     ] in
     is_unmade c.args.change count count c.args.self.now.kept c.match-change.self.kept (said c.no_memory.result) stays c.no_memory.ensures refl
+
+pub returns-in-Ok-clause-left : goal.returns-in-Ok-clause-left
+returns-in-Ok-clause-left g c =
+    let first = subst (λ (machine : Machine). IsSameStore machine.store c.plan_of.new.db) c.self.view_is c.plan_of.ensures.same in
+    λ leaves. same_then c.args.self.now.store c.plan_of.new.db c.commit.new.db first (c.commit.ensures.left leaves)

@@ -1,11 +1,12 @@
-use Rattle.std.proofs.Common.{ap, subst}
+use Rattle.std.proofs.Common.{◌∙◌, ap, subst}
 use Rattle.desk_requests.specs.Replies.{said}
 use Rattle.desk_records.specs.Outcomes.{outcome}
 use Rattle.desk_records.specs.declared.decision.Decision.{Decision}
-use Rattle.desk_core.specs.Machine.{Machine}
+use Rattle.desk_core.specs.Machine.{KeepsAnswers, Machine}
 use Rattle.desk_core.specs.Outcomes.{IsOutcome}
 use Rattle.desk_core.proofs.Headlines.{headline}
 use Rattle.desk_core.proofs.Made.{made_status, serves_made, serves_none, serves_told}
+use Rattle.desk_core.proofs.Same.{keeps_then}
 use Rattle.desk_core.proofs.Settled.{never_open, sound_change, told_status}
 use Rattle.desk_core.proofs.desk.Desk.serve.Goals as goal
 
@@ -58,3 +59,20 @@ returns-in-Err-clause-served g c =
     let count = g.K.Keeper.count c.args.keeper.now in
     serves_none c.args.request.now c.args.today count count c.args.self.now.kept c.self.inside.records (said c.no_memory.result)
     (ap (λ (machine : Machine). machine.kept) c.self.view_is) c.no_memory.ensures
+
+pub returns-in-Ok-Tells-clause-lasting : goal.returns-in-Ok-Tells-clause-lasting
+returns-in-Ok-Tells-clause-lasting g c =
+    λ leaves. subst (λ (machine : Machine). KeepsAnswers machine.store c.decide.new.db) c.self.view_is c.decide.ensures.lasting
+
+pub returns-in-Ok-Makes-clause-lasting : goal.returns-in-Ok-Makes-clause-lasting
+returns-in-Ok-Makes-clause-lasting g c =
+    let keeps = subst (λ (machine : Machine). KeepsAnswers machine.store c.decide.new.db) c.self.view_is c.decide.ensures.lasting in
+    λ leaves. keeps_then c.args.self.now.store c.decide.new.db c.make.new.self.store keeps (c.make.ensures.left leaves)
+
+pub returns-in-Err-clause-lasting : goal.returns-in-Err-clause-lasting
+returns-in-Err-clause-lasting g c =
+    λ leaves. subst (λ (machine : Machine). KeepsAnswers machine.store c.decide.new.db) c.self.view_is c.decide.ensures.lasting
+
+pub returns-in-Ok-Makes-clause-left : goal.returns-in-Ok-Makes-clause-left
+returns-in-Ok-Makes-clause-left g c =
+    λ leaves. (c.make.ensures.left leaves).files ∙ c.decide.ensures.files ∙ ap (λ (machine : Machine). machine.store.files) c.self.view_is
