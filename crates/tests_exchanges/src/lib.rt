@@ -6,6 +6,8 @@ mod bytes;
 #[cfg(test)]
 mod commands;
 #[cfg(test)]
+mod edits;
+#[cfg(test)]
 mod failing;
 #[cfg(test)]
 mod rows;

@@ -5,7 +5,7 @@ ghost use Rattle.desk_tables.specs.MemoryKeeper.{held};
 use desk_core::Desk;
 use desk_links::{MemoryClock, MemoryLink};
 use desk_server::{Served, connection};
-use desk_tables::{Day, MemoryKeeper, Tables};
+use desk_tables::{Day, Keeper, MemoryKeeper, Tables};
 use std::alloc::Global;
 use std::test::Fail;
 
@@ -32,9 +32,13 @@ pub struct Server {
 
 /// The server of a new desk.
 pub fn new_server(alloc: Global) -> Result<Server, Fail> {
-    let Ok(tables) = Tables::new(alloc) else {
-        return Err(Fail::new("no memory"));
-    };
+    match Tables::new(alloc) {
+        Ok(tables) => server_over(alloc, tables),
+        Err(_) => Err(Fail::new("no memory")),
+    }
+}
+
+fn server_over(alloc: Global, tables: Tables) -> Result<Server, Fail> {
     let mut keeper = MemoryKeeper::new(alloc, tables);
     match Desk::start(alloc, &mut keeper) {
         Ok(desk) => Ok(Server {
@@ -112,8 +116,16 @@ impl Server {
         connection(self.alloc, &mut self.desk, &mut self.keeper, link, clock)
     }
 
-    // What is replied to an input, on a day.
-    fn reply(&mut self, input: &[u8], number: i32) -> Result<Vec<u8>, Fail> {
+    /// The server of a desk that begins with the same tables.
+    pub fn anew(&mut self) -> Result<Server, Fail> {
+        match self.keeper.load() {
+            Ok(tables) => server_over(self.alloc, tables),
+            Err(_) => Err(Fail::new("not loaded")),
+        }
+    }
+
+    /// What is replied to an input, on a day.
+    pub fn reply(&mut self, input: &[u8], number: i32) -> Result<Vec<u8>, Fail> {
         let mut link = link(self.alloc, input, 7)?;
         let mut clock = clock(self.alloc, number)?;
         match self.serve(&mut link, &mut clock) {
