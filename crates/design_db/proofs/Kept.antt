@@ -1,5 +1,5 @@
 -- Which answers are there, and which of them stay.
-use Rattle.std.proofs.Common.{◌≡◌, Bor, ℕ, Bool, true, false, cond, List, ◌++◌, ◌∷◌, [], ap, sym, refl, subst, ◌∙◌}
+use Rattle.std.proofs.Common.{◌≡◌, Bor, ℕ, Bool, true, false, cond, List, ◌++◌, ap, sym, refl, subst, ◌∙◌}
 use Rattle.std.specs.Prelude.{◌==◌, ◌&&◌, not, bytes_eq, find, is_some, option_copied, IfSome, IsSome, OnErr, OnOk, Option, Some, None, Ok, Err, Result, Vec, option_to_list}
 use Rattle.std.specs.List.{All, Contains}
 use Rattle.std.specs.Option.{option_map}
@@ -7,7 +7,6 @@ use Rattle.std.specs.declared.alloc.Global.{Global}
 use Rattle.std.proofs.lemmas.Bool.Decides.{Decides-eqb}
 use Rattle.std.proofs.lemmas.Slice.Eq.{bytes_eq-Decides}
 use Rattle.rtl_tree.specs.TreeModule.{Circuit}
-use Rattle.rtl_tree.specs.declared.memory.Memory.{Memory}
 use Rattle.rtl_tree.specs.declared.tree.modules.Module.{Module}
 use Rattle.elab_links.specs.Modules.{circuits_of}
 use Rattle.desk_files.specs.declared.files.SourceFile.{SourceFile}

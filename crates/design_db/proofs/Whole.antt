@@ -1,6 +1,6 @@
 -- What the desk keeps stays right when a file comes or goes.
 use Rattle.std.proofs.Common.{◌≡◌, ◌≤◌, ◌⊎◌, inl, inr, ℕ, List, [], ◌∷◌, ◌++◌, length, min, ap, refl, subst, sym, ◌∙◌}
-use Rattle.std.specs.Prelude.{OnErr, OnOk, Option, Result, Ok, Err, Vec, option_to_list}
+use Rattle.std.specs.Prelude.{IsSome, OnErr, OnOk, Option, Result, Ok, Err, Vec, option_to_list}
 use Rattle.std.specs.List.{All, Contains}
 use Rattle.std.specs.declared.alloc.Global.{Global}
 use Rattle.std.proofs.lemmas.List.Elements.{All-contains, All-contains_itself, All-weaker, Contains-push_cases}
@@ -17,7 +17,7 @@ use Rattle.desk_readings.specs.Readings.{AreReadings, Reading, changed_count}
 use Rattle.desk_readings.specs.Shown.{AreFlagged, IsBeside, are_as_read, flags_by, flags_of, held_modules_by, held_modules_of, modules_by, modules_of, readings_by, readings_of, room_of}
 use Rattle.desk_readings.specs.declared.aside.Aside.{Aside}
 use Rattle.desk_readings.specs.declared.readings.Readings.{Readings}
-use Rattle.desk_memo.specs.Rulings.{IsRuling, Ruling}
+use Rattle.desk_memo.specs.Rulings.{IsRuling, Ruling, current_of}
 use Rattle.desk_memo.specs.Shown.{AreChecked, absent_of, all_of, rulings_of}
 use Rattle.desk_memo.specs.declared.memo.Memo.{Memo}
 use Rattle.design_db.specs.Shown.{IsWhole, store}
@@ -91,6 +91,17 @@ is_read_now files seen before after aside sees beside readings held flags =
       flagged = flags ∙ beside.flagged ∙ ap (λ (it : List (Option Reading)). are_as_read seen it) (sym readings);
       unchanged = ap (λ (it : List (Option Reading)). changed_count seen it) readings ∙ beside.unchanged;
     })
+
+-- a ruling that holds among the modules that the texts define holds among those that were read
+pub is_found_now : (files seen : List SourceFile) (after : Readings) (old new : Memo) (top : List ℕ) (modules : List (List Circuit)) → seen ≡ files → modules ≡ modules_of after → rulings_of new ≡ rulings_of old → absent_of new ≡ absent_of old → IsSome (current_of files modules top (all_of old)) → IsSome (current_of seen (modules_of after) top (all_of new))
+is_found_now files seen after old new top modules sees one rulings absent some =
+    let same : all_of new ≡ all_of old =
+    ap (λ (it : List Ruling). it ++ option_to_list (absent_of new)) rulings
+    ∙ ap (λ (it : Option Ruling). rulings_of old ++ option_to_list it) absent
+    in
+    subst (λ (it : List SourceFile). IsSome (current_of it (modules_of after) top (all_of new))) (sym sees)
+    (subst (λ (it : List (List Circuit)). IsSome (current_of files it top (all_of new))) one
+    (subst (λ (it : List Ruling). IsSome (current_of files modules top it)) (sym same) some))
 
 -- after a second exchange all is as before
 pub is_undone : (files : Files) (before after : Readings) (old new : Memo) → readings_of after ≡ readings_of before → modules_of after ≡ modules_of before → flags_of after ≡ flags_of before → rulings_of new ≡ rulings_of old → absent_of new ≡ absent_of old → ((files : List SourceFile) (modules : List (List Circuit)) → AreChecked files modules new) → IsWhole files before old → IsWhole files after new

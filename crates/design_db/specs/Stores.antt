@@ -1,6 +1,6 @@
 -- The files of the desk with what was read of them and the rulings: what contracts see.
 -- Worked examples: proofs/Example.antt, crates/tests_exchanges/src/rows.rt.
-use Rattle.std.specs.Prelude.{ℕ, ◌==◌, List, ◌++◌, Option, Some, None, IfSome, if◌then◌else◌, option_to_list, Vec}
+use Rattle.std.specs.Prelude.{ℕ, ◌==◌, List, ◌++◌, Option, Some, None, if◌then◌else◌, option_to_list, Vec}
 use Rattle.std.specs.List.{All}
 use Rattle.std.specs.Option.{option_and_then}
 use Rattle.std.specs.declared.alloc.Global.{Global}

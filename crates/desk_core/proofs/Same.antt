@@ -1,5 +1,5 @@
 -- What stays of the files and the answers where nothing was accepted.
-use Rattle.std.proofs.Common.{◌≡◌, ℕ, List, ap, refl, subst, sym, ◌∙◌}
+use Rattle.std.proofs.Common.{◌≡◌, ap, refl, ◌∙◌}
 use Rattle.desk_tables.specs.Changes.{reply_of}
 use Rattle.desk_tables.specs.declared.change.Change.{Change}
 use Rattle.desk_requests.specs.Replies.{Said}
