@@ -1,5 +1,6 @@
-use Rattle.std.proofs.Common.{◌≡◌, ◌∙◌, refl, ap, subst}
+use Rattle.std.proofs.Common.{◌≡◌, ◌∙◌, refl, ap, subst, sym}
 use Rattle.desk_requests.specs.Replies.{said}
+use Rattle.design_db.specs.Stores.{Store}
 use Rattle.desk_core.specs.Machine.{Machine}
 use Rattle.desk_core.specs.Steps.{IsSameStore}
 use Rattle.desk_core.proofs.Made.{is_unmade}
@@ -25,3 +26,17 @@ pub returns-in-Ok-clause-left : goal.returns-in-Ok-clause-left
 returns-in-Ok-clause-left g c =
     let first = subst (λ (machine : Machine). IsSameStore machine.store c.plan_of.new.db) c.self.view_is c.plan_of.ensures.same in
     λ leaves. same_then c.args.self.now.store c.plan_of.new.db c.commit.new.db first (c.commit.ensures.left leaves)
+
+pub returns-in-Err-clause-left : goal.returns-in-Err-clause-left
+returns-in-Err-clause-left g c =
+    let first = subst (λ (machine : Machine). IsSameStore machine.store c.plan_of.new.db) c.self.view_is c.plan_of.ensures.same in
+    let store = λ (machine : Machine). machine.store in
+    let stays : c.match-change.self.store ≡ c.plan_of.new.db =
+    elim c.match-change.branch [
+      | in-PutFile-1 w ↦ ap store w.self-is
+      | in-DropFile-1 w ↦ ap store w.self-is
+      | in-Grant-1 w ↦ ap store w.self-is
+      | in-Revoke-1 w ↦ ap store w.self-is
+      | in-SignOff-1 w ↦ ap store w.self-is
+    ] in
+    λ leaves. subst (λ (it : Store). IsSameStore c.args.self.now.store it) (sym stays) first
