@@ -4,6 +4,7 @@ use Rattle.std.specs.Prelude.{if◌then◌else◌, Option, None, Some, slice_get
 use Rattle.std.specs.List.{All, Contains, cons_option, list_all}
 use Rattle.std.specs.Option.{option_map}
 use Rattle.std.proofs.lemmas.Bool.{and_from}
+use Rattle.std.proofs.lemmas.List.Elements.{All-cons, All-contains_itself, All-head, All-nil, All-tail, All-weaker}
 use Rattle.std.proofs.lemmas.List.Sums.{list_all-from_AllPass}
 use Rattle.std.proofs.lemmas.Slice.Eq.{bytes_eq-Decides}
 use Rattle.rtl_tree.specs.TreeModule.{Circuit}
@@ -97,6 +98,26 @@ file_used files modules numbers top used read reached is number one =
     kept_among (λ it. used_at it (slice_get files it)) numbers number made ((reached.each number).1 one) (ap (used_at number) file.1) in
     (file.0, file.1, subst (λ (it : List Used). Contains it made) (sym is) among)
 
+only_first : (P : ℕ → Type 0) (number : ℕ) (held : Option SourceFile) (rest : List Used) → P number → All (λ (it : Used). P it.number) rest → All (λ (it : Used). P it.number) (cons_option (used_at number held) rest)
+only_first P number None rest one all = all
+only_first P number (Some file) rest one all =
+    let made : Used = record { number = number; file = file } in
+    All-cons (λ (it : Used). P it.number) made rest one all
+
+only_all : (P : ℕ → Type 0) (files : List SourceFile) (numbers : List ℕ) → All P numbers → All (λ (it : Used). P it.number) (used_among (slice_get files) numbers)
+only_all P files [] all = All-nil (λ (it : Used). P it.number)
+only_all P files (number ∷ numbers) all =
+    only_first P number (slice_get files number) (used_among (slice_get files) numbers) (All-head P number numbers all)
+    (only_all P files numbers (All-tail P number numbers all))
+
+-- no file is used but those in which a module of the top stands
+file_only : (files : List SourceFile) (modules : List (List Circuit)) (numbers : List ℕ) (top : List ℕ) (used : List Used) → AreFilesReached (library_of modules).lookups modules top numbers → used ≡ used_among (slice_get files) numbers → All (λ (it : Used). IsFileReached (library_of modules).lookups modules top it.number) used
+file_only files modules numbers top used reached is =
+    let P : ℕ → Type 0 = λ (number : ℕ). IsFileReached (library_of modules).lookups modules top number in
+    subst (λ (it : List Used). All (λ (one : Used). P one.number) it) (sym is)
+    (only_all P files numbers
+    (All-weaker (Contains numbers) P (λ number among. (reached.each number).0 among) numbers (All-contains_itself numbers)))
+
 is_ruling : (files : List SourceFile) (modules : List (List Circuit)) (numbers : List ℕ) (top : List ℕ) (ruling : Ruling) → AreRead (texts_in files) modules → AreLookUps (library_of modules) top ruling.look_ups → AreFilesReached (library_of modules).lookups modules top numbers → ruling.used ≡ used_among (slice_get files) numbers → IsOfDesign files modules top (elaborated (library_of modules) top) ruling.answer → ruling.top ≡ top → IsRuling ruling
 is_ruling files modules numbers top ruling read looked reached used said same =
     let is_top = sym same in
@@ -107,6 +128,9 @@ is_ruling files modules numbers top ruling read looked reached used said same =
       looked_up = subst (λ (it : List ℕ). AreLookUps (library_of modules) it ruling.look_ups) is_top looked;
       used =
           file_used files modules numbers ruling.top ruling.used read
+          (subst (λ (it : List ℕ). AreFilesReached (library_of modules).lookups modules it numbers) is_top reached) used;
+      only =
+          file_only files modules numbers ruling.top ruling.used
           (subst (λ (it : List ℕ). AreFilesReached (library_of modules).lookups modules it numbers) is_top reached) used;
       is =
           subst (λ (it : List ℕ). IsOfDesign files modules it (elaborated (library_of modules) it) ruling.answer) is_top said;

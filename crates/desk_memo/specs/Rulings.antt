@@ -1,7 +1,7 @@
 -- Answers that are kept beside what they looked up, and when they still hold.
 -- Worked examples: proofs/Example.antt.
 use Rattle.std.specs.Prelude.{ℕ, ◌≡◌, ◌==◌, ◌&&◌, not, Bool, true, false, bytes_eq, find, if◌then◌else◌, List, [], ◌∷◌, Option, None, Some, filter, slice_get}
-use Rattle.std.specs.List.{Contains, list_all, list_any}
+use Rattle.std.specs.List.{All, Contains, list_all, list_any}
 use Rattle.std.specs.Option.{option_map}
 use Rattle.rtl_tree.specs.TreeModule.{Circuit}
 use Rattle.rtl_front.specs.Fronts.{AreRead}
@@ -98,7 +98,7 @@ is_absent ruling = not (list_any (is_own_module ruling.top) ruling.look_ups)
 -- ---- what a ruling is
 
 -- it is what some files said of its top, with all that was looked up among their modules, and the
--- files that the top used
+-- files that the top used, and no others
 pub record IsRuling (ruling : Ruling) : Type 0 where
   pub files : List SourceFile
   pub modules : List (List Circuit)
@@ -108,5 +108,8 @@ pub record IsRuling (ruling : Ruling) : Type 0 where
       (number : ℕ) → IsFileReached (library_of modules).lookups modules ruling.top number →
       (file : SourceFile) × (slice_get files number ≡ Some file)
       × Contains ruling.used (record { number = number; file = file })
+  pub only :
+      All (λ (used : Used). IsFileReached (library_of modules).lookups modules ruling.top used.number)
+      ruling.used
   pub is :
       IsOfDesign files modules ruling.top (elaborated (library_of modules) ruling.top) ruling.answer
