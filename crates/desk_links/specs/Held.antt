@@ -11,7 +11,7 @@ use Rattle.desk_links.specs.declared.door.memory.MemoryDoor.{MemoryDoor}
 use Rattle.desk_links.specs.declared.door.tcp.TcpDoor.{TcpDoor}
 use Rattle.desk_links.specs.declared.link.memory.MemoryLink.{MemoryLink}
 use Rattle.desk_links.specs.declared.link.memory.Past.{Past}
-use Rattle.desk_links.specs.declared.link.stream.StreamLink.{StreamLink}
+use Rattle.desk_links.specs.declared.link.tcp.TcpLink.{TcpLink}
 
 -- the days that are left
 abbrev pub clock_days : MemoryClock → List ℤ
@@ -37,8 +37,8 @@ link_talk link = talk_of link.past
 abbrev pub link_faults : MemoryLink → ℕ
 link_faults link = link.past.faults
 
-abbrev pub stream_faults : {S : Type 0} → StreamLink S → ℕ
-stream_faults link = link.faults
+abbrev pub tcp_link_faults : {C S : Type 0} → TcpLink C S → ℕ
+tcp_link_faults link = link.faults
 
 -- the links of a chain, the first that was given back first
 abbrev pub chain_links : Chain → List Ended

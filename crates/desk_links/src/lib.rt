@@ -11,4 +11,4 @@ mod link;
 
 pub use clock::{Clock, MemoryClock, SystemClock};
 pub use door::{Door, MemoryDoor, TcpDoor};
-pub use link::{Link, MemoryLink, StreamLink};
+pub use link::{Link, MemoryLink, TcpLink};

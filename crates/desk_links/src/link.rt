@@ -5,12 +5,12 @@ ghost use Rattle.desk_io.specs.Causes.{HasCause};
 ghost use Rattle.desk_links.specs.Links.{GoesOn, IsAtEnd, Talk, moved};
 
 mod memory;
-mod stream;
+mod tcp;
 
 use desk_io::Failed;
 pub use memory::MemoryLink;
 pub(crate) use memory::Past;
-pub use stream::StreamLink;
+pub use tcp::TcpLink;
 
 /// A link to a client: what it sends is read, and what is written goes to it. It counts the faults
 /// that both met.
