@@ -7,7 +7,7 @@ use Rattle.std.specs.declared.alloc.Global.{Global}
 use Rattle.rtl_tree.specs.declared.text.Spot.{Spot}
 use Rattle.desk_places.specs.Lines.{is_line_feed}
 use Rattle.desk_places.specs.declared.lines.LineTable.{LineTable}
-use Rattle.desk_places.specs.declared.sources.SourceFile.{SourceFile}
+use Rattle.desk_places.specs.declared.source_file.SourceFile.{SourceFile}
 use Rattle.desk_places.specs.declared.sources.Sources.{Sources}
 
 -- the line of a place, from 1: one more than the line feeds before it
@@ -50,7 +50,7 @@ text_of table = table.text.now
 
 -- what a contract sees of a file
 abbrev pub file_of : SourceFile → Source
-file_of file = record { name = file.name.now; text = text_of file.lines }
+file_of file = record { name = file.name.now; text = file.text.now }
 
 -- what a contract sees of the files that were read
 abbrev pub sources_of : Sources → List Source

@@ -2,4 +2,5 @@
 #![tactic(auto)]
 
 pub mod lines;
+mod source_file;
 pub mod sources;

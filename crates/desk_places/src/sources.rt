@@ -1,48 +1,18 @@
 //! The files that were read.
 
-ghost use Rattle.std.specs.Prelude.{◌≡◌, ◌≤◌, ◌∷◌, ◌++◌, [], All, codes, decimal, IfOk, length, OnErr, OnOk};
-ghost use Rattle.desk_places.specs.Places.{file_of, place_in, place_text, source, sources, sources_of, text_of};
+ghost use Rattle.std.specs.Prelude.{◌≡◌, ◌≤◌, ◌∷◌, ◌++◌, [], All, IfOk, length, OnErr, OnOk};
+ghost use Rattle.desk_places.specs.Places.{place_in, source, sources, sources_of};
 
-use crate::lines::LineTable;
-use itoa::Buffer;
+use crate::source_file::SourceFile;
 use rtl_tree::memory::Memory;
 use rtl_tree::text::Spot;
 use std::alloc::Global;
-
-/// A file by its name, with the lines of its text.
-#[derive(Drop)]
-struct SourceFile<'a> {
-    name: &'a [u8],
-    lines: LineTable<'a>,
-}
 
 /// The files that were read, in their order: a spot names its file by the position there.
 #[derive(Drop)]
 pub struct Sources<'a> {
     alloc: Global,
     files: Vec<SourceFile<'a>>,
-}
-
-impl<'a> SourceFile<'a> {
-    fn new(alloc: Global, name: &'a [u8], text: &'a [u8]) -> Result<SourceFile<'a>, Memory>
-        requires { length text.now ≤ 1048576 }
-        ensures { IfOk result (λ file. file_of file ≡ record { name = name.now; text = text.now }) }
-    {
-        Ok(SourceFile {
-            name,
-            lines: LineTable::new(alloc, text)?,
-        })
-    }
-
-    /// Writes a place of the file behind other text.
-    fn push_place(&self, out: &mut Vec<u8>, at: u32) -> Result<(), Memory>
-        ensures { OnOk result (out.new.items ≡ out.old.items ++ place_text self.now.name.now (text_of self.now.lines) at) }
-    {
-        let position = self.lines.position(at);
-        out.extend_from_slice(self.name)?;
-        push_number(out, position.line)?;
-        push_number(out, position.column)
-    }
 }
 
 impl<'a> Sources<'a> {
@@ -86,23 +56,25 @@ impl<'a> Sources<'a> {
         Ok(())
     }
 
+    /// Puts a file behind the others of which few places are written: its lines are gone through anew for each, and not
+    /// before. At an error the files stay.
+    pub fn push_seldom(&mut self, name: &'a [u8], text: &'a [u8]) -> Result<(), Memory>
+        requires { length text.now ≤ 1048576 }
+        ensures ok { OnOk result (sources_of self.new
+            ≡ sources_of self.old ++ record { name = name.now; text = text.now } ∷ []) }
+        ensures err { OnErr result (sources_of self.new ≡ sources_of self.old) }
+    {
+        self.files.push(SourceFile::seldom(name, text))?;
+        Ok(())
+    }
+
     /// Writes a place as `file:line:column` behind other text, and nothing where there is no such file.
     pub fn push_place(&self, out: &mut Vec<u8>, spot: Spot) -> Result<(), Memory>
         ensures { OnOk result (out.new.items ≡ out.old.items ++ place_in (sources_of self.now) spot) }
     {
         match self.files.get(spot.file as usize) {
-            Some(file) => file.push_place(out, spot.at),
+            Some(file) => file.push_place(self.alloc, out, spot.at),
             None => Ok(()),
         }
     }
-}
-
-/// Writes a number behind a colon.
-fn push_number(out: &mut Vec<u8>, number: u64) -> Result<(), Memory>
-    ensures { OnOk result (out.new.items ≡ out.old.items ++ (codes ":" ++ decimal number)) }
-{
-    let mut digits = Buffer::new();
-    out.push(b':')?;
-    out.extend_from_slice(digits.format(number).as_bytes())?;
-    Ok(())
 }
