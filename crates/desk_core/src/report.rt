@@ -1,5 +1,6 @@
 // What is told of a module on a day.
-ghost use Rattle.std.specs.Prelude.{◌≡◌, ◌≤◌, length, IfOk};
+ghost use Rattle.std.specs.Prelude.{◌≡◌, ◌≤◌, ◌∷◌, ◌++◌, [], length, IfOk, OnOk};
+ghost use Rattle.rtl_tree.specs.declared.text.TheConstants.{MAX_BYTES};
 ghost use Rattle.desk_places.specs.Places.{sources_of};
 ghost use Rattle.desk_tables.specs.Tables.{kept_of};
 ghost use Rattle.desk_rulings.specs.Rulings.{verdict_of};
@@ -14,6 +15,7 @@ use desk_report::report;
 use desk_rulings::{Ruled, left, standing};
 use desk_tables::{Day, Tables};
 use desk_verdict::Verdict;
+use rtl_rule::finding::Finding;
 use rtl_tree::memory::Memory;
 use rtl_tree::text::Text;
 use std::alloc::Global;
@@ -29,14 +31,49 @@ pub struct TopReport {
     pub left: usize,
 }
 
-// The files, as places are written of them.
-fn sources_in<'d>(alloc: Global, files: &'d [SourceFile]) -> Result<Sources<'d>, Memory>
+// Of so many files whether a finding stands in them.
+fn told_files(alloc: Global, count: usize, findings: &[Finding]) -> Result<Vec<bool>, Memory>
+    ensures { IfOk result (λ told. length told.items ≡ count) }
+{
+    let mut told = vec![in alloc; false; count]?;
+    for finding in findings {
+        let number = finding.spot.file as usize;
+        if number < told.len() {
+            told[number] = true;
+        }
+    }
+    Ok(told)
+}
+
+// Puts a file behind others; its lines are looked for now where places of it are told.
+fn push_file<'d>(sources: &mut Sources<'d>, file: &'d SourceFile, told: bool) -> Result<(), Memory>
+    requires { length file.now.text ≤ MAX_BYTES }
+    ensures { OnOk result (sources_of sources.new ≡ sources_of sources.old
+        ++ record { name = file.now.name; text = file.now.text } ∷ []) }
+{
+    let name = file.name.as_bytes();
+    let text = file.text.as_bytes();
+    if told {
+        sources.push(name, text)
+    } else {
+        sources.push_seldom(name, text)
+    }
+}
+
+// The files, as the places of findings are written of them: the lines of those without a finding
+// aren't looked for.
+fn sources_in<'d>(
+    alloc: Global,
+    files: &'d [SourceFile],
+    findings: &[Finding],
+) -> Result<Sources<'d>, Memory>
     requires { AreShort files.now }
     ensures { IfOk result (λ sources. sources_of sources ≡ sources_in files.now) }
 {
+    let told = told_files(alloc, files.len(), findings)?;
     let mut sources = Sources::empty(alloc);
-    for file in files {
-        sources.push(file.name.as_bytes(), file.text.as_bytes())?;
+    for (number, file) in files.iter().enumerate() {
+        push_file(&mut sources, file, told[number])?;
     }
     Ok(sources)
 }
@@ -74,7 +111,7 @@ fn ruled_report(
         (kept_of tables.now) ruled.now.files.now verdict.now ruled.now.reached.now) }
 {
     let waivers = standing(alloc, ruled, tables, today)?;
-    let sources = sources_in(alloc, ruled.files)?;
+    let sources = sources_in(alloc, ruled.files, ruled.findings)?;
     let top = top.as_bytes();
     let bytes = report(alloc, top, &sources, &verdict.ruling, ruled.told, &waivers)?;
     Ok(TopReport {

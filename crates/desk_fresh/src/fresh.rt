@@ -37,7 +37,7 @@ fn sources_in<'f>(alloc: Global, files: &'f [SourceFile]) -> Result<Sources<'f>,
 {
     let mut sources = Sources::empty(alloc);
     for file in files {
-        sources.push(file.name.as_bytes(), file.text.as_bytes())?;
+        sources.push_seldom(file.name.as_bytes(), file.text.as_bytes())?;
     }
     Ok(sources)
 }

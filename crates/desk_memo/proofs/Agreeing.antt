@@ -121,13 +121,13 @@ said_of laws files modules ruling made there agree (Err why) answer is said =
 
 pub still_fresh : (laws : Laws) (files : List SourceFile) (modules : List (List Circuit)) (ruling : Ruling) → IsRuling ruling → is_current files modules ruling ≡ true → AreSpelled (texts_in files) modules → IsFresh files ruling.top ruling.answer
 still_fresh laws files modules ruling made current spelled =
-    let parts = and_parts (list_all (is_meant modules) ruling.look_ups) (list_all (is_there files) ruling.used) current in
-    let agreed = agree laws files modules ruling made spelled parts.0 parts.1 in
+    let parts = and_parts (list_all (is_there files) ruling.used) (list_all (is_meant modules) ruling.look_ups) current in
+    let agreed = agree laws files modules ruling made spelled parts.1 parts.0 in
     let same = laws.design (library_of made.modules) (library_of modules) ruling.top agreed in
     record {
       front = Modules modules;
       is_front = spelled;
       is =
           subst (λ (it : Result DesignParts Fault). IsOfDesign files modules ruling.top it ruling.answer) (sym same)
-          (said_of laws files modules ruling made parts.1 agreed (elaborated (library_of made.modules) ruling.top) ruling.answer refl made.is);
+          (said_of laws files modules ruling made parts.0 agreed (elaborated (library_of made.modules) ruling.top) ruling.answer refl made.is);
     }

@@ -79,9 +79,9 @@ there_all files (number ∷ numbers) =
 
 holds : (files : List SourceFile) (modules : List (List Circuit)) (numbers : List ℕ) (top : List ℕ) (ruling : Ruling) → AreLookUps (library_of modules) top ruling.look_ups → ruling.used ≡ used_among (slice_get files) numbers → is_current files modules ruling ≡ true
 holds files modules numbers top ruling looked used =
-    and_from (list_all (is_meant modules) ruling.look_ups) (list_all (is_there files) ruling.used)
-    (meant_all modules ruling.look_ups looked.meant)
+    and_from (list_all (is_there files) ruling.used) (list_all (is_meant modules) ruling.look_ups)
     (ap (list_all (is_there files)) used ∙ there_all files numbers)
+    (meant_all modules ruling.look_ups looked.meant)
 
 -- ---- it is a ruling
 

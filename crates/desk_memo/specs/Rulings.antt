@@ -50,10 +50,10 @@ is_same_file (Some file) used = bytes_eq file.name used.name && bytes_eq file.te
 abbrev pub is_there : List SourceFile → Used → Bool
 is_there files used = is_same_file (slice_get files used.number) used.file
 
--- each name that was looked up means what it meant, and each file that was used is there
+-- each file that was used is there, and each name that was looked up means what it meant
 abbrev pub is_current : List SourceFile → List (List Circuit) → Ruling → Bool
 is_current files modules ruling =
-    list_all (is_meant modules) ruling.look_ups && list_all (is_there files) ruling.used
+    list_all (is_there files) ruling.used && list_all (is_meant modules) ruling.look_ups
 
 abbrev pub is_of : List ℕ → Ruling → Bool
 is_of top ruling = bytes_eq ruling.top top

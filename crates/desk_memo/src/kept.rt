@@ -122,11 +122,12 @@ impl Kept {
         self.top.as_bytes() == top
     }
 
-    // Whether it holds among files and their modules. Where that is known, nothing is compared.
+    // Whether it holds among files and their modules. Where that is known, nothing is compared; and
+    // the files come first, as going through all modules for each name is dear.
     pub(crate) fn is_current(&self, files: &[SourceFile], modules: &[Vec<Module>]) -> bool
         requires { IsChecked files.now (circuits_of modules.now) self.now }
         ensures { result ≡ is_current files.now (circuits_of modules.now) (ruling_of self.now) }
     {
-        self.is_checked || are_meant(modules, &self.look_ups) && are_there(files, &self.used)
+        self.is_checked || are_there(files, &self.used) && are_meant(modules, &self.look_ups)
     }
 }

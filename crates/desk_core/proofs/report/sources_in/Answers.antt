@@ -1,6 +1,7 @@
+use Rattle.std.proofs.Common.{refl}
 use Rattle.desk_core.proofs.Places.{sources_on}
 use Rattle.desk_core.proofs.report.sources_in.Goals as goal
 
-pub loop-file-preserved : goal.loop-file-preserved
-loop-file-preserved c =
-    sources_on c.args.files.now c.loop-file.file-index c.file-item.result _ _ _ _ c.loop-file-test.true c.file-item.is c.as_bytes.ensures c.as_bytes-in-loop-file.ensures c.loop-file.invariant c.in_ok-push.ensures.ok
+pub loop-number-preserved : goal.loop-number-preserved
+loop-number-preserved c =
+    sources_on c.args.files.now c.loop-number.number c.index-files-number.result _ _ _ _ c.loop-number-test.true c.index-files-number.is refl refl c.loop-number.invariant c.in_ok-push_file.ensures
