@@ -84,7 +84,7 @@ impl Kept {
             look_ups,
             used,
             answer,
-            is_checked: false,
+            is_checked: true,
         })
     }
 
@@ -93,27 +93,6 @@ impl Kept {
         ensures { result ≡ is_absent (ruling_of self.now) }
     {
         !has_own_module(self.top.as_bytes(), &self.look_ups)
-    }
-
-    // The ruling, not known to hold.
-    pub(crate) fn doubted(self) -> Kept
-        ensures ruling { ruling_of result ≡ ruling_of self }
-        ensures doubted { result.is_checked ≡ false }
-    {
-        let Kept {
-            top,
-            look_ups,
-            used,
-            answer,
-            is_checked: _,
-        } = self;
-        Kept {
-            top,
-            look_ups,
-            used,
-            answer,
-            is_checked: false,
-        }
     }
 
     pub(crate) fn is_of(&self, top: &[u8]) -> bool

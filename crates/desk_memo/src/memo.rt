@@ -1,5 +1,5 @@
 // The rulings that are kept.
-ghost use Rattle.std.specs.Prelude.{◌≡◌, ◌++◌, ◌∷◌, [], false, if◌then◌else◌, is_some, List};
+ghost use Rattle.std.specs.Prelude.{◌≡◌, ◌++◌, ◌∷◌, [], if◌then◌else◌, is_some, List};
 ghost use Rattle.std.specs.Prelude.{map, None, OnErr, OnOk, option_copied, option_to_list, Some};
 ghost use Rattle.std.specs.List.{Contains};
 ghost use Rattle.rtl_tree.specs.TreeModule.{Circuit};
@@ -7,7 +7,7 @@ ghost use Rattle.elab_links.specs.Modules.{circuits_of};
 ghost use Rattle.desk_files.specs.declared.files.SourceFile.{SourceFile};
 ghost use Rattle.desk_memo.specs.Rulings.{Ruling, current_answer, current_of, is_absent};
 ghost use Rattle.desk_memo.specs.Rulings.{is_current_of, is_of, others_of, with_ruling};
-ghost use Rattle.desk_memo.specs.Shown.{AreAllChecked, AreChecked, IsPlaceOf};
+ghost use Rattle.desk_memo.specs.Shown.{AreAllChecked, AreChecked, IsChecked, IsPlaceOf};
 ghost use Rattle.desk_memo.specs.Shown.{absent_of, all_of, ruling_of, rulings_of};
 
 use crate::kept::Kept;
@@ -60,13 +60,12 @@ fn current_place(
 
 // Keeps a ruling in place of that of its top, or behind all.
 fn keep_in(rulings: &mut Vec<Kept>, kept: Kept) -> Result<(), Memory>
-    requires { kept.is_checked ≡ false }
     ensures rulings { OnOk result (map ruling_of rulings.new.items
         ≡ with_ruling (ruling_of kept) (map ruling_of rulings.old.items)) }
     ensures same { OnErr result (map ruling_of rulings.new.items
         ≡ map ruling_of rulings.old.items) }
     ensures checked { (files : List SourceFile) (modules : List (List Circuit))
-        → AreAllChecked files modules rulings.old.items
+        → IsChecked files modules kept → AreAllChecked files modules rulings.old.items
         → AreAllChecked files modules rulings.new.items }
 {
     match place_of(rulings, kept.top.as_bytes()) {
@@ -216,13 +215,14 @@ impl Memo {
         ensures rulings { OnErr result (rulings_of self.new ≡ rulings_of self.old) }
         ensures absent { OnErr result (absent_of self.new ≡ absent_of self.old) }
         ensures checked { (files : List SourceFile) (modules : List (List Circuit))
-            → AreChecked files modules self.old → AreChecked files modules self.new }
+            → IsChecked files modules kept → AreChecked files modules self.old
+            → AreChecked files modules self.new }
     {
         if kept.is_absent() {
-            self.absent = Some(kept.doubted());
+            self.absent = Some(kept);
             return Ok(());
         }
-        match keep_in(&mut self.rulings, kept.doubted()) {
+        match keep_in(&mut self.rulings, kept) {
             Ok(()) => Ok(()),
             Err(error) => Err(error),
         }

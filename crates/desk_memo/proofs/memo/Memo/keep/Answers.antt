@@ -1,4 +1,4 @@
-use Rattle.std.proofs.Common.{◌≡◌, ◌∙◌, ◌++◌, ◌∷◌, [], List, ap, map, subst, sym}
+use Rattle.std.proofs.Common.{◌≡◌, ◌∙◌, ◌++◌, List, ap, map, subst, sym}
 use Rattle.std.specs.Prelude.{option_to_list}
 use Rattle.std.specs.List.{Contains}
 use Rattle.std.proofs.lemmas.List.Elements.{Contains-append_left}
@@ -9,20 +9,19 @@ use Rattle.desk_memo.proofs.memo.Memo.keep.Goals as goal
 
 pub returns-then-is_absent-clause-from : goal.returns-then-is_absent-clause-from
 returns-then-is_absent-clause-from c = λ ruling among.
-    from_alone (ruling_of c.args.kept) (map ruling_of c.args.self.now.rulings.items) (option_to_list (absent_of c.args.self.now)) ruling
-    (subst (λ (it : Ruling). Contains (map ruling_of c.args.self.now.rulings.items ++ it ∷ []) ruling) c.doubted.ensures.ruling among)
+    from_alone (ruling_of c.args.kept) (map ruling_of c.args.self.now.rulings.items) (option_to_list (absent_of c.args.self.now)) ruling among
 
 pub returns-in-Ok-clause-others : goal.returns-in-Ok-clause-others
 returns-in-Ok-clause-others c =
     let olds : List Ruling = map ruling_of c.args.self.now.rulings.items in
-    ap (others_of c.args.kept.top) (c.in-Ok.ensures.rulings ∙ ap (λ (it : Ruling). with_ruling it olds) c.doubted-2.ensures.ruling)
+    ap (others_of c.args.kept.top) c.in-Ok.ensures.rulings
     ∙ others_with (ruling_of c.args.kept) olds
 
 pub returns-in-Ok-clause-there : goal.returns-in-Ok-clause-there
 returns-in-Ok-clause-there c =
     let olds : List Ruling = map ruling_of c.args.self.now.rulings.items in
     let news : List Ruling = map ruling_of c.keep_in.new.rulings.items in
-    let is : news ≡ with_ruling (ruling_of c.args.kept) olds = c.in-Ok.ensures.rulings ∙ ap (λ (it : Ruling). with_ruling it olds) c.doubted-2.ensures.ruling in
+    let is : news ≡ with_ruling (ruling_of c.args.kept) olds = c.in-Ok.ensures.rulings in
     Contains-append_left news (option_to_list (absent_of c.args.self.now)) (ruling_of c.args.kept)
     (subst (λ (it : List Ruling). Contains it (ruling_of c.args.kept)) (sym is) (there_with (ruling_of c.args.kept) olds))
 
@@ -30,6 +29,6 @@ pub returns-in-Ok-clause-from : goal.returns-in-Ok-clause-from
 returns-in-Ok-clause-from c = λ ruling among.
     let olds : List Ruling = map ruling_of c.args.self.now.rulings.items in
     let news : List Ruling = map ruling_of c.keep_in.new.rulings.items in
-    let is : news ≡ with_ruling (ruling_of c.args.kept) olds = c.in-Ok.ensures.rulings ∙ ap (λ (it : Ruling). with_ruling it olds) c.doubted-2.ensures.ruling in
+    let is : news ≡ with_ruling (ruling_of c.args.kept) olds = c.in-Ok.ensures.rulings in
     from_with (ruling_of c.args.kept) olds (option_to_list (absent_of c.args.self.now)) ruling
     (subst (λ (it : List Ruling). Contains (it ++ option_to_list (absent_of c.args.self.now)) ruling) is among)
