@@ -2,8 +2,6 @@
 use Rattle.std.proofs.Common.{◌≡◌, ◌∙◌, ℕ, zero, suc, ◌<◌, Bool, true, false, List, [], ◌∷◌, length, get_or, replicate, sym, ap, subst, inl, inr, arith}
 use Rattle.std.specs.Prelude.{◌⊎◌, ◌↔◌}
 use Rattle.std.specs.List.{slice_get}
-use Rattle.std.proofs.Math.Logic.{∥∥₁_elim}
-use Rattle.std.proofs.Props.{props}
 use Rattle.std.proofs.lemmas.Bool.{both_ways, false≢true}
 use Rattle.rtl_flat.specs.declared.design.Design.{Design}
 use Rattle.rtl_flat.specs.declared.signal.Signal.{Signal}
@@ -29,8 +27,5 @@ module _ (design : Design) (old marks : List Bool) (found : List ℕ) (none : ol
       absurd (both_ways (get_or old s false) (ap (λ l. get_or l s false) none ∙ none_marked (length design.signals.items) s) h)
   from s (inr h) = (are.each s).0 h.1
 
-  pub are_marked : (s : ℕ) → get_or marks s false ≡ true ↔ ∥ IsControl (flat design) s ∥₁
-  are_marked s = (
-    λ h. ∣ from s ((marked.each s).0 h) ∣₁,
-    λ h. ∥∥₁_elim h (hlevel props) (control s),
-  )
+  pub are_marked : (s : ℕ) → get_or marks s false ≡ true ↔ IsControl (flat design) s
+  are_marked s = (λ h. from s ((marked.each s).0 h), control s)

@@ -1,3 +1,4 @@
+pub mod Basis
 pub mod Holding
 pub mod Netlists
 pub mod Sims

@@ -1,6 +1,7 @@
 //! A simulator of what synthesis means by a design: numbers that solve its equations, from one step to the next.
 #![tactic(auto)]
 
+pub mod basis;
 pub mod fault;
 pub mod sim;
 pub mod step;

@@ -1,35 +1,25 @@
 //! The simulator of a netlist.
 
-ghost use Rattle.std.specs.Prelude.{ℕ, ◌≡◌, ◌↔◌, false, true, slice_index_or, IfErr, IfOk};
-ghost use Rattle.event_model.specs.Queue.{flat};
-ghost use Rattle.net_model.specs.Control.{IsControl};
-ghost use Rattle.net_solve.specs.Laws.{IsOrder};
-ghost use Rattle.net_work.specs.Work.{numbers_of};
-ghost use Rattle.net_start.specs.Stored.{places};
+ghost use Rattle.std.specs.Prelude.{◌≡◌, false, slice_index_or};
 ghost use Rattle.netlist_eval.specs.Holding.{IsSimulator};
-ghost use Rattle.netlist_eval.specs.Steps.{HasNoCycle, IsOrderFault};
 
+use crate::basis::Basis;
 use crate::fault::NetFault;
 use crate::step::Step;
-use check_clocks::tops::{is_top, mark_all};
+use check_clocks::tops::is_top;
 use event_model::setting::Setting;
-use infer_regs::controls;
 use net_body::Maps;
 use net_list::netlist::Netlist;
-use net_order::order::{Ranking, order};
 use net_settle::settle::settle;
 use net_start::first_unknown;
 use net_start::start::start;
-use net_start::stored::{stored, top_inputs};
 use net_turn::turn::{begin, turn};
 use rtl_bits::{Bit, Vec4};
 use rtl_flat::act::ProcId;
-use rtl_flat::design::Design;
 use rtl_flat::expr::SigId;
-use rtl_tree::memory::Memory;
 use std::alloc::Global;
 
-/// A simulator of what synthesis means by a design. Only `NetSim::new` takes memory.
+/// A simulator of what synthesis means by a design. Only `NetSim::new` and `NetSim::on` take memory.
 #[derive(Drop)]
 pub struct NetSim<'n> {
     netlist: &'n Netlist<'n>,
@@ -45,49 +35,14 @@ pub struct NetSim<'n> {
         before.items after.items controls.items ∥₁ },
 }
 
-/// The numbers of signals.
-fn places_of(alloc: Global, signals: &[SigId]) -> Result<Vec<u32>, Memory>
-    ensures { IfOk result (λ found. found.items ≡ places signals.now) }
-{
-    let mut found = Vec::new(alloc);
-    for signal in signals {
-        found.push(signal.0)?;
-    }
-    Ok(found)
-}
-
-/// Of each signal whether it is a clock or a reset among the top inputs.
-fn marked_controls(alloc: Global, design: &Design) -> Result<Vec<bool>, Memory>
-    ensures { IfOk result (λ marks. (s : ℕ) →
-        slice_index_or marks.items s false ≡ true ↔ ∥ IsControl (flat design.now) s ∥₁) }
-{
-    let found = controls(alloc, design)?;
-    let places = places_of(alloc, &found)?;
-    let mut marks = vec![in alloc; false; design.signals.len()]?;
-    mark_all(&mut marks, &places);
-    Ok(marks)
-}
-
 fn is_marked(marks: &[bool], signal: SigId) -> bool
     ensures { result ≡ slice_index_or marks.now signal.0 false }
 {
     marks.get(signal.0 as usize).copied().unwrap_or(false)
 }
 
-/// The order of processes without edges.
-fn order_of(alloc: Global, design: &Design) -> Result<Vec<ProcId>, NetFault>
-    ensures order { IfOk result (λ order. IsOrder (flat design.now) (numbers_of order.items)) }
-    ensures no_cycle { IfOk result (λ order. HasNoCycle (flat design.now)) }
-    ensures cyclic { IfErr result (λ fault. IsOrderFault (flat design.now) fault) }
-{
-    match order(alloc, design)? {
-        Ranking::Order(order) => Ok(order),
-        Ranking::Cyclic(signal) => Err(NetFault::Cyclic(signal)),
-    }
-}
-
 impl<'n> NetSim<'n> {
-    ghost use Rattle.std.specs.Prelude.{◌≡◌, ◌↔◌, ◌<◌, ◌++◌, false, true, length, IfErr, IfOk};
+    ghost use Rattle.std.specs.Prelude.{ℕ, ◌≡◌, ◌↔◌, ◌<◌, ◌++◌, false, true, length, slice_index_or, IfErr, IfOk};
     ghost use Rattle.std.specs.List.{All};
     ghost use Rattle.rtl_bits.specs.Bits.{has_unknown};
     ghost use Rattle.event_model.specs.Queue.{widths};
@@ -102,6 +57,7 @@ impl<'n> NetSim<'n> {
     ghost use Rattle.net_turn.specs.Steps.{AreFilled};
     ghost use Rattle.net_start.specs.Start.{AreKnown, AreValues};
     ghost use Rattle.net_start.specs.Stored.{AreInputs, AreStored};
+    ghost use Rattle.netlist_eval.specs.Basis.{IsBasisOf};
     ghost use Rattle.netlist_eval.specs.Netlists.{chains_in, flat_in};
     ghost use Rattle.netlist_eval.specs.Sims.{flat_of, netlist_of, shown};
     ghost use Rattle.netlist_eval.specs.Steps.{HasNoCycle, IsBegun, IsFault, IsLawful, IsStepOf, Starts, step_view};
@@ -129,23 +85,46 @@ impl<'n> NetSim<'n> {
         ensures fault { IfErr result (λ fault. IsFault (flat_in netlist.now)
             (registers.now ++ inputs.now) fault) }
     {
-        let design = netlist.design;
-        let order = order_of(alloc, design)?;
-        let holders = stored(alloc, design)?;
-        let tops = top_inputs(alloc, design)?;
+        let basis = Basis::of(alloc, netlist.design)?;
+        NetSim::on(alloc, netlist, &basis, registers, inputs)
+    }
+
+    /// The same over the basis of the netlist's design, which serves many simulators. Fails as `new` does.
+    pub fn on(
+        alloc: Global,
+        netlist: &'n Netlist<'n>,
+        basis: &Basis,
+        registers: &[Vec4],
+        inputs: &[Vec4],
+    ) -> Result<NetSim<'n>, NetFault>
+        requires basis { IsBasisOf (flat_in netlist.now) basis.now }
+        requires registers { AreValues (flat_in netlist.now) (AreStored
+            (flat_in netlist.now)) registers.now }
+        requires inputs { AreValues (flat_in netlist.now) (AreInputs
+            (flat_in netlist.now)) inputs.now }
+        ensures netlist { IfOk result (λ sim. netlist_of sim ≡ netlist.now) }
+        ensures begun { IfOk result (λ sim. IsBegun (flat_in netlist.now)
+            (chains_in netlist.now) netlist.now.fill registers.now inputs.now (shown sim)) }
+        ensures no_cycle { IfOk result (λ sim. HasNoCycle (flat_in netlist.now)) }
+        ensures known { IfOk result (λ sim. AreKnown (registers.now ++ inputs.now)) }
+        ensures fault { IfErr result (λ fault. IsFault (flat_in netlist.now)
+            (registers.now ++ inputs.now) fault) }
+    {
         if let Some(at) = first_unknown(registers, inputs) {
             return Err(NetFault::NotKnown(at));
         }
         let numbers = start(
             alloc,
-            design,
-            &holders,
+            netlist.design,
+            &basis.holders,
             registers,
-            &tops,
+            &basis.tops,
             inputs,
             netlist.fill,
         )?;
-        NetSim::begin(alloc, netlist, order, numbers)
+        let order = Vec::from_slice(alloc, &basis.order)?;
+        let controls = Vec::from_slice(alloc, &basis.controls)?;
+        NetSim::begin(alloc, netlist, order, controls, numbers)
     }
 
     /// A simulator that begins with numbers.
@@ -155,9 +134,12 @@ impl<'n> NetSim<'n> {
         alloc: Global,
         netlist: &'n Netlist<'n>,
         order: Vec<ProcId>,
+        controls: Vec<bool>,
         numbers: Vec<Vec4>,
     ) -> Result<NetSim<'n>, NetFault>
         requires order { IsOrder (flat_in netlist.now) (numbers_of order.items) }
+        requires controls { (s : ℕ) →
+            slice_index_or controls.items s false ≡ true ↔ IsControl (flat_in netlist.now) s }
         requires many { length numbers.items ≡ length netlist.now.design.now.signals.items }
         requires numbers { AreNumbers (flat_in netlist.now) (store numbers.items) }
         requires filled { AreFilled (flat_in netlist.now) netlist.now.fill (store numbers.items) }
@@ -167,7 +149,6 @@ impl<'n> NetSim<'n> {
         ensures memory { IfErr result (λ fault. fault ≡ NetFault.Memory) }
     {
         let design = netlist.design;
-        let controls = marked_controls(alloc, design)?;
         let count = design.signals.len();
         let filler = Vec4::of_bit(Bit::Zero);
         let mut before = vec![in alloc; filler; count]?;

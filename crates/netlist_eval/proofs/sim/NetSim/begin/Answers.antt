@@ -1,5 +1,7 @@
 use Rattle.std.proofs.Common.{◌≡◌, ◌∙◌, List, length, sym, ap, subst}
 use Rattle.std.specs.List.{All}
+use Rattle.std.proofs.Math.Logic.{∥∥₁_elim}
+use Rattle.std.proofs.Props.{props}
 use Rattle.rtl_bits.specs.declared.Bit.{Bit}
 use Rattle.rtl_flat.specs.declared.design.Design.{Design}
 use Rattle.rtl_flat.specs.Value.{store}
@@ -53,7 +55,10 @@ invariant_of-result c =
             room = ap (λ (l : List (List Bit)). length l) (written_back before.items c.begin.new.before before.len long before.ok.0) ∙ (long ∙ (size ∙ count));
             more_room =
                 ap (λ (l : List (List Bit)). length l) (written_back after.items c.begin.new.after after.len long_after after.ok.0) ∙ (long_after ∙ (size_after ∙ count));
-            controls_are = c.in_ok-controls.ensures;
+            controls_are = λ s. (
+              λ h. ∣ (c.requires.controls s).0 h ∣₁,
+              λ h. ∥∥₁_elim h (hlevel props) (c.requires.controls s).1,
+            );
           } ∣₁;
     }
 

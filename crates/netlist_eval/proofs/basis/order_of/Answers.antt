@@ -4,7 +4,7 @@ use Rattle.net_order.specs.declared.order.Ranking.{Ranking}
 use Rattle.net_order.specs.Order.{IsRanking}
 use Rattle.net_work.specs.Work.{numbers_of}
 use Rattle.netlist_eval.proofs.Ordered.{no_cycle}
-use Rattle.netlist_eval.proofs.sim.order_of.Goals as goal
+use Rattle.netlist_eval.proofs.basis.order_of.Goals as goal
 
 pub returns-in-Order-clause-no_cycle : goal.returns-in-Order-clause-no_cycle
 returns-in-Order-clause-no_cycle c =

@@ -7,7 +7,7 @@ use Rattle.net_start.specs.Stored.{places}
 use Rattle.check_clocks.specs.Tops.{AreMarkedAlso}
 use Rattle.check_clocks.proofs.Coned.{written}
 use Rattle.netlist_eval.proofs.Marked.{are_marked}
-use Rattle.netlist_eval.proofs.sim.marked_controls.Goals as goal
+use Rattle.netlist_eval.proofs.basis.marked_controls.Goals as goal
 
 pub returns : goal.returns
 returns c =
@@ -22,4 +22,4 @@ returns c =
     let marked : AreMarkedAlso (places found) old marks =
     subst (λ all. AreMarkedAlso all old marks) are_places (subst (λ l. AreMarkedAlso c.deref-2.result.now l marks) c.deref_mut.ensures.value c.mark_all.ensures) in
     let here = are_marked design old marks (places found) none size c.in_ok-found.ensures marked in
-    subst (λ (l : List Bool). (s : ℕ) → slice_index_or l s false ≡ true ↔ ∥ IsControl (flat design) s ∥₁) (sym (written c.in_ok-marks.marks.len marks old c.in_ok-marks.marks.ok.0 marked.size)) here
+    subst (λ (l : List Bool). (s : ℕ) → slice_index_or l s false ≡ true ↔ IsControl (flat design) s) (sym (written c.in_ok-marks.marks.len marks old c.in_ok-marks.marks.ok.0 marked.size)) here

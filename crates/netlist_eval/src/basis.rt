@@ -1,0 +1,93 @@
+//! What all simulators of a design's netlists begin with.
+
+ghost use Rattle.std.specs.Prelude.{ℕ, ◌≡◌, ◌↔◌, false, true, slice_index_or, IfErr, IfOk};
+ghost use Rattle.event_model.specs.Queue.{flat};
+ghost use Rattle.net_model.specs.Control.{IsControl};
+ghost use Rattle.net_solve.specs.Laws.{IsOrder};
+ghost use Rattle.net_work.specs.Work.{numbers_of};
+ghost use Rattle.net_start.specs.Stored.{places};
+ghost use Rattle.netlist_eval.specs.Steps.{HasNoCycle, IsOrderFault};
+
+use crate::fault::NetFault;
+use check_clocks::tops::mark_all;
+use infer_regs::controls;
+use net_order::order::{Ranking, order};
+use net_start::stored::{stored, top_inputs};
+use rtl_flat::act::ProcId;
+use rtl_flat::design::Design;
+use rtl_flat::expr::SigId;
+use rtl_tree::memory::Memory;
+use std::alloc::Global;
+
+/// What all simulators of a design's netlists begin with, whatever their fill and their values.
+#[derive(Drop)]
+pub struct Basis {
+    /// The processes without edges, each behind those that feed it.
+    pub order: Vec<ProcId>,
+    /// The registers and latches, and the top inputs, in order of number.
+    pub holders: Vec<SigId>,
+    pub tops: Vec<SigId>,
+    /// Of each signal whether it is a clock or a reset among the top inputs.
+    pub controls: Vec<bool>,
+}
+
+/// The numbers of signals.
+fn places_of(alloc: Global, signals: &[SigId]) -> Result<Vec<u32>, Memory>
+    ensures { IfOk result (λ found. found.items ≡ places signals.now) }
+{
+    let mut found = Vec::new(alloc);
+    for signal in signals {
+        found.push(signal.0)?;
+    }
+    Ok(found)
+}
+
+/// Of each signal whether it is a clock or a reset among the top inputs.
+fn marked_controls(alloc: Global, design: &Design) -> Result<Vec<bool>, Memory>
+    ensures { IfOk result (λ marks. (s : ℕ) →
+        slice_index_or marks.items s false ≡ true ↔ IsControl (flat design.now) s) }
+{
+    let found = controls(alloc, design)?;
+    let places = places_of(alloc, &found)?;
+    let mut marks = vec![in alloc; false; design.signals.len()]?;
+    mark_all(&mut marks, &places);
+    Ok(marks)
+}
+
+/// The order of processes without edges.
+fn order_of(alloc: Global, design: &Design) -> Result<Vec<ProcId>, NetFault>
+    ensures order { IfOk result (λ order. IsOrder (flat design.now) (numbers_of order.items)) }
+    ensures no_cycle { IfOk result (λ order. HasNoCycle (flat design.now)) }
+    ensures cyclic { IfErr result (λ fault. IsOrderFault (flat design.now) fault) }
+{
+    match order(alloc, design)? {
+        Ranking::Order(order) => Ok(order),
+        Ranking::Cyclic(signal) => Err(NetFault::Cyclic(signal)),
+    }
+}
+
+impl Basis {
+    ghost use Rattle.std.specs.Prelude.{IfErr, IfOk};
+    ghost use Rattle.event_model.specs.Queue.{flat};
+    ghost use Rattle.netlist_eval.specs.Basis.{IsBasisOf};
+    ghost use Rattle.netlist_eval.specs.Steps.{IsOrderFault};
+
+    /// That of a design.
+    ///
+    /// Fails with `Cyclic` of the least signal of a cycle, and where memory runs out.
+    pub fn of(alloc: Global, design: &Design) -> Result<Basis, NetFault>
+        ensures basis { IfOk result (λ basis. IsBasisOf (flat design.now) basis) }
+        ensures fault { IfErr result (λ fault. IsOrderFault (flat design.now) fault) }
+    {
+        let order = order_of(alloc, design)?;
+        let holders = stored(alloc, design)?;
+        let tops = top_inputs(alloc, design)?;
+        let controls = marked_controls(alloc, design)?;
+        Ok(Basis {
+            order,
+            holders,
+            tops,
+            controls,
+        })
+    }
+}
