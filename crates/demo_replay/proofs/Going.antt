@@ -63,9 +63,9 @@ within_count d setup level trial moments s n (Stepped before u t m l after more 
     omega (arith, more, size)
 
 -- what a test of the count says
-pub some_left : (kept : Kept) (trial taken count : ℕ) (s : EventSim) (n : NetSim) (moments : List Moment) → IsAfterSteps kept trial s n taken moments → count ≡ length kept.tops.items → (taken ≡ step_count trial count → ⊥) → taken < step_count trial (length (plain kept).tops)
+pub some_left : (kept : Kept) (trial taken count : ℕ) (s : EventSim) (n : NetSim) (moments : List Moment) → IsAfterSteps kept trial s n taken moments → count ≡ length kept.basis.tops.items → (taken ≡ step_count trial count → ⊥) → taken < step_count trial (length (plain kept).tops)
 some_left kept trial taken count s n moments at is other =
-    let same : count ≡ length (plain kept).tops = is ∙ sym (length-map kept.tops.items (λ (one : SigId). one.0)) in
+    let same : count ≡ length (plain kept).tops = is ∙ sym (length-map kept.basis.tops.items (λ (one : SigId). one.0)) in
     let within = within_count (parts kept.design.now) (plain kept) (level_of s) trial moments (state_of s) (shown n) at.after in
     let size = at.count in
     let other' = subst (λ (k : ℕ). taken ≡ step_count trial k → ⊥) same other in

@@ -1,11 +1,9 @@
--- Marks of signals: temporaries, clocks and resets, and what processes with edges may write.
-use Rattle.std.proofs.Common.{◌≡◌, ◌∙◌, ◌==◌, ◌||◌, ◌<◌, ◌≤◌, ◌+◌, ℕ, zero, suc, Bool, true, false, List, [], ◌∷◌, length, map, replicate, Option, None, Some, refl, sym, ap, subst, inl, inr, arith}
-use Rattle.std.specs.Prelude.{◌↔◌, ◌⊎◌, IsTrue}
+-- Marks of signals: temporaries, and what processes with edges may write.
+use Rattle.std.proofs.Common.{◌≡◌, ◌∙◌, ◌==◌, ◌||◌, ◌<◌, ◌≤◌, ◌+◌, ℕ, zero, suc, Bool, true, false, List, [], ◌∷◌, length, map, replicate, Some, refl, sym, ap, subst, inl, inr, arith}
+use Rattle.std.specs.Prelude.{◌↔◌}
 use Rattle.std.specs.List.{slice_get}
 use Rattle.std.proofs.lemmas.Bool.{cases_eq, eq-eqb, eqb-true, false≢true, or_cases, or_left, or_right}
 use Rattle.std.proofs.lemmas.List.{length-replicate}
-use Rattle.std.proofs.lemmas.Option.{slice_get_within}
-use Rattle.rtl_flat.specs.declared.signal.Signal.{Signal}
 use Rattle.rtl_flat.specs.Process.{Task}
 use Rattle.rtl_rule.specs.Parts.{Parts, has_some, widths, written}
 use Rattle.rtl_scan.specs.declared.bits.Row.{Row}
@@ -16,9 +14,6 @@ use Rattle.check_assign.specs.Assigned.{is_clocked}
 use Rattle.check_clocks.specs.Tops.{AreMarkedAlso}
 use Rattle.check_found.proofs.Inside.{written_inside}
 use Rattle.check_found.proofs.Signals.{AreRows, row_below, rows_have_some}
-use Rattle.event_model.specs.Queue.{Flat, is_input, is_input_of}
-use Rattle.infer_regs.specs.Forms.{AreControls}
-use Rattle.net_model.specs.Control.{IsControl}
 use Rattle.demo_replay.specs.Tables.{AreClockedBelow, MarksWritten, WritesBelow, is_marked}
 
 -- ---- marks
@@ -32,27 +27,6 @@ pub unmarked : (n s : ℕ) → is_marked (replicate n false) s ≡ false
 unmarked zero s = refl
 unmarked (suc n) zero = refl
 unmarked (suc n) (suc s) = unmarked n s
-
--- ---- clocks and resets
-
-input_inside : (signals : List Signal) (s : ℕ) → IsTrue (is_input_of (slice_get signals s)) → s < length signals
-input_inside signals s h = at (slice_get signals s) refl h
-  where
-    at : (o : Option Signal) → slice_get signals s ≡ o → IsTrue (is_input_of o) → s < length signals
-    at None is given = absurd (false≢true given)
-    at (Some signal) is given = slice_get_within signals s signal is
-
-pub control_marks : (d : Flat) (found : List ℕ) (marks : List Bool) → AreControls d found → AreMarkedAlso found (replicate (length d.signals) false) marks → (s : ℕ) → is_marked marks s ≡ true ↔ IsControl d s
-control_marks d found marks are also s = (
-  λ h.
-      elim ((also.each s).0 h) [
-        | inl old ↦ absurd (false≢true (sym (unmarked (length d.signals) s) ∙ old))
-        | inr new ↦ (are.each s).0 new.1
-      ],
-  λ control.
-      let inside : s < length (replicate (length d.signals) false) = subst (λ n. s < n) (sym (length-replicate (length d.signals) false)) (input_inside d.signals s control.input) in
-      (also.each s).1 (inr (inside, (are.each s).1 control)),
-)
 
 -- ---- what processes with edges may write
 

@@ -30,7 +30,7 @@ same_error (Err e) why P same holds = subst P (sym same) holds
 pub step_there : (kept : Kept) → IsOf kept.design.now kept → (trial step : ℕ) → IsStep (parts kept.design.now) trial step → step ≤ step_count trial (length (plain kept).tops)
 step_there kept is trial step there =
     subst (λ (l : List ℕ). step ≤ step_count trial (length l))
-    (all_same (λ s. IsTrue (is_input (flat kept.design.now) s)) there.tops (plain kept).tops there.are_tops is.tops) there.last
+    (all_same (λ s. IsTrue (is_input (flat kept.design.now) s)) there.tops (plain kept).tops there.are_tops is.basis.tops) there.last
 
 module _ (kept : Kept) (is : IsOf kept.design.now kept) (demo : Demo) (run : Run) (same : run.setup.now ≡ kept) (trial : trial_of run ≡ demo.trial) where
   -- the two values after the step

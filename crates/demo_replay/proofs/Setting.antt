@@ -30,7 +30,7 @@ use Rattle.demo_replay.proofs.Lawful.{allowed, inputs_have, inputs_tell, lawful,
 
 pub setup_of : (kept : Kept) → IsOf kept.design.now kept → IsSetup (parts kept.design.now) (plain kept)
 setup_of kept is =
-    record { are_stored = is.stored; are_tops = is.tops; are_controls = is.controls }
+    record { are_stored = is.basis.holders; are_tops = is.basis.tops; are_controls = is.basis.controls }
 
 -- ---- widths
 
@@ -69,7 +69,7 @@ module _ (kept : Kept) (is : IsOf kept.design.now kept) (n : Values) (numbers : 
       let same = exact ∙ ap (step_of trial step) are in
       subst (TurnsLawfully d n) (sym same)
       (lawful d n trial step (map (input_of (parts kept.design.now) g n) g.tops) before
-      (inputs_have kept.design.now g n g.tops numbers (λ i among. input_wide kept.design.now i ((is.tops.each i).0 among)))
+      (inputs_have kept.design.now g n g.tops numbers (λ i among. input_wide kept.design.now i ((is.basis.tops.each i).0 among)))
       (inputs_tell kept.design.now g n g.tops (setup_of kept is))
       (subst (SettingsMeet (fits d)) same (fit (fits d) (made_fit kept.design.now g (setup_of kept is) n numbers made are)))
       (subst AreSettingsKnown same (known (made_known kept.design.now g (setup_of kept is) n numbers made are))))

@@ -9,12 +9,12 @@ use Rattle.rtl_flat.specs.declared.signal.Signal.{Signal}
 use Rattle.rtl_flat.specs.PathSets.{IsTemporary}
 use Rattle.rtl_flat.specs.Process.{Task}
 use Rattle.event_model.specs.Queue.{flat}
-use Rattle.net_model.specs.Control.{IsControl}
 use Rattle.net_model.specs.declared.fill.Fill.{Fill}
 use Rattle.net_model.specs.declared.fill.Fill.TheVariants as fill
 use Rattle.net_list.specs.declared.netlist.Netlist.{Netlist}
 use Rattle.net_list.specs.Faults.{AreAlone, AreFormed}
-use Rattle.net_start.specs.Stored.{AreInputs, AreStored, places}
+use Rattle.net_start.specs.Stored.{places}
+use Rattle.netlist_eval.specs.Basis.{IsBasisOf}
 use Rattle.rtl_rule.specs.declared.finding.Finding.{Finding}
 use Rattle.rtl_rule.specs.Parts.{Parts, has_some, parts, widths, written}
 use Rattle.check_assign.specs.Assigned.{is_clocked}
@@ -52,18 +52,16 @@ pub record IsOf (design : Design) (kept : Kept) : Type 0 where
   pub alone : AreAlone (parts design)
   pub zero_is : IsNetlistOf design fill.Zero kept.zero
   pub one_is : IsNetlistOf design fill.One kept.one
-  pub stored : AreStored (flat design) (places kept.stored.items)
-  pub tops : AreInputs (flat design) (places kept.tops.items)
-  pub controls : (s : ℕ) → is_marked kept.controls.items s ≡ true ↔ IsControl (flat design) s
+  pub basis : IsBasisOf (flat design) kept.basis
   pub temporaries : MarkTemporaries design kept.temporaries.items
 
 -- what a contract sees of it
 abbrev pub plain : Kept → Setup
 plain kept =
     record {
-      stored = places kept.stored.items;
-      tops = places kept.tops.items;
-      is_control = is_marked kept.controls.items;
+      stored = places kept.basis.holders.items;
+      tops = places kept.basis.tops.items;
+      is_control = is_marked kept.basis.controls.items;
     }
 
 -- ---- signals that differ

@@ -1,8 +1,6 @@
 // All that a trial shows.
 
-ghost use Rattle.std.specs.Prelude.{IfOk, MatchOption};
-ghost use Rattle.rtl_rule.specs.Parts.{parts};
-ghost use Rattle.demo_replay.specs.Setups.{LacksNetlist};
+ghost use Rattle.std.specs.Prelude.{IfOk};
 ghost use Rattle.demo_replay.specs.Tables.{IsCourseOf, IsOf};
 
 use crate::compare::Difference;
@@ -12,27 +10,23 @@ use demo_trials::Trial;
 use rtl_tree::memory::Memory;
 use std::alloc::Global;
 
-/// The signals that differ after each step of a trial, up to the first that doesn't settle; none
-/// where the design has no netlist.
+/// The signals that differ after each step of a trial, up to the first that doesn't settle.
 pub(crate) fn course_of<'d>(
     alloc: Global,
     setup: &'d Setup<'d>,
     trial: Trial,
-) -> Result<Option<Vec<Vec<Difference>>>, Memory>
+) -> Result<Vec<Vec<Difference>>, Memory>
     requires { IsOf setup.now.design.now setup.now }
-    ensures { IfOk result (λ found. MatchOption found
-        (LacksNetlist (parts setup.now.design.now))
-        (λ steps. IsCourseOf setup.now.design.now setup.now trial.number steps.items)) }
+    ensures { IfOk result (λ steps.
+        IsCourseOf setup.now.design.now setup.now trial.number steps.items) }
 {
-    let Some(mut run) = Run::begin(alloc, setup, trial)? else {
-        return Ok(None);
-    };
+    let mut run = Run::begin(alloc, setup, trial)?;
     let mut steps = Vec::new(alloc);
     'steps: loop {
         match run.next(alloc)? {
             Progress::Rested => steps.push(run.differences(alloc)?)?,
-            Progress::Unsettled => return Ok(Some(steps)),
-            Progress::Ended => return Ok(Some(steps)),
+            Progress::Unsettled => return Ok(steps),
+            Progress::Ended => return Ok(steps),
         }
     }
 }

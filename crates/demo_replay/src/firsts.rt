@@ -1,11 +1,10 @@
 // The first difference that trials show for findings.
 
-ghost use Rattle.std.specs.Prelude.{◌≡◌, ◌+◌, ◌≤◌, None, length, map, replicate, IfOk, MatchBool};
+ghost use Rattle.std.specs.Prelude.{◌≡◌, ◌+◌, ◌≤◌, None, length, map, replicate, IfOk, OnOk};
 ghost use Rattle.std.specs.Bool.{OnFalse};
 ghost use Rattle.rtl_rule.specs.Parts.{parts};
 ghost use Rattle.demo_replay.specs.Compared.{is_trial_of};
 ghost use Rattle.demo_replay.specs.Firsts.{AreFirsts, IsFirst, told};
-ghost use Rattle.demo_replay.specs.Setups.{LacksNetlist};
 ghost use Rattle.demo_replay.specs.Tables.{AreClocked, AreShownBelow, IsCourseOf, IsOf, IsUnwanted, compared, first_in, told_of};
 
 use crate::compare::{Difference, clocked_signals, first_among, is_unwoken};
@@ -90,7 +89,7 @@ fn show(
     }
 }
 
-/// Runs a trial, if it is wanted; tells whether the design has a netlist as far as is known.
+/// Runs a trial, if it is wanted.
 fn run_trial(
     alloc: Global,
     setup: &Setup<'_>,
@@ -98,24 +97,20 @@ fn run_trial(
     trial: Trial,
     findings: &[Finding],
     found: &mut [Option<(Demo, Shown)>],
-) -> Result<bool, Memory>
+) -> Result<(), Memory>
     requires is_of { IsOf setup.now.design.now setup.now }
     requires clocked { AreClocked (parts setup.now.design.now) clocked.now }
     requires below { AreShownBelow setup.now.design.now setup.now clocked.now findings.now
         trial.number found.old }
-    ensures { IfOk result (λ has. MatchBool has
-        (AreShownBelow setup.now.design.now setup.now clocked.now findings.now
-        (trial.number + 1) found.new)
-        (LacksNetlist (parts setup.now.design.now))) }
+    ensures { OnOk result (AreShownBelow setup.now.design.now setup.now clocked.now findings.now
+        (trial.number + 1) found.new) }
 {
     if !is_wanted(trial, findings, found) {
-        return Ok(true);
+        return Ok(());
     }
-    let Some(steps) = course_of(alloc, setup, trial)? else {
-        return Ok(false);
-    };
+    let steps = course_of(alloc, setup, trial)?;
     show(setup, clocked, trial, &steps, findings, found);
-    Ok(true)
+    Ok(())
 }
 
 /// Nothing for each of so many findings.
@@ -142,9 +137,7 @@ fn attach_some(
     let mut found = nothing(alloc, findings.len())?;
     for number in 0..POWER_UP + 1 {
         if let Some(trial) = Trial::new(number) {
-            if !run_trial(alloc, &setup, &clocked, trial, findings, &mut found)? {
-                return nothing(alloc, findings.len());
-            }
+            run_trial(alloc, &setup, &clocked, trial, findings, &mut found)?;
         }
     }
     Ok(found)

@@ -86,9 +86,7 @@ fn shown_by(
     ensures shown { IfOk result (IsReplayed (parts setup.now.design.now) demo.now) }
     ensures fault { IfErr result (IsReplayFault (parts setup.now.design.now) demo.now) }
 {
-    let Some(mut run) = Run::begin(alloc, setup, trial)? else {
-        return Err(ReplayFault::NoNetlist);
-    };
+    let mut run = Run::begin(alloc, setup, trial)?;
     take_steps(alloc, &mut run, demo.step)?;
     let shown = run.shown(demo.signal);
     if shown.differs() {

@@ -1,11 +1,10 @@
 // A trial of a design, step by step: the simulator beside the netlist.
 
-ghost use Rattle.std.specs.Prelude.{◌≡◌, ◌==◌, ◌++◌, ◌∷◌, [], cond, false, IfOk, MatchOption, OnOk};
+ghost use Rattle.std.specs.Prelude.{◌≡◌, ◌==◌, ◌++◌, ◌∷◌, [], cond, false, IfOk, OnOk};
 ghost use Rattle.rtl_flat.specs.declared.design.Design.{Design};
 ghost use Rattle.rtl_rule.specs.Parts.{parts};
 ghost use Rattle.netlist_eval.specs.Sims.{flat_of, netlist_of, shown};
 ghost use Rattle.demo_trials.specs.Trials.{fill_of};
-ghost use Rattle.demo_replay.specs.Setups.{LacksNetlist};
 ghost use Rattle.demo_replay.specs.Progress.{IsFirstNet, TurnsLawfully};
 ghost use Rattle.demo_replay.specs.Runs.{GoOn};
 ghost use Rattle.demo_replay.specs.Tables.{IsNetlistOf, IsOf};
@@ -45,62 +44,54 @@ pub(crate) struct Run<'d> {
     taken: u8,
 }
 
-/// The netlist where a trial begins; none where its blocks feed one another in a cycle.
-fn netlist_at<'d>(
-    alloc: Global,
-    setup: &'d Setup<'d>,
-    trial: Trial,
-) -> Result<Option<NetSim<'d>>, Memory>
+/// The netlist where a trial begins.
+fn netlist_at<'d>(alloc: Global, setup: &'d Setup<'d>, trial: Trial) -> Result<NetSim<'d>, Memory>
     requires { IsOf setup.now.design.now setup.now }
-    ensures { IfOk result (λ found. MatchOption found (LacksNetlist (parts setup.now.design.now))
-        (IsFirstNet setup.now trial.number)) }
+    ensures { IfOk result (IsFirstNet setup.now trial.number) }
 {
-    let registers = first_values(alloc, setup.design, trial, &setup.stored)?;
-    let inputs = first_values(alloc, setup.design, trial, &setup.tops)?;
-    match NetSim::new(alloc, setup.netlist(trial.fill()), &registers, &inputs) {
-        Ok(net) => Ok(Some(net)),
-        Err(NetFault::Cyclic(_)) => Ok(None),
-        // No trial begins with an unknown bit.
+    let registers = first_values(alloc, setup.design, trial, &setup.basis.holders)?;
+    let inputs = first_values(alloc, setup.design, trial, &setup.basis.tops)?;
+    let netlist = setup.netlist(trial.fill());
+    match NetSim::on(alloc, netlist, &setup.basis, &registers, &inputs) {
+        Ok(net) => Ok(net),
+        // Where there is a basis there is no cycle, and no trial begins with an unknown bit.
+        Err(NetFault::Cyclic(_)) => unreachable!(),
         Err(NetFault::NotKnown(_)) => unreachable!(),
         Err(NetFault::Memory) => Err(Memory),
     }
 }
 
 impl<'d> Run<'d> {
-    ghost use Rattle.std.specs.Prelude.{◌≡◌, ◌==◌, ◌<◌, ◌+◌, List, [], false, length, Ok, IfOk, IfSome, MatchOption};
+    ghost use Rattle.std.specs.Prelude.{◌≡◌, ◌==◌, ◌<◌, ◌+◌, List, [], false, length, Ok, IfOk};
     ghost use Rattle.rtl_rule.specs.Parts.{parts};
     ghost use Rattle.event_model.specs.Queue.{flat};
     ghost use Rattle.event_queue.specs.Offers.{AreAllowed};
     ghost use Rattle.netlist_eval.specs.Sims.{shown};
-    ghost use Rattle.demo_replay.specs.Setups.{LacksNetlist};
     ghost use Rattle.demo_replay.specs.Progress.{Goes, IsAt, TurnsLawfully, design_of, moment_of, steps_left, trial_of};
     ghost use Rattle.demo_replay.specs.Runs.{Moment, settings_of};
     ghost use Rattle.demo_replay.specs.Tables.{IsOf, differences, plain};
 
-    /// A trial of a design before its first step; none where the design has no netlist.
+    /// A trial of a design before its first step.
     pub(crate) fn begin(
         alloc: Global,
         setup: &'d Setup<'d>,
         trial: Trial,
-    ) -> Result<Option<Run<'d>>, Memory>
+    ) -> Result<Run<'d>, Memory>
         requires { IsOf setup.now.design.now setup.now }
-        ensures at { IfOk result (λ found. MatchOption found
-            (LacksNetlist (parts setup.now.design.now)) (λ run. IsAt run [])) }
-        ensures setup { IfOk result (λ found. IfSome found (λ run. run.setup.now ≡ setup.now)) }
-        ensures trial { IfOk result (λ found. IfSome found (λ run. trial_of run ≡ trial.number)) }
+        ensures at { IfOk result (λ run. IsAt run []) }
+        ensures setup { IfOk result (λ run. run.setup.now ≡ setup.now) }
+        ensures trial { IfOk result (λ run. trial_of run ≡ trial.number) }
     {
-        let Some(net) = netlist_at(alloc, setup, trial)? else {
-            return Ok(None);
-        };
+        let net = netlist_at(alloc, setup, trial)?;
         let start = start_of(alloc, setup, &net, trial)?;
         let sim = EventSim::new(alloc, setup.design, &start)?;
-        Ok(Some(Run {
+        Ok(Run {
             setup,
             trial,
             sim,
             net,
             taken: 0,
-        }))
+        })
     }
 
     /// What the next step sets.
@@ -128,7 +119,7 @@ impl<'d> Run<'d> {
         ensures setup { self.new.setup.now ≡ self.old.setup.now }
         ensures trial { trial_of self.new ≡ trial_of self.old }
     {
-        if self.taken == self.trial.steps(self.setup.tops.len()) {
+        if self.taken == self.trial.steps(self.setup.basis.tops.len()) {
             return Ok(Progress::Ended);
         }
         let settings = self.settings(alloc)?;

@@ -1,20 +1,20 @@
 // What all trials of a design begin with.
 
-ghost use Rattle.std.specs.Prelude.{ℕ, ◌≡◌, ◌↔◌, true, IfOk, IfSome, MatchOption};
+ghost use Rattle.std.specs.Prelude.{◌≡◌, IfOk, IfSome, MatchOption};
 ghost use Rattle.event_model.specs.Queue.{flat};
 ghost use Rattle.net_list.specs.Faults.{AreAlone, AreFormed};
-ghost use Rattle.net_model.specs.Control.{IsControl};
+ghost use Rattle.netlist_eval.specs.Basis.{IsBasisOf};
 ghost use Rattle.rtl_rule.specs.Parts.{parts};
 ghost use Rattle.demo_replay.specs.Setups.{LacksNetlist};
 ghost use Rattle.demo_replay.specs.Tables.{IsNetlistOf, is_marked};
 
-use check_clocks::tops::mark_all;
 use infer_latches::blocks;
-use infer_regs::{controls, registers};
+use infer_regs::registers;
 use net_list::fault::InferFault;
 use net_list::netlist::Netlist;
 use net_model::fill::Fill;
-use net_start::stored::{stored, top_inputs};
+use netlist_eval::basis::Basis;
+use netlist_eval::fault::NetFault;
 use rtl_flat::design::Design;
 use rtl_flat::expr::SigId;
 use rtl_scan::temporaries;
@@ -28,12 +28,9 @@ pub(crate) struct Setup<'d> {
     /// Its netlist with 0 for bits that have no number, and with 1.
     zero: Netlist<'d>,
     one: Netlist<'d>,
-    /// Its registers and latches, and its top inputs, in order of number.
-    pub stored: Vec<SigId>,
-    pub tops: Vec<SigId>,
-    /// Of each signal whether it is a clock or a reset among the top inputs, and whether it is a
-    /// temporary.
-    controls: Vec<bool>,
+    /// What simulators of both begin with.
+    pub basis: Basis,
+    /// Of each signal whether it is a temporary.
     pub temporaries: Vec<bool>,
 }
 
@@ -60,16 +57,19 @@ fn netlist_of<'d>(
     }
 }
 
-/// Of each signal whether it is a clock or a reset among the top inputs.
-fn marked_controls(alloc: Global, design: &Design) -> Result<Vec<bool>, Memory>
-    ensures { IfOk result (λ marks. (s : ℕ)
-        → is_marked marks.items s ≡ true ↔ IsControl (flat design.now) s) }
+/// What simulators of a design's netlists begin with; nothing where its blocks feed one another in
+/// a cycle.
+fn basis_of(alloc: Global, design: &Design) -> Result<Option<Basis>, Memory>
+    ensures { IfOk result (λ found.
+        MatchOption found (LacksNetlist (parts design.now)) (IsBasisOf (flat design.now))) }
 {
-    let found = controls(alloc, design)?;
-    let numbers: Vec<u32> = found.iter().map(|top| top.0).collect(alloc)?;
-    let mut marks = vec![in alloc; false; design.signals.len()]?;
-    mark_all(&mut marks, &numbers);
-    Ok(marks)
+    match Basis::of(alloc, design) {
+        Ok(basis) => Ok(Some(basis)),
+        Err(NetFault::Cyclic(_)) => Ok(None),
+        // It is made of no values.
+        Err(NetFault::NotKnown(_)) => unreachable!(),
+        Err(NetFault::Memory) => Err(Memory),
+    }
 }
 
 impl<'d> Setup<'d> {
@@ -82,10 +82,10 @@ impl<'d> Setup<'d> {
         ensures { IfOk result (λ found.
             MatchOption found (LacksNetlist (parts design.now)) (IsOf design.now)) }
     {
-        let stored = stored(alloc, design)?;
-        let tops = top_inputs(alloc, design)?;
-        let controls = marked_controls(alloc, design)?;
         let temporaries = temporaries(alloc, design)?;
+        let Some(basis) = basis_of(alloc, design)? else {
+            return Ok(None);
+        };
         let Some(zero) = netlist_of(alloc, design, Fill::Zero)? else {
             return Ok(None);
         };
@@ -96,9 +96,7 @@ impl<'d> Setup<'d> {
             design,
             zero,
             one,
-            stored,
-            tops,
-            controls,
+            basis,
             temporaries,
         }))
     }
@@ -116,9 +114,9 @@ impl<'d> Setup<'d> {
 
     /// Whether a signal is a clock or a reset among the top inputs.
     pub(crate) fn is_control(&self, signal: SigId) -> bool
-        ensures { result ≡ is_marked self.now.controls.items signal.0 }
+        ensures { result ≡ is_marked self.now.basis.controls.items signal.0 }
     {
-        is_marked(&self.controls, signal)
+        is_marked(&self.basis.controls, signal)
     }
 
     /// Whether a signal is a temporary.

@@ -146,6 +146,7 @@ pub(crate) fn inputs_of<'d>(
         (plain setup.now).tops) }
 {
     let inputs = setup
+        .basis
         .tops
         .iter()
         .map(|top| input_of(setup, net, *top))

@@ -1,7 +1,6 @@
 use Rattle.std.proofs.Common.{◌≡◌, ◌∙◌, ℕ, List, [], ◌∷◌, ◌++◌, length, map, Ok, Vec, sym, ap, subst, arith}
 use Rattle.std.specs.declared.alloc.Global.{Global}
 use Rattle.std.proofs.lemmas.List.{length-map, map-append}
-use Rattle.std.proofs.lemmas.Option.{MatchOption-at_none}
 use Rattle.rtl_rule.specs.Parts.{parts}
 use Rattle.event_queue.specs.Sims.{state_of}
 use Rattle.netlist_eval.specs.Sims.{shown}
@@ -10,7 +9,6 @@ use Rattle.demo_replay.specs.declared.compare.Difference.{Difference}
 use Rattle.demo_replay.specs.declared.run.Progress.{Progress}
 use Rattle.demo_replay.specs.declared.run.Run.{Run}
 use Rattle.demo_replay.specs.declared.setup.Setup.{Setup as Kept}
-use Rattle.demo_replay.specs.Setups.{LacksNetlist}
 use Rattle.demo_replay.specs.Progress.{Goes, IsAt, count_of, design_of, moment_of, trial_of}
 use Rattle.demo_replay.specs.Runs.{IsStuck, Reaches}
 use Rattle.demo_replay.specs.Runs as runs
@@ -76,10 +74,6 @@ module _ (kept : Kept) (trial : ℕ) (run : Run) (steps : List (Vec Difference G
         are = going.are;
         few = omega (arith, few, whole, count);
       }
-
-pub returns-in_default : goal.returns-in_default
-returns-in_default c =
-    MatchOption-at_none (LacksNetlist (parts c.args.setup.now.design.now)) (λ run. IsAt run []) c.in_default.is c.in_ok-run.ensures.at
 
 pub differences-requires : goal.differences-requires
 differences-requires c =

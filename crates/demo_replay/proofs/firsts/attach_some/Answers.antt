@@ -1,7 +1,7 @@
 use Rattle.std.proofs.Common.{◌≡◌, ◌∙◌, ◌+◌, ◌++◌, ℕ, List, Bool, Option, length, map, take, drop, sym, ap, subst, arith}
 use Rattle.std.specs.Option.{is_some}
 use Rattle.std.proofs.Math.Seq.{take-append_seam}
-use Rattle.std.proofs.lemmas.Bool.{MatchBool-at_true, MatchBool-at_false, false≢true}
+use Rattle.std.proofs.lemmas.Bool.{false≢true}
 use Rattle.std.proofs.lemmas.Option.{MatchOption-at_none, MatchOption-at_some}
 use Rattle.std.proofs.lemmas.Result.{IfOk-weaker}
 use Rattle.rtl_flat.specs.declared.design.Design.{Design}
@@ -13,7 +13,7 @@ use Rattle.demo_replay.specs.Setups.{LacksNetlist}
 use Rattle.demo_replay.specs.Tables.{AreClocked, AreShownBelow, IsOf}
 use Rattle.demo_replay.proofs.Showing.{none_shown, all_first, none_first}
 use Rattle.demo_replay.proofs.firsts.attach_some.Goals as goal
-use Rattle.demo_replay.proofs.firsts.attach_some.Goals.{in-Some-new+in_ok-run_trial+else-not-branch, in_default-new}
+use Rattle.demo_replay.proofs.firsts.attach_some.Goals.{in-Some-new+in_ok-run_trial, in_default-new}
 
 -- a vector whose elements were all written
 written : {A : Type 0} (size : ℕ) (new old : List A) → size ≡ length old → length new ≡ length old → take size (new ++ drop (length new) old) ≡ new
@@ -30,13 +30,6 @@ loop-number-init c =
     subst (λ (all : List (Option (Demo × Values))). AreShownBelow c.in-Some.setup.design.now c.in-Some.setup c.in_ok-clocked.clocked.items c.args.findings.now 0 all) (sym c.in_ok-found.ensures)
     (none_shown c.in-Some.setup c.in_ok-clocked.clocked.items c.args.findings.now)
 
-pub returns-then-not-branch : goal.returns-then-not-branch
-returns-then-not-branch c =
-    let is_of : IsOf c.args.design.now c.in-Some.setup = MatchOption-at_some (LacksNetlist (parts c.args.design.now)) (IsOf c.args.design.now) c.in-Some.setup c.in-Some.is c.in_ok-setup.ensures in
-    let lacks = MatchBool-at_false _ (LacksNetlist (parts c.in-Some.setup.design.now)) c.if-not-branch.true c.in_ok-run_trial.ensures in
-    let here : LacksNetlist (parts c.args.design.now) = subst (λ (design : Design). LacksNetlist (parts design)) is_of.design_is lacks in
-    IfOk-weaker c.nothing-then-not-branch.result _ _ (λ found is. subst (λ (all : List (Option (Demo × Values))). AreFirsts (parts c.args.design.now) c.args.findings.now (map told all)) (sym is) (none_first c.args.design.now c.args.findings.now here)) c.nothing-then-not-branch.ensures
-
 pub loop-number-preserved : goal.loop-number-preserved
 loop-number-preserved c =
     let kept = c.in-Some.setup in
@@ -44,10 +37,10 @@ loop-number-preserved c =
     let findings = c.args.findings.now in
     let old = c.loop-number.found in
     elim c.match-new.branch [
-      | in-Some-new+in_ok-run_trial+else-not-branch w ↦
+      | in-Some-new+in_ok-run_trial w ↦
           let new = w.run_trial.new.found in
           let trial = w.in-Some-new.trial.number in
-          let ran : AreShownBelow kept.design.now kept w.deref.result.now findings (trial + 1) new = MatchBool-at_true (AreShownBelow kept.design.now kept w.deref.result.now findings (trial + 1) new) _ w.if-not-branch.false w.in_ok-run_trial.ensures in
+          let ran : AreShownBelow kept.design.now kept w.deref.result.now findings (trial + 1) new = w.in_ok-run_trial.ensures in
           let by_marks : AreShownBelow kept.design.now kept clocked findings (trial + 1) new = subst (λ (marks : List Bool). AreShownBelow kept.design.now kept marks findings (trial + 1) new) w.deref.ensures.value ran in
           let by_number : AreShownBelow kept.design.now kept clocked findings (c.loop-number.number + 1) new = subst (λ (n : ℕ). AreShownBelow kept.design.now kept clocked findings (n + 1) new) w.in-Some-new.ensures.number by_marks in
           let whole = written old.len new old.items old.ok.0 (by_number.count ∙ sym c.loop-number.invariant.count) in

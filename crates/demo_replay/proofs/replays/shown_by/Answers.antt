@@ -1,38 +1,30 @@
-use Rattle.std.proofs.Common.{◌≡◌, ◌∙◌, ◌≤◌, ℕ, [], length, subst, sym, Option}
-use Rattle.std.specs.Prelude.{IfSome, MatchOption}
+use Rattle.std.proofs.Common.{◌≡◌, ◌∙◌, ◌≤◌, ℕ, length, subst, sym}
 use Rattle.rtl_rule.specs.Parts.{parts}
 use Rattle.demo_told.proofs.Same.{differ_is, same_by}
 use Rattle.demo_trials.specs.Trials.{step_count}
-use Rattle.demo_replay.specs.declared.run.Run.{Run}
 use Rattle.demo_replay.specs.declared.setup.Setup.{Setup as Kept}
-use Rattle.demo_replay.specs.Progress.{IsAt, trial_of}
+use Rattle.demo_replay.specs.Progress.{trial_of}
 use Rattle.demo_replay.specs.Replays.{Gives, IsReplayFault}
-use Rattle.demo_replay.specs.Setups.{LacksNetlist}
 use Rattle.demo_replay.specs.Tables.{plain}
 use Rattle.demo_replay.proofs.Replaying.{fault_told, gives, same_error, step_there}
 use Rattle.demo_replay.proofs.replays.shown_by.Goals as goal
-
-pub returns-in_default-clause-fault : goal.returns-in_default-clause-fault
-returns-in_default-clause-fault c =
-    let d = parts c.args.setup.now.design.now in
-    (c.requires.legal, subst (λ (o : Option Run). MatchOption o (LacksNetlist d) (λ run. IsAt run [])) c.in_default.is c.in_ok-run.ensures.at)
 
 pub take_steps-requires-clause-there : goal.take_steps-requires-clause-there
 take_steps-requires-clause-there c =
     let kept = c.args.setup.now in
     let demo = c.args.demo.now in
-    let run = c.in-Some.run' in
-    let same : run.setup.now ≡ kept = subst (λ (o : Option Run). IfSome o (λ one. one.setup.now ≡ kept)) c.in-Some.is c.in_ok-run.ensures.setup in
-    let trial : trial_of run ≡ c.args.trial.number = subst (λ (o : Option Run). IfSome o (λ one. trial_of one ≡ c.args.trial.number)) c.in-Some.is c.in_ok-run.ensures.trial in
+    let run = c.in_ok-run.run' in
+    let same : run.setup.now ≡ kept = c.in_ok-run.ensures.setup in
+    let trial : trial_of run ≡ c.args.trial.number = c.in_ok-run.ensures.trial in
     subst (λ (one : Kept). demo.step ≤ step_count (trial_of run) (length (plain one).tops)) (sym same)
     (subst (λ (t : ℕ). demo.step ≤ step_count t (length (plain kept).tops)) (sym (trial ∙ c.requires.trial)) (step_there kept c.requires.is_of demo.trial demo.step c.requires.legal.step))
 
 pub returns-in_err-take_steps-clause-fault : goal.returns-in_err-take_steps-clause-fault
 returns-in_err-take_steps-clause-fault c =
     let kept = c.args.setup.now in
-    let run = c.in-Some.run' in
-    let same : run.setup.now ≡ kept = subst (λ (o : Option Run). IfSome o (λ one. one.setup.now ≡ kept)) c.in-Some.is c.in_ok-run.ensures.setup in
-    let trial : trial_of run ≡ c.args.trial.number = subst (λ (o : Option Run). IfSome o (λ one. trial_of one ≡ c.args.trial.number)) c.in-Some.is c.in_ok-run.ensures.trial in
+    let run = c.in_ok-run.run' in
+    let same : run.setup.now ≡ kept = c.in_ok-run.ensures.setup in
+    let trial : trial_of run ≡ c.args.trial.number = c.in_ok-run.ensures.trial in
     let why = c.in_err-take_steps.field-0.0 in
     same_error c.from_residual-in_err-take_steps.result why (IsReplayFault (parts kept.design.now) c.args.demo.now) c.from_residual-in_err-take_steps.ensures.1
     (fault_told kept c.requires.is_of c.args.demo.now run same (trial ∙ c.requires.trial) c.requires.legal why c.in_err-take_steps.ensures.fault)
@@ -40,10 +32,10 @@ returns-in_err-take_steps-clause-fault c =
 pub returns-then-differs-clause-shown : goal.returns-then-differs-clause-shown
 returns-then-differs-clause-shown c =
     let kept = c.args.setup.now in
-    let run = c.in-Some.run' in
+    let run = c.in_ok-run.run' in
     let now = c.take_steps.new.run in
-    let same : run.setup.now ≡ kept = subst (λ (o : Option Run). IfSome o (λ one. one.setup.now ≡ kept)) c.in-Some.is c.in_ok-run.ensures.setup in
-    let trial : trial_of run ≡ c.args.trial.number = subst (λ (o : Option Run). IfSome o (λ one. trial_of one ≡ c.args.trial.number)) c.in-Some.is c.in_ok-run.ensures.trial in
+    let same : run.setup.now ≡ kept = c.in_ok-run.ensures.setup in
+    let trial : trial_of run ≡ c.args.trial.number = c.in_ok-run.ensures.trial in
     let (moments, at, count) = c.in_ok-take_steps.ensures.taken in
     let values = c.shown-shown.result in
     record {
@@ -56,10 +48,10 @@ pub returns-clause-fault : goal.returns-clause-fault
 returns-clause-fault c =
     let kept = c.args.setup.now in
     let demo = c.args.demo.now in
-    let run = c.in-Some.run' in
+    let run = c.in_ok-run.run' in
     let now = c.take_steps.new.run in
-    let same : run.setup.now ≡ kept = subst (λ (o : Option Run). IfSome o (λ one. one.setup.now ≡ kept)) c.in-Some.is c.in_ok-run.ensures.setup in
-    let trial : trial_of run ≡ c.args.trial.number = subst (λ (o : Option Run). IfSome o (λ one. trial_of one ≡ c.args.trial.number)) c.in-Some.is c.in_ok-run.ensures.trial in
+    let same : run.setup.now ≡ kept = c.in_ok-run.ensures.setup in
+    let trial : trial_of run ≡ c.args.trial.number = c.in_ok-run.ensures.trial in
     let (moments, at, count) = c.in_ok-take_steps.ensures.taken in
     let values = c.shown-shown.result in
     let both = gives kept c.requires.is_of demo now (c.take_steps.ensures.setup ∙ same) (c.take_steps.ensures.trial ∙ (trial ∙ c.requires.trial)) moments at count values c.shown-shown.ensures.simulated c.shown-shown.ensures.synthesised in

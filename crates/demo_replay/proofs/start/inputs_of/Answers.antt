@@ -20,18 +20,18 @@ use Rattle.demo_replay.proofs.start.inputs_of.Goals as goal
 pub collect-requires-clause-can : goal.collect-requires-clause-can
 collect-requires-clause-can c =
     let kept = c.args.setup.now in
-    let tops = kept.tops.items in
+    let tops = kept.basis.tops.items in
     let road = YieldsList-from_slice tops (ap iter_rest c.map.ensures.source ∙ c.iter.ensures.rest ∙ c.deref.ensures.value) in (
       tt {0},
       serves_from_places road (λ x q k. search rules) (λ x k below is.
-          let inside : x.now.0 < length kept.design.now.signals.items = subst (λ (one : SigId). one.0 < length kept.design.now.signals.items) (sym is) (tops_inside (flat kept.design.now) tops c.requires.is_of.tops k x.now below) in
+          let inside : x.now.0 < length kept.design.now.signals.items = subst (λ (one : SigId). one.0 < length kept.design.now.signals.items) (sym is) (tops_inside (flat kept.design.now) tops c.requires.is_of.basis.tops k x.now below) in
           search (rules, inside)),
     )
 
 pub returns : goal.returns
 returns c =
     let kept = c.args.setup.now in
-    let tops = kept.tops.items in
+    let tops = kept.basis.tops.items in
     let one = input_of (parts kept.design.now) (plain kept) (shown c.args.net.now) in
     IfOk-at_ok (λ (w : Vec Made Global). map input (vec_items w) ≡ map (λ (top : SigId). one top.0) tops) c.in_ok-inputs.was
     (map_from_collect c.collect.result c.collect.ensures.ran

@@ -16,14 +16,14 @@ settings-requires-clause-left c =
     let run = c.args.self.now in
     let kept = run.setup.now in
     few_left kept run.trial.number run.taken
-    (some_left kept run.trial.number run.taken c.len.result run.sim run.net c.requires.0 c.requires.1 (c.len.ensures ∙ kept.tops.ok.0) (λ e. c.if-self-steps.false (e ∙ sym c.steps.ensures)))
+    (some_left kept run.trial.number run.taken c.len.result run.sim run.net c.requires.0 c.requires.1 (c.len.ensures ∙ kept.basis.tops.ok.0) (λ e. c.if-self-steps.false (e ∙ sym c.steps.ensures)))
 
 pub overflow_add-self : goal.overflow_add-self
 overflow_add-self c =
     let run = c.args.self.now in
     let kept = run.setup.now in
     let few = few_left kept run.trial.number run.taken
-    (some_left kept run.trial.number run.taken c.len.result run.sim run.net c.requires.0 c.requires.1 (c.len.ensures ∙ kept.tops.ok.0) (λ e. c.if-self-steps.false (e ∙ sym c.steps.ensures))) in
+    (some_left kept run.trial.number run.taken c.len.result run.sim run.net c.requires.0 c.requires.1 (c.len.ensures ∙ kept.basis.tops.ok.0) (λ e. c.if-self-steps.false (e ∙ sym c.steps.ensures))) in
     omega (arith, few)
 
 pub returns-in-Ok-clause-goes : goal.returns-in-Ok-clause-goes
@@ -36,7 +36,7 @@ returns-in-Ok-clause-goes c = λ moments at.
     let n = run.net in
     let m = c.turn.new.net in
     let settings = c.in_ok-settings.settings.items in
-    let left = some_left kept trial run.taken c.len.result s n moments at (c.len.ensures ∙ kept.tops.ok.0) (λ e. c.if-self-steps.false (e ∙ sym c.steps.ensures)) in
+    let left = some_left kept trial run.taken c.len.result s n moments at (c.len.ensures ∙ kept.basis.tops.ok.0) (λ e. c.if-self-steps.false (e ∙ sym c.steps.ensures)) in
     let runs = subst (λ (p : Policy). Runs p (level_of s) (flat_of s) (offer (state_of s) (map set_of settings)) (budget (flat_of s)) (state_of t) (left_of t)) c.policy.ensures
     (subst (λ (l : List Setting). Runs c.policy.result (level_of s) (flat_of s) (offer (state_of s) (map set_of l)) (budget (flat_of s)) (state_of t) (left_of t)) c.deref.ensures.value (c.step.ensures.run at.resting.free)) in
     let done = subst (λ (p : Policy). IsDone p (level_of s) (flat_of s) (state_of t)) c.policy.ensures c.in-Ok.ensures.done in
@@ -48,7 +48,7 @@ pub returns-in-Ok-clause-fewer : goal.returns-in-Ok-clause-fewer
 returns-in-Ok-clause-fewer c = λ _.
     let run = c.args.self.now in
     let kept = run.setup.now in
-    let left = some_left kept run.trial.number run.taken c.len.result run.sim run.net c.requires.0 c.requires.1 (c.len.ensures ∙ kept.tops.ok.0) (λ e. c.if-self-steps.false (e ∙ sym c.steps.ensures)) in
+    let left = some_left kept run.trial.number run.taken c.len.result run.sim run.net c.requires.0 c.requires.1 (c.len.ensures ∙ kept.basis.tops.ok.0) (λ e. c.if-self-steps.false (e ∙ sym c.steps.ensures)) in
     omega (arith, left)
 
 pub returns-clause-goes : goal.returns-clause-goes
@@ -59,7 +59,7 @@ returns-clause-goes c = λ moments at.
     let s = run.sim in
     let t = c.step.new.self in
     let settings = c.in_ok-settings.settings.items in
-    let left = some_left kept trial run.taken c.len.result s run.net moments at (c.len.ensures ∙ kept.tops.ok.0) (λ e. c.if-self-steps.false (e ∙ sym c.steps.ensures)) in
+    let left = some_left kept trial run.taken c.len.result s run.net moments at (c.len.ensures ∙ kept.basis.tops.ok.0) (λ e. c.if-self-steps.false (e ∙ sym c.steps.ensures)) in
     let runs = subst (λ (p : Policy). Runs p (level_of s) (flat_of s) (offer (state_of s) (map set_of settings)) (budget (flat_of s)) (state_of t) (left_of t)) c.policy.ensures
     (subst (λ (l : List Setting). Runs c.policy.result (level_of s) (flat_of s) (offer (state_of s) (map set_of l)) (budget (flat_of s)) (state_of t) (left_of t)) c.deref.ensures.value (c.step.ensures.run at.resting.free)) in
     let dear = subst (λ (p : Policy). IsTooDear p (level_of s) (flat_of s) (state_of t) (left_of t)) c.policy.ensures (c.in-Err.ensures.dear at.resting.free) in
