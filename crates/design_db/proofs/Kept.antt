@@ -17,19 +17,6 @@ use Rattle.desk_memo.specs.Rulings.{IsRuling, Ruling, current_of, is_current, is
 use Rattle.design_db.specs.Stores.{Store, all_rulings, answer_of, changed_in, circuits_in, lasting_answer, refusal_or}
 use Rattle.design_db.proofs.Finds.{find_front, find_holds, find_kept, find_there, mapped_some, some_mapped}
 
--- ---- whether some text has changed
-
-pub where_unchanged : (n : ℕ) (answer : Option Answer) → n ≡ 0 → cond (n == 0) answer None ≡ answer
-where_unchanged n answer zero = ap (λ (it : ℕ). cond (it == 0) answer None) zero
-
-changed_by : (b : Bool) (answer : Option Answer) → (b ≡ true → ⊥) → cond b answer None ≡ None
-changed_by true answer never = absurd (never refl)
-changed_by false answer never = refl
-
-pub where_changed : (n : ℕ) (answer : Option Answer) → (n ≡ 0 → ⊥) → cond (n == 0) answer None ≡ None
-where_changed n answer other =
-    changed_by (n == 0) answer (λ same. other ((Decides-eqb n 0).0 same))
-
 -- ---- an answer that is there is what the files say
 
 both : (a b : Bool) → (a && b) ≡ true → (a ≡ true) × (b ≡ true)
@@ -64,10 +51,6 @@ are_fresh store top right refused ruled =
 
 -- ---- an answer is there once it was worked out
 
-pub known_refusal : (refusal answer : Option Answer) → IsSome refusal → IsSome (refusal_or refusal answer)
-known_refusal None answer some = absurd (cc)
-known_refusal (Some it) answer some = refl
-
 pub known_ruling : (refusal : Option Answer) (found : Option Ruling) → IsSome found → IsSome (refusal_or refusal (option_map (λ (ruling : Ruling). ruling.answer) found))
 known_ruling None found some = mapped_some (λ (ruling : Ruling). ruling.answer) found some
 known_ruling (Some it) found some = refl
@@ -78,10 +61,6 @@ known_kept files modules top refusal ruling rulings is current there =
     ap (λ b. b && is_current files modules ruling) ((bytes_eq-Decides ruling.top top).1 is) ∙ current
     in known_ruling refusal (current_of files modules top rulings)
     (find_there (λ it. is_of top it && is_current files modules it) ruling rulings there passes)
-
-pub known_now : (n : ℕ) (answer : Option Answer) → n ≡ 0 → IsSome answer → IsSome (cond (n == 0) answer None)
-known_now n answer zero some =
-    subst (λ (it : Option Answer). IsSome it) (sym (where_unchanged n answer zero)) some
 
 -- ---- an answer stays when another top is ruled
 
@@ -146,15 +125,6 @@ lasts old new top other (Ok done) files readings modules rulings same unknown so
     lasts_by old new top other (bytes_eq other top) refl files readings modules rulings unknown some
 lasts old new top other (Err error) files readings modules rulings same unknown some =
     ap (λ (it : Store). answer_of it other) same
-
-no_none : (answer : Option Answer) → answer ≡ None → IsSome answer → ⊥
-no_none None none some = cc
-no_none (Some it) none some = cc
-
--- where some text has changed no answer lasts
-pub none_lasts : (old : Store) (other : List ℕ) → (changed_in old ≡ 0 → ⊥) → IsSome (lasting_answer old other) → ⊥
-none_lasts old other changed some =
-    no_none (lasting_answer old other) (where_changed (changed_in old) _ changed) some
 
 -- the answers are as before where all that is kept is
 abbrev answer_in : List SourceFile → List (Option Reading) → List (List Circuit) → List Ruling → Option Ruling → List ℕ → Option Answer

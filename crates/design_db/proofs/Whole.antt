@@ -1,5 +1,5 @@
 -- What the desk keeps stays right when a file comes or goes.
-use Rattle.std.proofs.Common.{◌≡◌, ◌≤◌, ◌⊎◌, inl, inr, ℕ, List, [], ◌∷◌, ◌++◌, length, min, ap, refl, subst, sym, ◌∙◌}
+use Rattle.std.proofs.Common.{◌≡◌, ◌≤◌, ◌⊎◌, inl, inr, ℕ, List, [], ◌∷◌, ◌++◌, length, ap, subst, sym, ◌∙◌}
 use Rattle.std.specs.Prelude.{IsSome, OnErr, OnOk, Option, Result, Ok, Err, Vec, option_to_list}
 use Rattle.std.specs.List.{All, Contains}
 use Rattle.std.specs.declared.alloc.Global.{Global}
@@ -8,20 +8,19 @@ use Rattle.rtl_tree.specs.TreeModule.{Circuit}
 use Rattle.rtl_tree.specs.declared.text.TheConstants.{MAX_BYTES}
 use Rattle.rtl_tree.specs.declared.tree.modules.Module.{Module}
 use Rattle.elab_links.specs.Modules.{circuits_of}
-use Rattle.desk_files.specs.Shown.{list_of, room}
+use Rattle.desk_files.specs.Shown.{list_of}
 use Rattle.desk_files.specs.Sources.{with_file, without_file}
 use Rattle.desk_files.specs.declared.files.Files.{Files}
 use Rattle.desk_files.specs.declared.files.SourceFile.{SourceFile}
 use Rattle.desk_fresh.specs.Orders.{AreInOrder, AreShort}
 use Rattle.desk_readings.specs.Readings.{AreReadings, Reading, changed_count}
-use Rattle.desk_readings.specs.Shown.{AreFlagged, IsBeside, are_as_read, flags_by, flags_of, held_modules_by, held_modules_of, modules_by, modules_of, readings_by, readings_of, room_of}
+use Rattle.desk_readings.specs.Shown.{AreFlagged, IsBeside, are_as_read, flags_by, flags_of, held_modules_by, held_modules_of, modules_by, modules_of, readings_by, readings_of}
 use Rattle.desk_readings.specs.declared.aside.Aside.{Aside}
 use Rattle.desk_readings.specs.declared.readings.Readings.{Readings}
 use Rattle.desk_memo.specs.Rulings.{IsRuling, Ruling, current_of}
 use Rattle.desk_memo.specs.Shown.{AreChecked, absent_of, all_of, rulings_of}
 use Rattle.desk_memo.specs.declared.memo.Memo.{Memo}
 use Rattle.design_db.specs.Shown.{IsWhole, store}
-use Rattle.design_db.specs.Stores.{Store}
 use Rattle.design_db.proofs.InOrder.{in_order_with, in_order_without, short_with, short_without}
 
 -- the rulings that are kept are right where they are as before
@@ -60,16 +59,6 @@ is_dropped old new readings before after name seen sees is order short right fla
     (short_without name seen (subst AreShort (sym sees) short)) right flagged
     (rulings_same before after rulings absent all) (checked held (modules_of readings))
 
--- there is more room, and all else is as before
-pub is_ready : (old new : Files) (before after : Readings) (memo : Memo) → list_of new ≡ list_of old → readings_of after ≡ readings_of before → modules_of after ≡ modules_of before → flags_of after ≡ flags_of before → IsWhole old before memo → IsWhole new after memo
-is_ready old new before after memo is readings modules flags right =
-    whole new after memo (list_of old) is right.store.in_order right.store.short
-    (subst (λ (it : List (Option Reading)). AreReadings (list_of old) it (modules_of after)) (sym readings)
-    (subst (λ (it : List (List Circuit)). AreReadings (list_of old) (readings_of before) it) (sym modules) right.store.readings))
-    (flags ∙ right.flagged ∙ ap (λ (it : List (Option Reading)). are_as_read (list_of old) it) (sym readings))
-    right.store.rulings
-    (subst (λ (it : List (List Circuit)). AreChecked (list_of old) it memo) (sym modules) right.checked)
-
 -- ---- what was read beside
 
 -- what was read beside the readings stands in their place
@@ -102,30 +91,6 @@ is_found_now files seen after old new top modules sees one rulings absent some =
     subst (λ (it : List SourceFile). IsSome (current_of it (modules_of after) top (all_of new))) (sym sees)
     (subst (λ (it : List (List Circuit)). IsSome (current_of files it top (all_of new))) one
     (subst (λ (it : List Ruling). IsSome (current_of files modules top it)) (sym same) some))
-
--- after a second exchange all is as before
-pub is_undone : (files : Files) (before after : Readings) (old new : Memo) → readings_of after ≡ readings_of before → modules_of after ≡ modules_of before → flags_of after ≡ flags_of before → rulings_of new ≡ rulings_of old → absent_of new ≡ absent_of old → ((files : List SourceFile) (modules : List (List Circuit)) → AreChecked files modules new) → IsWhole files before old → IsWhole files after new
-is_undone files before after old new readings modules flags rulings absent checked right =
-    let held = list_of files in
-    whole files after new held refl right.store.in_order right.store.short
-    (subst (λ (it : List (Option Reading)). AreReadings held it (modules_of after)) (sym readings)
-    (subst (λ (it : List (List Circuit)). AreReadings held (readings_of before) it) (sym modules) right.store.readings))
-    (flags ∙ right.flagged ∙ ap (λ (it : List (Option Reading)). are_as_read held it) (sym readings))
-    (rulings_same old new rulings absent right.store.rulings)
-    (checked held (modules_of after))
-
-abbrev made : List SourceFile → ℕ → List (Option Reading) → List (Vec Module Global) → List Ruling → Option Ruling → Store
-made files room readings modules rulings absent =
-    record { files = files; room = room; readings = readings; modules = modules; rulings = rulings; absent = absent }
-
-pub is_same : (files : Files) (before after : Readings) (old new : Memo) → readings_of after ≡ readings_of before → held_modules_of after ≡ held_modules_of before → room_of after ≡ room_of before → rulings_of new ≡ rulings_of old → absent_of new ≡ absent_of old → store files after new ≡ store files before old
-is_same files before after old new readings modules more rulings absent =
-    let held = list_of files in
-    ap (λ (it : ℕ). made held (min (room files) it) (readings_of after) (held_modules_of after) (rulings_of new) (absent_of new)) more
-    ∙ ap (λ (it : List (Option Reading)). made held (min (room files) (room_of before)) it (held_modules_of after) (rulings_of new) (absent_of new)) readings
-    ∙ ap (λ (it : List (Vec Module Global)). made held (min (room files) (room_of before)) (readings_of before) it (rulings_of new) (absent_of new)) modules
-    ∙ ap (λ (it : List Ruling). made held (min (room files) (room_of before)) (readings_of before) (held_modules_of before) it (absent_of new)) rulings
-    ∙ ap (λ (it : Option Ruling). made held (min (room files) (room_of before)) (readings_of before) (held_modules_of before) (rulings_of old) it) absent
 
 -- ---- rulings
 
