@@ -213,7 +213,7 @@ module _ (d : Parts) (lawful : AreLawful (flat_of d)) (marked : AreMarked d) (no
   all_formed choice are p events body is =
       formed_too d events body (each_all (IsEdgeItem (widths d)) events (items d lawful marked none p events body is)) (chain d lawful marked none p events body is) (choice p) (formed d lawful marked none p events body is) (are p events body is)
 
-  clean_design : IsCleanDesign d
+  pub clean_design : IsCleanDesign d
   clean_design =
       record {
         chains = chains;

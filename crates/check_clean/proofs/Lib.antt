@@ -9,9 +9,9 @@ mod Chains
 mod Tests
 mod Resets
 mod Formed
-mod Merged
+pub mod Merged
 mod Choices
-mod Clean
+pub mod Clean
 mod Promise
 mod Ending
 mod Runs

@@ -1,4 +1,5 @@
 pub mod Rules
 pub mod Clean
 pub mod Ending
+pub mod Needed
 pub mod Promise
