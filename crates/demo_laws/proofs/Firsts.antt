@@ -14,7 +14,7 @@ use Rattle.rtl_rule.specs.declared.finding.Finding.{Finding}
 use Rattle.rtl_rule.specs.Parts.{Parts, first_below, number, some_below}
 use Rattle.demo_told.specs.Same.{are_same}
 use Rattle.demo_replay.specs.Compared.{AreCompared, is_trial_of}
-use Rattle.demo_replay.specs.Firsts.{Here, IsFirst, NoNetlist, Nothing, Place, Shows, Told, differs, first_place, first_signal, place_or}
+use Rattle.demo_replay.specs.Firsts.{Here, IsFirst, Never, NoNetlist, Nothing, Place, Shows, Told, differs, first_place, first_signal, place_or}
 use Rattle.demo_replay.specs.Runs.{Ended, IsCourse, IsStuck, Moment, Stopped}
 use Rattle.demo_replay.specs.Setups.{Contended, Cyclic, HasNetlist, IsSetup, LacksNetlist, Setup, Shapeless, flat_of}
 use Rattle.demo_laws.proofs.Trials.{AllAlike, IsAlike, not_behind, reach_once, stuck_reaches}
@@ -163,6 +163,10 @@ module _ (design : Parts) (lawful : AreProcesses design) (finding : Finding) whe
       absurd (none-some place (shows_once design lawful setup is trial compared (lasts compared are) None (Some place) (moved setup setup' compared compared' is is' are are' trial None (nowhere trial of)) shows))
   one_first (Some told) None (Here setup compared trial place is are of shows none) (Nothing setup' compared' is' are' nowhere) =
       absurd (none-some place (shows_once design lawful setup is trial compared (lasts compared are) None (Some place) (moved setup setup' compared compared' is is' are are' trial None (nowhere trial of)) shows))
+  one_first None (Some told) (Never never) (Here setup compared trial place is are of shows none) =
+      absurd (never setup compared trial place is are of shows)
+  one_first (Some told) None (Here setup compared trial place is are of shows none) (Never never) =
+      absurd (never setup compared trial place is are of shows)
   one_first (Some told) (Some told') (Here setup compared trial place is are of shows none) (Here setup' compared' trial' place' is' are' of' shows' none') =
       here_once setup compared trial trial' place place' is are of shows none of'
       (moved setup setup' compared compared' is is' are are' trial' (Some place') shows')

@@ -76,8 +76,8 @@ told (Some (demo, shown)) =
     })
 
 -- what is shown for a finding: nothing where the design has no netlist, as no trial is run then;
--- nothing where no trial of the finding's rule shows a difference; or the first place in the first
--- such trial that does
+-- nothing where no trial of the finding's rule shows a difference, or none can show one; or the
+-- first place in the first such trial that does
 pub data IsFirst (d : Parts) (finding : Finding) : Option Told → Type 0 where
   NoNetlist : LacksNetlist d → IsFirst d finding None
   Nothing :
@@ -85,6 +85,11 @@ pub data IsFirst (d : Parts) (finding : Finding) : Option Told → Type 0 where
       IsSetup d setup → AreCompared d finding compared →
       ((trial : ℕ) → is_trial_of finding.rule trial ≡ true →
       Shows d setup compared trial None) →
+      IsFirst d finding None
+  Never :
+      ((setup : Setup) (compared : ℕ → Bool) (trial : ℕ) (place : Place) →
+      IsSetup d setup → AreCompared d finding compared →
+      is_trial_of finding.rule trial ≡ true → Shows d setup compared trial (Some place) → ⊥) →
       IsFirst d finding None
   Here :
       (setup : Setup) (compared : ℕ → Bool) (trial : ℕ) (place : Place) →

@@ -42,7 +42,7 @@ step_holds Q trial step inputs turned drew zeros =
 same_width : (test : ℕ → ℕ → Bool) (n a b : ℕ) → a ≡ b → test n b ≡ true → test n a ≡ true
 same_width test n a b e h = ap (test n) e ∙ h
 
-step_meets : (trial step : ℕ) (inputs : List Input) (test : ℕ → ℕ → Bool) → All (λ it. test it.signal.0 (length it.value) ≡ true) inputs → SettingsMeet test (step_of trial step inputs)
+pub step_meets : (trial step : ℕ) (inputs : List Input) (test : ℕ → ℕ → Bool) → All (λ it. test it.signal.0 (length it.value) ≡ true) inputs → SettingsMeet test (step_of trial step inputs)
 step_meets trial step inputs test all =
     let P = λ (it : Input). test it.signal.0 (length it.value) ≡ true in
     let Q = λ (setting : Setting). test setting.signal.0 (length setting.value) ≡ true in
@@ -56,7 +56,7 @@ step_meets trial step inputs test all =
 each : (P : Input → Type 0) → ((it : Input) → P it) → (inputs : List Input) → All P inputs
 each P holds inputs = λ k d within. holds (slice_index_or inputs k d)
 
-step_known : (trial step : ℕ) (inputs : List Input) → (trial < 32 → All (λ it. has_unknown it.value ≡ false) inputs) → AreSettingsKnown (step_of trial step inputs)
+pub step_known : (trial step : ℕ) (inputs : List Input) → (trial < 32 → All (λ it. has_unknown it.value ≡ false) inputs) → AreSettingsKnown (step_of trial step inputs)
 step_known trial step inputs known =
     let P = λ (it : Input). has_unknown it.value ≡ false in
     let Q = λ (setting : Setting). has_unknown setting.value ≡ false in
