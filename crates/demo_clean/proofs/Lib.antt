@@ -1,0 +1,6 @@
+pub mod Begins
+pub mod Same
+pub mod Settings
+pub mod Steps
+pub mod Trials
+pub mod Unshown

@@ -1,0 +1,15 @@
+-- Where simulation agrees with synthesis no trial shows a difference, but for those from power-up on.
+-- Worked examples: crates/tests_demo/src/rows.rt.
+use Rattle.std.specs.Prelude.{◌≡◌, false, List, None}
+use Rattle.rtl_flat.specs.declared.design.Design.{Design}
+use Rattle.rtl_rule.specs.declared.finding.Finding.{Finding}
+use Rattle.rtl_rule.specs.Parts.{parts}
+use Rattle.check_all.specs.Findings.{AreAllFindings}
+use Rattle.check_clean.specs.Needed.{has_needed, is_needed}
+use Rattle.demo_replay.specs.Firsts.{IsFirst}
+
+-- where none of all findings of a design is of a rule that agreement stands on, nothing is shown for any of another rule
+abbrev pub NoneShown : Design → Type 0
+NoneShown design =
+    (findings : List Finding) → AreAllFindings (parts design) findings → has_needed findings ≡ false →
+    (finding : Finding) → is_needed finding.rule ≡ false → IsFirst (parts design) finding None
