@@ -1,14 +1,19 @@
 //! The verdict on a design.
 
-ghost use Rattle.std.specs.Prelude.{◌≡◌, IfOk, length};
+ghost use Rattle.std.specs.Prelude.{◌≡◌, ◌≤◌, IfOk, None, length, map, replicate, take};
 ghost use Rattle.rtl_elab.specs.Designs.{flat_in};
+ghost use Rattle.rtl_rule.specs.Parts.{parts};
+ghost use Rattle.check_all.specs.Findings.{AreAllFindings};
+ghost use Rattle.demo_replay.specs.Firsts.{AreFirsts, told};
 ghost use Rattle.desk_verdict.specs.Verdicts.{IsVerdict};
 
+use demo_clean::has_needed;
+use demo_clean::law::none_shown;
 use demo_replay::attach_all;
-use demo_told::Told;
+use demo_told::{Demo, Shown, Told};
 use desk_report::tell;
 use rtl_flat::design::Design;
-use rtl_rule::finding::Ruling;
+use rtl_rule::finding::{Finding, Ruling};
 use rtl_tree::memory::Memory;
 use sign_off::rule::rule;
 use std::alloc::Global;
@@ -36,8 +41,36 @@ impl Verdict {
     {
         let ruling = rule(alloc, design)?;
         let count = MAX_SHOWN.min(ruling.findings.len());
-        let shown = attach_all(alloc, design, &ruling.findings[..count])?;
+        let shown = shown_of(alloc, design, &ruling.findings, count)?;
         let told = tell(alloc, design, &ruling.findings, &shown)?;
         Ok(Verdict { ruling, told })
     }
+}
+
+/// Where the first of all findings of a design show. Where simulation agrees with synthesis no trial
+/// can show one, and none is run.
+fn shown_of(
+    alloc: Global,
+    design: &Design,
+    findings: &[Finding],
+    count: usize,
+) -> Result<Vec<Option<(Demo, Shown)>>, Memory>
+    requires all { AreAllFindings (parts design.now) findings.now }
+    requires within { count ≤ length findings.now }
+    ensures { IfOk result (λ shown.
+        AreFirsts (parts design.now) (take count findings.now) (map told shown.items)) }
+{
+    if has_needed(findings) {
+        return attach_all(alloc, design, &findings[..count]);
+    }
+    none_shown();
+    nothing(alloc, count)
+}
+
+/// Nothing for each of so many findings.
+fn nothing(alloc: Global, count: usize) -> Result<Vec<Option<(Demo, Shown)>>, Memory>
+    ensures { IfOk result (λ shown. shown.items ≡ replicate count None) }
+{
+    let shown = vec![in alloc; None; count]?;
+    Ok(shown)
 }

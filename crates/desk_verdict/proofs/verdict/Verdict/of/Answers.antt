@@ -1,9 +1,7 @@
-use Rattle.std.proofs.Common.{◌≡◌, ◌∙◌, List, Option, length, map, min, take, rules, sym, ap, subst}
+use Rattle.std.proofs.Common.{◌≡◌, ◌∙◌, List, length, map, min, take, rules, ap, subst}
 use Rattle.std.proofs.lemmas.List.{take_min}
 use Rattle.rtl_elab.specs.Designs.{flat_in}
 use Rattle.rtl_rule.specs.declared.finding.Finding.{Finding}
-use Rattle.demo_told.specs.declared.demo.Demo.{Demo}
-use Rattle.demo_told.specs.declared.demo.Shown.{Shown}
 use Rattle.demo_replay.specs.Firsts.{AreFirsts, told}
 use Rattle.desk_report.specs.Tellings.{tellings}
 use Rattle.desk_verdict.specs.declared.verdict.TheConstants.{MAX_SHOWN}
