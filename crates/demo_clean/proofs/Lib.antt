@@ -1,4 +1,5 @@
 pub mod Begins
+pub mod Chains
 pub mod Same
 pub mod Settings
 pub mod Steps

@@ -18,8 +18,8 @@ use Rattle.check_clean.proofs.Clean.{clean_design}
 use Rattle.check_clean.proofs.Merged.{none_needed}
 use Rattle.demo_replay.specs.Compared.{is_trial_of, is_unwoken}
 use Rattle.demo_replay.specs.Firsts.{Never}
-use Rattle.demo_laws.proofs.Lawful.{are_chains}
 use Rattle.demo_clean.specs.Unshown.{NoneShown}
+use Rattle.demo_clean.proofs.Chains.{are_chains}
 use Rattle.demo_clean.proofs.Trials.{course_netlist, shows_nothing}
 
 -- ---- trials

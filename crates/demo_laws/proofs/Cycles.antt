@@ -48,8 +48,9 @@ use Rattle.demo_laws.proofs.Held.{late_lasts, same_solutions}
 use Rattle.demo_laws.proofs.Live.{same_bit as body_bit}
 use Rattle.demo_laws.proofs.Stable.{bit_stable}
 use Rattle.demo_replay.specs.Setups.{flat_of}
+use Rattle.demo_clean.proofs.Chains.{are_chains}
 use Rattle.demo_laws.specs.Laws.{AreProcesses}
-use Rattle.demo_laws.proofs.Lawful.{are_chains, behind, is_top, lawful_flat}
+use Rattle.demo_laws.proofs.Lawful.{behind, is_top, lawful_flat}
 
 -- ---- any design
 

@@ -1,11 +1,11 @@
--- What the processes of a lawful design are, and its chains where they have no fault.
-use Rattle.std.proofs.Common.{◌≡◌, ◌∙◌, ℕ, true, Option, None, Some, List, get_or, refl, sym, ap, subst}
+-- What the processes of a lawful design are.
+use Rattle.std.proofs.Common.{◌≡◌, ◌∙◌, ℕ, true, Option, None, Some, refl, ap, subst}
 use Rattle.std.specs.Prelude.{IsTrue}
 use Rattle.std.specs.List.{slice_get}
-use Rattle.std.specs.Option.{IsSomeAnd, unwrap_or}
+use Rattle.std.specs.Option.{IsSomeAnd}
 use Rattle.rtl_flat.specs.Expression as tree
 use Rattle.rtl_flat.specs.Expression.{Sized}
-use Rattle.rtl_flat.specs.Process.{Edge', Task}
+use Rattle.rtl_flat.specs.Process.{Task}
 use Rattle.rtl_flat.specs.Signs.{Has}
 use Rattle.rtl_flat.specs.declared.signal.Kind.TheVariants.{TopInput}
 use Rattle.rtl_flat.specs.declared.signal.Signal.{Signal}
@@ -13,16 +13,9 @@ use Rattle.rtl_flat.specs.WellFormed.{IsProcess}
 use Rattle.event_model.specs.Queue.{doing_of, is_input, is_input_kind, is_input_of}
 use Rattle.event_laws.specs.Steady.{AreLawful}
 use Rattle.net_model.specs.Control.{Here, IsBehind, Next, whole_of}
-use Rattle.net_model.specs.Cycle.{AreChains, IsChain}
-use Rattle.rtl_rule.specs.declared.rule.Rule.{Rule}
-use Rattle.rtl_rule.specs.declared.rule.Rule.TheVariants.{MixedEdges, ResetPolarity, ResetShape}
 use Rattle.rtl_rule.specs.Parts.{Parts}
-use Rattle.check_assign.specs.Assigned.{is_clocked}
-use Rattle.check_chains.specs.Chains.{chain_of}
 use Rattle.check_clocks.specs.Clocks.{ComesFrom, GoesTo, Itself, Through}
-use Rattle.net_list.specs.Chosen.{chain_in, chains_of, no_chain}
-use Rattle.net_list.specs.Faults.{AreFormed, IsFault}
-use Rattle.net_list.proofs.Formed.{chain_at, lawful_at, task_of}
+use Rattle.net_list.proofs.Formed.{lawful_at}
 use Rattle.demo_replay.specs.Setups.{flat_of}
 use Rattle.demo_laws.specs.Laws.{AreProcesses}
 
@@ -52,17 +45,3 @@ is_top d top h = by_signal (slice_get d.signals top) h
     by_signal : (o : Option Signal) → IsSomeAnd o (λ signal. signal.kind ≡ TopInput) → is_input_of o ≡ true
     by_signal None none = absurd none
     by_signal (Some signal) is = ap is_input_kind is
-
-pub are_chains : (d : Parts) → AreProcesses d → AreFormed d → AreChains (flat_of d) (chains_of d)
-are_chains d lawful formed p events body is =
-    let (task, there, does) = task_of d.tasks p (Edge' events body) is in
-    let waits : is_clocked task.does ≡ true = ap is_clocked does in
-    let free : (rule : Rule) → IsFault d p task rule → ⊥ = λ rule fault. formed p (record {
-      waits = subst (λ o. IsSomeAnd o (λ one. is_clocked one.does ≡ true)) (sym there) waits;
-      rule = rule;
-      fault = subst (λ o. IsSomeAnd o (λ one. IsFault d p one rule)) (sym there) fault;
-    }) in
-    let found = chain_at d p task events body does (lawful_at d.signals d.tasks p task lawful there) (free MixedEdges) (free ResetShape) (free ResetPolarity) in
-    let same : chains_of d p ≡ found.chain =
-    ap (λ o. unwrap_or (chain_in d o) no_chain) there ∙ ap (λ x. unwrap_or (chain_of d x) no_chain) does ∙ ap (λ o. unwrap_or o no_chain) found.is_chain in
-    subst (IsChain (flat_of d) events body) (sym same) found.chained
