@@ -7,14 +7,14 @@ ghost use Rattle.std.specs.BTreeMap.{get};
 ghost use Rattle.rtl_flat.specs.Process.{Task};
 ghost use Rattle.rtl_rule.specs.Parts.{has_some, parts, widths, written};
 ghost use Rattle.rtl_scan.specs.Sets.{has};
-ghost use Rattle.check_scans.specs.Scanned.{AreScans};
+ghost use Rattle.check_found.specs.Scanned.{AreScans};
 ghost use Rattle.check_assign.specs.Assigned.{AreSeveralDrivers, AreUndriven, IsSeveralDrivers, IsUndriven, is_input, is_written, lower_writes, several_drivers_at, undriven_at};
 ghost use Rattle.check_assign.specs.Marks.{any_row, shares};
 ghost use Rattle.check_found.specs.Gathered.{Gets, signal_numbers, task_sites};
 
 use crate::marks::{Among, Marks};
 use crate::masks::Masks;
-use check_scans::scans::Scans;
+use check_found::scans::Scans;
 use rtl_flat::act::ProcId;
 use rtl_flat::design::Design;
 use rtl_flat::expr::{Select, SigId};

@@ -6,7 +6,7 @@ ghost use Rattle.net_model.specs.Control.{InCone};
 ghost use Rattle.rtl_rule.specs.Parts.{parts};
 ghost use Rattle.check_chains.specs.Chains.{AreAsyncPair, AreResetPolarity, AreResetShape, AreResetValue};
 ghost use Rattle.check_clocks.specs.Clocks.{AreClockAsData, AreDerivedClock};
-ghost use Rattle.check_scans.specs.Scanned.{AreScans};
+ghost use Rattle.check_found.specs.Scanned.{AreScans};
 ghost use Rattle.check_assign.specs.Findings.{AreAssignFindings};
 ghost use Rattle.check_assign.specs.Lists.{AreAssigned, AreClocked, AreDriven, AreHeld, AreReset, Both};
 
@@ -18,7 +18,7 @@ use crate::loops::comb_loop;
 use check_chains::{async_pair, reset_polarity, reset_shape, reset_value};
 use check_clocks::{clock_as_data, derived_clock};
 use check_found::order::ranked;
-use check_scans::scans::Scans;
+use check_found::scans::Scans;
 use rtl_rule::finding::Finding;
 use rtl_tree::memory::Memory;
 use std::alloc::Global;

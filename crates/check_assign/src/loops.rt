@@ -6,12 +6,12 @@ ghost use Rattle.rtl_flat.specs.Process.{Task};
 ghost use Rattle.rtl_rule.specs.Parts.{parts};
 ghost use Rattle.check_found.specs.Gathered.{Gets, task_sites};
 ghost use Rattle.check_graph.specs.Loops.{IsOnLevelCycle};
-ghost use Rattle.check_scans.specs.Scanned.{AreScans};
+ghost use Rattle.check_found.specs.Scanned.{AreScans};
 ghost use Rattle.check_assign.specs.Assigned.{AreCombLoop, IsCombLoop, comb_loop_at};
 
+use check_found::scans::Scans;
 use check_found::sets::first_written;
 use check_graph::loops;
-use check_scans::scans::Scans;
 use rtl_flat::act::ProcId;
 use rtl_flat::design::Design;
 use rtl_rule::finding::Finding;

@@ -15,7 +15,7 @@ use Rattle.rtl_flat.specs.Process.{Selection, Piece, Watched, Action, Set, If, C
 use Rattle.rtl_flat.specs.Process as part
 use Rattle.rtl_flat.specs.Signs.{Has}
 use Rattle.rtl_flat.specs.WellFormed.{has_edge}
-use Rattle.body_laws.proofs.Within.{reads_inside}
+use Rattle.event_laws.proofs.Within.{reads_inside}
 use Rattle.event_model.specs.Queue.{doing_at}
 use Rattle.event_laws.specs.Steady.{AreLawful}
 use Rattle.event_edges.specs.Synchronous.{IsPort, MayHear, sensitive}

@@ -14,7 +14,7 @@ use Rattle.rtl_flat.specs.Process as part
 use Rattle.rtl_flat.specs.Signs.{Has, width_in}
 use Rattle.rtl_flat.specs.WellFormed.{IsWatched, IsWhole, has_edge}
 use Rattle.rtl_flat.proofs.Paths.{decided}
-use Rattle.body_laws.proofs.Within.{may_read_outside, outside_inside, write_inside}
+use Rattle.event_laws.proofs.Within.{may_read_outside, outside_inside, write_inside}
 use Rattle.event_laws.specs.Steady.{AreLawful}
 use Rattle.net_model.specs.Control.{InCone}
 use Rattle.net_model.specs.Cycle.{Chain, Guard, IsChain, IsChained, Tests, opened}

@@ -6,3 +6,4 @@ pub mod Signals
 pub mod Ordered
 pub mod Merged
 pub mod Decided
+pub mod Kept

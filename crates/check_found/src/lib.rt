@@ -1,5 +1,7 @@
-//! Findings in their order, and the bits that the rules ask processes for.
+//! Findings in their order, and the bits that the rules ask processes for: of one process, and of
+//! all of a design, scanned once for all rules.
 #![tactic(auto)]
 
 pub mod order;
+pub mod scans;
 pub mod sets;

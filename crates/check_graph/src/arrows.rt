@@ -5,11 +5,11 @@ ghost use Rattle.std.specs.List.{slice_get};
 ghost use Rattle.rtl_flat.specs.Process.{Task};
 ghost use Rattle.rtl_rule.specs.Parts.{parts, widths};
 ghost use Rattle.rtl_scan.specs.Arrows.{AreArrows};
-ghost use Rattle.check_scans.specs.Scanned.{AreScans};
+ghost use Rattle.check_found.specs.Scanned.{AreScans};
 ghost use Rattle.check_graph.specs.Feeds.{AreFeeders, FromRow, FromRows, FromWriters, Joins, comes, is_from};
 
 use crate::writers::{Writer, is_node, writers};
-use check_scans::scans::Scans;
+use check_found::scans::Scans;
 use rtl_flat::act::ProcId;
 use rtl_scan::bits::Row;
 use rtl_tree::memory::Memory;

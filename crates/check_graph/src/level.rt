@@ -2,12 +2,12 @@
 
 ghost use Rattle.std.specs.Prelude.{IfOk};
 ghost use Rattle.rtl_rule.specs.Parts.{parts};
-ghost use Rattle.check_scans.specs.Scanned.{AreScans};
+ghost use Rattle.check_found.specs.Scanned.{AreScans};
 ghost use Rattle.check_graph.specs.Loops.{AreLevelLoops};
 
 use crate::arrows::arrows;
+use check_found::scans::Scans;
 use check_loops::on_cycles;
-use check_scans::scans::Scans;
 use rtl_tree::memory::Memory;
 use std::alloc::Global;
 

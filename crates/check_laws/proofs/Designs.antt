@@ -20,7 +20,7 @@ use Rattle.rtl_flat.proofs.Paths.{decided}
 use Rattle.event_model.specs.Queue.{Flat, doing_at, doing_of}
 use Rattle.event_model.specs.Queue as queue
 use Rattle.event_laws.specs.Steady.{AreLawful}
-use Rattle.body_laws.proofs.Within.{may_read_outside, outside_inside, target_inside, write_inside}
+use Rattle.event_laws.proofs.Within.{may_read_outside, outside_inside, target_inside, write_inside}
 use Rattle.net_model.specs.Solution.{IsRegisterBit}
 use Rattle.rtl_rule.specs.Parts.{Parts, has_some, widths, written}
 use Rattle.check_sense.specs.Sense.{AreMixedEdges, AreNeverWakes, AreSenseMissing, IsMixedEdges, IsNeverWakes, IsSenseMissing, another_writes, can_wake, first_level, has_item, is_top, misses, mixed_edges_at, never_wakes_at, sense_missing_at}

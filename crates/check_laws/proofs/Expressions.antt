@@ -15,7 +15,7 @@ use Rattle.rtl_flat.specs.Process.{Piece, Task, Watched}
 use Rattle.rtl_flat.specs.Signs.{sign_of}
 use Rattle.rtl_flat.specs.Sizes.{width_of}
 use Rattle.rtl_flat.specs.Value.{value}
-use Rattle.body_laws.proofs.Targets.{place_of}
+use Rattle.event_laws.proofs.Targets.{place_of}
 use Rattle.net_laws.specs.Rules.{DividesBy, DividesByPower, EachPart, HasNone, IsNoSignal, IsPower, SelectsInside}
 use Rattle.net_laws.specs.Tame.{IsPlace}
 use Rattle.rtl_rule.specs.Parts.{Parts, is_literal_with, is_one_literal, is_some_name, is_x, is_z, items_of, labels, named, nodes, pieces, reads_signal, some_below, trees, valued_trees, widths}

@@ -8,11 +8,11 @@ mod waking;
 
 ghost use Rattle.std.specs.Prelude.{IfOk};
 ghost use Rattle.rtl_rule.specs.Parts.{parts};
-ghost use Rattle.check_scans.specs.Scanned.{AreScans};
+ghost use Rattle.check_found.specs.Scanned.{AreScans};
 ghost use Rattle.check_sense.specs.Sense.{AreSenseFindings};
 
 use check_found::order::ranked;
-use check_scans::scans::Scans;
+use check_found::scans::Scans;
 pub use edges::mixed_edges;
 pub use missing::sense_missing;
 use rtl_rule::finding::Finding;

@@ -5,12 +5,12 @@ ghost use Rattle.std.specs.List.{slice_get};
 ghost use Rattle.rtl_flat.specs.Process.{doing, Task, task};
 ghost use Rattle.rtl_rule.specs.Parts.{parts};
 ghost use Rattle.check_found.specs.Gathered.{Gets, signal_numbers, task_sites};
-ghost use Rattle.check_scans.specs.Scanned.{AreScans};
+ghost use Rattle.check_found.specs.Scanned.{AreScans};
 ghost use Rattle.check_sense.specs.Sense.{AreSenseMissing, IsSenseMissing, sense_missing_at};
 ghost use Rattle.check_sense.specs.Telling.{has_items, lacking_in};
 
 use crate::masks::Masks;
-use check_scans::scans::Scans;
+use check_found::scans::Scans;
 use rtl_flat::act::{Does, Listed, ProcId, Process};
 use rtl_rule::finding::Finding;
 use rtl_rule::rule::Rule;

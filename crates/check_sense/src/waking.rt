@@ -6,13 +6,13 @@ ghost use Rattle.rtl_flat.specs.Process.{doing, Task};
 ghost use Rattle.rtl_rule.specs.Parts.{parts};
 ghost use Rattle.rtl_scan.specs.Sets.{has_rows};
 ghost use Rattle.check_found.specs.Gathered.{Gets, task_sites};
-ghost use Rattle.check_scans.specs.Scanned.{AreScans};
+ghost use Rattle.check_found.specs.Scanned.{AreScans};
 ghost use Rattle.check_sense.specs.Sense.{AreNeverWakes, IsNeverWakes, can_wake, is_top, never_wakes_at};
 ghost use Rattle.check_sense.specs.Telling.{AreWriters, GetsWriter, has_level_list, itself, row_wakes, top_at};
 
 use crate::masks::Masks;
+use check_found::scans::Scans;
 use check_found::sets::first_written;
-use check_scans::scans::Scans;
 use rtl_flat::act::{Does, ProcId};
 use rtl_flat::expr::SigId;
 use rtl_flat::signal::{Kind, Signal};

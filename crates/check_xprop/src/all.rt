@@ -2,7 +2,7 @@
 
 ghost use Rattle.std.specs.Prelude.{◌≡◌, IfOk, OnOk};
 ghost use Rattle.rtl_rule.specs.Parts.{parts};
-ghost use Rattle.check_scans.specs.Scanned.{AreScans};
+ghost use Rattle.check_found.specs.Scanned.{AreScans};
 ghost use Rattle.check_xprop.specs.Parts.{AreOfDropped, AreOfLiterals, AreOfChoices, AreOfOperators};
 ghost use Rattle.check_xprop.specs.Unknowns.{AreUnknownFindings};
 
@@ -13,7 +13,7 @@ use crate::dropped::{delay_ignored, initial_ignored, translate_off};
 use crate::expressions::{case_equality, unknown_literal};
 use crate::selects::select_range;
 use check_found::order::ranked;
-use check_scans::scans::Scans;
+use check_found::scans::Scans;
 use rtl_flat::design::Design;
 use rtl_rule::finding::Finding;
 use rtl_tree::memory::Memory;

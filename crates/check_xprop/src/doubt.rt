@@ -7,13 +7,13 @@ ghost use Rattle.check_assign.specs.Assigned.{is_clocked};
 ghost use Rattle.rtl_rule.specs.Parts.{parts};
 ghost use Rattle.rtl_scan.specs.Usage.{has_row_of};
 ghost use Rattle.check_chains.specs.Chains.{chain_of, has_chain};
-ghost use Rattle.check_scans.specs.Scanned.{AreScans};
+ghost use Rattle.check_found.specs.Scanned.{AreScans};
 ghost use Rattle.check_xprop.specs.Spreading.{Among, AreReaders, IsReader, IsStarting, Marks, Notes, Reaches, Visits, bucket, reads, starts};
 ghost use Rattle.check_xprop.specs.Unknowns.{IsDoubtful};
 
 use crate::choices::is_marked;
 use check_chains::chain::chain_of;
-use check_scans::scans::Scans;
+use check_found::scans::Scans;
 use rtl_flat::act::{Does, ProcId};
 use rtl_flat::design::Design;
 use rtl_flat::expr::SigId;

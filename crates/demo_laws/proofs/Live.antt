@@ -22,8 +22,8 @@ use Rattle.event_model.specs.Traces.{Same, covers}
 use Rattle.event_model.specs.Writes.{Values, Write, written}
 use Rattle.event_laws.specs.Steady.{HaveWidths, IsWithin}
 use Rattle.event_laws.proofs.Lengths.{have_written}
-use Rattle.body_laws.proofs.Targets.{IsOver, same_count}
-use Rattle.body_laws.proofs.Written.{written_in, written_out}
+use Rattle.event_laws.proofs.Targets.{IsOver, same_count}
+use Rattle.event_laws.proofs.Written.{written_in, written_out}
 use Rattle.net_model.specs.declared.fill.Fill.{Fill}
 use Rattle.net_model.specs.Block.{Maps, act, act_arms, act_first, act_other, acts, arm_bits, arms_late, arms_write, begun, bit_after, block_bit, digit_writes, filled_case, fresh, item_meets, joined_arms, some_meets, with_bits, write_each, write_next, write_now}
 use Rattle.net_model.specs.Numbers.{AreNumbers, bit, digits, fill_bit}

@@ -21,9 +21,9 @@ use Rattle.event_model.specs.Writes.{Values, bit_inside, count_of, counts, write
 use Rattle.event_laws.specs.Steady.{HaveWidths, IsWithin}
 use Rattle.event_laws.proofs.Agreement.{value_agrees}
 use Rattle.event_laws.proofs.Inside.{AreSelections, at_most}
-use Rattle.body_laws.proofs.Sizes.{selected_length}
-use Rattle.body_laws.proofs.Targets as target
-use Rattle.body_laws.proofs.Targets.{IsOver, left_within, none_over, right_within}
+use Rattle.event_laws.proofs.Sizes.{selected_length}
+use Rattle.event_laws.proofs.Targets as target
+use Rattle.event_laws.proofs.Targets.{IsOver, left_within, none_over, right_within}
 use Rattle.net_model.specs.declared.fill.Fill.{Fill}
 use Rattle.net_model.specs.Block.{digit_writes, item_meets, some_meets, span_by}
 use Rattle.net_model.specs.Numbers.{digits, is_literal, label_digits, label_meets}

@@ -2,8 +2,8 @@
 use Rattle.std.proofs.Common.{◌≡◌, ℕ, List, [], ◌∷◌, codes, refl}
 use Rattle.std.specs.Prelude.{Option, Some, None}
 use Rattle.desk_files.specs.declared.files.SourceFile.{SourceFile}
-use Rattle.desk_fresh.specs.declared.answer.Answer.{Answer}
-use Rattle.desk_readings.specs.Readings.{Reading}
+use Rattle.desk_memo.specs.declared.answer.Answer.{Answer}
+use Rattle.desk_memo.specs.Readings.{Reading}
 use Rattle.desk_memo.specs.Rulings.{Ruling}
 use Rattle.design_db.specs.Stores.{Store, answer_of, changed_in, lasting_answer}
 

@@ -13,7 +13,7 @@ use Rattle.std.proofs.lemmas.Slice.Eq.{bytes_eq-Decides}
 use Rattle.rtl_tree.specs.declared.text.TheConstants.{MAX_BYTES}
 use Rattle.desk_files.specs.Sources.{is_before, is_named, place_of, with_file, with_file_at, with_file_by, without_file}
 use Rattle.desk_files.specs.declared.files.SourceFile.{SourceFile}
-use Rattle.desk_fresh.specs.Orders.{AreInOrder, AreShort}
+use Rattle.desk_memo.specs.Orders.{AreInOrder, AreShort}
 
 -- ---- what holds of each file
 

@@ -10,9 +10,9 @@ use Rattle.rtl_tree.specs.TreeModule.{Circuit}
 use Rattle.rtl_tree.specs.declared.tree.modules.Module.{Module}
 use Rattle.elab_links.specs.Modules.{circuits_of}
 use Rattle.desk_files.specs.declared.files.SourceFile.{SourceFile}
-use Rattle.desk_fresh.specs.Fresh.{IsFresh}
-use Rattle.desk_fresh.specs.declared.answer.Answer.{Answer}
-use Rattle.desk_readings.specs.Readings.{Reading, changed_count, first_refusal}
+use Rattle.desk_memo.specs.Fresh.{IsFresh}
+use Rattle.desk_memo.specs.declared.answer.Answer.{Answer}
+use Rattle.desk_memo.specs.Readings.{Reading, changed_count, first_refusal}
 use Rattle.desk_memo.specs.Rulings.{IsRuling, Ruling, current_of, is_current, is_of, others_of}
 use Rattle.design_db.specs.Stores.{Store, all_rulings, answer_of, changed_in, circuits_in, lasting_answer, refusal_or}
 use Rattle.design_db.proofs.Finds.{find_front, find_holds, find_kept, find_there, mapped_some, some_mapped}

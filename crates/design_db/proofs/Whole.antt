@@ -12,11 +12,11 @@ use Rattle.desk_files.specs.Shown.{list_of}
 use Rattle.desk_files.specs.Sources.{with_file, without_file}
 use Rattle.desk_files.specs.declared.files.Files.{Files}
 use Rattle.desk_files.specs.declared.files.SourceFile.{SourceFile}
-use Rattle.desk_fresh.specs.Orders.{AreInOrder, AreShort}
-use Rattle.desk_readings.specs.Readings.{AreReadings, Reading, changed_count}
-use Rattle.desk_readings.specs.Shown.{AreFlagged, IsBeside, are_as_read, flags_by, flags_of, held_modules_by, held_modules_of, modules_by, modules_of, readings_by, readings_of}
-use Rattle.desk_readings.specs.declared.aside.Aside.{Aside}
-use Rattle.desk_readings.specs.declared.readings.Readings.{Readings}
+use Rattle.desk_memo.specs.Orders.{AreInOrder, AreShort}
+use Rattle.desk_memo.specs.Readings.{AreReadings, Reading, changed_count}
+use Rattle.desk_memo.specs.ShownReadings.{AreFlagged, IsBeside, are_as_read, flags_by, flags_of, held_modules_by, held_modules_of, modules_by, modules_of, readings_by, readings_of}
+use Rattle.desk_memo.specs.declared.aside.Aside.{Aside}
+use Rattle.desk_memo.specs.declared.readings.Readings.{Readings}
 use Rattle.desk_memo.specs.Rulings.{IsRuling, Ruling, current_of}
 use Rattle.desk_memo.specs.Shown.{AreChecked, absent_of, all_of, rulings_of}
 use Rattle.desk_memo.specs.declared.memo.Memo.{Memo}

@@ -3,8 +3,8 @@
 use Rattle.std.specs.Prelude.{min}
 use Rattle.desk_files.specs.Shown.{list_of, room}
 use Rattle.desk_files.specs.declared.files.Files.{Files}
-use Rattle.desk_readings.specs.Shown.{AreFlagged, held_modules_of, modules_of, readings_of, room_of}
-use Rattle.desk_readings.specs.declared.readings.Readings.{Readings}
+use Rattle.desk_memo.specs.ShownReadings.{AreFlagged, held_modules_of, modules_of, readings_of, room_of}
+use Rattle.desk_memo.specs.declared.readings.Readings.{Readings}
 use Rattle.desk_memo.specs.Shown.{AreChecked, absent_of, rulings_of}
 use Rattle.desk_memo.specs.declared.memo.Memo.{Memo}
 use Rattle.design_db.specs.Stores.{IsStore, Store}

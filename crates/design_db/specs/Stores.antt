@@ -8,10 +8,10 @@ use Rattle.rtl_tree.specs.TreeModule.{Circuit}
 use Rattle.rtl_tree.specs.declared.tree.modules.Module.{Module}
 use Rattle.elab_links.specs.Modules.{circuits_of}
 use Rattle.desk_files.specs.declared.files.SourceFile.{SourceFile}
-use Rattle.desk_fresh.specs.Orders.{AreInOrder, AreShort}
-use Rattle.desk_fresh.specs.declared.answer.Answer.{Answer}
-use Rattle.desk_fresh.specs.declared.answer.Answer.TheVariants.{Ruled, Refused}
-use Rattle.desk_readings.specs.Readings.{AreReadings, Reading, changed_count, first_refusal}
+use Rattle.desk_memo.specs.Orders.{AreInOrder, AreShort}
+use Rattle.desk_memo.specs.declared.answer.Answer.{Answer}
+use Rattle.desk_memo.specs.declared.answer.Answer.TheVariants.{Ruled, Refused}
+use Rattle.desk_memo.specs.Readings.{AreReadings, Reading, changed_count, first_refusal}
 use Rattle.desk_memo.specs.Rulings.{IsRuling, Ruling, current_answer}
 
 -- the files in the order of their names, for how many more of them there is room, of each file what

@@ -5,4 +5,4 @@ mod db;
 
 pub use db::Db;
 pub use desk_files::{Ready, SourceFile};
-pub use desk_fresh::Answer;
+pub use desk_memo::Answer;

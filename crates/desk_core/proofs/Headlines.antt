@@ -26,9 +26,9 @@ use Rattle.desk_records.specs.Machine.{by_tables, change_outcome, full_refusal, 
 use Rattle.desk_records.specs.Outcomes.{Outcome, Told, Done, Open, kept_said}
 use Rattle.desk_rulings.specs.Rulings.{Verdict, has_first_grade, left_of, standing_of}
 use Rattle.desk_rulings.specs.SignOffs.{accepted, edited_by, findings_stand, rows_of, signoff_outcome, signoff_row, unless_edited}
-use Rattle.desk_fresh.specs.Fresh.{IsOfDesign, IsOfFront, texts_in}
-use Rattle.desk_fresh.specs.declared.answer.Answer.{Answer}
-use Rattle.desk_fresh.specs.declared.answer.Answer.TheVariants.{Ruled, Refused}
+use Rattle.desk_memo.specs.Fresh.{IsOfDesign, IsOfFront, texts_in}
+use Rattle.desk_memo.specs.declared.answer.Answer.{Answer}
+use Rattle.desk_memo.specs.declared.answer.Answer.TheVariants.{Ruled, Refused}
 use Rattle.desk_core.specs.Files.{AreFilesOf}
 use Rattle.desk_core.specs.Headline.{IsNewSignOff, IsSignedClean, SaysClean}
 use Rattle.desk_core.specs.Outcomes.{IsJudged, IsJudgedFor, IsOutcome, IsSettled, judged_with, top_of, with_answer}

@@ -9,9 +9,9 @@ use Rattle.rtl_elab.specs.Elaborated.{elaborated}
 use Rattle.desk_build.specs.Building.{Front, Modules, Faulty}
 use Rattle.desk_verdict.proofs.Said.{count_told}
 use Rattle.desk_files.specs.declared.files.SourceFile.{SourceFile}
-use Rattle.desk_fresh.specs.Fresh.{IsFresh, IsOfDesign, IsOfFront}
-use Rattle.desk_fresh.specs.declared.answer.Answer.{Answer}
-use Rattle.desk_fresh.specs.declared.answer.Answer.TheVariants.{Ruled, Refused}
+use Rattle.desk_memo.specs.Fresh.{IsFresh, IsOfDesign, IsOfFront}
+use Rattle.desk_memo.specs.declared.answer.Answer.{Answer}
+use Rattle.desk_memo.specs.declared.answer.Answer.TheVariants.{Ruled, Refused}
 use Rattle.desk_core.specs.Steps.{IsPaired}
 
 design_paired : (files : List SourceFile) (circuits : List (List Circuit)) (top : List ℕ) (made : Result DesignParts Fault) (answer : Answer) → IsOfDesign files circuits top made answer → IsPaired answer

@@ -3,7 +3,7 @@ use Rattle.std.proofs.Common.{◌≡◌, ◌∙◌, ℕ, ◌<◌, ◌+◌, List,
 use Rattle.std.proofs.lemmas.List.{map-append, take_more}
 use Rattle.desk_places.specs.Places.{Source}
 use Rattle.desk_files.specs.declared.files.SourceFile.{SourceFile}
-use Rattle.desk_fresh.specs.Fresh.{sources_in}
+use Rattle.desk_memo.specs.Fresh.{sources_in}
 
 abbrev source : SourceFile → Source
 source file = record { name = file.name; text = file.text }

@@ -8,7 +8,7 @@ use Rattle.desk_tables.specs.declared.change.Change.TheVariants.{PutFile, DropFi
 use Rattle.desk_tables.specs.declared.rows.FileRow.{FileRow}
 use Rattle.desk_files.specs.Sources.{is_named, with_file, without_file}
 use Rattle.desk_files.specs.declared.files.SourceFile.{SourceFile}
-use Rattle.desk_fresh.specs.Orders.{AreInOrder, AreShort}
+use Rattle.desk_memo.specs.Orders.{AreInOrder, AreShort}
 
 -- the file of a row
 abbrev pub source_of : FileRow → SourceFile

@@ -19,7 +19,7 @@ use Rattle.desk_requests.specs.declared.ask.Request.{Request}
 use Rattle.desk_requests.specs.declared.ask.Ask.TheVariants.{SignOff}
 use Rattle.desk_bodies.specs.Bodies.{granted_text}
 use Rattle.desk_records.specs.Machine.{is_to}
-use Rattle.desk_fresh.specs.Fresh.{texts_in}
+use Rattle.desk_memo.specs.Fresh.{texts_in}
 use Rattle.desk_core.specs.Files.{AreFilesOf}
 
 -- the request asks for a sign-off of the module, and no reply is kept for it

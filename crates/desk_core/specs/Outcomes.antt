@@ -13,9 +13,9 @@ use Rattle.desk_records.specs.Outcomes.{Outcome, Told, Done, Open}
 use Rattle.desk_rulings.specs.Grants.{waive_outcome}
 use Rattle.desk_rulings.specs.Rulings.{Verdict}
 use Rattle.desk_rulings.specs.SignOffs.{signoff_outcome}
-use Rattle.desk_fresh.specs.Fresh.{IsFresh}
-use Rattle.desk_fresh.specs.declared.answer.Answer.{Answer}
-use Rattle.desk_fresh.specs.declared.answer.Answer.TheVariants.{Ruled, Refused}
+use Rattle.desk_memo.specs.Fresh.{IsFresh}
+use Rattle.desk_memo.specs.declared.answer.Answer.{Answer}
+use Rattle.desk_memo.specs.declared.answer.Answer.TheVariants.{Ruled, Refused}
 use Rattle.desk_core.specs.Files.{AreFilesOf}
 use Rattle.desk_core.specs.Reports.{Telling, telling, verdict_in}
 

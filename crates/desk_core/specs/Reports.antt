@@ -6,9 +6,9 @@ use Rattle.desk_files.specs.declared.files.SourceFile.{SourceFile}
 use Rattle.desk_tables.specs.Tables.{Kept}
 use Rattle.desk_verdict.specs.declared.verdict.Verdict.{Verdict as Made}
 use Rattle.desk_rulings.specs.Rulings.{Verdict, left_of, standing_of}
-use Rattle.desk_fresh.specs.Fresh.{IsFresh, sources_in}
-use Rattle.desk_fresh.specs.declared.answer.Answer.{Answer}
-use Rattle.desk_fresh.specs.declared.answer.Answer.TheVariants.{Ruled, Refused}
+use Rattle.desk_memo.specs.Fresh.{IsFresh, sources_in}
+use Rattle.desk_memo.specs.declared.answer.Answer.{Answer}
+use Rattle.desk_memo.specs.declared.answer.Answer.TheVariants.{Ruled, Refused}
 use Rattle.desk_core.specs.Files.{AreFilesOf}
 use Rattle.desk_core.specs.declared.report.TopReport.{TopReport}
 

@@ -4,8 +4,8 @@ ghost use Rattle.rtl_tree.specs.declared.text.TheConstants.{MAX_BYTES};
 ghost use Rattle.desk_places.specs.Places.{sources_of};
 ghost use Rattle.desk_tables.specs.Tables.{kept_of};
 ghost use Rattle.desk_rulings.specs.Rulings.{verdict_of};
-ghost use Rattle.desk_fresh.specs.Fresh.{sources_in};
-ghost use Rattle.desk_fresh.specs.Orders.{AreShort};
+ghost use Rattle.desk_memo.specs.Fresh.{sources_in};
+ghost use Rattle.desk_memo.specs.Orders.{AreShort};
 ghost use Rattle.desk_core.specs.Reports.{refused_telling, ruled_telling, telling, told_in, verdict_in};
 ghost use Rattle.desk_core.specs.Steps.{IsPaired};
 

@@ -23,9 +23,9 @@ use Rattle.desk_places.specs.Places.{Source}
 use Rattle.desk_refusals.specs.Refusals.{design_line}
 use Rattle.desk_build.specs.Building.{AreSpelled, Modules}
 use Rattle.desk_files.specs.declared.files.SourceFile.{SourceFile}
-use Rattle.desk_fresh.specs.Fresh.{IsFresh, IsOfDesign, IsRefusal, names_at, sources_in, texts_in}
-use Rattle.desk_fresh.specs.declared.answer.Answer.{Answer}
-use Rattle.desk_fresh.specs.declared.answer.Answer.TheVariants.{Ruled, Refused}
+use Rattle.desk_memo.specs.Fresh.{IsFresh, IsOfDesign, IsRefusal, names_at, sources_in, texts_in}
+use Rattle.desk_memo.specs.declared.answer.Answer.{Answer}
+use Rattle.desk_memo.specs.declared.answer.Answer.TheVariants.{Ruled, Refused}
 use Rattle.desk_memo.specs.Rulings.{IsRuling, Ruling, Used, is_current, is_meant, is_there}
 use Rattle.desk_memo.proofs.Among.{holds_of, named_among, other_at, read_at, same_filter}
 use Rattle.desk_memo.proofs.Lines.{named_line, placed_line}

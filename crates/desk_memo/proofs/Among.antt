@@ -5,7 +5,7 @@ use Rattle.std.specs.List.{All, Contains, cons_option, filter_map}
 use Rattle.rtl_tree.specs.TreeModule.{Circuit}
 use Rattle.rtl_front.specs.Fronts.{AreRead, IsRead}
 use Rattle.desk_files.specs.declared.files.SourceFile.{SourceFile}
-use Rattle.desk_fresh.specs.Fresh.{texts_in}
+use Rattle.desk_memo.specs.Fresh.{texts_in}
 
 -- ---- elements
 

@@ -7,7 +7,7 @@ use Rattle.elab_links.specs.declared.module_set.Lookup.TheVariants.{Missing, Fou
 use Rattle.elab_links.specs.declared.module_set.Place.{Place}
 use Rattle.elab_names.specs.declared.look_up.LookUp.{LookUp}
 use Rattle.desk_files.specs.declared.files.SourceFile.{SourceFile}
-use Rattle.desk_fresh.specs.declared.answer.Answer.{Answer}
+use Rattle.desk_memo.specs.declared.answer.Answer.{Answer}
 use Rattle.desk_memo.specs.Rulings.{Ruling, Used, current_of, is_absent, is_current, is_meant, is_there, others_of, with_ruling}
 
 abbrev file : List ℕ → List ℕ → SourceFile

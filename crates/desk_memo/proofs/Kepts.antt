@@ -8,7 +8,7 @@ use Rattle.std.proofs.lemmas.List.Folds.{find-append}
 use Rattle.std.proofs.lemmas.Option.{slice_get-map, slice_get_read, slice_get_within}
 use Rattle.rtl_tree.specs.TreeModule.{Circuit}
 use Rattle.desk_files.specs.declared.files.SourceFile.{SourceFile}
-use Rattle.desk_fresh.specs.declared.answer.Answer.{Answer}
+use Rattle.desk_memo.specs.declared.answer.Answer.{Answer}
 use Rattle.desk_memo.specs.Rulings.{Ruling, current_answer, current_of, is_current, is_current_of, is_of, with_ruling}
 use Rattle.desk_memo.specs.Shown.{IsPlaceOf, ruling_of}
 use Rattle.desk_memo.specs.declared.kept.Kept.{Kept}

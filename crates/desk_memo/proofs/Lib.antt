@@ -6,3 +6,13 @@ pub mod Lines
 pub mod Made
 pub mod Places
 pub mod Tests
+mod FreshExample
+pub mod Answered
+pub mod Loops
+mod ReadingsExample
+pub mod Exchanged
+pub mod Found
+pub mod MadeReadings
+pub mod Placed
+pub mod Put
+pub mod Read

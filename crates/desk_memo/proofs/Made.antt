@@ -18,8 +18,8 @@ use Rattle.rtl_elab.specs.Designs.{library_of}
 use Rattle.rtl_elab.specs.Elaborated.{elaborated}
 use Rattle.desk_build.specs.Building.{AreSpelled}
 use Rattle.desk_files.specs.declared.files.SourceFile.{SourceFile}
-use Rattle.desk_fresh.specs.Fresh.{IsOfDesign, texts_in}
-use Rattle.desk_readings.specs.Readings.{AreReadings, IsReading, Reading, changed_count, file_at, is_as_read}
+use Rattle.desk_memo.specs.Fresh.{IsOfDesign, texts_in}
+use Rattle.desk_memo.specs.Readings.{AreReadings, IsReading, Reading, changed_count, file_at, is_as_read}
 use Rattle.desk_memo.specs.Rulings.{IsRuling, Ruling, Used, is_current, is_meant, is_same_file, is_same_lookup, is_there}
 use Rattle.desk_memo.specs.Shown.{used_among, used_at}
 use Rattle.desk_memo.proofs.Among.{file_there, kept_among, same_filter}

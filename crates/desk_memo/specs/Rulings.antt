@@ -14,8 +14,8 @@ use Rattle.elab_reach.specs.Reach.{IsFileReached}
 use Rattle.rtl_elab.specs.Designs.{library_of}
 use Rattle.rtl_elab.specs.Elaborated.{elaborated}
 use Rattle.desk_files.specs.declared.files.SourceFile.{SourceFile}
-use Rattle.desk_fresh.specs.Fresh.{IsOfDesign, texts_in}
-use Rattle.desk_fresh.specs.declared.answer.Answer.{Answer}
+use Rattle.desk_memo.specs.Fresh.{IsOfDesign, texts_in}
+use Rattle.desk_memo.specs.declared.answer.Answer.{Answer}
 
 -- a file in which a module of a top stood, with its number among the files
 pub record Used : Type 0 where

@@ -2,18 +2,19 @@
 ghost use Rattle.std.specs.Prelude.{◌≡◌, ◌≤◌, ◌+◌, IfOk, None, false, true};
 ghost use Rattle.std.specs.List.{list_any};
 ghost use Rattle.elab_links.specs.Modules.{all_placed, circuits_of, found, lookups_of};
-ghost use Rattle.desk_readings.specs.Readings.{AreReadings, changed_count, first_refusal};
-ghost use Rattle.desk_readings.specs.Shown.{modules_of, readings_of};
-ghost use Rattle.desk_fresh.specs.Orders.{AreShort};
+ghost use Rattle.desk_memo.specs.Readings.{AreReadings, changed_count, first_refusal};
+ghost use Rattle.desk_memo.specs.ShownReadings.{modules_of, readings_of};
+ghost use Rattle.desk_memo.specs.Orders.{AreShort};
 ghost use Rattle.desk_memo.specs.Rulings.{IsRuling, is_absent, is_current, is_of, is_own_module};
 ghost use Rattle.desk_memo.specs.Shown.{IsChecked, ruling_of};
 
+use crate::answer::Answer;
 use crate::current::{are_meant, are_there};
+use crate::fresh::of_modules;
+use crate::reading_law::all_spelled;
+use crate::readings::Readings;
 use crate::used::{Used, used_files};
 use desk_files::SourceFile;
-use desk_fresh::{Answer, of_modules};
-use desk_readings::Readings;
-use desk_readings::law::all_spelled;
 use elab_links::module_set::{Lookup, ModuleSet};
 use elab_names::{LookUp, look_ups};
 use elab_reach::reached_files;

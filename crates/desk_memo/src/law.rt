@@ -5,7 +5,7 @@ ghost use Rattle.std.specs.Prelude.{◌≡◌, List, true};
 ghost use Rattle.rtl_tree.specs.TreeModule.{Circuit};
 ghost use Rattle.desk_build.specs.Building.{AreSpelled};
 ghost use Rattle.desk_files.specs.declared.files.SourceFile.{SourceFile};
-ghost use Rattle.desk_fresh.specs.Fresh.{IsFresh, texts_in};
+ghost use Rattle.desk_memo.specs.Fresh.{IsFresh, texts_in};
 ghost use Rattle.desk_memo.specs.Rulings.{IsRuling, Ruling, is_current};
 
 use elab_names::law::{fault_in_reach, found_in_reach, same_design, same_files};

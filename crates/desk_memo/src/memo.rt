@@ -10,9 +10,9 @@ ghost use Rattle.desk_memo.specs.Rulings.{is_current_of, is_of, others_of, with_
 ghost use Rattle.desk_memo.specs.Shown.{AreAllChecked, AreChecked, IsChecked, IsPlaceOf};
 ghost use Rattle.desk_memo.specs.Shown.{absent_of, all_of, ruling_of, rulings_of};
 
+use crate::answer::Answer;
 use crate::kept::Kept;
 use desk_files::SourceFile;
-use desk_fresh::Answer;
 use rtl_tree::memory::Memory;
 use rtl_tree::text::Text;
 use rtl_tree::tree::modules::Module;

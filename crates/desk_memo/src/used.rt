@@ -1,11 +1,11 @@
 // The files that a top used.
 ghost use Rattle.std.specs.Prelude.{◌≡◌, ◌++◌, ◌∷◌, [], IfOk, OnOk};
-ghost use Rattle.desk_readings.specs.Readings.{file_at};
-ghost use Rattle.desk_readings.specs.Shown.{readings_of};
+ghost use Rattle.desk_memo.specs.Readings.{file_at};
+ghost use Rattle.desk_memo.specs.ShownReadings.{readings_of};
 ghost use Rattle.desk_memo.specs.Shown.{all_used, used_among};
 
+use crate::readings::Readings;
 use desk_files::SourceFile;
-use desk_readings::Readings;
 use rtl_tree::memory::Memory;
 use std::alloc::Global;
 use std::rc::Rc;

@@ -18,7 +18,7 @@ use Rattle.event_laws.specs.Steady.{HaveWidths}
 use Rattle.net_model.specs.Control.{InCone, IsReached}
 use Rattle.net_model.specs.Numbers.{bit}
 use Rattle.net_model.specs.Solution.{IsLasting}
-use Rattle.body_laws.proofs.Laws.{depends, outside_inside}
+use Rattle.event_laws.proofs.Laws.{depends, outside_inside}
 use Rattle.event_runs.specs.Effects.{delayed_after, laters, run_made}
 use Rattle.event_runs.specs.Plain.{ran_by}
 use Rattle.event_runs.proofs.Laws.{effect}

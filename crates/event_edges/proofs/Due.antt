@@ -9,7 +9,7 @@ use Rattle.event_model.specs.Queue.{Flat, State, Event, Input, Evaluate, Update,
 use Rattle.event_model.specs.Writes.{Write, all_written}
 use Rattle.event_laws.specs.Steady.{AreLawful, IsWithin}
 use Rattle.net_model.specs.Numbers.{bit}
-use Rattle.body_laws.proofs.Laws.{may_late, writes_variables}
+use Rattle.event_laws.proofs.Laws.{may_late, writes_variables}
 use Rattle.event_runs.specs.Effects.{IsEffect, activated_after, delayed_after, event_writes, first_update, laters, other_updates, run_made, runs}
 use Rattle.event_runs.specs.Writers.{CanWrite, IsOrderly, IsSole, are_over}
 use Rattle.event_runs.proofs.Laws.{effect, orderly_after, untouched}

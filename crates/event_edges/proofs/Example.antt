@@ -30,7 +30,7 @@ use Rattle.event_laws.specs.Steady.{AreLawful, HaveWidths}
 use Rattle.event_laws.proofs.Steady.{steady_settled}
 use Rattle.net_model.specs.Control.{InCone, IsFromTop, IsPassedOn, IsReached, Itself, Through, waits_for, whole_of}
 use Rattle.net_model.specs.Numbers.{bit}
-use Rattle.body_laws.proofs.Laws.{outside_inside, writes_variables}
+use Rattle.event_laws.proofs.Laws.{outside_inside, writes_variables}
 use Rattle.event_runs.specs.Effects.{laters}
 use Rattle.event_runs.proofs.Laws.{late_none}
 use Rattle.event_edges.specs.Registers.{updates_bit}

@@ -15,7 +15,7 @@ use Rattle.event_model.specs.Traces.{covers}
 use Rattle.event_model.specs.Writes.{Values, Write, written}
 use Rattle.event_laws.specs.Steady.{HaveWidths, IsWithin}
 use Rattle.event_laws.proofs.Lengths.{fits, written_length}
-use Rattle.body_laws.proofs.Written.{written_out}
+use Rattle.event_laws.proofs.Written.{written_out}
 use Rattle.event_edges.specs.Synchronous.{sensitive}
 
 -- ---- tests and lists

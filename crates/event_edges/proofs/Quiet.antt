@@ -15,9 +15,9 @@ use Rattle.event_model.specs.Writes.{Values, Write, written}
 use Rattle.event_laws.specs.Steady.{HaveWidths, IsWithin}
 use Rattle.event_laws.proofs.Lengths.{have_written}
 use Rattle.net_model.specs.Control.{InCone, IsControl, IsReached, Itself, Through, whole_of}
-use Rattle.body_laws.proofs.Laws.{may_late}
-use Rattle.body_laws.proofs.Targets.{IsOver}
-use Rattle.body_laws.proofs.Within.{target_inside}
+use Rattle.event_laws.proofs.Laws.{may_late}
+use Rattle.event_laws.proofs.Targets.{IsOver}
+use Rattle.event_laws.proofs.Within.{target_inside}
 use Rattle.event_runs.specs.Effects.{IsEffect, delayed_after, evaluates, event_writes, heard, laters, run_made, runs, takes, updates}
 use Rattle.event_runs.specs.Writers.{CanWrite, IsOrderly, are_over}
 use Rattle.event_runs.proofs.Laws.{effect, untouched}

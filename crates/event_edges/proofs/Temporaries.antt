@@ -17,7 +17,7 @@ use Rattle.event_laws.proofs.Lengths.{have_written}
 use Rattle.event_laws.proofs.Made.{IsMadeWithin}
 use Rattle.net_model.specs.Control.{IsReached}
 use Rattle.net_model.specs.Numbers.{bit}
-use Rattle.body_laws.proofs.Written.{written_out}
+use Rattle.event_laws.proofs.Written.{written_out}
 use Rattle.event_edges.specs.Synchronous.{IsSynchronous}
 use Rattle.event_edges.specs.Turned.{IsTurn, IsTurnedPort, IsTurning, fires, item_fires}
 use Rattle.event_edges.proofs.Hearing.{any_same, falsely, hearing, signal_kept, or_none}

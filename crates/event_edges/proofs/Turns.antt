@@ -14,7 +14,7 @@ use Rattle.event_model.specs.Writes.{Values, put}
 use Rattle.event_laws.proofs.Lengths.{put_at, put_other}
 use Rattle.event_laws.proofs.Made.{body_within}
 use Rattle.net_model.specs.Control.{Itself, Through, whole_of}
-use Rattle.body_laws.proofs.Laws.{may_now}
+use Rattle.event_laws.proofs.Laws.{may_now}
 use Rattle.event_runs.specs.Plain.{ran_by}
 use Rattle.event_edges.specs.Synchronous.{IsSynchronous}
 use Rattle.event_edges.specs.Turned.{IsReachedPort, IsTurn, IsTurnedPort, IsTurning, fires}

@@ -6,3 +6,12 @@ pub mod Lengths
 pub mod Made
 pub mod Steady
 pub mod Unheard
+pub mod Alike
+mod BodyExample
+pub mod Laws
+pub mod Sizes
+pub mod Sure
+pub mod Targets
+pub mod Traced
+pub mod Within
+pub mod Written

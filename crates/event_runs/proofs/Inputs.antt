@@ -11,7 +11,7 @@ use Rattle.event_model.specs.Writes.{Values, Write, all_written, put, written}
 use Rattle.event_laws.specs.Steady.{AreLawful, IsWithin}
 use Rattle.event_laws.proofs.Steady.{steady_offer}
 use Rattle.event_laws.proofs.Lengths.{have_written, put_at, put_other}
-use Rattle.body_laws.proofs.Written.{covers_from, written_in}
+use Rattle.event_laws.proofs.Written.{covers_from, written_in}
 use Rattle.event_runs.specs.Effects.{input_writes, takes}
 use Rattle.event_runs.specs.Nets.{AreOffered, AreWide, given_with, offered_after}
 use Rattle.event_runs.specs.Writers.{CanWrite, IsOrderly}

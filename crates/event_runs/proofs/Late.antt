@@ -12,7 +12,7 @@ use Rattle.event_model.specs.Traces.{Same, covers}
 use Rattle.event_model.specs.Writes.{Write}
 use Rattle.event_laws.specs.Steady.{AreLawful}
 use Rattle.event_laws.proofs.Steady.{steady_after, steady_power_up}
-use Rattle.body_laws.proofs.Laws.{may_late}
+use Rattle.event_laws.proofs.Laws.{may_late}
 use Rattle.event_runs.specs.Effects.{activated_after, delayed_after, event_writes, laters, other_updates, run_made}
 use Rattle.event_runs.specs.Writers.{AreLate, CanWrite, IsLateBit, IsOrderly, are_over}
 use Rattle.event_runs.proofs.Effects.{effect}

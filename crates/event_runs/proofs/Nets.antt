@@ -21,7 +21,7 @@ use Rattle.event_model.specs.Traces.{Same}
 use Rattle.event_model.specs.Writes.{all_written, driven, put}
 use Rattle.event_laws.specs.Steady.{AreLawful, IsSteady}
 use Rattle.event_laws.proofs.Lengths.{put_other}
-use Rattle.body_laws.proofs.Within.{target_inside}
+use Rattle.event_laws.proofs.Within.{target_inside}
 use Rattle.event_runs.specs.Effects.{drive_writes, update_writes}
 use Rattle.event_runs.specs.Nets.{AreDriven, AreResolved}
 use Rattle.event_runs.specs.Writers.{CanWrite, IsOrderly, IsSole}

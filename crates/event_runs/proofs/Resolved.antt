@@ -19,9 +19,9 @@ use Rattle.event_model.specs.Writes.{Values, Span, Write, all_written, bit_insid
 use Rattle.event_laws.specs.Steady.{AreLawful, HaveWidths, IsWithin}
 use Rattle.event_laws.proofs.Inside.{AreSelections, at_most, has_width, nets_within, writes_within}
 use Rattle.event_laws.proofs.Lengths.{have_written}
-use Rattle.body_laws.proofs.Sizes.{selected_length, zip_length}
-use Rattle.body_laws.proofs.Targets.{IsOver, none_over, part_over, place_of, target_may}
-use Rattle.body_laws.proofs.Written.{covered, covers_from, written_in, written_out}
+use Rattle.event_laws.proofs.Sizes.{selected_length, zip_length}
+use Rattle.event_laws.proofs.Targets.{IsOver, none_over, part_over, place_of, target_may}
+use Rattle.event_laws.proofs.Written.{covered, covers_from, written_in, written_out}
 use Rattle.event_runs.proofs.Writes.{have_all, kept}
 
 -- ---- writes that show given values

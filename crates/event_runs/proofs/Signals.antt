@@ -16,8 +16,8 @@ use Rattle.rtl_flat.specs.Signs.{Has}
 use Rattle.rtl_flat.proofs.Paths.{decided}
 use Rattle.event_model.specs.Queue.{Flat, doing_at, is_assignment, is_body, is_input, is_input_kind, is_input_of, widths}
 use Rattle.event_laws.specs.Steady.{AreLawful}
-use Rattle.body_laws.proofs.Laws.{writes_variables}
-use Rattle.body_laws.proofs.Within.{target_has}
+use Rattle.event_laws.proofs.Laws.{writes_variables}
+use Rattle.event_laws.proofs.Within.{target_has}
 use Rattle.event_runs.proofs.May.{late_may}
 use Rattle.event_runs.proofs.Writers.{from_process, of_process}
 

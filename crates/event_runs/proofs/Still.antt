@@ -14,8 +14,8 @@ use Rattle.event_model.specs.Traces.{FollowsPath, Same, covers, makes_now}
 use Rattle.event_model.specs.Writes as writes
 use Rattle.event_model.specs.Writes.{Values, all_written}
 use Rattle.event_laws.specs.Steady.{AreLawful, HaveWidths, IsWithin}
-use Rattle.body_laws.specs.Laws.{AgreeOutside, RunAlike, after_body}
-use Rattle.body_laws.proofs.Laws.{depends, have_made, made_alike, made_out, may_now, writes_variables}
+use Rattle.event_laws.specs.Laws.{AgreeOutside, RunAlike, after_body}
+use Rattle.event_laws.proofs.Laws.{depends, have_made, made_alike, made_out, may_now, writes_variables}
 use Rattle.event_runs.specs.Effects.{evaluates, event_writes, heard, nows, run_made, runs}
 use Rattle.event_runs.specs.Plain.{AreStill, AreUnheard, IsConsistent, IsPlain, ran_after, ran_by}
 use Rattle.event_runs.specs.Writers.{CanWrite, IsOrderly}

@@ -21,9 +21,9 @@ use Rattle.event_model.specs.Writes.{Values, Write, no_drive, put, span_of, writ
 use Rattle.event_laws.specs.Steady.{AreLawful, IsWithin}
 use Rattle.event_laws.proofs.Inside.{AreSelections, nets_within, part_count}
 use Rattle.event_laws.proofs.Made.{body_within}
-use Rattle.body_laws.proofs.Laws.{may_now}
-use Rattle.body_laws.proofs.Targets.{IsOver, left_within, none_over, part_may, right_within}
-use Rattle.body_laws.proofs.Written.{covered}
+use Rattle.event_laws.proofs.Laws.{may_now}
+use Rattle.event_laws.proofs.Targets.{IsOver, left_within, none_over, part_may, right_within}
+use Rattle.event_laws.proofs.Written.{covered}
 use Rattle.event_runs.specs.Effects.{drive_writes, event_writes, first_update, input_writes, nows, run_made, update_writes}
 use Rattle.event_runs.specs.Writers.{CanWrite, IsLateBit, IsOrderly, are_over}
 use Rattle.event_runs.proofs.Writes.{nows_cover, nows_within}

@@ -14,7 +14,7 @@ use Rattle.event_laws.specs.Steady.{HaveWidths, IsWithin}
 use Rattle.event_laws.proofs.Lengths.{have_written}
 use Rattle.event_laws.proofs.Made.{IsMadeWithin}
 use Rattle.event_laws.proofs.Unheard.{unheard_list}
-use Rattle.body_laws.proofs.Written.{written_out}
+use Rattle.event_laws.proofs.Written.{written_out}
 use Rattle.event_runs.specs.Effects.{heard, laters, nows}
 use Rattle.event_runs.specs.Writers.{are_over}
 

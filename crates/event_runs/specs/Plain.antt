@@ -7,7 +7,7 @@ use Rattle.rtl_flat.specs.Process.{Actions, Watched, Comb}
 use Rattle.event_model.specs.Queue.{Flat, State, Event, doing_at, widths}
 use Rattle.event_model.specs.Traces.{FollowsPath, Same}
 use Rattle.event_model.specs.Writes.{Values}
-use Rattle.body_laws.specs.Laws.{after_body}
+use Rattle.event_laws.specs.Laws.{after_body}
 use Rattle.net_model.specs.Solution.{IsLasting}
 use Rattle.event_runs.specs.Effects.{runs}
 use Rattle.event_runs.specs.Writers.{IsSole}

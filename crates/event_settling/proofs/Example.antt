@@ -24,7 +24,7 @@ use Rattle.event_model.specs.Queue.{Flat, doing_at, widths}
 use Rattle.net_model.specs.Control.{InCone, IsFromTop, Itself}
 use Rattle.event_laws.specs.Steady.{AreLawful}
 use Rattle.event_laws.proofs.Steady.{lawful_processes}
-use Rattle.body_laws.proofs.Within.{may_read_outside}
+use Rattle.event_laws.proofs.Within.{may_read_outside}
 use Rattle.event_runs.proofs.Writers.{to_process}
 use Rattle.event_settling.specs.Conditions.{AreRulesKept}
 use Rattle.event_settling.specs.Settling.{AlwaysSettles, IsSettling}

@@ -16,7 +16,7 @@ use Rattle.event_model.specs.Traces.{covers}
 use Rattle.event_model.specs.Writes.{Values, Write, written}
 use Rattle.event_laws.specs.Steady.{HaveWidths, IsWithin}
 use Rattle.event_laws.proofs.Lengths.{have_written}
-use Rattle.body_laws.proofs.Written.{written_out}
+use Rattle.event_laws.proofs.Written.{written_out}
 use Rattle.event_runs.specs.Effects.{heard}
 
 -- the bits that a process listens to

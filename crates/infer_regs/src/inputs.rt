@@ -10,7 +10,7 @@ use check_clocks::links::rows_of;
 use check_clocks::passed::passing_links;
 use check_clocks::reach::reached;
 use check_clocks::tops::is_top;
-use check_scans::scans::Scans;
+use check_found::scans::Scans;
 use rtl_flat::design::Design;
 use rtl_flat::expr::SigId;
 use rtl_tree::memory::Memory;

@@ -19,8 +19,8 @@ use Rattle.event_model.specs.Writes.{Values, Write, all_written, count_of, count
 use Rattle.event_laws.specs.Steady.{IsWithin}
 use Rattle.event_laws.proofs.Inside.{writes_within}
 use Rattle.event_laws.proofs.Lengths.{written_length}
-use Rattle.body_laws.proofs.Targets.{IsOver, none_over, target_may, target_over}
-use Rattle.body_laws.proofs.Written.{bit_kept, bit_written}
+use Rattle.event_laws.proofs.Targets.{IsOver, none_over, target_may, target_over}
+use Rattle.event_laws.proofs.Written.{bit_kept, bit_written}
 use Rattle.net_model.specs.declared.fill.Fill.{Fill}
 use Rattle.net_model.specs.Block.{digit_writes, span_by}
 use Rattle.net_model.specs.Numbers.{bit}

@@ -14,7 +14,7 @@ use Rattle.event_model.specs.Bodies.{Made, Now, after_made, assigned}
 use Rattle.event_model.specs.Queue.{Flat, widths}
 use Rattle.event_model.specs.Traces.{covers, makes, makes_late, makes_now}
 use Rattle.event_model.specs.Writes.{Values, Write}
-use Rattle.body_laws.proofs.Written.{AreMadeWithin, kept_after}
+use Rattle.event_laws.proofs.Written.{AreMadeWithin, kept_after}
 use Rattle.net_model.specs.Block.{Maps, arm_bits, arms_late, arms_write, fresh, joined_arms, with_bits, write_each, write_next, write_now}
 use Rattle.net_model.specs.Numbers.{AreNumbers, bit}
 use Rattle.net_laws.specs.Laws.{last_written, late_writes}

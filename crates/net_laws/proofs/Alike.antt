@@ -11,8 +11,8 @@ use Rattle.event_model.specs.Bodies.{body_made}
 use Rattle.event_model.specs.Queue.{Flat, widths}
 use Rattle.event_model.specs.Traces.{Same, makes_late, makes_now}
 use Rattle.event_model.specs.Writes.{Values}
-use Rattle.body_laws.specs.Laws.{AgreeOutside, after_body}
-use Rattle.body_laws.proofs.Laws.{depends, made_alike, sure_made}
+use Rattle.event_laws.specs.Laws.{AgreeOutside, after_body}
+use Rattle.event_laws.proofs.Laws.{depends, made_alike, sure_made}
 use Rattle.net_model.specs.Numbers.{AreNumbers, bit}
 use Rattle.net_laws.specs.Laws.{last_late, last_written, late_writes}
 use Rattle.net_laws.specs.Tame.{AreTame}

@@ -18,7 +18,7 @@ use Rattle.rtl_flat.specs.WellFormed.{AreBranches, IsAction, IsBody, IsOtherwise
 use Rattle.event_model.specs.Bodies.{some_matches}
 use Rattle.event_model.specs.Queue.{Flat, widths}
 use Rattle.event_model.specs.Writes.{Values}
-use Rattle.body_laws.proofs.Sizes.{value_size}
+use Rattle.event_laws.proofs.Sizes.{value_size}
 use Rattle.net_model.specs.declared.fill.Fill.TheVariants as fill
 use Rattle.net_model.specs.Numbers.{AreNumbers}
 use Rattle.net_laws.specs.Rules.{AreApart, AreDisjoint, EachIn, EachItem, EachOf, EachOther, HasDisjoint}

@@ -24,7 +24,7 @@ use Rattle.event_model.specs.Traces.{makes_late, makes_now}
 use Rattle.event_model.specs.Writes.{Values, bit_inside, count_of, counts, span_of, write_at, writes}
 use Rattle.event_laws.proofs.Inside.{AreSelections}
 use Rattle.event_laws.proofs.Made.{body_within}
-use Rattle.body_laws.proofs.Sure.{may_late, may_now}
+use Rattle.event_laws.proofs.Sure.{may_late, may_now}
 use Rattle.net_model.specs.declared.fill.Fill.{Fill}
 use Rattle.net_model.specs.Block.{Maps, act, act_arms, act_first, act_other, acts, digit_writes, filled_case, fresh, item_meets, joined_arms, some_meets, span_by, write_each}
 use Rattle.net_model.specs.Numbers.{AreNumbers, digits, is_literal, label_digits}

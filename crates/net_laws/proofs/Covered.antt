@@ -22,7 +22,7 @@ use Rattle.rtl_flat.specs.WellFormed.{AreBranches}
 use Rattle.event_model.specs.Bodies.{some_matches}
 use Rattle.event_model.specs.Queue.{Flat, widths}
 use Rattle.event_model.specs.Writes.{Values}
-use Rattle.body_laws.proofs.Sizes.{value_size}
+use Rattle.event_laws.proofs.Sizes.{value_size}
 use Rattle.net_model.specs.declared.fill.Fill.TheVariants as fill
 use Rattle.net_model.specs.Numbers.{AreNumbers}
 use Rattle.net_laws.specs.Tame.{IsFirm}

@@ -28,7 +28,7 @@ use Rattle.event_laws.specs.Steady.{HaveWidths, IsWithin}
 use Rattle.event_laws.proofs.Agreement.{value_agrees}
 use Rattle.event_laws.proofs.Inside.{AreSelections, at_most, has_width}
 use Rattle.event_laws.proofs.Lengths.{have_written}
-use Rattle.body_laws.proofs.Written.{written_in, written_out}
+use Rattle.event_laws.proofs.Written.{written_in, written_out}
 use Rattle.net_model.specs.declared.fill.Fill.{Fill}
 use Rattle.net_model.specs.Block.{Maps, act, act_arms, act_first, act_other, acts, arm_bits, arms_late, arms_write, bit_after, digit_writes, filled_case, fresh, item_meets, joined_arms, some_meets, span_by, with_bits, write_each, write_next, write_now}
 use Rattle.net_model.specs.Numbers.{bit, digits, fill_bit, filled, filled_bit, is_literal, label_digits, label_meets}

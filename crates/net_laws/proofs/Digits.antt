@@ -10,7 +10,7 @@ use Rattle.rtl_flat.specs.Sizes.{IsSized, width_of}
 use Rattle.rtl_flat.specs.Value.{joined, value}
 use Rattle.event_model.specs.Queue.{Flat, widths}
 use Rattle.event_model.specs.Writes.{Values}
-use Rattle.body_laws.proofs.Sizes.{extended_length, value_size}
+use Rattle.event_laws.proofs.Sizes.{extended_length, value_size}
 use Rattle.net_model.specs.declared.fill.Fill.{Fill}
 use Rattle.net_model.specs.declared.fill.Fill.TheVariants as fill
 use Rattle.net_model.specs.Numbers.{AreNumbers, digits, fill_bit, filled, filled_bit}

@@ -12,7 +12,7 @@ use Rattle.rtl_flat.specs.Sizes.{IsSized, width_of}
 use Rattle.rtl_flat.specs.Value.{bit_at, bit_by, chosen, compared, folded, index_number, joined, linked, shifted, turned, value}
 use Rattle.event_model.specs.Queue.{Flat, widths}
 use Rattle.event_model.specs.Writes.{Values}
-use Rattle.body_laws.proofs.Sizes.{value_size}
+use Rattle.event_laws.proofs.Sizes.{value_size}
 use Rattle.net_model.specs.declared.fill.Fill.{Fill}
 use Rattle.net_model.specs.Numbers.{AreNumbers, digits, filled, filled_bit}
 use Rattle.net_laws.specs.Laws.{IsExact}

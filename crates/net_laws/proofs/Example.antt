@@ -21,7 +21,7 @@ use Rattle.rtl_flat.specs.WellFormed.{AreBranches, IsAssignment, IsBody, IsSelec
 use Rattle.rtl_flat.proofs.Paths.{decided}
 use Rattle.event_model.specs.Queue.{Flat, widths}
 use Rattle.event_model.specs.Writes.{Values}
-use Rattle.body_laws.specs.Laws.{after_body}
+use Rattle.event_laws.specs.Laws.{after_body}
 use Rattle.net_model.specs.declared.fill.Fill.{Fill}
 use Rattle.net_model.specs.declared.fill.Fill.TheVariants as fill
 use Rattle.net_model.specs.Block.{block_bit}

@@ -15,7 +15,7 @@ use Rattle.event_model.specs.Writes.{Values, Write, all_written, written}
 use Rattle.event_laws.specs.Steady.{HaveWidths, IsWithin}
 use Rattle.event_laws.proofs.Lengths.{have_written}
 use Rattle.event_laws.proofs.Made.{IsMadeWithin}
-use Rattle.body_laws.proofs.Written.{AreMadeWithin, covered, written_in, written_out}
+use Rattle.event_laws.proofs.Written.{AreMadeWithin, covered, written_in, written_out}
 use Rattle.net_model.specs.Numbers.{bit}
 use Rattle.net_laws.specs.Laws.{last_written, late_writes}
 use Rattle.net_laws.proofs.Known.{KnownBit, known_at}

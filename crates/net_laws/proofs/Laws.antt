@@ -13,7 +13,7 @@ use Rattle.event_model.specs.Queue.{Flat, widths}
 use Rattle.event_model.specs.Traces.{Same, makes_late}
 use Rattle.event_model.specs.Writes.{Values}
 use Rattle.event_laws.proofs.Made.{body_within}
-use Rattle.body_laws.proofs.Sure.{may_late}
+use Rattle.event_laws.proofs.Sure.{may_late}
 use Rattle.net_model.specs.declared.fill.Fill.{Fill}
 use Rattle.net_model.specs.declared.fill.Fill.TheVariants as fill
 use Rattle.net_model.specs.Block.{acts, begun}

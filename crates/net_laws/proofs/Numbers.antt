@@ -13,7 +13,7 @@ use Rattle.event_model.specs.Bodies.{Made, Now, Later, after_made, assigned, bod
 use Rattle.event_model.specs.Queue.{Flat, widths}
 use Rattle.event_model.specs.Writes.{Values, Write, Span, count_of, counts, span_of, write_at, writes, written}
 use Rattle.event_laws.proofs.Made.{body_within, made_within}
-use Rattle.body_laws.proofs.Written.{AreMadeWithin, have_after}
+use Rattle.event_laws.proofs.Written.{AreMadeWithin, have_after}
 use Rattle.net_model.specs.declared.fill.Fill.TheVariants as fill
 use Rattle.net_model.specs.Numbers.{AreNumbers}
 use Rattle.net_laws.specs.Tame.{AreTame, AreTameItems, IsTame, IsTameOther}

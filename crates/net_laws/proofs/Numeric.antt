@@ -20,7 +20,7 @@ use Rattle.event_model.specs.Traces.{covers}
 use Rattle.event_model.specs.Writes.{Values, Write, count_of, counts, write_at}
 use Rattle.event_laws.specs.Steady.{IsWithin}
 use Rattle.event_laws.proofs.Lengths.{have_written}
-use Rattle.body_laws.proofs.Written.{covered}
+use Rattle.event_laws.proofs.Written.{covered}
 use Rattle.net_model.specs.declared.fill.Fill.{Fill}
 use Rattle.net_model.specs.Block.{Maps, act, act_arms, act_first, act_other, acts, arm_bits, arms_late, arms_write, bit_after, digit_writes, filled_case, fresh, item_meets, joined_arms, some_meets, span_by, with_bits, write_each, write_next, write_now}
 use Rattle.net_model.specs.Numbers.{AreNumbers, bit, digits, fill_bit}

@@ -6,7 +6,7 @@ use Rattle.rtl_flat.specs.Paths.{Step, Flow, End, Do, Fork, Ways, Last, More, Ma
 use Rattle.rtl_flat.specs.Process.{Piece, Selection, Whole, BitAt, BitBy, Part, Action, Set, If, Case, Block, Actions, Done, Then, Otherwise, Without, With, Branches, NoBranch, Branch}
 use Rattle.rtl_flat.proofs.Flows.{some_action}
 use Rattle.rtl_flat.proofs.Paths.{decided}
-use Rattle.body_laws.proofs.Traced.{some_of}
+use Rattle.event_laws.proofs.Traced.{some_of}
 
 or_map : (a b c e : Bool) → (a ≡ true → c ≡ true) → (b ≡ true → e ≡ true) → (a || b) ≡ true → (c || e) ≡ true
 or_map a b c e left right h =

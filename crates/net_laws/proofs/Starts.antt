@@ -13,7 +13,7 @@ use Rattle.event_model.specs.Queue.{Flat, widths}
 use Rattle.event_model.specs.Traces.{Same}
 use Rattle.event_model.specs.Writes.{Values}
 use Rattle.event_laws.specs.Steady.{HaveWidths}
-use Rattle.body_laws.proofs.Within as within
+use Rattle.event_laws.proofs.Within as within
 use Rattle.net_model.specs.Numbers.{bit}
 use Rattle.net_model.specs.Solution.{start}
 

@@ -19,7 +19,7 @@ use Rattle.event_model.specs.Queue.{Flat, widths}
 use Rattle.event_model.specs.Traces.{FollowsPath, Same, covers}
 use Rattle.event_model.specs.Writes.{Values, Write, all_written}
 use Rattle.event_laws.specs.Steady.{HaveWidths}
-use Rattle.body_laws.specs.Laws.{AgreeOutside, after_body}
+use Rattle.event_laws.specs.Laws.{AgreeOutside, after_body}
 use Rattle.net_model.specs.declared.fill.Fill.{Fill}
 use Rattle.net_model.specs.declared.fill.Fill.TheVariants as fill
 use Rattle.net_model.specs.Block.{block_bit}

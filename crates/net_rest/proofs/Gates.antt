@@ -25,10 +25,10 @@ use Rattle.event_model.specs.Writes.{Span, Values, count_of, counts, driven, no_
 use Rattle.event_laws.specs.Steady.{HaveWidths}
 use Rattle.event_laws.proofs.Agreement.{value_agrees}
 use Rattle.event_laws.proofs.Inside.{writes_within}
-use Rattle.body_laws.specs.Laws.{AgreeOutside, MakesNow, RunAlike, after_body}
-use Rattle.body_laws.proofs.Laws.{depends, made_alike, made_out, may_late, may_now, outside_inside, sure_made, value_size, writes_inside}
-use Rattle.body_laws.proofs.Targets.{same_count, target_over}
-use Rattle.body_laws.proofs.Written.{covered}
+use Rattle.event_laws.specs.Laws.{AgreeOutside, MakesNow, RunAlike, after_body}
+use Rattle.event_laws.proofs.Laws.{depends, made_alike, made_out, may_late, may_now, outside_inside, sure_made, value_size, writes_inside}
+use Rattle.event_laws.proofs.Targets.{same_count, target_over}
+use Rattle.event_laws.proofs.Written.{covered}
 use Rattle.net_model.specs.declared.fill.Fill.{Fill}
 use Rattle.net_model.specs.Block.{block_bit}
 use Rattle.net_model.specs.Numbers.{AreNumbers, bit, digits}

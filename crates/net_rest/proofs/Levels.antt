@@ -15,7 +15,7 @@ use Rattle.rtl_flat.proofs.Paths.{decided}
 use Rattle.event_model.specs.Queue.{Flat, doing_at, doing_of, is_input, widths}
 use Rattle.event_laws.specs.Steady.{AreLawful}
 use Rattle.net_model.specs.Solution.{IsLasting, IsRegisterBit}
-use Rattle.body_laws.proofs.Within.{may_read_outside, outside_inside, reads_inside}
+use Rattle.event_laws.proofs.Within.{may_read_outside, outside_inside, reads_inside}
 use Rattle.event_runs.proofs.Writers.{of_process, to_process}
 use Rattle.net_rest.specs.Rest.{IsFromOutside, IsOthers, IsSolvable}
 

@@ -17,8 +17,8 @@ use Rattle.event_model.specs.Queue.{Flat, doing_at, is_input, widths}
 use Rattle.event_model.specs.Traces.{FollowsPath, Same}
 use Rattle.event_model.specs.Writes.{Values, driven}
 use Rattle.event_laws.specs.Steady.{HaveWidths}
-use Rattle.body_laws.specs.Laws.{after_body}
-use Rattle.body_laws.proofs.Laws.{writes_inside}
+use Rattle.event_laws.specs.Laws.{after_body}
+use Rattle.event_laws.proofs.Laws.{writes_inside}
 use Rattle.net_model.specs.declared.fill.Fill.{Fill}
 use Rattle.net_model.specs.declared.fill.Fill.TheVariants as fill
 use Rattle.net_model.specs.Block.{block_bit}

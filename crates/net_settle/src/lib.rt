@@ -1,4 +1,6 @@
-//! Steps of the netlist that set data inputs.
+//! Steps of the netlist that set data inputs, and what its processes without edges, worked out in
+//! order, then make.
 #![tactic(auto)]
 
 pub mod settle;
+pub mod work;

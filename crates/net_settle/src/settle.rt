@@ -6,13 +6,13 @@ ghost use Rattle.rtl_flat.specs.Value.{store};
 ghost use Rattle.event_model.specs.Queue.{flat};
 ghost use Rattle.net_model.specs.Cycle as cycle;
 ghost use Rattle.net_solve.specs.Laws.{AreApart, IsOrder};
-ghost use Rattle.net_work.specs.Work.{IsAble, numbers_of};
+ghost use Rattle.net_settle.specs.Work.{IsAble, numbers_of};
 ghost use Rattle.net_settle.specs.Settle.{IsSolved, MakesCycle, SetsInput, setting_view};
 
+use crate::work::work;
 use event_model::setting::Setting;
 use net_body::Maps;
 use net_model::fill::Fill;
-use net_work::work::work;
 use rtl_flat::act::ProcId;
 
 /// Sets one input.

@@ -19,7 +19,7 @@ use Rattle.event_model.specs.Writes.{Values, put}
 use Rattle.event_laws.specs.Steady.{AreLawful}
 use Rattle.event_laws.proofs.Lengths.{put_at, put_other}
 use Rattle.event_runs.proofs.Writers.{of_process}
-use Rattle.body_laws.proofs.Within as within
+use Rattle.event_laws.proofs.Within as within
 use Rattle.net_model.specs.declared.fill.Fill.{Fill}
 use Rattle.net_model.specs.Numbers.{AreNumbers, bit}
 use Rattle.net_laws.proofs.Known.{Known, KnownBit, known_at, known_each}
@@ -27,7 +27,7 @@ use Rattle.net_laws.proofs.Laws.{block_known}
 use Rattle.net_rest.proofs.Numbers.{past_ends}
 use Rattle.net_solve.specs.Laws.{AreApart}
 use Rattle.net_solve.proofs.Same.{its_target}
-use Rattle.net_work.proofs.Stays.{block_stays}
+use Rattle.net_settle.proofs.Stays.{block_stays}
 use Rattle.net_body.specs.Ends.{changed}
 use Rattle.net_body.proofs.Changed.{changed_at, xor_left, xor_taken}
 use Rattle.net_body.proofs.Ended.{changed_number}

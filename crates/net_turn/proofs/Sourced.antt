@@ -24,7 +24,7 @@ use Rattle.net_list.proofs.Formed.{are_chains, task_of}
 use Rattle.net_body.specs.Levels.{levels_of}
 use Rattle.net_settle.proofs.Given.{input_there}
 use Rattle.net_solve.specs.Laws.{place}
-use Rattle.net_work.proofs.Lawful.{lawful_flat}
+use Rattle.net_settle.proofs.Lawful.{lawful_flat}
 use Rattle.net_turn.specs.Runs.{numbers_of}
 use Rattle.net_turn.specs.Sources.{AreFrom, AreSources, CanRun, IsFrom, IsSource, processes_of}
 use Rattle.net_turn.proofs.Bridges.{behind, is_top}

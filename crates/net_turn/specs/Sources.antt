@@ -17,7 +17,7 @@ use Rattle.net_list.specs.declared.clocked.Clocked.{Clocked}
 use Rattle.net_body.specs.declared.maps.Maps.{Maps}
 use Rattle.net_body.specs.Ready.{HasRoom}
 use Rattle.net_solve.specs.Laws.{place}
-use Rattle.net_work.specs.Work.{IsAble}
+use Rattle.net_settle.specs.Work.{IsAble}
 use Rattle.net_turn.specs.Runs.{IsPartOf, numbers_of}
 
 -- ---- what a run stands on

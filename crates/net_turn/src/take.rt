@@ -8,7 +8,7 @@ ghost use Rattle.event_model.specs.Queue.{flat, widths};
 ghost use Rattle.net_model.specs.Numbers.{AreNumbers};
 ghost use Rattle.net_body.specs.Ends.{changed};
 ghost use Rattle.net_solve.specs.Laws.{AreApart};
-ghost use Rattle.net_work.specs.Work.{IsAble};
+ghost use Rattle.net_settle.specs.Work.{IsAble};
 ghost use Rattle.net_turn.specs.Runs.{ArePut, AreRuns, run_bit, run_of, runs_of, turned};
 ghost use Rattle.net_turn.specs.Sources.{CanRun};
 

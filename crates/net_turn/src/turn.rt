@@ -6,7 +6,7 @@ ghost use Rattle.rtl_flat.specs.Value.{store};
 ghost use Rattle.event_model.specs.Queue.{flat};
 ghost use Rattle.net_model.specs.Cycle as cycle;
 ghost use Rattle.net_solve.specs.Laws.{AreApart, IsOrder};
-ghost use Rattle.net_work.specs.Work.{IsAble, numbers_of};
+ghost use Rattle.net_settle.specs.Work.{IsAble, numbers_of};
 ghost use Rattle.net_settle.specs.Settle.{SetsInput, setting_view};
 ghost use Rattle.net_turn.specs.Sources.{CanRun};
 ghost use Rattle.net_turn.specs.Steps.{Begins, Turns};
@@ -16,7 +16,7 @@ use event_model::setting::Setting;
 use net_body::Maps;
 use net_list::clocked::Clocked;
 use net_model::fill::Fill;
-use net_work::work::work;
+use net_settle::work::work;
 use rtl_bits::Vec4;
 use rtl_flat::act::ProcId;
 

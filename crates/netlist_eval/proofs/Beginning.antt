@@ -17,7 +17,7 @@ use Rattle.net_list.specs.declared.netlist.Netlist.{Netlist}
 use Rattle.net_body.specs.declared.maps.Maps.{Maps}
 use Rattle.net_body.specs.Levels.{process_levels}
 use Rattle.net_body.specs.Ready.{IsReady}
-use Rattle.net_work.specs.Work.{IsAble}
+use Rattle.net_settle.specs.Work.{IsAble}
 use Rattle.net_turn.specs.Steps.{AreFilled, Begins}
 use Rattle.net_turn.proofs.Sourced.{sources}
 use Rattle.netlist_eval.specs.Netlists.{chains_in, flat_in}

@@ -13,7 +13,7 @@ use Rattle.net_model.specs.Solution.{IsSolution}
 use Rattle.net_list.specs.declared.clocked.Clocked.{Clocked}
 use Rattle.net_body.specs.declared.maps.Maps.{Maps}
 use Rattle.net_solve.specs.Laws.{AreApart}
-use Rattle.net_work.specs.Work.{IsAble}
+use Rattle.net_settle.specs.Work.{IsAble}
 use Rattle.net_settle.specs.Settle.{SetsInput}
 use Rattle.net_turn.specs.Sources.{CanRun}
 use Rattle.netlist_eval.specs.Steps.{Starts}

@@ -18,7 +18,7 @@ use Rattle.net_model.specs.Lawful.{IsLawfulStep, SetsData}
 use Rattle.net_list.specs.declared.netlist.Netlist.{Netlist}
 use Rattle.net_body.specs.declared.maps.Maps.{Maps}
 use Rattle.net_solve.specs.Laws.{AreApart, IsOrder}
-use Rattle.net_work.specs.Work.{IsAble, numbers_of}
+use Rattle.net_settle.specs.Work.{IsAble, numbers_of}
 use Rattle.net_settle.specs.Settle.{IsSolved, MakesCycle, SetsInput}
 use Rattle.net_turn.proofs.Bridges.{apart}
 use Rattle.net_turn.proofs.Sourced.{can_run, sources}

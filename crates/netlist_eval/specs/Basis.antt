@@ -5,7 +5,7 @@ use Rattle.event_model.specs.Queue.{Flat}
 use Rattle.net_model.specs.Control.{IsControl}
 use Rattle.net_solve.specs.Laws.{IsOrder}
 use Rattle.net_start.specs.Stored.{AreInputs, AreStored, places}
-use Rattle.net_work.specs.Work.{numbers_of}
+use Rattle.net_settle.specs.Work.{numbers_of}
 use Rattle.netlist_eval.specs.declared.basis.Basis.{Basis}
 use Rattle.netlist_eval.specs.Steps.{HasNoCycle}
 

@@ -9,7 +9,7 @@ use Rattle.net_model.specs.Control.{IsControl}
 use Rattle.net_list.specs.declared.netlist.Netlist.{Netlist}
 use Rattle.net_solve.specs.Laws.{IsOrder}
 use Rattle.net_body.specs.declared.maps.Maps.{Maps}
-use Rattle.net_work.specs.Work.{IsAble, numbers_of}
+use Rattle.net_settle.specs.Work.{IsAble, numbers_of}
 use Rattle.net_settle.specs.Settle.{IsSolved}
 use Rattle.netlist_eval.specs.Netlists.{flat_in}
 

@@ -4,7 +4,7 @@ ghost use Rattle.std.specs.Prelude.{ℕ, ◌≡◌, ◌↔◌, false, true, slic
 ghost use Rattle.event_model.specs.Queue.{flat};
 ghost use Rattle.net_model.specs.Control.{IsControl};
 ghost use Rattle.net_solve.specs.Laws.{IsOrder};
-ghost use Rattle.net_work.specs.Work.{numbers_of};
+ghost use Rattle.net_settle.specs.Work.{numbers_of};
 ghost use Rattle.net_start.specs.Stored.{places};
 ghost use Rattle.netlist_eval.specs.Steps.{HasNoCycle, IsOrderFault};
 

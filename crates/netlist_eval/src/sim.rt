@@ -52,7 +52,7 @@ impl<'n> NetSim<'n> {
     ghost use Rattle.net_model.specs.Lawful.{SetsData, TurnsControl};
     ghost use Rattle.net_model.specs.Numbers.{AreNumbers};
     ghost use Rattle.net_solve.specs.Laws.{IsOrder};
-    ghost use Rattle.net_work.specs.Work.{numbers_of};
+    ghost use Rattle.net_settle.specs.Work.{numbers_of};
     ghost use Rattle.net_settle.specs.Settle.{SetsInput, setting_view};
     ghost use Rattle.net_turn.specs.Steps.{AreFilled};
     ghost use Rattle.net_start.specs.Start.{AreKnown, AreValues};

@@ -1,5 +1,5 @@
 -- Which labels of a case match (IEEE 1364-2001 section 9.5).
--- Worked examples: crates/body_laws/proofs/Example.antt.
+-- Worked examples: crates/event_laws/proofs/BodyExample.antt.
 use Rattle.std.specs.Prelude.{Bool, List}
 use Rattle.rtl_bits.specs.declared.Bit.{Bit}
 use Rattle.rtl_bits.specs.Bits.{all_with, same_bit, matches_but_z, may_equal}

@@ -1,6 +1,6 @@
 -- Paths through a body, and what holds on some path or on every path. A path takes one branch at
 -- each place where a body parts; it is the list of its reads and writes.
--- Worked examples: crates/body_laws/proofs/Example.antt.
+-- Worked examples: crates/event_laws/proofs/BodyExample.antt.
 use Rattle.std.specs.Prelude.{ℕ, ◌≡◌, Bool, true, false, not, ◌&&◌, ◌||◌, ◌↔◌, ◌⊎◌, List, [], ◌∷◌, ◌++◌}
 use Rattle.std.specs.List.{list_any}
 

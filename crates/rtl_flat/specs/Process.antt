@@ -1,5 +1,5 @@
 -- The plain form of processes: lists for vectors, trees for what a body holds.
--- Worked examples: crates/event_laws/proofs/Example.antt, crates/body_laws/proofs/Example.antt.
+-- Worked examples: crates/event_laws/proofs/Example.antt, crates/event_laws/proofs/BodyExample.antt.
 use Rattle.std.specs.Prelude.{ℕ, ℤ, Bool, List, [], ◌∷◌, map, Option, Some, None}
 use Rattle.rtl_bits.specs.declared.Edge.{Edge}
 use Rattle.rtl_tree.specs.declared.text.Spot.{Spot}

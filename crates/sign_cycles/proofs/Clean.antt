@@ -19,8 +19,8 @@ use Rattle.rtl_flat.specs.WellFormed.{IsAssignment, IsProcess, IsSelection, IsWa
 use Rattle.rtl_flat.proofs.Paths.{decided}
 use Rattle.event_model.specs.Queue.{doing_at, is_input, widths}
 use Rattle.event_laws.specs.Steady.{AreLawful}
-use Rattle.body_laws.proofs.Laws.{outside_inside}
-use Rattle.body_laws.proofs.Within.{may_read_outside}
+use Rattle.event_laws.proofs.Laws.{outside_inside}
+use Rattle.event_laws.proofs.Within.{may_read_outside}
 use Rattle.net_model.specs.declared.fill.Fill.{Fill}
 use Rattle.net_model.specs.Control.{InCone, IsFromTop, Itself, waits_for}
 use Rattle.net_model.specs.Cycle.{Guard}

@@ -22,8 +22,8 @@ use Rattle.event_model.specs.Queue.{Flat, State, IsAtRest, Reaches, doing_at, ha
 use Rattle.event_model.specs.Traces.{FollowsPath, Same, covers, makes_now}
 use Rattle.event_model.specs.Writes.{Values, Write, driven}
 use Rattle.event_laws.specs.Steady.{HaveWidths}
-use Rattle.body_laws.specs.Laws.{RunAlike, after_body}
-use Rattle.body_laws.proofs.Laws.{depends, made_out, may_now, writes_variables}
+use Rattle.event_laws.specs.Laws.{RunAlike, after_body}
+use Rattle.event_laws.proofs.Laws.{depends, made_out, may_now, writes_variables}
 use Rattle.net_model.specs.declared.fill.Fill.{Fill}
 use Rattle.net_model.specs.Block.{block_bit}
 use Rattle.net_model.specs.Control.{InCone, IsControl, IsReached, Itself, Through, waits_for}

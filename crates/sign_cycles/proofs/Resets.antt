@@ -22,9 +22,9 @@ use Rattle.event_model.specs.Traces.{Same, makes_late, makes_now}
 use Rattle.event_model.specs.Writes.{Values}
 use Rattle.event_laws.specs.Steady.{HaveWidths}
 use Rattle.event_laws.proofs.Agreement.{value_agrees}
-use Rattle.body_laws.specs.Laws.{Makes, after_body}
-use Rattle.body_laws.proofs.Laws.{depends, may_now, sure_made, writes_variables}
-use Rattle.body_laws.proofs.Within.{reads_inside}
+use Rattle.event_laws.specs.Laws.{Makes, after_body}
+use Rattle.event_laws.proofs.Laws.{depends, may_now, sure_made, writes_variables}
+use Rattle.event_laws.proofs.Within.{reads_inside}
 use Rattle.net_model.specs.declared.fill.Fill.{Fill}
 use Rattle.net_model.specs.Block.{block_bit}
 use Rattle.net_model.specs.Cycle.{Chain, Guard, IsChained, Tests, level, opened}

@@ -13,7 +13,7 @@ ghost use Rattle.check_all.specs.Findings.{AreAllFindings, IsClean, has_first_gr
 
 use crate::promise::vouch;
 use check_found::order::merged;
-use check_scans::scans::Scans;
+use check_found::scans::Scans;
 use rtl_flat::design::Design;
 use rtl_rule::finding::{Finding, Ruling};
 use rtl_rule::rule::first_grade;

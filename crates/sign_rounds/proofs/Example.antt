@@ -22,7 +22,7 @@ use Rattle.rtl_flat.proofs.Paths.{decided}
 use Rattle.event_model.specs.Queue.{Flat, Input, IsAtRest, Run, State, doing_at, is_input, power_up, widths}
 use Rattle.event_laws.specs.Steady.{AreLawful}
 use Rattle.event_laws.proofs.Steady.{lawful_processes}
-use Rattle.body_laws.proofs.Within.{may_read_outside}
+use Rattle.event_laws.proofs.Within.{may_read_outside}
 use Rattle.net_model.specs.declared.fill.Fill.TheVariants as fill
 use Rattle.net_model.specs.Solution.{IsLasting, IsRegisterBit}
 use Rattle.event_runs.specs.Plain.{IsPlain}

@@ -1,6 +1,6 @@
 use Rattle.std.proofs.lemmas.Result.{on_ok_weaker}
-use Rattle.desk_readings.specs.Readings.{first_refusal}
-use Rattle.desk_readings.specs.Shown.{modules_of, readings_of}
+use Rattle.desk_memo.specs.Readings.{first_refusal}
+use Rattle.desk_memo.specs.ShownReadings.{modules_of, readings_of}
 use Rattle.desk_memo.specs.Shown.{all_of, ruling_of}
 use Rattle.design_db.proofs.Kept.{known_kept}
 use Rattle.design_db.proofs.Whole.{rulings_kept, rulings_same}

@@ -1,6 +1,6 @@
 use Rattle.std.proofs.Common.{◌≡◌, take}
-use Rattle.desk_readings.specs.Readings.{file_at}
-use Rattle.desk_readings.specs.Shown.{readings_of}
+use Rattle.desk_memo.specs.Readings.{file_at}
+use Rattle.desk_memo.specs.ShownReadings.{readings_of}
 use Rattle.desk_memo.specs.Shown.{all_used, used_among}
 use Rattle.desk_memo.proofs.used.used_files.Given as goal
 

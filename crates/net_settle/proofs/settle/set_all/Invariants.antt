@@ -1,7 +1,7 @@
 use Rattle.std.proofs.Common.{◌≡◌, map, take}
 use Rattle.rtl_flat.specs.Value.{store}
 use Rattle.net_model.specs.Cycle.{given_after}
-use Rattle.net_work.specs.Work.{IsAble}
+use Rattle.net_settle.specs.Work.{IsAble}
 use Rattle.net_settle.specs.Settle.{setting_view}
 use Rattle.net_settle.proofs.settle.set_all.Given as goal
 

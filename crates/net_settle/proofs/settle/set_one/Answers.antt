@@ -2,7 +2,7 @@ use Rattle.std.proofs.Common.{sym, subst}
 use Rattle.rtl_flat.specs.Value.{store}
 use Rattle.event_model.specs.Queue.{flat}
 use Rattle.net_model.specs.Numbers.{AreNumbers}
-use Rattle.net_work.proofs.Able.{able_after}
+use Rattle.net_settle.proofs.Able.{able_after}
 use Rattle.net_settle.specs.Settle.{setting_view}
 use Rattle.net_settle.proofs.Given.{input_there, one_numbers}
 use Rattle.net_settle.proofs.settle.set_one.Goals as goal

@@ -3,8 +3,8 @@ use Rattle.rtl_flat.specs.Value.{store}
 use Rattle.event_model.specs.Queue.{flat}
 use Rattle.net_model.specs.Cycle.{given_after}
 use Rattle.net_solve.specs.Laws.{AreApart, IsOrder}
-use Rattle.net_work.specs.Work.{Solves, numbers_of}
-use Rattle.net_work.proofs.Lawful.{lawful_flat}
+use Rattle.net_settle.specs.Work.{Solves, numbers_of}
+use Rattle.net_settle.proofs.Lawful.{lawful_flat}
 use Rattle.net_settle.specs.Settle.{setting_view}
 use Rattle.net_settle.proofs.Given.{data_begins, data_cycle}
 use Rattle.net_settle.proofs.settle.settle.Goals as goal

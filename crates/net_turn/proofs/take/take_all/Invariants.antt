@@ -2,7 +2,7 @@ use Rattle.std.proofs.Common.{◌≡◌, ℕ}
 use Rattle.rtl_flat.specs.Value.{store}
 use Rattle.event_model.specs.Queue.{flat}
 use Rattle.net_model.specs.Numbers.{AreNumbers}
-use Rattle.net_work.specs.Work.{IsAble}
+use Rattle.net_settle.specs.Work.{IsAble}
 use Rattle.net_turn.specs.Runs.{ArePut, AreRuns, runs_of, turned}
 use Rattle.net_turn.proofs.take.take_all.Given as goal
 

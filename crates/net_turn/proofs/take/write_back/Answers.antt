@@ -3,7 +3,7 @@ use Rattle.rtl_bits.specs.Bits.{has_unknown}
 use Rattle.rtl_flat.specs.Value.{store}
 use Rattle.event_model.specs.Queue.{flat, widths}
 use Rattle.net_model.specs.Numbers.{AreNumbers}
-use Rattle.net_work.proofs.Able.{able_after}
+use Rattle.net_settle.proofs.Able.{able_after}
 use Rattle.net_turn.proofs.Put.{put_numbers}
 use Rattle.net_turn.proofs.Steps.{all_same, done_more, read_is}
 use Rattle.net_turn.proofs.take.write_back.Goals as goal

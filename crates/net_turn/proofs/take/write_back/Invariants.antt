@@ -1,6 +1,6 @@
 use Rattle.std.proofs.Common.{◌≡◌, ◌<◌, ℕ}
 use Rattle.rtl_flat.specs.Value.{store}
-use Rattle.net_work.specs.Work.{IsAble}
+use Rattle.net_settle.specs.Work.{IsAble}
 use Rattle.net_turn.proofs.take.write_back.Given as goal
 
 abbrev pub invariant-loop-place : goal.invariant-loop-place

@@ -6,8 +6,8 @@ use Rattle.event_model.specs.Queue.{flat}
 use Rattle.net_model.specs.Numbers.{AreNumbers}
 use Rattle.net_settle.specs.Settle.{SetsInput}
 use Rattle.net_solve.specs.Laws.{AreApart, IsOrder}
-use Rattle.net_work.specs.Work.{Solves, numbers_of}
-use Rattle.net_work.proofs.Lawful.{lawful_flat}
+use Rattle.net_settle.specs.Work.{Solves, numbers_of}
+use Rattle.net_settle.proofs.Lawful.{lawful_flat}
 use Rattle.net_turn.proofs.Turned.{are_runs, begins, begun_is, input_given}
 use Rattle.net_turn.proofs.turn.begin.Goals as goal
 

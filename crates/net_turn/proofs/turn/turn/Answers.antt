@@ -8,9 +8,9 @@ use Rattle.net_model.specs.Numbers.{AreNumbers}
 use Rattle.net_settle.specs.Settle.{SetsInput, setting_view}
 use Rattle.net_settle.proofs.Given.{input_there}
 use Rattle.net_solve.specs.Laws.{AreApart, IsOrder}
-use Rattle.net_work.specs.Work.{Solves, numbers_of}
-use Rattle.net_work.proofs.Able.{able_after}
-use Rattle.net_work.proofs.Lawful.{lawful_flat}
+use Rattle.net_settle.specs.Work.{Solves, numbers_of}
+use Rattle.net_settle.proofs.Able.{able_after}
+use Rattle.net_settle.proofs.Lawful.{lawful_flat}
 use Rattle.net_turn.proofs.Put.{put_numbers}
 use Rattle.net_turn.proofs.Turned.{are_runs, begins, turn_cycle}
 use Rattle.net_turn.proofs.turn.turn.Goals as goal

@@ -1,6 +1,6 @@
 use Rattle.std.proofs.Common.{subst}
 use Rattle.std.specs.Prelude.{IfSome}
-use Rattle.desk_fresh.specs.Fresh.{IsFresh}
+use Rattle.desk_memo.specs.Fresh.{IsFresh}
 use Rattle.design_db.specs.Shown.{store}
 use Rattle.design_db.specs.Stores.{Store, answer_of, circuits_in}
 use Rattle.design_db.proofs.Kept.{are_fresh}

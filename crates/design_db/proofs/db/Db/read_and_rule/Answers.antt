@@ -2,9 +2,9 @@ use Rattle.std.proofs.Common.{◌≡◌, ◌∙◌, List, ap, arith, subst, sym}
 use Rattle.std.specs.Prelude.{IsSome}
 use Rattle.desk_files.specs.Shown.{list_of}
 use Rattle.desk_files.specs.declared.files.SourceFile.{SourceFile}
-use Rattle.desk_fresh.specs.Fresh.{texts_in}
-use Rattle.desk_readings.specs.Readings.{AreDefined, changed_count}
-use Rattle.desk_readings.specs.Shown.{modules_of, readings_of}
+use Rattle.desk_memo.specs.Fresh.{texts_in}
+use Rattle.desk_memo.specs.Readings.{AreDefined, changed_count}
+use Rattle.desk_memo.specs.ShownReadings.{modules_of, readings_of}
 use Rattle.desk_memo.specs.Rulings.{current_of}
 use Rattle.design_db.specs.Stores.{Store, all_rulings, changed_in}
 use Rattle.design_db.proofs.Whole.{is_found_now, is_read_now}

@@ -1,6 +1,6 @@
 use Rattle.std.proofs.Common.{◌∙◌}
 use Rattle.elab_links.specs.Modules.{circuits_of, lookups_of}
-use Rattle.desk_readings.specs.Shown.{modules_of, readings_of}
+use Rattle.desk_memo.specs.ShownReadings.{modules_of, readings_of}
 use Rattle.desk_memo.specs.Rulings.{Ruling}
 use Rattle.desk_memo.specs.Shown.{all_used}
 use Rattle.desk_memo.proofs.Made.{made_current, made_ruling}

@@ -12,7 +12,7 @@ use Rattle.net_settle.specs.Settle.{IsSolved}
 use Rattle.net_solve.specs.Laws.{AreApart, IsOrder}
 use Rattle.net_turn.specs.Sources.{CanRun}
 use Rattle.net_turn.proofs.Bridges.{apart}
-use Rattle.net_work.specs.Work.{numbers_of}
+use Rattle.net_settle.specs.Work.{numbers_of}
 use Rattle.netlist_eval.proofs.Beginning.{able_new, begun_starts}
 use Rattle.netlist_eval.proofs.Stepping.{can_all}
 use Rattle.netlist_eval.proofs.sim.NetSim.begin.Goals as goal

@@ -11,7 +11,7 @@ use Rattle.net_list.specs.declared.clocked.Clocked.{Clocked}
 use Rattle.net_solve.specs.Laws.{IsOrder}
 use Rattle.net_turn.specs.Sources.{CanRun}
 use Rattle.net_turn.specs.Steps.{Turns}
-use Rattle.net_work.specs.Work.{numbers_of}
+use Rattle.net_settle.specs.Work.{numbers_of}
 use Rattle.net_settle.specs.Settle.{setting_view}
 use Rattle.netlist_eval.specs.declared.step.Step.{Step}
 use Rattle.netlist_eval.specs.Netlists.{chains_in, flat_in}

@@ -1,5 +1,0 @@
-use Rattle.body_laws.proofs.Laws.{action_sure_now}
-use Rattle.body_laws.proofs.law.action_sure_now.Goals as goal
-
-pub returns : goal.returns
-returns c = action_sure_now

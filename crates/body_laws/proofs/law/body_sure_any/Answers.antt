@@ -1,5 +1,0 @@
-use Rattle.body_laws.proofs.Laws.{body_sure_any}
-use Rattle.body_laws.proofs.law.body_sure_any.Goals as goal
-
-pub returns : goal.returns
-returns c = body_sure_any

@@ -1,3 +1,0 @@
-mod Example
-pub mod Answered
-pub mod Loops

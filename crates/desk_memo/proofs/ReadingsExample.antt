@@ -1,0 +1,63 @@
+-- Readings of two files.
+use Rattle.std.proofs.Common.{◌≡◌, ℕ, List, [], ◌∷◌, Option, None, Some, refl, codes}
+use Rattle.rtl_tree.specs.TreeModule.{Circuit}
+use Rattle.desk_files.specs.declared.files.SourceFile.{SourceFile}
+use Rattle.desk_memo.specs.declared.answer.Answer.{Answer}
+use Rattle.desk_memo.specs.Exchanges.{put_in}
+use Rattle.desk_memo.specs.Readings.{AreReadings, Reading, Spells, changed_count, file_at, first_refusal, with_blank, without}
+
+abbrev file : List ℕ → List ℕ → SourceFile
+file its_name its_text = record { name = its_name; text = its_text }
+
+abbrev both : List SourceFile
+both = file (codes "a.v") (codes "1") ∷ file (codes "c.v") (codes "2") ∷ []
+
+abbrev read : SourceFile → Option Answer → Option Reading
+read its_file its_refusal = Some (record { file = its_file; refusal = its_refusal })
+
+-- ---- texts that have changed
+
+a_file_without_a_reading_counts : changed_count both (None ∷ read (file (codes "c.v") (codes "2")) None ∷ []) ≡ 1
+a_file_without_a_reading_counts = refl
+
+another_text_counts : changed_count both (read (file (codes "a.v") (codes "1")) None ∷ read (file (codes "c.v") (codes "3")) None ∷ []) ≡ 1
+another_text_counts = refl
+
+a_text_that_was_read_does_not : changed_count both (read (file (codes "a.v") (codes "1")) None ∷ read (file (codes "c.v") (codes "2")) None ∷ []) ≡ 0
+a_text_that_was_read_does_not = refl
+
+-- ---- refusals
+
+the_first_refusal_is_told : (some other : Answer) → first_refusal (None ∷ read (file (codes "a.v") (codes "1")) (Some some) ∷ read (file (codes "c.v") (codes "2")) (Some other) ∷ []) ≡ Some some
+the_first_refusal_is_told some other = refl
+
+files_that_spell_modules_tell_none : first_refusal (None ∷ read (file (codes "c.v") (codes "2")) None ∷ []) ≡ None
+files_that_spell_modules_tell_none = refl
+
+-- ---- files that come and go
+
+a_new_file_gets_a_blank_in_its_place : with_blank {X = ℕ} 0 (codes "b.v") both (1 ∷ 2 ∷ []) ≡ 1 ∷ 0 ∷ 2 ∷ []
+a_new_file_gets_a_blank_in_its_place = refl
+
+the_last_one_gets_it_behind_all : with_blank {X = ℕ} 0 (codes "d.v") both (1 ∷ 2 ∷ []) ≡ 1 ∷ 2 ∷ 0 ∷ []
+the_last_one_gets_it_behind_all = refl
+
+a_file_that_is_there_keeps_what_it_has : with_blank {X = ℕ} 0 (codes "c.v") both (1 ∷ 2 ∷ []) ≡ 1 ∷ 2 ∷ []
+a_file_that_is_there_keeps_what_it_has = refl
+
+what_is_kept_of_a_dropped_file_goes : without {X = ℕ} (codes "a.v") both (1 ∷ 2 ∷ []) ≡ 2 ∷ []
+what_is_kept_of_a_dropped_file_goes = refl
+
+-- ---- readings that are right
+
+a_file_as_it_was_read : file_at (None ∷ read (file (codes "c.v") (codes "3")) None ∷ []) 1 ≡ Some (file (codes "c.v") (codes "3"))
+a_file_as_it_was_read = refl
+
+-- a new file has no modules yet, and one whose text has changed has those of the text that was read
+modules_are_of_the_text_that_was_read : (circuits : List Circuit) → Spells (codes "3") circuits → AreReadings both (None ∷ read (file (codes "c.v") (codes "3")) None ∷ []) ([] ∷ circuits ∷ [])
+modules_are_of_the_text_that_was_read circuits spelled = (refl, ((refl, spelled), tt))
+
+-- ---- exchanges
+
+what_was_made_beside_comes_in : put_in {X = ℕ} (None ∷ Some 5 ∷ []) (1 ∷ 2 ∷ []) ≡ 1 ∷ 5 ∷ []
+what_was_made_beside_comes_in = refl

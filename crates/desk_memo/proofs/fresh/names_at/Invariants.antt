@@ -1,0 +1,6 @@
+use Rattle.std.proofs.Common.{◌≡◌, take}
+use Rattle.desk_memo.specs.Fresh.{names_at}
+use Rattle.desk_memo.proofs.fresh.names_at.Given as goal
+
+abbrev pub invariant-loop-number : goal.invariant-loop-number
+invariant-loop-number l = l.names.items ≡ names_at l.files (take l.number-index l.numbers)

@@ -1,0 +1,5 @@
+use Rattle.desk_memo.proofs.Found.{one_list}
+use Rattle.desk_memo.proofs.reading_law.one_list.Goals as goal
+
+pub returns : goal.returns
+returns c = one_list c.never_both.ensures

@@ -1,0 +1,67 @@
+-- What files say of a top module, worked out from their texts alone.
+-- Worked examples: proofs/Example.antt, crates/tests_exchanges/src/rows.rt.
+use Rattle.std.specs.Prelude.{◌≡◌, ℕ, List, [], ◌∷◌, map, slice_get, Result, Ok, Err}
+use Rattle.std.specs.List.{filter_map}
+use Rattle.std.specs.Option.{option_map}
+use Rattle.rtl_tree.specs.TreeModule.{Circuit}
+use Rattle.rtl_front.specs.declared.fault.FileFault.{FileFault}
+use Rattle.elab_scope.specs.Faults.{Answer as Fault}
+use Rattle.elab_flat.specs.Flats.{DesignParts}
+use Rattle.elab_reach.specs.Reach.{AreFilesReached}
+use Rattle.rtl_elab.specs.Designs.{library_of}
+use Rattle.rtl_elab.specs.Elaborated.{elaborated}
+use Rattle.desk_places.specs.Places.{Source}
+use Rattle.desk_refusals.specs.Refusals.{design_line, source_line}
+use Rattle.desk_build.specs.Building.{Front, Modules, Faulty, IsFront}
+use Rattle.desk_verdict.specs.Verdicts.{IsVerdict}
+use Rattle.desk_files.specs.declared.files.SourceFile.{SourceFile}
+use Rattle.desk_memo.specs.declared.answer.Answer.{Answer}
+use Rattle.desk_memo.specs.declared.answer.Answer.TheVariants.{Ruled, Refused}
+
+-- files as places are written of them
+abbrev pub sources_in : List SourceFile → List Source
+sources_in files = map (λ file. record { name = file.name; text = file.text }) files
+
+abbrev pub texts_in : List SourceFile → List (List ℕ)
+texts_in files = map (λ file. file.text) files
+
+-- the names of the files with these numbers
+abbrev pub names_at : List SourceFile → List ℕ → List (List ℕ)
+names_at files numbers =
+    filter_map (λ number. option_map (λ file. file.name) (slice_get files number)) numbers
+
+-- the names of the files in which the modules of a top stand, in the order of the files
+pub record AreReached (files : List SourceFile) (circuits : List (List Circuit)) (top : List ℕ) (names : List (List ℕ)) : Type 0 where
+  pub numbers : List ℕ
+  pub are_reached : AreFilesReached (library_of circuits).lookups circuits top numbers
+  pub named : names ≡ names_at files numbers
+
+-- the answer is this line, which says why there is no design
+abbrev pub IsRefusal : List ℕ → Answer → Type 0
+IsRefusal line (Ruled verdict reached) = ⊥
+IsRefusal line (Refused bytes) = bytes.items ≡ line
+
+-- the line that says why a file's text spells no modules
+abbrev pub refusal_line : SourceFile → FileFault → List ℕ
+refusal_line file fault = source_line (sources_in (file ∷ [])) 0 fault
+
+-- what the rules say of a design, or the line that says why there is none
+abbrev pub IsOfDesign : List SourceFile → List (List Circuit) → List ℕ → Result DesignParts Fault → Answer → Type 0
+IsOfDesign files circuits top (Ok flat) (Ruled verdict reached) =
+    IsVerdict flat verdict × AreReached files circuits top reached.items
+IsOfDesign files circuits top (Ok flat) (Refused bytes) = ⊥
+IsOfDesign files circuits top (Err fault) answer =
+    IsRefusal (design_line (sources_in files) fault) answer
+
+abbrev pub IsOfFront : List SourceFile → List ℕ → Front → Answer → Type 0
+IsOfFront files top (Modules circuits) answer =
+    IsOfDesign files circuits top (elaborated (library_of circuits) top) answer
+IsOfFront files top (Faulty number fault) answer =
+    IsRefusal (source_line (sources_in files) number fault) answer
+
+-- the answer is what the texts say of the top: the first file that spells no modules, else why the
+-- top has no design, else what the rules say of its design
+pub record IsFresh (files : List SourceFile) (top : List ℕ) (answer : Answer) : Type 0 where
+  pub front : Front
+  pub is_front : IsFront (texts_in files) front
+  pub is : IsOfFront files top front answer

@@ -1,0 +1,118 @@
+-- What the texts of files were found to be, each when it was read last.
+-- Worked examples: proofs/Example.antt.
+use Rattle.std.specs.Prelude.{◌≡◌, ℕ, ◌+◌, ◌⊎◌, ⊤, Bool, false, bytes_eq, if◌then◌else◌, insert, List, [], ◌∷◌, ◌++◌, Option, None, Some, option_and_then, option_map, slice_get}
+use Rattle.rtl_tree.specs.TreeModule.{Circuit}
+use Rattle.rtl_front.specs.Fronts.{IsFaulty, IsRead, is_memory}
+use Rattle.rtl_front.specs.declared.fault.FileFault.{FileFault}
+use Rattle.desk_files.specs.Sources.{is_named, place_of}
+use Rattle.desk_files.specs.declared.files.SourceFile.{SourceFile}
+use Rattle.desk_memo.specs.Fresh.{IsRefusal, refusal_line}
+use Rattle.desk_memo.specs.declared.answer.Answer.{Answer}
+
+-- a file as it was read last, and the refusal of it where it spells no modules
+pub record Reading : Type 0 where
+  pub file : SourceFile
+  pub refusal : Option Answer
+
+-- the file with a number, as it was read last
+abbrev pub file_at : List (Option Reading) → ℕ → Option SourceFile
+file_at readings number =
+    option_map (λ reading. reading.file) (option_and_then (λ reading. reading) (slice_get readings number))
+
+-- ---- the files whose texts have changed
+
+-- the file's text is the one that was read last
+abbrev pub is_as_read : SourceFile → Option Reading → Bool
+is_as_read file None = false
+is_as_read file (Some reading) = bytes_eq reading.file.text file.text
+
+-- how many files are new, or have another text than the one that was read last
+abbrev pub changed_count : List SourceFile → List (Option Reading) → ℕ
+changed_count (file ∷ files) (reading ∷ readings) =
+    (if is_as_read file reading then 0 else 1) + changed_count files readings
+changed_count _ _ = 0
+
+-- ---- the first refusal
+
+abbrev pub refusal_of : Option Reading → Option Answer
+refusal_of None = None
+refusal_of (Some reading) = reading.refusal
+
+abbrev pub or_later : Option Answer → Option Answer → Option Answer
+or_later (Some answer) later = Some answer
+or_later None later = later
+
+-- the refusal of the first file that was found to spell no modules
+abbrev pub first_refusal : List (Option Reading) → Option Answer
+first_refusal [] = None
+first_refusal (reading ∷ readings) = or_later (refusal_of reading) (first_refusal readings)
+
+-- ---- what readings are right
+
+-- the text spells these modules, and no others
+pub record Spells (text : List ℕ) (circuits : List Circuit) : Type 0 where
+  pub read : IsRead text circuits
+  pub only : (others : List Circuit) → IsRead text others → others ≡ circuits
+
+-- the file spells no modules, and the answer says why
+pub record Refuses (file : SourceFile) (answer : Answer) : Type 0 where
+  pub fault : FileFault
+  pub no_memory : is_memory fault ≡ false
+  pub faulty : IsFaulty file.text fault
+  pub told : IsRefusal (refusal_line file fault) answer
+
+-- what a file was found to be: what its text spells, or why it spells none
+abbrev pub IsFound : SourceFile → Option Answer → List Circuit → Type 0
+IsFound file None circuits = Spells file.text circuits
+IsFound file (Some answer) circuits = Refuses file answer × (circuits ≡ [])
+
+-- the modules that are kept of a file are those that its text spelled when it was read last; none
+-- where it spelled none, or was never read
+abbrev pub IsReading : SourceFile → Option Reading → List Circuit → Type 0
+IsReading file None circuits = circuits ≡ []
+IsReading file (Some reading) circuits =
+    (reading.file.name ≡ file.name) × IsFound reading.file reading.refusal circuits
+
+-- the readings of files, with their modules, file by file
+abbrev pub AreReadings : List SourceFile → List (Option Reading) → List (List Circuit) → Type 0
+AreReadings [] [] [] = ⊤
+AreReadings (file ∷ files) (reading ∷ readings) (circuits ∷ modules) =
+    IsReading file reading circuits × AreReadings files readings modules
+AreReadings _ _ _ = ⊥
+
+-- the modules that a text defines: those that it spells, and none where it spells none
+abbrev pub Defines : List ℕ → List Circuit → Type 0
+Defines text circuits =
+    IsRead text circuits ⊎ ((circuits ≡ []) × ((others : List Circuit) → IsRead text others → ⊥))
+
+abbrev pub AreDefined : List (List ℕ) → List (List Circuit) → Type 0
+AreDefined [] [] = ⊤
+AreDefined (text ∷ texts) (circuits ∷ modules) = Defines text circuits × AreDefined texts modules
+AreDefined _ _ = ⊥
+
+-- ---- files that come and go
+
+-- a blank at a place, or behind all
+abbrev pub blank_in : {X : Type 0} → X → Option ℕ → List X → List X
+blank_in blank None kept = kept ++ blank ∷ []
+blank_in blank (Some place) kept = insert kept place blank
+
+abbrev pub blank_by : {X : Type 0} → X → List ℕ → Option SourceFile → ℕ → List X → List X
+blank_by blank name None place kept = kept
+blank_by blank name (Some file) place kept =
+    if is_named name file then kept else blank_in blank (Some place) kept
+
+abbrev pub blank_at : {X : Type 0} → X → List ℕ → Option ℕ → List SourceFile → List X → List X
+blank_at blank name None files kept = blank_in blank None kept
+blank_at blank name (Some place) files kept = blank_by blank name (slice_get files place) place kept
+
+-- what is kept of files, with a blank where a file of a new name comes among them; a file that is
+-- there keeps what it has
+abbrev pub with_blank : {X : Type 0} → X → List ℕ → List SourceFile → List X → List X
+with_blank blank name files kept = blank_at blank name (place_of name files) files kept
+
+-- what is kept of files, without what is kept of the file of a name
+abbrev pub without : {X : Type 0} → List ℕ → List SourceFile → List X → List X
+without name (file ∷ files) (first ∷ others) =
+    if is_named name file then without name files others else first ∷ without name files others
+without name _ kept = kept

@@ -1,5 +1,0 @@
-use Rattle.desk_readings.proofs.Found.{one_list}
-use Rattle.desk_readings.proofs.law.one_list.Goals as goal
-
-pub returns : goal.returns
-returns c = one_list c.never_both.ensures

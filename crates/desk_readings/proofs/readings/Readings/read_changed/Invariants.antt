@@ -1,9 +1,0 @@
-use Rattle.std.proofs.Common.{◌≤◌, ◌+◌, take, drop}
-use Rattle.desk_readings.specs.Shown.{AreMade, down_count, flags_in}
-use Rattle.desk_readings.proofs.readings.Readings.read_changed.Given as goal
-
-abbrev pub invariant-loop-number : goal.invariant-loop-number
-invariant-loop-number g l = record {
-  made : AreMade (take l.number l.files) (take l.number (flags_in l.self.readings.items)) l.aside.readings.items l.aside.modules.items;
-  counted : l.steps + down_count (drop l.number (flags_in l.self.readings.items)) ≤ l.fn.steps + down_count (flags_in l.self.readings.items);
-}

@@ -1,5 +1,0 @@
-pub mod Stays
-pub mod Driven
-pub mod One
-pub mod Able
-pub mod Lawful
