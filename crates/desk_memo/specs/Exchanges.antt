@@ -1,6 +1,6 @@
 -- It serves inner contracts and proofs; no answer of the program is stated by it.
 -- What is kept, with what was made beside it in its place.
--- Worked examples: proofs/Example.antt.
+-- Worked examples: proofs/ReadingsExample.antt.
 use Rattle.std.specs.Prelude.{List, ◌∷◌, Option, None, Some}
 
 abbrev pub or_old : {X : Type 0} → Option X → X → X

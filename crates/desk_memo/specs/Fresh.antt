@@ -1,5 +1,5 @@
 -- What files say of a top module, worked out from their texts alone.
--- Worked examples: proofs/Example.antt, crates/tests_exchanges/src/rows.rt.
+-- Worked examples: proofs/FreshExample.antt, crates/tests_exchanges/src/rows.rt.
 use Rattle.std.specs.Prelude.{◌≡◌, ℕ, List, [], ◌∷◌, map, slice_get, Result, Ok, Err}
 use Rattle.std.specs.List.{filter_map}
 use Rattle.std.specs.Option.{option_map}

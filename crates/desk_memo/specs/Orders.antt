@@ -1,5 +1,5 @@
 -- Files in the order of their names, none too long.
--- Worked examples: proofs/Example.antt.
+-- Worked examples: proofs/FreshExample.antt.
 use Rattle.std.specs.Prelude.{◌≡◌, ◌≤◌, true, List, [], ◌∷◌, length, ⊤}
 use Rattle.std.specs.List.{All}
 use Rattle.rtl_tree.specs.declared.text.TheConstants.{MAX_BYTES}

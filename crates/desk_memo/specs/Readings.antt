@@ -1,5 +1,5 @@
 -- What the texts of files were found to be, each when it was read last.
--- Worked examples: proofs/Example.antt.
+-- Worked examples: proofs/ReadingsExample.antt.
 use Rattle.std.specs.Prelude.{◌≡◌, ℕ, ◌+◌, ◌⊎◌, ⊤, Bool, false, bytes_eq, if◌then◌else◌, insert, List, [], ◌∷◌, ◌++◌, Option, None, Some, option_and_then, option_map, slice_get}
 use Rattle.rtl_tree.specs.TreeModule.{Circuit}
 use Rattle.rtl_front.specs.Fronts.{IsFaulty, IsRead, is_memory}
