@@ -18,8 +18,8 @@ use Rattle.demo_replay.specs.Setups.{Setup, IsSetup, LacksNetlist}
 use Rattle.demo_replay.specs.declared.run.Run.{Run}
 use Rattle.demo_replay.specs.Progress.{IsAt, trial_of}
 use Rattle.demo_replay.specs.Runs.{Moment}
-use Rattle.demo_replay.specs.Tables.{AreClocked, AreDifferences, AreShownBelow, IsCourseOf, IsOf, IsShownBelow, IsUnwanted, compared, first_in, plain, told_of}
-use Rattle.demo_replay.proofs.Comparing.{are_compared, compared_lasts}
+use Rattle.demo_replay.specs.Tables.{AreClocked, AreDifferences, AreShownBelow, IsCourseOf, IsOf, IsShownBelow, IsUnwanted, compared, first_in, is_marked, plain, told_of}
+use Rattle.demo_replay.proofs.Comparing.{are_compared}
 use Rattle.demo_replay.proofs.Differing.{first_is}
 use Rattle.demo_replay.proofs.Setting.{setup_of}
 
@@ -38,12 +38,12 @@ mapped (x ∷ found) (suc k) one is = mapped found k one is
 -- ---- one trial
 
 -- what a trial shows by its course
-pub shows : (kept : Kept) (is : IsOf kept.design.now kept) (clocked : List Bool) (are : AreClocked (parts kept.design.now) clocked) (finding : Finding) (trial : ℕ) (steps : List (Vec Difference Global)) → IsCourseOf kept.design.now kept trial steps → Shows (parts kept.design.now) (plain kept) (compared kept clocked finding) trial (first_in (compared kept clocked finding) 1 steps)
-shows kept is clocked are finding trial steps course =
+pub shows : (kept : Kept) (clocked skipped : List Bool) (finding : Finding) → ((s : ℕ) → compared kept clocked finding s ≡ true → is_marked skipped s ≡ false) → (trial : ℕ) (steps : List (Vec Difference Global)) → IsCourseOf kept.design.now kept skipped trial steps → Shows (parts kept.design.now) (plain kept) (compared kept clocked finding) trial (first_in (compared kept clocked finding) 1 steps)
+shows kept clocked skipped finding free trial steps course =
     record {
       moments = course.moments;
       course = course.course;
-      first = sym (first_is (compared kept clocked finding) kept.temporaries.items (compared_lasts kept is clocked are finding) (length kept.design.now.signals.items) 1 course.moments steps course.are);
+      first = sym (first_is (compared kept clocked finding) skipped free (length kept.design.now.signals.items) 1 course.moments steps course.are);
     }
 
 module _ (design : Design) (g : Setup) (finding : Finding) (test : ℕ → Bool) (n : ℕ) where
@@ -90,13 +90,13 @@ first_of_all design g finding test (Some one) is are below =
 
 -- ---- a course as it is made
 
--- the steps that a trial under way took, and the signals that differ after each
-pub record IsGoing (kept : Kept) (trial : ℕ) (run : Run) (steps : List (Vec Difference Global)) : Type 0 where
+-- the steps that a trial under way took, and the signals that differ after each, but for those that are marked
+pub record IsGoing (kept : Kept) (skipped : List Bool) (trial : ℕ) (run : Run) (steps : List (Vec Difference Global)) : Type 0 where
   pub setup_is : run.setup.now ≡ kept
   pub trial_is : trial_of run ≡ trial
   pub moments : List Moment
   pub at : IsAt run moments
-  pub are : AreDifferences (length kept.design.now.signals.items) kept.temporaries.items moments steps
+  pub are : AreDifferences (length kept.design.now.signals.items) skipped moments steps
 
 -- ---- steps that are taken again
 
@@ -166,10 +166,10 @@ module _ (kept : Kept) (clocked : List Bool) (n : ℕ) (finding : Finding) where
       (omega (arith, before.0), before.1, before.2, before.3)
 
   -- a trial that is run for it shows something or nothing
-  pub shown_now : (is : IsOf kept.design.now kept) (are : AreClocked (parts kept.design.now) clocked) (steps : List (Vec Difference Global)) (one : Option (Demo × Values)) → IsCourseOf kept.design.now kept n steps → is_trial_of finding.rule n ≡ true → told one ≡ told_of n (first_in test 1 steps) → IsShownBelow kept.design.now (plain kept) finding test n None → IsShownBelow kept.design.now (plain kept) finding test (n + 1) (told one)
-  shown_now is are steps one course runs same before =
+  pub shown_now : (skipped : List Bool) → ((s : ℕ) → test s ≡ true → is_marked skipped s ≡ false) → (steps : List (Vec Difference Global)) (one : Option (Demo × Values)) → IsCourseOf kept.design.now kept skipped n steps → is_trial_of finding.rule n ≡ true → told one ≡ told_of n (first_in test 1 steps) → IsShownBelow kept.design.now (plain kept) finding test n None → IsShownBelow kept.design.now (plain kept) finding test (n + 1) (told one)
+  shown_now skipped free steps one course runs same before =
       subst (IsShownBelow kept.design.now (plain kept) finding test (n + 1)) (sym same)
-      (shown_run kept.design.now (plain kept) finding test n (first_in test 1 steps) runs before (shows kept is clocked are finding n steps course))
+      (shown_run kept.design.now (plain kept) finding test n (first_in test 1 steps) runs before (shows kept clocked skipped finding free n steps course))
 
 -- ---- all findings
 

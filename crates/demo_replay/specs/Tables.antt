@@ -79,16 +79,16 @@ difference m s =
       shown = record { simulated = m.simulated s; synthesised = m.synthesised s };
     }
 
--- those that differ, but for temporaries
+-- those that differ, but for some that are marked
 abbrev pub differences : ℕ → List Bool → Moment → List Difference
-differences count temporaries m =
-    map (difference m) (passing count (λ s. not (is_marked temporaries s) && differs m s))
+differences count skipped m =
+    map (difference m) (passing count (λ s. not (is_marked skipped s) && differs m s))
 
 -- those of each of some moments
 abbrev pub AreDifferences : ℕ → List Bool → List Moment → List (Vec Difference Global) → Type 0
-AreDifferences count temporaries moments steps =
+AreDifferences count skipped moments steps =
     map (λ (step : Vec Difference Global). step.items) steps
-    ≡ map (differences count temporaries) moments
+    ≡ map (differences count skipped) moments
 
 -- the first that is compared
 abbrev pub first_among : (ℕ → Bool) → List Difference → Option Difference
@@ -156,13 +156,19 @@ abbrev pub compared : Kept → List Bool → Finding → ℕ → Bool
 compared kept clocked finding s =
     compared_at kept clocked finding s (slice_get kept.design.now.signals.items s)
 
+-- no signal that is compared for some finding is marked
+abbrev pub AreSkipped : Kept → List Bool → List Finding → List Bool → Type 0
+AreSkipped kept clocked findings skipped =
+    (k : ℕ) (finding : Finding) → slice_get findings k ≡ Some finding →
+    (s : ℕ) → compared kept clocked finding s ≡ true → is_marked skipped s ≡ false
+
 -- ---- what a trial shows
 
--- the signals that differ after each step of a trial
-pub record IsCourseOf (design : Design) (kept : Kept) (trial : ℕ) (steps : List (Vec Difference Global)) : Type 0 where
+-- the signals that differ after each step of a trial, but for those that are marked
+pub record IsCourseOf (design : Design) (kept : Kept) (skipped : List Bool) (trial : ℕ) (steps : List (Vec Difference Global)) : Type 0 where
   pub moments : List Moment
   pub course : IsCourse (parts design) (plain kept) trial moments
-  pub are : AreDifferences (length design.signals.items) kept.temporaries.items moments steps
+  pub are : AreDifferences (length design.signals.items) skipped moments steps
   pub few : length steps ≤ 16
 
 -- the first place among them, in steps that are numbered from one on

@@ -1,9 +1,11 @@
 // Signals that differ, and which of them count for a finding.
 
-ghost use Rattle.std.specs.Prelude.{ℕ, ◌≡◌, ◌↔◌, ◌<◌, true, length, IfOk, OnOk};
+ghost use Rattle.std.specs.Prelude.{ℕ, ◌≡◌, ◌↔◌, ◌<◌, false, true, length, Some, IfOk, OnOk};
+ghost use Rattle.std.specs.Bool.{OnFalse};
+ghost use Rattle.std.specs.List.{slice_get};
 ghost use Rattle.rtl_rule.specs.Parts.{parts};
 ghost use Rattle.demo_replay.specs.Compared.{is_unwoken};
-ghost use Rattle.demo_replay.specs.Tables.{AreClocked, AreClockedBelow, MarksWritten, compared, first_among, is_marked, is_own, is_watched};
+ghost use Rattle.demo_replay.specs.Tables.{AreClocked, AreClockedBelow, AreSkipped, MarksWritten, compared, first_among, is_marked, is_own, is_watched};
 
 use crate::setup::{Setup, is_marked};
 use check_clocks::tops::mark_all;
@@ -89,6 +91,42 @@ pub(crate) fn is_compared(setup: &Setup, clocked: &[bool], finding: &Finding, nu
         }
         None => false,
     }
+}
+
+/// Whether a signal is compared for some finding.
+fn is_compared_for_some(
+    setup: &Setup,
+    clocked: &[bool],
+    findings: &[Finding],
+    number: SigId,
+) -> bool
+    ensures { OnFalse result ((k : ℕ) (finding : Finding) → slice_get findings.now k ≡ Some finding
+        → compared setup.now clocked.now finding number.0 ≡ false) }
+{
+    for finding in findings {
+        if is_compared(setup, clocked, finding, number) {
+            return true;
+        }
+    }
+    false
+}
+
+/// Of each signal whether it is compared for no finding.
+pub(crate) fn skipped_signals(
+    alloc: Global,
+    setup: &Setup<'_>,
+    clocked: &[bool],
+    findings: &[Finding],
+) -> Result<Vec<bool>, Memory>
+    ensures { IfOk result (λ skipped.
+        AreSkipped setup.now clocked.now findings.now skipped.items) }
+{
+    let mut skipped = Vec::new(alloc);
+    for number in 0..setup.design.signals.len() {
+        let some = is_compared_for_some(setup, clocked, findings, SigId(number as u32));
+        skipped.push(!some)?;
+    }
+    Ok(skipped)
 }
 
 /// The first of some signals that differ and are compared for a finding.

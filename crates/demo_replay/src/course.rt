@@ -10,21 +10,23 @@ use demo_trials::Trial;
 use rtl_tree::memory::Memory;
 use std::alloc::Global;
 
-/// The signals that differ after each step of a trial, up to the first that doesn't settle.
+/// The signals that differ after each step of a trial, but for those that are marked, up to the
+/// first step that doesn't settle.
 pub(crate) fn course_of<'d>(
     alloc: Global,
     setup: &'d Setup<'d>,
     trial: Trial,
+    skipped: &[bool],
 ) -> Result<Vec<Vec<Difference>>, Memory>
     requires { IsOf setup.now.design.now setup.now }
     ensures { IfOk result (λ steps.
-        IsCourseOf setup.now.design.now setup.now trial.number steps.items) }
+        IsCourseOf setup.now.design.now setup.now skipped.now trial.number steps.items) }
 {
     let mut run = Run::begin(alloc, setup, trial)?;
     let mut steps = Vec::new(alloc);
     'steps: loop {
         match run.next(alloc)? {
-            Progress::Rested => steps.push(run.differences(alloc)?)?,
+            Progress::Rested => steps.push(run.differences(alloc, skipped)?)?,
             Progress::Unsettled => return Ok(steps),
             Progress::Ended => return Ok(steps),
         }

@@ -5,9 +5,9 @@ ghost use Rattle.std.specs.Bool.{OnFalse};
 ghost use Rattle.rtl_rule.specs.Parts.{parts};
 ghost use Rattle.demo_replay.specs.Compared.{is_trial_of};
 ghost use Rattle.demo_replay.specs.Firsts.{AreFirsts, IsFirst, told};
-ghost use Rattle.demo_replay.specs.Tables.{AreClocked, AreShownBelow, IsCourseOf, IsOf, IsUnwanted, compared, first_in, told_of};
+ghost use Rattle.demo_replay.specs.Tables.{AreShownBelow, AreSkipped, IsCourseOf, IsOf, IsUnwanted, compared, first_in, told_of};
 
-use crate::compare::{Difference, clocked_signals, first_among, is_unwoken};
+use crate::compare::{Difference, clocked_signals, first_among, is_unwoken, skipped_signals};
 use crate::course::course_of;
 use crate::setup::Setup;
 use crate::start::POWER_UP;
@@ -69,14 +69,14 @@ fn first_in(
 fn show(
     setup: &Setup,
     clocked: &[bool],
+    skipped: &[bool],
     trial: Trial,
     steps: &[Vec<Difference>],
     findings: &[Finding],
     found: &mut [Option<(Demo, Shown)>],
 )
-    requires is_of { IsOf setup.now.design.now setup.now }
-    requires course { IsCourseOf setup.now.design.now setup.now trial.number steps.now }
-    requires clocked { AreClocked (parts setup.now.design.now) clocked.now }
+    requires course { IsCourseOf setup.now.design.now setup.now skipped.now trial.number steps.now }
+    requires skipped { AreSkipped setup.now clocked.now findings.now skipped.now }
     requires below { AreShownBelow setup.now.design.now setup.now clocked.now findings.now
         trial.number found.old }
     ensures { AreShownBelow setup.now.design.now setup.now clocked.now findings.now
@@ -94,12 +94,13 @@ fn run_trial(
     alloc: Global,
     setup: &Setup<'_>,
     clocked: &[bool],
+    skipped: &[bool],
     trial: Trial,
     findings: &[Finding],
     found: &mut [Option<(Demo, Shown)>],
 ) -> Result<(), Memory>
     requires is_of { IsOf setup.now.design.now setup.now }
-    requires clocked { AreClocked (parts setup.now.design.now) clocked.now }
+    requires skipped { AreSkipped setup.now clocked.now findings.now skipped.now }
     requires below { AreShownBelow setup.now.design.now setup.now clocked.now findings.now
         trial.number found.old }
     ensures { OnOk result (AreShownBelow setup.now.design.now setup.now clocked.now findings.now
@@ -108,8 +109,8 @@ fn run_trial(
     if !is_wanted(trial, findings, found) {
         return Ok(());
     }
-    let steps = course_of(alloc, setup, trial)?;
-    show(setup, clocked, trial, &steps, findings, found);
+    let steps = course_of(alloc, setup, trial, skipped)?;
+    show(setup, clocked, skipped, trial, &steps, findings, found);
     Ok(())
 }
 
@@ -134,10 +135,13 @@ fn attach_some(
         return nothing(alloc, findings.len());
     };
     let clocked = clocked_signals(alloc, design)?;
+    let skipped = skipped_signals(alloc, &setup, &clocked, findings)?;
     let mut found = nothing(alloc, findings.len())?;
     for number in 0..POWER_UP + 1 {
         if let Some(trial) = Trial::new(number) {
-            run_trial(alloc, &setup, &clocked, trial, findings, &mut found)?;
+            run_trial(
+                alloc, &setup, &clocked, &skipped, trial, findings, &mut found,
+            )?;
         }
     }
     Ok(found)

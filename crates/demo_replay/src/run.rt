@@ -10,7 +10,7 @@ ghost use Rattle.demo_replay.specs.Runs.{GoOn};
 ghost use Rattle.demo_replay.specs.Tables.{IsNetlistOf, IsOf};
 
 use crate::compare::Difference;
-use crate::setup::Setup;
+use crate::setup::{Setup, is_marked};
 use crate::start::{POWER_UP, first_values, inputs_of, start_of};
 use demo_told::Shown;
 use demo_trials::Trial;
@@ -148,18 +148,22 @@ impl<'d> Run<'d> {
         }
     }
 
-    /// The signals that differ, but for temporaries, in order.
-    pub(crate) fn differences(&self, alloc: Global) -> Result<Vec<Difference>, Memory>
+    /// The signals that differ, but for those that are marked, in order.
+    pub(crate) fn differences(
+        &self,
+        alloc: Global,
+        skipped: &[bool],
+    ) -> Result<Vec<Difference>, Memory>
         requires { (moments : List Moment) × IsAt self.now moments }
         ensures { IfOk result (λ found. found.items
             ≡ differences (length (design_of self.now).signals.items)
-            self.now.setup.now.temporaries.items (moment_of self.now.sim self.now.net)) }
+            skipped.now (moment_of self.now.sim self.now.net)) }
     {
         let mut found = Vec::new(alloc);
         for number in 0..self.setup.design.signals.len() {
             let signal = SigId(number as u32);
             let shown = self.shown(signal);
-            let differs = !self.setup.is_temporary(signal) && shown.differs();
+            let differs = !is_marked(skipped, signal) && shown.differs();
             push_if(&mut found, differs, signal, shown)?;
         }
         Ok(found)

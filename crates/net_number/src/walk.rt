@@ -20,11 +20,16 @@ pub fn number(e: &SizedExpr, fill: Fill, numbers: &[Vec4]) -> Vec4
     ensures bits { result ≡ digits fill (store numbers.now) (tree e.now) }
     ensures width { length result ≡ e.now.width }
 {
+    // Most of what a walk meets is a whole signal.
+    if let Node::Read(signal, Select::Whole) = &e.node {
+        return numbers[signal.0 as usize].extend(e.width, e.signed);
+    }
     form_number(&e.node, fill, numbers).extend(e.width, e.signed)
 }
 
-/// The number of a form of expression by itself.
+/// The number of a form of expression by itself. It stands apart, since what it takes of the stack is large.
 #[cycle(number)]
+#[inline(never)]
 #[tactic(auto, using(rtl_expr::proofs::Parts::concat_parts))]
 fn form_number(node: &Node, fill: Fill, numbers: &[Vec4]) -> Vec4
     requires sized { IsSized (length numbers.now) (widths numbers.now) (form node.now) }

@@ -84,7 +84,9 @@ fn add_kept(alloc: Global, design: &Design, p: ProcId, bits: &mut BitSet) -> Res
 
 /// The bits of registers and of latches: those that a process with edges may write, and those that a body without edges
 /// may write and some path of it leaves.
-pub(crate) fn kept_bits(alloc: Global, design: &Design) -> Result<BitSet, Memory>
+///
+/// Fails where memory runs out.
+pub fn kept_bits(alloc: Global, design: &Design) -> Result<BitSet, Memory>
     ensures { IfOk result (λ bits. (s k : ℕ) → has bits.masks s k ≡ is_kept (flat design.now) s k) }
 {
     let mut bits = BitSet::new(alloc);

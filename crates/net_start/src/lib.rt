@@ -1,7 +1,7 @@
 //! What a simulation of a netlist begins with: which signals are registers, latches and inputs, and their first numbers.
 #![tactic(auto)]
 
-mod kept;
+pub mod kept;
 pub mod start;
 pub mod stored;
 mod unknown;

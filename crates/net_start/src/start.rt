@@ -8,12 +8,12 @@ ghost use Rattle.rtl_bits.specs.Bits.{has_unknown, is_one_at};
 ghost use Rattle.rtl_flat.specs.Value.{store};
 ghost use Rattle.event_model.specs.Queue.{flat, widths};
 ghost use Rattle.rtl_scan.specs.Arrows.{AreRising};
+ghost use Rattle.rtl_scan.specs.Sets.{has};
 ghost use Rattle.net_model.specs.Numbers.{fill_bit};
 ghost use Rattle.net_start.specs.Listing.{AreGiven, AreMasked, fills_of};
 ghost use Rattle.net_start.specs.Start.{AreKnown, IsStart};
-ghost use Rattle.net_start.specs.Stored.{AreInputs, AreStored, places};
+ghost use Rattle.net_start.specs.Stored.{AreInputs, AreStored, is_kept, places};
 
-use crate::kept::kept_bits;
 use net_model::fill::Fill;
 use rtl_bits::{Bit, Vec4};
 use rtl_flat::design::Design;
@@ -99,18 +99,21 @@ fn give(numbers: &mut [Vec4], signals: &[SigId], values: &[Vec4])
     }
 }
 
-/// The numbers with which a simulation begins: inputs, registers and latches as they are given, all else with the fill.
+/// The numbers with which a simulation begins: inputs, registers and latches as they are given, all else with the fill. Of
+/// registers and latches only the bits that are kept count.
 ///
 /// Fails where memory runs out.
 pub fn start(
     alloc: Global,
     design: &Design,
+    kept: &BitSet,
     stored: &[SigId],
     registers: &[Vec4],
     tops: &[SigId],
     inputs: &[Vec4],
     fill: Fill,
 ) -> Result<Vec<Vec4>, Memory>
+    requires kept { (s k : ℕ) → has kept.now.masks s k ≡ is_kept (flat design.now) s k }
     requires stored { AreStored (flat design.now) (places stored.now) }
     requires tops { AreInputs (flat design.now) (places tops.now) }
     requires registers { map length registers.now
@@ -122,8 +125,7 @@ pub fn start(
     ensures start { IfOk result (λ numbers. IsStart (flat design.now) fill
         (places stored.now) registers.now (places tops.now) inputs.now (store numbers.items)) }
 {
-    let kept = kept_bits(alloc, design)?;
-    let begun = begun(alloc, stored, registers, &kept, fill)?;
+    let begun = begun(alloc, stored, registers, kept, fill)?;
     let mut numbers = filled(alloc, design, fill)?;
     give(&mut numbers, stored, &begun);
     give(&mut numbers, tops, inputs);

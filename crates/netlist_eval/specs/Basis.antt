@@ -4,17 +4,20 @@ use Rattle.std.specs.Prelude.{◌≡◌, ◌↔◌, ◌≤◌, ℕ, false, true,
 use Rattle.event_model.specs.Queue.{Flat}
 use Rattle.net_model.specs.Control.{IsControl}
 use Rattle.net_solve.specs.Laws.{IsOrder}
-use Rattle.net_start.specs.Stored.{AreInputs, AreStored, places}
+use Rattle.rtl_scan.specs.Sets.{has}
+use Rattle.net_start.specs.Stored.{AreInputs, AreStored, is_kept, places}
 use Rattle.net_settle.specs.Work.{numbers_of}
 use Rattle.netlist_eval.specs.declared.basis.Basis.{Basis}
 use Rattle.netlist_eval.specs.Steps.{HasNoCycle}
 
--- that of a design: an order of its processes, the signals that are given values, and which inputs are clocks and resets
+-- that of a design: an order of its processes, the signals that are given values, the bits that are kept, and which inputs
+-- are clocks and resets
 pub record IsBasisOf (d : Flat) (basis : Basis) : Type 0 where
   pub is_order : IsOrder d (numbers_of basis.order.items)
   pub no_cycle : HasNoCycle d
   pub holders : AreStored d (places basis.holders.items)
   pub tops : AreInputs d (places basis.tops.items)
+  pub kept : (s k : ℕ) → has basis.kept.masks s k ≡ is_kept d s k
   pub few : length basis.holders.items ≤ length d.signals
   pub few_tops : length basis.tops.items ≤ length d.signals
   pub controls : (s : ℕ) → slice_index_or basis.controls.items s false ≡ true ↔ IsControl d s

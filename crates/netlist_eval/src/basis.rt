@@ -12,10 +12,12 @@ use crate::fault::NetFault;
 use check_clocks::tops::mark_all;
 use infer_regs::controls;
 use net_order::order::{Ranking, order};
+use net_start::kept::kept_bits;
 use net_start::stored::{stored, top_inputs};
 use rtl_flat::act::ProcId;
 use rtl_flat::design::Design;
 use rtl_flat::expr::SigId;
+use rtl_scan::bits::BitSet;
 use rtl_tree::memory::Memory;
 use std::alloc::Global;
 
@@ -27,6 +29,8 @@ pub struct Basis {
     /// The registers and latches, and the top inputs, in order of number.
     pub holders: Vec<SigId>,
     pub tops: Vec<SigId>,
+    /// The bits of registers and latches.
+    pub kept: BitSet,
     /// Of each signal whether it is a clock or a reset among the top inputs.
     pub controls: Vec<bool>,
 }
@@ -82,11 +86,13 @@ impl Basis {
         let order = order_of(alloc, design)?;
         let holders = stored(alloc, design)?;
         let tops = top_inputs(alloc, design)?;
+        let kept = kept_bits(alloc, design)?;
         let controls = marked_controls(alloc, design)?;
         Ok(Basis {
             order,
             holders,
             tops,
+            kept,
             controls,
         })
     }

@@ -116,6 +116,7 @@ impl<'n> NetSim<'n> {
         let numbers = start(
             alloc,
             netlist.design,
+            &basis.kept,
             &basis.holders,
             registers,
             &basis.tops,

@@ -1,4 +1,4 @@
-use Rattle.std.proofs.Common.{◌≡◌, ◌∙◌, ℕ, List, [], ◌∷◌, ◌++◌, length, map, Ok, Vec, sym, ap, subst, arith}
+use Rattle.std.proofs.Common.{◌≡◌, ◌∙◌, ℕ, Bool, List, [], ◌∷◌, ◌++◌, length, map, Ok, Vec, sym, ap, subst, arith}
 use Rattle.std.specs.declared.alloc.Global.{Global}
 use Rattle.std.proofs.lemmas.List.{length-map, map-append}
 use Rattle.rtl_rule.specs.Parts.{parts}
@@ -23,9 +23,9 @@ more_mapped : {A B C : Type 0} (f : A → C) (g : B → C) (xs : List A) (ys : L
 more_mapped f g xs ys x y same one =
     map-append f xs (x ∷ []) ∙ ap (λ l. l ++ f x ∷ []) same ∙ ap (λ z. map g ys ++ z ∷ []) one ∙ sym (map-append g ys (y ∷ []))
 
-module _ (kept : Kept) (trial : ℕ) (run : Run) (steps : List (Vec Difference Global)) (going : IsGoing kept trial run steps) where
+module _ (kept : Kept) (skipped : List Bool) (trial : ℕ) (run : Run) (steps : List (Vec Difference Global)) (going : IsGoing kept skipped trial run steps) where
   -- a step that comes to rest
-  goes_on : (new : Run) (found : Vec Difference Global) → new.setup.now ≡ run.setup.now → trial_of new ≡ trial_of run → IsAt new (going.moments ++ moment_of new.sim new.net ∷ []) → found.items ≡ differences (length (design_of new).signals.items) new.setup.now.temporaries.items (moment_of new.sim new.net) → IsGoing kept trial new (steps ++ found ∷ [])
+  goes_on : (new : Run) (found : Vec Difference Global) → new.setup.now ≡ run.setup.now → trial_of new ≡ trial_of run → IsAt new (going.moments ++ moment_of new.sim new.net ∷ []) → found.items ≡ differences (length (design_of new).signals.items) skipped (moment_of new.sim new.net) → IsGoing kept skipped trial new (steps ++ found ∷ [])
   goes_on new found setup same at are =
       let now = moment_of new.sim new.net in
       let setup_is : new.setup.now ≡ kept = setup ∙ going.setup_is in
@@ -34,18 +34,18 @@ module _ (kept : Kept) (trial : ℕ) (run : Run) (steps : List (Vec Difference G
         trial_is = same ∙ going.trial_is;
         moments = going.moments ++ now ∷ [];
         at = at;
-        are = more_mapped (λ (step : Vec Difference Global). step.items) (differences (length kept.design.now.signals.items) kept.temporaries.items) steps going.moments found now going.are
-            (subst (λ (k : Kept). found.items ≡ differences (length k.design.now.signals.items) k.temporaries.items now) setup_is are);
+        are = more_mapped (λ (step : Vec Difference Global). step.items) (differences (length kept.design.now.signals.items) skipped) steps going.moments found now going.are
+            (subst (λ (k : Kept). found.items ≡ differences (length k.design.now.signals.items) skipped now) setup_is are);
       }
 
   counted : length steps ≡ length going.moments
   counted =
       sym (length-map steps (λ (step : Vec Difference Global). step.items))
       ∙ ap length going.are
-      ∙ length-map going.moments (differences (length kept.design.now.signals.items) kept.temporaries.items)
+      ∙ length-map going.moments (differences (length kept.design.now.signals.items) skipped)
 
   -- the next step doesn't settle
-  stopped : IsStuck (parts (design_of run)) (plain run.setup.now) (trial_of run) going.moments → IsCourseOf kept.design.now kept trial steps
+  stopped : IsStuck (parts (design_of run)) (plain run.setup.now) (trial_of run) going.moments → IsCourseOf kept.design.now kept skipped trial steps
   stopped stuck =
       let by_trial : IsStuck (parts (design_of run)) (plain run.setup.now) trial going.moments = subst (λ (t : ℕ). IsStuck (parts (design_of run)) (plain run.setup.now) t going.moments) going.trial_is stuck in
       let here : IsStuck (parts kept.design.now) (plain kept) trial going.moments = subst (λ (k : Kept). IsStuck (parts k.design.now) (plain k) trial going.moments) going.setup_is by_trial in
@@ -60,7 +60,7 @@ module _ (kept : Kept) (trial : ℕ) (run : Run) (steps : List (Vec Difference G
       }
 
   -- no step is left
-  ended : length going.moments ≡ count_of run → IsCourseOf kept.design.now kept trial steps
+  ended : length going.moments ≡ count_of run → IsCourseOf kept.design.now kept skipped trial steps
   ended all =
       let at = reached run.setup.now (trial_of run) run.taken run.sim run.net going.moments going.at in
       let by_trial : Reaches (parts (design_of run)) (plain run.setup.now) trial going.moments (state_of run.sim) (shown run.net) = subst (λ (t : ℕ). Reaches (parts (design_of run)) (plain run.setup.now) t going.moments (state_of run.sim) (shown run.net)) going.trial_is at in
@@ -84,20 +84,21 @@ differences-requires c =
 pub steps-preserved : goal.steps-preserved
 steps-preserved c =
     let kept = c.args.setup.now in
+    let skipped = c.args.skipped.now in
     let trial = c.args.trial.number in
     let going = c.steps.invariant in
     let goes = subst (λ (p : Progress). Goes c.steps.run c.next.new.self (Ok p) going.moments) c.in-Rested.is (c.in_ok-next.ensures.goes going.moments going.at) in
-    subst (λ (steps : List (Vec Difference Global)). IsGoing kept trial c.next.new.self steps) (sym c.in_ok-push-in-Rested.ensures.items)
-    (goes_on kept trial c.steps.run c.steps.steps.items going c.next.new.self c.in_ok-differences-in-Rested.field-0 c.next.ensures.setup c.next.ensures.trial goes.0 c.in_ok-differences-in-Rested.ensures)
+    subst (λ (steps : List (Vec Difference Global)). IsGoing kept skipped trial c.next.new.self steps) (sym c.in_ok-push-in-Rested.ensures.items)
+    (goes_on kept skipped trial c.steps.run c.steps.steps.items going c.next.new.self c.in_ok-differences-in-Rested.field-0 c.next.ensures.setup c.next.ensures.trial goes.0 c.in_ok-differences-in-Rested.ensures)
 
 pub returns-in-Unsettled : goal.returns-in-Unsettled
 returns-in-Unsettled c =
     let going = c.steps.invariant in
-    stopped c.args.setup.now c.args.trial.number c.steps.run c.steps.steps.items going
+    stopped c.args.setup.now c.args.skipped.now c.args.trial.number c.steps.run c.steps.steps.items going
     (subst (λ (p : Progress). Goes c.steps.run c.next.new.self (Ok p) going.moments) c.in-Unsettled.is (c.in_ok-next.ensures.goes going.moments going.at))
 
 pub returns-in-Ended : goal.returns-in-Ended
 returns-in-Ended c =
     let going = c.steps.invariant in
-    ended c.args.setup.now c.args.trial.number c.steps.run c.steps.steps.items going
+    ended c.args.setup.now c.args.skipped.now c.args.trial.number c.steps.run c.steps.steps.items going
     (subst (λ (p : Progress). Goes c.steps.run c.next.new.self (Ok p) going.moments) c.in-Ended.is (c.in_ok-next.ensures.goes going.moments going.at))

@@ -13,7 +13,7 @@ use Rattle.demo_replay.specs.declared.compare.Difference.{Difference}
 use Rattle.demo_replay.specs.declared.setup.Setup.{Setup as Kept}
 use Rattle.demo_replay.specs.Compared.{is_trial_of}
 use Rattle.demo_replay.specs.Firsts.{told}
-use Rattle.demo_replay.specs.Tables.{AreClocked, IsCourseOf, IsOf, IsShownBelow, compared, plain, first_in, told_of}
+use Rattle.demo_replay.specs.Tables.{AreSkipped, IsCourseOf, IsShownBelow, compared, plain, first_in, told_of}
 use Rattle.demo_replay.proofs.Showing.{ArePartly, partly_more, partly_all, stays, shown_now}
 use Rattle.demo_replay.proofs.firsts.show.Goals as goal
 use Rattle.demo_replay.proofs.firsts.show.Goals.{then-is_none+then-is_trial_of, else-is_none, else-is_none-via-then-is_none+else-is_trial_of, else-is_none-via-else-is_none}
@@ -36,8 +36,8 @@ none_of (Some x) e = absurd (false≢true (sym e))
 
 module _ (kept : Kept) (clocked : List Bool) (findings : List Finding) (n at : ℕ) (old : List (Option (Demo × Values))) (partly : ArePartly kept clocked findings n at old) where
   -- a finding for which nothing is shown yet, of a trial that is run for it
-  taken : (is : IsOf kept.design.now kept) (are : AreClocked (parts kept.design.now) clocked) (steps : List (Vec Difference Global)) (course : IsCourseOf kept.design.now kept n steps) (given : Finding) (was one : Option (Demo × Values)) → at < length findings → ((finding : Finding) → slice_get findings at ≡ Some finding → given ≡ finding) → is_trial_of given.rule n ≡ true → is_some (get_or old at was) ≡ false → told one ≡ told_of n (first_in (compared kept clocked given) 1 steps) → ArePartly kept clocked findings n (at + 1) (slice_set old at one)
-  taken is are steps course given was one inside given_is runs none same =
+  taken : (skipped : List Bool) (are : AreSkipped kept clocked findings skipped) (steps : List (Vec Difference Global)) (course : IsCourseOf kept.design.now kept skipped n steps) (given : Finding) (was one : Option (Demo × Values)) → at < length findings → ((finding : Finding) → slice_get findings at ≡ Some finding → given ≡ finding) → is_trial_of given.rule n ≡ true → is_some (get_or old at was) ≡ false → told one ≡ told_of n (first_in (compared kept clocked given) 1 steps) → ArePartly kept clocked findings n (at + 1) (slice_set old at one)
+  taken skipped are steps course given was one inside given_is runs none same =
       partly_more kept clocked findings n at old (slice_set old at one) (length-set old at one) (λ k other. read_other old at k one other) here partly
     where
       within : at < length old
@@ -53,7 +53,7 @@ module _ (kept : Kept) (clocked : List Bool) (findings : List Finding) (n at : �
           let runs' : is_trial_of finding.rule n ≡ true = subst (λ (x : Finding). is_trial_of x.rule n ≡ true) e runs in
           let same' : told one ≡ told_of n (first_in (compared kept clocked finding) 1 steps) = subst (λ (x : Finding). told one ≡ told_of n (first_in (compared kept clocked x) 1 steps)) e same in
           subst (λ (o : Option (Demo × Values)). IsShownBelow kept.design.now (plain kept) finding (compared kept clocked finding) (n + 1) (told o)) f
-          (shown_now kept clocked n finding is are steps one course runs' same' (partly.before at finding None (omega arith) there nothing))
+          (shown_now kept clocked n finding skipped (are at finding there) steps one course runs' same' (partly.before at finding None (omega arith) there nothing))
 
   -- any other finding
   passed : ((finding : Finding) → slice_get findings at ≡ Some finding → slice_get old at ≡ Some None → is_trial_of finding.rule n ≡ false) → ArePartly kept clocked findings n (at + 1) old
@@ -72,7 +72,7 @@ loop-at-preserved c =
     elim c.if-is_none.branch [
       | then-is_none+then-is_trial_of w ↦
           subst (λ (found : List (Option (Demo × Values))). ArePartly kept clocked findings n (at + 1) found) (sym w.found-is)
-          (taken kept clocked findings n at old c.loop-at.invariant c.requires.is_of c.requires.clocked c.args.steps.now c.requires.course _ c.index-found-at.result w.first_in.result (omega arith)
+          (taken kept clocked findings n at old c.loop-at.invariant c.args.skipped.now c.requires.skipped c.args.steps.now c.requires.course _ c.index-found-at.result w.first_in.result (omega arith)
           (λ finding there. get_or_from_slice_get findings at finding _ there) (sym w.is_trial_of.ensures ∙ w.if-is_trial_of.true) (c.is_none.ensures ∙ ap not w.if-is_none.true) w.first_in.ensures)
       | else-is_none w ↦
           subst (λ (found : List (Option (Demo × Values))). ArePartly kept clocked findings n (at + 1) found) (sym w.found-is)

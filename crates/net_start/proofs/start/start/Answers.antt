@@ -60,13 +60,13 @@ returns-clause-start c =
     = c.give-2.auto.numbers ∙ ap (λ (l : List (List Bit)). length l) (same ∙ sym whole) in
     let back : take n (last ++ drop (length last) held) ≡ last
     = written_back held last n last_long (ok ∙ sym held_long) in
-    let masked : AreMasked c.in_ok-kept.kept.masks f (places stored) registers (length registers) made
-    = subst (λ (l : List (List Bit)). AreMasked c.in_ok-kept.kept.masks f (places stored) registers (length registers) l) (sym c.deref.ensures.value) c.in_ok-begun.ensures in
+    let masked : AreMasked c.args.kept.now.masks f (places stored) registers (length registers) made
+    = subst (λ (l : List (List Bit)). AreMasked c.args.kept.now.masks f (places stored) registers (length registers) l) (sym c.deref.ensures.value) c.in_ok-begun.ensures in
     let one : AreGiven (places stored) made (length (places stored)) (store first) (store mid)
     = subst (λ m. AreGiven (places stored) made m (store first) (store mid)) (sym (length-map stored (λ (signal : SigId). signal.0))) c.give.ensures in
     let other : AreGiven (places tops) inputs (length (places tops)) (store mid) (store last)
     = subst (λ m. AreGiven (places tops) inputs m (store mid) (store last)) (sym (length-map tops (λ (signal : SigId). signal.0)))
     (subst (λ (l : List (List Bit)). AreGiven (places tops) inputs (length tops) (store l) (store last)) same c.give-2.ensures) in
     subst (λ (l : List (List Bit)). IsStart d f (places stored) registers (places tops) inputs (store l)) (sym back)
-    (is_start d f c.in_ok-kept.kept.masks c.in_ok-kept.ensures (places stored) registers (places tops) inputs c.requires.stored c.requires.tops c.requires.registers c.requires.inputs c.requires.inputs_known
+    (is_start d f c.args.kept.now.masks c.requires.kept (places stored) registers (places tops) inputs c.requires.stored c.requires.tops c.requires.registers c.requires.inputs c.requires.inputs_known
     made first mid last masked (c.deref_mut.ensures.value ∙ c.in_ok-numbers.ensures) one other)

@@ -6,4 +6,4 @@ use Rattle.demo_replay.proofs.run.Run.differences.Given as goal
 
 abbrev pub invariant-loop-number : goal.invariant-loop-number
 invariant-loop-number l =
-    l.found.items ≡ map (difference (moment_of l.self.sim l.self.net)) (passing l.number (λ s. not (is_marked l.self.setup.now.temporaries.items s) && differs (moment_of l.self.sim l.self.net) s))
+    l.found.items ≡ map (difference (moment_of l.self.sim l.self.net)) (passing l.number (λ s. not (is_marked l.skipped s) && differs (moment_of l.self.sim l.self.net) s))
