@@ -7,7 +7,8 @@ use Rattle.rtl_flat.specs.declared.design.Design.{Design}
 use Rattle.rtl_flat.specs.declared.expr.SigId.{SigId}
 use Rattle.rtl_flat.specs.declared.signal.Signal.{Signal}
 use Rattle.rtl_flat.specs.PathSets.{IsTemporary}
-use Rattle.rtl_flat.specs.Process.{Task}
+use Rattle.rtl_flat.specs.Levels.{IsLevel}
+use Rattle.rtl_flat.specs.Process.{Task, task}
 use Rattle.event_model.specs.Queue.{flat}
 use Rattle.net_model.specs.declared.fill.Fill.{Fill}
 use Rattle.net_model.specs.declared.fill.Fill.TheVariants as fill
@@ -54,6 +55,10 @@ pub record IsOf (design : Design) (kept : Kept) : Type 0 where
   pub one_is : IsNetlistOf design fill.One kept.one
   pub basis : IsBasisOf (flat design) kept.basis
   pub temporaries : MarkTemporaries design kept.temporaries.items
+  pub level_count : length kept.levels.items ≡ length design.processes.items
+  pub levels :
+      (p : ℕ) → p < length design.processes.items →
+      IsLevel design.signals.items (map task design.processes.items) p (slice_index_or kept.levels.items p None)
 
 -- what a contract sees of it
 abbrev pub plain : Kept → Setup

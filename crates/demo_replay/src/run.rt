@@ -84,7 +84,7 @@ impl<'d> Run<'d> {
     {
         let net = netlist_at(alloc, setup, trial)?;
         let start = start_of(alloc, setup, &net, trial)?;
-        let sim = EventSim::new(alloc, setup.design, &start)?;
+        let sim = EventSim::on(alloc, setup.design, &setup.levels, &start)?;
         Ok(Run {
             setup,
             trial,

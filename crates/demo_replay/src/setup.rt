@@ -17,7 +17,7 @@ use netlist_eval::basis::Basis;
 use netlist_eval::fault::NetFault;
 use rtl_flat::design::Design;
 use rtl_flat::expr::SigId;
-use rtl_scan::temporaries;
+use rtl_scan::{levels, temporaries};
 use rtl_tree::memory::Memory;
 use std::alloc::Global;
 
@@ -32,6 +32,8 @@ pub(crate) struct Setup<'d> {
     pub basis: Basis,
     /// Of each signal whether it is a temporary.
     pub temporaries: Vec<bool>,
+    /// The level of each process.
+    pub levels: Vec<Option<u32>>,
 }
 
 /// The netlist of a design, if it has one.
@@ -83,6 +85,7 @@ impl<'d> Setup<'d> {
             MatchOption found (LacksNetlist (parts design.now)) (IsOf design.now)) }
     {
         let temporaries = temporaries(alloc, design)?;
+        let levels = levels(alloc, design)?;
         let Some(basis) = basis_of(alloc, design)? else {
             return Ok(None);
         };
@@ -98,6 +101,7 @@ impl<'d> Setup<'d> {
             one,
             basis,
             temporaries,
+            levels,
         }))
     }
 

@@ -29,7 +29,7 @@ use thiserror::Error;
 #[error("the step did not settle")]
 pub struct Unsettled;
 
-/// A simulator of a design. Only `EventSim::new` takes memory, and an event costs time in what it changes and wakes.
+/// A simulator of a design. Only `EventSim::new` and `EventSim::on` take memory, and an event costs time in what it changes and wakes.
 #[derive(Drop)]
 pub struct EventSim<'d> {
     fanout: Fanout<'d>,
@@ -45,7 +45,9 @@ pub struct EventSim<'d> {
 }
 
 impl<'d> EventSim<'d> {
-    ghost use Rattle.std.specs.Prelude.{ℕ, ◌≡◌, ◌<◌, ◌≤◌, ◌+◌, [], false, true, length, map, IfErr, IfOk, IsErr};
+    ghost use Rattle.std.specs.Prelude.{ℕ, ◌≡◌, ◌<◌, ◌≤◌, ◌+◌, [], false, true, length, map, slice_index_or, None, IfErr, IfOk, IsErr};
+    ghost use Rattle.rtl_flat.specs.Levels.{IsLevel};
+    ghost use Rattle.rtl_flat.specs.Process.{task};
     ghost use Rattle.event_model.specs.Order.{active, ready};
     ghost use Rattle.event_model.specs.Policies.{IsDone, IsTooDear, budget, cost};
     ghost use Rattle.event_model.specs.Queue.{IsAtRest, after, flat, offer};
@@ -59,10 +61,26 @@ impl<'d> EventSim<'d> {
         requires { IsStart design.now start.now }
         ensures { IfOk result (λ sim. IsSimOf design.now (start_of (flat design.now) start.now) sim) }
     {
+        let levels = levels(alloc, design)?;
+        EventSim::on(alloc, design, &levels, start)
+    }
+
+    /// The same, where the levels of the design's processes are at hand: they serve many simulators.
+    pub fn on(
+        alloc: Global,
+        design: &'d Design,
+        levels: &[Option<u32>],
+        start: &Start,
+    ) -> Result<EventSim<'d>, Memory>
+        requires start { IsStart design.now start.now }
+        requires length { length levels.now ≡ length design.now.processes.items }
+        requires each { (p : ℕ) → p < length design.now.processes.items → IsLevel design.now.signals.items (map task design.now.processes.items) p (slice_index_or levels.now p None) }
+        ensures { IfOk result (λ sim. IsSimOf design.now (start_of (flat design.now) start.now) sim) }
+    {
         let fanout = fanout_of(alloc, design)?;
         let costs = costs_of(alloc, design)?;
         let budget = budget_of(design, &costs);
-        let levels = levels(alloc, design)?;
+        let levels = Vec::from_slice(alloc, levels)?;
         let room = (budget * costs.share) as usize;
         let queue = first_queue(alloc, design, start, &fanout.drivers, levels, room)?;
         Ok(EventSim {

@@ -4,7 +4,7 @@ use Rattle.rtl_flat.specs.declared.act.ProcId.{ProcId}
 use Rattle.rtl_flat.specs.declared.design.Design.{Design}
 use Rattle.event_model.specs.Queue.{flat}
 use Rattle.event_queue.proofs.Beginning.{holding, levels_are}
-use Rattle.event_queue.proofs.sim.EventSim.new.Goals as goal
+use Rattle.event_queue.proofs.sim.EventSim.on.Goals as goal
 
 pub first_queue-requires-clause-table : goal.first_queue-requires-clause-table
 first_queue-requires-clause-table c =
@@ -24,5 +24,5 @@ returns c =
       state = c.in_ok-queue.ensures.state;
       left = c.budget_of-budget.ensures.budget;
       free = refl;
-      levels = levels_are c.args.design.now c.in_ok-levels.levels.items c.in_ok-queue.queue.woken.levels c.in_ok-queue.ensures.levels c.in_ok-levels.ensures.each;
+      levels = levels_are c.args.design.now c.args.levels.now c.in_ok-queue.queue.woken.levels (c.in_ok-queue.ensures.levels ∙ c.in_ok-levels.ensures.items) c.requires.each;
     }
