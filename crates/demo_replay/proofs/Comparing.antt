@@ -1,19 +1,17 @@
 -- The signals that are compared for a finding.
-use Rattle.std.proofs.Common.{◌≡◌, ◌∙◌, ◌==◌, ◌||◌, ◌&&◌, ◌<◌, not, ℕ, zero, suc, Bool, true, false, if◌then◌else◌, List, [], ◌∷◌, length, Option, None, Some, refl, sym, ap, inl, inr, arith}
-use Rattle.std.specs.Prelude.{◌↔◌, ◌⊎◌}
+use Rattle.std.proofs.Common.{◌≡◌, ◌∙◌, ◌||◌, ◌<◌, not, ℕ, zero, suc, Bool, true, false, if◌then◌else◌, List, [], ◌∷◌, length, Option, None, Some, refl, sym, ap, inl, inr, arith}
 use Rattle.std.specs.List.{slice_get}
 use Rattle.std.specs.Option.{IsSomeAnd}
 use Rattle.std.proofs.lemmas.Bool.{and_from, and_parts, eq-eqb, eqb-true, false≢true, or_cases, or_left, or_right}
 use Rattle.std.proofs.lemmas.Option.{slice_get_within}
 use Rattle.rtl_flat.specs.declared.expr.SigId.{SigId}
 use Rattle.rtl_flat.specs.declared.signal.Signal.{Signal}
-use Rattle.rtl_flat.specs.PathSets.{IsTemporary}
 use Rattle.event_model.specs.Queue.{flat}
 use Rattle.net_model.specs.Solution.{IsLasting}
 use Rattle.rtl_rule.specs.declared.finding.Finding.{Finding}
 use Rattle.rtl_rule.specs.Parts.{parts}
 use Rattle.demo_replay.specs.declared.setup.Setup.{Setup as Kept}
-use Rattle.demo_replay.specs.Compared.{AreCompared, IsCompared, IsOutput, IsOwn, IsRegister, IsWatched, is_unwoken}
+use Rattle.demo_replay.specs.Compared.{AreCompared, IsCompared, IsOutput, IsRegister, IsWatched, is_unwoken}
 use Rattle.demo_replay.specs.Tables.{AreClocked, IsOf, compared, compared_at, is_marked, is_own, is_watched}
 use Rattle.demo_replay.proofs.Marking.{marked}
 

@@ -9,4 +9,5 @@ pub mod Running
 pub mod Seeking
 pub mod Setting
 pub mod Showing
+pub mod Skipping
 pub mod Starting

@@ -1,5 +1,5 @@
 -- The signals that differ, one number after another.
-use Rattle.std.proofs.Common.{◌≡◌, ◌∙◌, ◌&&◌, ◌+◌, ℕ, Bool, true, false, not, cond, if◌then◌else◌, List, [], ◌∷◌, ◌++◌, map, refl, sym, ap, subst, add-one}
+use Rattle.std.proofs.Common.{◌≡◌, ◌∙◌, ◌&&◌, ◌+◌, ℕ, Bool, true, false, not, cond, if◌then◌else◌, List, [], ◌∷◌, ◌++◌, map, refl, sym, ap, add-one}
 use Rattle.std.proofs.lemmas.List.{map-append}
 use Rattle.rtl_bits.specs.declared.Bit.{Bit}
 use Rattle.demo_told.specs.Same.{are_same}

@@ -1,9 +1,8 @@
 -- From one member of a list to the next, where the first is sought of which a test holds.
-use Rattle.std.proofs.Common.{◌≡◌, ◌∙◌, ◌<◌, ◌≤◌, ◌+◌, ℕ, zero, suc, Bool, true, false, if◌then◌else◌, List, [], ◌∷◌, drop, length, Option, None, Some, Vec, refl, sym, ap, add-one, arith}
+use Rattle.std.proofs.Common.{◌≡◌, ◌∙◌, ◌≤◌, ◌+◌, ℕ, zero, suc, Bool, true, false, if◌then◌else◌, List, [], ◌∷◌, drop, length, Option, None, Some, Vec, refl, sym, ap, add-one, arith}
 use Rattle.std.specs.declared.alloc.Global.{Global}
 use Rattle.std.specs.List.{slice_get}
 use Rattle.demo_replay.specs.declared.compare.Difference.{Difference}
-use Rattle.demo_replay.specs.Firsts.{Place}
 use Rattle.demo_replay.specs.Tables.{first_among, first_in, place_of, place_or}
 
 -- ---- differences

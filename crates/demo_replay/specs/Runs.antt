@@ -20,7 +20,7 @@ use Rattle.netlist_eval.specs.declared.step.Step.{Step}
 use Rattle.netlist_eval.specs.Steps.{IsBegun, IsStepOf, step_view}
 use Rattle.demo_trials.specs.Steps.{Input, step_of}
 use Rattle.demo_trials.specs.Trials.{fill_of, policy_of, step_count}
-use Rattle.demo_replay.specs.Setups.{Setup, HasNetlist, IsSetup, first_value, flat_of, path_of}
+use Rattle.demo_replay.specs.Setups.{Setup, HasNetlist, first_value, flat_of, path_of}
 
 -- what is there after a step
 pub record Moment : Type 0 where

@@ -161,6 +161,18 @@ abbrev pub compared : Kept → List Bool → Finding → ℕ → Bool
 compared kept clocked finding s =
     compared_at kept clocked finding s (slice_get kept.design.now.signals.items s)
 
+-- whether a signal is compared for some finding
+abbrev pub is_compared_for_some : Kept → List Bool → List Finding → ℕ → Bool
+is_compared_for_some kept clocked [] s = false
+is_compared_for_some kept clocked (finding ∷ findings) s =
+    compared kept clocked finding s || is_compared_for_some kept clocked findings s
+
+-- of each signal below a limit whether it is compared for none
+abbrev pub skips : Kept → List Bool → List Finding → ℕ → List Bool
+skips kept clocked findings zero = []
+skips kept clocked findings (suc n) =
+    skips kept clocked findings n ++ (not (is_compared_for_some kept clocked findings n) ∷ [])
+
 -- no signal that is compared for some finding is marked
 abbrev pub AreSkipped : Kept → List Bool → List Finding → List Bool → Type 0
 AreSkipped kept clocked findings skipped =

@@ -1,11 +1,9 @@
 // Signals that differ, and which of them count for a finding.
 
-ghost use Rattle.std.specs.Prelude.{ℕ, ◌≡◌, ◌↔◌, ◌<◌, false, true, length, Some, IfOk, OnOk};
-ghost use Rattle.std.specs.Bool.{OnFalse};
-ghost use Rattle.std.specs.List.{slice_get};
+ghost use Rattle.std.specs.Prelude.{ℕ, ◌≡◌, ◌↔◌, ◌<◌, true, length, IfOk, OnOk};
 ghost use Rattle.rtl_rule.specs.Parts.{parts};
 ghost use Rattle.demo_replay.specs.Compared.{is_unwoken};
-ghost use Rattle.demo_replay.specs.Tables.{AreClocked, AreClockedBelow, AreSkipped, MarksWritten, compared, first_among, is_marked, is_own, is_watched};
+ghost use Rattle.demo_replay.specs.Tables.{AreClocked, AreClockedBelow, MarksWritten, compared, first_among, is_compared_for_some, is_marked, is_own, is_watched, skips};
 
 use crate::setup::{Setup, is_marked};
 use check_clocks::tops::mark_all;
@@ -100,8 +98,7 @@ fn is_compared_for_some(
     findings: &[Finding],
     number: SigId,
 ) -> bool
-    ensures { OnFalse result ((k : ℕ) (finding : Finding) → slice_get findings.now k ≡ Some finding
-        → compared setup.now clocked.now finding number.0 ≡ false) }
+    ensures { result ≡ is_compared_for_some setup.now clocked.now findings.now number.0 }
 {
     for finding in findings {
         if is_compared(setup, clocked, finding, number) {
@@ -118,8 +115,8 @@ pub(crate) fn skipped_signals(
     clocked: &[bool],
     findings: &[Finding],
 ) -> Result<Vec<bool>, Memory>
-    ensures { IfOk result (λ skipped.
-        AreSkipped setup.now clocked.now findings.now skipped.items) }
+    ensures { IfOk result (λ skipped. skipped.items ≡ skips setup.now clocked.now findings.now
+        (length setup.now.design.now.signals.items)) }
 {
     let mut skipped = Vec::new(alloc);
     for number in 0..setup.design.signals.len() {

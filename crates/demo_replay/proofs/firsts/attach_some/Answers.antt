@@ -10,8 +10,9 @@ use Rattle.demo_told.specs.declared.demo.Demo.{Demo}
 use Rattle.demo_told.specs.declared.demo.Shown.{Shown as Values}
 use Rattle.demo_replay.specs.Firsts.{AreFirsts, told}
 use Rattle.demo_replay.specs.Setups.{LacksNetlist}
-use Rattle.demo_replay.specs.Tables.{AreClocked, AreShownBelow, IsOf}
+use Rattle.demo_replay.specs.Tables.{AreClocked, AreShownBelow, AreSkipped, IsOf, skips}
 use Rattle.demo_replay.proofs.Showing.{none_shown, all_first, none_first}
+use Rattle.demo_replay.proofs.Skipping.{are_skipped}
 use Rattle.demo_replay.proofs.firsts.attach_some.Goals as goal
 use Rattle.demo_replay.proofs.firsts.attach_some.Goals.{in-Some-new+in_ok-run_trial, in_default-new}
 
@@ -30,6 +31,18 @@ loop-number-init c =
     subst (λ (all : List (Option (Demo × Values))). AreShownBelow c.in-Some.setup.design.now c.in-Some.setup c.in_ok-clocked.clocked.items c.args.findings.now 0 all) (sym c.in_ok-found.ensures)
     (none_shown c.in-Some.setup c.in_ok-clocked.clocked.items c.args.findings.now)
 
+-- what no finding compares is marked, as `run_trial` asks
+pub run_trial-requires-clause-skipped : goal.run_trial-requires-clause-skipped
+run_trial-requires-clause-skipped c =
+    let kept = c.in-Some.setup in
+    let findings = c.args.findings.now in
+    let marks = c.deref-in-Some-new.result.now in
+    let count = length kept.design.now.signals.items in
+    let both : c.deref.result.now ≡ marks = c.deref.ensures.value ∙ sym c.deref-in-Some-new.ensures.value in
+    let same : c.deref-in-Some-new-2.result.now ≡ skips kept marks findings count
+    = c.deref-in-Some-new-2.ensures.value ∙ c.in_ok-skipped.ensures ∙ ap (λ (l : List Bool). skips kept l findings count) both in
+    subst (λ (l : List Bool). AreSkipped kept marks findings l) (sym same) (are_skipped kept marks findings count)
+
 pub loop-number-preserved : goal.loop-number-preserved
 loop-number-preserved c =
     let kept = c.in-Some.setup in
@@ -40,8 +53,8 @@ loop-number-preserved c =
       | in-Some-new+in_ok-run_trial w ↦
           let new = w.run_trial.new.found in
           let trial = w.in-Some-new.trial.number in
-          let ran : AreShownBelow kept.design.now kept w.deref.result.now findings (trial + 1) new = w.in_ok-run_trial.ensures in
-          let by_marks : AreShownBelow kept.design.now kept clocked findings (trial + 1) new = subst (λ (marks : List Bool). AreShownBelow kept.design.now kept marks findings (trial + 1) new) w.deref.ensures.value ran in
+          let ran : AreShownBelow kept.design.now kept w.deref-in-Some-new.result.now findings (trial + 1) new = w.in_ok-run_trial.ensures in
+          let by_marks : AreShownBelow kept.design.now kept clocked findings (trial + 1) new = subst (λ (marks : List Bool). AreShownBelow kept.design.now kept marks findings (trial + 1) new) w.deref-in-Some-new.ensures.value ran in
           let by_number : AreShownBelow kept.design.now kept clocked findings (c.loop-number.number + 1) new = subst (λ (n : ℕ). AreShownBelow kept.design.now kept clocked findings (n + 1) new) w.in-Some-new.ensures.number by_marks in
           let whole = written old.len new old.items old.ok.0 (by_number.count ∙ sym c.loop-number.invariant.count) in
           subst (λ (v : _). AreShownBelow kept.design.now kept clocked findings (c.loop-number.number + 1) v.items) (sym w.found-is)

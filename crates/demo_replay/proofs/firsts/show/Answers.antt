@@ -6,7 +6,6 @@ use Rattle.std.proofs.lemmas.Bool.{false≢true}
 use Rattle.std.proofs.lemmas.List.{length-set}
 use Rattle.std.proofs.lemmas.Option.{get_or_from_slice_get, same_Some, slice_get-get_or}
 use Rattle.rtl_rule.specs.declared.finding.Finding.{Finding}
-use Rattle.rtl_rule.specs.Parts.{parts}
 use Rattle.demo_told.specs.declared.demo.Demo.{Demo}
 use Rattle.demo_told.specs.declared.demo.Shown.{Shown as Values}
 use Rattle.demo_replay.specs.declared.compare.Difference.{Difference}
