@@ -9,4 +9,5 @@ pub mod Rules
 pub mod Same
 pub mod Settled
 pub mod Started
+pub mod Statuses
 pub mod Told

@@ -9,7 +9,7 @@ use Rattle.desk_requests.specs.declared.ask.Request.{Request}
 use Rattle.desk_core.specs.Machine.{AreAccepted}
 use Rattle.desk_core.specs.Serving.{Accepted, Answered, IsServed, OutOfMemory, Served, Serves, Unavailable}
 use Rattle.desk_core.proofs.Accepted.{replies_made}
-use Rattle.desk_server.proofs.Statuses.{accepted_plain, made_accepted, told_plain}
+use Rattle.desk_core.proofs.Statuses.{accepted_plain, made_accepted, told_plain}
 
 -- a status that isn't 503 is another
 pub no_failure : (status : ℕ) → (status == 503) ≡ false → status ≡ 503 → ⊥
