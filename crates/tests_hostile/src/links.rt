@@ -78,3 +78,36 @@ fn a_reply_is_cut_where_its_link_fails(rt: HostRuntime) -> Result<(), Fail> {
     assert_eq!(rt; first_wrong_write(alloc, &whole)?, None);
     Ok(())
 }
+
+// A request whose head and body are as long as they may be.
+fn longest(alloc: Global) -> Result<Vec<u8>, Fail> {
+    let mut request = Vec::from_slice(
+        alloc,
+        b"PUT /files/e.v HTTP/1.1\r\nDesk-User: ann\r\nDesk-Request: 1\r\nContent-Length: 1048576\r\nX: ",
+    )?;
+    for _ in request.len()..16_380 {
+        request.push(b'x')?;
+    }
+    request.extend_from_slice(b"\r\n\r\n")?;
+    for _ in 0..1_048_576 {
+        request.push(b' ')?;
+    }
+    Ok(request)
+}
+
+// Whether it is served where each read gives one byte, and the one behind its last byte would fail.
+fn is_read_once_a_byte(alloc: Global) -> Result<bool, Fail> {
+    let mut link = MemoryLink::new(alloc, longest(alloc)?)?;
+    link.move_at_most(1);
+    link.fail_read(1_064_961)?;
+    let mut outside = new_outside(alloc)?;
+    outside.connect(link)?;
+    outside.serve()?;
+    Ok(outside.has_status(0, "200"))
+}
+
+#[test]
+fn the_longest_request_takes_a_read_for_each_byte(rt: HostRuntime) -> Result<(), Fail> {
+    assert_eq!(rt; is_read_once_a_byte(rt.alloc())?, true);
+    Ok(())
+}
