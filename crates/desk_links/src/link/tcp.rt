@@ -28,13 +28,16 @@ pub struct TcpLink<C: Drop, S: Drop> {
 }
 
 impl<C: Clock + Drop, S: OpenStream + Read + Write + Drop> TcpLink<C, S> {
-    ghost use Rattle.std.specs.Prelude.{◌≡◌, ◌<◌, ◌≤◌, length, IfSome};
+    ghost use Rattle.std.specs.Prelude.{◌≡◌, ◌<◌, ◌≤◌, ◌-◌, length, min, IfSome};
+    ghost use Rattle.std.specs.Time.{instant_nanos};
+    ghost use Rattle.std.specs.Duration.{as_nanos};
     ghost use Rattle.desk_io.specs.Causes.{Rose};
     ghost use Rattle.desk_links.specs.Held.{tcp_link_faults};
 
     /// A link over this stream, with no fault yet, whose time is told by a clock.
     pub fn new(clock: C, stream: S) -> TcpLink<C, S>
-        ensures { tcp_link_faults result ≡ 0 }
+        ensures faults { tcp_link_faults result ≡ 0 }
+        ensures left { as_nanos result.left ≡ 60_000_000_000 }
     {
         TcpLink {
             clock,
@@ -44,30 +47,38 @@ impl<C: Clock + Drop, S: OpenStream + Read + Write + Drop> TcpLink<C, S> {
         }
     }
 
-    // How long the next call waits for the client.
-    fn wait(&self) -> Duration {
-        self.left.min(Duration::from_secs(SILENCE_SECONDS))
+    // How long the next call waits for the client: as long as the client has left, but for what is
+    // over a silence of ten seconds.
+    fn wait(&self) -> Duration
+        ensures { as_nanos result ≡ min (as_nanos self.now.left) 10_000_000_000 }
+    {
+        let over = self
+            .left
+            .saturating_sub(Duration::from_secs(SILENCE_SECONDS));
+        self.left.saturating_sub(over)
     }
 
-    // Takes the time since an instant from what the client has left.
-    fn spend(&mut self, begun: Instant) -> Option<()>
-        ensures { tcp_link_faults self.new ≡ tcp_link_faults self.old }
+    // Takes the time between two instants from what the client has left.
+    fn spend(&mut self, begun: Instant, ended: Instant)
+        ensures left { as_nanos self.new.left
+            ≡ as_nanos self.old.left - (instant_nanos ended - instant_nanos begun) }
+        ensures faults { tcp_link_faults self.new ≡ tcp_link_faults self.old }
     {
-        let spent = begun.elapsed(&self.clock).ok()?;
-        self.left = self.left.saturating_sub(spent);
-        Some(())
+        self.left = self.left.saturating_sub(ended.duration_since(begun));
     }
 
     // Reads, where the client sends in time.
     fn read_in_time(&mut self, buf: &mut [u8]) -> Option<usize>
         ensures count { IfSome result (λ count. count ≤ length buf.new) }
         ensures length { length buf.new ≡ length buf.old }
+        ensures left { as_nanos self.new.left ≤ as_nanos self.old.left }
         ensures faults { tcp_link_faults self.new ≡ tcp_link_faults self.old }
     {
         let begun = Instant::now(&self.clock).ok()?;
         self.stream.set_read_timeout(Some(self.wait())).ok()?;
         let count = self.stream.read(buf).ok()?;
-        self.spend(begun)?;
+        let ended = Instant::now(&self.clock).ok()?;
+        self.spend(begun, ended);
         Some(count)
     }
 
@@ -75,12 +86,14 @@ impl<C: Clock + Drop, S: OpenStream + Read + Write + Drop> TcpLink<C, S> {
     fn write_in_time(&mut self, bytes: &[u8]) -> Option<usize>
         ensures bound { IfSome result (λ count. count ≤ length bytes.now) }
         ensures some { IfSome result (λ count. 0 < length bytes.now → 0 < count) }
+        ensures left { as_nanos self.new.left ≤ as_nanos self.old.left }
         ensures faults { tcp_link_faults self.new ≡ tcp_link_faults self.old }
     {
         let begun = Instant::now(&self.clock).ok()?;
         self.stream.set_write_timeout(Some(self.wait())).ok()?;
         let count = self.stream.write(bytes).ok()?;
-        self.spend(begun)?;
+        let ended = Instant::now(&self.clock).ok()?;
+        self.spend(begun, ended);
         if count > 0 || bytes.is_empty() {
             Some(count)
         } else {
