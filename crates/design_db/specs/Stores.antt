@@ -67,6 +67,6 @@ abbrev pub reached_of : Answer → Option (List (List ℕ))
 reached_of (Ruled verdict reached) = Some reached.items
 reached_of (Refused line) = None
 
--- the names of the files in which the modules of a top stand, where its answer has them
+-- the names of the files that a top uses, where its answer has them
 abbrev pub reached_in : Store → List ℕ → Option (List (List ℕ))
 reached_in store top = option_and_then reached_of (answer_of store top)

@@ -6,7 +6,7 @@ ghost use Rattle.rtl_tree.specs.TreeModule.{Circuit};
 ghost use Rattle.rtl_tree.specs.declared.text.TheConstants.{MAX_BYTES};
 ghost use Rattle.desk_files.specs.Sources.{has_file, with_file, without_file};
 ghost use Rattle.desk_memo.specs.Fresh.{IsFresh, texts_in};
-ghost use Rattle.desk_memo.specs.Orders.{AreShort};
+ghost use Rattle.desk_memo.specs.Orders.{AreInOrder, AreShort};
 ghost use Rattle.desk_memo.specs.Readings.{AreDefined, AreReadings, changed_count, first_refusal, with_blank, without};
 ghost use Rattle.desk_memo.specs.ShownReadings.{modules_of, readings_of};
 ghost use Rattle.desk_memo.specs.Rulings.{IsRuling, current_answer, current_of, others_of};
@@ -62,6 +62,7 @@ fn rule<L: Ledger>(
     top: &Text,
     steps: &mut Steps<L>,
 ) -> Result<(), Memory>
+    requires in_order { AreInOrder files.now }
     requires short { AreShort files.now }
     requires right { AreReadings files.now (readings_of readings.now) (modules_of readings.now) }
     requires unchanged { changed_count files.now (readings_of readings.now) ≡ 0 }
@@ -328,8 +329,7 @@ impl Db {
         }
     }
 
-    /// The names of the files in which the modules of a top stand, where its answer is known and it
-    /// has a design.
+    /// The names of the files that a top uses, where its answer is known and it has a design.
     pub fn reached(&self, top: &Text) -> Option<&[Text]>
         ensures { option_map (λ names. names.now) result ≡ reached_in self.now top.now }
     {

@@ -6,6 +6,8 @@ use Rattle.json.specs.Print.{escape_byte}
 use Rattle.rtl_tree.specs.TreeModule.{Circuit}
 use Rattle.elab_scope.specs.Faults.{Answer as Fault}
 use Rattle.elab_flat.specs.Flats.{DesignParts}
+use Rattle.elab_names.specs.Extracts.{extract}
+use Rattle.elab_names.specs.LookUps.{AreUsed}
 use Rattle.rtl_elab.specs.Designs.{library_of}
 use Rattle.rtl_elab.specs.Elaborated.{elaborated}
 use Rattle.desk_build.specs.Building.{AreSpelled, Front, IsFront, Modules, Faulty}
@@ -26,7 +28,7 @@ use Rattle.desk_records.specs.Machine.{by_tables, change_outcome, full_refusal, 
 use Rattle.desk_records.specs.Outcomes.{Outcome, Told, Done, Open, kept_said}
 use Rattle.desk_rulings.specs.Rulings.{Verdict, has_first_grade, left_of, standing_of}
 use Rattle.desk_rulings.specs.SignOffs.{accepted, edited_by, findings_stand, rows_of, signoff_outcome, signoff_row, unless_edited}
-use Rattle.desk_memo.specs.Fresh.{IsOfDesign, IsOfFront, texts_in}
+use Rattle.desk_memo.specs.Fresh.{IsOfDesign, IsOfFront, sources_at, texts_in}
 use Rattle.desk_memo.specs.declared.answer.Answer.{Answer}
 use Rattle.desk_memo.specs.declared.answer.Answer.TheVariants.{Ruled, Refused}
 use Rattle.desk_core.specs.Files.{AreFilesOf}
@@ -78,14 +80,16 @@ signed_clean top request today kept verdict says =
 
 -- ---- the design of an answer
 
-of_design : (kept : Kept) (top : List ℕ) (files : List SourceFile) → AreFilesOf kept.files files → (circuits : List (List Circuit)) → AreSpelled (texts_in files) circuits → (made : Result DesignParts Fault) → elaborated (library_of circuits) top ≡ made → (answer : Answer) → IsOfDesign files circuits top made answer → (request : Request) (today : ℤ) → SaysCleanIn (judged_with (ask.SignOff top) request today kept files answer) → IsSignedClean kept top
-of_design kept top files are circuits spelled (Ok flat) same (Ruled verdict reached) is request today says =
+of_design : (kept : Kept) (top : List ℕ) (files : List SourceFile) → AreFilesOf kept.files files → (circuits : List (List Circuit)) → AreSpelled (texts_in files) circuits → (numbers : List ℕ) → AreUsed (library_of circuits) top numbers → (made : Result DesignParts Fault) → elaborated (extract numbers (library_of circuits)) top ≡ made → (answer : Answer) → IsOfDesign (sources_at numbers files) made answer → (request : Request) (today : ℤ) → SaysCleanIn (judged_with (ask.SignOff top) request today kept files answer) → IsSignedClean kept top
+of_design kept top files are circuits spelled numbers used (Ok flat) same (Ruled verdict reached) is request today says =
     let clean : has_first_grade verdict.ruling.findings.items ≡ false = signed_clean top request today kept (verdict_in files verdict reached.items) says in
     record {
       files = files;
       are_files = are;
       circuits = circuits;
       spelled = spelled;
+      numbers = numbers;
+      used = used;
       design = flat;
       flat = same;
       findings = verdict.ruling.findings.items;
@@ -93,14 +97,14 @@ of_design kept top files are circuits spelled (Ok flat) same (Ruled verdict reac
       clean = clean;
       promised = is.0.promised clean;
     }
-of_design kept top files are circuits spelled (Ok flat) same (Refused line) is request today says = absurd is
-of_design kept top files are circuits spelled (Err fault) same (Ruled verdict reached) is request today says = absurd is
-of_design kept top files are circuits spelled (Err fault) same (Refused line) is request today says =
+of_design kept top files are circuits spelled numbers used (Ok flat) same (Refused line) is request today says = absurd is
+of_design kept top files are circuits spelled numbers used (Err fault) same (Ruled verdict reached) is request today says = absurd is
+of_design kept top files are circuits spelled numbers used (Err fault) same (Refused line) is request today says =
     absurd (let no : 422 ≡ 201 = says.accepted in omega (arith, no))
 
 of_front : (kept : Kept) (top : List ℕ) (files : List SourceFile) → AreFilesOf kept.files files → (front : Front) → IsFront (texts_in files) front → (answer : Answer) → IsOfFront files top front answer → (request : Request) (today : ℤ) → SaysCleanIn (judged_with (ask.SignOff top) request today kept files answer) → IsSignedClean kept top
 of_front kept top files are (Modules circuits) spelled answer is request today says =
-    of_design kept top files are circuits spelled (elaborated (library_of circuits) top) refl answer is request today says
+    of_design kept top files are circuits spelled is.numbers is.are_used (elaborated (extract is.numbers (library_of circuits)) top) refl answer is.is request today says
 of_front kept top files are (Faulty number fault) spelled (Ruled verdict reached) is request today says = absurd is
 of_front kept top files are (Faulty number fault) spelled (Refused line) is request today says =
     absurd (let no : 422 ≡ 201 = says.accepted in omega (arith, no))

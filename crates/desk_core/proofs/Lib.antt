@@ -3,6 +3,7 @@ pub mod Files
 pub mod FirstFiles
 pub mod Headlines
 pub mod Made
+pub mod Named
 pub mod Paired
 pub mod Places
 pub mod Rules

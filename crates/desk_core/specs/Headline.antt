@@ -6,6 +6,8 @@ use Rattle.rtl_rule.specs.declared.finding.Finding.{Finding}
 use Rattle.check_all.specs.Findings.{AreAllFindings, IsClean}
 use Rattle.check_clean.specs.Promise.{IsPromised}
 use Rattle.elab_flat.specs.Flats.{DesignParts}
+use Rattle.elab_names.specs.Extracts.{extract}
+use Rattle.elab_names.specs.LookUps.{AreUsed}
 use Rattle.rtl_elab.specs.Designs.{library_of}
 use Rattle.rtl_elab.specs.Elaborated.{elaborated}
 use Rattle.desk_build.specs.Building.{AreSpelled}
@@ -34,15 +36,18 @@ pub record SaysClean (answer : Said) : Type 0 where
   pub graded : answer.body ≡ granted_text Clean id
 
 -- The headline. The texts of the files of the rows spell modules, and no others; of these the
--- module with the top's name means a flat design; none of its findings is of the first grade; and
--- simulation agrees with synthesis on that design
+-- module with the top's name means a flat design, in the files that it uses, numbered among
+-- themselves; none of its findings is of the first grade; and simulation agrees with synthesis on
+-- that design
 pub record IsSignedClean (kept : Kept) (top : List ℕ) : Type 0 where
   pub files : List SourceFile
   pub are_files : AreFilesOf kept.files files
   pub circuits : List (List Circuit)
   pub spelled : AreSpelled (texts_in files) circuits
+  pub numbers : List ℕ
+  pub used : AreUsed (library_of circuits) top numbers
   pub design : DesignParts
-  pub flat : elaborated (library_of circuits) top ≡ Ok design
+  pub flat : elaborated (extract numbers (library_of circuits)) top ≡ Ok design
   pub findings : List Finding
   pub found : AreAllFindings (parts_of design) findings
   pub clean : IsClean findings

@@ -1,7 +1,9 @@
 -- What is told of a module on a day.
 -- Worked examples: crates/tests_exchanges/src/rows.rt.
-use Rattle.std.specs.Prelude.{◌≡◌, ℕ, ℤ, Bool, true, false, List}
+use Rattle.std.specs.Prelude.{◌≡◌, ℕ, ℤ, Bool, true, false, find, List}
+use Rattle.std.specs.List.{filter_map}
 use Rattle.desk_report.specs.Reports.{report_text}
+use Rattle.desk_files.specs.Sources.{is_named}
 use Rattle.desk_files.specs.declared.files.SourceFile.{SourceFile}
 use Rattle.desk_tables.specs.Tables.{Kept}
 use Rattle.desk_verdict.specs.declared.verdict.Verdict.{Verdict as Made}
@@ -12,12 +14,17 @@ use Rattle.desk_memo.specs.declared.answer.Answer.TheVariants.{Ruled, Refused}
 use Rattle.desk_core.specs.Files.{AreFilesOf}
 use Rattle.desk_core.specs.declared.report.TopReport.{TopReport}
 
--- what the rules say of a module, as waivers and sign-offs look at it
+-- the files of these names, in the order of the names
+abbrev pub files_named : List (List ℕ) → List SourceFile → List SourceFile
+files_named names files = filter_map (λ name. find (is_named name) files) names
+
+-- what the rules say of a module, as waivers and sign-offs look at it: a finding's file is counted
+-- among those that the module uses
 abbrev pub verdict_in : List SourceFile → Made → List (List ℕ) → Verdict
 verdict_in files made reached = record {
   findings = made.ruling.findings.items;
   told = made.told.items;
-  files = files;
+  files = files_named reached files;
   reached = reached;
 }
 
@@ -34,7 +41,7 @@ ruled_telling top today kept files made reached =
     let verdict = verdict_in files made reached in
     let waivers = standing_of today kept verdict in
     record {
-      bytes = report_text top (sources_in files) verdict.findings verdict.told waivers
+      bytes = report_text top (sources_in verdict.files) verdict.findings verdict.told waivers
           made.ruling.clean made.ruling.firm;
       refused = false;
       left = left_of verdict.findings waivers;

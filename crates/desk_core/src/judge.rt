@@ -13,7 +13,7 @@ ghost use Rattle.desk_core.specs.Reports.{told_in};
 ghost use Rattle.desk_core.specs.Steps.{IsPaired};
 
 use crate::replies::plainly;
-use crate::report::{TopReport, report_of, ruled_of};
+use crate::report::{TopReport, files_named, report_of, ruled_of};
 use design_db::{Answer, Db, SourceFile};
 use desk_records::{Decision, Records};
 use desk_requests::{Ask, Request};
@@ -85,7 +85,7 @@ fn with_ruling(
 ) -> Result<Decision, Memory>
     requires open { request_outcome request.now today (kept_of tables.now) ≡ Open }
     requires as_many { length ruled.now.findings.now ≡ length ruled.now.told.now }
-    requires short { AreShort ruled.now.files.now }
+    requires short { AreShort (verdict_of ruled.now).files }
     ensures { IfOk result (λ made. outcome made ≡ with_ruling request.now.ask request.now today
         (kept_of tables.now) (verdict_of ruled.now)) }
 {
@@ -113,7 +113,8 @@ fn judged_with(
 {
     match answer {
         Answer::Ruled(verdict, reached) => {
-            let ruled = ruled_of(files, verdict, reached);
+            let used = files_named(alloc, files, reached)?;
+            let ruled = ruled_of(&used, verdict, reached);
             with_ruling(alloc, tables, &ruled, request, today)
         }
         Answer::Refused(line) => refusal(alloc, line),

@@ -1,15 +1,18 @@
 // What is told of a module on a day.
-ghost use Rattle.std.specs.Prelude.{◌≡◌, ◌≤◌, ◌∷◌, ◌++◌, [], length, IfOk, OnOk};
+ghost use Rattle.std.specs.Prelude.{◌≡◌, ◌≤◌, ◌∷◌, ◌++◌, [], find, length, map, option_copied, IfOk, List, OnOk};
 ghost use Rattle.rtl_tree.specs.declared.text.TheConstants.{MAX_BYTES};
 ghost use Rattle.desk_places.specs.Places.{sources_of};
 ghost use Rattle.desk_tables.specs.Tables.{kept_of};
 ghost use Rattle.desk_rulings.specs.Rulings.{verdict_of};
+ghost use Rattle.desk_files.specs.Sources.{is_named};
+ghost use Rattle.desk_files.specs.declared.files.SourceFile.{SourceFile};
 ghost use Rattle.desk_memo.specs.Fresh.{sources_in};
 ghost use Rattle.desk_memo.specs.Orders.{AreShort};
-ghost use Rattle.desk_core.specs.Reports.{refused_telling, ruled_telling, telling, told_in, verdict_in};
+ghost use Rattle.desk_core.specs.Reports.{files_named, refused_telling, ruled_telling, telling, told_in, verdict_in};
 ghost use Rattle.desk_core.specs.Steps.{IsPaired};
 
 use design_db::{Answer, SourceFile};
+use desk_files::is_named;
 use desk_places::sources::Sources;
 use desk_report::report;
 use desk_rulings::{Ruled, left, standing};
@@ -64,11 +67,12 @@ fn push_file<'d>(sources: &mut Sources<'d>, file: &'d SourceFile, told: bool) ->
 // aren't looked for.
 fn sources_in<'d>(
     alloc: Global,
-    files: &'d [SourceFile],
+    files: &[&'d SourceFile],
     findings: &[Finding],
 ) -> Result<Sources<'d>, Memory>
-    requires { AreShort files.now }
-    ensures { IfOk result (λ sources. sources_of sources ≡ sources_in files.now) }
+    requires { AreShort (map (λ file. file.now) files.now) }
+    ensures { IfOk result (λ sources.
+        sources_of sources ≡ sources_in (map (λ file. file.now) files.now)) }
 {
     let told = told_files(alloc, files.len(), findings)?;
     let mut sources = Sources::empty(alloc);
@@ -78,18 +82,45 @@ fn sources_in<'d>(
     Ok(sources)
 }
 
-// A verdict, as waivers and sign-offs look at it.
-pub(crate) fn ruled_of<'d>(
+// The file of a name.
+fn file_named<'d>(files: &'d [SourceFile], name: &Text) -> Option<&'d SourceFile>
+    ensures { option_copied result ≡ find (is_named name.now) files.now }
+{
+    files.iter().find(|file| is_named(file, name.as_bytes()))
+}
+
+// The files of these names.
+pub(crate) fn files_named<'d>(
+    alloc: Global,
     files: &'d [SourceFile],
+    names: &[Text],
+) -> Result<Vec<&'d SourceFile>, Memory>
+    ensures { IfOk result (λ found.
+        map (λ file. file.now) found.items ≡ files_named names.now files.now) }
+{
+    let mut found = Vec::new(alloc);
+    for name in names {
+        if let Some(file) = file_named(files, name) {
+            found.push(file)?;
+        }
+    }
+    Ok(found)
+}
+
+// A verdict, as waivers and sign-offs look at it, with the files that its module uses.
+pub(crate) fn ruled_of<'d>(
+    used: &'d [&'d SourceFile],
     verdict: &'d Verdict,
     reached: &'d [Text],
 ) -> Ruled<'d>
-    ensures { verdict_of result ≡ verdict_in files.now verdict.now reached.now }
+    ensures { (files : List SourceFile)
+        → map (λ file. file.now) used.now ≡ files_named reached.now files
+        → verdict_of result ≡ verdict_in files verdict.now reached.now }
 {
     Ruled {
         findings: &verdict.ruling.findings,
         told: &verdict.told,
-        files,
+        files: used,
         reached,
     }
 }
@@ -106,9 +137,11 @@ fn ruled_report(
     requires findings { verdict.now.ruling.findings.items ≡ ruled.now.findings.now }
     requires told { verdict.now.told.items ≡ ruled.now.told.now }
     requires as_many { length ruled.now.findings.now ≡ length ruled.now.told.now }
-    requires short { AreShort ruled.now.files.now }
-    ensures { IfOk result (λ report. told_in report ≡ ruled_telling top.now today
-        (kept_of tables.now) ruled.now.files.now verdict.now ruled.now.reached.now) }
+    requires short { AreShort (verdict_of ruled.now).files }
+    ensures { IfOk result (λ report. (files : List SourceFile)
+        → verdict_of ruled.now ≡ verdict_in files verdict.now ruled.now.reached.now
+        → told_in report ≡ ruled_telling top.now today (kept_of tables.now) files verdict.now
+        ruled.now.reached.now) }
 {
     let waivers = standing(alloc, ruled, tables, today)?;
     let sources = sources_in(alloc, ruled.files, ruled.findings)?;
@@ -147,7 +180,8 @@ pub(crate) fn report_of(
 {
     match answer {
         Answer::Ruled(verdict, reached) => {
-            let ruled = ruled_of(files, verdict, reached);
+            let used = files_named(alloc, files, reached)?;
+            let ruled = ruled_of(&used, verdict, reached);
             ruled_report(alloc, tables, &ruled, verdict, top, today)
         }
         Answer::Refused(line) => refused_report(alloc, line),

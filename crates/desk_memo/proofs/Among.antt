@@ -1,6 +1,6 @@
 -- Elements of lists, and lists that were read, element by element.
 use Rattle.std.proofs.Common.{◌≡◌, ◌∙◌, ◌<◌, ℕ, zero, suc, List, [], ◌∷◌, length, map, ap, arith, refl, subst, sym}
-use Rattle.std.specs.Prelude.{Option, None, Some, slice_get, slice_index_or}
+use Rattle.std.specs.Prelude.{Option, Some, slice_get, slice_index_or}
 use Rattle.std.specs.List.{All, Contains, cons_option, filter_map}
 use Rattle.rtl_tree.specs.TreeModule.{Circuit}
 use Rattle.rtl_front.specs.Fronts.{AreRead, IsRead}
@@ -37,27 +37,6 @@ same_filter f g [] same = refl
 same_filter {Y} f g (n ∷ ns) same =
     ap (λ (it : Option Y). cons_option it (filter_map f ns)) (same n (first_among n ns))
     ∙ ap (cons_option (g n)) (same_filter f g ns (λ m among. same m (later_among n m ns among)))
-
-kept_first : {Y : Type 0} (made : Option Y) (y : Y) (ys : List Y) → made ≡ Some y → Contains (cons_option made ys) y
-kept_first None y ys is = absurd (cc)
-kept_first (Some x) y ys is =
-    let same : x ≡ y = cc in
-    subst (λ it. Contains (it ∷ ys) y) (sym same) (first_among y ys)
-
-kept_later : {Y : Type 0} (made : Option Y) (y : Y) (ys : List Y) → Contains ys y → Contains (cons_option made ys) y
-kept_later None y ys among = among
-kept_later (Some x) y ys among = later_among x y ys among
-
-kept_at : {Y : Type 0} (f : ℕ → Option Y) (ns : List ℕ) (k n : ℕ) (y : Y) → k < length ns → slice_index_or ns k n ≡ n → f n ≡ Some y → Contains (filter_map f ns) y
-kept_at f [] k n y within at is = absurd (omega arith)
-kept_at f (m ∷ ns) zero n y within at is =
-    kept_first (f m) y (filter_map f ns) (ap f at ∙ is)
-kept_at f (m ∷ ns) (suc k) n y within at is =
-    kept_later (f m) y (filter_map f ns) (kept_at f ns k n y (omega arith) at is)
-
--- what is given of an element is among all that is given
-pub kept_among : {Y : Type 0} (f : ℕ → Option Y) (ns : List ℕ) (n : ℕ) (y : Y) → Contains ns n → f n ≡ Some y → Contains (filter_map f ns) y
-kept_among f ns n y among is = kept_at f ns among.0 n y among.1 among.2 is
 
 -- ---- texts that were read
 

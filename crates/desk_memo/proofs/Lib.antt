@@ -2,13 +2,12 @@ mod Example
 pub mod Among
 pub mod Agreeing
 pub mod Kepts
-pub mod Lines
 pub mod Made
+pub mod Ordered
 pub mod Places
+pub mod Standing
 pub mod Tests
 mod FreshExample
-pub mod Answered
-pub mod Loops
 mod ReadingsExample
 pub mod Exchanged
 pub mod Found

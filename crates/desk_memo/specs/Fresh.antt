@@ -2,12 +2,12 @@
 -- Worked examples: proofs/FreshExample.antt, crates/tests_exchanges/src/rows.rt.
 use Rattle.std.specs.Prelude.{◌≡◌, ℕ, List, [], ◌∷◌, map, slice_get, Result, Ok, Err}
 use Rattle.std.specs.List.{filter_map}
-use Rattle.std.specs.Option.{option_map}
 use Rattle.rtl_tree.specs.TreeModule.{Circuit}
 use Rattle.rtl_front.specs.declared.fault.FileFault.{FileFault}
 use Rattle.elab_scope.specs.Faults.{Answer as Fault}
 use Rattle.elab_flat.specs.Flats.{DesignParts}
-use Rattle.elab_reach.specs.Reach.{AreFilesReached}
+use Rattle.elab_names.specs.Extracts.{extract}
+use Rattle.elab_names.specs.LookUps.{AreUsed}
 use Rattle.rtl_elab.specs.Designs.{library_of}
 use Rattle.rtl_elab.specs.Elaborated.{elaborated}
 use Rattle.desk_places.specs.Places.{Source}
@@ -25,16 +25,12 @@ sources_in files = map (λ file. record { name = file.name; text = file.text }) 
 abbrev pub texts_in : List SourceFile → List (List ℕ)
 texts_in files = map (λ file. file.text) files
 
--- the names of the files with these numbers
-abbrev pub names_at : List SourceFile → List ℕ → List (List ℕ)
-names_at files numbers =
-    filter_map (λ number. option_map (λ file. file.name) (slice_get files number)) numbers
+abbrev pub names_of : List SourceFile → List (List ℕ)
+names_of files = map (λ file. file.name) files
 
--- the names of the files in which the modules of a top stand, in the order of the files
-pub record AreReached (files : List SourceFile) (circuits : List (List Circuit)) (top : List ℕ) (names : List (List ℕ)) : Type 0 where
-  pub numbers : List ℕ
-  pub are_reached : AreFilesReached (library_of circuits).lookups circuits top numbers
-  pub named : names ≡ names_at files numbers
+-- the files with these numbers, in their order
+abbrev pub sources_at : List ℕ → List SourceFile → List SourceFile
+sources_at numbers files = filter_map (slice_get files) numbers
 
 -- the answer is this line, which says why there is no design
 abbrev pub IsRefusal : List ℕ → Answer → Type 0
@@ -45,17 +41,21 @@ IsRefusal line (Refused bytes) = bytes.items ≡ line
 abbrev pub refusal_line : SourceFile → FileFault → List ℕ
 refusal_line file fault = source_line (sources_in (file ∷ [])) 0 fault
 
--- what the rules say of a design, or the line that says why there is none
-abbrev pub IsOfDesign : List SourceFile → List (List Circuit) → List ℕ → Result DesignParts Fault → Answer → Type 0
-IsOfDesign files circuits top (Ok flat) (Ruled verdict reached) =
-    IsVerdict flat verdict × AreReached files circuits top reached.items
-IsOfDesign files circuits top (Ok flat) (Refused bytes) = ⊥
-IsOfDesign files circuits top (Err fault) answer =
-    IsRefusal (design_line (sources_in files) fault) answer
+-- what the rules say of a design, with the names of the files that its top uses, or the line that says why there is none
+abbrev pub IsOfDesign : List SourceFile → Result DesignParts Fault → Answer → Type 0
+IsOfDesign used (Ok flat) (Ruled verdict reached) =
+    IsVerdict flat verdict × (reached.items ≡ names_of used)
+IsOfDesign used (Ok flat) (Refused bytes) = ⊥
+IsOfDesign used (Err fault) answer = IsRefusal (design_line (sources_in used) fault) answer
+
+-- what the modules of files say of a top: its design is that of the files that it uses, numbered among themselves
+pub record IsOfModules (files : List SourceFile) (circuits : List (List Circuit)) (top : List ℕ) (answer : Answer) : Type 0 where
+  pub numbers : List ℕ
+  pub are_used : AreUsed (library_of circuits) top numbers
+  pub is : IsOfDesign (sources_at numbers files) (elaborated (extract numbers (library_of circuits)) top) answer
 
 abbrev pub IsOfFront : List SourceFile → List ℕ → Front → Answer → Type 0
-IsOfFront files top (Modules circuits) answer =
-    IsOfDesign files circuits top (elaborated (library_of circuits) top) answer
+IsOfFront files top (Modules circuits) answer = IsOfModules files circuits top answer
 IsOfFront files top (Faulty number fault) answer =
     IsRefusal (source_line (sources_in files) number fault) answer
 

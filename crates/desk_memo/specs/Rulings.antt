@@ -1,59 +1,63 @@
 -- Answers that are kept beside what they looked up, and when they still hold.
 -- Worked examples: proofs/Example.antt.
 use Rattle.std.specs.Prelude.{ℕ, ◌≡◌, ◌==◌, ◌&&◌, not, Bool, true, false, bytes_eq, find, if◌then◌else◌, List, [], ◌∷◌, Option, None, Some, filter, slice_get}
-use Rattle.std.specs.List.{All, Contains, list_all, list_any}
+use Rattle.std.specs.List.{list_all, list_any}
 use Rattle.std.specs.Option.{option_map}
 use Rattle.rtl_tree.specs.TreeModule.{Circuit}
 use Rattle.rtl_front.specs.Fronts.{AreRead}
 use Rattle.elab_links.specs.Modules.{all_placed, found}
 use Rattle.elab_links.specs.declared.module_set.Lookup.{Lookup}
 use Rattle.elab_links.specs.declared.module_set.Lookup.TheVariants.{Missing, Found, Twice}
-use Rattle.elab_names.specs.LookUps.{AreLookUps}
+use Rattle.elab_names.specs.Extracts.{extract}
+use Rattle.elab_names.specs.LookUps.{AreLookUps, AreUsed}
 use Rattle.elab_names.specs.declared.look_up.LookUp.{LookUp}
-use Rattle.elab_reach.specs.Reach.{IsFileReached}
 use Rattle.rtl_elab.specs.Designs.{library_of}
 use Rattle.rtl_elab.specs.Elaborated.{elaborated}
+use Rattle.desk_files.specs.Sources.{is_named}
 use Rattle.desk_files.specs.declared.files.SourceFile.{SourceFile}
-use Rattle.desk_memo.specs.Fresh.{IsOfDesign, texts_in}
+use Rattle.desk_memo.specs.Fresh.{IsOfDesign, sources_at, texts_in}
+use Rattle.desk_memo.specs.Orders.{AreInOrder}
 use Rattle.desk_memo.specs.declared.answer.Answer.{Answer}
 
--- a file in which a module of a top stood, with its number among the files
-pub record Used : Type 0 where
-  pub number : ℕ
-  pub file : SourceFile
-
--- an answer with its top, what it looked up, and the files that it used
+-- an answer with its top, the names that it looked up, whose places number its files among themselves, and the files that it
+-- used, in the order of their names
 pub record Ruling : Type 0 where
   pub top : List ℕ
   pub look_ups : List LookUp
-  pub used : List Used
+  pub used : List SourceFile
   pub answer : Answer
 
 -- ---- when it still holds
 
-abbrev pub is_same_lookup : Lookup → Lookup → Bool
-is_same_lookup Missing Missing = true
-is_same_lookup Twice Twice = true
-is_same_lookup (Found first) (Found second) =
-    first.file == second.file && first.index == second.index
-is_same_lookup _ _ = false
+abbrev pub is_same_name : Option SourceFile → Option SourceFile → Bool
+is_same_name (Some file) (Some used) = bytes_eq file.name used.name
+is_same_name _ _ = false
 
--- a name means among the modules what it meant
-abbrev pub is_meant : List (List Circuit) → LookUp → Bool
-is_meant modules look_up = is_same_lookup (found (all_placed modules) look_up.name) look_up.meant
+-- a name means what it meant: no module, more than one, or the same one of the file of the same name
+abbrev pub is_same_lookup : List SourceFile → List SourceFile → Lookup → Lookup → Bool
+is_same_lookup files used Missing Missing = true
+is_same_lookup files used Twice Twice = true
+is_same_lookup files used (Found now) (Found was) =
+    is_same_name (slice_get files now.file) (slice_get used was.file) && now.index == was.index
+is_same_lookup files used _ _ = false
 
-abbrev pub is_same_file : Option SourceFile → SourceFile → Bool
-is_same_file None used = false
-is_same_file (Some file) used = bytes_eq file.name used.name && bytes_eq file.text used.text
+abbrev pub is_meant : List SourceFile → List (List Circuit) → List SourceFile → LookUp → Bool
+is_meant files modules used look_up =
+    is_same_lookup files used (found (all_placed modules) look_up.name) look_up.meant
 
--- a file has its number, and its text, still
-abbrev pub is_there : List SourceFile → Used → Bool
-is_there files used = is_same_file (slice_get files used.number) used.file
+abbrev pub is_same_text : Option SourceFile → SourceFile → Bool
+is_same_text None used = false
+is_same_text (Some file) used = bytes_eq file.text used.text
+
+-- the file of its name has its text still
+abbrev pub is_there : List SourceFile → SourceFile → Bool
+is_there files used = is_same_text (find (is_named used.name) files) used
 
 -- each file that was used is there, and each name that was looked up means what it meant
 abbrev pub is_current : List SourceFile → List (List Circuit) → Ruling → Bool
 is_current files modules ruling =
-    list_all (is_there files) ruling.used && list_all (is_meant modules) ruling.look_ups
+    list_all (is_there files) ruling.used
+    && list_all (is_meant files modules ruling.used) ruling.look_ups
 
 abbrev pub is_of : List ℕ → Ruling → Bool
 is_of top ruling = bytes_eq ruling.top top
@@ -97,19 +101,15 @@ is_absent ruling = not (list_any (is_own_module ruling.top) ruling.look_ups)
 
 -- ---- what a ruling is
 
--- it is what some files said of its top, with all that was looked up among their modules, and the
--- files that the top used, and no others
+-- it is what some files said of its top, with all that was looked up among their modules, and the files that the top used
 pub record IsRuling (ruling : Ruling) : Type 0 where
   pub files : List SourceFile
   pub modules : List (List Circuit)
+  pub numbers : List ℕ
+  pub in_order : AreInOrder files
   pub read : AreRead (texts_in files) modules
-  pub looked_up : AreLookUps (library_of modules) ruling.top ruling.look_ups
-  pub used :
-      (number : ℕ) → IsFileReached (library_of modules).lookups modules ruling.top number →
-      (file : SourceFile) × (slice_get files number ≡ Some file)
-      × Contains ruling.used (record { number = number; file = file })
-  pub only :
-      All (λ (used : Used). IsFileReached (library_of modules).lookups modules ruling.top used.number)
-      ruling.used
+  pub are_used : AreUsed (library_of modules) ruling.top numbers
+  pub used_is : ruling.used ≡ sources_at numbers files
+  pub looked_up : AreLookUps (extract numbers (library_of modules)) ruling.top ruling.look_ups
   pub is :
-      IsOfDesign files modules ruling.top (elaborated (library_of modules) ruling.top) ruling.answer
+      IsOfDesign ruling.used (elaborated (extract numbers (library_of modules)) ruling.top) ruling.answer

@@ -5,16 +5,13 @@ use Rattle.std.specs.List.{All, filter_map}
 use Rattle.std.specs.Option.{option_map}
 use Rattle.rtl_tree.specs.TreeModule.{Circuit}
 use Rattle.desk_files.specs.declared.files.SourceFile.{SourceFile}
-use Rattle.desk_memo.specs.Rulings.{Ruling, Used, is_current}
+use Rattle.desk_memo.specs.Rulings.{Ruling, is_current}
 use Rattle.desk_memo.specs.declared.kept.Kept.{Kept}
 use Rattle.desk_memo.specs.declared.memo.Memo.{Memo}
-use Rattle.desk_memo.specs.declared.used.Used.{Used as Held}
+use Rattle.desk_memo.specs.declared.used.Used.{Used}
 
-abbrev pub used_of : Held → Used
-used_of held = record { number = held.number; file = held.file.value }
-
-abbrev pub all_used : List Held → List Used
-all_used held = map used_of held
+abbrev pub all_used : List Used → List SourceFile
+all_used held = map (λ used. used.file.value) held
 
 abbrev pub ruling_of : Kept → Ruling
 ruling_of kept =
@@ -61,10 +58,6 @@ IsPlaceOf test rulings (Some place) =
 
 -- ---- the files that a top uses
 
-abbrev pub used_at : ℕ → Option SourceFile → Option Used
-used_at number file =
-    option_map (λ (it : SourceFile). record { number = number; file = it }) file
-
 -- the files with these numbers, where there are such
-abbrev pub used_among : (ℕ → Option SourceFile) → List ℕ → List Used
-used_among file_of numbers = filter_map (λ number. used_at number (file_of number)) numbers
+abbrev pub used_among : (ℕ → Option SourceFile) → List ℕ → List SourceFile
+used_among file_of numbers = filter_map file_of numbers

@@ -1,60 +1,84 @@
 // Whether what was looked up still means the same.
-ghost use Rattle.std.specs.Prelude.{◌≡◌};
+ghost use Rattle.std.specs.Prelude.{◌≡◌, find, option_copied, slice_get};
 ghost use Rattle.std.specs.List.{list_all};
 ghost use Rattle.elab_links.specs.Modules.{circuits_of};
-ghost use Rattle.desk_memo.specs.Rulings.{is_meant, is_same_lookup, is_there};
-ghost use Rattle.desk_memo.specs.Shown.{all_used, used_of};
+ghost use Rattle.desk_files.specs.Sources.{is_named};
+ghost use Rattle.desk_memo.specs.Rulings.{is_meant, is_same_lookup, is_same_name, is_there};
+ghost use Rattle.desk_memo.specs.Shown.{all_used};
 
 use crate::used::Used;
-use desk_files::SourceFile;
+use desk_files::{SourceFile, is_named};
 use elab_links::module_set::Lookup;
 use elab_names::{LookUp, resolve};
 use rtl_tree::tree::modules::Module;
 
-fn is_same_lookup(now: Lookup, was: Lookup) -> bool
-    ensures { result ≡ is_same_lookup now was }
+// Whether the file with a number has the name of the one that was used as the other.
+fn is_same_name(files: &[SourceFile], now: usize, used: &[Used], was: usize) -> bool
+    ensures { result ≡ is_same_name (slice_get files.now now) (slice_get (all_used used.now) was) }
+{
+    match (files.get(now), used.get(was)) {
+        (Some(file), Some(used)) => file.name.as_bytes() == used.file.name.as_bytes(),
+        (None, _) | (_, None) => false,
+    }
+}
+
+fn is_same_lookup(files: &[SourceFile], used: &[Used], now: Lookup, was: Lookup) -> bool
+    ensures { result ≡ is_same_lookup files.now (all_used used.now) now was }
 {
     match (now, was) {
         (Lookup::Missing, Lookup::Missing) | (Lookup::Twice, Lookup::Twice) => true,
         (Lookup::Found(first), Lookup::Found(second)) => {
-            first.file == second.file && first.index == second.index
+            is_same_name(files, first.file, used, second.file) && first.index == second.index
         }
         _ => false,
     }
 }
 
-fn is_meant(modules: &[Vec<Module>], look_up: &LookUp) -> bool
-    ensures { result ≡ is_meant (circuits_of modules.now) look_up.now }
+fn is_meant(files: &[SourceFile], modules: &[Vec<Module>], used: &[Used], look_up: &LookUp) -> bool
+    ensures { result
+        ≡ is_meant files.now (circuits_of modules.now) (all_used used.now) look_up.now }
 {
-    is_same_lookup(resolve(modules, &look_up.name), look_up.meant)
+    is_same_lookup(files, used, resolve(modules, &look_up.name), look_up.meant)
 }
 
-fn is_there(files: &[SourceFile], used: &Used) -> bool
-    ensures { result ≡ is_there files.now (used_of used.now) }
+// The file of a name.
+fn file_named<'f>(files: &'f [SourceFile], name: &[u8]) -> Option<&'f SourceFile>
+    ensures { option_copied result ≡ find (is_named name.now) files.now }
 {
-    match files.get(used.number) {
-        Some(file) => {
-            file.name.as_bytes() == used.file.name.as_bytes()
-                && file.text.as_bytes() == used.file.text.as_bytes()
-        }
+    files.iter().find(|file| is_named(file, name))
+}
+
+fn is_there(files: &[SourceFile], used: &SourceFile) -> bool
+    ensures { result ≡ is_there files.now used.now }
+{
+    match file_named(files, used.name.as_bytes()) {
+        Some(file) => file.text.as_bytes() == used.text.as_bytes(),
         None => false,
     }
 }
 
 // Whether each name means what it meant.
-pub(crate) fn are_meant(modules: &[Vec<Module>], look_ups: &[LookUp]) -> bool
-    ensures { result ≡ list_all (is_meant (circuits_of modules.now)) look_ups.now }
+pub(crate) fn are_meant(
+    files: &[SourceFile],
+    modules: &[Vec<Module>],
+    used: &[Used],
+    look_ups: &[LookUp],
+) -> bool
+    ensures { result
+        ≡ list_all (is_meant files.now (circuits_of modules.now) (all_used used.now)) look_ups.now }
 {
-    look_ups.iter().all(|look_up| is_meant(modules, look_up))
+    look_ups
+        .iter()
+        .all(|look_up| is_meant(files, modules, used, look_up))
 }
 
 fn all_there(files: &[SourceFile], used: &[Used]) -> bool
-    ensures { result ≡ list_all (λ used. is_there files.now (used_of used)) used.now }
+    ensures { result ≡ list_all (λ used. is_there files.now used.file.value) used.now }
 {
-    used.iter().all(|used| is_there(files, used))
+    used.iter().all(|used| is_there(files, &used.file))
 }
 
-// Whether each file has its number, and its text, still.
+// Whether each file has its text still.
 pub(crate) fn are_there(files: &[SourceFile], used: &[Used]) -> bool
     ensures { result ≡ list_all (is_there files.now) (all_used used.now) }
 {

@@ -1,15 +1,15 @@
 // What files say of a top, worked out from their texts alone.
-ghost use Rattle.std.specs.Prelude.{◌≡◌, ◌≤◌, ◌+◌, ◌++◌, ◌∷◌, [], Ok, length, IfOk, IsSome, OnOk};
+ghost use Rattle.std.specs.Prelude.{◌≡◌, ◌≤◌, ◌++◌, ◌∷◌, [], Ok, Result, length, IfOk, IsSome, OnOk};
 ghost use Rattle.rtl_tree.specs.declared.text.TheConstants.{MAX_BYTES};
-ghost use Rattle.elab_scope.specs.Faults.{answer};
-ghost use Rattle.elab_links.specs.Modules.{all_placed, circuits_of, found, lookups_of};
-ghost use Rattle.rtl_elab.specs.Designs.{flat_in, library_of};
-ghost use Rattle.rtl_elab.specs.Elaborated.{elaborated};
+ghost use Rattle.elab_scope.specs.Faults.{Answer as Fault, answer};
+ghost use Rattle.elab_flat.specs.Flats.{DesignParts};
+ghost use Rattle.elab_names.specs.Extracts.{IsElaborated};
+ghost use Rattle.rtl_elab.specs.Designs.{flat_in};
 ghost use Rattle.desk_places.specs.Places.{sources_of};
 ghost use Rattle.desk_refusals.specs.Notices.{design_notice};
 ghost use Rattle.desk_refusals.specs.Refusals.{design_line};
-ghost use Rattle.desk_memo.specs.Fresh.{AreReached, IsOfDesign, IsRefusal, names_at};
-ghost use Rattle.desk_memo.specs.Fresh.{refusal_line, sources_in};
+ghost use Rattle.desk_memo.specs.Fresh.{IsOfDesign, IsRefusal, names_of};
+ghost use Rattle.desk_memo.specs.Fresh.{refusal_line, sources_at, sources_in};
 ghost use Rattle.desk_memo.specs.Orders.{AreShort};
 
 use crate::answer::Answer;
@@ -17,27 +17,42 @@ use desk_files::SourceFile;
 use desk_places::sources::Sources;
 use desk_refusals::{design_refusal, source_refusal};
 use desk_verdict::Verdict;
-use elab_links::module_set::ModuleSet;
-use elab_reach::reached_files;
 use elab_scope::fault::ElabFault;
-use rtl_elab::whole::elaborate;
 use rtl_flat::design::Design;
 use rtl_front::FileFault;
 use rtl_tree::memory::Memory;
 use rtl_tree::text::Text;
-use rtl_tree::tree::modules::Module;
 use std::alloc::Global;
-use std::sync::ledger::Ledger;
-use steps::Steps;
 
-// The files, as places are written of them.
-fn sources_in<'f>(alloc: Global, files: &'f [SourceFile]) -> Result<Sources<'f>, Memory>
+// A file behind others, where there is one with the number, as places are written of it.
+fn push_source<'f>(
+    files: &'f [SourceFile],
+    number: usize,
+    sources: &mut Sources<'f>,
+) -> Result<(), Memory>
     requires { AreShort files.now }
-    ensures { IfOk result (λ sources. sources_of sources ≡ sources_in files.now) }
+    ensures { OnOk result (sources_of sources.new
+        ≡ sources_of sources.old ++ sources_in (sources_at (number ∷ []) files.now)) }
+{
+    match files.get(number) {
+        Some(file) => sources.push_seldom(file.name.as_bytes(), file.text.as_bytes()),
+        None => Ok(()),
+    }
+}
+
+// The files with these numbers, as places are written of them.
+fn sources_at<'f>(
+    alloc: Global,
+    files: &'f [SourceFile],
+    numbers: &[usize],
+) -> Result<Sources<'f>, Memory>
+    requires { AreShort files.now }
+    ensures { IfOk result (λ sources. sources_of sources
+        ≡ sources_in (sources_at numbers.now files.now)) }
 {
     let mut sources = Sources::empty(alloc);
-    for file in files {
-        sources.push_seldom(file.name.as_bytes(), file.text.as_bytes())?;
+    for number in numbers {
+        push_source(files, *number, &mut sources)?;
     }
     Ok(sources)
 }
@@ -50,7 +65,7 @@ fn push_name(
     names: &mut Vec<Text>,
 ) -> Result<(), Memory>
     ensures { OnOk result
-        (names.new.items ≡ names.old.items ++ names_at files.now (number ∷ [])) }
+        (names.new.items ≡ names.old.items ++ names_of (sources_at (number ∷ []) files.now)) }
 {
     match files.get(number) {
         Some(file) => {
@@ -61,30 +76,15 @@ fn push_name(
     }
 }
 
+// The names of the files with these numbers.
 fn names_at(alloc: Global, files: &[SourceFile], numbers: &[usize]) -> Result<Vec<Text>, Memory>
-    ensures { IfOk result (λ names. names.items ≡ names_at files.now numbers.now) }
+    ensures { IfOk result (λ names. names.items ≡ names_of (sources_at numbers.now files.now)) }
 {
     let mut names = Vec::new(alloc);
     for number in numbers {
         push_name(alloc, files, *number, &mut names)?;
     }
     Ok(names)
-}
-
-// The names of the files in which the modules of a top stand.
-fn reached_names(
-    alloc: Global,
-    files: &[SourceFile],
-    modules: &[Vec<Module>],
-    set: &ModuleSet,
-    top: &Text,
-) -> Result<Vec<Text>, Memory>
-    requires { lookups_of set.now ≡ found (all_placed (circuits_of modules.now)) }
-    ensures { IfOk result (λ names.
-        AreReached files.now (circuits_of modules.now) top.now names.items) }
-{
-    let numbers = reached_files(alloc, modules, set, top)?;
-    names_at(alloc, files, &numbers)
 }
 
 fn boxed(alloc: Global, answer: Answer) -> Result<Box<Answer>, Memory>
@@ -111,60 +111,60 @@ pub fn unread(alloc: Global, file: &SourceFile, fault: &FileFault) -> Result<Box
     boxed(alloc, Answer::Refused(line))
 }
 
-// Modules make no design. Want of memory is no reason.
-fn undesigned(alloc: Global, files: &[SourceFile], fault: &ElabFault) -> Result<Box<Answer>, Memory>
+// Files make no design. Want of memory is no reason.
+fn undesigned(
+    alloc: Global,
+    files: &[SourceFile],
+    numbers: &[usize],
+    fault: &ElabFault,
+) -> Result<Box<Answer>, Memory>
     requires { AreShort files.now }
     ensures told { IfOk result (λ _. IsSome (design_notice (answer fault.now))) }
-    ensures line { IfOk result (λ made.
-        IsRefusal (design_line (sources_in files.now) (answer fault.now)) made.value) }
+    ensures line { IfOk result (λ made. IsRefusal
+        (design_line (sources_in (sources_at numbers.now files.now)) (answer fault.now))
+        made.value) }
 {
-    let sources = sources_in(alloc, files)?;
+    let sources = sources_at(alloc, files, numbers)?;
     let line = design_refusal(alloc, &sources, fault)?;
     boxed(alloc, Answer::Refused(line))
 }
 
-// What the rules say of the design of a top.
+// What the rules say of the design of files.
 fn ruled(
     alloc: Global,
     files: &[SourceFile],
-    modules: &[Vec<Module>],
-    set: &ModuleSet,
-    top: &Text,
+    numbers: &[usize],
     design: &Design,
 ) -> Result<Box<Answer>, Memory>
-    requires { lookups_of set.now ≡ found (all_placed (circuits_of modules.now)) }
-    ensures { IfOk result (λ made. IsOfDesign files.now (circuits_of modules.now) top.now
-        (Ok (flat_in design.now)) made.value) }
+    ensures { IfOk result (λ made.
+        IsOfDesign (sources_at numbers.now files.now) (Ok (flat_in design.now)) made.value) }
 {
-    let reached = reached_names(alloc, files, modules, set, top)?;
+    let reached = names_at(alloc, files, numbers)?;
     match Verdict::of(alloc, design) {
         Ok(verdict) => boxed(alloc, Answer::Ruled(verdict, reached)),
         Err(error) => Err(error),
     }
 }
 
-/// What the modules of files say of a top; `set` is made of the modules. It takes at most one step.
+/// What is said of the design of the files with these numbers, or of why there is none.
 ///
 /// # Errors
 ///
 /// Memory ran out.
-pub fn of_modules<L: Ledger>(
+pub fn of_design(
     alloc: Global,
     files: &[SourceFile],
-    modules: &[Vec<Module>],
-    set: &ModuleSet,
-    top: &Text,
-    steps: &mut Steps<L>,
+    numbers: &[usize],
+    design: &Result<Design, ElabFault>,
 ) -> Result<Box<Answer>, Memory>
-    requires short { AreShort files.now }
-    requires set { lookups_of set.now ≡ found (all_placed (circuits_of modules.now)) }
-    ensures counted { steps.new ≤ steps.old + 1 }
-    ensures answer { IfOk result (λ made. IsOfDesign files.now (circuits_of modules.now) top.now
-        (elaborated (library_of (circuits_of modules.now)) top.now) made.value) }
+    requires { AreShort files.now }
+    ensures { IfOk result (λ made. (elaborated : Result DesignParts Fault)
+        → IsElaborated elaborated design.now
+        → IsOfDesign (sources_at numbers.now files.now) elaborated made.value) }
 {
-    match elaborate(alloc, modules, set, top, steps) {
-        Ok(design) => ruled(alloc, files, modules, set, top, &design),
+    match design {
+        Ok(design) => ruled(alloc, files, numbers, design),
         Err(ElabFault::Memory) => Err(Memory),
-        Err(fault) => undesigned(alloc, files, &fault),
+        Err(fault) => undesigned(alloc, files, numbers, fault),
     }
 }

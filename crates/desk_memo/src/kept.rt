@@ -4,20 +4,20 @@ ghost use Rattle.std.specs.List.{list_any};
 ghost use Rattle.elab_links.specs.Modules.{all_placed, circuits_of, found, lookups_of};
 ghost use Rattle.desk_memo.specs.Readings.{AreReadings, changed_count, first_refusal};
 ghost use Rattle.desk_memo.specs.ShownReadings.{modules_of, readings_of};
-ghost use Rattle.desk_memo.specs.Orders.{AreShort};
+ghost use Rattle.desk_memo.specs.Orders.{AreInOrder, AreShort};
 ghost use Rattle.desk_memo.specs.Rulings.{IsRuling, is_absent, is_current, is_of, is_own_module};
 ghost use Rattle.desk_memo.specs.Shown.{IsChecked, ruling_of};
 
 use crate::answer::Answer;
 use crate::current::{are_meant, are_there};
-use crate::fresh::of_modules;
+use crate::fresh::of_design;
 use crate::reading_law::all_spelled;
 use crate::readings::Readings;
 use crate::used::{Used, used_files};
 use desk_files::SourceFile;
 use elab_links::module_set::{Lookup, ModuleSet};
-use elab_names::{LookUp, look_ups};
-use elab_reach::reached_files;
+use elab_names::law::same_names;
+use elab_names::{LookUp, elaborate};
 use rtl_tree::memory::Memory;
 use rtl_tree::text::Text;
 use rtl_tree::tree::modules::Module;
@@ -65,6 +65,7 @@ impl Kept {
             (modules_of readings.now) }
         requires unchanged { changed_count files.now (readings_of readings.now) ≡ 0 }
         requires spelled { first_refusal (readings_of readings.now) ≡ None }
+        requires in_order { AreInOrder files.now }
         requires short { AreShort files.now }
         ensures counted { steps.new ≤ steps.old + 1 }
         ensures ruling { IfOk result (λ kept. IsRuling (ruling_of kept)) }
@@ -72,17 +73,17 @@ impl Kept {
         ensures current { IfOk result (λ kept.
             is_current files.now (modules_of readings.now) (ruling_of kept) ≡ true) }
     {
-        // The law says that the files spell the modules, and no others.
+        // The laws say that the files spell the modules, and no others, and that a top looks up the
+        // same names in the files that it uses as among all.
         all_spelled();
-        let modules = readings.modules();
-        let numbers = reached_files(alloc, modules, set, top)?;
-        let used = used_files(alloc, readings, &numbers)?;
-        let look_ups = look_ups(alloc, modules, set, top)?;
+        same_names();
+        let made = elaborate(alloc, readings.modules(), set, top, steps)?;
+        let used = used_files(alloc, readings, &made.files)?;
+        let answer = of_design(alloc, files, &made.files, &made.design)?;
         let name = Text::from_bytes(alloc, top.as_bytes())?;
-        let answer = of_modules(alloc, files, modules, set, top, steps)?;
         Ok(Kept {
             top: name,
-            look_ups,
+            look_ups: made.look_ups,
             used,
             answer,
             is_checked: true,
@@ -108,6 +109,7 @@ impl Kept {
         requires { IsChecked files.now (circuits_of modules.now) self.now }
         ensures { result ≡ is_current files.now (circuits_of modules.now) (ruling_of self.now) }
     {
-        self.is_checked || are_there(files, &self.used) && are_meant(modules, &self.look_ups)
+        self.is_checked
+            || are_there(files, &self.used) && are_meant(files, modules, &self.used, &self.look_ups)
     }
 }

@@ -10,14 +10,13 @@ use rtl_tree::memory::Memory;
 use std::alloc::Global;
 use std::rc::Rc;
 
-/// A file in which a module of a top stood, with its number among the files.
+/// A file that a top used, as it was read. It is shared with the readings.
 #[derive(Drop)]
 pub(crate) struct Used {
-    pub(crate) number: usize,
     pub(crate) file: Rc<SourceFile>,
 }
 
-// A file as it was read, behind others. It is shared with the readings.
+// A file as it was read, behind others.
 fn push_used(readings: &Readings, number: usize, used: &mut Vec<Used>) -> Result<(), Memory>
     ensures { OnOk result (all_used used.new.items
         ≡ all_used used.old.items
@@ -25,7 +24,7 @@ fn push_used(readings: &Readings, number: usize, used: &mut Vec<Used>) -> Result
 {
     match readings.file(number) {
         Ok(Some(file)) => {
-            used.push(Used { number, file })?;
+            used.push(Used { file })?;
             Ok(())
         }
         Ok(None) => Ok(()),

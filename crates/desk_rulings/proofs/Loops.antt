@@ -1,5 +1,5 @@
 -- Steps of loops over lists.
-use Rattle.std.proofs.Common.{◌≡◌, ◌∙◌, ℕ, suc, ◌<◌, ◌+◌, List, [], ◌∷◌, ◌++◌, length, take, drop, get_or, ap, sym, refl, arith}
+use Rattle.std.proofs.Common.{◌≡◌, ◌∙◌, Bor, ℕ, suc, ◌<◌, ◌+◌, List, [], ◌∷◌, ◌++◌, length, map, take, drop, get_or, ap, sym, refl, arith}
 use Rattle.std.specs.Prelude.{ℤ, Option}
 use Rattle.std.specs.Option.{option_and_then}
 use Rattle.std.proofs.lemmas.List.{append_assoc, at_drop_more, map-append, take_more}
@@ -17,19 +17,23 @@ use Rattle.desk_rulings.specs.Rulings.{Site, site_of, standing_for, standing_in,
 abbrev source_of : SourceFile → Source
 source_of file = record { name = file.name; text = file.text }
 
--- one file more
-pub sources_more : (files : List SourceFile) (place : ℕ) (file : SourceFile) → place < length files → file ≡ get_or files place file → sources_in (take (place + 1) files) ≡ sources_in (take place files) ++ record { name = file.name; text = file.text } ∷ []
-sources_more files place file inside read =
-    ap sources_in (take_more files place file inside)
-    ∙ map-append source_of (take place files) (get_or files place file ∷ [])
-    ∙ ap (λ it. sources_in (take place files) ++ source_of it ∷ []) (sym read)
+abbrev seen : List (Bor SourceFile) → List SourceFile
+seen files = map (λ file. file.now) files
 
-pub sources_on : (files : List SourceFile) (place : ℕ) (file : SourceFile) (name text : List ℕ) (olds news : List Source) → place < length files → file ≡ get_or files place file → name ≡ file.name → text ≡ file.text → olds ≡ sources_in (take place files) → news ≡ olds ++ record { name = name; text = text } ∷ [] → news ≡ sources_in (take (place + 1) files)
+-- one file more
+pub sources_more : (files : List (Bor SourceFile)) (place : ℕ) (file : Bor SourceFile) → place < length files → file ≡ get_or files place file → sources_in (seen (take (place + 1) files)) ≡ sources_in (seen (take place files)) ++ source_of file.now ∷ []
+sources_more files place file inside read =
+    ap (λ it. sources_in (seen it)) (take_more files place file inside)
+    ∙ ap sources_in (map-append (λ it. it.now) (take place files) (get_or files place file ∷ []))
+    ∙ map-append source_of (seen (take place files)) ((get_or files place file).now ∷ [])
+    ∙ ap (λ it. sources_in (seen (take place files)) ++ source_of it.now ∷ []) (sym read)
+
+pub sources_on : (files : List (Bor SourceFile)) (place : ℕ) (file : Bor SourceFile) (name text : List ℕ) (olds news : List Source) → place < length files → file ≡ get_or files place file → name ≡ file.now.name → text ≡ file.now.text → olds ≡ sources_in (seen (take place files)) → news ≡ olds ++ record { name = name; text = text } ∷ [] → news ≡ sources_in (seen (take (place + 1) files))
 sources_on files place file name text olds news inside read named spelled before made =
     made
     ∙ ap (λ it. it ++ record { name = name; text = text } ∷ []) before
-    ∙ ap (λ it. sources_in (take place files) ++ record { name = it; text = text } ∷ []) named
-    ∙ ap (λ it. sources_in (take place files) ++ record { name = file.name; text = it } ∷ []) spelled
+    ∙ ap (λ it. sources_in (seen (take place files)) ++ record { name = it; text = text } ∷ []) named
+    ∙ ap (λ it. sources_in (seen (take place files)) ++ record { name = file.now.name; text = it } ∷ []) spelled
     ∙ sym (sources_more files place file inside read)
 
 -- as many as there are findings

@@ -1,6 +1,6 @@
 -- Which waivers of the tables stand for the findings of a module on a day.
 -- Worked examples: crates/desk_rulings/proofs/Example.antt.
-use Rattle.std.specs.Prelude.{ℕ, ◌+◌, ℤ, int_le, Bool, ◌&&◌, ◌==◌, bytes_eq, List, [], ◌∷◌, find, is_none, option_map, slice_get, Option, if◌then◌else◌}
+use Rattle.std.specs.Prelude.{ℕ, ◌+◌, ℤ, int_le, Bool, ◌&&◌, ◌==◌, bytes_eq, List, [], ◌∷◌, find, is_none, map, option_map, slice_get, Option, if◌then◌else◌}
 use Rattle.std.specs.List.{list_any}
 use Rattle.std.specs.Option.{option_and_then}
 use Rattle.rtl_rule.specs.Rows.{row_of}
@@ -15,8 +15,8 @@ use Rattle.desk_tables.specs.declared.rows.WaiverId.{WaiverId}
 use Rattle.desk_tables.specs.declared.rows.WaiverRow.{WaiverRow}
 use Rattle.desk_rulings.specs.declared.ruled.Ruled.{Ruled}
 
--- what the rules say of a module: its findings, what is told of each, the files in the order of
--- their names, and the names of the files that it reaches
+-- what the rules say of a module: its findings, what is told of each, the files that it uses in the
+-- order of their names, and these names
 pub record Verdict : Type 0 where
   pub findings : List Finding
   pub told : List Told
@@ -28,7 +28,7 @@ abbrev pub verdict_of : Ruled → Verdict
 verdict_of ruled = record {
   findings = ruled.findings.now;
   told = ruled.told.now;
-  files = ruled.files.now;
+  files = map (λ file. file.now) ruled.files.now;
   reached = ruled.reached.now;
 }
 

@@ -5,14 +5,15 @@ use desk_files::SourceFile;
 use rtl_rule::finding::Finding;
 use rtl_tree::text::Text;
 
-/// What the rules say of a module, with the files that it was ruled in.
+/// What the rules say of a module, with the files that it uses.
 #[derive(Clone, Copy)]
 pub struct Ruled<'r> {
     pub findings: &'r [Finding],
     /// One for each finding, in their order.
     pub told: &'r [Told],
-    /// The files in the order of the bytes of their names: a spot names its file by its place here.
-    pub files: &'r [SourceFile],
-    /// The names of the files of the modules that were used, ascending.
+    /// The files that it uses, in the order of the bytes of their names: a spot names its file by
+    /// its place here.
+    pub files: &'r [&'r SourceFile],
+    /// Their names.
     pub reached: &'r [Text],
 }

@@ -46,10 +46,10 @@ pub(crate) fn digest_of(files: &[FileRow], name: &Text) -> Option<Digest>
 pub(crate) fn digests_of(
     alloc: Global,
     rows: &[FileRow],
-    files: &[SourceFile],
+    files: &[&SourceFile],
 ) -> Result<Vec<Option<Digest>>, Memory>
     ensures { IfOk result (λ digests.
-        digests.items ≡ map (λ file. digest_of rows.now file.name) files.now) }
+        digests.items ≡ map (λ file. digest_of rows.now file.now.name) files.now) }
 {
     let mut digests = Vec::new(alloc);
     for file in files {

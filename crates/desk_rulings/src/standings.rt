@@ -20,16 +20,18 @@ use std::alloc::Global;
 
 // The site of a finding, where the files have these digests.
 fn site_of<'r>(
-    files: &'r [SourceFile],
+    files: &[&'r SourceFile],
     digests: &[Option<Digest>],
     finding: &Finding,
     told: &'r Told,
 ) -> Option<Site<'r>>
-    ensures { (rows : List FileRow) → digests.now ≡ map (λ file. digest_of rows file.name) files.now
-        → option_map site_seen result ≡ site_of rows files.now finding.now told.now }
+    ensures { (rows : List FileRow)
+        → digests.now ≡ map (λ file. digest_of rows file.now.name) files.now
+        → option_map site_seen result
+        ≡ site_of rows (map (λ file. file.now) files.now) finding.now told.now }
 {
     let number = finding.spot.file as usize;
-    let file = files.get(number)?;
+    let file = *files.get(number)?;
     match digests.get(number) {
         Some(digest) => site_in(finding, told, file, *digest),
         None => None,

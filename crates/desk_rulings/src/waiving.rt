@@ -1,5 +1,5 @@
 // Requests for waivers.
-ghost use Rattle.std.specs.Prelude.{◌≡◌, ◌≤◌, ◌<◌, All, length, option_map, IfOk};
+ghost use Rattle.std.specs.Prelude.{◌≡◌, ◌≤◌, ◌<◌, All, length, map, option_map, IfOk};
 ghost use Rattle.rtl_tree.specs.declared.text.TheConstants.{MAX_BYTES};
 ghost use Rattle.desk_places.specs.Places.{sources_of};
 ghost use Rattle.desk_tables.specs.Tables.{kept_of};
@@ -31,9 +31,10 @@ use std::alloc::Global;
 use waiver_book::{MAX_TERM, WaiveFault};
 
 // The files, as places are written of them.
-fn sources_in<'r>(alloc: Global, files: &'r [SourceFile]) -> Result<Sources<'r>, Memory>
-    requires { All (λ file. length file.text ≤ MAX_BYTES) files.now }
-    ensures { IfOk result (λ sources. sources_of sources ≡ sources_in files.now) }
+fn sources_in<'r>(alloc: Global, files: &[&'r SourceFile]) -> Result<Sources<'r>, Memory>
+    requires { All (λ file. length file.now.text ≤ MAX_BYTES) files.now }
+    ensures { IfOk result (λ sources.
+        sources_of sources ≡ sources_in (map (λ file. file.now) files.now)) }
 {
     let mut sources = Sources::empty(alloc);
     for file in files {
@@ -65,14 +66,15 @@ fn is_asked(
 // The site of a finding, where its file is kept.
 fn site_of<'r>(
     rows: &[FileRow],
-    files: &'r [SourceFile],
+    files: &[&'r SourceFile],
     finding: &Finding,
     told: &'r About,
 ) -> Option<Site<'r>>
-    ensures { option_map site_seen result ≡ site_of rows.now files.now finding.now told.now }
+    ensures { option_map site_seen result
+        ≡ site_of rows.now (map (λ file. file.now) files.now) finding.now told.now }
 {
     match files.get(finding.spot.file as usize) {
-        Some(file) => site_in(finding, told, file, digest_of(rows, &file.name)),
+        Some(file) => site_in(finding, told, *file, digest_of(rows, &file.name)),
         None => None,
     }
 }
@@ -85,9 +87,9 @@ fn asked_site<'r>(
     ask: &WaiverAsk,
 ) -> Result<Option<Site<'r>>, Memory>
     requires as_many { length ruled.now.findings.now ≡ length ruled.now.told.now }
-    requires short { All (λ file. length file.text ≤ MAX_BYTES) ruled.now.files.now }
+    requires short { All (λ file. length file.now.text ≤ MAX_BYTES) ruled.now.files.now }
     ensures { IfOk result (λ site. option_map site_seen site ≡ asked_in rows.now
-        ruled.now.files.now ask.now ruled.now.findings.now ruled.now.told.now) }
+        (verdict_of ruled.now).files ask.now ruled.now.findings.now ruled.now.told.now) }
 {
     let sources = sources_in(alloc, ruled.files)?;
     for number in 0..ruled.findings.len() {
@@ -270,7 +272,7 @@ pub fn waive(
     today: Day,
 ) -> Result<Decision, Memory>
     requires as_many { length ruled.now.findings.now ≡ length ruled.now.told.now }
-    requires short { All (λ file. length file.text ≤ MAX_BYTES) ruled.now.files.now }
+    requires short { All (λ file. length file.now.text ≤ MAX_BYTES) ruled.now.files.now }
     requires room { length (kept_of tables.now).waivers < MAX_WAIVERS }
     ensures { IfOk result (λ made. outcome made ≡ waive_outcome ask.now request.now today
         (kept_of tables.now) (verdict_of ruled.now)) }

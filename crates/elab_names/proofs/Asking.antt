@@ -1,27 +1,25 @@
 -- Names that are looked up one after the other.
 use Rattle.std.specs.Prelude.{if◌then◌else◌}
 use Rattle.std.specs.Cmp.Lexicographic.{bytes_decides}
-use Rattle.std.specs.List.{All, Contains, flat_map}
+use Rattle.std.specs.List.{All, Contains}
 use Rattle.std.specs.Option.{is_some}
 use Rattle.std.specs.Str.{bytes_eq}
 use Rattle.std.proofs.Common.{◌≡◌, ◌∙◌, ℕ, ◌+◌, ◌<◌, Bool, true, false, List, [], ◌∷◌, ◌++◌, length, get_or, map, take, Option, None, Some, refl, sym, ap, subst, inl, inr}
 use Rattle.std.proofs.lemmas.Bool.{both_ways, cases_Bool, cond-false}
 use Rattle.std.proofs.lemmas.List.{append-nil, append_assoc, map-append, take_more}
-use Rattle.std.proofs.lemmas.List.Elements.{All-nil, All-push, Contains-append_cases, Contains-append_left, Contains-append_right, Contains-push, Contains-push_cases}
+use Rattle.std.proofs.lemmas.List.Elements.{All-nil, All-push, Contains-append_left, Contains-push, Contains-push_cases}
 use Rattle.name_map.specs.Values.{Values, no_values, values_of, with_value}
 use Rattle.rtl_tree.specs.TreeItem.{ModuleItem, module_item}
-use Rattle.rtl_tree.specs.TreeModule.{Circuit}
 use Rattle.rtl_tree.specs.declared.tree.item.Item.{Item}
 use Rattle.elab_links.specs.declared.module_set.Lookup.{Lookup}
-use Rattle.elab_links.specs.declared.module_set.Place.{Place}
-use Rattle.elab_links.specs.Modules.{Lookups, circuit_at}
-use Rattle.elab_reach.specs.Reach.{AreHeld}
-use Rattle.elab_walk.specs.Visits.{Library}
+use Rattle.elab_links.specs.Modules.{Lookups}
+use Rattle.elab_walk.specs.declared.trail.Placement.{Placement}
+use Rattle.elab_walk.specs.Visits.{visit}
 use Rattle.elab_names.specs.declared.look_up.LookUp.{LookUp}
 use Rattle.elab_names.specs.declared.names.Asked.{Asked}
 use Rattle.elab_names.specs.Asking.{AreAsked, Asks, names_of}
-use Rattle.elab_names.specs.LookUps.{AreLookUps, IsLookedUp, Own, Placed, name_in_item, names_by, names_in}
-use Rattle.elab_names.proofs.Naming.{none_in, only}
+use Rattle.elab_names.specs.LookUps.{name_in_item, names_by, names_in}
+use Rattle.elab_names.proofs.Naming.{none_in}
 
 -- ---- names one after the other
 
@@ -158,73 +156,25 @@ names_more items i item inside is =
     ∙ ap (λ (own : List (List ℕ)). names_in (map module_item (take i items)) ++ own) (append-nil (name_in_item (module_item (get_or items i item))))
     ∙ ap (λ (x : Item). names_in (map module_item (take i items)) ++ name_in_item (module_item x)) (sym is)
 
--- ---- modules
+-- ---- instances
 
-abbrev pub names_at : List (List Circuit) → List Place → List (List ℕ)
-names_at files places = flat_map (λ place. names_by (circuit_at files place)) places
+-- the names that the modules of instances place
+abbrev pub placed_names : List Placement → List (List ℕ)
+placed_names placements = names_by (map (λ (p : Placement). visit p.visit) placements)
 
-at_append : (files : List (List Circuit)) (xs ys : List Place) → names_at files (xs ++ ys) ≡ names_at files xs ++ names_at files ys
-at_append files [] ys = refl
-at_append files (x ∷ xs) ys =
-    ap (λ (rest : List (List ℕ)). names_by (circuit_at files x) ++ rest) (at_append files xs ys)
-    ∙ sym (append_assoc (names_by (circuit_at files x)) (names_at files xs) (names_at files ys))
+placed_append : (xs : List Placement) (y : Placement) → placed_names (xs ++ y ∷ []) ≡ placed_names xs ++ names_in (visit y.visit).circuit.items
+placed_append [] y = append-nil (names_in (visit y.visit).circuit.items)
+placed_append (x ∷ xs) y =
+    ap (λ (rest : List (List ℕ)). names_in (visit x.visit).circuit.items ++ rest) (placed_append xs y)
+    ∙ sym (append_assoc (names_in (visit x.visit).circuit.items) (placed_names xs) (names_in (visit y.visit).circuit.items))
 
-pub asked_more : (lookups : Lookups) (files : List (List Circuit)) (top : List ℕ) (places : List Place) (i : ℕ) (d : Place) (one : Option Circuit) (old new : Asked) → i < length places → one ≡ circuit_at files (get_or places i d) → Asks lookups (names_by one) old new → AreAsked lookups (top ∷ names_at files (take i places)) old → AreAsked lookups (top ∷ names_at files (take (i + 1) places)) new
-asked_more lookups files top places i d one old new inside is asks are =
-    subst (λ (all : List (List ℕ)). AreAsked lookups (top ∷ all) new) (sym more) (asks.on (top ∷ names_at files (take i places)) are)
+pub asked_more : (lookups : Lookups) (top : List ℕ) (placements : List Placement) (i : ℕ) (one : Placement) (items : List Item) (old new : Asked) → i < length placements → one ≡ get_or placements i one → items ≡ one.visit.written.now.items.items → Asks lookups (names_in (map module_item items)) old new → AreAsked lookups (top ∷ placed_names (take i placements)) old → AreAsked lookups (top ∷ placed_names (take (i + 1) placements)) new
+asked_more lookups top placements i one items old new inside is shown asks are =
+    subst (λ (all : List (List ℕ)). AreAsked lookups (top ∷ all) new) (sym more) (asks.on (top ∷ placed_names (take i placements)) are)
   where
-    more : names_at files (take (i + 1) places) ≡ names_at files (take i places) ++ names_by one
+    more : placed_names (take (i + 1) placements) ≡ placed_names (take i placements) ++ names_in (map module_item items)
     more =
-        ap (names_at files) (take_more places i d inside)
-        ∙ at_append files (take i places) (get_or places i d ∷ [])
-        ∙ ap (λ (own : List (List ℕ)). names_at files (take i places) ++ own) (append-nil (names_by (circuit_at files (get_or places i d))))
-        ∙ ap (λ (o : Option Circuit). names_at files (take i places) ++ names_by o) (sym is)
-
-to_flat : (files : List (List Circuit)) (places : List Place) (place : Place) (name : List ℕ) → Contains places place → Contains (names_by (circuit_at files place)) name → Contains (names_at files places) name
-to_flat files [] place name h among = absurd (none_in place h)
-to_flat files (first ∷ others) place name h among =
-    elim (Contains-append_cases (first ∷ []) others place h) [
-      | inl here ↦
-          Contains-append_left (names_by (circuit_at files first)) (names_at files others) name
-          (subst (λ (p : Place). Contains (names_by (circuit_at files p)) name) (sym (only first place here)) among)
-      | inr there ↦
-          Contains-append_right (names_by (circuit_at files first)) (names_at files others) name (to_flat files others place name there among)
-    ]
-
-from_flat : (files : List (List Circuit)) (places : List Place) (name : List ℕ) → Contains (names_at files places) name → (place : Place) × Contains places place × Contains (names_by (circuit_at files place)) name
-from_flat files [] name h = absurd (none_in name h)
-from_flat files (first ∷ others) name h =
-    elim (Contains-append_cases (names_by (circuit_at files first)) (names_at files others) name h) [
-      | inl here ↦ (first, Contains-append_left (first ∷ []) others first (Contains-push [] first), here)
-      | inr there ↦
-          let (place, among, is) = from_flat files others name there in
-          (place, Contains-append_right (first ∷ []) others place among, is)
-    ]
-
-is_there : (one : Option Circuit) (name : List ℕ) → Contains (names_by one) name → (circuit : Circuit) × (one ≡ Some circuit)
-is_there None name h = absurd (none_in name h)
-is_there (Some circuit) name h = (circuit, refl)
-
--- the names of a top's modules are all that it looks up
-pub all_asked : (library : Library) (top : List ℕ) (places : List Place) (asked : Asked) → AreHeld library.lookups library.files top places → AreAsked library.lookups (top ∷ names_at library.files places) asked → AreLookUps library top asked.found.items
-all_asked library top places asked held are =
-    record {
-      names = λ name. (λ among. to name ((are.each name).0 among), λ looked. (are.each name).1 (from name looked));
-      meant = are.meant;
-    }
-  where
-    to : (name : List ℕ) → Contains (top ∷ names_at library.files places) name → IsLookedUp library top name
-    to name among =
-        elim (Contains-append_cases (top ∷ []) (names_at library.files places) name among) [
-          | inl here ↦ subst (IsLookedUp library top) (only top name here) Own
-          | inr there ↦
-              let (place, listed, is) = from_flat library.files places name there in
-              Placed place name ((held.each place).0 listed).reached is
-        ]
-
-    from : (name : List ℕ) → IsLookedUp library top name → Contains (top ∷ names_at library.files places) name
-    from name Own = Contains-append_left (top ∷ []) (names_at library.files places) top (Contains-push [] top)
-    from name (Placed holder n reached among) =
-        let (circuit, there) = is_there (circuit_at library.files holder) name among in
-        Contains-append_right (top ∷ []) (names_at library.files places) name
-        (to_flat library.files places holder name ((held.each holder).1 (record { circuit = circuit; there = there; reached = reached })) among)
+        ap placed_names (take_more placements i one inside)
+        ∙ ap (λ (p : Placement). placed_names (take i placements ++ p ∷ [])) (sym is)
+        ∙ placed_append (take i placements) one
+        ∙ ap (λ (all : List Item). placed_names (take i placements) ++ names_in (map module_item all)) (sym shown)

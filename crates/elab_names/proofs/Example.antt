@@ -1,27 +1,29 @@
--- The names that a top looks up, at work.
-use Rattle.std.specs.List.{All, Contains, slice_get}
-use Rattle.std.proofs.Common.{◌≡◌, ℕ, zero, suc, ◌<◌, List, [], ◌∷◌, get_or, arith, refl, ap, subst}
-use Rattle.std.proofs.lemmas.List.Elements.{All-cons, All-contains, All-nil, Contains-append_right}
+-- The names that a top looks up and the files that it uses, at work.
+use Rattle.std.specs.List.{Contains}
+use Rattle.std.specs.List.Sorted.{IsStrictlyIncreasing}
+use Rattle.std.proofs.Common.{◌≡◌, ◌∙◌, ℕ, zero, suc, List, [], ◌∷◌, Option, None, Some, arith, refl, sym, ap, subst}
+use Rattle.std.proofs.lemmas.List.Elements.{All-cons, All-contains, All-nil}
 use Rattle.rtl_tree.specs.TreeExpr.{Identifier}
 use Rattle.rtl_tree.specs.TreeItem.{ModuleItem, Instances, ByName, Integers}
 use Rattle.rtl_tree.specs.TreeModule.{Absent, Circuit}
+use Rattle.elab_links.specs.declared.module_set.Lookup.{Lookup}
 use Rattle.elab_links.specs.declared.module_set.Lookup.TheVariants.{Missing, Found}
 use Rattle.elab_links.specs.declared.module_set.Place.{Place}
-use Rattle.elab_links.specs.Modules.{circuit_at, listed_at}
-use Rattle.elab_reach.specs.Reach.{Top}
-use Rattle.elab_walk.specs.Visits.{Library}
+use Rattle.elab_links.specs.Modules.{circuit_at}
+use Rattle.elab_walk.specs.Visits.{Library, all_visits}
 use Rattle.rtl_elab.specs.Designs.{library_of}
 use Rattle.elab_names.specs.declared.look_up.LookUp.{LookUp}
-use Rattle.elab_names.specs.LookUps.{AgreeOn, AreLookUps, IsLookedUp, MeanSame, Own, Placed, name_in_item, names_by}
-use Rattle.elab_names.proofs.Naming.{none_in}
+use Rattle.elab_names.specs.Extracts.{IsStill, extract, files_at, number_at, place_in, renumbered}
+use Rattle.elab_names.specs.LookUps.{AreLookUps, AreUsed, IsUsed, looked_up, name_in_item, names_in}
+use Rattle.elab_names.proofs.Extracting.{looked_up_same}
 
 abbrev named : ℕ → Identifier
 named letter = record { text = letter ∷ []; at = 0 }
 
--- NAME u();
-abbrev holds : ℕ → ModuleItem
-holds letter =
-    Instances (named letter) (ByName []) (record { name = named 117; connections = ByName [] } ∷ [])
+-- NAME OWN();
+abbrev holds : ℕ → ℕ → ModuleItem
+holds letter own =
+    Instances (named letter) (ByName []) (record { name = named own; connections = ByName [] } ∷ [])
 
 -- module NAME; items endmodule
 abbrev with_items : ℕ → List ModuleItem → Circuit
@@ -39,152 +41,194 @@ with_items letter items =
 abbrev first_in : ℕ → Place
 first_in file = record { file = file; index = 0 }
 
--- t, which holds l and m, and l: each in a file of its own; no module is m
-abbrev files : List (List Circuit)
-files =
-    (with_items 116 (holds 108 ∷ holds 109 ∷ []) ∷ []) ∷ (with_items 108 [] ∷ []) ∷ []
+-- t, which holds l as u and x as v
+abbrev t_file : List Circuit
+t_file = with_items 116 (holds 108 117 ∷ holds 120 118 ∷ []) ∷ []
 
+-- l, which holds m as w
+abbrev l_file : List Circuit
+l_file = with_items 108 (holds 109 119 ∷ []) ∷ []
+
+-- x, which holds y as w
+abbrev x_file : List Circuit
+x_file = with_items 120 (holds 121 119 ∷ []) ∷ []
+
+-- one that holds nothing
+abbrev leaf_file : ℕ → List Circuit
+leaf_file letter = with_items letter [] ∷ []
+
+-- t, z, l and x, each in a file of its own; no module is m
 abbrev library : Library
-library = library_of files
+library = library_of (t_file ∷ leaf_file 122 ∷ l_file ∷ x_file ∷ [])
 
 abbrev top : List ℕ
 top = 116 ∷ []
 
 -- ---- names
 
-held_name : name_in_item (holds 108) ≡ (108 ∷ []) ∷ []
+held_name : name_in_item (holds 108 117) ≡ (108 ∷ []) ∷ []
 held_name = refl
 
 no_name : name_in_item (Integers 0 (named 105 ∷ [])) ≡ []
 no_name = refl
 
-names_of_top : names_by (circuit_at files (first_in 0)) ≡ (108 ∷ []) ∷ (109 ∷ []) ∷ []
-names_of_top = refl
+-- the top's own, those that it places, and that of m, which isn't there: so elaboration doesn't come to x, and y isn't
+-- looked up
+abbrev four : List (List ℕ)
+four = top ∷ (108 ∷ []) ∷ (120 ∷ []) ∷ (109 ∷ []) ∷ []
 
-names_of_leaf : names_by (circuit_at files (first_in 1)) ≡ []
-names_of_leaf = refl
+four_looked : looked_up library top ≡ four
+unfolding all_visits
+four_looked = refl
 
-names_of_none : names_by (circuit_at files (first_in 2)) ≡ []
-names_of_none = refl
+looked : (name : List ℕ) → Contains four name → Contains (looked_up library top) name
+looked name among =
+    subst (λ (names : List (List ℕ)). Contains names name) (sym four_looked) among
 
--- ---- what the top looks up: its own name, that of a module that is there and that of one that isn't
+among_four : (name : List ℕ) → Contains (looked_up library top) name → Contains four name
+among_four name asked = subst (λ (names : List (List ℕ)). Contains names name) four_looked asked
 
-abbrev three : List (List ℕ)
-three = top ∷ (108 ∷ []) ∷ (109 ∷ []) ∷ []
-
-leaf_looked : IsLookedUp library top (108 ∷ [])
-leaf_looked = Placed (first_in 0) (108 ∷ []) (Top (first_in 0) refl) (0, omega arith, refl)
-
-missing_looked : IsLookedUp library top (109 ∷ [])
-missing_looked = Placed (first_in 0) (109 ∷ []) (Top (first_in 0) refl) (1, omega arith, refl)
-
-all_looked : All (IsLookedUp library top) three
-all_looked =
-    All-cons (IsLookedUp library top) top ((108 ∷ []) ∷ (109 ∷ []) ∷ []) Own
-    (All-cons (IsLookedUp library top) (108 ∷ []) ((109 ∷ []) ∷ []) leaf_looked
-    (All-cons (IsLookedUp library top) (109 ∷ []) [] missing_looked (All-nil (IsLookedUp library top))))
-
-held_by : (file index : ℕ) (name : List ℕ) → Contains (names_by (listed_at (slice_get files file) index)) name → Contains three name
-held_by zero zero name h =
-    Contains-append_right (top ∷ []) ((108 ∷ []) ∷ (109 ∷ []) ∷ []) name h
-held_by zero (suc index) name h = absurd (none_in name h)
-held_by (suc zero) zero name h = absurd (none_in name h)
-held_by (suc zero) (suc index) name h = absurd (none_in name h)
-held_by (suc (suc file)) index name h = absurd (none_in name h)
-
-looked : (name : List ℕ) → IsLookedUp library top name → Contains three name
-looked name Own = (0, omega arith, refl)
-looked name (Placed holder n reached h) = held_by holder.file holder.index name h
-
--- a name that none of its modules places
-not_looked : IsLookedUp library top (120 ∷ []) → ⊥
-not_looked is = absent (looked (120 ∷ []) is)
-  where
-    apart : (letter : ℕ) → letter < 120 → letter ∷ [] ≡ 120 ∷ [] → ⊥
-    apart letter below same =
-        let one : letter ≡ 120 = ap (λ (name : List ℕ). get_or name 0 0) same in
-        omega (arith, below, one)
-
-    absent : Contains three (120 ∷ []) → ⊥
-    absent (zero, below, same) = apart 116 (omega arith) same
-    absent (suc zero, below, same) = apart 108 (omega arith) same
-    absent (suc (suc zero), below, same) = apart 109 (omega arith) same
-    absent (suc (suc (suc k)), below, same) = absurd (omega (arith, below))
+-- a fact of each of the four
+each_of : (P : List ℕ → Type 0) → P top → P (108 ∷ []) → P (120 ∷ []) → P (109 ∷ []) → (name : List ℕ) → Contains four name → P name
+each_of P own held other missing name among =
+    All-contains P four name
+    (All-cons P top ((108 ∷ []) ∷ (120 ∷ []) ∷ (109 ∷ []) ∷ []) own
+    (All-cons P (108 ∷ []) ((120 ∷ []) ∷ (109 ∷ []) ∷ []) held
+    (All-cons P (120 ∷ []) ((109 ∷ []) ∷ []) other (All-cons P (109 ∷ []) [] missing (All-nil P)))))
+    among
 
 -- what is told of them
+abbrev look_up : ℕ → Lookup → LookUp
+look_up letter meant = record { name = letter ∷ []; meant = meant }
+
 abbrev Means : LookUp → Type 0
 Means one = library.lookups one.name ≡ one.meant
 
-told : AreLookUps library top ((let own : LookUp = record { name = top; meant = Found (first_in 0) } in own) ∷ (let leaf : LookUp = record { name = 108 ∷ []; meant = Found (first_in 1) } in leaf) ∷ (let none : LookUp = record { name = 109 ∷ []; meant = Missing } in none) ∷ [])
+told : AreLookUps library top (look_up 116 (Found (first_in 0)) ∷ look_up 108 (Found (first_in 2)) ∷ look_up 120 (Found (first_in 3)) ∷ look_up 109 Missing ∷ [])
 told =
     record {
-      names = λ name. (λ among. All-contains (IsLookedUp library top) three name all_looked among, looked name);
+      names = λ name. (looked name, among_four name);
       meant =
-          All-cons Means own (leaf ∷ none ∷ []) refl
-          (All-cons Means leaf (none ∷ []) refl (All-cons Means none [] refl (All-nil Means)));
+          All-cons Means (look_up 116 (Found (first_in 0)))
+          (look_up 108 (Found (first_in 2)) ∷ look_up 120 (Found (first_in 3)) ∷ look_up 109 Missing ∷ []) refl
+          (All-cons Means (look_up 108 (Found (first_in 2)))
+          (look_up 120 (Found (first_in 3)) ∷ look_up 109 Missing ∷ []) refl
+          (All-cons Means (look_up 120 (Found (first_in 3))) (look_up 109 Missing ∷ []) refl
+          (All-cons Means (look_up 109 Missing) [] refl (All-nil Means))));
     }
-  where
-    own : LookUp
-    own = record { name = top; meant = Found (first_in 0) }
 
-    leaf : LookUp
-    leaf = record { name = 108 ∷ []; meant = Found (first_in 1) }
+-- ---- files: those of t, l and x
 
-    none : LookUp
-    none = record { name = 109 ∷ []; meant = Missing }
+abbrev used : List ℕ
+used = 0 ∷ 2 ∷ 3 ∷ []
+
+rising : IsStrictlyIncreasing used
+rising zero below = omega arith
+rising (suc zero) below = omega arith
+rising (suc (suc k)) below = absurd (omega (arith, below))
+
+is_used : (file : ℕ) → Contains used file → IsUsed library top file
+is_used file (zero, below, same) =
+    subst (IsUsed library top) same
+    (record { name = top; index = 0; asked = looked top (0, omega arith, refl); means = refl })
+is_used file (suc zero, below, same) =
+    subst (IsUsed library top) same
+    (record { name = 108 ∷ []; index = 0; asked = looked (108 ∷ []) (1, omega arith, refl); means = refl })
+is_used file (suc (suc zero), below, same) =
+    subst (IsUsed library top) same
+    (record { name = 120 ∷ []; index = 0; asked = looked (120 ∷ []) (2, omega arith, refl); means = refl })
+is_used file (suc (suc (suc k)), below, same) = absurd (omega (arith, below))
+
+abbrev InUsed : List ℕ → Type 0
+InUsed name = (place : Place) → library.lookups name ≡ Found place → Contains used place.file
+
+in_used : (place other : Place) → Contains used place.file → Found place ≡ Found other → Contains used other.file
+in_used place other among is =
+    let same : place ≡ other = cc in
+    subst (λ (p : Place). Contains used p.file) same among
+
+used_file : (file : ℕ) → IsUsed library top file → Contains used file
+used_file file is =
+    each_of InUsed
+    (λ place found. in_used (first_in 0) place (0, omega arith, refl) found)
+    (λ place found. in_used (first_in 2) place (1, omega arith, refl) found)
+    (λ place found. in_used (first_in 3) place (2, omega arith, refl) found)
+    (λ place found. absurd cc)
+    is.name (among_four is.name is.asked) (record { file = file; index = is.index }) is.means
+
+are_used : AreUsed library top used
+are_used = record { ascending = rising; each = λ file. (is_used file, used_file file) }
+
+-- numbered among themselves
+second : place_in used 2 ≡ 1
+second = refl
+
+no_place : place_in used 1 ≡ 3
+no_place = refl
+
+files_there : (extract used library).files ≡ t_file ∷ l_file ∷ x_file ∷ []
+files_there = refl
+
+held_there : (extract used library).lookups (108 ∷ []) ≡ Found (first_in 1)
+held_there = refl
+
+missing_there : (extract used library).lookups (109 ∷ []) ≡ Missing
+missing_there = refl
+
+-- z, which isn't looked up, is in none of them
+none_there : circuit_at (extract used library).files (first_in 3) ≡ None
+none_there = refl
+
+again : looked_up (extract used library) top ≡ four
+again = looked_up_same library top used are_used ∙ four_looked
 
 -- ---- other libraries
 
--- the same with x, which the top doesn't look up: all means the same
-abbrev more : Library
-more =
-    library_of ((with_items 116 (holds 108 ∷ holds 109 ∷ []) ∷ []) ∷ (with_items 108 [] ∷ []) ∷ (with_items 120 [] ∷ []) ∷ [])
+-- without z, and with y in front, which isn't looked up: all is still there
+abbrev later : Library
+later = library_of (leaf_file 121 ∷ t_file ∷ l_file ∷ x_file ∷ [])
 
-same_top : MeanSame library more top
-same_top =
+abbrev others : List ℕ
+others = 1 ∷ 2 ∷ 3 ∷ []
+
+rising_others : IsStrictlyIncreasing others
+rising_others zero below = omega arith
+rising_others (suc zero) below = omega arith
+rising_others (suc (suc k)) below = absurd (omega (arith, below))
+
+abbrev MeansStill : List ℕ → Type 0
+MeansStill name =
+    later.lookups name ≡ renumbered (number_at others) ((extract used library).lookups name)
+
+still : IsStill library later top used others
+still =
     record {
-      lookup = refl;
-      circuit = λ place is.
-          let same : first_in 0 ≡ place = cc in
-          subst (λ (p : Place). circuit_at more.files p ≡ circuit_at library.files p) same refl;
+      ascending = rising_others;
+      count = refl;
+      files = refl;
+      meant = λ name asked. each_of MeansStill refl refl refl refl name
+          (subst (λ (names : List (List ℕ)). Contains names name) again asked);
     }
 
-same_leaf : MeanSame library more (108 ∷ [])
-same_leaf =
-    record {
-      lookup = refl;
-      circuit = λ place is.
-          let same : first_in 1 ≡ place = cc in
-          subst (λ (p : Place). circuit_at more.files p ≡ circuit_at library.files p) same refl;
-    }
-
-same_missing : MeanSame library more (109 ∷ [])
-same_missing = record { lookup = refl; circuit = λ place is. absurd cc }
-
-agree : AgreeOn library more top
-agree name is =
-    All-contains (MeanSame library more) three name
-    (All-cons (MeanSame library more) top ((108 ∷ []) ∷ (109 ∷ []) ∷ []) same_top
-    (All-cons (MeanSame library more) (108 ∷ []) ((109 ∷ []) ∷ []) same_leaf
-    (All-cons (MeanSame library more) (109 ∷ []) [] same_missing (All-nil (MeanSame library more)))))
-    (looked name is)
-
--- with a module m the name means another thing, and with another l it means another text
+-- m is there, and l is another
 abbrev with_missing : Library
-with_missing =
-    library_of ((with_items 116 (holds 108 ∷ holds 109 ∷ []) ∷ []) ∷ (with_items 108 [] ∷ with_items 109 [] ∷ []) ∷ [])
+with_missing = library_of (t_file ∷ leaf_file 122 ∷ l_file ∷ x_file ∷ leaf_file 109 ∷ [])
 
-differ : MeanSame library with_missing (109 ∷ []) → ⊥
-differ same =
-    let other : Found (record { file = 1; index = 1 }) ≡ Missing = same.lookup in
+differ : IsStill library with_missing top used used → ⊥
+differ is =
+    let other : Found (first_in 4) ≡ Missing
+    = is.meant (109 ∷ []) (subst (λ (names : List (List ℕ)). Contains names (109 ∷ [])) (sym again) (3, omega arith, refl)) in
     absurd cc
 
 abbrev rewritten : Library
-rewritten =
-    library_of ((with_items 116 (holds 108 ∷ holds 109 ∷ []) ∷ []) ∷ (with_items 108 (holds 109 ∷ []) ∷ []) ∷ [])
+rewritten = library_of (t_file ∷ leaf_file 122 ∷ leaf_file 108 ∷ x_file ∷ [])
 
-changed : MeanSame library rewritten (108 ∷ []) → ⊥
-changed same =
-    let other : names_by (circuit_at rewritten.files (first_in 1)) ≡ names_by (circuit_at library.files (first_in 1))
-    = ap names_by (same.circuit (first_in 1) refl) in
+abbrev names_at : Option Circuit → List (List ℕ)
+names_at None = []
+names_at (Some circuit) = names_in circuit.items
+
+changed : IsStill library rewritten top used used → ⊥
+changed is =
+    let other : names_at (circuit_at (files_at used rewritten.files) (first_in 1)) ≡ names_at (circuit_at (files_at used library.files) (first_in 1))
+    = ap (λ (files : List (List Circuit)). names_at (circuit_at files (first_in 1))) is.files in
     absurd cc

@@ -1,8 +1,14 @@
 mod Agreeing
+mod Ascending
 pub mod Asking
-mod Designs
 mod Example
-mod Faulting
+mod Extracting
+mod Finding
+mod Making
+mod Mapping
+mod Moving
 mod Naming
+mod Numbering
 pub mod Resolving
-mod Standing
+mod Running
+mod Staying

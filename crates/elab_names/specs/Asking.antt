@@ -20,3 +20,8 @@ pub record AreAsked (lookups : Lookups) (names : List (List ℕ)) (asked : Asked
 -- further names are there
 pub record Asks (lookups : Lookups) (more : List (List ℕ)) (old new : Asked) : Type 0 where
   pub on : (names : List (List ℕ)) → AreAsked lookups names old → AreAsked lookups (names ++ more) new
+
+-- these names, each with what it means
+pub record AreFound (lookups : Lookups) (names : List (List ℕ)) (found : List LookUp) : Type 0 where
+  pub each : (name : List ℕ) → Contains (names_of found) name ↔ Contains names name
+  pub meant : All (λ (one : LookUp). lookups one.name ≡ one.meant) found

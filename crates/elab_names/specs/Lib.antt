@@ -1,2 +1,4 @@
 pub mod Asking
+pub mod Extracts
 pub mod LookUps
+pub mod Moves

@@ -1,14 +1,12 @@
--- The names that the modules of a top look up, and when two libraries mean the same by them.
+-- The names that elaboration of a top looks up, and the files that it uses (IEEE 1364-2001 section 12.1).
 -- Worked examples: proofs/Example.antt, crates/tests_elab/src/lookups.rt.
-use Rattle.std.specs.Prelude.{ℕ, ◌≡◌, ◌↔◌, List, [], ◌∷◌, ◌++◌, Option, None, Some, map}
-use Rattle.std.specs.List.{All, Contains}
+use Rattle.std.specs.Prelude.{ℕ, ◌≡◌, ◌↔◌, List, [], ◌∷◌, ◌++◌, map}
+use Rattle.std.specs.List.{All, Contains, flat_map}
+use Rattle.std.specs.List.Sorted.{IsStrictlyIncreasing}
 use Rattle.rtl_tree.specs.TreeItem.{ModuleItem, Ports, Nets, Variables, Integers, Parameters, Drives, Always, Instances}
-use Rattle.rtl_tree.specs.TreeModule.{Circuit}
-use Rattle.elab_links.specs.declared.module_set.Place.{Place}
 use Rattle.elab_links.specs.declared.module_set.Lookup.TheVariants.{Found}
-use Rattle.elab_links.specs.Modules.{circuit_at}
-use Rattle.elab_reach.specs.Reach.{IsReached}
-use Rattle.elab_walk.specs.Visits.{Library}
+use Rattle.elab_walk.specs.Visits.{Library, Visit}
+use Rattle.rtl_elab.specs.Elaborated.{visited}
 use Rattle.elab_names.specs.declared.look_up.LookUp.{LookUp}
 
 -- the name of the module whose instances an item places
@@ -26,36 +24,30 @@ abbrev pub names_in : List ModuleItem → List (List ℕ)
 names_in [] = []
 names_in (first ∷ others) = name_in_item first ++ names_in others
 
--- the names of the modules that a module places, where it is there
-abbrev pub names_by : Option Circuit → List (List ℕ)
-names_by None = []
-names_by (Some circuit) = names_in circuit.items
+-- the names that the modules of instances place
+abbrev pub names_by : List Visit → List (List ℕ)
+names_by visits = flat_map (λ (v : Visit). names_in v.circuit.items) visits
 
--- a name that a top looks up: its own, and each that one of its modules places (IEEE 1364-2001
--- section 12.1); whether a module has the name or not
-pub data IsLookedUp (library : Library) (top : List ℕ) : List ℕ → Type 0 where
-  Own : IsLookedUp library top top
-  Placed :
-      (holder : Place) (name : List ℕ) →
-      IsReached library.lookups library.files top holder →
-      Contains (names_by (circuit_at library.files holder)) name → IsLookedUp library top name
+-- the names that a top looks up: its own, and all that the modules of the instances to which elaboration comes place,
+-- whether a module has the name or not
+abbrev pub looked_up : Library → List ℕ → List (List ℕ)
+looked_up library top = top ∷ names_by (visited library top)
 
--- two libraries mean the same by a name: no module, or more than one, or one at the same place and
--- with the same text
-pub record MeanSame (first second : Library) (name : List ℕ) : Type 0 where
-  pub lookup : second.lookups name ≡ first.lookups name
-  pub circuit :
-      (place : Place) → first.lookups name ≡ Found place →
-      circuit_at second.files place ≡ circuit_at first.files place
+-- a file that a top uses: a name that the top looks up means a module in it
+pub record IsUsed (library : Library) (top : List ℕ) (file : ℕ) : Type 0 where
+  pub name : List ℕ
+  pub index : ℕ
+  pub asked : Contains (looked_up library top) name
+  pub means : library.lookups name ≡ Found (record { file = file; index = index })
 
--- two libraries mean the same by all that a top looks up in the first
-abbrev pub AgreeOn : Library → Library → List ℕ → Type 0
-AgreeOn first second top =
-    (name : List ℕ) → IsLookedUp first top name → MeanSame first second name
+-- the numbers of all such files, each once and ascending
+pub record AreUsed (library : Library) (top : List ℕ) (numbers : List ℕ) : Type 0 where
+  pub ascending : IsStrictlyIncreasing numbers
+  pub each : (file : ℕ) → Contains numbers file ↔ IsUsed library top file
 
 -- what was looked up: each name with what it means
 pub record AreLookUps (library : Library) (top : List ℕ) (found : List LookUp) : Type 0 where
   pub names :
       (name : List ℕ) →
-      Contains (map (λ (found : LookUp). found.name) found) name ↔ IsLookedUp library top name
+      Contains (map (λ (found : LookUp). found.name) found) name ↔ Contains (looked_up library top) name
   pub meant : All (λ (found : LookUp). library.lookups found.name ≡ found.meant) found

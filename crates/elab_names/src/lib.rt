@@ -1,11 +1,14 @@
-//! The names that the modules of a top look up, and what follows where they mean the same.
+//! What elaboration makes of a top in the files that it uses, with the names that it looks up, and where that stays the same.
 #![tactic(auto)]
 
+mod design;
 pub mod law;
 mod look_up;
 mod meaning;
+mod moves;
 mod names;
+mod used;
 
+pub use design::{Elaborated, elaborate};
 pub use look_up::LookUp;
 pub use meaning::resolve;
-pub use names::look_ups;

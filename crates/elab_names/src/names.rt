@@ -1,23 +1,20 @@
 // The names that a top looks up.
 
 ghost use Rattle.std.specs.Prelude.{◌≡◌, [], ◌∷◌, IfOk, OnOk, map};
-ghost use Rattle.std.specs.Option.{option_map};
 ghost use Rattle.name_map.specs.Values.{no_values, values_of};
 ghost use Rattle.rtl_tree.specs.TreeItem.{module_item};
-ghost use Rattle.rtl_tree.specs.TreeModule.{circuit};
-ghost use Rattle.elab_links.specs.Modules.{all_placed, circuits_of, found, lookups_of};
-ghost use Rattle.rtl_elab.specs.Designs.{library_of};
-ghost use Rattle.elab_names.specs.Asking.{Asks};
-ghost use Rattle.elab_names.specs.LookUps.{AreLookUps, name_in_item, names_by, names_in};
+ghost use Rattle.elab_links.specs.Modules.{lookups_of};
+ghost use Rattle.elab_walk.specs.Visits.{visit};
+ghost use Rattle.elab_names.specs.Asking.{AreFound, Asks};
+ghost use Rattle.elab_names.specs.LookUps.{name_in_item, names_by, names_in};
 
 use crate::look_up::LookUp;
-use elab_links::module_set::{Lookup, ModuleSet, module_at};
-use elab_reach::reached_places;
+use elab_links::module_set::{Lookup, ModuleSet};
+use elab_walk::trail::Placement;
 use name_map::NameMap;
 use rtl_tree::memory::Memory;
 use rtl_tree::text::Text;
 use rtl_tree::tree::item::Item;
-use rtl_tree::tree::modules::Module;
 use std::alloc::Global;
 
 /// The names that are looked up so far, each once.
@@ -82,43 +79,23 @@ impl Asked {
         }
         Ok(())
     }
-
-    /// The names of the modules that a module places, where it is there.
-    #[tactic(auto, using(crate::proofs::Asking::asks_nothing))]
-    fn add_all(
-        &mut self,
-        alloc: Global,
-        set: &ModuleSet,
-        written: Option<&Module>,
-    ) -> Result<(), Memory>
-        ensures { OnOk result (Asks (lookups_of set.now)
-            (names_by (option_map (λ written. circuit written.now) written.entry))
-            self.old self.new) }
-    {
-        match written {
-            None => Ok(()),
-            Some(written) => self.add_items(alloc, set, &written.items),
-        }
-    }
 }
 
-/// The names that the modules of a top look up, its own first and each once, with what they mean.
-/// Each module of the top is gone through once. It fails only for want of memory.
-pub fn look_ups(
+/// The names that a top looks up, its own first and each once, with what they mean: those that the modules of these instances
+/// place. It fails only for want of memory.
+pub(crate) fn look_ups(
     alloc: Global,
-    files: &[Vec<Module>],
     set: &ModuleSet,
     top: &Text,
+    placements: &[Placement<'_>],
 ) -> Result<Vec<LookUp>, Memory>
-    requires { lookups_of set.now ≡ found (all_placed (circuits_of files.now)) }
-    ensures { IfOk result (λ found.
-        AreLookUps (library_of (circuits_of files.now)) top.now found.items) }
+    ensures { IfOk result (λ found. AreFound (lookups_of set.now)
+        (top.now ∷ names_by (map (λ placement. visit placement.visit) placements.now)) found.items) }
 {
-    let places = reached_places(alloc, files, set, top)?;
     let mut asked = Asked::new(alloc);
     asked.add(alloc, set, top)?;
-    for place in &places {
-        asked.add_all(alloc, set, module_at(files, *place))?;
+    for placement in placements {
+        asked.add_items(alloc, set, &placement.visit.written.items)?;
     }
     Ok(asked.found)
 }

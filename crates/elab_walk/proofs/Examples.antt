@@ -1,7 +1,6 @@
 -- Designs at work.
-use Rattle.std.specs.Prelude.{ℕ, ◌+◌, false, true, List, [], ◌∷◌, map, Option, None, Some, Ok, Err}
+use Rattle.std.specs.Prelude.{ℕ, ◌+◌, false, List, [], ◌∷◌, map, None, Some}
 use Rattle.std.proofs.Common.{◌≡◌, refl}
-use Rattle.rtl_tree.specs.declared.text.Spot.{Spot}
 use Rattle.rtl_tree.specs.declared.tree.item.Direction.{Direction}
 use Rattle.rtl_tree.specs.declared.tree.item.Direction.TheVariants.{Input, Output}
 use Rattle.rtl_tree.specs.declared.tree.item.ParameterKind.TheVariants.{Local}
@@ -9,10 +8,9 @@ use Rattle.rtl_tree.specs.TreeExpr.{Identifier, Read}
 use Rattle.rtl_tree.specs.TreeStmt.{Whole}
 use Rattle.rtl_tree.specs.TreeItem.{ModuleItem, Drives, Instances, Parameters, ByName}
 use Rattle.rtl_tree.specs.TreeModule.{Circuit, HeaderPort, Declared}
-use Rattle.elab_scope.specs.Faults.{InstanceLoop, Named, NoSuchModule, Placed, TooLarge, Undeclared}
-use Rattle.elab_items.specs.Settings.{no_settings}
+use Rattle.elab_scope.specs.Faults.{InstanceLoop, Named, NoSuchModule, Placed, TooLarge}
 use Rattle.elab_links.specs.Modules.{all_placed, found}
-use Rattle.elab_walk.specs.Refusals.{refusal}
+use Rattle.elab_walk.specs.Refusals.{come_to, refusal}
 use Rattle.elab_walk.specs.Rooms.{whole_room}
 use Rattle.elab_walk.specs.Visits.{Library, Visit, top_visit, visits}
 
@@ -88,6 +86,22 @@ fitting = refl
 -- one signal too many
 wide : refusal two (record { base = 19997; number = 0; processes = 9; left = record { statements = 9; delays = 9; nodes = 9 }; parameters = 9 }) met ≡ Some (Placed TooLarge (record { file = 0; at = 112 }))
 wide = refl
+
+-- a, which holds l as u and again as v
+abbrev pair : Circuit
+pair =
+    with_items 97 0 (holds 108 ∷ Instances (named 108 40) (ByName []) (record { name = named 118 42; connections = ByName [] } ∷ []) ∷ [])
+
+abbrev with_pair : Library
+with_pair = library_of (pair ∷ leaf ∷ [])
+
+-- where something is told of the second of three instances, the walk comes to the first two
+reached : map (λ v. v.path) (come_to with_pair (record { base = 0; number = 19999; processes = 9; left = record { statements = 9; delays = 9; nodes = 9 }; parameters = 9 }) (visits with_pair 2 (top with_pair pair))) ≡ (97 ∷ []) ∷ (97 ∷ 46 ∷ 117 ∷ []) ∷ []
+reached = refl
+
+-- and else to all
+come : map (λ v. v.path) (come_to with_pair (record { base = 0; number = 0; processes = 9; left = record { statements = 9; delays = 9; nodes = 9 }; parameters = 9 }) (visits with_pair 2 (top with_pair pair))) ≡ (97 ∷ []) ∷ (97 ∷ 46 ∷ 117 ∷ []) ∷ (97 ∷ 46 ∷ 118 ∷ []) ∷ []
+come = refl
 
 -- t, which holds as u a module with a localparam
 abbrev counted : Circuit

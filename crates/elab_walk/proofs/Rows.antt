@@ -4,9 +4,9 @@ use Rattle.std.specs.List.{flat_map}
 use Rattle.std.proofs.Common.{◌≡◌, ◌∙◌, ap, sym, get_or}
 use Rattle.std.proofs.lemmas.List.{at_drop_more}
 use Rattle.elab_scope.specs.Faults.{Answer}
-use Rattle.elab_walk.specs.Trails.{Gone, IsTold, gone, told_in}
+use Rattle.elab_walk.specs.Trails.{Gone, IsStopped, Trail, gone}
 use Rattle.elab_walk.specs.Visits.{Library, Visit, visits}
-use Rattle.elab_walk.proofs.Telling.{held_on, told_on}
+use Rattle.elab_walk.proofs.Telling.{held_on, stopped_on}
 
 abbrev all_gone : Library → ℕ → Gone → List Visit → Gone
 all_gone library levels g vs = gone library g (flat_map (visits library levels) vs)
@@ -25,7 +25,7 @@ more_gone library levels row own more g g1 all i item r inside is there earlier 
     ∙ sym (held_on library levels g (own item) (row (drop (i + 1) all)))
     ∙ next library levels row own more g all i item r inside is earlier
 
--- what is told in a row is told of it
-pub more_told : {X : Type 0} (library : Library) (levels : ℕ) (row : List X → List Visit) (own : X → List Visit) → ((x : X) (xs : List X) → row (x ∷ xs) ≡ own x ++ row xs) → (a : Answer) (g : Gone) (all : List X) (i : ℕ) (item : X) (r : Gone) → i < length all → item ≡ get_or all i item → IsTold a (told_in (gone library g (flat_map (visits library levels) (own item)))) → gone library g (flat_map (visits library levels) (row (drop i all))) ≡ r → IsTold a (told_in r)
-more_told library levels row own more a g all i item r inside is there earlier =
-    told_on library levels a g r (own item) (row (drop (i + 1) all)) (next library levels row own more g all i item r inside is earlier) there
+-- what stops the walk in a row stops it there
+pub more_stopped : {X : Type 0} (library : Library) (levels : ℕ) (row : List X → List Visit) (own : X → List Visit) → ((x : X) (xs : List X) → row (x ∷ xs) ≡ own x ++ row xs) → (a : Answer) (end : Trail) (g : Gone) (all : List X) (i : ℕ) (item : X) (r : Gone) → i < length all → item ≡ get_or all i item → IsStopped a end (gone library g (flat_map (visits library levels) (own item))) → gone library g (flat_map (visits library levels) (row (drop i all))) ≡ r → IsStopped a end r
+more_stopped library levels row own more a end g all i item r inside is there earlier =
+    stopped_on library levels a end g r (own item) (row (drop (i + 1) all)) (next library levels row own more g all i item r inside is earlier) there

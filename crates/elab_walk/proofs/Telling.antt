@@ -1,4 +1,4 @@
--- What is told on the walk.
+-- What is told on the walk, and where it stops.
 use Rattle.std.specs.Prelude.{ℕ, ◌-◌, ◌<◌, zero, suc, List, [], ◌∷◌, ◌++◌, Option, None, Some}
 use Rattle.std.specs.List.{flat_map}
 use Rattle.std.proofs.Common.{◌≡◌, ◌∙◌, ap, refl, subst, sym, arith}
@@ -6,7 +6,7 @@ use Rattle.std.proofs.lemmas.Grind.{flat_map-append}
 use Rattle.rtl_tree.specs.TreeItem.{ModuleItem}
 use Rattle.elab_scope.specs.Faults.{Answer, Memory, Named, Placed}
 use Rattle.elab_walk.specs.Refusals.{told_of}
-use Rattle.elab_walk.specs.Trails.{Going, Gone, IsTold, Refused, Trail, extended, gone, passed_by, step, told_in}
+use Rattle.elab_walk.specs.Trails.{Going, Gone, IsStopped, IsTold, Refused, Trail, extended, followed, gone, passed_by, step}
 use Rattle.elab_walk.specs.Visits.{Holder, Library, Visit, children, holder_of, visits}
 
 pub told_as : (a b : Answer) → a ≡ b → IsTold a (Some b)
@@ -15,19 +15,16 @@ told_as (Placed breach spot) b h = ap Some (sym h)
 told_as Memory b h = tt
 
 -- nothing counts behind what is told
-pub refused_stays : (library : Library) (told : Answer) (vs : List Visit) → gone library (Refused told) vs ≡ Refused told
-refused_stays library told [] = refl
-refused_stays library told (v ∷ vs) = refused_stays library told vs
+pub refused_stays : (library : Library) (trail : Trail) (told : Answer) (vs : List Visit) → gone library (Refused trail told) vs ≡ Refused trail told
+refused_stays library trail told [] = refl
+refused_stays library trail told (v ∷ vs) = refused_stays library trail told vs
 
-nothing_is : (a : Answer) → IsTold a None → (other : Option Answer) → IsTold a other
-nothing_is (Named breach) h other = absurd cc
-nothing_is (Placed breach spot) h other = absurd cc
-nothing_is Memory h other = tt
-
-pub still_told : (library : Library) (a : Answer) (g : Gone) (vs : List Visit) → IsTold a (told_in g) → IsTold a (told_in (gone library g vs))
-still_told library a (Going trail) vs h = nothing_is a h _
-still_told library a (Refused told) vs h =
-    subst (λ (g : Gone). IsTold a (told_in g)) (sym (refused_stays library told vs)) h
+pub still_stopped : (library : Library) (a : Answer) (end : Trail) (g : Gone) (vs : List Visit) → IsStopped a end g → IsStopped a end (gone library g vs)
+still_stopped library (Named breach) end g vs h =
+    ap (λ g. gone library g vs) h ∙ refused_stays library end (Named breach) vs
+still_stopped library (Placed breach spot) end g vs h =
+    ap (λ g. gone library g vs) h ∙ refused_stays library end (Placed breach spot) vs
+still_stopped library Memory end g vs h = tt
 
 pub gone_append : (library : Library) (g : Gone) (xs ys : List Visit) → gone library g (xs ++ ys) ≡ gone library (gone library g xs) ys
 gone_append library g [] ys = refl
@@ -39,9 +36,9 @@ held_on library levels g xs ys =
     ap (gone library g) (flat_map-append (visits library levels) xs ys)
     ∙ gone_append library g (flat_map (visits library levels) xs) (flat_map (visits library levels) ys)
 
-pub told_on : (library : Library) (levels : ℕ) (a : Answer) (g whole : Gone) (xs ys : List Visit) → gone library g (flat_map (visits library levels) (xs ++ ys)) ≡ whole → IsTold a (told_in (gone library g (flat_map (visits library levels) xs))) → IsTold a (told_in whole)
-told_on library levels a g whole xs ys is h =
-    subst (λ (w : Gone). IsTold a (told_in w)) (sym (held_on library levels g xs ys) ∙ is) (still_told library a (gone library g (flat_map (visits library levels) xs)) (flat_map (visits library levels) ys) h)
+pub stopped_on : (library : Library) (levels : ℕ) (a : Answer) (end : Trail) (g whole : Gone) (xs ys : List Visit) → gone library g (flat_map (visits library levels) (xs ++ ys)) ≡ whole → IsStopped a end (gone library g (flat_map (visits library levels) xs)) → IsStopped a end whole
+stopped_on library levels a end g whole xs ys is h =
+    subst (λ (w : Gone). IsStopped a end w) (sym (held_on library levels g xs ys) ∙ is) (still_stopped library a end (gone library g (flat_map (visits library levels) xs)) (flat_map (visits library levels) ys) h)
 
 pub visits_at : (library : Library) (levels : ℕ) (v : Visit) → 0 < levels → visits library levels v ≡ v ∷ flat_map (visits library (levels - 1)) (children library (holder_of v) v.circuit.items)
 visits_at library zero v h = absurd (omega arith)
@@ -49,14 +46,20 @@ visits_at library (suc levels) v h =
     let e : levels ≡ suc levels - 1 = omega arith in
     ap (λ n. v ∷ flat_map (visits library n) (children library (holder_of v) v.circuit.items)) e
 
-first_told : (library : Library) (a : Answer) (trail : Trail) (v : Visit) (told : Option Answer) → IsTold a told → IsTold a (told_in (passed_by library trail v told))
-first_told library a trail v None h = h
-first_told library a trail v (Some told) h = h
+stops_first : (library : Library) (a : Answer) (trail : Trail) (v : Visit) (told : Option Answer) → IsTold a told → IsStopped a (followed trail v trail.room) (passed_by library trail v told)
+stops_first library (Named breach) trail v told h = ap (passed_by library trail v) h
+stops_first library (Placed breach spot) trail v told h = ap (passed_by library trail v) h
+stops_first library Memory trail v told h = tt
 
--- what is told of an instance is told on the walk
-pub told_there : (library : Library) (levels : ℕ) (a : Answer) (trail : Trail) (v : Visit) → 0 < levels → IsTold a (told_of library trail.room v) → IsTold a (told_in (gone library (Going trail) (visits library levels v)))
-told_there library levels a trail v some h =
-    subst (λ (vs : List Visit). IsTold a (told_in (gone library (Going trail) vs))) (sym (visits_at library levels v some)) (still_told library a (step library (Going trail) v) (flat_map (visits library (levels - 1)) (children library (holder_of v) v.circuit.items)) (first_told library a trail v (told_of library trail.room v) h))
+-- the walk stops at an instance of which something is told, and that one is on the trail
+pub stopped_there : (library : Library) (levels : ℕ) (a : Answer) (trail end : Trail) (v : Visit) → 0 < levels → end ≡ followed trail v trail.room → IsTold a (told_of library trail.room v) → IsStopped a end (gone library (Going trail) (visits library levels v))
+stopped_there library levels a trail end v some after h =
+    let below : List Visit =
+    flat_map (visits library (levels - 1)) (children library (holder_of v) v.circuit.items) in
+    let last : Trail = followed trail v trail.room in
+    let stops : IsStopped a last (gone library (Going trail) (v ∷ below)) =
+    still_stopped library a last (step library (Going trail) v) below (stops_first library a trail v (told_of library trail.room v) h) in
+    subst (λ (t : Trail). IsStopped a t (gone library (Going trail) (visits library levels v))) (sym after) (subst (λ (vs : List Visit). IsStopped a last (gone library (Going trail) vs)) (sym (visits_at library levels v some)) stops)
 
 -- an instance of which nothing is told, and behind it what it holds
 pub gone_there : (library : Library) (levels : ℕ) (trail : Trail) (v : Visit) → 0 < levels → told_of library trail.room v ≡ None → gone library (Going trail) (visits library levels v) ≡ gone library (Going (extended library trail v)) (flat_map (visits library (levels - 1)) (children library (holder_of v) v.circuit.items))

@@ -36,3 +36,15 @@ abbrev pub refusal : Library → Room → List Visit → Option Answer
 refusal library room [] = None
 refusal library room (first ∷ others) =
     told_first (told_of library room first) (refusal library (room_after library room first) others)
+
+-- the instances behind one are come to where nothing is told of it
+abbrev pub unless_told : Option Answer → List Visit → List Visit
+unless_told None others = others
+unless_told (Some answer) others = []
+
+-- the instances to which the walk comes, where so much room is left to them: all up to the first of which something is
+-- told, that one included
+abbrev pub come_to : Library → Room → List Visit → List Visit
+come_to library room [] = []
+come_to library room (first ∷ others) =
+    first ∷ unless_told (told_of library room first) (come_to library (room_after library room first) others)

@@ -22,10 +22,10 @@ placement made = record { visit = visit made.visit; number = made.number; base =
 abbrev pub trail : Kept → Trail
 trail kept = record { placements = map placement kept.placements.items; room = kept.room }
 
--- how far the walk comes
+-- how far the walk comes: the instances so far, and what is told of the last of them
 pub data Gone : Type 0 where
   Going : (trail : Trail) → Gone
-  Refused : (told : Answer) → Gone
+  Refused : (trail : Trail) (told : Answer) → Gone
 
 -- the trail with one instance more, which leaves this room
 abbrev pub followed : Trail → Visit → Room → Trail
@@ -40,12 +40,12 @@ extended library trail v = followed trail v (room_after library trail.room v)
 
 abbrev pub passed_by : Library → Trail → Visit → Option Answer → Gone
 passed_by library trail v None = Going (extended library trail v)
-passed_by library trail v (Some told) = Refused told
+passed_by library trail v (Some told) = Refused (followed trail v trail.room) told
 
 -- one instance more
 abbrev pub step : Library → Gone → Visit → Gone
 step library (Going trail) v = passed_by library trail v (told_of library trail.room v)
-step library (Refused told) v = Refused told
+step library (Refused trail told) v = Refused trail told
 
 -- instances one after the other
 abbrev pub gone : Library → Gone → List Visit → Gone
@@ -55,7 +55,12 @@ gone library so_far (first ∷ others) = gone library (step library so_far first
 -- what is told on the walk
 abbrev pub told_in : Gone → Option Answer
 told_in (Going trail) = None
-told_in (Refused told) = Some told
+told_in (Refused trail told) = Some told
+
+-- the instances to which it came
+abbrev pub trail_in : Gone → Trail
+trail_in (Going trail) = trail
+trail_in (Refused trail told) = trail
 
 -- whether an answer is what is told, or want of memory
 abbrev pub IsTold : Answer → Option Answer → Type 0
@@ -63,7 +68,13 @@ IsTold Memory told = Unit {0}
 IsTold (Named breach) told = told ≡ Some (Named breach)
 IsTold (Placed breach spot) told = told ≡ Some (Placed breach spot)
 
+-- whether the walk ends so, with this trail; want of memory says nothing of either
+abbrev pub IsStopped : Answer → Trail → Gone → Type 0
+IsStopped Memory trail walk = Unit {0}
+IsStopped (Named breach) trail walk = walk ≡ Refused trail (Named breach)
+IsStopped (Placed breach spot) trail walk = walk ≡ Refused trail (Placed breach spot)
+
 -- whether the code went as the walk goes
-abbrev pub Went : Result Kept ElabFault → Gone → Type 0
-Went (Ok made) walk = walk ≡ Going (trail made)
-Went (Err error) walk = IsTold (answer error) (told_in walk)
+abbrev pub Went : {T : Type 0} → Result T ElabFault → Trail → Gone → Type 0
+Went (Ok done) trail walk = walk ≡ Going trail
+Went (Err error) trail walk = IsStopped (answer error) trail walk

@@ -1,13 +1,14 @@
 //! The walk from the top on.
 
-ghost use Rattle.std.specs.Prelude.{◌≡◌, IfErr, IfOk, map};
+ghost use Rattle.std.specs.Prelude.{◌≡◌, IfOk, map};
+ghost use Rattle.std.specs.Option.{option_map};
 ghost use Rattle.elab_scope.specs.Faults.{answer};
 ghost use Rattle.rtl_tree.specs.TreeModule.{circuit};
 ghost use Rattle.elab_walk.specs.Rooms.{whole_room};
 ghost use Rattle.elab_walk.specs.Placements.{placements};
-ghost use Rattle.elab_walk.specs.Trails.{IsTold, placement};
+ghost use Rattle.elab_walk.specs.Trails.{placement};
 ghost use Rattle.elab_walk.specs.Visits.{all_visits, library, top_visit, visit};
-ghost use Rattle.elab_walk.specs.Refusals.{refusal};
+ghost use Rattle.elab_walk.specs.Refusals.{come_to, refusal};
 
 use crate::library::Library;
 use crate::room::Room;
@@ -65,24 +66,37 @@ pub fn top_visit(alloc: Global, place: Place, written: &Module) -> Result<Visit<
     })
 }
 
-/// All instances from the top on, each before those that it holds, with their numbers.
-pub fn all_placements<'a>(
-    alloc: Global,
-    all: Library<'a>,
-    met: Visit<'a>,
-) -> Result<Vec<Placement<'a>>, ElabFault>
-    ensures nothing { IfOk result (λ made. refusal (library all.entry) whole_room (all_visits (library all.entry) (visit met.entry)) ≡ None) }
-    ensures placements { IfOk result
-        (λ made. map placement made.items
-        ≡ placements 0 0 (all_visits (library all.entry) (visit met.entry))) }
-    ensures told { IfErr result (λ error. IsTold (answer error) (refusal (library all.entry) whole_room (all_visits (library all.entry) (visit met.entry)))) }
+/// The instances to which the walk comes from the top on, each before those that it holds, with their numbers.
+#[derive(Drop)]
+pub struct Walked<'a> {
+    pub placements: Vec<Placement<'a>>,
+    /// What is told of the last of them, where the walk stops there.
+    pub fault: Option<ElabFault>,
+}
+
+/// The walk over the instances from the top on, up to the first of which something is told.
+///
+/// Fails only where memory runs out.
+pub fn walk<'a>(alloc: Global, all: Library<'a>, met: Visit<'a>) -> Result<Walked<'a>, Memory>
+    ensures told { IfOk result (λ walk. option_map answer walk.fault
+        ≡ refusal (library all.entry) whole_room (all_visits (library all.entry) (visit met.entry))) }
+    ensures placements { IfOk result (λ walk. map placement walk.placements.items
+        ≡ placements 0 0 (come_to (library all.entry) whole_room
+        (all_visits (library all.entry) (visit met.entry)))) }
 {
-    let before = Trail {
+    let mut trail = Trail {
         placements: Vec::new(alloc),
         room: whole_room(),
     };
-    match visit(alloc, all, LEVELS, met, before) {
-        Ok(trail) => Ok(trail.placements),
-        Err(error) => Err(error),
-    }
+    let fault = match visit(alloc, all, LEVELS, met, &mut trail) {
+        Ok(()) => None,
+        Err(fault) => match fault {
+            ElabFault::Memory => return Err(Memory),
+            other => Some(other),
+        },
+    };
+    Ok(Walked {
+        placements: trail.placements,
+        fault,
+    })
 }

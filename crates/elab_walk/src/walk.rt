@@ -10,14 +10,14 @@ ghost use Rattle.elab_links.specs.Groups.{group, group_of};
 ghost use Rattle.elab_walk.specs.Refusals.{told_of};
 ghost use Rattle.rtl_tree.specs.TreeModule.{circuit};
 ghost use Rattle.elab_walk.specs.Rooms.{has_room, room_after};
-ghost use Rattle.elab_walk.specs.Trails.{Going, IsTold, Went, followed, gone, trail};
+ghost use Rattle.elab_walk.specs.Trails.{Going, IsTold, Went, gone, trail};
 ghost use Rattle.elab_walk.specs.Visits.{child_of, children, holder, item_children, library, placed_children, scope_in, visit, visits};
 
 use crate::judge::{Judged, judge_visit};
 use crate::library::Library;
 use crate::parameters::spare_parameters;
 use crate::room::Room;
-use crate::trail::{Placement, Trail};
+use crate::trail::Trail;
 use crate::visit::{Holder, Visit, file_of};
 use elab_links::groups::{Group, group_of};
 use elab_links::module_set::Place;
@@ -80,43 +80,33 @@ fn pass<'a>(alloc: Global, all: Library<'a>, met: &Visit<'a>, room: Room) -> Res
     }
 }
 
-/// The trail with one instance more.
-fn with<'a>(so_far: Trail<'a>, met: Visit<'a>, room: Room) -> Result<Trail<'a>, Memory>
-    ensures { IfOk result (λ made. trail made ≡ followed (trail so_far.entry) (visit met.entry) room) }
-{
-    let Trail {
-        mut placements,
-        room: before,
-    } = so_far;
-    placements.push(Placement {
-        visit: met,
-        number: before.number,
-        base: before.base,
-    })?;
-    Ok(Trail { placements, room })
-}
-
-/// An instance, and behind it each that it holds with its own, over so many levels.
+/// An instance, and behind it each that it holds with its own, over so many levels. The trail has each instance to which
+/// the walk comes, the one at fault among them.
 #[cycle(visit)]
 pub fn visit<'a>(
     alloc: Global,
     all: Library<'a>,
     levels: u32,
     met: Visit<'a>,
-    so_far: Trail<'a>,
-) -> Result<Trail<'a>, ElabFault>
-    ensures { Went result (gone (library all.entry) (Going (trail so_far.entry)) (visits (library all.entry) levels (visit met.entry))) }
+    so_far: &mut Trail<'a>,
+) -> Result<(), ElabFault>
+    ensures { Went result (trail so_far.new)
+        (gone (library all.entry) (Going (trail so_far.old))
+        (visits (library all.entry) levels (visit met.entry))) }
 {
     if levels == 0 {
-        return Ok(so_far);
+        return Ok(());
     }
-    match pass(alloc, all, &met, so_far.room) {
-        Err(error) => Err(error),
+    let room = so_far.room;
+    match pass(alloc, all, &met, room) {
+        Err(error) => {
+            so_far.follow(met, room)?;
+            Err(error)
+        }
         Ok(left) => {
-            let room = left.room;
             let holder = Holder::new(alloc, &met, left.names)?;
             let items = met.written.items.as_slice();
-            let so_far = with(so_far, met, room)?;
+            so_far.follow(met, left.room)?;
             visit_items(alloc, all, levels - 1, &holder, items, so_far)
         }
     }
@@ -130,18 +120,17 @@ fn visit_items<'a>(
     levels: u32,
     within: &Holder<'a>,
     items: &'a [Item],
-    so_far: Trail<'a>,
-) -> Result<Trail<'a>, ElabFault>
-    ensures { Went result (gone (library all.entry) (Going (trail so_far.entry)) (flat_map (visits (library all.entry) levels) (children (library all.entry) (holder within.now) (map module_item items.now)))) }
+    so_far: &mut Trail<'a>,
+) -> Result<(), ElabFault>
+    ensures { Went result (trail so_far.new)
+        (gone (library all.entry) (Going (trail so_far.old))
+        (flat_map (visits (library all.entry) levels)
+        (children (library all.entry) (holder within.now) (map module_item items.now)))) }
 {
-    let mut so_far = so_far;
     for item in items {
-        match visit_item(alloc, all, levels, within, item, so_far) {
-            Ok(made) => so_far = made,
-            Err(error) => return Err(error),
-        }
+        visit_item(alloc, all, levels, within, item, so_far)?;
     }
-    Ok(so_far)
+    Ok(())
 }
 
 /// What an item holds.
@@ -152,9 +141,12 @@ fn visit_item<'a>(
     levels: u32,
     within: &Holder<'a>,
     item: &'a Item,
-    so_far: Trail<'a>,
-) -> Result<Trail<'a>, ElabFault>
-    ensures { Went result (gone (library all.entry) (Going (trail so_far.entry)) (flat_map (visits (library all.entry) levels) (item_children (library all.entry) (holder within.now) (module_item item.now)))) }
+    so_far: &mut Trail<'a>,
+) -> Result<(), ElabFault>
+    ensures { Went result (trail so_far.new)
+        (gone (library all.entry) (Going (trail so_far.old))
+        (flat_map (visits (library all.entry) levels)
+        (item_children (library all.entry) (holder within.now) (module_item item.now)))) }
 {
     match item {
         Item::Instances {
@@ -172,7 +164,7 @@ fn visit_item<'a>(
         | Item::Integers(_, _)
         | Item::Parameters { .. }
         | Item::Assigns(_, _, _)
-        | Item::Always(_, _, _) => Ok(so_far),
+        | Item::Always(_, _, _) => Ok(()),
     }
 }
 
@@ -186,22 +178,19 @@ fn visit_instantiations<'a>(
     at: u32,
     item: &'a Item,
     instances: &'a [Instance],
-    so_far: Trail<'a>,
-) -> Result<Trail<'a>, ElabFault>
-    ensures { Went result (gone (library all.entry) (Going (trail so_far.entry))
+    so_far: &mut Trail<'a>,
+) -> Result<(), ElabFault>
+    ensures { Went result (trail so_far.new)
+        (gone (library all.entry) (Going (trail so_far.old))
         (flat_map (visits (library all.entry) levels)
         (placed_children (holder within.now) at
         (group_of (library all.entry).lookups (library all.entry).files
         (holder within.now).scope (module_item item.now)) (map instantiation instances.now)))) }
 {
-    let mut so_far = so_far;
     for instance in instances {
-        match visit_instantiation(alloc, all, levels, within, at, item, instance, so_far) {
-            Ok(made) => so_far = made,
-            Err(error) => return Err(error),
-        }
+        visit_instantiation(alloc, all, levels, within, at, item, instance, so_far)?;
     }
-    Ok(so_far)
+    Ok(())
 }
 
 /// One instance that an item places.
@@ -214,16 +203,17 @@ fn visit_instantiation<'a>(
     at: u32,
     item: &'a Item,
     instance: &'a Instance,
-    so_far: Trail<'a>,
-) -> Result<Trail<'a>, ElabFault>
-    ensures { Went result (gone (library all.entry) (Going (trail so_far.entry))
+    so_far: &mut Trail<'a>,
+) -> Result<(), ElabFault>
+    ensures { Went result (trail so_far.new)
+        (gone (library all.entry) (Going (trail so_far.old))
         (flat_map (visits (library all.entry) levels)
         (child_of (holder within.now) at instance.now.name.text
         (group_of (library all.entry).lookups (library all.entry).files
         (holder within.now).scope (module_item item.now))))) }
 {
     match group_of(alloc, all.files, all.set, item, &within.names)? {
-        None => Ok(so_far),
+        None => Ok(()),
         Some(made) => {
             let met = within.child(alloc, at, &instance.name.text, made)?;
             visit(alloc, all, levels, met, so_far)

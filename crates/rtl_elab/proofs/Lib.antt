@@ -1,3 +1,4 @@
+pub mod Coming
 pub mod Deciding
 mod Examples
 pub mod Libraries

@@ -1,13 +1,13 @@
 -- The flat design of a top module, or why there is none.
 -- Worked examples: proofs/Examples.antt, crates/tests_elab/src/refusals.rt.
-use Rattle.std.specs.Prelude.{ℕ, List, Option, None, Some, Result, Ok, Err}
+use Rattle.std.specs.Prelude.{ℕ, List, [], Option, None, Some, Result, Ok, Err}
 use Rattle.rtl_tree.specs.TreeModule.{Circuit}
 use Rattle.elab_scope.specs.Faults.{Answer, ModuleTwice, Named, NoSuchModule}
 use Rattle.elab_links.specs.declared.module_set.Lookup.{Lookup}
 use Rattle.elab_links.specs.declared.module_set.Lookup.TheVariants.{Missing, Found, Twice}
 use Rattle.elab_links.specs.declared.module_set.Place.{Place}
 use Rattle.elab_links.specs.Modules.{circuit_at}
-use Rattle.elab_walk.specs.Refusals.{refusal}
+use Rattle.elab_walk.specs.Refusals.{come_to, refusal}
 use Rattle.elab_walk.specs.Rooms.{whole_room}
 use Rattle.elab_walk.specs.Placements.{placements}
 use Rattle.elab_walk.specs.Visits.{Library, Visit, all_visits, top_visit}
@@ -40,3 +40,19 @@ elaborated library top = elaborated_found library top (library.lookups top)
 abbrev pub refused : Result DesignParts Answer → Option Answer
 refused (Ok flat) = None
 refused (Err answer) = Some answer
+
+-- ---- the instances to which elaboration comes
+
+abbrev pub visited_from : Library → Place → Option Circuit → List Visit
+visited_from library place None = []
+visited_from library place (Some circuit) =
+    come_to library whole_room (all_visits library (top_visit place circuit))
+
+abbrev pub visited_found : Library → Lookup → List Visit
+visited_found library Missing = []
+visited_found library Twice = []
+visited_found library (Found place) = visited_from library place (circuit_at library.files place)
+
+-- all instances of the module with a name, or those up to the first of which something is told
+abbrev pub visited : Library → List ℕ → List Visit
+visited library top = visited_found library (library.lookups top)

@@ -1,35 +1,51 @@
 //! The flat design of a top module.
 
-ghost use Rattle.std.specs.Prelude.{◌≡◌, IfErr, IfOk};
+ghost use Rattle.std.specs.Prelude.{◌≡◌, [], IfErr, IfOk, Some, map};
+ghost use Rattle.std.specs.Option.{option_map};
 ghost use Rattle.elab_scope.specs.Faults.{answer};
-ghost use Rattle.elab_links.specs.Modules.{circuit_at};
-ghost use Rattle.rtl_tree.specs.TreeModule.{circuit};
-ghost use Rattle.rtl_elab.specs.Elaborated.{elaborated, elaborated_of, refused};
+ghost use Rattle.rtl_elab.specs.Elaborated.{elaborated, refused, visited};
 ghost use Rattle.elab_flat.specs.Views.{flat};
-ghost use Rattle.elab_walk.specs.Rooms.{whole_room};
 ghost use Rattle.elab_walk.specs.Placements.{placements};
-ghost use Rattle.elab_walk.specs.Trails.{IsTold};
-ghost use Rattle.elab_walk.specs.Visits.{Visit, all_visits, library, top_visit, visit};
-ghost use Rattle.elab_walk.specs.Refusals.{refusal};
+ghost use Rattle.elab_walk.specs.Trails.{IsTold, placement};
+ghost use Rattle.elab_walk.specs.Visits.{library};
 
 use elab_flat::flat::{DesignParts, flat_of};
 use elab_links::module_set::{Lookup, module_at};
 use elab_scope::fault::ElabFault;
 use elab_walk::library::Library;
-use elab_walk::top::{all_placements, top_visit};
-use elab_walk::visit::Visit;
+use elab_walk::top::{Walked, top_visit, walk};
 use rtl_tree::memory::Memory;
 use rtl_tree::text::Text;
 use std::alloc::Global;
 
-/// The design from its top on.
-fn flat_from<'a>(alloc: Global, all: Library<'a>, met: Visit<'a>) -> Result<DesignParts, ElabFault>
-    ensures design { IfOk result (λ made. elaborated_of (library all.entry) (all_visits (library all.entry) (visit met.entry)) ≡ Ok (flat made)) }
-    ensures told { IfErr result (λ error. IsTold (answer error) (refused (elaborated_of (library all.entry) (all_visits (library all.entry) (visit met.entry))))) }
+/// The instances of the module with a name, each before those that it holds, up to the first of which something is told,
+/// and what that is.
+///
+/// Fails only where memory runs out.
+pub fn walk_from<'a>(alloc: Global, all: Library<'a>, top: &Text) -> Result<Walked<'a>, Memory>
+    ensures visited { IfOk result (λ walk. map placement walk.placements.items
+        ≡ placements 0 0 (visited (library all.entry) top.now)) }
+    ensures told { IfOk result (λ walk.
+        option_map answer walk.fault ≡ refused (elaborated (library all.entry) top.now)) }
 {
-    match all_placements(alloc, all, met) {
-        Ok(placements) => Ok(flat_of(alloc, all, &placements)?),
-        Err(error) => Err(error),
+    match all.set.find(top) {
+        Lookup::Missing => Ok(unmet(alloc, ElabFault::NoSuchModule(bytes(alloc, top)?))),
+        Lookup::Twice => Ok(unmet(alloc, ElabFault::ModuleTwice(bytes(alloc, top)?))),
+        Lookup::Found(place) => match module_at(all.files, place) {
+            None => Ok(unmet(alloc, ElabFault::NoSuchModule(bytes(alloc, top)?))),
+            Some(written) => walk(alloc, all, top_visit(alloc, place, written)?),
+        },
+    }
+}
+
+/// The walk that comes to no instance.
+fn unmet<'a>(alloc: Global, fault: ElabFault) -> Walked<'a>
+    ensures placements { result.placements.items ≡ [] }
+    ensures fault { result.fault ≡ Some fault }
+{
+    Walked {
+        placements: Vec::new(alloc),
+        fault: Some(fault),
     }
 }
 
@@ -38,13 +54,10 @@ pub fn flat_design(alloc: Global, all: Library<'_>, top: &Text) -> Result<Design
     ensures design { IfOk result (λ made. elaborated (library all.entry) top.now ≡ Ok (flat made)) }
     ensures told { IfErr result (λ error. IsTold (answer error) (refused (elaborated (library all.entry) top.now))) }
 {
-    match all.set.find(top) {
-        Lookup::Missing => Err(ElabFault::NoSuchModule(bytes(alloc, top)?)),
-        Lookup::Twice => Err(ElabFault::ModuleTwice(bytes(alloc, top)?)),
-        Lookup::Found(place) => match module_at(all.files, place) {
-            None => Err(ElabFault::NoSuchModule(bytes(alloc, top)?)),
-            Some(written) => flat_from(alloc, all, top_visit(alloc, place, written)?),
-        },
+    let Walked { placements, fault } = walk_from(alloc, all, top)?;
+    match fault {
+        None => Ok(flat_of(alloc, all, &placements)?),
+        Some(fault) => Err(fault),
     }
 }
 

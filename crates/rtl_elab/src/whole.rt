@@ -24,7 +24,7 @@ use std::sync::ledger::Ledger;
 use steps::Steps;
 
 /// The design that is made of these parts.
-fn design_of(made: DesignParts) -> Design
+pub fn design_of(made: DesignParts) -> Design
     requires { IsLawful (flat made) }
     ensures { flat_in result ≡ flat made }
 {

@@ -4,8 +4,6 @@
 #[cfg(test)]
 mod expressions;
 #[cfg(test)]
-mod files;
-#[cfg(test)]
 mod items;
 #[cfg(test)]
 mod lookups;

@@ -37,32 +37,37 @@ fn clock(alloc: Global) -> Result<MemoryClock, Fail> {
     Ok(MemoryClock::new(alloc, days))
 }
 
-fn empty_file(alloc: Global, name: &[u8]) -> Result<FileRow, Fail> {
+fn file(alloc: Global, name: &[u8], text: &[u8]) -> Result<FileRow, Fail> {
     let Some(editor) = Name::new(b"ann") else {
         return Err(Fail::new("no name"));
     };
     Ok(FileRow {
         name: Text::from_bytes(alloc, name)?,
-        text: Text::from_bytes(alloc, b"")?,
-        digest: Sha256::digest(b""),
+        text: Text::from_bytes(alloc, text)?,
+        digest: Sha256::digest(text),
         editor,
     })
 }
 
-// New tables with so many empty files of one name.
-fn keeper(alloc: Global, files: usize) -> Result<Box<MemoryKeeper>, Fail> {
-    let mut rows = Vec::new(alloc);
-    for _ in 0..files {
-        rows.push(empty_file(alloc, b"e.v")?)?;
-    }
+// New tables with these files.
+fn keeper(alloc: Global, files: Vec<FileRow>) -> Result<Box<MemoryKeeper>, Fail> {
     let Ok(mut tables) = Tables::new(alloc) else {
         return Err(Fail::new("no memory"));
     };
-    tables.files = rows;
+    tables.files = files;
     boxed(alloc, MemoryKeeper::new(alloc, tables))
 }
 
+// Over so many empty files of one name.
 fn new_outside(alloc: Global, files: usize) -> Result<Outside, Fail> {
+    let mut rows = Vec::new(alloc);
+    for _ in 0..files {
+        rows.push(file(alloc, b"e.v", b"")?)?;
+    }
+    outside_over(alloc, rows)
+}
+
+fn outside_over(alloc: Global, files: Vec<FileRow>) -> Result<Outside, Fail> {
     let keeper = keeper(alloc, files)?;
     let door = boxed(alloc, MemoryDoor::new(alloc))?;
     Ok(Outside {
@@ -82,15 +87,20 @@ fn words(alloc: Global, line: &str) -> Result<Vec<String>, Fail> {
 }
 
 impl Outside {
-    // What a command line is answered.
+    // What a command line is answered over an empty shelf.
     fn answer(&mut self, line: &str) -> Result<Answered, Fail> {
-        let words = words(self.alloc, line)?;
         let mut shelf = MemoryShelf::new(self.alloc);
+        self.answer_over(&mut shelf, line)
+    }
+
+    // What it is answered over a shelf.
+    fn answer_over(&mut self, shelf: &mut MemoryShelf, line: &str) -> Result<Answered, Fail> {
+        let words = words(self.alloc, line)?;
         let mut out = MemorySink::new(self.alloc);
         let status = desk(
             self.alloc,
             &words,
-            &mut shelf,
+            shelf,
             &mut *self.keeper,
             &mut self.clock,
             &mut *self.door,
@@ -174,5 +184,44 @@ fn is_opened_once(alloc: Global) -> Result<bool, Fail> {
 #[test]
 fn the_door_is_opened_at_its_port(rt: HostRuntime) -> Result<(), Fail> {
     assert_eq!(rt; is_opened_once(rt.alloc())?, true);
+    Ok(())
+}
+
+// Files with findings in two of them, and others before, between and behind these that the top doesn't use.
+const FILES: [(&str, &[u8]); 5] = [
+    (
+        "0.v",
+        b"module zero(input a, output y);\nassign y = a;\nendmodule\n",
+    ),
+    (
+        "a.v",
+        b"module leaf(input a, b, output reg y);\nalways @(a) y = a & b;\nendmodule\n",
+    ),
+    ("b.v", b"module other(input a, output y);\nendmodule\n"),
+    (
+        "c.v",
+        b"module top(input a, b, output y, z);\nleaf u(.a(a), .b(b), .y(y));\nendmodule\n",
+    ),
+    ("d.v", b"module last(input a);\nendmodule\n"),
+];
+
+// Whether the server numbers the files of a top among themselves, and `sign` all that it is given, without a difference in
+// what they write.
+fn is_same_report(alloc: Global) -> Result<bool, Fail> {
+    let mut rows = Vec::new(alloc);
+    let mut shelf = MemoryShelf::new(alloc);
+    for (name, text) in FILES {
+        rows.push(file(alloc, name.as_bytes(), text)?)?;
+        shelf.add(name, text)?;
+    }
+    let mut outside = outside_over(alloc, rows)?;
+    let reported = outside.answer("report top")?;
+    let signed = outside.answer_over(&mut shelf, "sign top 0.v a.v b.v c.v d.v")?;
+    Ok(reported.0 == signed.0 && reported.1.as_slice() == signed.1.as_slice())
+}
+
+#[test]
+fn a_report_is_what_sign_writes_of_the_same_files(rt: HostRuntime) -> Result<(), Fail> {
+    assert_eq!(rt; is_same_report(rt.alloc())?, true);
     Ok(())
 }

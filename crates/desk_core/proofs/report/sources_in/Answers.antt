@@ -1,6 +1,15 @@
-use Rattle.std.proofs.Common.{refl}
+use Rattle.std.proofs.Common.{◌≤◌, Bor, length, refl, subst, sym}
+use Rattle.rtl_tree.specs.declared.text.TheConstants.{MAX_BYTES}
+use Rattle.desk_files.specs.declared.files.SourceFile.{SourceFile}
+use Rattle.desk_core.proofs.Named.{seen_short}
 use Rattle.desk_core.proofs.Places.{sources_on}
 use Rattle.desk_core.proofs.report.sources_in.Goals as goal
+
+pub push_file-requires : goal.push_file-requires
+push_file-requires c =
+    let file = c.index-files-number.result in
+    subst (λ (it : Bor SourceFile). length it.now.text ≤ MAX_BYTES) (sym c.index-files-number.is)
+    (seen_short c.args.files.now c.requires c.loop-number.number file c.loop-number-test.true)
 
 pub loop-number-preserved : goal.loop-number-preserved
 loop-number-preserved c =

@@ -3,10 +3,4 @@ use Rattle.desk_memo.proofs.law.still_fresh.Goals as goal
 
 pub returns : goal.returns
 returns c =
-    still_fresh
-    (record {
-      design = c.same_design.ensures;
-      files = c.same_files.ensures;
-      fault = c.fault_in_reach.ensures;
-      found = c.found_in_reach.ensures;
-    })
+    still_fresh (record { design = c.same_design.ensures; files = c.same_files.ensures })

@@ -4,4 +4,4 @@ use Rattle.desk_rulings.proofs.site.digests_of.Given as goal
 
 abbrev pub invariant-loop-file : goal.invariant-loop-file
 invariant-loop-file l =
-    l.digests.items ≡ map (λ file. digest_of l.rows file.name) (take l.file-index l.files)
+    l.digests.items ≡ map (λ file. digest_of l.rows file.now.name) (take l.file-index l.files)

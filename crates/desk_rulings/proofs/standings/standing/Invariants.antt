@@ -5,4 +5,4 @@ use Rattle.desk_rulings.proofs.standings.standing.Given as goal
 
 abbrev pub invariant-loop-number : goal.invariant-loop-number
 invariant-loop-number l =
-    l.found.items ++ standings l.fn.today (kept_of l.tables) l.ruled.files.now (drop l.number l.ruled.findings.now) (drop l.number l.ruled.told.now) ≡ standing_of l.fn.today (kept_of l.tables) (verdict_of l.ruled)
+    l.found.items ++ standings l.fn.today (kept_of l.tables) (verdict_of l.ruled).files (drop l.number l.ruled.findings.now) (drop l.number l.ruled.told.now) ≡ standing_of l.fn.today (kept_of l.tables) (verdict_of l.ruled)

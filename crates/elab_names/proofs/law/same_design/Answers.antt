@@ -1,4 +1,4 @@
-use Rattle.elab_names.proofs.Designs.{design_same}
+use Rattle.elab_names.proofs.Staying.{design_same}
 use Rattle.elab_names.proofs.law.same_design.Goals as goal
 
 pub returns : goal.returns

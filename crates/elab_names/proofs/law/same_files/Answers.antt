@@ -1,5 +1,5 @@
-use Rattle.elab_names.proofs.Designs.{files_same}
+use Rattle.elab_names.proofs.Staying.{files_same}
 use Rattle.elab_names.proofs.law.same_files.Goals as goal
 
 pub returns : goal.returns
-returns c = λ first second top numbers agree. files_same first second top agree numbers
+returns c = files_same

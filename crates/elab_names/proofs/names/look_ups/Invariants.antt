@@ -1,9 +1,9 @@
 use Rattle.std.proofs.Common.{◌∷◌, take}
-use Rattle.elab_links.specs.Modules.{circuits_of, lookups_of}
+use Rattle.elab_links.specs.Modules.{lookups_of}
 use Rattle.elab_names.specs.Asking.{AreAsked}
-use Rattle.elab_names.proofs.Asking.{names_at}
+use Rattle.elab_names.proofs.Asking.{placed_names}
 use Rattle.elab_names.proofs.names.look_ups.Given as goal
 
-abbrev pub invariant-loop-place : goal.invariant-loop-place
-invariant-loop-place l =
-    AreAsked (lookups_of l.set) (l.top ∷ names_at (circuits_of l.files) (take l.place-index l.place-items)) l.asked
+abbrev pub invariant-loop-placement : goal.invariant-loop-placement
+invariant-loop-placement l =
+    AreAsked (lookups_of l.set) (l.top ∷ placed_names (take l.placement-index l.placements)) l.asked

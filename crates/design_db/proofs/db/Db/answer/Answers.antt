@@ -14,5 +14,5 @@ returns-in-None-clause-fresh c =
     (are_fresh seen c.args.top.now c.self.invariant.store.rulings
     (λ zero answer is. c.all_refused.ensures seen.files seen.readings (circuits_in seen) answer c.args.top.now c.self.invariant.store.readings zero is)
     (λ zero none ruling right current.
-    c.still_fresh.ensures seen.files (circuits_in seen) ruling right current
+    c.still_fresh.ensures seen.files (circuits_in seen) ruling c.self.invariant.store.in_order right current
     (c.all_spelled.ensures seen.files seen.readings (circuits_in seen) c.self.invariant.store.readings zero none)))

@@ -7,12 +7,16 @@ use Rattle.desk_memo.specs.Readings.{AreDefined, changed_count}
 use Rattle.desk_memo.specs.ShownReadings.{modules_of, readings_of}
 use Rattle.desk_memo.specs.Rulings.{current_of}
 use Rattle.design_db.specs.Stores.{Store, all_rulings, changed_in}
-use Rattle.design_db.proofs.Whole.{is_found_now, is_read_now}
+use Rattle.design_db.proofs.Whole.{is_found_now, is_read_now, rulings_same}
 use Rattle.design_db.proofs.db.Db.read_and_rule.Goals as goal
 
 pub rule-requires-clause-checked : goal.rule-requires-clause-checked
 rule-requires-clause-checked g c =
     c.doubt.ensures.checked c.as_slice-files.result.now (modules_of c.exchange.new.self)
+
+pub rule-requires-clause-rulings : goal.rule-requires-clause-rulings
+rule-requires-clause-rulings g c =
+    rulings_same c.self.inside.memo c.doubt.new.self c.doubt.ensures.rulings c.doubt.ensures.absent c.self.invariant.store.rulings
 
 pub returns-in-Ok-clause-untouched : goal.returns-in-Ok-clause-untouched
 returns-in-Ok-clause-untouched g c =

@@ -1,3 +1,0 @@
-mod Example
-mod Marking
-mod Searching

@@ -1,0 +1,47 @@
+-- Where nothing is told, the walk comes to all instances, and the design is made of them.
+use Rattle.std.specs.Prelude.{ℕ, ◌≡◌, List, Option, None, Some, Ok}
+use Rattle.std.proofs.Common.{◌∙◌, ap, refl, sym}
+use Rattle.rtl_tree.specs.TreeModule.{Circuit}
+use Rattle.elab_scope.specs.Faults.{Answer}
+use Rattle.elab_links.specs.declared.module_set.Lookup.{Lookup}
+use Rattle.elab_links.specs.declared.module_set.Lookup.TheVariants.{Missing, Found, Twice}
+use Rattle.elab_links.specs.declared.module_set.Place.{Place}
+use Rattle.elab_links.specs.Modules.{circuit_at}
+use Rattle.elab_walk.specs.Refusals.{refusal}
+use Rattle.elab_walk.specs.Rooms.{whole_room}
+use Rattle.elab_walk.specs.Placements.{placements}
+use Rattle.elab_walk.specs.Visits.{Library, Visit, all_visits, top_visit}
+use Rattle.elab_walk.proofs.Ending.{all_come_to}
+use Rattle.elab_flat.specs.Flats.{DesignParts, flat_of}
+use Rattle.rtl_elab.specs.Elaborated.{decided, elaborated, elaborated_at, elaborated_found, refused, visited, visited_found, visited_from}
+
+-- ---- what is told
+
+refused_decided : (told : Option Answer) (made : DesignParts) → refused (decided told made) ≡ told
+refused_decided None made = refl
+refused_decided (Some answer) made = refl
+
+decided_made : (told : Option Answer) (made : DesignParts) → told ≡ None → decided told made ≡ Ok made
+decided_made None made is = refl
+decided_made (Some answer) made is = absurd cc
+
+-- ---- the design
+
+at_made : (library : Library) (top : List ℕ) (place : Place) (circuit : Option Circuit) → refused (elaborated_at library top place circuit) ≡ None → elaborated_at library top place circuit ≡ Ok (flat_of library (placements 0 0 (visited_from library place circuit)))
+at_made library top place None is = absurd cc
+at_made library top place (Some circuit) is =
+    let all = all_visits library (top_visit place circuit) in
+    let told = refusal library whole_room all in
+    let made = flat_of library (placements 0 0 all) in
+    let nothing : told ≡ None = sym (refused_decided told made) ∙ is in
+    decided_made told made nothing
+    ∙ ap (λ (vs : List Visit). Ok (flat_of library (placements 0 0 vs))) (sym (all_come_to library whole_room all nothing))
+
+found_made : (library : Library) (top : List ℕ) (lookup : Lookup) → refused (elaborated_found library top lookup) ≡ None → elaborated_found library top lookup ≡ Ok (flat_of library (placements 0 0 (visited_found library lookup)))
+found_made library top Missing is = absurd cc
+found_made library top Twice is = absurd cc
+found_made library top (Found place) is = at_made library top place (circuit_at library.files place) is
+
+-- a top of which nothing is told has the design of the instances to which the walk comes
+pub elaborated_made : (library : Library) (top : List ℕ) → refused (elaborated library top) ≡ None → elaborated library top ≡ Ok (flat_of library (placements 0 0 (visited library top)))
+elaborated_made library top is = found_made library top (library.lookups top) is

@@ -1,0 +1,15 @@
+use Rattle.std.proofs.Common.{◌≡◌, ◌∙◌, None, ap, sym}
+use Rattle.std.specs.Option.{option_map}
+use Rattle.elab_scope.specs.Faults.{answer}
+use Rattle.elab_walk.specs.Visits.{library}
+use Rattle.rtl_elab.specs.Elaborated.{elaborated, refused}
+use Rattle.rtl_elab.proofs.Coming.{elaborated_made}
+use Rattle.rtl_elab.proofs.elaborate.flat_design.Goals as goal
+
+pub returns-in-None-clause-design : goal.returns-in-None-clause-design
+returns-in-None-clause-design c =
+    let all = library c.args.all in
+    let top = c.args.top.now in
+    let nothing : refused (elaborated all top) ≡ None
+    = sym c.in_ok-placements.ensures.told ∙ ap (option_map answer) c.in-None.is in
+    cc (elaborated_made all top nothing, c.in_ok-placements.ensures.visited, c.in_ok-flat_of-in-None.ensures, c.deref.ensures.value)
