@@ -1,23 +1,22 @@
 // What is told of a module on a day.
-ghost use Rattle.std.specs.Prelude.{◌≡◌, ◌≤◌, ◌∷◌, ◌++◌, [], find, length, map, option_copied, IfOk, List, OnOk};
+ghost use Rattle.std.specs.Prelude.{◌≡◌, ◌≤◌, ◌∷◌, ◌++◌, [], length, map, IfOk, List, OnOk};
 ghost use Rattle.rtl_tree.specs.declared.text.TheConstants.{MAX_BYTES};
 ghost use Rattle.desk_places.specs.Places.{sources_of};
 ghost use Rattle.desk_tables.specs.Tables.{kept_of};
 ghost use Rattle.desk_rulings.specs.Rulings.{verdict_of};
-ghost use Rattle.desk_files.specs.Sources.{is_named};
 ghost use Rattle.desk_files.specs.declared.files.SourceFile.{SourceFile};
-ghost use Rattle.desk_memo.specs.Fresh.{sources_in};
-ghost use Rattle.desk_memo.specs.Orders.{AreShort};
+ghost use Rattle.design_db.specs.desk_memo.Fresh.{sources_in};
+ghost use Rattle.design_db.specs.desk_memo.Orders.{AreShort};
 ghost use Rattle.desk_core.specs.Reports.{files_named, refused_telling, ruled_telling, telling, told_in, verdict_in};
 ghost use Rattle.desk_core.specs.Steps.{IsPaired};
 
+use design_db::desk_verdict::Verdict;
 use design_db::{Answer, SourceFile};
-use desk_files::is_named;
+use desk_files::file_named;
 use desk_places::sources::Sources;
 use desk_report::report;
 use desk_rulings::{Ruled, left, standing};
 use desk_tables::{Day, Tables};
-use desk_verdict::Verdict;
 use rtl_rule::finding::Finding;
 use rtl_tree::memory::Memory;
 use rtl_tree::text::Text;
@@ -82,13 +81,6 @@ fn sources_in<'d>(
     Ok(sources)
 }
 
-// The file of a name.
-fn file_named<'d>(files: &'d [SourceFile], name: &Text) -> Option<&'d SourceFile>
-    ensures { option_copied result ≡ find (is_named name.now) files.now }
-{
-    files.iter().find(|file| is_named(file, name.as_bytes()))
-}
-
 // The files of these names.
 pub(crate) fn files_named<'d>(
     alloc: Global,
@@ -100,7 +92,7 @@ pub(crate) fn files_named<'d>(
 {
     let mut found = Vec::new(alloc);
     for name in names {
-        if let Some(file) = file_named(files, name) {
+        if let Some(file) = file_named(files, name.as_bytes()) {
             found.push(file)?;
         }
     }

@@ -1,5 +1,5 @@
 // Files in the order of their names.
-ghost use Rattle.std.specs.Prelude.{◌≡◌, ◌≤◌, ◌<◌, ◌+◌, [], vec_len, vec_capacity, IfOk, OnOk, OnErr};
+ghost use Rattle.std.specs.Prelude.{◌≡◌, ◌≤◌, ◌<◌, ◌+◌, [], find, option_copied, vec_len, vec_capacity, IfOk, OnOk, OnErr};
 ghost use Rattle.desk_files.specs.Shown.{list_of, room};
 ghost use Rattle.desk_files.specs.Sources.{has_file, is_before, is_named, place_of, with_file, without_file};
 
@@ -33,6 +33,13 @@ pub fn is_named(file: &SourceFile, name: &[u8]) -> bool
     ensures { result ≡ is_named name.now file.now }
 {
     file.name.as_bytes() == name
+}
+
+/// The file of a name.
+pub fn file_named<'f>(files: &'f [SourceFile], name: &[u8]) -> Option<&'f SourceFile>
+    ensures { option_copied result ≡ find (is_named name.now) files.now }
+{
+    files.iter().find(|file| is_named(file, name))
 }
 
 fn is_before(file: &SourceFile, name: &[u8]) -> bool

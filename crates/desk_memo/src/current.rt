@@ -1,14 +1,13 @@
 // Whether what was looked up still means the same.
-ghost use Rattle.std.specs.Prelude.{◌≡◌, find, option_copied, slice_get};
+ghost use Rattle.std.specs.Prelude.{◌≡◌, slice_get};
 ghost use Rattle.std.specs.List.{list_all};
-ghost use Rattle.elab_links.specs.Modules.{circuits_of};
-ghost use Rattle.desk_files.specs.Sources.{is_named};
+ghost use Rattle.elab_names.specs.elab_links.Modules.{circuits_of};
 ghost use Rattle.desk_memo.specs.Rulings.{is_meant, is_same_lookup, is_same_name, is_there};
 ghost use Rattle.desk_memo.specs.Shown.{all_used};
 
 use crate::used::Used;
-use desk_files::{SourceFile, is_named};
-use elab_links::module_set::Lookup;
+use desk_files::{SourceFile, file_named};
+use elab_names::elab_links::module_set::Lookup;
 use elab_names::{LookUp, resolve};
 use rtl_tree::tree::modules::Module;
 
@@ -39,13 +38,6 @@ fn is_meant(files: &[SourceFile], modules: &[Vec<Module>], used: &[Used], look_u
         ≡ is_meant files.now (circuits_of modules.now) (all_used used.now) look_up.now }
 {
     is_same_lookup(files, used, resolve(modules, &look_up.name), look_up.meant)
-}
-
-// The file of a name.
-fn file_named<'f>(files: &'f [SourceFile], name: &[u8]) -> Option<&'f SourceFile>
-    ensures { option_copied result ≡ find (is_named name.now) files.now }
-{
-    files.iter().find(|file| is_named(file, name))
 }
 
 fn is_there(files: &[SourceFile], used: &SourceFile) -> bool
