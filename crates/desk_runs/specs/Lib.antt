@@ -1,4 +1,5 @@
 pub mod Lines
 pub mod Runs
 pub mod Progress
-pub mod Samples
+-- passed on to the crates above
+pub use Rattle.event_queue.specs as event_queue

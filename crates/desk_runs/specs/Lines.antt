@@ -1,5 +1,5 @@
 -- The lines that a simulator writes, one a step. Every line ends with a line feed.
--- Worked examples: crates/tests_lines/src/runs.rt.
+-- Worked examples: crates/tests_rows/stdin.
 use Rattle.std.specs.Prelude.{ℕ, ◌+◌, if◌then◌else◌, List, [], ◌∷◌, ◌++◌, codes}
 use Rattle.std.specs.Fmt.{decimal}
 use Rattle.rtl_bits.specs.declared.Bit.{Bit}

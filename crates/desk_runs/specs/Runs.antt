@@ -1,5 +1,5 @@
 -- What a simulator shows of the steps of a file.
--- Worked examples: crates/tests_lines/src/runs.rt.
+-- Worked examples: crates/tests_rows/stdin.
 use Rattle.std.specs.Prelude.{◌≡◌, ◌<◌, ◌+◌, ℕ, Bool, true, false, List, [], ◌∷◌, ◌++◌, length, map, Option}
 use Rattle.rtl_flat.specs.declared.instance.Instance.{Instance}
 use Rattle.rtl_flat.specs.declared.signal.Signal.{Signal}

@@ -5,8 +5,8 @@ ghost use Rattle.std.specs.Prelude.{◌≡◌, ◌≤◌, ◌<◌, IfOk, length}
 ghost use Rattle.std.specs.List.{All};
 ghost use Rattle.tests_designs.specs.declared.NoDesign.TheVariants as no;
 
-use elab_links::module_set::ModuleSet;
-use elab_scope::fault::ElabFault;
+use rtl_elab::elab_links::module_set::ModuleSet;
+use rtl_elab::elab_scope::fault::ElabFault;
 use rtl_elab::whole::elaborate;
 use rtl_flat::design::Design;
 use rtl_front::{SourceFault, read_files};

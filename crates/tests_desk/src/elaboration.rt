@@ -1,6 +1,6 @@
 //! A design of two modules.
 
-use desk_build::{design_of, modules_of};
+use desk_command::desk_build::{design_of, modules_of};
 use rtl_tree::text::Text;
 use std::test::Fail;
 

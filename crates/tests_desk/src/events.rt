@@ -2,12 +2,12 @@
 
 ghost use Rattle.std.specs.Prelude.{◌≡◌, IfOk};
 ghost use Rattle.event_model.specs.Queue.{flat};
-ghost use Rattle.event_queue.specs.Sims.{flat_of};
+ghost use Rattle.desk_command.specs.event_queue.Sims.{flat_of};
 
-use desk_build::{design_of, modules_of};
+use desk_command::desk_build::{design_of, modules_of};
+use desk_command::event_queue::sim::EventSim;
+use desk_command::event_queue::start::Start;
 use desk_steps::read_steps;
-use event_queue::sim::EventSim;
-use event_queue::start::Start;
 use rtl_flat::design::Design;
 use rtl_tree::text::Text;
 use std::alloc::Global;

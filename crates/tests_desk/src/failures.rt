@@ -2,11 +2,11 @@
 
 ghost use Rattle.std.specs.Prelude.{None};
 
+use desk_command::desk_top::top::desk;
 use desk_command::start;
 use desk_io::{MemoryShelf, MemorySink, Shelf, ShelfFault};
 use desk_links::{MemoryClock, MemoryDoor};
 use desk_tables::{MemoryKeeper, Tables};
-use desk_top::top::desk;
 use std::alloc::Global;
 use std::io;
 use std::io::ErrorKind;

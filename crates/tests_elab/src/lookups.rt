@@ -4,9 +4,9 @@ ghost use Rattle.std.specs.Prelude.{◌≡◌, ◌≤◌, ◌<◌, OnOk, length}
 ghost use Rattle.std.specs.List.{All};
 
 use crate::rows::{agree, read, say};
-use elab_links::module_set::{Lookup, ModuleSet};
+use elab_names::elab_links::module_set::{Lookup, ModuleSet};
+use elab_names::elab_scope::fault::ElabFault;
 use elab_names::{Elaborated, LookUp, elaborate, resolve};
-use elab_scope::fault::ElabFault;
 use rtl_tree::memory::Memory;
 use rtl_tree::text::Text;
 use rtl_tree::tree::modules::Module;

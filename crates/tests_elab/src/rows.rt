@@ -3,9 +3,9 @@
 ghost use Rattle.std.specs.Prelude.{◌≡◌, ◌≤◌, ◌<◌, IfOk, length};
 ghost use Rattle.std.specs.List.{All};
 
-use elab_links::module_set::ModuleSet;
-use elab_scope::fault::ElabFault;
-use rtl_elab::whole::elaborate;
+use elab_names::elab_links::module_set::ModuleSet;
+use elab_names::elab_scope::fault::ElabFault;
+use elab_names::rtl_elab::whole::elaborate;
 use rtl_flat::design::Design;
 use rtl_front::{SourceFault, read_files};
 use rtl_tree::text::Text;

@@ -5,7 +5,7 @@ use Rattle.rtl_bits.specs.declared.Bit.{Bit}
 use Rattle.rtl_flat.specs.declared.signal.Signal.{Signal}
 use Rattle.rtl_flat.specs.Signs.{width_in}
 use Rattle.rtl_flat.specs.Value.{widths}
-use Rattle.event_write.specs.Stored.{AreStored}
+use Rattle.tests_netlists.specs.event_write.Stored.{AreStored}
 
 abbrev pub width : Signal → ℕ
 width signal = signal.width

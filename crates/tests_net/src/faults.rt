@@ -2,15 +2,9 @@
 
 ghost use Rattle.std.specs.Prelude.{◌≡◌, length, map, IfOk};
 ghost use Rattle.event_model.specs.Queue.{flat, widths};
-ghost use Rattle.net_start.specs.Stored.{places};
+ghost use Rattle.tests_netlists.specs.net_start.Stored.{places};
 
-use infer_regs::registers;
-use net_list::fault::InferFault;
-use net_list::netlist::Netlist;
 use net_model::fill::Fill;
-use net_start::stored::{stored, top_inputs};
-use netlist_eval::fault::NetFault;
-use netlist_eval::sim::NetSim;
 use rtl_bits::{Bit, Vec4};
 use rtl_flat::act::ProcId;
 use rtl_flat::design::Design;
@@ -18,6 +12,12 @@ use rtl_flat::expr::SigId;
 use std::alloc::Global;
 use std::test::Fail;
 use tests_designs::designed;
+use tests_netlists::infer_regs::registers;
+use tests_netlists::net_list::fault::InferFault;
+use tests_netlists::net_list::netlist::Netlist;
+use tests_netlists::net_start::stored::{stored, top_inputs};
+use tests_netlists::netlist_eval::fault::NetFault;
+use tests_netlists::netlist_eval::sim::NetSim;
 use tests_netlists::{netlist, width};
 
 /// A bit in every place of the value of each of some signals.

@@ -2,16 +2,16 @@
 
 ghost use Rattle.std.specs.Prelude.{◌≡◌};
 ghost use Rattle.event_model.specs.Queue.{flat};
-ghost use Rattle.netlist_eval.specs.Sims.{flat_of};
+ghost use Rattle.tests_netlists.specs.netlist_eval.Sims.{flat_of};
 
 use desk_steps::read_steps;
-use net_list::netlist::Netlist;
 use net_model::fill::Fill;
-use netlist_eval::sim::NetSim;
 use rtl_flat::design::Design;
 use std::alloc::Global;
 use std::test::Fail;
 use tests_designs::designed;
+use tests_netlists::net_list::netlist::Netlist;
+use tests_netlists::netlist_eval::sim::NetSim;
 use tests_netlists::{netlist, simulator, take};
 
 /// The number of the signal with a path.

@@ -1,11 +1,11 @@
 // Which signals are registers and latches.
 
-use net_start::stored::{stored, top_inputs};
 use rtl_flat::design::Design;
 use rtl_flat::expr::SigId;
 use std::alloc::Global;
 use std::test::Fail;
 use tests_designs::designed;
+use tests_netlists::net_start::stored::{stored, top_inputs};
 
 /// The paths of signals, each with a blank behind it.
 fn paths(alloc: Global, design: &Design, signals: &[SigId]) -> Result<Vec<u8>, Fail> {

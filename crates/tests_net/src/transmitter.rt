@@ -6,21 +6,21 @@ ghost use Rattle.desk_steps.specs.Fitting.{AreFitting};
 ghost use Rattle.event_model.specs.Queue.{flat};
 ghost use Rattle.event_queue.specs.Offers.{AreAllowed};
 ghost use Rattle.event_queue.specs.Sims as events;
-ghost use Rattle.netlist_eval.specs.Sims.{flat_of, netlist_of};
+ghost use Rattle.tests_netlists.specs.netlist_eval.Sims.{flat_of, netlist_of};
 
 use desk_steps::read_steps;
 use event_model::policy::Policy;
 use event_model::setting::Setting;
 use event_queue::sim::EventSim;
 use event_queue::start::Start;
-use net_list::netlist::Netlist;
 use net_model::fill::Fill;
-use netlist_eval::sim::NetSim;
 use rtl_flat::design::Design;
 use rtl_flat::expr::SigId;
 use std::alloc::Global;
 use std::test::Fail;
 use tests_designs::designed;
+use tests_netlists::net_list::netlist::Netlist;
+use tests_netlists::netlist_eval::sim::NetSim;
 use tests_netlists::{netlist, simulator, take};
 
 /// `examples/uart_tx.v`, as `top`

@@ -4,7 +4,7 @@ use Rattle.std.proofs.Common.{◌≡◌, ◌∙◌, ap, sym, refl, add-one, arit
 use Rattle.std.proofs.lemmas.List.{append-nil, drop_all}
 use Rattle.rtl_bits.specs.declared.Bit.{Bit}
 use Rattle.rtl_flat.specs.declared.expr.SigId.{SigId}
-use Rattle.net_start.specs.Stored.{places}
+use Rattle.netlist_eval.specs.net_start.Stored.{places}
 
 -- ---- one value more
 

@@ -4,16 +4,16 @@
 ghost use Rattle.std.specs.Prelude.{◌≡◌, ◌≤◌, length, map, IfOk};
 ghost use Rattle.event_model.specs.Queue.{flat, widths};
 ghost use Rattle.netlist_eval.specs.Sims.{netlist_of};
-ghost use Rattle.net_start.specs.Stored.{places};
+ghost use Rattle.netlist_eval.specs.net_start.Stored.{places};
 ghost use Rattle.tests_netlists.specs.declared.NoRun.TheVariants as no;
 
 use event_model::setting::Setting;
 use event_write::stores::width_of;
 use infer_latches::blocks;
-use infer_regs::registers;
-use net_list::netlist::Netlist;
+use infer_latches::net_list::netlist::Netlist;
 use net_model::fill::Fill;
-use net_start::stored::{stored, top_inputs};
+use netlist_eval::infer_regs::registers;
+use netlist_eval::net_start::stored::{stored, top_inputs};
 use netlist_eval::sim::NetSim;
 use rtl_bits::Vec4;
 use rtl_flat::design::Design;
@@ -134,3 +134,8 @@ pub fn take(sim: &mut NetSim<'_>, settings: &[Setting]) -> Result<(), NoRun>
     sim.step(&step);
     Ok(())
 }
+
+// Passed on to the crates above.
+pub use infer_latches::net_list;
+pub use netlist_eval;
+pub use netlist_eval::{infer_regs, net_start};

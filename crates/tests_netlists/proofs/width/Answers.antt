@@ -2,7 +2,7 @@ use Rattle.std.proofs.Common.{◌≡◌, ◌∙◌, ◌<◌, List, length, ap, a
 use Rattle.rtl_flat.specs.declared.signal.Signal.{Signal}
 use Rattle.rtl_flat.specs.Signs.{width_in}
 use Rattle.event_write.proofs.Targets.{some_bits}
-use Rattle.rtl_scan.proofs.Processes.{widths_fit}
+use Rattle.event_write.proofs.rtl_scan_proofs.Processes.{widths_fit}
 use Rattle.tests_netlists.proofs.width.Goals as goal
 
 pub returns-clause-width : goal.returns-clause-width

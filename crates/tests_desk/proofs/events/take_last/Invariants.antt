@@ -1,5 +1,5 @@
 use Rattle.std.proofs.Common.{◌≡◌}
-use Rattle.event_queue.specs.Sims.{flat_of}
+use Rattle.desk_command.specs.event_queue.Sims.{flat_of}
 use Rattle.tests_desk.proofs.events.take_last.Given as goal
 
 abbrev pub invariant-loop-taken : goal.invariant-loop-taken

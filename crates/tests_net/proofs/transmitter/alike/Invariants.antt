@@ -1,7 +1,7 @@
 use Rattle.std.proofs.Common.{◌≡◌, []}
 use Rattle.event_model.specs.Queue.{flat}
 use Rattle.event_queue.specs.Sims as events
-use Rattle.netlist_eval.specs.Sims.{flat_of}
+use Rattle.tests_netlists.specs.netlist_eval.Sims.{flat_of}
 use Rattle.tests_net.proofs.transmitter.alike.Given as goal
 
 abbrev pub invariant-loop-settings : goal.invariant-loop-settings
