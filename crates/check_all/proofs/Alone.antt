@@ -6,7 +6,7 @@ use Rattle.rtl_rule.specs.Order.{ranked}
 use Rattle.rtl_rule.specs.Parts.{Parts}
 use Rattle.rtl_rule.specs.Sites.{AreFindings, AreThose}
 use Rattle.check_sense.specs.Sense.{AreSenseFindings}
-use Rattle.check_assign.specs.Findings.{AreAssignFindings}
+use Rattle.check_xprop.specs.check_assign.Findings.{AreAssignFindings}
 use Rattle.check_case.specs.Cases.{AreCaseFindings}
 use Rattle.check_xprop.specs.Unknowns.{AreUnknownFindings}
 use Rattle.check_all.specs.Findings.{AreAllFindings, queue_of}

@@ -14,7 +14,7 @@ use Rattle.rtl_flat.specs.Process.{Piece, Watched, Actions, Doing, Task}
 use Rattle.rtl_flat.specs.Process as part
 use Rattle.rtl_rule.specs.Parts.{Parts, At}
 use Rattle.check_assign.specs.Assigned.{IsSeveralDrivers, IsUndriven, IsTristate, first_target, now}
-use Rattle.check_chains.specs.Chains.{IsAsyncPair, IsResetPolarity, IsResetShape}
+use Rattle.check_clocks.specs.check_chains.Chains.{IsAsyncPair, IsResetPolarity, IsResetShape}
 use Rattle.rtl_rule.specs.Parts.{has_some, widths}
 
 abbrev spot_at : ℕ → Spot

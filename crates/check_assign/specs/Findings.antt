@@ -4,7 +4,7 @@ use Rattle.std.specs.Prelude.{ℕ, ◌≡◌, List, ◌++◌}
 use Rattle.rtl_rule.specs.declared.finding.Finding.{Finding}
 use Rattle.rtl_rule.specs.Order.{ranked}
 use Rattle.rtl_rule.specs.Parts.{Parts}
-use Rattle.check_chains.specs.Chains.{AreAsyncPair, AreResetPolarity, AreResetShape, AreResetValue}
+use Rattle.check_clocks.specs.check_chains.Chains.{AreAsyncPair, AreResetPolarity, AreResetShape, AreResetValue}
 use Rattle.check_clocks.specs.Clocks.{AreClockAsData, AreDerivedClock}
 use Rattle.check_assign.specs.Assigned.{AreBlockingState, AreNonblockingComb, AreMixedAssign, AreSeveralDrivers, AreUndriven, AreCombLoop, AreLatchInferred, AreTristate}
 

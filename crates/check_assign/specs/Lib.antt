@@ -3,3 +3,8 @@ pub mod Findings
 pub mod Kept
 pub mod Lists
 pub mod Marks
+-- passed on to the crates above
+pub use Rattle.check_clocks.specs.check_chains
+pub use Rattle.check_clocks.specs as check_clocks
+pub use Rattle.check_graph.specs.check_found
+pub use Rattle.check_graph.specs.rtl_scan

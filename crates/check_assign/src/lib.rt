@@ -17,3 +17,8 @@ pub use latches::latch_inferred;
 pub use lists::check;
 pub use literals::tristate;
 pub use loops::comb_loop;
+
+// Passed on to the crates above.
+pub use check_clocks;
+pub use check_clocks::{check_chains, check_parts};
+pub use check_graph::{check_found, rtl_expr, rtl_scan};

@@ -5,7 +5,7 @@ ghost use Rattle.std.specs.Ordering.{nat_cmp};
 ghost use Rattle.std.specs.BTreeMap.{get};
 ghost use Rattle.check_assign.specs.Marks.{Shows, is_some_spot, joined, wants};
 
-use check_parts::places::is_earlier;
+use check_clocks::check_parts::places::is_earlier;
 use rtl_flat::act::Process;
 use rtl_flat::expr::SigId;
 use rtl_rule::finding::Finding;

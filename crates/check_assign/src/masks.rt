@@ -1,11 +1,11 @@
 // Bits of signals that grow.
 
 ghost use Rattle.std.specs.Prelude.{ℕ, ◌≡◌, ◌||◌, [], OnOk};
-ghost use Rattle.rtl_scan.specs.Sets.{has, has_row, has_rows, mask_of, put};
+ghost use Rattle.check_graph.specs.rtl_scan.Sets.{has, has_row, has_rows, mask_of, put};
 ghost use Rattle.check_assign.specs.Marks.{leaves, shares};
 
+use check_graph::rtl_scan::bits::Row;
 use rtl_flat::expr::SigId;
-use rtl_scan::bits::Row;
 use rtl_tree::memory::Memory;
 use std::alloc::Global;
 use std::collections::BTreeMap;

@@ -10,10 +10,10 @@ ghost use Rattle.check_assign.specs.Assigned.{own_targets};
 ghost use Rattle.check_assign.specs.Marks.{joined, least_of, spot_of};
 
 use crate::marks::Marks;
-use check_parts::statements::statements;
+use check_clocks::check_parts::statements::statements;
+use check_graph::rtl_scan::selected;
 use rtl_flat::act::{Act, Does, TargetPart};
 use rtl_flat::design::Design;
-use rtl_scan::selected;
 use rtl_tree::memory::Memory;
 use std::alloc::Global;
 

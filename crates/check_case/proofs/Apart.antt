@@ -12,7 +12,7 @@ use Rattle.rtl_flat.specs.declared.act.CaseKind.TheVariants as kind
 use Rattle.rtl_flat.specs.Expression.{Tree}
 use Rattle.rtl_flat.specs.Flows.{labels_of, literal}
 use Rattle.rtl_flat.specs.Process.{Branches, NoBranch, Branch}
-use Rattle.rtl_scan.proofs.Known.{any_push, known_matches}
+use Rattle.check_parts.proofs.rtl_scan_proofs.Known.{any_push, known_matches}
 use Rattle.check_case.specs.declared.disjoint.Seen.{Seen}
 use Rattle.check_case.specs.Cases.{all_disjoint, are_disjoint, disjoint_from, items_disjoint, some_differ}
 use Rattle.check_case.specs.Literals.{GetsSeen, GetsAllSeen, meets, overlap_in, overlap_tree, overlap_some}

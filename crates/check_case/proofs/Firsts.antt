@@ -11,9 +11,9 @@ use Rattle.rtl_flat.specs.Paths.{BitSet, either, Step, Flow, End, some, some_way
 use Rattle.rtl_flat.specs.Process.{Piece, Action, Set, If, Case, Actions, Then, Otherwise, Without, With, Branches, NoBranch, Branch}
 use Rattle.rtl_flat.proofs.Flows.{some_action}
 use Rattle.rtl_rule.specs.Parts.{Parts, first_below, first_of, has_some, number, some_below, widths}
-use Rattle.rtl_scan.specs.declared.bits.Row.{Row}
-use Rattle.rtl_scan.specs.Scan.{some_item}
-use Rattle.rtl_scan.specs.Sets.{has_row}
+use Rattle.check_parts.specs.rtl_scan.declared.bits.Row.{Row}
+use Rattle.check_parts.specs.rtl_scan.Scan.{some_item}
+use Rattle.check_parts.specs.rtl_scan.Sets.{has_row}
 use Rattle.check_found.proofs.Inside.{target_inside}
 use Rattle.check_found.proofs.Signals.{first_at, first_none, first_row}
 use Rattle.check_case.specs.Cases.{first_in}

@@ -1,3 +1,4 @@
+mod Borrowed
 mod Example
 pub mod Apart
 pub mod Claimed

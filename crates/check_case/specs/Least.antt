@@ -6,7 +6,7 @@ use Rattle.rtl_flat.specs.Flows.{actions_then, may_target, other_flow}
 use Rattle.rtl_flat.specs.Paths.{End, may_write, may_write_bit}
 use Rattle.rtl_flat.specs.Process.{Piece, Actions, Otherwise, Branches}
 use Rattle.rtl_rule.specs.Parts.{Parts, first_of, widths}
-use Rattle.rtl_scan.specs.Scan.{some_item}
+use Rattle.check_parts.specs.rtl_scan.Scan.{some_item}
 
 -- the lesser of two signals, where there are any
 abbrev pub lesser : Option SigId → Option SigId → Option SigId

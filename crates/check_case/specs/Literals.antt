@@ -9,7 +9,7 @@ use Rattle.rtl_bits.specs.Bits.{all_with, has_unknown, may_equal, number}
 use Rattle.rtl_flat.specs.Expression.{Tree}
 use Rattle.rtl_flat.specs.Flows.{literal}
 use Rattle.rtl_flat.specs.declared.act.CaseKind.{CaseKind}
-use Rattle.rtl_scan.specs.Values.{AreSorted, GetsLabel, matches_some}
+use Rattle.check_parts.specs.rtl_scan.Values.{AreSorted, GetsLabel, matches_some}
 use Rattle.check_case.specs.declared.labels.Labels.{Labels}
 use Rattle.check_case.specs.declared.disjoint.Seen.{Seen}
 use Rattle.check_case.specs.Cases.{some_differ}

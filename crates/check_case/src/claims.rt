@@ -5,7 +5,7 @@ ghost use Rattle.rtl_tree.specs.declared.text.Spot.{Spot};
 ghost use Rattle.rtl_flat.specs.Expression.{tree};
 ghost use Rattle.rtl_flat.specs.Process.{Case, action, task};
 ghost use Rattle.rtl_rule.specs.Parts.{parts, statements, widths, within};
-ghost use Rattle.rtl_scan.specs.Bodies.{branches_of, other_of};
+ghost use Rattle.check_parts.specs.rtl_scan.Bodies.{branches_of, other_of};
 ghost use Rattle.check_found.specs.Gathered.{task_sites};
 ghost use Rattle.check_case.specs.Cases.{AreFullCase, AreParallelCase, all_disjoint, is_false_full, spot_of};
 ghost use Rattle.check_case.specs.Claims.{AreClaims, GetsClaims, claims_falsely, rule_of};

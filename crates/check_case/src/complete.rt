@@ -6,7 +6,7 @@ ghost use Rattle.rtl_flat.specs.Signs.{width_in};
 ghost use Rattle.rtl_flat.specs.Sizes.{width_of};
 ghost use Rattle.rtl_flat.specs.Expression.{tree, form, read, beside};
 ghost use Rattle.rtl_flat.specs.Flows.{is_wild, cover, covers, complete_by_labels};
-ghost use Rattle.rtl_scan.specs.Bodies.{branches_of};
+ghost use Rattle.check_parts.specs.rtl_scan.Bodies.{branches_of};
 
 use crate::labels::{Labels, literal_labels};
 use rtl_bits::{Bit, Vec4};
@@ -80,7 +80,7 @@ fn signal_width(signals: &[Signal], signal: SigId) -> u8
 }
 
 /// The width of a form of expression by itself, or 17 where it is more than 16.
-#[tactic(auto, using(rtl_scan::proofs::Parts::concat_parts))]
+#[tactic(auto, using(crate::proofs::Borrowed::concat_parts))]
 fn own_width(signals: &[Signal], node: &Node) -> u8
     ensures { result ≡ min (width_of (width_in signals.now) (form node.now)) 17 }
 {
@@ -125,7 +125,7 @@ fn parts_width(parts: &[SizedExpr]) -> u8
 }
 
 /// Whether labels match every value over which a selector ranges.
-#[tactic(auto, using(rtl_scan::proofs::Covers::cover_capped))]
+#[tactic(auto, using(crate::proofs::Borrowed::cover_capped))]
 fn is_covered(
     alloc: Global,
     signals: &[Signal],

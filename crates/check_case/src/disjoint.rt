@@ -6,7 +6,7 @@ ghost use Rattle.rtl_bits.specs.declared.Bit.{Bit};
 ghost use Rattle.rtl_bits.specs.Bits.{all_with, may_equal};
 ghost use Rattle.rtl_flat.specs.Expression.{tree};
 ghost use Rattle.rtl_flat.specs.Flows.{literal};
-ghost use Rattle.rtl_scan.specs.Bodies.{branches_of};
+ghost use Rattle.check_parts.specs.rtl_scan.Bodies.{branches_of};
 ghost use Rattle.check_case.specs.Cases.{all_disjoint};
 ghost use Rattle.check_case.specs.Literals.{GetsSeen, GetsAllSeen, listed_of, meets, overlap_in, overlap_tree, overlap_some};
 

@@ -3,14 +3,14 @@
 ghost use Rattle.std.specs.Prelude.{◌≡◌, [], ◌∷◌, map};
 ghost use Rattle.rtl_flat.specs.Process.{action, body_of, piece};
 ghost use Rattle.rtl_rule.specs.Parts.{parts};
-ghost use Rattle.rtl_scan.specs.Bodies.{branches_of, other_of};
+ghost use Rattle.check_parts.specs.rtl_scan.Bodies.{branches_of, other_of};
 ghost use Rattle.check_case.specs.Cases.{first_in};
 ghost use Rattle.check_case.specs.Least.{first_of_all, first_of_items, first_of_other, first_of_pieces, lesser};
 
+use check_parts::rtl_scan::selected;
 use rtl_flat::act::{Act, CaseItem, TargetPart};
 use rtl_flat::design::Design;
 use rtl_flat::expr::SigId;
-use rtl_scan::selected;
 
 /// The lesser of two signals, where there are any.
 fn lesser(one: Option<SigId>, other: Option<SigId>) -> Option<SigId>

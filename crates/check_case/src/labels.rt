@@ -7,11 +7,11 @@ ghost use Rattle.std.specs.BTreeSet.{contains};
 ghost use Rattle.rtl_bits.specs.Bits.{bits_of, extended, has_unknown};
 ghost use Rattle.rtl_flat.specs.Expression.{tree};
 ghost use Rattle.rtl_flat.specs.Flows.{each_below, labels_of, literal, literal_matches, literals};
-ghost use Rattle.rtl_scan.specs.Bodies.{branches_of};
+ghost use Rattle.check_parts.specs.rtl_scan.Bodies.{branches_of};
 ghost use Rattle.check_case.specs.Literals.{AreIn, GetsIn, listed_of, matches_in};
 
+use check_parts::rtl_expr::is_match;
 use rtl_bits::Vec4;
-use rtl_expr::is_match;
 use rtl_flat::act::{CaseItem, CaseKind};
 use rtl_flat::expr::{Node, SizedExpr};
 use rtl_tree::memory::Memory;

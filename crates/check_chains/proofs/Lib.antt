@@ -10,3 +10,6 @@ pub mod Signals
 pub mod Steps
 pub mod Taken
 pub mod Told
+-- passed on to the crates above
+pub use Rattle.check_found.proofs as check_found_proofs
+pub use Rattle.check_parts.proofs.rtl_scan_proofs

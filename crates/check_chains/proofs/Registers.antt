@@ -8,9 +8,9 @@ use Rattle.std.proofs.lemmas.Bool.{and_from, and_parts, eqb-true, false≢true}
 use Rattle.rtl_flat.specs.PathSets.{IsTemporary}
 use Rattle.rtl_flat.specs.Process.{Doing}
 use Rattle.rtl_rule.specs.Parts.{Parts, widths, written}
-use Rattle.rtl_scan.specs.declared.bits.Row.{Row}
-use Rattle.rtl_scan.specs.Sets.{IsInOrder, has_rows}
-use Rattle.rtl_scan.specs.Usage.{has_row_of}
+use Rattle.check_parts.specs.rtl_scan.declared.bits.Row.{Row}
+use Rattle.check_parts.specs.rtl_scan.Sets.{IsInOrder, has_rows}
+use Rattle.check_parts.specs.rtl_scan.Usage.{has_row_of}
 use Rattle.check_found.proofs.Inside.{written_inside}
 use Rattle.check_found.proofs.Signals.{AreRows, row_below, rows_have_some}
 use Rattle.check_chains.specs.Branches.{AreRegisters, has_kept, is_marked}

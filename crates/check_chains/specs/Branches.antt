@@ -6,7 +6,7 @@ use Rattle.std.specs.Option.{IsSomeAnd}
 use Rattle.std.specs.Ordering.{nat_cmp}
 use Rattle.std.specs.BTreeSet.{BTreeSet, contains}
 use Rattle.rtl_flat.specs.Process.{Action, Doing}
-use Rattle.rtl_scan.specs.declared.bits.Row.{Row}
+use Rattle.check_parts.specs.rtl_scan.declared.bits.Row.{Row}
 use Rattle.net_model.specs.Cycle as cycle
 use Rattle.rtl_rule.specs.Parts.{Parts, all_of}
 use Rattle.check_chains.specs.Chains.{IsRegisterOf, IsResetBranch, resets_to}

@@ -12,7 +12,7 @@ ghost use Rattle.check_chains.specs.Inner.{targets_whole};
 
 use crate::choice::only;
 use check_parts::expressions::nodes;
-use rtl_expr::eval;
+use check_parts::rtl_expr::eval;
 use rtl_flat::act::{Act, TargetPart};
 use rtl_flat::design::Design;
 use rtl_flat::expr::{Node, Select, SigId, SizedExpr};

@@ -11,3 +11,8 @@ pub mod tested;
 
 pub use branches::reset_value;
 pub use shapes::{async_pair, reset_polarity, reset_shape};
+
+// Passed on to the crates above.
+pub use check_found;
+pub use check_parts;
+pub use check_parts::rtl_scan;

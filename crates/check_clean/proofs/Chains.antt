@@ -9,7 +9,7 @@ use Rattle.rtl_flat.specs.Expression.{Tree}
 use Rattle.rtl_flat.specs.Process.{Watched, If, Actions, Done, Then, With}
 use Rattle.net_model.specs.Cycle.{Guard, Chain, IsChained, opened}
 use Rattle.rtl_rule.specs.Parts.{Parts}
-use Rattle.check_chains.specs.Chains.{Test, beside, chain_in, guarded, headed, taken_out, tested, with_item, with_test}
+use Rattle.check_laws.specs.check_chains.Chains.{Test, beside, chain_in, guarded, headed, taken_out, tested, with_item, with_test}
 use Rattle.check_laws.proofs.Sites.{Each}
 
 -- ---- an item that is taken out

@@ -15,18 +15,18 @@ use Rattle.rtl_flat.specs.WellFormed.{has_edge}
 use Rattle.rtl_flat.specs.Expression.{Tree}
 use Rattle.rtl_flat.proofs.Paths.{decided}
 use Rattle.event_model.specs.Queue.{doing_at, doing_of, is_input, is_input_kind, is_input_of}
-use Rattle.event_laws.specs.Steady.{AreLawful}
-use Rattle.event_runs.specs.Writers.{IsSole}
+use Rattle.event_ending.specs.event_laws.Steady.{AreLawful}
+use Rattle.event_ending.specs.event_runs.Writers.{IsSole}
 use Rattle.std.proofs.lemmas.Bool.{and_from, eq-eqb, false≢true}
-use Rattle.event_edges.proofs.Hearing.{passing}
-use Rattle.check_chains.specs.Chains.{chain_of}
-use Rattle.event_edges.specs.Synchronous.{IsItem, IsSynchronous}
+use Rattle.sign_cycles.proofs.event_edges_proofs.Hearing.{passing}
+use Rattle.check_laws.specs.check_chains.Chains.{chain_of}
+use Rattle.sign_cycles.specs.event_edges.Synchronous.{IsItem, IsSynchronous}
 use Rattle.net_model.specs.Control.{IsControl, IsFromTop, IsReached, waits_for}
 use Rattle.net_model.specs.Cycle.{AreChains, Chain, IsChain}
 use Rattle.net_model.specs.Solution.{IsLasting, IsRegisterBit}
-use Rattle.net_rest.specs.Rest.{IsComputed, IsGate, IsSolvable}
+use Rattle.sign_cycles.specs.net_rest.Rest.{IsComputed, IsGate, IsSolvable}
 use Rattle.sign_cycles.specs.Formed.{IsFormed}
-use Rattle.sign_rounds.specs.BringUp.{CanAllWake}
+use Rattle.sign_cycles.specs.sign_rounds.BringUp.{CanAllWake}
 use Rattle.rtl_rule.specs.Parts.{Parts, widths}
 use Rattle.check_laws.specs.Cases.{Does, IsBodyOf}
 use Rattle.check_laws.specs.Designs.{IsEdge, flat_of}

@@ -15,15 +15,15 @@ use Rattle.rtl_flat.specs.Process.{Selection, Piece, Watched, Action, Set, If, C
 use Rattle.rtl_flat.specs.Process as part
 use Rattle.rtl_flat.specs.Signs.{Has}
 use Rattle.rtl_flat.specs.WellFormed.{has_edge}
-use Rattle.event_laws.proofs.Within.{reads_inside}
+use Rattle.event_ending.proofs.event_laws_proofs.Within.{reads_inside}
 use Rattle.event_model.specs.Queue.{doing_at}
-use Rattle.event_laws.specs.Steady.{AreLawful}
-use Rattle.event_edges.specs.Synchronous.{IsPort, MayHear, sensitive}
+use Rattle.event_ending.specs.event_laws.Steady.{AreLawful}
+use Rattle.sign_cycles.specs.event_edges.Synchronous.{IsPort, MayHear, sensitive}
 use Rattle.net_model.specs.Control.{InCone, IsControl, IsReached, Itself, Through}
 use Rattle.rtl_rule.specs.Parts.{Parts, all_of, body_trees, index_of, is_named, items_of, labels, named, nodes, own_labels, own_trees, place_of, spot_if, trees, widths, within}
-use Rattle.check_chains.specs.Chains.{chain_of}
-use Rattle.check_clocks.specs.Clocks.{AreClockAsData, GoesTo, IsClockAsData, IsPlainConnection, but_tests, clock_as_data_at, data_places, data_reads, data_trees, in_instance, is_passing, is_some_place, is_whole, level_items, passes, statement_trees}
-use Rattle.check_clocks.specs.Clocks as clocks
+use Rattle.check_laws.specs.check_chains.Chains.{chain_of}
+use Rattle.check_laws.specs.check_clocks.Clocks.{AreClockAsData, GoesTo, IsClockAsData, IsPlainConnection, but_tests, clock_as_data_at, data_places, data_reads, data_trees, in_instance, is_passing, is_some_place, is_whole, level_items, passes, statement_trees}
+use Rattle.check_laws.specs.check_clocks.Clocks as clocks
 use Rattle.check_laws.specs.Designs.{flat_of}
 use Rattle.check_laws.specs.Expressions.{AreMarked, IsMarked}
 use Rattle.check_laws.proofs.Clocks.{reads_alone}

@@ -4,9 +4,9 @@ use Rattle.std.specs.List.{slice_get}
 use Rattle.std.proofs.lemmas.Bool.{cases_eq}
 use Rattle.rtl_flat.specs.Levels.{Chain, HasNoEdge, IsArrow, IsDepth, IsLevel, IsNode}
 use Rattle.rtl_flat.specs.Levels as level
-use Rattle.event_laws.specs.Steady.{AreLawful}
+use Rattle.event_ending.specs.event_laws.Steady.{AreLawful}
 use Rattle.rtl_rule.specs.Parts.{Parts}
-use Rattle.check_assign.specs.Assigned.{AreCombLoop}
+use Rattle.check_all.specs.check_assign.Assigned.{AreCombLoop}
 use Rattle.check_laws.specs.Designs.{flat_of}
 use Rattle.check_laws.proofs.Decisions.{Decided, both, some_of, there_decided}
 use Rattle.check_laws.proofs.Designs.{comb_loop}

@@ -8,7 +8,7 @@ use Rattle.net_model.specs.Lawful.{AreLawfulSteps, IsLawfulStep, IsSetting, Sets
 use Rattle.net_model.specs.Cycle.{given_after}
 use Rattle.event_model.specs.Queue.{Flat, State, offer, power_up, run, widths}
 use Rattle.event_model.specs.Writes.{Values}
-use Rattle.event_settling.specs.Settling.{Fits}
+use Rattle.event_ending.specs.event_settling.Settling.{Fits}
 use Rattle.event_ending.specs.Ending.{AllEnd, Held, IsReached, PowerUp, Stepped}
 use Rattle.sign_cycles.specs.Agree.{offered}
 use Rattle.sign_cycles.specs.BringUp.{SetsInput}

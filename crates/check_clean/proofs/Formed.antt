@@ -14,15 +14,15 @@ use Rattle.rtl_flat.specs.Process as part
 use Rattle.rtl_flat.specs.Signs.{Has, width_in}
 use Rattle.rtl_flat.specs.WellFormed.{IsWatched, IsWhole, has_edge}
 use Rattle.rtl_flat.proofs.Paths.{decided}
-use Rattle.event_laws.proofs.Within.{may_read_outside, outside_inside, write_inside}
-use Rattle.event_laws.specs.Steady.{AreLawful}
+use Rattle.event_ending.proofs.event_laws_proofs.Within.{may_read_outside, outside_inside, write_inside}
+use Rattle.event_ending.specs.event_laws.Steady.{AreLawful}
 use Rattle.net_model.specs.Control.{InCone}
 use Rattle.net_model.specs.Cycle.{Chain, Guard, IsChain, IsChained, Tests, opened}
 use Rattle.net_model.specs.Solution.{IsLasting}
 use Rattle.sign_cycles.specs.Formed.{IsConstant, IsFormed, TestsAlone}
 use Rattle.rtl_rule.specs.Parts.{Parts, agree, all_of, labels, nodes, trees, widths, within}
-use Rattle.check_chains.specs.Chains.{IsRegisterOf, IsResetBranch, IsResetPolarity, IsResetShape, IsResetValue, chain_in, chain_of, goes_up, has_chain, is_more, is_turned, reset_polarity_at, reset_shape_at, reset_value_at, tested}
-use Rattle.check_clocks.specs.Clocks.{but_tests, chain_trees, data_trees, passes, statement_trees}
+use Rattle.check_laws.specs.check_chains.Chains.{IsRegisterOf, IsResetBranch, IsResetPolarity, IsResetShape, IsResetValue, chain_in, chain_of, goes_up, has_chain, is_more, is_turned, reset_polarity_at, reset_shape_at, reset_value_at, tested}
+use Rattle.check_laws.specs.check_clocks.Clocks.{but_tests, chain_trees, data_trees, passes, statement_trees}
 use Rattle.check_laws.specs.Cases.{Does, IsBodyOf}
 use Rattle.check_laws.specs.Designs.{IsEdge, flat_of}
 use Rattle.check_laws.specs.Expressions.{AreMarked, HasNoDoubt, IsMarked}

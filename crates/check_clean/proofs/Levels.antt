@@ -13,9 +13,9 @@ use Rattle.rtl_flat.specs.Process.{Doing, Assign, Comb, Edge', Task}
 use Rattle.rtl_flat.specs.Signs.{width_in}
 use Rattle.rtl_flat.proofs.Paths.{decided}
 use Rattle.event_model.specs.Queue.{doing_of}
-use Rattle.event_laws.specs.Steady.{AreLawful}
+use Rattle.event_ending.specs.event_laws.Steady.{AreLawful}
 use Rattle.rtl_rule.specs.Parts.{Parts, widths}
-use Rattle.check_assign.specs.Assigned.{AreCombLoop}
+use Rattle.check_all.specs.check_assign.Assigned.{AreCombLoop}
 use Rattle.check_laws.specs.Designs.{flat_of}
 use Rattle.check_laws.proofs.Decisions.{Decided, both, by_test, either_of, neither, some_of, told, told_from, told_not, told_true}
 use Rattle.check_laws.proofs.Designs.{comb_loop, process_inside}

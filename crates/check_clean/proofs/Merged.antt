@@ -9,16 +9,16 @@ use Rattle.rtl_rule.specs.Order.{comes_before, placed, ranked}
 use Rattle.rtl_rule.specs.Parts.{Parts}
 use Rattle.rtl_rule.specs.Rows.{row_of}
 use Rattle.rtl_rule.specs.Sites.{AreFindings}
-use Rattle.check_sense.specs.Sense.{AreSenseFindings}
-use Rattle.check_sense.specs.Sense as sense
-use Rattle.check_assign.specs.Assigned as assigned
-use Rattle.check_assign.specs.Findings.{AreAssignFindings}
-use Rattle.check_chains.specs.Chains as chains
-use Rattle.check_clocks.specs.Clocks as clocks
-use Rattle.check_case.specs.Cases.{AreCaseFindings}
-use Rattle.check_case.specs.Cases as cases
-use Rattle.check_xprop.specs.Unknowns.{AreUnknownFindings}
-use Rattle.check_xprop.specs.Unknowns as unknowns
+use Rattle.check_all.specs.check_sense.Sense.{AreSenseFindings}
+use Rattle.check_all.specs.check_sense.Sense as sense
+use Rattle.check_all.specs.check_assign.Assigned as assigned
+use Rattle.check_all.specs.check_assign.Findings.{AreAssignFindings}
+use Rattle.check_laws.specs.check_chains.Chains as chains
+use Rattle.check_laws.specs.check_clocks.Clocks as clocks
+use Rattle.check_all.specs.check_case.Cases.{AreCaseFindings}
+use Rattle.check_all.specs.check_case.Cases as cases
+use Rattle.check_all.specs.check_xprop.Unknowns.{AreUnknownFindings}
+use Rattle.check_all.specs.check_xprop.Unknowns as unknowns
 use Rattle.rtl_rule.specs.declared.rule.Rule.{Rule}
 use Rattle.rtl_rule.specs.declared.rule.Rule.TheVariants as rule
 use Rattle.check_all.specs.Findings.{AreAllFindings, IsClean}

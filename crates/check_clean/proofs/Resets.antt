@@ -12,11 +12,11 @@ use Rattle.rtl_flat.specs.Process.{Piece, Action, Set, If, Case, Block, Actions,
 use Rattle.rtl_flat.specs.Process as part
 use Rattle.rtl_flat.proofs.Flows.{every_action, some_action}
 use Rattle.rtl_flat.proofs.Paths.{decided}
-use Rattle.event_laws.proofs.Within.{may_read_outside}
+use Rattle.event_ending.proofs.event_laws_proofs.Within.{may_read_outside}
 use Rattle.net_model.specs.Solution.{IsLasting}
 use Rattle.sign_cycles.specs.Formed.{IsConstant}
 use Rattle.rtl_rule.specs.Parts.{Parts, all_in, all_of, indices, is_named, is_some_name, named, nodes, reads_signal, widths}
-use Rattle.check_chains.specs.Chains.{IsRegisterOf, IsResetBranch, is_constant, resets_to}
+use Rattle.check_laws.specs.check_chains.Chains.{IsRegisterOf, IsResetBranch, is_constant, resets_to}
 use Rattle.check_laws.specs.Designs.{flat_of}
 use Rattle.check_laws.specs.Expressions.{IsMarked}
 use Rattle.check_laws.proofs.Sites.{Each, each_both, each_left, each_right}

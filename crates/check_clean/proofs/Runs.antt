@@ -3,12 +3,12 @@ use Rattle.std.proofs.Common.{ℕ, [], Option, Some, subst, sym, refl}
 use Rattle.std.specs.Prelude.{◌≡◌, List}
 use Rattle.rtl_flat.specs.Process.{Watched, Actions, Comb}
 use Rattle.event_model.specs.Queue.{doing_at, offer}
-use Rattle.event_settling.specs.Conditions.{AllSelectIn}
-use Rattle.event_settling.proofs.Conditions.{rules_settle}
+use Rattle.event_ending.specs.event_settling.Conditions.{AllSelectIn}
+use Rattle.event_ending.proofs.event_settling_proofs.Conditions.{rules_settle}
 use Rattle.event_ending.proofs.Ends as every
 use Rattle.net_model.specs.Control.{InCone}
 use Rattle.rtl_rule.specs.Parts.{Parts, widths}
-use Rattle.check_xprop.specs.Unknowns.{AreSelectRange}
+use Rattle.check_all.specs.check_xprop.Unknowns.{AreSelectRange}
 use Rattle.check_laws.specs.Cases.{Does, IsBodyOf}
 use Rattle.check_laws.specs.Designs.{flat_of}
 use Rattle.check_laws.proofs.Clocks.{derived_clock}

@@ -23,9 +23,9 @@ use Rattle.event_model.specs.Writes.{Values}
 use Rattle.net_model.specs.declared.fill.Fill.{Fill}
 use Rattle.net_model.specs.Cycle.{Guard, Tests, level}
 use Rattle.net_model.specs.Numbers.{AreNumbers, bit, digits, filled}
-use Rattle.net_laws.proofs.Literals.{extended_whole}
+use Rattle.check_laws.proofs.net_laws_proofs.Literals.{extended_whole}
 use Rattle.rtl_rule.specs.Parts.{Parts, agree, widths}
-use Rattle.check_chains.specs.Chains.{Test, compared, goes_up, test_of, tested}
+use Rattle.check_laws.specs.check_chains.Chains.{Test, compared, goes_up, test_of, tested}
 use Rattle.check_laws.specs.Designs.{flat_of}
 
 -- ---- bits

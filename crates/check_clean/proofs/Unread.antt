@@ -9,9 +9,9 @@ use Rattle.rtl_flat.specs.Paths.{Flow, End, reads_bit, some, some_way}
 use Rattle.rtl_flat.specs.Process.{Selection, Piece, Action, Set, If, Case, Block, Actions, Done, Then, Otherwise, Without, With, Branches, NoBranch, Branch}
 use Rattle.rtl_flat.specs.Process as part
 use Rattle.rtl_flat.proofs.Flows.{some_action}
-use Rattle.net_laws.specs.Rules.{EachIn, EachItem, EachOf, EachOther, EachPart}
+use Rattle.check_laws.specs.net_laws.Rules.{EachIn, EachItem, EachOf, EachOther, EachPart}
 use Rattle.rtl_rule.specs.Parts.{index_of, indices, is_named, named, nodes}
-use Rattle.check_clocks.specs.Clocks.{statement_trees}
+use Rattle.check_laws.specs.check_clocks.Clocks.{statement_trees}
 use Rattle.check_laws.specs.Expressions.{IsForm, IsMarked}
 use Rattle.check_laws.proofs.Operands.{each_part}
 use Rattle.check_laws.proofs.Sites.{Each, each_left, each_right}

@@ -1,9 +1,9 @@
 -- What a design without a finding of the first grade is.
 use Rattle.std.specs.Prelude.{ℕ, List}
-use Rattle.event_laws.specs.Steady.{AreLawful}
+use Rattle.event_ending.specs.event_laws.Steady.{AreLawful}
 use Rattle.net_model.specs.Cycle.{AreChains, Chain}
 use Rattle.sign_cycles.specs.Formed.{IsCleanClocked}
-use Rattle.sign_rounds.specs.BringUp.{CanAllWake}
+use Rattle.sign_cycles.specs.sign_rounds.BringUp.{CanAllWake}
 use Rattle.rtl_rule.specs.declared.finding.Finding.{Finding}
 use Rattle.rtl_rule.specs.Parts.{Parts}
 use Rattle.check_all.specs.Findings.{AreAllFindings, IsClean}

@@ -4,7 +4,7 @@ use Rattle.std.specs.Prelude.{ℕ, List, map}
 use Rattle.std.specs.List.{All}
 use Rattle.event_model.specs.Queue.{Flat, State, power_up}
 use Rattle.event_model.specs.Writes.{Values}
-use Rattle.event_laws.specs.Steady.{AreLawful}
+use Rattle.event_ending.specs.event_laws.Steady.{AreLawful}
 use Rattle.event_ending.specs.Ending.{IsReached, RunsEnd}
 use Rattle.net_model.specs.declared.fill.Fill.{Fill}
 use Rattle.net_model.specs.Cycle.{AreChains, Chain, Setting, Step, settings}

@@ -3,3 +3,18 @@ pub mod Clean
 pub mod Ending
 pub mod Needed
 pub mod Promise
+-- passed on to the crates above
+pub use Rattle.check_all.specs as check_all
+pub use Rattle.check_all.specs.check_assign
+pub use Rattle.check_all.specs.check_case
+pub use Rattle.check_laws.specs.check_chains
+pub use Rattle.check_laws.specs.check_clocks
+pub use Rattle.check_laws.specs as check_laws
+pub use Rattle.check_all.specs.check_sense
+pub use Rattle.check_all.specs.check_xprop
+pub use Rattle.event_ending.specs as event_ending
+pub use Rattle.event_ending.specs.event_laws
+pub use Rattle.check_laws.specs.net_laws
+pub use Rattle.sign_cycles.specs.net_rest
+pub use Rattle.sign_cycles.specs as sign_cycles
+pub use Rattle.sign_cycles.specs.sign_rounds

@@ -3,8 +3,8 @@
 use Rattle.std.specs.Prelude.{◌<◌, ℕ, List, length, Option}
 use Rattle.rtl_flat.specs.Levels.{IsLevel}
 use Rattle.event_model.specs.Queue.{Flat}
-use Rattle.event_laws.specs.Steady.{AreLawful}
-use Rattle.event_settling.specs.Conditions.{AreRulesKept}
+use Rattle.event_ending.specs.event_laws.Steady.{AreLawful}
+use Rattle.event_ending.specs.event_settling.Conditions.{AreRulesKept}
 use Rattle.event_ending.specs.Ending.{RunsEnd}
 use Rattle.net_model.specs.declared.fill.Fill.{Fill}
 use Rattle.net_model.specs.Cycle.{AreChains, Chain}

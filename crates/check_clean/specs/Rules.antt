@@ -3,12 +3,12 @@
 use Rattle.std.specs.Prelude.{[]}
 use Rattle.net_model.specs.Control.{InCone}
 use Rattle.rtl_rule.specs.Parts.{Parts}
-use Rattle.check_sense.specs.Sense.{AreMixedEdges, AreNeverWakes, AreSenseMissing}
-use Rattle.check_assign.specs.Assigned.{AreBlockingState, AreCombLoop, AreLatchInferred, AreMixedAssign, AreNonblockingComb, AreSeveralDrivers, AreTristate, AreUndriven}
-use Rattle.check_chains.specs.Chains.{AreAsyncPair, AreResetPolarity, AreResetShape, AreResetValue}
-use Rattle.check_clocks.specs.Clocks.{AreClockAsData, AreDerivedClock}
-use Rattle.check_case.specs.Cases.{AreFullCase, AreParallelCase}
-use Rattle.check_xprop.specs.Unknowns.{AreDivideVariable, AreSelectRange, AreUnknownLiteral}
+use Rattle.check_all.specs.check_sense.Sense.{AreMixedEdges, AreNeverWakes, AreSenseMissing}
+use Rattle.check_all.specs.check_assign.Assigned.{AreBlockingState, AreCombLoop, AreLatchInferred, AreMixedAssign, AreNonblockingComb, AreSeveralDrivers, AreTristate, AreUndriven}
+use Rattle.check_laws.specs.check_chains.Chains.{AreAsyncPair, AreResetPolarity, AreResetShape, AreResetValue}
+use Rattle.check_laws.specs.check_clocks.Clocks.{AreClockAsData, AreDerivedClock}
+use Rattle.check_all.specs.check_case.Cases.{AreFullCase, AreParallelCase}
+use Rattle.check_all.specs.check_xprop.Unknowns.{AreDivideVariable, AreSelectRange, AreUnknownLiteral}
 use Rattle.check_laws.specs.Designs.{flat_of}
 
 -- no finding of each of them

@@ -7,7 +7,7 @@ use Rattle.rtl_tree.specs.declared.text.Spot.{Spot}
 use Rattle.rtl_flat.specs.Process.{Task}
 use Rattle.rtl_rule.specs.declared.finding.Finding.{Finding}
 use Rattle.rtl_rule.specs.Parts.{At, Parts, within}
-use Rattle.check_found.specs.Gathered.{Gets, signal_numbers, task_sites}
+use Rattle.check_chains.specs.check_found.Gathered.{Gets, signal_numbers, task_sites}
 use Rattle.check_clocks.specs.Clocks.{IsClockAsData, clock_as_data_at, data_places, is_some_place}
 use Rattle.check_clocks.specs.Firsts.{Shows, is_among, joined, least_of, shown}
 use Rattle.check_clocks.proofs.Places.{least_is}

@@ -19,9 +19,9 @@ use Rattle.rtl_flat.specs.WellFormed.{has_edge}
 use Rattle.event_model.specs.Queue.{doing_at, doing_of, is_input_kind, is_input_of}
 use Rattle.net_model.specs.Control.{InCone, IsControl, IsEdgeSignal, IsPassedOn, IsReached, Itself, Through, waits_for}
 use Rattle.rtl_rule.specs.Parts.{Parts, parts}
-use Rattle.check_found.proofs.Sites.{task_count}
-use Rattle.rtl_scan.specs.Arrows.{Among}
-use Rattle.rtl_scan.specs.Graph.{row}
+use Rattle.check_chains.proofs.check_found_proofs.Sites.{task_count}
+use Rattle.check_chains.specs.rtl_scan.Arrows.{Among}
+use Rattle.check_chains.specs.rtl_scan.Graph.{row}
 use Rattle.check_clocks.specs.declared.reach.Link.{Link}
 use Rattle.check_clocks.specs.Cone.{AreConed, AreEdgeMarks, ArePassing, GetsPassing, IsConed, IsSpread, ReachesMarked, flat_of, waited, waited_by}
 use Rattle.check_clocks.specs.Links.{AreRows}

@@ -9,10 +9,10 @@ use Rattle.std.proofs.lemmas.List.Sums.{sum_by-cons}
 use Rattle.rtl_flat.specs.Process.{Watched, Task}
 use Rattle.rtl_rule.specs.declared.finding.Finding.{Finding}
 use Rattle.rtl_rule.specs.Parts.{Parts, At, items_of, within}
-use Rattle.rtl_scan.specs.Arrows.{Among}
-use Rattle.rtl_scan.specs.Graph.{row}
-use Rattle.check_found.specs.Gathered.{Gets, task_sites}
-use Rattle.check_found.proofs.Gathering.{findings_by_option, map_findings}
+use Rattle.check_chains.specs.rtl_scan.Arrows.{Among}
+use Rattle.check_chains.specs.rtl_scan.Graph.{row}
+use Rattle.check_chains.specs.check_found.Gathered.{Gets, task_sites}
+use Rattle.check_chains.proofs.check_found_proofs.Gathering.{findings_by_option, map_findings}
 use Rattle.check_clocks.specs.Clocks.{ComesFrom, HasTwoRoles, IsDerivedClock, IsTwice, derived_clock_at, events_of}
 use Rattle.check_clocks.specs.Tops.{AreRoles, AreTops, derived_in, has_both, has_top, is_derived, is_none, is_twice}
 use Rattle.check_clocks.proofs.Topped.{comes_from}

@@ -15,8 +15,8 @@ use Rattle.rtl_flat.specs.Process.{Selection, Piece, Doing, Assign, Comb, Edge',
 use Rattle.rtl_flat.specs.Process as part
 use Rattle.rtl_flat.specs.Signs.{Has, width_in}
 use Rattle.rtl_rule.specs.Parts.{Parts, widths}
-use Rattle.rtl_scan.specs.Arrows.{Among}
-use Rattle.rtl_scan.specs.Graph.{row}
+use Rattle.check_chains.specs.rtl_scan.Arrows.{Among}
+use Rattle.check_chains.specs.rtl_scan.Graph.{row}
 use Rattle.check_chains.specs.Inner.{whole_of}
 use Rattle.check_clocks.specs.declared.reach.Link.{Link}
 use Rattle.check_clocks.specs.Reach.{HasLink, Here, Onward, Reaches}

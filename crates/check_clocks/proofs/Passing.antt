@@ -11,9 +11,9 @@ use Rattle.rtl_flat.specs.Process as part
 use Rattle.net_model.specs.Control.{ReadsAlone}
 use Rattle.rtl_bits.specs.Bits.{is_one_at}
 use Rattle.rtl_rule.specs.Parts.{Parts, widths}
-use Rattle.rtl_scan.specs.declared.bits.Row.{Row}
-use Rattle.rtl_scan.specs.Sets.{IsInOrder, has_row, has_rows}
-use Rattle.check_found.proofs.Signals.{row_bit}
+use Rattle.check_chains.specs.rtl_scan.declared.bits.Row.{Row}
+use Rattle.check_chains.specs.rtl_scan.Sets.{IsInOrder, has_row, has_rows}
+use Rattle.check_chains.proofs.check_found_proofs.Signals.{row_bit}
 use Rattle.check_clocks.specs.declared.reach.Link.{Link}
 use Rattle.check_clocks.specs.Links.{link_if, linked, whole_target}
 use Rattle.check_clocks.specs.Passed.{IsPassing, IsPassingLink, only_signal}

@@ -15,7 +15,7 @@ use Rattle.rtl_flat.specs.Process.{Task}
 use Rattle.rtl_rule.specs.declared.finding.Finding.{Finding}
 use Rattle.rtl_rule.specs.Parts.{Parts, At, within}
 use Rattle.rtl_rule.specs.Sites.{AreFindings}
-use Rattle.check_found.specs.Gathered.{Gets, signal_numbers, task_sites}
+use Rattle.check_chains.specs.check_found.Gathered.{Gets, signal_numbers, task_sites}
 use Rattle.check_clocks.specs.Firsts.{Shows, passing, shown}
 
 abbrev Entries : Type 0

@@ -15,8 +15,8 @@ use Rattle.rtl_flat.specs.Process.{Task}
 use Rattle.rtl_flat.specs.Signs.{Has}
 use Rattle.net_model.specs.Cycle.{Chain, Guard}
 use Rattle.rtl_rule.specs.Parts.{Parts}
-use Rattle.rtl_scan.specs.Arrows.{Among}
-use Rattle.rtl_scan.specs.Graph.{row}
+use Rattle.check_chains.specs.rtl_scan.Arrows.{Among}
+use Rattle.check_chains.specs.rtl_scan.Graph.{row}
 use Rattle.check_chains.specs.Chains.{chain_of}
 use Rattle.check_chains.specs.Views.{chain_view, guard_view}
 use Rattle.check_chains.specs.declared.chain.Chain as code_chain

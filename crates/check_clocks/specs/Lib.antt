@@ -7,3 +7,5 @@ pub mod Uses
 pub mod Passed
 pub mod Cone
 pub mod Firsts
+-- passed on to the crates above
+pub use Rattle.check_chains.specs as check_chains

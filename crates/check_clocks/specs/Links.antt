@@ -9,8 +9,8 @@ use Rattle.rtl_flat.specs.Expression.{Tree, Sized}
 use Rattle.rtl_flat.specs.Process.{Selection, Piece, Doing, Assign, Task}
 use Rattle.rtl_flat.specs.Process as part
 use Rattle.rtl_rule.specs.Parts.{Parts, widths}
-use Rattle.rtl_scan.specs.Arrows.{Among}
-use Rattle.rtl_scan.specs.Graph.{row}
+use Rattle.check_chains.specs.rtl_scan.Arrows.{Among}
+use Rattle.check_chains.specs.rtl_scan.Graph.{row}
 use Rattle.check_chains.specs.Inner.{whole_of}
 use Rattle.check_clocks.specs.declared.reach.Link.{Link}
 use Rattle.check_clocks.specs.Reach.{HasLink}

@@ -10,7 +10,7 @@ use Rattle.rtl_flat.specs.Process as part
 use Rattle.rtl_flat.specs.Signs.{Has}
 use Rattle.net_model.specs.Control.{ReadsAlone}
 use Rattle.rtl_rule.specs.Parts.{Parts, widths}
-use Rattle.rtl_scan.specs.declared.bits.Row.{Row}
+use Rattle.check_chains.specs.rtl_scan.declared.bits.Row.{Row}
 use Rattle.check_clocks.specs.declared.reach.Link.{Link}
 
 -- a connection whose expression reads one signal alone, both of one bit

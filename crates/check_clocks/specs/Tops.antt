@@ -12,8 +12,8 @@ use Rattle.net_model.specs.Cycle.{Chain, Guard}
 use Rattle.rtl_rule.specs.declared.finding.Finding.{Finding}
 use Rattle.rtl_rule.specs.declared.rule.Rule.TheVariants.{DerivedClock}
 use Rattle.rtl_rule.specs.Parts.{Parts, number}
-use Rattle.rtl_scan.specs.Arrows.{Among}
-use Rattle.rtl_scan.specs.Graph.{row}
+use Rattle.check_chains.specs.rtl_scan.Arrows.{Among}
+use Rattle.check_chains.specs.rtl_scan.Graph.{row}
 use Rattle.check_clocks.specs.declared.tops.Roles.{Roles}
 use Rattle.check_clocks.specs.Clocks.{ComesFrom, IsClockOf, IsResetOf}
 use Rattle.check_clocks.specs.Reach.{Reaches}

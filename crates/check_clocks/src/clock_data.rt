@@ -6,14 +6,14 @@ ghost use Rattle.event_model.specs.Queue.{flat};
 ghost use Rattle.net_model.specs.Control.{InCone};
 ghost use Rattle.rtl_flat.specs.Process.{task};
 ghost use Rattle.rtl_rule.specs.Parts.{parts};
-ghost use Rattle.check_found.specs.Gathered.{Gets, signal_numbers, task_sites};
-ghost use Rattle.check_found.specs.Scanned.{AreScans};
+ghost use Rattle.check_chains.specs.check_found.Gathered.{Gets, signal_numbers, task_sites};
+ghost use Rattle.check_chains.specs.check_found.Scanned.{AreScans};
 ghost use Rattle.check_clocks.specs.Clocks.{AreClockAsData, IsClockAsData, clock_as_data_at};
 
 use crate::cone::cone;
 use crate::data::uses_of;
 use crate::firsts::Firsts;
-use check_found::scans::Scans;
+use check_chains::check_found::scans::Scans;
 use rtl_flat::act::Process;
 use rtl_flat::design::Design;
 use rtl_rule::finding::Finding;

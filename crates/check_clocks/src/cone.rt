@@ -6,7 +6,7 @@ ghost use Rattle.rtl_flat.specs.Process.{doing, task, watched};
 ghost use Rattle.event_model.specs.Queue.{flat};
 ghost use Rattle.net_model.specs.Control.{InCone};
 ghost use Rattle.rtl_rule.specs.Parts.{parts};
-ghost use Rattle.check_found.specs.Scanned.{AreScans};
+ghost use Rattle.check_chains.specs.check_found.Scanned.{AreScans};
 ghost use Rattle.check_clocks.specs.Cone.{AreConed, IsSpread, waited, waited_by};
 ghost use Rattle.check_clocks.specs.Tops.{AreMarkedAlso};
 
@@ -14,7 +14,7 @@ use crate::links::rows_of;
 use crate::passed::passing_links;
 use crate::reach::reached;
 use crate::tops::{is_marked, is_top, mark, mark_all};
-use check_found::scans::Scans;
+use check_chains::check_found::scans::Scans;
 use rtl_bits::Edge;
 use rtl_flat::act::{Does, EventItem, Process};
 use rtl_flat::expr::SigId;

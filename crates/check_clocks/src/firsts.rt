@@ -7,7 +7,7 @@ ghost use Rattle.check_clocks.specs.Firsts.{Shows, is_among, joined, least_of};
 ghost use Rattle.check_clocks.specs.Uses.{places_of};
 
 use crate::uses::Use;
-use check_parts::places::is_earlier;
+use check_chains::check_parts::places::is_earlier;
 use rtl_flat::act::Process;
 use rtl_flat::expr::SigId;
 use rtl_rule::finding::Finding;

@@ -14,3 +14,7 @@ mod uses;
 
 pub use clock_data::clock_as_data;
 pub use derived::derived_clock;
+
+// Passed on to the crates above.
+pub use check_chains;
+pub use check_chains::check_parts;

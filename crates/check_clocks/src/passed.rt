@@ -5,18 +5,18 @@ ghost use Rattle.std.specs.List.{slice_get};
 ghost use Rattle.std.specs.Option.{option_map};
 ghost use Rattle.rtl_flat.specs.Process.{Task, piece};
 ghost use Rattle.rtl_rule.specs.Parts.{parts};
-ghost use Rattle.check_found.specs.Scanned.{AreScans};
+ghost use Rattle.check_chains.specs.check_found.Scanned.{AreScans};
 ghost use Rattle.check_clocks.specs.Cone.{ArePassing, GetsPassing};
 ghost use Rattle.check_clocks.specs.Links.{linked, whole_target};
 ghost use Rattle.check_clocks.specs.Passed.{IsPassingLink, only_signal};
 
 use crate::links::{link_if, whole_target};
 use crate::reach::Link;
-use check_found::scans::Scans;
+use check_chains::check_found::scans::Scans;
+use check_chains::rtl_scan::bits::Row;
 use rtl_flat::act::{Does, ProcId, Target};
 use rtl_flat::design::Design;
 use rtl_flat::expr::SigId;
-use rtl_scan::bits::Row;
 use rtl_tree::memory::Memory;
 use std::alloc::Global;
 

@@ -1,8 +1,8 @@
 // Links between numbers, and what they lead to.
 
 ghost use Rattle.std.specs.Prelude.{ℕ, ◌≡◌, ◌<◌, ◌↔◌, ◌∷◌, [], length, IfOk, OnOk};
-ghost use Rattle.rtl_scan.specs.Arrows.{Among};
-ghost use Rattle.rtl_scan.specs.Graph.{row};
+ghost use Rattle.check_chains.specs.rtl_scan.Arrows.{Among};
+ghost use Rattle.check_chains.specs.rtl_scan.Graph.{row};
 ghost use Rattle.check_clocks.specs.Reach.{Finds, HasLink, Reaches};
 
 use rtl_tree::memory::Memory;

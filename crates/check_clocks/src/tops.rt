@@ -4,7 +4,7 @@ ghost use Rattle.std.specs.Prelude.{◌≡◌, ◌<◌, ◌∷◌, [], false, le
 ghost use Rattle.std.specs.List.{All, flat_map, slice_get};
 ghost use Rattle.rtl_flat.specs.Process.{doing};
 ghost use Rattle.rtl_rule.specs.Parts.{parts};
-ghost use Rattle.rtl_scan.specs.Graph.{row};
+ghost use Rattle.check_chains.specs.rtl_scan.Graph.{row};
 ghost use Rattle.check_chains.specs.Chains.{chain_of};
 ghost use Rattle.check_clocks.specs.Tops.{AreMarkedAlso, AreRoles, AreTops, IsNoted, IsNotedFor, NotesChain, has_both, is_top};
 

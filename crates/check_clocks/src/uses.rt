@@ -6,7 +6,7 @@ ghost use Rattle.rtl_tree.specs.declared.text.Spot.{Spot};
 ghost use Rattle.rtl_flat.specs.Expression.{tree};
 ghost use Rattle.rtl_flat.specs.Process.{watched};
 ghost use Rattle.rtl_rule.specs.Parts.{named};
-ghost use Rattle.check_parts.specs.Kept.{expressions};
+ghost use Rattle.check_chains.specs.check_parts.Kept.{expressions};
 ghost use Rattle.check_clocks.specs.Uses.{level_places, places_of, read_places};
 
 use rtl_bits::Edge;

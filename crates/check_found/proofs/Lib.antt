@@ -7,3 +7,5 @@ pub mod Ordered
 pub mod Merged
 pub mod Decided
 pub mod Kept
+-- passed on to the crates above
+pub use Rattle.rtl_scan.proofs as rtl_scan_proofs

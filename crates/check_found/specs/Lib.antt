@@ -1,2 +1,4 @@
 pub mod Gathered
 pub mod Scanned
+-- passed on to the crates above
+pub use Rattle.rtl_scan.specs as rtl_scan

@@ -5,3 +5,6 @@
 pub mod order;
 pub mod scans;
 pub mod sets;
+
+// Passed on to the crates above.
+pub use rtl_scan;

@@ -5,8 +5,8 @@ use Rattle.std.proofs.Common.{ℕ, zero, suc, ◌≡◌, ◌∙◌, arith, Bool,
 use Rattle.rtl_flat.specs.declared.signal.Signal.{Signal}
 use Rattle.rtl_flat.specs.Levels.{Chain, Here, Then, IsArrow}
 use Rattle.rtl_flat.specs.Process.{Task}
-use Rattle.rtl_scan.specs.Arrows.{AreArrows}
-use Rattle.rtl_scan.specs.Graph.{ArrowIn}
+use Rattle.check_loops.specs.rtl_scan.Arrows.{AreArrows}
+use Rattle.check_loops.specs.rtl_scan.Graph.{ArrowIn}
 use Rattle.check_loops.specs.Rounds.{AreOnCycles}
 use Rattle.check_graph.specs.Loops.{AreLevelLoops}
 

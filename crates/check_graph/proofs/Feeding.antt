@@ -15,9 +15,9 @@ use Rattle.rtl_flat.specs.PathSets.{OfProcess, listed}
 use Rattle.rtl_flat.specs.Process.{Doing, Assign, Comb, Edge', Task}
 use Rattle.rtl_flat.specs.Signs.{width_in}
 use Rattle.rtl_flat.proofs.Paths.{decided}
-use Rattle.rtl_scan.specs.Arrows.{AreArrows, IsWriting, is_node}
-use Rattle.rtl_scan.specs.Graph.{row}
-use Rattle.rtl_scan.proofs.Processes.{there, back}
+use Rattle.check_loops.specs.rtl_scan.Arrows.{AreArrows, IsWriting, is_node}
+use Rattle.check_loops.specs.rtl_scan.Graph.{row}
+use Rattle.check_loops.proofs.rtl_scan_proofs.Processes.{there, back}
 use Rattle.check_graph.specs.declared.writers.Writer.{Writer}
 use Rattle.check_graph.specs.Feeds.{AreFed, AreFeeders, AreWriters, In, IsFed, Waits, Writes}
 use Rattle.check_graph.proofs.Joining.{in_at}

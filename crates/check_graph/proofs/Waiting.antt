@@ -9,11 +9,11 @@ use Rattle.rtl_flat.specs.Flows.{flow_of}
 use Rattle.rtl_flat.specs.PathSets.{listed}
 use Rattle.rtl_flat.specs.Paths.{BitSet, reads_outside}
 use Rattle.rtl_flat.specs.Process.{Task}
-use Rattle.rtl_scan.specs.declared.bits.Row.{Row}
-use Rattle.rtl_scan.specs.Arrows.{is_node}
-use Rattle.rtl_scan.specs.Sets.{has_rows}
-use Rattle.rtl_scan.proofs.Bools.{and_is}
-use Rattle.rtl_scan.proofs.Users.{some_bit_is}
+use Rattle.check_loops.specs.rtl_scan.declared.bits.Row.{Row}
+use Rattle.check_loops.specs.rtl_scan.Arrows.{is_node}
+use Rattle.check_loops.specs.rtl_scan.Sets.{has_rows}
+use Rattle.check_loops.proofs.rtl_scan_proofs.Bools.{and_is}
+use Rattle.check_loops.proofs.rtl_scan_proofs.Users.{some_bit_is}
 use Rattle.check_graph.specs.declared.arrows.Reader.{Reader}
 use Rattle.check_graph.specs.declared.writers.Writer.{Writer}
 use Rattle.check_graph.specs.Feeds.{AreFeeders, FromRow, FromRows, FromWriters, In, IsFed, Joins, Waits, bucket, comes, is_from, row_at, writer_at}

@@ -9,9 +9,9 @@ use Rattle.rtl_flat.specs.Flows.{flow_of}
 use Rattle.rtl_flat.specs.PathSets.{listed}
 use Rattle.rtl_flat.specs.Paths.{BitSet, reads_outside}
 use Rattle.rtl_flat.specs.Process.{Task}
-use Rattle.rtl_scan.specs.declared.bits.Row.{Row}
-use Rattle.rtl_scan.specs.Arrows.{IsWriting, is_node}
-use Rattle.rtl_scan.specs.Graph.{row}
+use Rattle.check_loops.specs.rtl_scan.declared.bits.Row.{Row}
+use Rattle.check_loops.specs.rtl_scan.Arrows.{IsWriting, is_node}
+use Rattle.check_loops.specs.rtl_scan.Graph.{row}
 use Rattle.check_graph.specs.declared.arrows.Reader.{Reader}
 use Rattle.check_graph.specs.declared.writers.Writer.{Writer}
 

@@ -4,14 +4,14 @@ ghost use Rattle.std.specs.Prelude.{◌≡◌, ◌<◌, length, true, Some, IfOk
 ghost use Rattle.std.specs.List.{slice_get};
 ghost use Rattle.rtl_flat.specs.Process.{Task};
 ghost use Rattle.rtl_rule.specs.Parts.{parts, widths};
-ghost use Rattle.rtl_scan.specs.Arrows.{AreArrows};
+ghost use Rattle.check_loops.specs.rtl_scan.Arrows.{AreArrows};
 ghost use Rattle.check_found.specs.Scanned.{AreScans};
 ghost use Rattle.check_graph.specs.Feeds.{AreFeeders, FromRow, FromRows, FromWriters, Joins, comes, is_from};
 
 use crate::writers::{Writer, is_node, writers};
 use check_found::scans::Scans;
+use check_loops::rtl_scan::bits::Row;
 use rtl_flat::act::ProcId;
-use rtl_scan::bits::Row;
 use rtl_tree::memory::Memory;
 use std::alloc::Global;
 

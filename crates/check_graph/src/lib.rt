@@ -6,3 +6,7 @@ mod level;
 mod writers;
 
 pub use level::loops;
+
+// Passed on to the crates above.
+pub use check_found;
+pub use check_loops::{rtl_expr, rtl_scan};

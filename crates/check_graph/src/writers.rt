@@ -4,13 +4,13 @@ ghost use Rattle.std.specs.Prelude.{ℕ, ◌≡◌, ◌<◌, length, Some, IfOk,
 ghost use Rattle.std.specs.List.{slice_get};
 ghost use Rattle.rtl_flat.specs.Process.{Task, doing};
 ghost use Rattle.rtl_rule.specs.Parts.{parts, widths};
-ghost use Rattle.rtl_scan.specs.Arrows.{is_node};
+ghost use Rattle.check_loops.specs.rtl_scan.Arrows.{is_node};
 ghost use Rattle.check_found.specs.Scanned.{AreScans};
 ghost use Rattle.check_graph.specs.Feeds.{AreWriters, Notes, Puts, WritesMore, bucket};
 
 use check_found::scans::Scans;
+use check_loops::rtl_scan::bits::Row;
 use rtl_flat::act::{Does, ProcId};
-use rtl_scan::bits::Row;
 use rtl_tree::memory::Memory;
 use std::alloc::Global;
 

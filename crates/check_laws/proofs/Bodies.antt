@@ -9,7 +9,7 @@ use Rattle.rtl_flat.specs.Process.{Selection, Piece, Watched, Action, Set, If, C
 use Rattle.rtl_flat.specs.Process as part
 use Rattle.rtl_flat.specs.WellFormed.{IsBody, IsProcess}
 use Rattle.event_model.specs.Queue.{doing_of}
-use Rattle.event_laws.specs.Steady.{AreLawful}
+use Rattle.net_laws.specs.event_laws.Steady.{AreLawful}
 use Rattle.net_model.specs.Numbers.{is_literal}
 use Rattle.net_laws.specs.Rules.{EachOf, EachPart, DividesByPower, HasNone, IsClear, OfIndex, OfLabels, OfStatement, SelectsInside}
 use Rattle.net_laws.proofs.Apart as apart

@@ -15,8 +15,8 @@ use Rattle.event_model.specs.Queue.{is_input, is_input_kind, is_input_of}
 use Rattle.net_model.specs.Control.{IsFromTop, IsPassedOn, IsReached, ReadsAlone}
 use Rattle.net_model.specs.Control as control
 use Rattle.rtl_rule.specs.Parts.{Parts, At, items_of, widths, within}
-use Rattle.check_chains.specs.Chains.{IsAsyncPair, async_pair_at, has_chain}
-use Rattle.check_clocks.specs.Clocks.{ComesFrom, GoesTo, Itself, Through, IsDerivedClock, IsPlainConnection, IsTwice, derived_clock_at, events_of}
+use Rattle.check_xprop.specs.check_chains.Chains.{IsAsyncPair, async_pair_at, has_chain}
+use Rattle.check_xprop.specs.check_clocks.Clocks.{ComesFrom, GoesTo, Itself, Through, IsDerivedClock, IsPlainConnection, IsTwice, derived_clock_at, events_of}
 use Rattle.check_laws.specs.Clocks.{AsyncPair, AreSourcesDecided, DerivedClock, DerivedClockOnce}
 use Rattle.check_laws.specs.Designs.{flat_of}
 use Rattle.check_laws.proofs.Sites.{Each, each_all, process_refuted, refuted_in, task_of}

@@ -19,13 +19,13 @@ use Rattle.rtl_flat.specs.WellFormed.{IsBody, has_edge}
 use Rattle.rtl_flat.proofs.Paths.{decided}
 use Rattle.event_model.specs.Queue.{Flat, doing_at, doing_of}
 use Rattle.event_model.specs.Queue as queue
-use Rattle.event_laws.specs.Steady.{AreLawful}
-use Rattle.event_laws.proofs.Within.{may_read_outside, outside_inside, target_inside, write_inside}
+use Rattle.net_laws.specs.event_laws.Steady.{AreLawful}
+use Rattle.net_laws.proofs.event_laws_proofs.Within.{may_read_outside, outside_inside, target_inside, write_inside}
 use Rattle.net_model.specs.Solution.{IsRegisterBit}
 use Rattle.rtl_rule.specs.Parts.{Parts, has_some, widths, written}
 use Rattle.check_sense.specs.Sense.{AreMixedEdges, AreNeverWakes, AreSenseMissing, IsMixedEdges, IsNeverWakes, IsSenseMissing, another_writes, can_wake, first_level, has_item, is_top, misses, mixed_edges_at, never_wakes_at, sense_missing_at}
 use Rattle.check_sense.specs.Sense as sense
-use Rattle.check_assign.specs.Assigned.{AreCombLoop, AreSeveralDrivers, IsBlockingState, IsCombLoop, IsLatchInferred, IsMixedAssign, IsNonblockingComb, IsSeveralDrivers, IsUndriven, blocking_state_at, comb_loop_at, is_clocked, is_comb, is_input, is_written, late, latch_inferred_at, lower_writes, mixed_assign_at, nonblocking_comb_at, now, several_drivers_at, undriven_at}
+use Rattle.check_xprop.specs.check_assign.Assigned.{AreCombLoop, AreSeveralDrivers, IsBlockingState, IsCombLoop, IsLatchInferred, IsMixedAssign, IsNonblockingComb, IsSeveralDrivers, IsUndriven, blocking_state_at, comb_loop_at, is_clocked, is_comb, is_input, is_written, late, latch_inferred_at, lower_writes, mixed_assign_at, nonblocking_comb_at, now, several_drivers_at, undriven_at}
 use Rattle.check_laws.specs.Designs.{AreTemporariesDecided, BlockingState, CombLoop, CombLoopAlone, IsComb, IsComputedBit, IsEdge, LatchInferred, MixedAssign, MixedEdges, NeverWakes, NonblockingComb, SenseMissing, SeveralDrivers, Undriven, flat_of}
 use Rattle.check_laws.proofs.Sites.{any_found, each_numbered, numbered_found, process_refuted, refuted, signal_refuted, signal_there, slice_there, some_at, some_found, task_of}
 

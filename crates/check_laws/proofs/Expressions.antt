@@ -15,11 +15,11 @@ use Rattle.rtl_flat.specs.Process.{Piece, Task, Watched}
 use Rattle.rtl_flat.specs.Signs.{sign_of}
 use Rattle.rtl_flat.specs.Sizes.{width_of}
 use Rattle.rtl_flat.specs.Value.{value}
-use Rattle.event_laws.proofs.Targets.{place_of}
+use Rattle.net_laws.proofs.event_laws_proofs.Targets.{place_of}
 use Rattle.net_laws.specs.Rules.{DividesBy, DividesByPower, EachPart, HasNone, IsNoSignal, IsPower, SelectsInside}
 use Rattle.net_laws.specs.Tame.{IsPlace}
 use Rattle.rtl_rule.specs.Parts.{Parts, is_literal_with, is_one_literal, is_some_name, is_x, is_z, items_of, labels, named, nodes, pieces, reads_signal, some_below, trees, valued_trees, widths}
-use Rattle.check_assign.specs.Assigned.{IsTristate, tristate_at}
+use Rattle.check_xprop.specs.check_assign.Assigned.{IsTristate, tristate_at}
 use Rattle.check_xprop.specs.Unknowns.{IsDivideVariable, IsSelectRange, IsUnknownLiteral, Pick, all_nodes, at_node, divides_by_other, has_one, is_power, is_zero, may_miss, pick_in, pick_of, picks, select_range_at, unknown_literal_at}
 use Rattle.rtl_rule.specs.declared.rule.Rule.TheVariants as rule
 use Rattle.check_laws.specs.Designs.{flat_of}

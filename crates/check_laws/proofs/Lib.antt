@@ -10,3 +10,5 @@ pub mod Clocks
 pub mod Stored
 pub mod Bodies
 pub mod Targets
+-- passed on to the crates above
+pub use Rattle.net_laws.proofs as net_laws_proofs

@@ -13,8 +13,8 @@ use Rattle.rtl_flat.specs.Process.{Watched, Doing, Assign, Comb, Edge', Task}
 use Rattle.rtl_flat.specs.Signs.{width_in}
 use Rattle.rtl_flat.proofs.Paths.{decided}
 use Rattle.event_model.specs.Queue.{doing_at, doing_of}
-use Rattle.event_laws.specs.Steady.{AreLawful}
-use Rattle.event_laws.proofs.Within.{may_read_outside, read_inside, reads_inside, target_inside}
+use Rattle.net_laws.specs.event_laws.Steady.{AreLawful}
+use Rattle.net_laws.proofs.event_laws_proofs.Within.{may_read_outside, read_inside, reads_inside, target_inside}
 use Rattle.rtl_rule.specs.Parts.{Parts, widths}
 use Rattle.check_laws.specs.Designs.{BlockingState, TemporariesDecided, flat_of}
 use Rattle.check_laws.proofs.Designs.{blocking_decided, late_may, process_inside}

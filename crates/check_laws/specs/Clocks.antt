@@ -5,8 +5,8 @@ use Rattle.rtl_flat.specs.Process.{Watched, Actions, Task}
 use Rattle.net_model.specs.Control.{IsFromTop}
 use Rattle.net_model.specs.Cycle.{Chain}
 use Rattle.rtl_rule.specs.Parts.{Parts}
-use Rattle.check_chains.specs.Chains.{AreAsyncPair, chain_of}
-use Rattle.check_clocks.specs.Clocks.{AreDerivedClock, ComesFrom}
+use Rattle.check_xprop.specs.check_chains.Chains.{AreAsyncPair, chain_of}
+use Rattle.check_xprop.specs.check_clocks.Clocks.{AreDerivedClock, ComesFrom}
 use Rattle.check_laws.specs.Designs.{IsEdge, flat_of}
 
 -- whether it is decided which signals come from top inputs

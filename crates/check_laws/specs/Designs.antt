@@ -8,11 +8,11 @@ use Rattle.rtl_flat.specs.PathSets.{IsTemporary, IsTemporaryOf, OfProcess, liste
 use Rattle.rtl_flat.specs.Process.{Watched, Actions, Doing, Comb, Edge'}
 use Rattle.rtl_flat.specs.WellFormed.{has_edge}
 use Rattle.event_model.specs.Queue.{Flat, doing_at, is_input}
-use Rattle.event_laws.specs.Steady.{AreLawful}
+use Rattle.net_laws.specs.event_laws.Steady.{AreLawful}
 use Rattle.net_model.specs.Solution.{IsLasting, IsRegisterBit}
 use Rattle.rtl_rule.specs.Parts.{Parts, widths}
 use Rattle.check_sense.specs.Sense.{AreMixedEdges, AreNeverWakes, AreSenseMissing}
-use Rattle.check_assign.specs.Assigned.{AreBlockingState, AreCombLoop, AreLatchInferred, AreMixedAssign, AreNonblockingComb, AreSeveralDrivers, AreUndriven}
+use Rattle.check_xprop.specs.check_assign.Assigned.{AreBlockingState, AreCombLoop, AreLatchInferred, AreMixedAssign, AreNonblockingComb, AreSeveralDrivers, AreUndriven}
 
 -- the signals and the processes of a design
 abbrev pub flat_of : Parts → Flat

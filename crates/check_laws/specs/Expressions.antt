@@ -7,12 +7,12 @@ use Rattle.rtl_flat.specs.declared.act.Process.{Process}
 use Rattle.rtl_flat.specs.Process.{Piece, Actions, Assign, Task, task}
 use Rattle.rtl_flat.specs.Signs.{sign_of}
 use Rattle.event_model.specs.Queue.{doing_at}
-use Rattle.event_laws.specs.Steady.{AreLawful}
+use Rattle.net_laws.specs.event_laws.Steady.{AreLawful}
 use Rattle.net_laws.specs.Rules.{DividesByPower, EachPart, HasNone, SelectsInside}
 use Rattle.net_laws.specs.Tame.{AreExclusive, AreTame, IsFirm}
 use Rattle.rtl_rule.specs.Parts.{Parts, labels, trees, valued_trees}
 use Rattle.check_case.specs.Cases.{AreFullCase, AreParallelCase}
-use Rattle.check_assign.specs.Assigned.{AreTristate}
+use Rattle.check_xprop.specs.check_assign.Assigned.{AreTristate}
 use Rattle.check_xprop.specs.Unknowns.{AreDivideVariable, AreSelectRange, AreUnknownLiteral}
 use Rattle.check_laws.specs.Cases.{IsBodyOf}
 use Rattle.check_laws.specs.Designs.{flat_of}

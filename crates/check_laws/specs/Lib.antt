@@ -3,3 +3,7 @@ pub mod Cases
 pub mod Expressions
 pub mod Clocks
 pub mod Targets
+-- passed on to the crates above
+pub use Rattle.check_xprop.specs.check_chains
+pub use Rattle.check_xprop.specs.check_clocks
+pub use Rattle.net_laws.specs as net_laws

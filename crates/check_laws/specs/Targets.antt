@@ -1,7 +1,7 @@
 -- What the targets of assignments are in a design in which a rule has no finding.
 use Rattle.std.specs.Prelude.{ℕ, []}
 use Rattle.rtl_flat.specs.Process.{Actions}
-use Rattle.event_laws.specs.Steady.{AreLawful}
+use Rattle.net_laws.specs.event_laws.Steady.{AreLawful}
 use Rattle.event_settling.specs.Conditions.{AllSelectIn}
 use Rattle.rtl_rule.specs.Parts.{Parts, widths}
 use Rattle.check_xprop.specs.Unknowns.{AreSelectRange}

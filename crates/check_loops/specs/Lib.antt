@@ -1,1 +1,3 @@
 pub mod Rounds
+-- passed on to the crates above
+pub use Rattle.rtl_scan.specs as rtl_scan

@@ -37,3 +37,7 @@ pub fn on_cycles(alloc: Global, rows: &[Vec<u32>]) -> Result<Vec<bool>, Memory>
         None => searched(alloc, rows),
     }
 }
+
+// Passed on to the crates above.
+pub use rtl_scan;
+pub use rtl_scan::rtl_expr;

@@ -1,2 +1,4 @@
 pub mod Within
 pub mod Earlier
+-- passed on to the crates above
+pub use Rattle.rtl_scan.proofs as rtl_scan_proofs

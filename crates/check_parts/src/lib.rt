@@ -4,3 +4,7 @@
 pub mod expressions;
 pub mod places;
 pub mod statements;
+
+// Passed on to the crates above.
+pub use rtl_scan;
+pub use rtl_scan::rtl_expr;

@@ -11,9 +11,9 @@ use Rattle.rtl_flat.specs.Paths.{BitSet, reads_outside}
 use Rattle.rtl_flat.specs.Process.{Doing, Assign, Comb, Edge', Task}
 use Rattle.rtl_rule.specs.declared.finding.Finding.{Finding}
 use Rattle.rtl_rule.specs.Parts.{Parts, has_some, widths, within}
-use Rattle.rtl_scan.specs.declared.bits.Row.{Row}
-use Rattle.rtl_scan.specs.Sets.{IsInOrder, has, has_row, has_rows, mask_of}
-use Rattle.rtl_scan.proofs.Masks.{row_without}
+use Rattle.check_found.specs.rtl_scan.declared.bits.Row.{Row}
+use Rattle.check_found.specs.rtl_scan.Sets.{IsInOrder, has, has_row, has_rows, mask_of}
+use Rattle.check_found.proofs.rtl_scan_proofs.Masks.{row_without}
 use Rattle.check_found.specs.Gathered.{Gets, signal_numbers, task_sites}
 use Rattle.check_found.proofs.Gathering.{map_findings}
 use Rattle.check_found.proofs.Inside.{outside_inside}

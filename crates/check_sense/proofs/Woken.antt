@@ -12,9 +12,9 @@ use Rattle.rtl_flat.specs.Paths.{BitSet}
 use Rattle.rtl_flat.specs.Process.{Doing, Assign, Comb, Edge', Task}
 use Rattle.rtl_rule.specs.declared.finding.Finding.{Finding}
 use Rattle.rtl_rule.specs.Parts.{Parts, has_some, widths, within, written}
-use Rattle.rtl_scan.specs.declared.bits.Row.{Row}
-use Rattle.rtl_scan.specs.Sets.{has, has_row, has_rows, mask_of}
-use Rattle.rtl_scan.proofs.Users.{some_bit_is}
+use Rattle.check_found.specs.rtl_scan.declared.bits.Row.{Row}
+use Rattle.check_found.specs.rtl_scan.Sets.{has, has_row, has_rows, mask_of}
+use Rattle.check_found.proofs.rtl_scan_proofs.Users.{some_bit_is}
 use Rattle.check_found.specs.Gathered.{Gets, task_sites}
 use Rattle.check_found.proofs.Gathering.{gets_nothing, gets_one, take_next}
 use Rattle.check_found.proofs.Inside.{listed_inside}

@@ -9,8 +9,8 @@ use Rattle.rtl_flat.specs.Process.{Watched, Doing, Comb, Task}
 use Rattle.rtl_flat.specs.WellFormed.{has_edge}
 use Rattle.rtl_rule.specs.declared.finding.Finding.{Finding}
 use Rattle.rtl_rule.specs.Parts.{Parts, within, written}
-use Rattle.rtl_scan.specs.declared.bits.Row.{Row}
-use Rattle.rtl_scan.specs.Sets.{has, mask_of}
+use Rattle.check_found.specs.rtl_scan.declared.bits.Row.{Row}
+use Rattle.check_found.specs.rtl_scan.Sets.{has, mask_of}
 use Rattle.check_sense.specs.declared.masks.Masks.{Masks}
 use Rattle.check_sense.specs.declared.waking.Writers.{Writers}
 use Rattle.check_sense.specs.Sense.{is_top, sense_missing_at}

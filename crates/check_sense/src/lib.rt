@@ -32,3 +32,6 @@ pub fn check(alloc: Global, scans: &Scans) -> Result<Vec<Finding>, Memory>
     found.extend_from_slice(&mixed)?;
     ranked(found)
 }
+
+// Passed on to the crates above.
+pub use check_found;

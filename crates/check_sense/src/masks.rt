@@ -1,11 +1,11 @@
 // Sets of bits of signals that are asked by signal.
 
 ghost use Rattle.std.specs.Prelude.{ℕ, ◌≡◌, ◌||◌, ◌&&◌, false, OnOk, IfOk};
-ghost use Rattle.rtl_scan.specs.Sets.{has, has_rows, has_row, mask_of, put};
+ghost use Rattle.check_found.specs.rtl_scan.Sets.{has, has_rows, has_row, mask_of, put};
 ghost use Rattle.check_sense.specs.Telling.{lacks};
 
+use check_found::rtl_scan::bits::{Bits, Row};
 use rtl_flat::expr::SigId;
-use rtl_scan::bits::{Bits, Row};
 use rtl_tree::memory::Memory;
 use std::alloc::Global;
 use std::collections::BTreeMap;

@@ -10,11 +10,11 @@ ghost use Rattle.check_sense.specs.Sense.{AreSenseMissing, IsSenseMissing, sense
 ghost use Rattle.check_sense.specs.Telling.{has_items, lacking_in};
 
 use crate::masks::Masks;
+use check_found::rtl_scan::bits::Row;
 use check_found::scans::Scans;
 use rtl_flat::act::{Does, Listed, ProcId, Process};
 use rtl_rule::finding::Finding;
 use rtl_rule::rule::Rule;
-use rtl_scan::bits::Row;
 use rtl_tree::memory::Memory;
 use std::alloc::Global;
 

@@ -4,13 +4,14 @@ ghost use Rattle.std.specs.Prelude.{◌≡◌, ◌<◌, Some, length, IfOk, OnOk
 ghost use Rattle.std.specs.List.{list_any, slice_get};
 ghost use Rattle.rtl_flat.specs.Process.{doing, Task};
 ghost use Rattle.rtl_rule.specs.Parts.{parts};
-ghost use Rattle.rtl_scan.specs.Sets.{has_rows};
+ghost use Rattle.check_found.specs.rtl_scan.Sets.{has_rows};
 ghost use Rattle.check_found.specs.Gathered.{Gets, task_sites};
 ghost use Rattle.check_found.specs.Scanned.{AreScans};
 ghost use Rattle.check_sense.specs.Sense.{AreNeverWakes, IsNeverWakes, can_wake, is_top, never_wakes_at};
 ghost use Rattle.check_sense.specs.Telling.{AreWriters, GetsWriter, has_level_list, itself, row_wakes, top_at};
 
 use crate::masks::Masks;
+use check_found::rtl_scan::bits::{Bits, Row};
 use check_found::scans::Scans;
 use check_found::sets::first_written;
 use rtl_flat::act::{Does, ProcId};
@@ -18,7 +19,6 @@ use rtl_flat::expr::SigId;
 use rtl_flat::signal::{Kind, Signal};
 use rtl_rule::finding::Finding;
 use rtl_rule::rule::Rule;
-use rtl_scan::bits::{Bits, Row};
 use rtl_tree::memory::Memory;
 use std::alloc::Global;
 

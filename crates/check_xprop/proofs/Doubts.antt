@@ -24,10 +24,10 @@ use Rattle.rtl_flat.specs.Process.{Selection, Piece, Action, Set, If, Case, Bloc
 use Rattle.rtl_flat.specs.Process as part
 use Rattle.rtl_rule.specs.declared.finding.Finding.{Finding}
 use Rattle.rtl_rule.specs.Parts.{Parts, first_of, has_some, nodes, own_labels, own_trees, statements, widths, written}
-use Rattle.rtl_scan.specs.declared.bits.Row.{Row}
-use Rattle.rtl_scan.specs.Sets.{has_row}
-use Rattle.rtl_scan.proofs.Labels.{left_at}
-use Rattle.rtl_scan.proofs.Users.{some_bit_is}
+use Rattle.check_assign.specs.rtl_scan.declared.bits.Row.{Row}
+use Rattle.check_assign.specs.rtl_scan.Sets.{has_row}
+use Rattle.check_assign.proofs.rtl_scan_proofs.Labels.{left_at}
+use Rattle.check_assign.proofs.rtl_scan_proofs.Users.{some_bit_is}
 use Rattle.check_xprop.specs.declared.choices.Sought.{Sought}
 use Rattle.check_xprop.specs.declared.choices.Sought.TheVariants.{Plain, Wild}
 use Rattle.check_xprop.specs.Doubts.{AreSought, any_meets, choice_spots, choices_found, choices_of, is_plain, meets, own_reads, rule_of, seeks}

@@ -17,9 +17,9 @@ use Rattle.rtl_flat.specs.Flows.{bit_at, is_place, may_select}
 use Rattle.rtl_flat.specs.Process.{Selection, BitAt, Task, selection}
 use Rattle.rtl_rule.specs.declared.finding.Finding.{Finding}
 use Rattle.rtl_rule.specs.Parts.{Parts, At, some_below, widths, within}
-use Rattle.rtl_scan.specs.declared.bits.Row.{Row}
-use Rattle.rtl_scan.specs.Sets.{has_row}
-use Rattle.rtl_scan.proofs.Users.{some_bit_is}
+use Rattle.check_assign.specs.rtl_scan.declared.bits.Row.{Row}
+use Rattle.check_assign.specs.rtl_scan.Sets.{has_row}
+use Rattle.check_assign.proofs.rtl_scan_proofs.Users.{some_bit_is}
 use Rattle.check_xprop.specs.Lists.{below, miss_at, misses, misses_found}
 use Rattle.check_xprop.specs.Unknowns.{AreSelectRange, IsSelectRange, Pick, may_miss, pick_in, pick_of, picks, select_range_at}
 use Rattle.check_xprop.proofs.Lists.{found_of}

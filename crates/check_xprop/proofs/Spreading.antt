@@ -4,15 +4,15 @@ use Rattle.std.specs.Prelude.{◌==◌}
 use Rattle.std.proofs.lemmas.Bool.{and_parts, cases_eq, eq-eqb, eqb-true, false≢true, or_cases, or_left, or_right}
 use Rattle.std.specs.List.{slice_get}
 use Rattle.std.proofs.lemmas.List.{get_or-set_other, get_or-set_same, length-set, length_push, take_more}
-use Rattle.rtl_scan.specs.declared.bits.Row.{Row}
-use Rattle.rtl_scan.specs.Sets.{IsInOrder, has_rows}
-use Rattle.rtl_scan.specs.Usage.{has_row_of}
+use Rattle.check_assign.specs.rtl_scan.declared.bits.Row.{Row}
+use Rattle.check_assign.specs.rtl_scan.Sets.{IsInOrder, has_rows}
+use Rattle.check_assign.specs.rtl_scan.Usage.{has_row_of}
 use Rattle.rtl_flat.specs.declared.signal.Signal.{Signal}
 use Rattle.rtl_flat.specs.Process.{Task}
 use Rattle.rtl_flat.specs.Signs.{width_in}
 use Rattle.rtl_rule.specs.Parts.{Parts, widths, written}
-use Rattle.check_found.proofs.Inside.{written_inside}
-use Rattle.check_found.proofs.Signals.{rows_have_some}
+use Rattle.check_assign.proofs.check_found_proofs.Inside.{written_inside}
+use Rattle.check_assign.proofs.check_found_proofs.Signals.{rows_have_some}
 use Rattle.check_xprop.specs.declared.doubt.Spread.{Spread}
 use Rattle.check_xprop.specs.Spreading.{Among, IsReader, Marks, Visits, is_marked, is_seen, left, writes}
 use Rattle.check_xprop.specs.Unknowns.{Behind}

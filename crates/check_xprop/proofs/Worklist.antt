@@ -5,10 +5,10 @@ use Rattle.std.specs.declared.alloc.Global.{Global}
 use Rattle.std.proofs.lemmas.Bool.{and_from, and_parts, cases_eq, eq-eqb, eqb-true, false≢true, or_cases, or_left, or_right}
 use Rattle.std.specs.List.{slice_get}
 use Rattle.std.proofs.lemmas.List.{length-replicate, length-set, take_more}
-use Rattle.rtl_scan.specs.declared.bits.Row.{Row}
-use Rattle.rtl_scan.specs.Sets.{IsInOrder, has_rows}
-use Rattle.rtl_scan.specs.Usage.{has_row_of}
-use Rattle.rtl_scan.proofs.Processes.{below_next, length-tasks}
+use Rattle.check_assign.specs.rtl_scan.declared.bits.Row.{Row}
+use Rattle.check_assign.specs.rtl_scan.Sets.{IsInOrder, has_rows}
+use Rattle.check_assign.specs.rtl_scan.Usage.{has_row_of}
+use Rattle.check_assign.proofs.rtl_scan_proofs.Processes.{below_next, length-tasks}
 use Rattle.rtl_flat.specs.declared.design.Design.{Design}
 use Rattle.rtl_flat.specs.Flows.{flow_of}
 use Rattle.rtl_flat.specs.Paths.{BitSet, reads_outside}
@@ -17,9 +17,9 @@ use Rattle.rtl_flat.specs.Process.{Task, task}
 use Rattle.rtl_flat.specs.Signs.{width_in}
 use Rattle.rtl_rule.specs.Parts.{Parts, has_some, parts, widths, written}
 use Rattle.check_assign.specs.Assigned.{is_clocked}
-use Rattle.check_chains.specs.Chains.{chain_of, has_chain}
-use Rattle.check_found.proofs.Inside.{outside_inside}
-use Rattle.check_found.proofs.Signals.{rows_have_some}
+use Rattle.check_assign.specs.check_chains.Chains.{chain_of, has_chain}
+use Rattle.check_assign.proofs.check_found_proofs.Inside.{outside_inside}
+use Rattle.check_assign.proofs.check_found_proofs.Signals.{rows_have_some}
 use Rattle.check_xprop.specs.declared.doubt.Spread.{Spread}
 use Rattle.check_xprop.specs.Spreading.{Among, AreReaders, IsReader, IsSpreading, IsStarting, Marks, Notes, Reaches, Reads, Visits, bucket, is_marked, is_seen, reads, starts, writes}
 use Rattle.check_xprop.specs.Unknowns.{IsDoubtful, IsUnreset, Behind, Unreset}

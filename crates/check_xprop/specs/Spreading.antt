@@ -8,7 +8,7 @@ use Rattle.rtl_flat.specs.Paths.{reads_outside}
 use Rattle.rtl_flat.specs.Process.{Task}
 use Rattle.rtl_rule.specs.Parts.{Parts, has_some, widths, written}
 use Rattle.check_assign.specs.Assigned.{is_clocked}
-use Rattle.check_chains.specs.Chains.{chain_of, has_chain}
+use Rattle.check_assign.specs.check_chains.Chains.{chain_of, has_chain}
 use Rattle.check_xprop.specs.declared.doubt.Spread.{Spread}
 use Rattle.check_xprop.specs.Unknowns.{IsDoubtful, IsUnreset}
 

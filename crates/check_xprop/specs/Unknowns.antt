@@ -31,7 +31,7 @@ use Rattle.rtl_rule.specs.Order.{ranked}
 use Rattle.rtl_rule.specs.Parts.{Parts, At, sites, process_sites, widths, has_some, some_below, first_written, written, number, found_at, least_place, nodes, place_of, reads_signal, statements, pieces, items_of, trees, labels, is_x, has_literal, literal_places}
 use Rattle.rtl_rule.specs.Sites.{AreFindings}
 use Rattle.check_assign.specs.Assigned.{is_clocked}
-use Rattle.check_chains.specs.Chains.{chain_of, has_chain}
+use Rattle.check_assign.specs.check_chains.Chains.{chain_of, has_chain}
 
 -- all expressions of processes with their operands, labels too
 abbrev pub all_nodes : Doing → List Tree

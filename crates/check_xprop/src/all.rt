@@ -2,7 +2,7 @@
 
 ghost use Rattle.std.specs.Prelude.{◌≡◌, IfOk, OnOk};
 ghost use Rattle.rtl_rule.specs.Parts.{parts};
-ghost use Rattle.check_found.specs.Scanned.{AreScans};
+ghost use Rattle.check_assign.specs.check_found.Scanned.{AreScans};
 ghost use Rattle.check_xprop.specs.Parts.{AreOfDropped, AreOfLiterals, AreOfChoices, AreOfOperators};
 ghost use Rattle.check_xprop.specs.Unknowns.{AreUnknownFindings};
 
@@ -12,8 +12,8 @@ use crate::doubt::doubtful;
 use crate::dropped::{delay_ignored, initial_ignored, translate_off};
 use crate::expressions::{case_equality, unknown_literal};
 use crate::selects::select_range;
-use check_found::order::ranked;
-use check_found::scans::Scans;
+use check_assign::check_found::order::ranked;
+use check_assign::check_found::scans::Scans;
 use rtl_flat::design::Design;
 use rtl_rule::finding::Finding;
 use rtl_tree::memory::Memory;

@@ -9,14 +9,14 @@ ghost use Rattle.check_xprop.specs.Doubts.{AreSought, any_meets, choice_spots, c
 ghost use Rattle.check_xprop.specs.Unknowns.{AreWildSelector, AreXOptimism, IsDoubtful, choice, index_choice};
 
 use crate::places::push_all;
-use check_parts::expressions::{nodes, own_labels, own_trees};
-use check_parts::statements::statements;
+use check_assign::check_parts::expressions::{nodes, own_labels, own_trees};
+use check_assign::check_parts::statements::statements;
+use check_assign::rtl_scan::selected;
 use rtl_flat::act::{Act, CaseKind, ProcId, TargetPart};
 use rtl_flat::design::Design;
 use rtl_flat::expr::{Index, Node, Select, SigId, SizedExpr};
 use rtl_rule::finding::Finding;
 use rtl_rule::rule::Rule;
-use rtl_scan::selected;
 use rtl_tree::memory::Memory;
 use rtl_tree::text::Spot;
 use std::alloc::Global;

@@ -13,9 +13,9 @@ ghost use Rattle.check_xprop.specs.Unknowns.{AreDivideVariable, divides_by_other
 
 use crate::expressions::all_nodes;
 use crate::places::push_all;
-use check_parts::expressions::nodes;
+use check_assign::check_parts::expressions::nodes;
+use check_assign::rtl_expr::eval;
 use rtl_bits::{Bit, Vec4};
-use rtl_expr::eval;
 use rtl_flat::act::ProcId;
 use rtl_flat::design::Design;
 use rtl_flat::expr::{Join, Node, SizedExpr};

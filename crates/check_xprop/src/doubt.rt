@@ -5,19 +5,19 @@ ghost use Rattle.std.specs.List.{slice_get};
 ghost use Rattle.rtl_flat.specs.Process.{Task, doing};
 ghost use Rattle.check_assign.specs.Assigned.{is_clocked};
 ghost use Rattle.rtl_rule.specs.Parts.{parts};
-ghost use Rattle.rtl_scan.specs.Usage.{has_row_of};
-ghost use Rattle.check_chains.specs.Chains.{chain_of, has_chain};
-ghost use Rattle.check_found.specs.Scanned.{AreScans};
+ghost use Rattle.check_assign.specs.rtl_scan.Usage.{has_row_of};
+ghost use Rattle.check_assign.specs.check_chains.Chains.{chain_of, has_chain};
+ghost use Rattle.check_assign.specs.check_found.Scanned.{AreScans};
 ghost use Rattle.check_xprop.specs.Spreading.{Among, AreReaders, IsReader, IsStarting, Marks, Notes, Reaches, Visits, bucket, reads, starts};
 ghost use Rattle.check_xprop.specs.Unknowns.{IsDoubtful};
 
 use crate::choices::is_marked;
-use check_chains::chain::chain_of;
-use check_found::scans::Scans;
+use check_assign::check_chains::chain::chain_of;
+use check_assign::check_found::scans::Scans;
+use check_assign::rtl_scan::bits::Row;
 use rtl_flat::act::{Does, ProcId};
 use rtl_flat::design::Design;
 use rtl_flat::expr::SigId;
-use rtl_scan::bits::Row;
 use rtl_tree::memory::Memory;
 use std::alloc::Global;
 

@@ -9,8 +9,8 @@ ghost use Rattle.check_xprop.specs.Lists.{is_exact, literal_found, nodes_found, 
 ghost use Rattle.check_xprop.specs.Unknowns.{AreCaseEquality, AreUnknownLiteral, all_nodes, is_case_equality};
 
 use crate::places::push_all;
-use check_parts::expressions::{labels, nodes, trees, valued_trees};
-use check_parts::places::least_place;
+use check_assign::check_parts::expressions::{labels, nodes, trees, valued_trees};
+use check_assign::check_parts::places::least_place;
 use rtl_bits::{Bit, Vec4};
 use rtl_flat::act::{Does, ProcId, Process};
 use rtl_flat::design::Design;

@@ -17,3 +17,6 @@ pub use doubt::doubtful;
 pub use dropped::{delay_ignored, initial_ignored, translate_off};
 pub use expressions::{case_equality, unknown_literal};
 pub use selects::select_range;
+
+// Passed on to the crates above.
+pub use check_assign;

@@ -11,14 +11,14 @@ ghost use Rattle.check_xprop.specs.Lists.{misses, misses_found};
 ghost use Rattle.check_xprop.specs.Unknowns.{AreSelectRange, pick_in, pick_of, picks};
 
 use crate::expressions::all_nodes;
-use check_parts::statements::{items, pieces};
+use check_assign::check_parts::statements::{items, pieces};
+use check_assign::rtl_scan::selected;
 use rtl_flat::act::{EventItem, ProcId, TargetPart};
 use rtl_flat::design::Design;
 use rtl_flat::expr::{Index, Node, Select, SigId, SizedExpr};
 use rtl_flat::signal::Signal;
 use rtl_rule::finding::Finding;
 use rtl_rule::rule::Rule;
-use rtl_scan::selected;
 use rtl_tree::memory::Memory;
 use rtl_tree::text::Spot;
 use std::alloc::Global;

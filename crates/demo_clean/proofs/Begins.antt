@@ -8,20 +8,20 @@ use Rattle.rtl_flat.specs.PathSets.{IsTemporary}
 use Rattle.rtl_flat.specs.Process.{Actions, Edge', Watched}
 use Rattle.event_model.specs.Queue.{Flat, IsAtRest, State, doing_at, drive_now, settled_at, widths}
 use Rattle.event_model.specs.Writes.{Values}
-use Rattle.net_laws.proofs.Known.{known_at}
+use Rattle.check_clean.proofs.net_laws_proofs.Known.{known_at}
 use Rattle.net_model.specs.declared.fill.Fill.{Fill}
 use Rattle.net_model.specs.Cycle.{Chain, Guard, item_bit, reset_bit, strongest}
 use Rattle.net_model.specs.Numbers.{AreNumbers, bit}
 use Rattle.net_model.specs.Solution.{IsLasting, IsSolution}
-use Rattle.net_rest.specs.Rest.{AreAlike, AreGiven, IsIdle, IsSolvable, numbers_of}
-use Rattle.net_rest.proofs.Numbers.{are_numbers}
-use Rattle.net_rest.proofs.Rest.{known_at_rest, register_inside, solution_rests, solved}
-use Rattle.sign_rounds.specs.Round.{IsSettled}
-use Rattle.sign_rounds.proofs.Settled.{input_lasts}
-use Rattle.sign_cycles.specs.Agree.{AreReset, AreSame, IsSettledKnown}
-use Rattle.sign_cycles.specs.Formed.{IsCleanClocked}
-use Rattle.sign_cycles.proofs.Chains.{strongest_same}
-use Rattle.sign_cycles.proofs.Edges as edge
+use Rattle.check_clean.specs.net_rest.Rest.{AreAlike, AreGiven, IsIdle, IsSolvable, numbers_of}
+use Rattle.check_clean.proofs.net_rest_proofs.Numbers.{are_numbers}
+use Rattle.check_clean.proofs.net_rest_proofs.Rest.{known_at_rest, register_inside, solution_rests, solved}
+use Rattle.check_clean.specs.sign_rounds.Round.{IsSettled}
+use Rattle.check_clean.proofs.sign_rounds_proofs.Settled.{input_lasts}
+use Rattle.check_clean.specs.sign_cycles.Agree.{AreReset, AreSame, IsSettledKnown}
+use Rattle.check_clean.specs.sign_cycles.Formed.{IsCleanClocked}
+use Rattle.check_clean.proofs.sign_cycles_proofs.Chains.{strongest_same}
+use Rattle.check_clean.proofs.sign_cycles_proofs.Edges as edge
 
 -- a state that is settled at numbers which are those of the netlist, but for temporaries
 pub record IsShowing (d : Flat) (chains : ℕ → Chain) (f : Fill) (s : State) (n : Values) : Type 0 where

@@ -8,11 +8,11 @@ use Rattle.net_model.specs.Cycle.{AreChains, IsChain}
 use Rattle.rtl_rule.specs.declared.rule.Rule.{Rule}
 use Rattle.rtl_rule.specs.declared.rule.Rule.TheVariants.{MixedEdges, ResetPolarity, ResetShape}
 use Rattle.rtl_rule.specs.Parts.{Parts}
-use Rattle.check_assign.specs.Assigned.{is_clocked}
-use Rattle.check_chains.specs.Chains.{chain_of}
-use Rattle.net_list.specs.Chosen.{chain_in, chains_of, no_chain}
-use Rattle.net_list.specs.Faults.{AreFormed, IsFault}
-use Rattle.net_list.proofs.Formed.{chain_at, lawful_at, task_of}
+use Rattle.check_clean.specs.check_assign.Assigned.{is_clocked}
+use Rattle.check_clean.specs.check_chains.Chains.{chain_of}
+use Rattle.demo_replay.specs.net_list.Chosen.{chain_in, chains_of, no_chain}
+use Rattle.demo_replay.specs.net_list.Faults.{AreFormed, IsFault}
+use Rattle.demo_replay.proofs.net_list_proofs.Formed.{chain_at, lawful_at, task_of}
 use Rattle.demo_replay.specs.Setups.{flat_of}
 
 pub are_chains : (d : Parts) → All (λ task. IsProcess d.signals task.does) d.tasks → AreFormed d → AreChains (flat_of d) (chains_of d)

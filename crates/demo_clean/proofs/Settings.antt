@@ -12,19 +12,19 @@ use Rattle.rtl_flat.specs.declared.signal.Signal.{Signal}
 use Rattle.rtl_flat.specs.Signs.{width_in}
 use Rattle.rtl_flat.specs.WellFormed.{IsSignal}
 use Rattle.rtl_rule.specs.Parts.{parts}
-use Rattle.rtl_scan.specs.Arrows.{Among}
+use Rattle.demo_replay.specs.rtl_scan.Arrows.{Among}
 use Rattle.event_model.specs.declared.setting.Setting.{Setting}
 use Rattle.event_model.specs.Queue.{flat, Flat, is_input, widths}
 use Rattle.event_model.specs.Writes.{Values}
 use Rattle.event_model.proofs.Active.{signal_there}
-use Rattle.event_queue.specs.Offers.{set_of}
+use Rattle.demo_replay.specs.event_queue.Offers.{set_of}
 use Rattle.net_model.specs.Cycle as cycle
 use Rattle.net_model.specs.Cycle.{settings}
 use Rattle.net_model.specs.Numbers.{AreNumbers}
-use Rattle.net_settle.specs.Settle.{setting_view}
-use Rattle.netlist_eval.specs.declared.step.Step.{Step}
-use Rattle.netlist_eval.specs.declared.step.Step.TheVariants.{Data, Turn}
-use Rattle.netlist_eval.specs.Steps.{IsStepOf, step_view}
+use Rattle.demo_replay.specs.net_settle.Settle.{setting_view}
+use Rattle.demo_replay.specs.netlist_eval.declared.step.Step.{Step}
+use Rattle.demo_replay.specs.netlist_eval.declared.step.Step.TheVariants.{Data, Turn}
+use Rattle.demo_replay.specs.netlist_eval.Steps.{IsStepOf, step_view}
 use Rattle.demo_trials.specs.Fitting.{AreSettingsKnown, SettingsMeet}
 use Rattle.demo_trials.specs.Steps.{Input, step_of}
 use Rattle.demo_trials.proofs.Fitting.{step_known, step_meets}

@@ -14,11 +14,11 @@ use Rattle.net_model.specs.Cycle as cycle
 use Rattle.net_model.specs.Cycle.{Chain, Data, IsCycle, Step, Turn, settings}
 use Rattle.net_model.specs.Lawful.{IsLawfulStep}
 use Rattle.net_model.specs.Numbers.{AreNumbers}
-use Rattle.sign_rounds.proofs.Settled.{input_lasts}
-use Rattle.sign_cycles.specs.Agree.{AreSame, IsNext, offered}
-use Rattle.sign_cycles.specs.Formed.{IsCleanClocked}
-use Rattle.sign_cycles.proofs.Alone.{steps_alone}
-use Rattle.sign_cycles.proofs.Steps.{steps_follow}
+use Rattle.check_clean.proofs.sign_rounds_proofs.Settled.{input_lasts}
+use Rattle.check_clean.specs.sign_cycles.Agree.{AreSame, IsNext, offered}
+use Rattle.check_clean.specs.sign_cycles.Formed.{IsCleanClocked}
+use Rattle.check_clean.proofs.sign_cycles_proofs.Alone.{steps_alone}
+use Rattle.check_clean.proofs.sign_cycles_proofs.Steps.{steps_follow}
 use Rattle.demo_clean.proofs.Begins.{IsShowing}
 
 -- ---- runs

@@ -16,11 +16,11 @@ use Rattle.net_model.specs.Cycle as cycle
 use Rattle.net_model.specs.Cycle.{Chain}
 use Rattle.net_model.specs.Lawful.{IsLawfulStep}
 use Rattle.net_model.specs.Solution.{IsLasting}
-use Rattle.net_list.specs.Chosen.{chains_of}
-use Rattle.netlist_eval.specs.Steps.{step_view}
-use Rattle.sign_cycles.specs.Agree.{offered}
-use Rattle.sign_cycles.specs.Formed.{IsCleanClocked}
-use Rattle.check_laws.specs.Designs.{AreTemporariesDecided}
+use Rattle.demo_replay.specs.net_list.Chosen.{chains_of}
+use Rattle.demo_replay.specs.netlist_eval.Steps.{step_view}
+use Rattle.check_clean.specs.sign_cycles.Agree.{offered}
+use Rattle.check_clean.specs.sign_cycles.Formed.{IsCleanClocked}
+use Rattle.check_clean.specs.check_laws.Designs.{AreTemporariesDecided}
 use Rattle.demo_told.specs.Same.{are_same}
 use Rattle.demo_trials.specs.Trials.{fill_of, policy_of}
 use Rattle.demo_replay.specs.Firsts.{Place, Shows, differs, first_place, place_or}

@@ -7,11 +7,11 @@ use Rattle.rtl_rule.specs.declared.rule.Rule.{Rule}
 use Rattle.rtl_rule.specs.declared.rule.Rule.TheVariants.{NeverWakes}
 use Rattle.rtl_rule.specs.Parts.{parts}
 use Rattle.event_model.specs.Queue.{flat}
-use Rattle.event_laws.specs.Steady.{AreLawful}
-use Rattle.event_laws.proofs.Steady.{lawful_processes}
-use Rattle.net_list.specs.Chosen.{chains_of}
-use Rattle.check_laws.proofs.Stored.{stored}
-use Rattle.check_laws.proofs.Temporaries.{temporaries_decided}
+use Rattle.check_clean.specs.event_laws.Steady.{AreLawful}
+use Rattle.check_clean.proofs.event_laws_proofs.Steady.{lawful_processes}
+use Rattle.demo_replay.specs.net_list.Chosen.{chains_of}
+use Rattle.check_clean.proofs.check_laws_proofs.Stored.{stored}
+use Rattle.check_clean.proofs.check_laws_proofs.Temporaries.{temporaries_decided}
 use Rattle.check_clean.specs.Clean.{IsCleanDesign}
 use Rattle.check_clean.specs.Needed.{is_needed}
 use Rattle.check_clean.proofs.Clean.{clean_design}

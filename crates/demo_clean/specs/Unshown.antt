@@ -4,7 +4,7 @@ use Rattle.std.specs.Prelude.{◌≡◌, false, List, None}
 use Rattle.rtl_flat.specs.declared.design.Design.{Design}
 use Rattle.rtl_rule.specs.declared.finding.Finding.{Finding}
 use Rattle.rtl_rule.specs.Parts.{parts}
-use Rattle.check_all.specs.Findings.{AreAllFindings}
+use Rattle.check_clean.specs.check_all.Findings.{AreAllFindings}
 use Rattle.check_clean.specs.Needed.{has_needed, is_needed}
 use Rattle.demo_replay.specs.Firsts.{IsFirst}
 

@@ -21,10 +21,10 @@ use Rattle.event_model.specs.Writes.{Values}
 use Rattle.net_model.specs.declared.fill.Fill.{Fill}
 use Rattle.net_model.specs.Block.{item_meets, some_meets}
 use Rattle.net_model.specs.Numbers.{AreNumbers, digits, is_literal, is_some_literal, label_digits}
-use Rattle.net_laws.specs.Tame.{IsFirm}
-use Rattle.net_laws.proofs.Covered.{covered}
-use Rattle.net_laws.proofs.Digits.{digits_known, digits_size}
-use Rattle.net_laws.proofs.Known.{both}
+use Rattle.demo_clean.specs.net_laws.Tame.{IsFirm}
+use Rattle.demo_clean.proofs.net_laws_proofs.Covered.{covered}
+use Rattle.demo_clean.proofs.net_laws_proofs.Digits.{digits_known, digits_size}
+use Rattle.demo_clean.proofs.net_laws_proofs.Known.{both}
 
 -- ---- labels that are literals
 

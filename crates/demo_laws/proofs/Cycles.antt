@@ -26,28 +26,28 @@ use Rattle.net_model.specs.Numbers.{AreNumbers, bit}
 use Rattle.net_model.specs.Solution.{IsLasting, IsSolution}
 use Rattle.rtl_rule.specs.declared.rule.Rule.TheVariants.{DerivedClock}
 use Rattle.rtl_rule.specs.Parts.{Parts, within}
-use Rattle.rtl_scan.specs.Arrows.{Among}
-use Rattle.check_assign.specs.Assigned.{is_clocked}
-use Rattle.check_clocks.specs.Clocks.{IsDerivedClock, events_of}
-use Rattle.chain_laws.proofs.Branches.{IsLawfulGuard, chain_lawful}
-use Rattle.chain_laws.proofs.Lists.{Each, each_from, each_map}
-use Rattle.net_cycles.proofs.Carried.{carried}
-use Rattle.net_laws.proofs.Known.{both}
-use Rattle.net_list.specs.Chosen.{chains_of}
-use Rattle.net_list.specs.Faults.{AreFormed, IsFault}
-use Rattle.net_list.proofs.Formed.{task_of}
-use Rattle.net_rest.specs.Rest.{AreAlike}
-use Rattle.net_rest.proofs.Levels.{read_lasts}
-use Rattle.net_settle.specs.Settle.{IsSolved}
-use Rattle.net_start.specs.Start.{IsStart}
-use Rattle.net_start.proofs.Listed.{all_same}
-use Rattle.net_start.specs.Stored.{IsStored}
-use Rattle.netlist_eval.specs.Steps.{HasNoCycle, IsBegun, Starts}
+use Rattle.demo_clean.specs.rtl_scan.Arrows.{Among}
+use Rattle.demo_clean.specs.check_assign.Assigned.{is_clocked}
+use Rattle.demo_clean.specs.check_clocks.Clocks.{IsDerivedClock, events_of}
+use Rattle.demo_clean.proofs.chain_laws_proofs.Branches.{IsLawfulGuard, chain_lawful}
+use Rattle.demo_clean.proofs.chain_laws_proofs.Lists.{Each, each_from, each_map}
+use Rattle.demo_clean.proofs.net_cycles_proofs.Carried.{carried}
+use Rattle.demo_clean.proofs.net_laws_proofs.Known.{both}
+use Rattle.demo_clean.specs.net_list.Chosen.{chains_of}
+use Rattle.demo_clean.specs.net_list.Faults.{AreFormed, IsFault}
+use Rattle.demo_clean.proofs.net_list_proofs.Formed.{task_of}
+use Rattle.demo_clean.specs.net_rest.Rest.{AreAlike}
+use Rattle.demo_clean.proofs.net_rest_proofs.Levels.{read_lasts}
+use Rattle.demo_clean.specs.net_settle.Settle.{IsSolved}
+use Rattle.demo_clean.specs.net_start.Start.{IsStart}
+use Rattle.demo_clean.proofs.net_start_proofs.Listed.{all_same}
+use Rattle.demo_clean.specs.net_start.Stored.{IsStored}
+use Rattle.demo_clean.specs.netlist_eval.Steps.{HasNoCycle, IsBegun, Starts}
 use Rattle.demo_laws.proofs.Branches.{IsSafe, chain_safe}
 use Rattle.demo_laws.proofs.Held.{late_lasts, same_solutions}
 use Rattle.demo_laws.proofs.Live.{same_bit as body_bit}
 use Rattle.demo_laws.proofs.Stable.{bit_stable}
-use Rattle.demo_replay.specs.Setups.{flat_of}
+use Rattle.demo_clean.specs.demo_replay.Setups.{flat_of}
 use Rattle.demo_clean.proofs.Chains.{are_chains}
 use Rattle.demo_laws.specs.Laws.{AreProcesses}
 use Rattle.demo_laws.proofs.Lawful.{behind, is_top, lawful_flat}

@@ -8,15 +8,15 @@ use Rattle.rtl_bits.specs.declared.Bit.{Bit}
 use Rattle.rtl_flat.specs.declared.expr.SigId.{SigId}
 use Rattle.event_model.specs.Queue.{Flat, is_input}
 use Rattle.net_model.specs.Solution.{IsLasting}
-use Rattle.net_start.specs.Stored.{IsStored}
-use Rattle.net_start.proofs.Listed.{all_same}
+use Rattle.demo_clean.specs.net_start.Stored.{IsStored}
+use Rattle.demo_clean.proofs.net_start_proofs.Listed.{all_same}
 use Rattle.rtl_rule.specs.declared.finding.Finding.{Finding}
 use Rattle.rtl_rule.specs.Parts.{Parts, first_below, number, some_below}
 use Rattle.demo_told.specs.Same.{are_same}
-use Rattle.demo_replay.specs.Compared.{AreCompared, is_trial_of}
-use Rattle.demo_replay.specs.Firsts.{Here, IsFirst, Never, NoNetlist, Nothing, Place, Shows, Told, differs, first_place, first_signal, place_or}
-use Rattle.demo_replay.specs.Runs.{Ended, IsCourse, IsStuck, Moment, Stopped}
-use Rattle.demo_replay.specs.Setups.{Contended, Cyclic, HasNetlist, IsSetup, LacksNetlist, Setup, Shapeless, flat_of}
+use Rattle.demo_clean.specs.demo_replay.Compared.{AreCompared, is_trial_of}
+use Rattle.demo_clean.specs.demo_replay.Firsts.{Here, IsFirst, Never, NoNetlist, Nothing, Place, Shows, Told, differs, first_place, first_signal, place_or}
+use Rattle.demo_clean.specs.demo_replay.Runs.{Ended, IsCourse, IsStuck, Moment, Stopped}
+use Rattle.demo_clean.specs.demo_replay.Setups.{Contended, Cyclic, HasNetlist, IsSetup, LacksNetlist, Setup, Shapeless, flat_of}
 use Rattle.demo_laws.proofs.Trials.{AllAlike, IsAlike, not_behind, reach_once, stuck_reaches}
 use Rattle.demo_laws.specs.Laws.{AreProcesses}
 

@@ -13,17 +13,17 @@ use Rattle.rtl_flat.specs.Process.{Actions, Comb, Doing, Task}
 use Rattle.rtl_flat.specs.Signs.{width_in}
 use Rattle.event_model.specs.Queue.{Flat, doing_at, doing_of, widths}
 use Rattle.event_model.specs.Writes.{Values}
-use Rattle.event_laws.specs.Steady.{AreLawful}
+use Rattle.demo_clean.specs.event_laws.Steady.{AreLawful}
 use Rattle.net_model.specs.declared.fill.Fill.{Fill}
 use Rattle.net_model.specs.Numbers.{AreNumbers, bit}
 use Rattle.net_model.specs.Solution.{IsLasting, IsSolution, start}
-use Rattle.net_laws.proofs.Known.{KnownBit, known_at, known_each}
-use Rattle.net_laws.proofs.Starts.{start_wide}
-use Rattle.net_order.specs.Order.{IsCyclic}
-use Rattle.net_rest.specs.Rest.{AreAlike, AreGivenAlike}
-use Rattle.net_rest.proofs.Levels.{read_lasts}
-use Rattle.net_rest.proofs.Numbers.{past_ends}
-use Rattle.net_solve.proofs.Same.{same}
+use Rattle.demo_clean.proofs.net_laws_proofs.Known.{KnownBit, known_at, known_each}
+use Rattle.demo_clean.proofs.net_laws_proofs.Starts.{start_wide}
+use Rattle.demo_clean.specs.net_order.Order.{IsCyclic}
+use Rattle.demo_clean.specs.net_rest.Rest.{AreAlike, AreGivenAlike}
+use Rattle.demo_clean.proofs.net_rest_proofs.Levels.{read_lasts}
+use Rattle.demo_clean.proofs.net_rest_proofs.Numbers.{past_ends}
+use Rattle.demo_clean.proofs.net_solve_proofs.Same.{same}
 use Rattle.demo_laws.proofs.Laws.{lasting_depends}
 use Rattle.demo_laws.proofs.Ranked.{some_rank}
 use Rattle.demo_laws.proofs.Stable.{bit_stable}

@@ -11,12 +11,12 @@ use Rattle.rtl_flat.specs.declared.signal.Kind.TheVariants.{TopInput}
 use Rattle.rtl_flat.specs.declared.signal.Signal.{Signal}
 use Rattle.rtl_flat.specs.WellFormed.{IsProcess}
 use Rattle.event_model.specs.Queue.{doing_of, is_input, is_input_kind, is_input_of}
-use Rattle.event_laws.specs.Steady.{AreLawful}
+use Rattle.demo_clean.specs.event_laws.Steady.{AreLawful}
 use Rattle.net_model.specs.Control.{Here, IsBehind, Next, whole_of}
 use Rattle.rtl_rule.specs.Parts.{Parts}
-use Rattle.check_clocks.specs.Clocks.{ComesFrom, GoesTo, Itself, Through}
-use Rattle.net_list.proofs.Formed.{lawful_at}
-use Rattle.demo_replay.specs.Setups.{flat_of}
+use Rattle.demo_clean.specs.check_clocks.Clocks.{ComesFrom, GoesTo, Itself, Through}
+use Rattle.demo_clean.proofs.net_list_proofs.Formed.{lawful_at}
+use Rattle.demo_clean.specs.demo_replay.Setups.{flat_of}
 use Rattle.demo_laws.specs.Laws.{AreProcesses}
 
 pub lawful_flat : (d : Parts) → AreProcesses d → AreLawful (flat_of d)

@@ -20,19 +20,19 @@ use Rattle.rtl_flat.proofs.Flows.{every_action, first_action}
 use Rattle.event_model.specs.Queue.{Flat, widths}
 use Rattle.event_model.specs.Traces.{Same, covers}
 use Rattle.event_model.specs.Writes.{Values, Write, written}
-use Rattle.event_laws.specs.Steady.{HaveWidths, IsWithin}
-use Rattle.event_laws.proofs.Lengths.{have_written}
-use Rattle.event_laws.proofs.Targets.{IsOver, same_count}
-use Rattle.event_laws.proofs.Written.{written_in, written_out}
+use Rattle.demo_clean.specs.event_laws.Steady.{HaveWidths, IsWithin}
+use Rattle.demo_clean.proofs.event_laws_proofs.Lengths.{have_written}
+use Rattle.demo_clean.proofs.event_laws_proofs.Targets.{IsOver, same_count}
+use Rattle.demo_clean.proofs.event_laws_proofs.Written.{written_in, written_out}
 use Rattle.net_model.specs.declared.fill.Fill.{Fill}
 use Rattle.net_model.specs.Block.{Maps, act, act_arms, act_first, act_other, acts, arm_bits, arms_late, arms_write, begun, bit_after, block_bit, digit_writes, filled_case, fresh, item_meets, joined_arms, some_meets, with_bits, write_each, write_next, write_now}
 use Rattle.net_model.specs.Numbers.{AreNumbers, bit, digits, fill_bit}
-use Rattle.net_laws.proofs.Depends.{with_wide, writes_within}
-use Rattle.net_laws.proofs.Digits.{digits_size}
-use Rattle.net_laws.proofs.Known.{both}
-use Rattle.net_laws.proofs.Numeric.{IsNumeric, body_numeric}
-use Rattle.net_laws.proofs.Parts.{Gives, GivesItems, fallback_gives, first_gives, item_gives, items_give, later_give, other_gives, others_give, taken_gives}
-use Rattle.net_solve.proofs.Digits.{AgreeOn, same_digits}
+use Rattle.demo_clean.proofs.net_laws_proofs.Depends.{with_wide, writes_within}
+use Rattle.demo_clean.proofs.net_laws_proofs.Digits.{digits_size}
+use Rattle.demo_clean.proofs.net_laws_proofs.Known.{both}
+use Rattle.demo_clean.proofs.net_laws_proofs.Numeric.{IsNumeric, body_numeric}
+use Rattle.demo_clean.proofs.net_laws_proofs.Parts.{Gives, GivesItems, fallback_gives, first_gives, item_gives, items_give, later_give, other_gives, others_give, taken_gives}
+use Rattle.demo_clean.proofs.net_solve_proofs.Digits.{AgreeOn, same_digits}
 use Rattle.demo_laws.proofs.Complete.{complete_meets}
 use Rattle.demo_laws.proofs.Reading.{SameItems, all_may, on_left, on_right, same_items, same_some, same_writes, target_over}
 use Rattle.demo_laws.proofs.Sure.{AllRead, AllSure, Reads, ReadsWays, action_sure, past_reads, past_sure, ways_read, ways_sure}

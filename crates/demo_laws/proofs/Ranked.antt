@@ -8,10 +8,10 @@ use Rattle.rtl_flat.specs.Levels.{Chain, HasNoEdge, Here, IsNode, Then}
 use Rattle.rtl_flat.specs.Process.{Task}
 use Rattle.event_model.specs.Queue.{Flat}
 use Rattle.event_model.specs.Writes.{put}
-use Rattle.event_laws.proofs.Lengths.{put_at, put_other}
-use Rattle.net_order.specs.Order.{IsCyclic}
-use Rattle.net_solve.specs.Feeds.{IsFeed}
-use Rattle.net_solve.specs.Laws.{Ascends}
+use Rattle.demo_clean.proofs.event_laws_proofs.Lengths.{put_at, put_other}
+use Rattle.demo_clean.specs.net_order.Order.{IsCyclic}
+use Rattle.demo_clean.specs.net_solve.Feeds.{IsFeed}
+use Rattle.demo_clean.specs.net_solve.Laws.{Ascends}
 use Rattle.demo_laws.proofs.Stable.{Decides, NotNot, decided}
 
 -- the last arrow of a chain

@@ -18,17 +18,17 @@ use Rattle.rtl_flat.specs.WellFormed.{AreBranches, IsSelection}
 use Rattle.event_model.specs.Queue.{Flat, widths}
 use Rattle.event_model.specs.Traces.{covers}
 use Rattle.event_model.specs.Writes.{Values, bit_inside, count_of, counts, write_at}
-use Rattle.event_laws.specs.Steady.{HaveWidths, IsWithin}
-use Rattle.event_laws.proofs.Agreement.{value_agrees}
-use Rattle.event_laws.proofs.Inside.{AreSelections, at_most}
-use Rattle.event_laws.proofs.Sizes.{selected_length}
-use Rattle.event_laws.proofs.Targets as target
-use Rattle.event_laws.proofs.Targets.{IsOver, left_within, none_over, right_within}
+use Rattle.demo_clean.specs.event_laws.Steady.{HaveWidths, IsWithin}
+use Rattle.demo_clean.proofs.event_laws_proofs.Agreement.{value_agrees}
+use Rattle.demo_clean.proofs.event_laws_proofs.Inside.{AreSelections, at_most}
+use Rattle.demo_clean.proofs.event_laws_proofs.Sizes.{selected_length}
+use Rattle.demo_clean.proofs.event_laws_proofs.Targets as target
+use Rattle.demo_clean.proofs.event_laws_proofs.Targets.{IsOver, left_within, none_over, right_within}
 use Rattle.net_model.specs.declared.fill.Fill.{Fill}
 use Rattle.net_model.specs.Block.{digit_writes, item_meets, some_meets, span_by}
 use Rattle.net_model.specs.Numbers.{digits, is_literal, label_digits, label_meets}
-use Rattle.net_laws.proofs.Known.{both}
-use Rattle.net_solve.proofs.Digits.{AgreeOn, same_digits}
+use Rattle.demo_clean.proofs.net_laws_proofs.Known.{both}
+use Rattle.demo_clean.proofs.net_solve_proofs.Digits.{AgreeOn, same_digits}
 
 pub on_left : (n m : Values) (a b : BitSet) → AgreeOn n m (either a b) → AgreeOn n m a
 on_left n m a b same i k is = same i k (or_left (a i k) (b i k) is)

@@ -3,18 +3,18 @@ use Rattle.std.specs.Prelude.{IsTrue}
 use Rattle.std.proofs.Common.{◌≡◌, ◌∙◌, ◌⊎◌, ◌<◌, ℕ, List, length, refl, sym, ap, subst, inl, inr, arith}
 use Rattle.rtl_bits.specs.declared.Bit.{Bit}
 use Rattle.event_model.specs.Queue.{is_input}
-use Rattle.net_start.proofs.Listed.{all_same}
+use Rattle.demo_clean.proofs.net_start_proofs.Listed.{all_same}
 use Rattle.rtl_rule.specs.Parts.{Parts}
 use Rattle.demo_trials.specs.Trials.{step_count}
 use Rattle.demo_told.specs.declared.demo.Demo.{Demo}
 use Rattle.demo_told.specs.declared.demo.Shown.{Shown}
-use Rattle.demo_replay.specs.declared.fault.Part.{Part}
-use Rattle.demo_replay.specs.declared.fault.Part.TheVariants as part
-use Rattle.demo_replay.specs.declared.fault.ReplayFault.{ReplayFault}
-use Rattle.demo_replay.specs.declared.fault.ReplayFault.TheVariants.{Illegal, NoNetlist, Unsettled, Same, Memory}
-use Rattle.demo_replay.specs.Replays.{Gives, IsIllegal, IsLegal, IsNoStep, IsReplayFault, IsReplayed, IsStep, IsUnsettled}
-use Rattle.demo_replay.specs.Runs.{IsStuck, Reaches}
-use Rattle.demo_replay.specs.Setups.{Setup, flat_of}
+use Rattle.demo_clean.specs.demo_replay.declared.fault.Part.{Part}
+use Rattle.demo_clean.specs.demo_replay.declared.fault.Part.TheVariants as part
+use Rattle.demo_clean.specs.demo_replay.declared.fault.ReplayFault.{ReplayFault}
+use Rattle.demo_clean.specs.demo_replay.declared.fault.ReplayFault.TheVariants.{Illegal, NoNetlist, Unsettled, Same, Memory}
+use Rattle.demo_clean.specs.demo_replay.Replays.{Gives, IsIllegal, IsLegal, IsNoStep, IsReplayFault, IsReplayed, IsStep, IsUnsettled}
+use Rattle.demo_clean.specs.demo_replay.Runs.{IsStuck, Reaches}
+use Rattle.demo_clean.specs.demo_replay.Setups.{Setup, flat_of}
 use Rattle.demo_laws.proofs.Firsts.{lacks_none, setup_once, stuck_once}
 use Rattle.demo_laws.proofs.Trials.{not_behind, reach_once}
 use Rattle.demo_laws.specs.Laws.{AreProcesses}

@@ -6,8 +6,8 @@ use Rattle.rtl_bits.specs.declared.Bit.{Bit}
 use Rattle.rtl_bits.specs.declared.Bit.TheVariants.{Zero, One, X, Z}
 use Rattle.rtl_bits.specs.Bits.{same_bit}
 use Rattle.event_model.specs.Writes.{put}
-use Rattle.event_laws.proofs.Lengths.{put_at, put_other}
-use Rattle.event_laws.proofs.Unheard.{same_bits}
+use Rattle.demo_clean.proofs.event_laws_proofs.Lengths.{put_at, put_other}
+use Rattle.demo_clean.proofs.event_laws_proofs.Unheard.{same_bits}
 
 abbrev pub NotNot : Type 0 → Type 0
 NotNot A = (A → ⊥) → ⊥

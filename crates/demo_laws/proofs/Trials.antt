@@ -13,24 +13,24 @@ use Rattle.event_model.specs.Queue.{Flat, State, offer, settled_at}
 use Rattle.event_model.specs.Writes.{Values}
 use Rattle.event_once.specs.Laws.{AgreeBelow}
 use Rattle.event_once.proofs.Laws.{end_or_stop, one_end, one_level}
-use Rattle.event_queue.specs.Offers.{set_of}
+use Rattle.demo_clean.specs.event_queue.Offers.{set_of}
 use Rattle.net_model.specs.Cycle as cycle
 use Rattle.net_model.specs.Solution.{IsLasting}
-use Rattle.net_list.specs.Chosen.{chains_of}
-use Rattle.net_rest.specs.Rest.{AreAlike}
-use Rattle.net_settle.specs.Settle.{IsSolved, setting_view}
-use Rattle.netlist_eval.specs.declared.step.Step.{Step}
-use Rattle.netlist_eval.specs.declared.step.Step.TheVariants.{Data, Turn}
-use Rattle.netlist_eval.specs.Steps.{IsStepOf, step_view}
+use Rattle.demo_clean.specs.net_list.Chosen.{chains_of}
+use Rattle.demo_clean.specs.net_rest.Rest.{AreAlike}
+use Rattle.demo_clean.specs.net_settle.Settle.{IsSolved, setting_view}
+use Rattle.demo_clean.specs.netlist_eval.declared.step.Step.{Step}
+use Rattle.demo_clean.specs.netlist_eval.declared.step.Step.TheVariants.{Data, Turn}
+use Rattle.demo_clean.specs.netlist_eval.Steps.{IsStepOf, step_view}
 use Rattle.rtl_rule.specs.Parts.{Parts}
-use Rattle.rtl_scan.specs.Arrows.{Among}
+use Rattle.demo_clean.specs.rtl_scan.Arrows.{Among}
 use Rattle.demo_trials.specs.Steps.{Input, step_of}
 use Rattle.demo_trials.specs.Trials.{fill_of, policy_of}
-use Rattle.demo_replay.specs.Setups.{HasNetlist, IsSetup, Setup, first_value}
-use Rattle.demo_replay.specs.Runs.{AreTaken, Begun, GoOn, IsAfter, IsFirstState, IsStuck, Moment, Reaches, Rests, Stepped, Stops, input_of, settings_of}
+use Rattle.demo_clean.specs.demo_replay.Setups.{HasNetlist, IsSetup, Setup, first_value}
+use Rattle.demo_clean.specs.demo_replay.Runs.{AreTaken, Begun, GoOn, IsAfter, IsFirstState, IsStuck, Moment, Reaches, Rests, Stepped, Stops, input_of, settings_of}
 use Rattle.demo_laws.proofs.Cycles.{alike_list, begun_once, cycle_once, input_lasts}
 use Rattle.demo_laws.proofs.Stable.{list_stable}
-use Rattle.demo_replay.specs.Setups.{flat_of}
+use Rattle.demo_clean.specs.demo_replay.Setups.{flat_of}
 use Rattle.demo_laws.specs.Laws.{AreProcesses}
 
 -- ---- steps of a netlist

@@ -11,7 +11,7 @@ use Rattle.net_model.specs.declared.fill.Fill.{Fill}
 use Rattle.net_model.specs.Block.{block_bit}
 use Rattle.net_model.specs.Numbers.{AreNumbers}
 use Rattle.net_model.specs.Solution.{IsLasting}
-use Rattle.net_rest.specs.Rest.{AreAlike}
+use Rattle.demo_clean.specs.net_rest.Rest.{AreAlike}
 
 -- what the function of a body gives to a bit that lasts depends on bits that last alone, where the
 -- body reads no other outside and may write no other late

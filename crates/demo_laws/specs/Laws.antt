@@ -7,10 +7,10 @@ use Rattle.rtl_rule.specs.declared.finding.Finding.{Finding}
 use Rattle.rtl_rule.specs.Parts.{Parts}
 use Rattle.demo_told.specs.declared.demo.Demo.{Demo}
 use Rattle.demo_told.specs.declared.demo.Shown.{Shown}
-use Rattle.demo_replay.specs.declared.fault.ReplayFault.{ReplayFault}
-use Rattle.demo_replay.specs.declared.fault.ReplayFault.TheVariants.{Memory}
-use Rattle.demo_replay.specs.Firsts.{IsFirst, Told}
-use Rattle.demo_replay.specs.Replays.{IsReplayFault, IsReplayed}
+use Rattle.demo_clean.specs.demo_replay.declared.fault.ReplayFault.{ReplayFault}
+use Rattle.demo_clean.specs.demo_replay.declared.fault.ReplayFault.TheVariants.{Memory}
+use Rattle.demo_clean.specs.demo_replay.Firsts.{IsFirst, Told}
+use Rattle.demo_clean.specs.demo_replay.Replays.{IsReplayFault, IsReplayed}
 
 -- the processes of a design are what the processes of every one are
 abbrev pub AreProcesses : Parts → Type 0

@@ -1,2 +1,4 @@
 pub mod Lasting
 pub mod Laws
+-- passed on to the crates above
+pub use Rattle.demo_clean.specs.demo_replay

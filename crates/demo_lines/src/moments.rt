@@ -3,12 +3,12 @@
 ghost use Rattle.std.specs.Prelude.{◌≡◌};
 ghost use Rattle.demo_lines.specs.declared.moments.Stop.TheVariants as stop;
 
+use demo_replay::net_start::stored::{stored, top_inputs};
 use demo_replay::{ReplayFault, replay};
 use demo_told::{Demo, Shown};
 use desk_demo::read_file;
 use desk_report::push_value;
 use itoa::Buffer;
-use net_start::stored::{stored, top_inputs};
 use rtl_bits::Vec4;
 use rtl_flat::design::Design;
 use rtl_flat::expr::SigId;

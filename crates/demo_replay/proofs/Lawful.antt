@@ -18,10 +18,10 @@ use Rattle.event_queue.specs.Offers.{AreAllowed}
 use Rattle.net_model.specs.Control.{IsControl}
 use Rattle.net_model.specs.Lawful.{IsSetting, SetsData, TurnsControl}
 use Rattle.net_model.specs.Numbers.{AreNumbers}
-use Rattle.rtl_scan.specs.Arrows.{Among}
+use Rattle.event_queue.specs.rtl_scan.Arrows.{Among}
 use Rattle.netlist_eval.specs.declared.step.Step.{Step}
 use Rattle.netlist_eval.specs.declared.step.Step.TheVariants.{Data, Turn}
-use Rattle.net_settle.specs.Settle.{setting_view}
+use Rattle.netlist_eval.specs.net_settle.Settle.{setting_view}
 use Rattle.netlist_eval.specs.Steps.{IsLawful, IsStepOf}
 use Rattle.demo_trials.specs.declared.input.Input.{Input as Made}
 use Rattle.demo_trials.specs.Fitting.{AreInputsKnown, AreSettingsKnown, InputsMeet, SettingsMeet}

@@ -6,14 +6,14 @@ use Rattle.std.proofs.lemmas.Bool.{cases_eq, eq-eqb, eqb-true, false≢true, or_
 use Rattle.std.proofs.lemmas.List.{length-replicate}
 use Rattle.rtl_flat.specs.Process.{Task}
 use Rattle.rtl_rule.specs.Parts.{Parts, has_some, widths, written}
-use Rattle.rtl_scan.specs.declared.bits.Row.{Row}
-use Rattle.rtl_scan.specs.Arrows.{Among}
-use Rattle.rtl_scan.specs.Sets.{IsInOrder, has_rows}
-use Rattle.rtl_scan.specs.Usage.{has_row_of}
-use Rattle.check_assign.specs.Assigned.{is_clocked}
-use Rattle.check_clocks.specs.Tops.{AreMarkedAlso}
-use Rattle.check_found.proofs.Inside.{written_inside}
-use Rattle.check_found.proofs.Signals.{AreRows, row_below, rows_have_some}
+use Rattle.event_queue.specs.rtl_scan.declared.bits.Row.{Row}
+use Rattle.event_queue.specs.rtl_scan.Arrows.{Among}
+use Rattle.event_queue.specs.rtl_scan.Sets.{IsInOrder, has_rows}
+use Rattle.event_queue.specs.rtl_scan.Usage.{has_row_of}
+use Rattle.infer_latches.specs.check_assign.Assigned.{is_clocked}
+use Rattle.netlist_eval.specs.check_clocks.Tops.{AreMarkedAlso}
+use Rattle.infer_latches.proofs.check_found_proofs.Inside.{written_inside}
+use Rattle.infer_latches.proofs.check_found_proofs.Signals.{AreRows, row_below, rows_have_some}
 use Rattle.demo_replay.specs.Tables.{AreClockedBelow, MarksWritten, WritesBelow, is_marked}
 
 -- ---- marks

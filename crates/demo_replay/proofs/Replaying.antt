@@ -5,7 +5,7 @@ use Rattle.std.specs.Result.{IsErrAnd}
 use Rattle.rtl_rule.specs.Parts.{parts}
 use Rattle.event_model.specs.Queue.{flat, is_input}
 use Rattle.event_queue.specs.Sims.{state_of}
-use Rattle.net_start.proofs.Listed.{all_same}
+use Rattle.netlist_eval.proofs.net_start_proofs.Listed.{all_same}
 use Rattle.netlist_eval.specs.Sims.{shown}
 use Rattle.demo_told.specs.declared.demo.Demo.{Demo}
 use Rattle.demo_told.specs.declared.demo.Shown.{Shown}

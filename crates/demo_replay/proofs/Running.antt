@@ -9,12 +9,12 @@ use Rattle.event_model.specs.declared.setting.Setting.{Setting}
 use Rattle.event_model.specs.Policies.{IsDone, IsTooDear, budget}
 use Rattle.event_model.specs.Queue.{Flat, flat, offer}
 use Rattle.event_model.specs.Writes.{Values}
-use Rattle.event_write.specs.QueueState.{design_of as design_in}
+use Rattle.event_queue.specs.event_write.QueueState.{design_of as design_in}
 use Rattle.event_queue.specs.declared.sim.EventSim.{EventSim}
 use Rattle.event_queue.specs.Offers.{set_of}
 use Rattle.event_queue.specs.Sims.{IsSame, Runs, flat_of, left_of, level_of, state_of}
-use Rattle.net_list.specs.declared.netlist.Netlist.{Netlist}
-use Rattle.net_list.specs.Chosen.{chains_of}
+use Rattle.infer_latches.specs.net_list.declared.netlist.Netlist.{Netlist}
+use Rattle.infer_latches.specs.net_list.Chosen.{chains_of}
 use Rattle.net_model.specs.declared.fill.Fill.{Fill}
 use Rattle.net_model.specs.Cycle.{IsCycle}
 use Rattle.net_model.specs.Numbers.{AreNumbers}

@@ -16,12 +16,12 @@ use Rattle.rtl_flat.specs.Signs.{Has, width_in}
 use Rattle.rtl_flat.specs.Value.{store}
 use Rattle.event_model.specs.Queue.{Flat, flat, widths}
 use Rattle.event_model.specs.Writes.{Values}
-use Rattle.event_write.specs.Stored.{AreStored}
+use Rattle.event_queue.specs.event_write.Stored.{AreStored}
 use Rattle.net_model.specs.Numbers.{AreNumbers}
 use Rattle.net_model.specs.Solution.{IsLasting}
-use Rattle.net_start.specs.Start.{AreKnown, IsFirstUnknown}
-use Rattle.net_start.specs.Stored.{AreStored as AreKept, AreInputs, places}
-use Rattle.rtl_scan.specs.Arrows.{Among}
+use Rattle.netlist_eval.specs.net_start.Start.{AreKnown, IsFirstUnknown}
+use Rattle.netlist_eval.specs.net_start.Stored.{AreStored as AreKept, AreInputs, places}
+use Rattle.event_queue.specs.rtl_scan.Arrows.{Among}
 use Rattle.event_model.proofs.Active.{signal_there}
 use Rattle.demo_trials.specs.Trials.{start_of}
 use Rattle.rtl_rule.specs.Parts.{Parts}

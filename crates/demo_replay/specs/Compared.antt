@@ -9,8 +9,8 @@ use Rattle.rtl_rule.specs.declared.finding.Finding.{Finding}
 use Rattle.rtl_rule.specs.declared.rule.Rule.{Rule}
 use Rattle.rtl_rule.specs.declared.rule.Rule.TheVariants.{NeverWakes}
 use Rattle.rtl_rule.specs.Parts.{Parts}
-use Rattle.check_assign.specs.Assigned.{is_clocked}
-use Rattle.check_chains.specs.Chains.{IsRegisterOf}
+use Rattle.infer_latches.specs.check_assign.Assigned.{is_clocked}
+use Rattle.infer_latches.specs.check_chains.Chains.{IsRegisterOf}
 use Rattle.demo_replay.specs.Setups.{flat_of}
 
 -- a finding on a list that never wakes its process: nothing but power-up shows it

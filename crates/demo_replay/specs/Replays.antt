@@ -6,7 +6,7 @@ use Rattle.rtl_flat.specs.PathSets.{IsTemporary}
 use Rattle.event_model.specs.Queue.{State}
 use Rattle.event_model.specs.Writes.{Values}
 use Rattle.net_model.specs.Solution.{IsLasting}
-use Rattle.net_start.specs.Stored.{AreInputs}
+use Rattle.netlist_eval.specs.net_start.Stored.{AreInputs}
 use Rattle.rtl_rule.specs.Parts.{Parts}
 use Rattle.demo_trials.specs.Trials.{step_count}
 use Rattle.demo_told.specs.declared.demo.Demo.{Demo}

@@ -7,10 +7,10 @@ use Rattle.rtl_bits.specs.declared.Bit.TheVariants.{Zero}
 use Rattle.rtl_flat.specs.declared.signal.Signal.{Signal}
 use Rattle.event_model.specs.Queue.{Flat, widths}
 use Rattle.net_model.specs.Control.{IsControl}
-use Rattle.net_list.specs.Faults.{AreAlone, AreFormed, IsContended, IsShapeless}
-use Rattle.net_order.specs.Order.{IsCyclic}
+use Rattle.infer_latches.specs.net_list.Faults.{AreAlone, AreFormed, IsContended, IsShapeless}
+use Rattle.netlist_eval.specs.net_order.Order.{IsCyclic}
 use Rattle.netlist_eval.specs.Steps.{HasNoCycle}
-use Rattle.net_start.specs.Stored.{AreInputs, AreStored}
+use Rattle.netlist_eval.specs.net_start.Stored.{AreInputs, AreStored}
 use Rattle.rtl_rule.specs.Parts.{Parts}
 use Rattle.demo_trials.specs.Trials.{start_of}
 

@@ -6,10 +6,10 @@ ghost use Rattle.demo_replay.specs.Compared.{is_unwoken};
 ghost use Rattle.demo_replay.specs.Tables.{AreClocked, AreClockedBelow, MarksWritten, compared, first_among, is_compared_for_some, is_marked, is_own, is_watched, skips};
 
 use crate::setup::{Setup, is_marked};
-use check_clocks::tops::mark_all;
-use check_found::sets::written;
 use demo_told::Shown;
-use net_list::clocked::waits;
+use infer_latches::check_found::sets::written;
+use infer_latches::net_list::clocked::waits;
+use netlist_eval::check_clocks::tops::mark_all;
 use rtl_flat::act::ProcId;
 use rtl_flat::design::Design;
 use rtl_flat::expr::SigId;

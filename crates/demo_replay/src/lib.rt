@@ -15,3 +15,6 @@ pub use crate::fault::{Part, ReplayFault};
 pub use crate::firsts::{attach, attach_all};
 pub use crate::replays::replay;
 pub use demo_told::{Demo, Shown};
+
+// Passed on to the crates above.
+pub use netlist_eval::net_start;

@@ -15,10 +15,10 @@ use crate::run::{Progress, Run};
 use crate::setup::{Setup, is_marked};
 use demo_told::{Demo, Shown};
 use demo_trials::Trial;
-use net_start::stored::top_inputs;
+use event_queue::rtl_scan::temporaries;
+use netlist_eval::net_start::stored::top_inputs;
 use rtl_flat::design::Design;
 use rtl_flat::expr::SigId;
-use rtl_scan::temporaries;
 use rtl_tree::memory::Memory;
 use std::alloc::Global;
 

@@ -3,3 +3,5 @@ pub mod Finds
 pub mod InOrder
 pub mod Kept
 pub mod Whole
+-- passed on to the crates above
+pub use Rattle.desk_memo.proofs.desk_verdict_proofs

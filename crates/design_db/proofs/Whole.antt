@@ -7,7 +7,7 @@ use Rattle.std.proofs.lemmas.List.Elements.{All-contains, All-contains_itself, A
 use Rattle.rtl_tree.specs.TreeModule.{Circuit}
 use Rattle.rtl_tree.specs.declared.text.TheConstants.{MAX_BYTES}
 use Rattle.rtl_tree.specs.declared.tree.modules.Module.{Module}
-use Rattle.elab_links.specs.Modules.{circuits_of}
+use Rattle.desk_memo.specs.elab_links.Modules.{circuits_of}
 use Rattle.desk_files.specs.Shown.{list_of}
 use Rattle.desk_files.specs.Sources.{with_file, without_file}
 use Rattle.desk_files.specs.declared.files.Files.{Files}

@@ -1,12 +1,12 @@
 -- The files of the desk with what was read of them and the rulings: what contracts see.
--- Worked examples: proofs/Example.antt, crates/tests_exchanges/src/rows.rt.
+-- Worked examples: proofs/Example.antt, crates/tests_desk/src/rows.rt.
 use Rattle.std.specs.Prelude.{ℕ, ◌==◌, List, ◌++◌, Option, Some, None, if◌then◌else◌, option_to_list, Vec}
 use Rattle.std.specs.List.{All}
 use Rattle.std.specs.Option.{option_and_then}
 use Rattle.std.specs.declared.alloc.Global.{Global}
 use Rattle.rtl_tree.specs.TreeModule.{Circuit}
 use Rattle.rtl_tree.specs.declared.tree.modules.Module.{Module}
-use Rattle.elab_links.specs.Modules.{circuits_of}
+use Rattle.desk_memo.specs.elab_links.Modules.{circuits_of}
 use Rattle.desk_files.specs.declared.files.SourceFile.{SourceFile}
 use Rattle.desk_memo.specs.Orders.{AreInOrder, AreShort}
 use Rattle.desk_memo.specs.declared.answer.Answer.{Answer}

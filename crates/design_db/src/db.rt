@@ -14,10 +14,10 @@ ghost use Rattle.desk_memo.specs.Shown.{AreChecked, absent_of, all_of, rulings_o
 ghost use Rattle.design_db.specs.Stores.{all_rulings, answer_of, changed_in, circuits_in, lasting_answer, reached_in, refusal_or};
 
 use desk_files::{Files, Ready, SourceFile};
+use desk_memo::elab_links::module_set::ModuleSet;
 use desk_memo::law::still_fresh;
 use desk_memo::reading_law::{all_refused, all_spelled, one_list};
 use desk_memo::{Answer, Kept, Memo, Readings};
-use elab_links::module_set::ModuleSet;
 use rtl_tree::memory::Memory;
 use rtl_tree::text::Text;
 use std::alloc::Global;

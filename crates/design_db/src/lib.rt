@@ -6,3 +6,6 @@ mod db;
 pub use db::Db;
 pub use desk_files::{Ready, SourceFile};
 pub use desk_memo::Answer;
+
+// Passed on to the crates above.
+pub use desk_memo::desk_verdict;

@@ -1,1 +1,3 @@
 pub mod Spelled
+-- passed on to the crates above
+pub use Rattle.rtl_elab.proofs as rtl_elab_proofs

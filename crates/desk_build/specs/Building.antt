@@ -5,8 +5,8 @@ use Rattle.rtl_tree.specs.TreeModule.{Circuit}
 use Rattle.rtl_front.specs.declared.fault.FileFault.{FileFault}
 use Rattle.rtl_front.specs.declared.fault.SourceFault.TheVariants as source
 use Rattle.rtl_front.specs.Fronts.{AreRead, IsFirstFaulty}
-use Rattle.elab_scope.specs.Faults.{Answer}
-use Rattle.elab_flat.specs.Flats.{DesignParts}
+use Rattle.desk_refusals.specs.elab_scope.Faults.{Answer}
+use Rattle.rtl_elab.specs.elab_flat.Flats.{DesignParts}
 use Rattle.rtl_elab.specs.Designs.{flat_in, library_of}
 use Rattle.rtl_elab.specs.Elaborated.{elaborated}
 use Rattle.desk_places.specs.Places.{Source}

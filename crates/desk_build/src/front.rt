@@ -4,9 +4,9 @@ ghost use Rattle.std.specs.Prelude.{◌≡◌, ◌≢◌, ◌≤◌, ◌<◌, Li
 ghost use Rattle.rtl_tree.specs.TreeModule.{Circuit};
 ghost use Rattle.std.specs.List.{All};
 ghost use Rattle.rtl_tree.specs.declared.text.TheConstants.{MAX_BYTES};
-ghost use Rattle.elab_scope.specs.Faults.{answer};
-ghost use Rattle.elab_links.specs.Modules.{circuits_of};
-ghost use Rattle.elab_walk.specs.Trails.{IsTold};
+ghost use Rattle.desk_refusals.specs.elab_scope.Faults.{answer};
+ghost use Rattle.rtl_elab.specs.elab_links.Modules.{circuits_of};
+ghost use Rattle.rtl_elab.specs.elab_walk.Trails.{IsTold};
 ghost use Rattle.rtl_elab.specs.Designs.{flat_in, library_of};
 ghost use Rattle.rtl_elab.specs.Elaborated.{elaborated, refused};
 ghost use Rattle.rtl_front.specs.Fronts.{AreRead, IsFirstFaulty};
@@ -14,9 +14,9 @@ ghost use Rattle.desk_places.specs.Places.{sources_of};
 ghost use Rattle.desk_build.specs.Building.{IsBuilt, built, elaborated_or_not};
 
 use desk_places::sources::Sources;
+use desk_refusals::elab_scope::fault::ElabFault;
 use desk_refusals::{design_refusal, source_refusal};
-use elab_links::module_set::ModuleSet;
-use elab_scope::fault::ElabFault;
+use rtl_elab::elab_links::module_set::ModuleSet;
 use rtl_elab::whole::elaborate;
 use rtl_flat::design::Design;
 use rtl_front::{SourceFault, read_files};

@@ -5,8 +5,8 @@ use Rattle.std.proofs.KnownBytes.{Appends-nil}
 use Rattle.desk_io.specs.declared.failed.Failed.{Failed}
 use Rattle.desk_tables.specs.Tables.{Kept}
 use Rattle.desk_links.specs.Doors.{IsSameVisits, Opens, Tells, Visits, with_port}
-use Rattle.desk_core.specs.Machine.{Machine}
-use Rattle.desk_core.specs.Starting.{IsStart}
+use Rattle.desk_server.specs.desk_core.Machine.{Machine}
+use Rattle.desk_server.specs.desk_core.Starting.{IsStart}
 use Rattle.desk_server.specs.Exchanges.{Around, around}
 use Rattle.desk_command.specs.Commands.{IsLinked, IsServed, IsServing, Opened, taken_between}
 use Rattle.desk_command.proofs.Started.{over_tables}

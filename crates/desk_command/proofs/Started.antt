@@ -2,9 +2,9 @@
 use Rattle.std.proofs.Common.{ℕ, Option, Ok, Err, subst}
 use Rattle.desk_tables.specs.Tables.{Kept}
 use Rattle.desk_tables.specs.declared.rows.Table.{Table}
-use Rattle.desk_core.specs.Machine.{Machine}
-use Rattle.desk_core.specs.Starting.{IsStart}
-use Rattle.desk_core.specs.declared.start.StartFault.TheVariants as fault
+use Rattle.desk_server.specs.desk_core.Machine.{Machine}
+use Rattle.desk_server.specs.desk_core.Starting.{IsStart}
+use Rattle.desk_server.specs.desk_core.declared.start.StartFault.TheVariants as fault
 use Rattle.desk_command.specs.Commands.{BadTables, IsUnstarted, OverTables, Taken, Writes, bad_tables}
 
 -- what holds of a started desk's tables is over those that the keeper tells

@@ -8,7 +8,7 @@ use Rattle.desk_tables.specs.Rules.{broken_row}
 use Rattle.desk_tables.specs.Tables.{Kept}
 use Rattle.desk_tables.specs.declared.rows.Table.{Table}
 use Rattle.desk_records.specs.Machine.{table_name}
-use Rattle.desk_core.specs.Reports.{IsTold, Telling}
+use Rattle.desk_server.specs.desk_core.Reports.{IsTold, Telling}
 use Rattle.desk_links.specs.Doors.{Tells, Visits, IsSameVisits, with_port}
 use Rattle.desk_server.specs.Exchanges.{Around, TakesDay}
 use Rattle.desk_server.specs.Servings.{ServesCount}

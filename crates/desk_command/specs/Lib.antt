@@ -1,2 +1,4 @@
 pub mod Words
 pub mod Commands
+-- passed on to the crates above
+pub use Rattle.desk_top.specs.event_queue

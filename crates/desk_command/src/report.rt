@@ -1,16 +1,16 @@
 // The command `report TOP`.
 ghost use Rattle.std.specs.Prelude.{◌≡◌, ◌≢◌, ◌<◌, ◌≤◌, ℕ, IfOk};
 ghost use Rattle.desk_io.specs.Causes.{Rose};
-ghost use Rattle.desk_core.specs.Reports.{IsTold, told_in};
+ghost use Rattle.desk_server.specs.desk_core.Reports.{IsTold, told_in};
 ghost use Rattle.desk_server.specs.Exchanges.{around};
 ghost use Rattle.desk_top.specs.declared.deliver.TheConstants.{UNREAD, UNWRITTEN};
 ghost use Rattle.desk_command.specs.Commands.{IsReport, IsReportOn, IsReported, report_outcome, taken_between};
 
 use crate::ending::{NO_DAY, deliver};
 use crate::starting::refuse;
-use desk_core::{Desk, TopReport};
 use desk_io::{Failed, Sink};
 use desk_links::Clock;
+use desk_server::desk_core::{Desk, TopReport};
 use desk_tables::{Day, Keeper};
 use desk_top::deliver::{DONE, NO_MEMORY, OPEN, REFUSED};
 use rtl_tree::memory::Memory;

@@ -7,9 +7,9 @@ ghost use Rattle.desk_command.specs.Commands.{IsEnded, IsLinked, IsServed, taken
 
 use crate::ending::NO_DOOR;
 use crate::starting::refuse;
-use desk_core::Desk;
 use desk_io::{Failed, Sink};
 use desk_links::{Clock, Door};
+use desk_server::desk_core::Desk;
 use desk_server::serve_links;
 use desk_tables::Keeper;
 use desk_top::deliver::DONE;

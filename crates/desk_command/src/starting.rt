@@ -3,13 +3,13 @@ ghost use Rattle.std.specs.Prelude.{◌≡◌, ◌≢◌, ◌≤◌, ◌++◌, �
 ghost use Rattle.desk_io.specs.Causes.{Rose};
 ghost use Rattle.desk_tables.specs.Tables.{Kept};
 ghost use Rattle.desk_records.specs.Machine.{table_name};
-ghost use Rattle.desk_core.specs.Starting.{IsStart};
+ghost use Rattle.desk_server.specs.desk_core.Starting.{IsStart};
 ghost use Rattle.desk_top.specs.declared.deliver.TheConstants.{UNREAD, UNWRITTEN};
 ghost use Rattle.desk_command.specs.Commands.{IsUnstarted, bad_tables, taken_between};
 
 use crate::ending::{BAD_TABLES, UNKEPT, deliver};
-use desk_core::StartFault;
 use desk_io::Sink;
+use desk_server::desk_core::StartFault;
 use desk_tables::Table;
 use desk_top::deliver::NO_MEMORY;
 use itoa::Buffer;

@@ -16,7 +16,7 @@ use Rattle.desk_tables.specs.Changes.{has_name}
 use Rattle.desk_tables.specs.declared.rows.FileRow.{FileRow}
 use Rattle.desk_files.specs.Sources.{is_before, is_named, place_of, with_file, with_file_at, with_file_by, without_file}
 use Rattle.desk_files.specs.declared.files.SourceFile.{SourceFile}
-use Rattle.desk_memo.specs.Orders.{AreInOrder}
+use Rattle.design_db.specs.desk_memo.Orders.{AreInOrder}
 use Rattle.desk_tables.specs.Changes.{changed}
 use Rattle.desk_tables.specs.Tables.{Kept}
 use Rattle.desk_tables.specs.declared.change.Change.{Change}

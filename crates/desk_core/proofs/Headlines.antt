@@ -4,13 +4,13 @@ use Rattle.std.specs.Prelude.{ℤ, nat_lt, Result, Ok, Err, if◌then◌else◌}
 use Rattle.std.proofs.lemmas.Bool.{cond-true}
 use Rattle.json.specs.Print.{escape_byte}
 use Rattle.rtl_tree.specs.TreeModule.{Circuit}
-use Rattle.elab_scope.specs.Faults.{Answer as Fault}
-use Rattle.elab_flat.specs.Flats.{DesignParts}
-use Rattle.elab_names.specs.Extracts.{extract}
-use Rattle.elab_names.specs.LookUps.{AreUsed}
-use Rattle.rtl_elab.specs.Designs.{library_of}
-use Rattle.rtl_elab.specs.Elaborated.{elaborated}
-use Rattle.desk_build.specs.Building.{AreSpelled, Front, IsFront, Modules, Faulty}
+use Rattle.design_db.specs.elab_scope.Faults.{Answer as Fault}
+use Rattle.design_db.specs.elab_flat.Flats.{DesignParts}
+use Rattle.design_db.specs.elab_names.Extracts.{extract}
+use Rattle.design_db.specs.elab_names.LookUps.{AreUsed}
+use Rattle.design_db.specs.rtl_elab.Designs.{library_of}
+use Rattle.design_db.specs.rtl_elab.Elaborated.{elaborated}
+use Rattle.design_db.specs.desk_build.Building.{AreSpelled, Front, IsFront, Modules, Faulty}
 use Rattle.desk_files.specs.declared.files.SourceFile.{SourceFile}
 use Rattle.desk_tables.specs.Changes.{reply_of}
 use Rattle.desk_tables.specs.Tables.{Kept}
@@ -28,9 +28,9 @@ use Rattle.desk_records.specs.Machine.{by_tables, change_outcome, full_refusal, 
 use Rattle.desk_records.specs.Outcomes.{Outcome, Told, Done, Open, kept_said}
 use Rattle.desk_rulings.specs.Rulings.{Verdict, has_first_grade, left_of, standing_of}
 use Rattle.desk_rulings.specs.SignOffs.{accepted, edited_by, findings_stand, rows_of, signoff_outcome, signoff_row, unless_edited}
-use Rattle.desk_memo.specs.Fresh.{IsOfDesign, IsOfFront, sources_at, texts_in}
-use Rattle.desk_memo.specs.declared.answer.Answer.{Answer}
-use Rattle.desk_memo.specs.declared.answer.Answer.TheVariants.{Ruled, Refused}
+use Rattle.design_db.specs.desk_memo.Fresh.{IsOfDesign, IsOfFront, sources_at, texts_in}
+use Rattle.design_db.specs.desk_memo.declared.answer.Answer.{Answer}
+use Rattle.design_db.specs.desk_memo.declared.answer.Answer.TheVariants.{Ruled, Refused}
 use Rattle.desk_core.specs.Files.{AreFilesOf}
 use Rattle.desk_core.specs.Headline.{IsNewSignOff, IsSignedClean, SaysClean}
 use Rattle.desk_core.specs.Outcomes.{IsJudged, IsJudgedFor, IsOutcome, IsSettled, judged_with, top_of, with_answer}

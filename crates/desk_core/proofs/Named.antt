@@ -6,9 +6,9 @@ use Rattle.std.proofs.lemmas.List.Elements.{All-cons, All-head, All-nil, All-tai
 use Rattle.rtl_tree.specs.declared.text.TheConstants.{MAX_BYTES}
 use Rattle.desk_files.specs.Sources.{is_named}
 use Rattle.desk_files.specs.declared.files.SourceFile.{SourceFile}
-use Rattle.desk_verdict.specs.declared.verdict.Verdict.{Verdict as Made}
+use Rattle.design_db.specs.desk_verdict.declared.verdict.Verdict.{Verdict as Made}
 use Rattle.desk_rulings.specs.Rulings.{Verdict}
-use Rattle.desk_memo.specs.Orders.{AreShort}
+use Rattle.design_db.specs.desk_memo.Orders.{AreShort}
 use Rattle.desk_core.specs.Reports.{files_named, verdict_in}
 
 -- ---- they are short where all files are

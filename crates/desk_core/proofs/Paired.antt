@@ -1,17 +1,17 @@
 -- Something is told of each finding of an answer.
 use Rattle.std.proofs.Common.{◌∙◌, List, ℕ, length, sym, ap}
 use Rattle.std.specs.Prelude.{Result, Ok, Err}
-use Rattle.elab_scope.specs.Faults.{Answer as Fault}
-use Rattle.elab_flat.specs.Flats.{DesignParts}
-use Rattle.elab_names.specs.Extracts.{extract}
-use Rattle.rtl_elab.specs.Designs.{library_of}
-use Rattle.rtl_elab.specs.Elaborated.{elaborated}
-use Rattle.desk_build.specs.Building.{Front, Modules, Faulty}
-use Rattle.desk_verdict.proofs.Said.{count_told}
+use Rattle.design_db.specs.elab_scope.Faults.{Answer as Fault}
+use Rattle.design_db.specs.elab_flat.Flats.{DesignParts}
+use Rattle.design_db.specs.elab_names.Extracts.{extract}
+use Rattle.design_db.specs.rtl_elab.Designs.{library_of}
+use Rattle.design_db.specs.rtl_elab.Elaborated.{elaborated}
+use Rattle.design_db.specs.desk_build.Building.{Front, Modules, Faulty}
+use Rattle.design_db.proofs.desk_verdict_proofs.Said.{count_told}
 use Rattle.desk_files.specs.declared.files.SourceFile.{SourceFile}
-use Rattle.desk_memo.specs.Fresh.{IsFresh, IsOfDesign, IsOfFront, sources_at}
-use Rattle.desk_memo.specs.declared.answer.Answer.{Answer}
-use Rattle.desk_memo.specs.declared.answer.Answer.TheVariants.{Ruled, Refused}
+use Rattle.design_db.specs.desk_memo.Fresh.{IsFresh, IsOfDesign, IsOfFront, sources_at}
+use Rattle.design_db.specs.desk_memo.declared.answer.Answer.{Answer}
+use Rattle.design_db.specs.desk_memo.declared.answer.Answer.TheVariants.{Ruled, Refused}
 use Rattle.desk_core.specs.Steps.{IsPaired}
 
 design_paired : (used : List SourceFile) (made : Result DesignParts Fault) (answer : Answer) → IsOfDesign used made answer → IsPaired answer

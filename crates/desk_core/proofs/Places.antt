@@ -3,7 +3,7 @@ use Rattle.std.proofs.Common.{◌≡◌, ◌∙◌, Bor, ℕ, ◌<◌, ◌+◌, 
 use Rattle.std.proofs.lemmas.List.{map-append, take_more}
 use Rattle.desk_places.specs.Places.{Source}
 use Rattle.desk_files.specs.declared.files.SourceFile.{SourceFile}
-use Rattle.desk_memo.specs.Fresh.{sources_in}
+use Rattle.design_db.specs.desk_memo.Fresh.{sources_in}
 use Rattle.desk_core.proofs.Named.{seen}
 
 abbrev source : SourceFile → Source

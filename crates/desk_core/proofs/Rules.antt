@@ -14,8 +14,8 @@ use Rattle.desk_records.specs.Machine.{request_outcome}
 use Rattle.desk_records.specs.Outcomes.{Outcome, Told, Done, Open}
 use Rattle.desk_sound.specs.Lawful.{ByTables, IsAccepted, IsLawful, SignedOff, Waived}
 use Rattle.desk_sound.proofs.RulesKept.{rules_kept}
-use Rattle.desk_memo.specs.declared.answer.Answer.{Answer}
-use Rattle.desk_memo.specs.declared.answer.Answer.TheVariants.{Ruled, Refused}
+use Rattle.design_db.specs.desk_memo.declared.answer.Answer.{Answer}
+use Rattle.design_db.specs.desk_memo.declared.answer.Answer.TheVariants.{Ruled, Refused}
 use Rattle.desk_core.specs.Reports.{verdict_in}
 use Rattle.desk_core.specs.Outcomes.{IsJudged, IsJudgedFor, IsOutcome, IsSettled, top_of, with_answer}
 use Rattle.desk_core.specs.Serving.{Accepted, Answered, IsServed, OutOfMemory, Served, Serves, Unavailable}

@@ -26,8 +26,8 @@ use Rattle.desk_records.specs.Outcomes.{Outcome, Told, Done, Open, kept_said}
 use Rattle.desk_rulings.specs.Grants.{asked_site, grant_unless, refused_at, waive_at, waive_outcome, waiver_row}
 use Rattle.desk_rulings.specs.Rulings.{Site, Verdict, left_of, standing_of}
 use Rattle.desk_rulings.specs.SignOffs.{accepted, edited_by, findings_stand, rows_of, signoff_outcome, signoff_row, unless_edited}
-use Rattle.desk_memo.specs.declared.answer.Answer.{Answer}
-use Rattle.desk_memo.specs.declared.answer.Answer.TheVariants.{Ruled, Refused}
+use Rattle.design_db.specs.desk_memo.declared.answer.Answer.{Answer}
+use Rattle.design_db.specs.desk_memo.declared.answer.Answer.TheVariants.{Ruled, Refused}
 use Rattle.desk_core.specs.Outcomes.{IsJudgedFor, IsOutcome, IsSettled, top_of, with_answer}
 use Rattle.desk_core.specs.Machine.{AreAccepted, is_accepted}
 use Rattle.desk_core.specs.Reports.{telling, verdict_in}

@@ -7,8 +7,8 @@ use Rattle.desk_tables.specs.Tables.{Kept}
 use Rattle.desk_requests.specs.declared.ask.Request.{Request}
 use Rattle.desk_records.specs.Outcomes.{outcome}
 use Rattle.desk_records.specs.declared.decision.Decision.{Decision}
-use Rattle.desk_memo.specs.Fresh.{IsFresh}
-use Rattle.desk_memo.specs.declared.answer.Answer.{Answer}
+use Rattle.design_db.specs.desk_memo.Fresh.{IsFresh}
+use Rattle.design_db.specs.desk_memo.declared.answer.Answer.{Answer}
 use Rattle.desk_core.specs.Files.{AreFilesOf}
 use Rattle.desk_core.specs.Outcomes.{IsJudgedFor, top_of, with_answer}
 use Rattle.desk_core.specs.Reports.{IsTold, telling, told_in}

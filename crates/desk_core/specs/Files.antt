@@ -1,5 +1,5 @@
 -- The files of the rows of the tables, in the order of their names.
--- Worked examples: crates/tests_exchanges/src/rows.rt.
+-- Worked examples: crates/tests_desk/src/rows.rt.
 use Rattle.std.specs.Prelude.{◌≡◌, ℕ, List, find}
 use Rattle.std.specs.Option.{option_map}
 use Rattle.desk_tables.specs.Changes.{has_name}
@@ -8,7 +8,7 @@ use Rattle.desk_tables.specs.declared.change.Change.TheVariants.{PutFile, DropFi
 use Rattle.desk_tables.specs.declared.rows.FileRow.{FileRow}
 use Rattle.desk_files.specs.Sources.{is_named, with_file, without_file}
 use Rattle.desk_files.specs.declared.files.SourceFile.{SourceFile}
-use Rattle.desk_memo.specs.Orders.{AreInOrder, AreShort}
+use Rattle.design_db.specs.desk_memo.Orders.{AreInOrder, AreShort}
 
 -- the file of a row
 abbrev pub source_of : FileRow → SourceFile

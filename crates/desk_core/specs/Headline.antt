@@ -1,17 +1,17 @@
 -- What a sign-off with the grade `clean` promises of its module.
--- Worked examples: crates/tests_exchanges/src/rows.rt.
+-- Worked examples: crates/tests_desk/src/rows.rt.
 use Rattle.std.specs.Prelude.{◌≡◌, ℕ, List, find, None, Ok}
 use Rattle.rtl_tree.specs.TreeModule.{Circuit}
 use Rattle.rtl_rule.specs.declared.finding.Finding.{Finding}
-use Rattle.check_all.specs.Findings.{AreAllFindings, IsClean}
-use Rattle.check_clean.specs.Promise.{IsPromised}
-use Rattle.elab_flat.specs.Flats.{DesignParts}
-use Rattle.elab_names.specs.Extracts.{extract}
-use Rattle.elab_names.specs.LookUps.{AreUsed}
-use Rattle.rtl_elab.specs.Designs.{library_of}
-use Rattle.rtl_elab.specs.Elaborated.{elaborated}
-use Rattle.desk_build.specs.Building.{AreSpelled}
-use Rattle.desk_verdict.specs.Verdicts.{parts_of, queue_of}
+use Rattle.design_db.specs.check_all.Findings.{AreAllFindings, IsClean}
+use Rattle.design_db.specs.check_clean.Promise.{IsPromised}
+use Rattle.design_db.specs.elab_flat.Flats.{DesignParts}
+use Rattle.design_db.specs.elab_names.Extracts.{extract}
+use Rattle.design_db.specs.elab_names.LookUps.{AreUsed}
+use Rattle.design_db.specs.rtl_elab.Designs.{library_of}
+use Rattle.design_db.specs.rtl_elab.Elaborated.{elaborated}
+use Rattle.design_db.specs.desk_build.Building.{AreSpelled}
+use Rattle.design_db.specs.desk_verdict.Verdicts.{parts_of, queue_of}
 use Rattle.desk_files.specs.declared.files.SourceFile.{SourceFile}
 use Rattle.desk_tables.specs.Tables.{Kept}
 use Rattle.desk_tables.specs.declared.rows.Grade.TheVariants.{Clean}
@@ -21,7 +21,7 @@ use Rattle.desk_requests.specs.declared.ask.Request.{Request}
 use Rattle.desk_requests.specs.declared.ask.Ask.TheVariants.{SignOff}
 use Rattle.desk_bodies.specs.Bodies.{granted_text}
 use Rattle.desk_records.specs.Machine.{is_to}
-use Rattle.desk_memo.specs.Fresh.{texts_in}
+use Rattle.design_db.specs.desk_memo.Fresh.{texts_in}
 use Rattle.desk_core.specs.Files.{AreFilesOf}
 
 -- the request asks for a sign-off of the module, and no reply is kept for it

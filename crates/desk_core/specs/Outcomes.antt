@@ -1,5 +1,5 @@
 -- What each request comes to, with what the files say where the tables alone don't settle it.
--- Worked examples: crates/tests_exchanges/src/rows.rt.
+-- Worked examples: crates/tests_desk/src/rows.rt.
 use Rattle.std.specs.Prelude.{◌≡◌, ℕ, ℤ, List, Option, Some, None, if◌then◌else◌}
 use Rattle.desk_files.specs.declared.files.SourceFile.{SourceFile}
 use Rattle.desk_tables.specs.Tables.{Kept}
@@ -13,9 +13,9 @@ use Rattle.desk_records.specs.Outcomes.{Outcome, Told, Done, Open}
 use Rattle.desk_rulings.specs.Grants.{waive_outcome}
 use Rattle.desk_rulings.specs.Rulings.{Verdict}
 use Rattle.desk_rulings.specs.SignOffs.{signoff_outcome}
-use Rattle.desk_memo.specs.Fresh.{IsFresh}
-use Rattle.desk_memo.specs.declared.answer.Answer.{Answer}
-use Rattle.desk_memo.specs.declared.answer.Answer.TheVariants.{Ruled, Refused}
+use Rattle.design_db.specs.desk_memo.Fresh.{IsFresh}
+use Rattle.design_db.specs.desk_memo.declared.answer.Answer.{Answer}
+use Rattle.design_db.specs.desk_memo.declared.answer.Answer.TheVariants.{Ruled, Refused}
 use Rattle.desk_core.specs.Files.{AreFilesOf}
 use Rattle.desk_core.specs.Reports.{Telling, telling, verdict_in}
 

@@ -1,16 +1,16 @@
 -- What is told of a module on a day.
--- Worked examples: crates/tests_exchanges/src/rows.rt.
+-- Worked examples: crates/tests_desk/src/rows.rt.
 use Rattle.std.specs.Prelude.{◌≡◌, ℕ, ℤ, Bool, true, false, find, List}
 use Rattle.std.specs.List.{filter_map}
 use Rattle.desk_report.specs.Reports.{report_text}
 use Rattle.desk_files.specs.Sources.{is_named}
 use Rattle.desk_files.specs.declared.files.SourceFile.{SourceFile}
 use Rattle.desk_tables.specs.Tables.{Kept}
-use Rattle.desk_verdict.specs.declared.verdict.Verdict.{Verdict as Made}
+use Rattle.design_db.specs.desk_verdict.declared.verdict.Verdict.{Verdict as Made}
 use Rattle.desk_rulings.specs.Rulings.{Verdict, left_of, standing_of}
-use Rattle.desk_memo.specs.Fresh.{IsFresh, sources_in}
-use Rattle.desk_memo.specs.declared.answer.Answer.{Answer}
-use Rattle.desk_memo.specs.declared.answer.Answer.TheVariants.{Ruled, Refused}
+use Rattle.design_db.specs.desk_memo.Fresh.{IsFresh, sources_in}
+use Rattle.design_db.specs.desk_memo.declared.answer.Answer.{Answer}
+use Rattle.design_db.specs.desk_memo.declared.answer.Answer.TheVariants.{Ruled, Refused}
 use Rattle.desk_core.specs.Files.{AreFilesOf}
 use Rattle.desk_core.specs.declared.report.TopReport.{TopReport}
 

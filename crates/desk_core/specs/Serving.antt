@@ -1,5 +1,5 @@
 -- What a request is answered, and what the tables are after it.
--- Worked examples: crates/tests_exchanges/src/rows.rt.
+-- Worked examples: crates/tests_desk/src/rows.rt.
 use Rattle.std.specs.Prelude.{◌≡◌, ◌≤◌, ◌==◌, ◌||◌, [], ℕ, ℤ, Bool, false, length, codes, ⊤}
 use Rattle.rtl_tree.specs.declared.text.TheConstants.{MAX_BYTES}
 use Rattle.desk_io.specs.Causes.{Rose}

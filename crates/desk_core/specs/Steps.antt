@@ -11,8 +11,8 @@ use Rattle.desk_tables.specs.declared.change.Change.{Change}
 use Rattle.desk_tables.specs.declared.change.Change.TheVariants.{PutFile, DropFile, Grant, Revoke, SignOff}
 use Rattle.desk_requests.specs.Replies.{Said}
 use Rattle.desk_records.specs.Outcomes.{kept_said}
-use Rattle.desk_memo.specs.declared.answer.Answer.{Answer}
-use Rattle.desk_memo.specs.declared.answer.Answer.TheVariants.{Ruled, Refused}
+use Rattle.design_db.specs.desk_memo.declared.answer.Answer.{Answer}
+use Rattle.design_db.specs.desk_memo.declared.answer.Answer.TheVariants.{Ruled, Refused}
 use Rattle.design_db.specs.Stores.{Store, answer_of}
 use Rattle.desk_core.specs.Serving.{no_memory, unavailable}
 use Rattle.desk_core.specs.declared.next.Next.{Next}

@@ -4,7 +4,7 @@ ghost use Rattle.desk_tables.specs.Tables.{kept_of};
 ghost use Rattle.desk_records.specs.Machine.{request_outcome};
 ghost use Rattle.desk_records.specs.Outcomes.{Open, outcome};
 ghost use Rattle.desk_rulings.specs.Rulings.{verdict_of};
-ghost use Rattle.desk_memo.specs.Orders.{AreShort};
+ghost use Rattle.design_db.specs.desk_memo.Orders.{AreShort};
 ghost use Rattle.design_db.specs.Stores.{answer_of};
 ghost use Rattle.desk_core.specs.Files.{AreFilesOf};
 ghost use Rattle.desk_core.specs.Machine.{KeepsAnswers};

@@ -3,18 +3,18 @@ use Rattle.std.proofs.Common.{◌≡◌, ◌∙◌, ℕ, List, [], ◌∷◌, co
 use Rattle.std.specs.Io.KnownBytes.{Appends}
 use Rattle.desk_io.specs.declared.shelf.ShelfFault.{ShelfFault}
 use Rattle.desk_io.specs.Shelf.{Files, reading}
-use Rattle.elab_flat.specs.Flats.{DesignParts}
-use Rattle.check_all.proofs.Alone.{alone}
+use Rattle.desk_top.specs.elab_flat.Flats.{DesignParts}
+use Rattle.desk_top.proofs.check_all_proofs.Alone.{alone}
 use Rattle.desk_places.specs.Places.{Source}
 use Rattle.desk_stages.specs.Stages.{stages_text}
 use Rattle.desk_steps.specs.Steps.{Steps, file_of}
 use Rattle.desk_top.specs.Answers.{IsAnswered, OverWorld}
 use Rattle.rtl_rule.specs.declared.finding.Finding.{Finding}
-use Rattle.demo_replay.specs.Firsts.{AreFirsts, told}
+use Rattle.demo_laws.specs.demo_replay.Firsts.{AreFirsts, told}
 use Rattle.demo_laws.specs.Laws.{AreProcesses}
-use Rattle.desk_build.specs.Building.{Built, Designed, IsBuilt, Refused}
-use Rattle.desk_verdict.specs.declared.verdict.TheConstants.{MAX_SHOWN}
-use Rattle.desk_verdict.specs.Verdicts.{parts_of}
+use Rattle.desk_top.specs.desk_build.Building.{Built, Designed, IsBuilt, Refused}
+use Rattle.desk_top.specs.desk_verdict.declared.verdict.TheConstants.{MAX_SHOWN}
+use Rattle.desk_top.specs.desk_verdict.Verdicts.{parts_of}
 use Rattle.desk_top.specs.Delivery.{Outcome}
 use Rattle.desk_top.specs.Outcome.{IsAnswer, IsDone, IsGenerated, IsJudged, IsOutcome, IsReplayIn, IsReplaying, IsRuled, IsRun, IsShownIn, IsSigned, IsSimulating, IsStaged, IsStepped, IsTried, World, generated_sources, generation_outcome, names_in, ruling_outcome, run}
 use Rattle.desk_top.specs.Texts.{named, texts_of}

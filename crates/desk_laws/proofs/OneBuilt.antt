@@ -6,7 +6,7 @@ use Rattle.rtl_front.specs.Fronts.{IsFirst, is_memory}
 use Rattle.rtl_front.proofs.Apart.{never_both}
 use Rattle.desk_places.specs.Places.{Source}
 use Rattle.desk_refusals.specs.Refusals.{source_line}
-use Rattle.desk_build.specs.Building.{Built, Front, IsBuilt, IsFront, Faulty, Modules, Refused, built_of}
+use Rattle.desk_top.specs.desk_build.Building.{Built, Front, IsBuilt, IsFront, Faulty, Modules, Refused, built_of}
 
 -- the texts settle the line that tells their fault
 abbrev pub OneLine : Type 0

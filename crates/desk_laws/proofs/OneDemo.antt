@@ -2,26 +2,26 @@
 use Rattle.std.proofs.Common.{◌≡◌, ◌∙◌, ℕ, suc, List, [], ◌∷◌, length, map, Option, Some, None, Result, Ok, Err, refl, sym, ap, subst, inl, inr, arith}
 use Rattle.std.specs.Prelude.{◌⊎◌}
 use Rattle.std.specs.List.{slice_get}
-use Rattle.elab_scope.specs.Faults.{Answer}
+use Rattle.desk_refusals.specs.elab_scope.Faults.{Answer}
 use Rattle.rtl_tree.specs.TreeModule.{Circuit}
-use Rattle.elab_flat.specs.Flats.{DesignParts}
-use Rattle.rtl_elab.specs.Designs.{library_of}
-use Rattle.rtl_elab.specs.Elaborated.{elaborated}
-use Rattle.rtl_elab.proofs.Deciding.{elaborated_lawful}
+use Rattle.desk_top.specs.elab_flat.Flats.{DesignParts}
+use Rattle.desk_top.specs.rtl_elab.Designs.{library_of}
+use Rattle.desk_top.specs.rtl_elab.Elaborated.{elaborated}
+use Rattle.desk_top.proofs.rtl_elab_proofs.Deciding.{elaborated_lawful}
 use Rattle.rtl_rule.specs.declared.finding.Finding.{Finding}
 use Rattle.rtl_rule.specs.Parts.{Parts}
 use Rattle.demo_told.specs.declared.demo.Demo.{Demo}
 use Rattle.demo_told.specs.declared.demo.Shown.{Shown}
-use Rattle.demo_replay.specs.declared.fault.ReplayFault.{ReplayFault}
-use Rattle.demo_replay.specs.declared.fault.ReplayFault.TheVariants.{Memory}
-use Rattle.demo_replay.specs.Firsts.{AreFirsts, Told, told}
+use Rattle.demo_laws.specs.demo_replay.declared.fault.ReplayFault.{ReplayFault}
+use Rattle.demo_laws.specs.demo_replay.declared.fault.ReplayFault.TheVariants.{Memory}
+use Rattle.demo_laws.specs.demo_replay.Firsts.{AreFirsts, Told, told}
 use Rattle.demo_laws.specs.Laws.{AreProcesses}
 use Rattle.demo_laws.proofs.Firsts.{one_first}
 use Rattle.demo_laws.proofs.Replays.{no_fault, one_fault, one_replay}
 use Rattle.desk_places.specs.Places.{Source}
 use Rattle.desk_demo.proofs.One.{never_both, one_malformed, one_told}
-use Rattle.desk_build.specs.Building.{Built, Designed, Front, IsBuilt, Faulty, Modules, built_of, elaborated_or_not}
-use Rattle.desk_verdict.specs.Verdicts.{parts_of}
+use Rattle.desk_top.specs.desk_build.Building.{Built, Designed, Front, IsBuilt, Faulty, Modules, built_of, elaborated_or_not}
+use Rattle.desk_top.specs.desk_verdict.Verdicts.{parts_of}
 use Rattle.desk_top.specs.Delivery.{Outcome}
 use Rattle.desk_top.specs.Outcome.{Differs, Fails, IsDemoRun, IsRerun, Read, Unread, fault_outcome, malformed, replay_outcome}
 

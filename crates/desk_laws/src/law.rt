@@ -9,7 +9,7 @@ ghost use Rattle.desk_places.specs.Places.{Source};
 ghost use Rattle.desk_steps.specs.Steps.{Steps};
 ghost use Rattle.desk_runs.specs.Runs.{IsSimulated, Shown};
 ghost use Rattle.desk_top.specs.Answers.{IsAnswered, OverWorld};
-ghost use Rattle.desk_build.specs.Building.{Built, IsBuilt};
+ghost use Rattle.desk_top.specs.desk_build.Building.{Built, IsBuilt};
 ghost use Rattle.desk_top.specs.Delivery.{Outcome};
 ghost use Rattle.desk_top.specs.Outcome.{IsOutcome, World};
 ghost use Rattle.desk_laws.specs.Same.{AreSame, IsUndisturbed};

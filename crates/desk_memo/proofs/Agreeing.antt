@@ -3,16 +3,16 @@ use Rattle.std.proofs.Common.{◌≡◌, ◌∙◌, ℕ, true, List, Result, ap,
 use Rattle.std.specs.List.{Contains, list_all}
 use Rattle.std.proofs.lemmas.Bool.{and_parts}
 use Rattle.rtl_tree.specs.TreeModule.{Circuit}
-use Rattle.elab_scope.specs.Faults.{Answer as Fault}
-use Rattle.elab_links.specs.Modules.{all_placed, found}
-use Rattle.elab_links.specs.declared.module_set.Lookup.{Lookup}
+use Rattle.desk_refusals.specs.elab_scope.Faults.{Answer as Fault}
+use Rattle.elab_names.specs.elab_links.Modules.{all_placed, found}
+use Rattle.elab_names.specs.elab_links.declared.module_set.Lookup.{Lookup}
 use Rattle.elab_names.specs.Extracts.{IsStill, extract, files_at, number_at, renumbered}
 use Rattle.elab_names.specs.LookUps.{AreUsed, looked_up}
 use Rattle.elab_names.specs.declared.look_up.LookUp.{LookUp}
-use Rattle.elab_walk.specs.Visits.{Library}
-use Rattle.elab_flat.specs.Flats.{DesignParts}
-use Rattle.rtl_elab.specs.Designs.{library_of}
-use Rattle.rtl_elab.specs.Elaborated.{elaborated}
+use Rattle.elab_names.specs.elab_walk.Visits.{Library}
+use Rattle.elab_names.specs.elab_flat.Flats.{DesignParts}
+use Rattle.elab_names.specs.rtl_elab.Designs.{library_of}
+use Rattle.elab_names.specs.rtl_elab.Elaborated.{elaborated}
 use Rattle.desk_build.specs.Building.{AreSpelled, Modules}
 use Rattle.desk_files.specs.declared.files.SourceFile.{SourceFile}
 use Rattle.desk_memo.specs.Fresh.{IsFresh, IsOfDesign, texts_in}

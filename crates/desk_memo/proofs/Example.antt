@@ -2,13 +2,13 @@
 use Rattle.std.proofs.Common.{◌≡◌, ℕ, List, [], ◌∷◌, codes, refl}
 use Rattle.std.specs.Prelude.{true, false, None, Some}
 use Rattle.rtl_tree.specs.TreeModule.{Absent, Circuit}
-use Rattle.elab_links.specs.Modules.{all_placed, found}
-use Rattle.elab_links.specs.declared.module_set.Lookup.{Lookup}
-use Rattle.elab_links.specs.declared.module_set.Lookup.TheVariants.{Missing, Found, Twice}
-use Rattle.elab_links.specs.declared.module_set.Place.{Place}
+use Rattle.elab_names.specs.elab_links.Modules.{all_placed, found}
+use Rattle.elab_names.specs.elab_links.declared.module_set.Lookup.{Lookup}
+use Rattle.elab_names.specs.elab_links.declared.module_set.Lookup.TheVariants.{Missing, Found, Twice}
+use Rattle.elab_names.specs.elab_links.declared.module_set.Place.{Place}
 use Rattle.elab_names.specs.Extracts.{extract}
 use Rattle.elab_names.specs.declared.look_up.LookUp.{LookUp}
-use Rattle.rtl_elab.specs.Designs.{library_of}
+use Rattle.elab_names.specs.rtl_elab.Designs.{library_of}
 use Rattle.desk_files.specs.declared.files.SourceFile.{SourceFile}
 use Rattle.desk_memo.specs.declared.answer.Answer.{Answer}
 use Rattle.desk_memo.specs.Rulings.{Ruling, current_of, is_absent, is_current, is_meant, is_there, others_of, with_ruling}

@@ -15,3 +15,5 @@ pub mod MadeReadings
 pub mod Placed
 pub mod Put
 pub mod Read
+-- passed on to the crates above
+pub use Rattle.desk_verdict.proofs as desk_verdict_proofs

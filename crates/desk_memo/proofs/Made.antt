@@ -8,14 +8,14 @@ use Rattle.std.proofs.lemmas.List.Elements.{All-contains_itself}
 use Rattle.std.proofs.lemmas.List.Sums.{list_all-from_AllPass}
 use Rattle.std.proofs.lemmas.Slice.Eq.{bytes_eq-Decides}
 use Rattle.rtl_tree.specs.TreeModule.{Circuit}
-use Rattle.elab_links.specs.Modules.{all_placed, found}
-use Rattle.elab_links.specs.declared.module_set.Lookup.{Lookup}
-use Rattle.elab_walk.specs.Visits.{Library}
+use Rattle.elab_names.specs.elab_links.Modules.{all_placed, found}
+use Rattle.elab_names.specs.elab_links.declared.module_set.Lookup.{Lookup}
+use Rattle.elab_names.specs.elab_walk.Visits.{Library}
 use Rattle.elab_names.specs.Extracts.{extract}
 use Rattle.elab_names.specs.LookUps.{AreLookUps, AreUsed, looked_up}
 use Rattle.elab_names.specs.declared.look_up.LookUp.{LookUp}
-use Rattle.rtl_elab.specs.Designs.{library_of}
-use Rattle.rtl_elab.specs.Elaborated.{elaborated}
+use Rattle.elab_names.specs.rtl_elab.Designs.{library_of}
+use Rattle.elab_names.specs.rtl_elab.Elaborated.{elaborated}
 use Rattle.desk_build.specs.Building.{AreSpelled}
 use Rattle.desk_files.specs.declared.files.SourceFile.{SourceFile}
 use Rattle.desk_memo.specs.Fresh.{IsOfDesign, sources_at, texts_in}

@@ -7,7 +7,7 @@ use Rattle.rtl_tree.specs.declared.tree.modules.Module.{Module}
 use Rattle.rtl_front.specs.Fronts.{IsFaulty, IsFirstFaulty, IsRead}
 use Rattle.rtl_front.specs.declared.fault.FileFault.{FileFault}
 use Rattle.rtl_front.specs.declared.fault.SourceFault.TheVariants as source
-use Rattle.elab_links.specs.Modules.{circuits_of}
+use Rattle.elab_names.specs.elab_links.Modules.{circuits_of}
 use Rattle.desk_build.specs.Building.{AreSpelled}
 use Rattle.desk_memo.specs.Readings.{Spells}
 

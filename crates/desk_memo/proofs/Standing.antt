@@ -11,13 +11,13 @@ use Rattle.std.proofs.lemmas.Option.{get_or_from_slice_get, slice_get-get_or, sl
 use Rattle.std.proofs.lemmas.Slice.Eq.{bytes_eq-Decides}
 use Rattle.rtl_tree.specs.TreeModule.{Circuit}
 use Rattle.rtl_front.specs.Fronts.{AreRead, IsRead}
-use Rattle.elab_links.specs.Modules.{Placed, all_placed, found, placed_from, placed_in, with_another}
-use Rattle.elab_links.specs.declared.module_set.Lookup.{Lookup}
-use Rattle.elab_links.specs.declared.module_set.Lookup.TheVariants.{Missing, Found, Twice}
-use Rattle.elab_links.specs.declared.module_set.Place.{Place}
+use Rattle.elab_names.specs.elab_links.Modules.{Placed, all_placed, found, placed_from, placed_in, with_another}
+use Rattle.elab_names.specs.elab_links.declared.module_set.Lookup.{Lookup}
+use Rattle.elab_names.specs.elab_links.declared.module_set.Lookup.TheVariants.{Missing, Found, Twice}
+use Rattle.elab_names.specs.elab_links.declared.module_set.Place.{Place}
 use Rattle.elab_names.specs.Extracts.{files_at, place_in}
 use Rattle.elab_names.specs.LookUps.{AreUsed}
-use Rattle.rtl_elab.specs.Designs.{library_of}
+use Rattle.elab_names.specs.rtl_elab.Designs.{library_of}
 use Rattle.desk_build.specs.Building.{AreSpelled}
 use Rattle.desk_files.specs.Sources.{is_named}
 use Rattle.desk_files.specs.declared.files.SourceFile.{SourceFile}

@@ -6,9 +6,9 @@ use Rattle.std.proofs.lemmas.Bool.{and_from, and_parts}
 use Rattle.std.proofs.lemmas.Bool.Decides.{Decides-eqb}
 use Rattle.std.proofs.lemmas.List.Sums.{AllPass-from_list_all}
 use Rattle.std.proofs.lemmas.Slice.Eq.{bytes_eq-Decides}
-use Rattle.elab_links.specs.declared.module_set.Lookup.{Lookup}
-use Rattle.elab_links.specs.declared.module_set.Lookup.TheVariants.{Missing, Found, Twice}
-use Rattle.elab_links.specs.declared.module_set.Place.{Place}
+use Rattle.elab_names.specs.elab_links.declared.module_set.Lookup.{Lookup}
+use Rattle.elab_names.specs.elab_links.declared.module_set.Lookup.TheVariants.{Missing, Found, Twice}
+use Rattle.elab_names.specs.elab_links.declared.module_set.Place.{Place}
 use Rattle.elab_names.specs.Extracts.{number_at, place_in, renumbered}
 use Rattle.desk_files.specs.declared.files.SourceFile.{SourceFile}
 use Rattle.desk_memo.specs.Orders.{AreInOrder}

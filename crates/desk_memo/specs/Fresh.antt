@@ -1,15 +1,15 @@
 -- What files say of a top module, worked out from their texts alone.
--- Worked examples: proofs/FreshExample.antt, crates/tests_exchanges/src/rows.rt.
+-- Worked examples: proofs/FreshExample.antt, crates/tests_desk/src/rows.rt.
 use Rattle.std.specs.Prelude.{◌≡◌, ℕ, List, [], ◌∷◌, map, slice_get, Result, Ok, Err}
 use Rattle.std.specs.List.{filter_map}
 use Rattle.rtl_tree.specs.TreeModule.{Circuit}
 use Rattle.rtl_front.specs.declared.fault.FileFault.{FileFault}
-use Rattle.elab_scope.specs.Faults.{Answer as Fault}
-use Rattle.elab_flat.specs.Flats.{DesignParts}
+use Rattle.desk_refusals.specs.elab_scope.Faults.{Answer as Fault}
+use Rattle.elab_names.specs.elab_flat.Flats.{DesignParts}
 use Rattle.elab_names.specs.Extracts.{extract}
 use Rattle.elab_names.specs.LookUps.{AreUsed}
-use Rattle.rtl_elab.specs.Designs.{library_of}
-use Rattle.rtl_elab.specs.Elaborated.{elaborated}
+use Rattle.elab_names.specs.rtl_elab.Designs.{library_of}
+use Rattle.elab_names.specs.rtl_elab.Elaborated.{elaborated}
 use Rattle.desk_places.specs.Places.{Source}
 use Rattle.desk_refusals.specs.Refusals.{design_line, source_line}
 use Rattle.desk_build.specs.Building.{Front, Modules, Faulty, IsFront}

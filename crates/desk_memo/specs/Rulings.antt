@@ -5,14 +5,14 @@ use Rattle.std.specs.List.{list_all, list_any}
 use Rattle.std.specs.Option.{option_map}
 use Rattle.rtl_tree.specs.TreeModule.{Circuit}
 use Rattle.rtl_front.specs.Fronts.{AreRead}
-use Rattle.elab_links.specs.Modules.{all_placed, found}
-use Rattle.elab_links.specs.declared.module_set.Lookup.{Lookup}
-use Rattle.elab_links.specs.declared.module_set.Lookup.TheVariants.{Missing, Found, Twice}
+use Rattle.elab_names.specs.elab_links.Modules.{all_placed, found}
+use Rattle.elab_names.specs.elab_links.declared.module_set.Lookup.{Lookup}
+use Rattle.elab_names.specs.elab_links.declared.module_set.Lookup.TheVariants.{Missing, Found, Twice}
 use Rattle.elab_names.specs.Extracts.{extract}
 use Rattle.elab_names.specs.LookUps.{AreLookUps, AreUsed}
 use Rattle.elab_names.specs.declared.look_up.LookUp.{LookUp}
-use Rattle.rtl_elab.specs.Designs.{library_of}
-use Rattle.rtl_elab.specs.Elaborated.{elaborated}
+use Rattle.elab_names.specs.rtl_elab.Designs.{library_of}
+use Rattle.elab_names.specs.rtl_elab.Elaborated.{elaborated}
 use Rattle.desk_files.specs.Sources.{is_named}
 use Rattle.desk_files.specs.declared.files.SourceFile.{SourceFile}
 use Rattle.desk_memo.specs.Fresh.{IsOfDesign, sources_at, texts_in}

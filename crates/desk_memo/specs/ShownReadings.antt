@@ -4,7 +4,7 @@ use Rattle.std.specs.Prelude.{◌≡◌, ◌≤◌, ℕ, ◌+◌, ◌-◌, min, 
 use Rattle.std.specs.declared.alloc.Global.{Global}
 use Rattle.rtl_tree.specs.TreeModule.{Circuit, circuit}
 use Rattle.rtl_tree.specs.declared.tree.modules.Module.{Module}
-use Rattle.elab_links.specs.Modules.{circuits_of}
+use Rattle.elab_names.specs.elab_links.Modules.{circuits_of}
 use Rattle.desk_files.specs.declared.files.SourceFile.{SourceFile}
 use Rattle.desk_memo.specs.Exchanges.{put_in}
 use Rattle.desk_memo.specs.Readings.{AreReadings, IsFound, Reading, changed_count, is_as_read}

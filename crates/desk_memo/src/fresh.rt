@@ -1,10 +1,10 @@
 // What files say of a top, worked out from their texts alone.
 ghost use Rattle.std.specs.Prelude.{◌≡◌, ◌≤◌, ◌++◌, ◌∷◌, [], Ok, Result, length, IfOk, IsSome, OnOk};
 ghost use Rattle.rtl_tree.specs.declared.text.TheConstants.{MAX_BYTES};
-ghost use Rattle.elab_scope.specs.Faults.{Answer as Fault, answer};
-ghost use Rattle.elab_flat.specs.Flats.{DesignParts};
+ghost use Rattle.desk_refusals.specs.elab_scope.Faults.{Answer as Fault, answer};
+ghost use Rattle.elab_names.specs.elab_flat.Flats.{DesignParts};
 ghost use Rattle.elab_names.specs.Extracts.{IsElaborated};
-ghost use Rattle.rtl_elab.specs.Designs.{flat_in};
+ghost use Rattle.elab_names.specs.rtl_elab.Designs.{flat_in};
 ghost use Rattle.desk_places.specs.Places.{sources_of};
 ghost use Rattle.desk_refusals.specs.Notices.{design_notice};
 ghost use Rattle.desk_refusals.specs.Refusals.{design_line};
@@ -15,9 +15,9 @@ ghost use Rattle.desk_memo.specs.Orders.{AreShort};
 use crate::answer::Answer;
 use desk_files::SourceFile;
 use desk_places::sources::Sources;
+use desk_refusals::elab_scope::fault::ElabFault;
 use desk_refusals::{design_refusal, source_refusal};
 use desk_verdict::Verdict;
-use elab_scope::fault::ElabFault;
 use rtl_flat::design::Design;
 use rtl_front::FileFault;
 use rtl_tree::memory::Memory;

@@ -1,7 +1,7 @@
 // A ruling that is kept.
 ghost use Rattle.std.specs.Prelude.{◌≡◌, ◌≤◌, ◌+◌, IfOk, None, false, true};
 ghost use Rattle.std.specs.List.{list_any};
-ghost use Rattle.elab_links.specs.Modules.{all_placed, circuits_of, found, lookups_of};
+ghost use Rattle.elab_names.specs.elab_links.Modules.{all_placed, circuits_of, found, lookups_of};
 ghost use Rattle.desk_memo.specs.Readings.{AreReadings, changed_count, first_refusal};
 ghost use Rattle.desk_memo.specs.ShownReadings.{modules_of, readings_of};
 ghost use Rattle.desk_memo.specs.Orders.{AreInOrder, AreShort};
@@ -15,7 +15,7 @@ use crate::reading_law::all_spelled;
 use crate::readings::Readings;
 use crate::used::{Used, used_files};
 use desk_files::SourceFile;
-use elab_links::module_set::{Lookup, ModuleSet};
+use elab_names::elab_links::module_set::{Lookup, ModuleSet};
 use elab_names::law::same_names;
 use elab_names::{LookUp, elaborate};
 use rtl_tree::memory::Memory;

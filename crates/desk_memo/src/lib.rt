@@ -21,3 +21,7 @@ pub use aside::Aside;
 pub use kept::Kept;
 pub use memo::Memo;
 pub use readings::Readings;
+
+// Passed on to the crates above.
+pub use desk_verdict;
+pub use elab_names::elab_links;

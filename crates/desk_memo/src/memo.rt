@@ -3,7 +3,7 @@ ghost use Rattle.std.specs.Prelude.{◌≡◌, ◌++◌, ◌∷◌, [], if◌the
 ghost use Rattle.std.specs.Prelude.{map, None, OnErr, OnOk, option_copied, option_to_list, Some};
 ghost use Rattle.std.specs.List.{Contains};
 ghost use Rattle.rtl_tree.specs.TreeModule.{Circuit};
-ghost use Rattle.elab_links.specs.Modules.{circuits_of};
+ghost use Rattle.elab_names.specs.elab_links.Modules.{circuits_of};
 ghost use Rattle.desk_files.specs.declared.files.SourceFile.{SourceFile};
 ghost use Rattle.desk_memo.specs.Rulings.{Ruling, current_answer, current_of, is_absent};
 ghost use Rattle.desk_memo.specs.Rulings.{is_current_of, is_of, others_of, with_ruling};

@@ -2,7 +2,7 @@
 ghost use Rattle.std.specs.Prelude.{◌≡◌, ◌≤◌, ◌+◌, false, IfOk, [], ◌∷◌, length, option_copied, option_map};
 ghost use Rattle.rtl_tree.specs.declared.text.TheConstants.{MAX_BYTES};
 ghost use Rattle.rtl_front.specs.Fronts.{IsFaulty, is_memory, texts_of};
-ghost use Rattle.elab_links.specs.Modules.{circuits_of};
+ghost use Rattle.elab_names.specs.elab_links.Modules.{circuits_of};
 ghost use Rattle.desk_build.specs.Building.{AreSpelled};
 ghost use Rattle.desk_memo.specs.Readings.{refusal_of};
 ghost use Rattle.desk_memo.specs.ShownReadings.{IsNew, is_current, marked, reading_of};

@@ -1,7 +1,7 @@
 // The files of the desk as they were read last.
 ghost use Rattle.std.specs.Prelude.{◌≡◌, ◌≤◌, ◌+◌, [], None, IfOk, OnOk, option_copied};
 ghost use Rattle.std.specs.Option.{option_map};
-ghost use Rattle.elab_links.specs.Modules.{circuits_of};
+ghost use Rattle.elab_names.specs.elab_links.Modules.{circuits_of};
 ghost use Rattle.desk_files.specs.Sources.{with_file, without_file};
 ghost use Rattle.desk_memo.specs.Orders.{AreShort};
 ghost use Rattle.desk_memo.specs.Readings.{AreReadings, changed_count, file_at, first_refusal, with_blank, without};

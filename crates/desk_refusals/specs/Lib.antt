@@ -1,3 +1,5 @@
 pub mod Notices
 pub mod Refusals
 pub mod Words
+-- passed on to the crates above
+pub use Rattle.elab_scope.specs as elab_scope

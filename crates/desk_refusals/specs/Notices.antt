@@ -1,5 +1,5 @@
 -- What is told of a fault: its name, the text that it carries, and its place.
--- Worked examples: crates/tests_lines/src/refusal_lines.rt.
+-- Worked examples: crates/tests_rows/stdin.
 use Rattle.std.specs.Prelude.{ℕ, List, [], ◌∷◌, codes, Option, None, Some}
 use Rattle.rtl_tree.specs.declared.text.Spot.{Spot}
 use Rattle.rtl_text.specs.declared.fault.LexFault.{LexFault}

@@ -1,5 +1,5 @@
 -- The line that says why sources are refused.
--- Worked examples: crates/tests_lines/src/refusal_lines.rt.
+-- Worked examples: crates/tests_rows/stdin.
 use Rattle.std.specs.Prelude.{ℕ, List, [], ◌++◌, codes, Option, None, Some}
 use Rattle.std.specs.Option.{option_map}
 use Rattle.rtl_tree.specs.declared.text.Spot.{Spot}

@@ -1,5 +1,5 @@
 -- Texts on one line.
--- Worked examples: crates/tests_lines/src/refusal_lines.rt.
+-- Worked examples: crates/tests_rows/stdin.
 use Rattle.std.specs.Prelude.{ℕ, ◌==◌, nat_le, nat_lt, List, [], ◌∷◌, ◌++◌, Bool, false, ◌&&◌, ◌||◌, if◌then◌else◌, codes, Option, None, Some}
 
 -- a blank or a line end (section 3.2)

@@ -10,3 +10,6 @@ mod word;
 
 pub use crate::design::design_refusal;
 pub use crate::file::source_refusal;
+
+// Passed on to the crates above.
+pub use elab_scope;

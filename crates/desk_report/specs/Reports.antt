@@ -1,5 +1,5 @@
 -- The report of a ruling. Every line ends with a line feed.
--- Worked examples: crates/tests_lines/src/report_texts.rt.
+-- Worked examples: crates/tests_rows/stdin.
 use Rattle.std.specs.Prelude.{ℕ, ℤ, List, [], ◌∷◌, ◌++◌, length, filter, is_some, Option, None, Some, Bool, true, false, codes}
 use Rattle.std.specs.Fmt.{decimal}
 use Rattle.rtl_rule.specs.declared.finding.Finding.{Finding}

@@ -1,5 +1,5 @@
 -- What is told of findings: what each is about, and where it shows.
--- Worked examples: crates/tests_lines/src/report_texts.rt.
+-- Worked examples: crates/tests_rows/stdin.
 use Rattle.std.specs.Prelude.{ℕ, List, [], ◌∷◌, Option, None, Some, drop, slice_get}
 use Rattle.rtl_flat.specs.declared.expr.SigId.{SigId}
 use Rattle.rtl_flat.specs.declared.instance.Instance.{Instance}

@@ -11,7 +11,7 @@ use Rattle.event_model.specs.declared.policy.Policy.{Policy}
 use Rattle.event_model.specs.declared.setting.Setting.{Setting}
 use Rattle.event_model.specs.Policies.{IsDone, IsTooDear, budget}
 use Rattle.event_model.specs.Queue.{Flat, State, IsAtRest, flat, offer, power_up}
-use Rattle.event_write.specs.QueueState.{design_of}
+use Rattle.event_tables.specs.event_write.QueueState.{design_of}
 use Rattle.event_queue.specs.declared.sim.EventSim.{EventSim}
 use Rattle.event_queue.specs.Offers.{AreAllowed, set_of}
 use Rattle.event_queue.specs.Sims.{IsSame, IsSimOf, Runs, flat_of, is_stuck, left_of, level_of, state_of}

@@ -5,3 +5,6 @@ mod lines;
 mod run;
 
 pub use crate::run::{Progress, Run};
+
+// Passed on to the crates above.
+pub use event_queue;

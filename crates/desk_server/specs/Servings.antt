@@ -1,5 +1,5 @@
 -- What a server does: links are taken from a door and given back, one after the other.
--- Worked examples: crates/tests_exchanges/src/bytes.rt.
+-- Worked examples: crates/tests_desk/src/bytes.rt.
 use Rattle.std.specs.Prelude.{◌≡◌, ◌≤◌, ◌<◌, ◌+◌, ◌-◌, ◌^◌, ◌==◌, ℕ, Bool, false, List, [], ◌∷◌, ◌++◌, length, count_by, None, OnOk, Result}
 use Rattle.desk_io.specs.declared.failed.Failed.{Failed}
 use Rattle.desk_tables.specs.Rules.{broken_row}

@@ -9,3 +9,6 @@ mod serve;
 
 pub use exchange::{Served, connection};
 pub use serve::serve_links;
+
+// Passed on to the crates above.
+pub use desk_core;

@@ -2,11 +2,11 @@
 use Rattle.std.proofs.Common.{◌≡◌, ◌≢◌, ℕ, List, [], Option, None, Some, Result, Ok, Err, Bool, true, false, cond, not, refl, sym, ◌∙◌, ap, subst, arith}
 use Rattle.std.specs.Io.KnownBytes.{Appends}
 use Rattle.rtl_tree.specs.TreeModule.{Circuit}
-use Rattle.elab_scope.specs.Faults.{Answer}
-use Rattle.elab_flat.specs.Flats.{DesignParts}
-use Rattle.rtl_elab.specs.Designs.{library_of}
-use Rattle.rtl_elab.specs.Elaborated.{elaborated}
-use Rattle.check_all.specs.Findings.{has_first_grade}
+use Rattle.desk_build.specs.elab_scope.Faults.{Answer}
+use Rattle.desk_build.specs.elab_flat.Flats.{DesignParts}
+use Rattle.desk_build.specs.rtl_elab.Designs.{library_of}
+use Rattle.desk_build.specs.rtl_elab.Elaborated.{elaborated}
+use Rattle.desk_verdict.specs.check_all.Findings.{has_first_grade}
 use Rattle.desk_top.specs.declared.deliver.Stop.{Stop}
 use Rattle.desk_top.specs.declared.deliver.Stop.TheVariants.{Unread, NoFile, Memory}
 use Rattle.desk_top.specs.declared.deliver.Work.{Work}

@@ -6,3 +6,6 @@ pub mod Answering
 pub mod Buildings
 pub mod Ordered
 pub mod Streaming
+-- passed on to the crates above
+pub use Rattle.desk_verdict.proofs.check_all_proofs
+pub use Rattle.desk_build.proofs.rtl_elab_proofs

@@ -4,16 +4,16 @@ use Rattle.std.specs.Prelude.{◌≡◌, ℕ, List, [], Option, None, Some, Ok, 
 use Rattle.std.specs.Io.KnownBytes.{Appends}
 use Rattle.desk_io.specs.Shelf.{Files}
 use Rattle.rtl_tree.specs.TreeModule.{Circuit}
-use Rattle.elab_flat.specs.Flats.{DesignParts}
-use Rattle.rtl_elab.specs.Designs.{library_of}
-use Rattle.rtl_elab.specs.Elaborated.{elaborated}
-use Rattle.event_ending.specs.Ending.{RunsEnd}
+use Rattle.desk_build.specs.elab_flat.Flats.{DesignParts}
+use Rattle.desk_build.specs.rtl_elab.Designs.{library_of}
+use Rattle.desk_build.specs.rtl_elab.Elaborated.{elaborated}
+use Rattle.desk_verdict.specs.event_ending.Ending.{RunsEnd}
 use Rattle.net_model.specs.declared.fill.Fill.{Fill}
 use Rattle.net_model.specs.Cycle.{AreChains, Chain}
-use Rattle.sign_cycles.specs.Agree.{Agree}
-use Rattle.sign_cycles.specs.BringUp.{BringsUp, HaveResets}
+use Rattle.desk_verdict.specs.sign_cycles.Agree.{Agree}
+use Rattle.desk_verdict.specs.sign_cycles.BringUp.{BringsUp, HaveResets}
 use Rattle.rtl_rule.specs.declared.finding.Finding.{Finding}
-use Rattle.check_all.specs.Findings.{AreAllFindings, IsClean}
+use Rattle.desk_verdict.specs.check_all.Findings.{AreAllFindings, IsClean}
 use Rattle.desk_top.specs.declared.deliver.TheConstants.{UNREAD, NO_MEMORY}
 use Rattle.desk_top.specs.Delivery.{Outcome, Delivers, IsCut, gave_up}
 use Rattle.desk_build.specs.Building.{AreSpelled}

@@ -4,15 +4,15 @@ use Rattle.std.specs.Prelude.{◌≡◌, ℕ, List, [], ◌∷◌, ◌++◌, len
 use Rattle.std.specs.Fmt.{decimal}
 use Rattle.desk_io.specs.declared.shelf.ShelfFault.{ShelfFault}
 use Rattle.desk_io.specs.Shelf.{Files, reading}
-use Rattle.elab_flat.specs.Flats.{DesignParts}
+use Rattle.desk_build.specs.elab_flat.Flats.{DesignParts}
 use Rattle.rtl_rule.specs.declared.finding.Finding.{Finding}
-use Rattle.check_all.specs.Findings.{AreAllFindings, IsClean}
-use Rattle.check_clean.specs.Promise.{IsPromised}
+use Rattle.desk_verdict.specs.check_all.Findings.{AreAllFindings, IsClean}
+use Rattle.desk_verdict.specs.check_clean.Promise.{IsPromised}
 use Rattle.demo_told.specs.declared.demo.Demo.{Demo}
 use Rattle.demo_told.specs.declared.demo.Shown.{Shown as Values}
-use Rattle.demo_replay.specs.declared.fault.ReplayFault.{ReplayFault}
-use Rattle.demo_replay.specs.declared.fault.ReplayFault.TheVariants.{Illegal, NoNetlist, Unsettled, Same, Memory}
-use Rattle.demo_replay.specs.Replays.{IsReplayed, IsReplayFault}
+use Rattle.desk_verdict.specs.demo_replay.declared.fault.ReplayFault.{ReplayFault}
+use Rattle.desk_verdict.specs.demo_replay.declared.fault.ReplayFault.TheVariants.{Illegal, NoNetlist, Unsettled, Same, Memory}
+use Rattle.desk_verdict.specs.demo_replay.Replays.{IsReplayed, IsReplayFault}
 use Rattle.desk_demo.specs.Files.{IsMalformed, IsTold}
 use Rattle.desk_verdict.specs.Verdicts.{AreShown, is_clean, is_firm, parts_of, queue_of}
 use Rattle.desk_steps.specs.Names.{Names, ahead, names_from}

@@ -1,7 +1,7 @@
 // The command `generate N`.
 
 ghost use Rattle.std.specs.Prelude.{◌≡◌, ◌≢◌, ◌≤◌, Err};
-ghost use Rattle.rtl_elab.specs.Designs.{flat_in};
+ghost use Rattle.desk_build.specs.rtl_elab.Designs.{flat_in};
 ghost use Rattle.desk_top.specs.Delivery.{IsWork};
 ghost use Rattle.desk_top.specs.Outcome.{IsCounted, IsGenerated};
 
@@ -11,9 +11,9 @@ use desk_build::{Built, build};
 use desk_places::sources::Sources;
 use desk_report::stages_report;
 use desk_stages::{MOST_STAGES, TOP, stages_text};
+use desk_verdict::sign_off::rule::rule;
 use rtl_flat::design::Design;
 use rtl_tree::memory::Memory;
-use sign_off::rule::rule;
 use std::alloc::Global;
 
 /// Rules the design of a generated text, and writes how large it is and what was found.

@@ -10,3 +10,7 @@ pub mod simulate;
 pub mod stream;
 pub mod top;
 pub mod words;
+
+// Passed on to the crates above.
+pub use desk_build;
+pub use desk_runs::event_queue;

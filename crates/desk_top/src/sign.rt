@@ -4,7 +4,7 @@ ghost use Rattle.std.specs.Prelude.{◌≡◌, ◌≢◌, ◌≤◌, if◌then�
 ghost use Rattle.std.specs.List.{All};
 ghost use Rattle.desk_io.specs.Causes.{Rose};
 ghost use Rattle.desk_io.specs.declared.shelf.TheConstants.{MAX_FILE_BYTES};
-ghost use Rattle.rtl_elab.specs.Designs.{flat_in};
+ghost use Rattle.desk_build.specs.rtl_elab.Designs.{flat_in};
 ghost use Rattle.desk_places.specs.Places.{sources_of};
 ghost use Rattle.desk_top.specs.Answers.{OverWorld};
 ghost use Rattle.desk_top.specs.Delivery.{IsCalmWork, IsWork, status_of};

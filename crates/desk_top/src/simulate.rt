@@ -5,7 +5,7 @@ ghost use Rattle.std.specs.List.{All};
 ghost use Rattle.desk_io.specs.Causes.{Rose};
 ghost use Rattle.desk_io.specs.Shelf.{reading};
 ghost use Rattle.desk_io.specs.declared.shelf.TheConstants.{MAX_FILE_BYTES};
-ghost use Rattle.rtl_elab.specs.Designs.{flat_in};
+ghost use Rattle.desk_build.specs.rtl_elab.Designs.{flat_in};
 ghost use Rattle.desk_steps.specs.Steps.{file_of};
 ghost use Rattle.desk_top.specs.Answers.{OverWorld};
 ghost use Rattle.desk_top.specs.Delivery.{IsCalmWork, outcome_of};

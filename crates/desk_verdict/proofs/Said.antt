@@ -5,7 +5,7 @@ use Rattle.std.proofs.lemmas.Bool.{false≢true}
 use Rattle.rtl_flat.specs.declared.instance.Instance.{Instance}
 use Rattle.rtl_flat.specs.declared.signal.Signal.{Signal}
 use Rattle.rtl_rule.specs.declared.finding.Finding.{Finding}
-use Rattle.check_all.specs.Findings.{IsClean, has_first_grade}
+use Rattle.sign_off.specs.check_all.Findings.{IsClean, has_first_grade}
 use Rattle.demo_told.specs.declared.demo.Demo.{Demo}
 use Rattle.demo_told.specs.declared.demo.Shown.{Shown}
 use Rattle.desk_report.specs.Tellings.{tellings}

@@ -8,11 +8,11 @@ use Rattle.std.proofs.lemmas.Option.{same_Some}
 use Rattle.rtl_flat.specs.declared.design.Design.{Design}
 use Rattle.rtl_rule.specs.declared.finding.Finding.{Finding}
 use Rattle.rtl_rule.specs.Parts.{parts}
-use Rattle.check_all.specs.Findings.{AreAllFindings}
-use Rattle.check_clean.specs.Needed.{has_needed, is_needed}
+use Rattle.sign_off.specs.check_all.Findings.{AreAllFindings}
+use Rattle.sign_off.specs.check_clean.Needed.{has_needed, is_needed}
 use Rattle.demo_told.specs.declared.demo.Demo.{Demo}
 use Rattle.demo_told.specs.declared.demo.Shown.{Shown}
-use Rattle.demo_replay.specs.Firsts.{AreFirsts, IsFirst, Told, told}
+use Rattle.demo_clean.specs.demo_replay.Firsts.{AreFirsts, IsFirst, Told, told}
 use Rattle.demo_clean.specs.Unshown.{NoneShown}
 
 abbrev none : ℕ → List (Option (Demo × Shown))

@@ -4,12 +4,12 @@ use Rattle.std.specs.Prelude.{◌≡◌, Bool, true, false, not, List, [], ◌�
 use Rattle.event_model.specs.Queue as queue
 use Rattle.rtl_rule.specs.declared.finding.Finding.{Finding}
 use Rattle.rtl_rule.specs.Parts.{Parts}
-use Rattle.check_all.specs.Findings.{AreAllFindings, IsClean, has_first_grade}
-use Rattle.check_clean.specs.Promise.{IsPromised}
-use Rattle.elab_flat.specs.Flats.{DesignParts}
+use Rattle.sign_off.specs.check_all.Findings.{AreAllFindings, IsClean, has_first_grade}
+use Rattle.sign_off.specs.check_clean.Promise.{IsPromised}
+use Rattle.rtl_elab.specs.elab_flat.Flats.{DesignParts}
 use Rattle.demo_told.specs.declared.demo.Demo.{Demo}
 use Rattle.demo_told.specs.declared.demo.Shown.{Shown}
-use Rattle.demo_replay.specs.Firsts.{AreFirsts, told}
+use Rattle.demo_clean.specs.demo_replay.Firsts.{AreFirsts, told}
 use Rattle.desk_report.specs.Tellings.{tellings}
 use Rattle.desk_verdict.specs.declared.verdict.TheConstants.{MAX_SHOWN}
 use Rattle.desk_verdict.specs.declared.verdict.Verdict.{Verdict}

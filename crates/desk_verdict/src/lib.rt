@@ -5,3 +5,7 @@
 mod verdict;
 
 pub use crate::verdict::{MAX_SHOWN, Verdict};
+
+// Passed on to the crates above.
+pub use demo_clean::demo_replay;
+pub use sign_off;

@@ -3,13 +3,13 @@
 ghost use Rattle.std.specs.Prelude.{◌≡◌, ◌≤◌, IfOk, None, length, map, replicate, take};
 ghost use Rattle.rtl_elab.specs.Designs.{flat_in};
 ghost use Rattle.rtl_rule.specs.Parts.{parts};
-ghost use Rattle.check_all.specs.Findings.{AreAllFindings};
-ghost use Rattle.demo_replay.specs.Firsts.{AreFirsts, told};
+ghost use Rattle.sign_off.specs.check_all.Findings.{AreAllFindings};
+ghost use Rattle.demo_clean.specs.demo_replay.Firsts.{AreFirsts, told};
 ghost use Rattle.desk_verdict.specs.Verdicts.{IsVerdict};
 
+use demo_clean::demo_replay::attach_all;
 use demo_clean::has_needed;
 use demo_clean::law::none_shown;
-use demo_replay::attach_all;
 use demo_told::{Demo, Shown, Told};
 use desk_report::tell;
 use rtl_flat::design::Design;

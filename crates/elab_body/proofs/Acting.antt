@@ -17,8 +17,8 @@ use Rattle.rtl_tree.specs.TreeStmt.{action, action_row, branch, branch_row}
 use Rattle.rtl_tree.proofs.TreeViews.{case_is, block_is}
 use Rattle.rtl_flat.specs.Expression.{Tree}
 use Rattle.rtl_flat.specs.Process as made
-use Rattle.elab_scope.specs.Names.{Meanings}
-use Rattle.elab_scope.specs.Trees.{spot_in, tree_of}
+use Rattle.elab_nodes.specs.elab_scope.Names.{Meanings}
+use Rattle.elab_nodes.specs.elab_scope.Trees.{spot_in, tree_of}
 use Rattle.elab_body.specs.Acts.{act_turns, acts, acts_if, acts_with, body_acts, branch_acts, case_branches, case_context, fallback, kind_of, loop_acts}
 use Rattle.elab_body.specs.Bodies.{Head, in_head, in_turn}
 use Rattle.elab_body.specs.Courses.{chosen, goes_on}

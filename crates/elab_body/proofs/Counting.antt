@@ -2,8 +2,8 @@
 use Rattle.std.specs.Prelude.{ℕ, zero, suc, Bool, true, false, ◌||◌, List, [], ◌∷◌, ◌++◌, ◌⊎◌, Option, None, Some}
 use Rattle.std.proofs.Common.{◌≡◌, ◌∙◌, ap, refl, sym, inl, inr}
 use Rattle.std.proofs.lemmas.Bool.{cases_Bool}
-use Rattle.elab_scope.specs.Faults.{Refusal, TooLarge, keep}
-use Rattle.elab_scope.specs.Rules.{fault}
+use Rattle.elab_nodes.specs.elab_scope.Faults.{Refusal, TooLarge, keep}
+use Rattle.elab_nodes.specs.elab_scope.Rules.{fault}
 use Rattle.elab_nodes.specs.Spares.{spared}
 use Rattle.elab_body.specs.declared.progress.Left.{Left}
 use Rattle.elab_body.specs.Bodies.{counted}

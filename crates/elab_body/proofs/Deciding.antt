@@ -13,9 +13,9 @@ use Rattle.rtl_tree.specs.declared.tree.stmt.Stmt.TheVariants as stmt
 use Rattle.rtl_tree.specs.TreeExpr.{formula, identifier}
 use Rattle.rtl_tree.specs.TreeStmt.{action, action_row, branch, branch_row}
 use Rattle.rtl_tree.proofs.TreeViews.{case_is, block_is}
-use Rattle.elab_scope.specs.Expressions.{faults}
-use Rattle.elab_scope.specs.Faults.{Refusal}
-use Rattle.elab_scope.specs.Names.{Meanings}
+use Rattle.elab_nodes.specs.elab_scope.Expressions.{faults}
+use Rattle.elab_nodes.specs.elab_scope.Faults.{Refusal}
+use Rattle.elab_nodes.specs.elab_scope.Names.{Meanings}
 use Rattle.elab_nodes.specs.Totals.{case_count}
 use Rattle.elab_body.specs.Bodies.{Head, all_turns, body_steps, branch_steps, branches_steps, loop_faults, steps}
 use Rattle.elab_body.specs.Courses.{chosen, chosen_steps, condition_steps}

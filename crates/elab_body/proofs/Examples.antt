@@ -6,11 +6,11 @@ use Rattle.rtl_tree.specs.declared.tree.operators.BinaryOperator.TheVariants.{Ad
 use Rattle.rtl_tree.specs.declared.tree.stmt.AssignmentKind.TheVariants.{Blocking}
 use Rattle.rtl_tree.specs.TreeExpr.{Identifier, Formula, Number, Read, Binary}
 use Rattle.rtl_tree.specs.TreeStmt.{Bit, Whole, Valued, Action, Null, Delayed, Assign, If, For}
-use Rattle.elab_scope.specs.declared.known.Known.TheVariants.{Signal, Integer}
-use Rattle.elab_scope.specs.declared.known.Role.TheVariants.{Variable}
-use Rattle.elab_scope.specs.Faults.{TooLarge, NotAssignable}
-use Rattle.elab_scope.specs.Names.{Meanings}
-use Rattle.elab_scope.specs.Rules.{fault}
+use Rattle.elab_nodes.specs.elab_scope.declared.known.Known.TheVariants.{Signal, Integer}
+use Rattle.elab_nodes.specs.elab_scope.declared.known.Role.TheVariants.{Variable}
+use Rattle.elab_nodes.specs.elab_scope.Faults.{TooLarge, NotAssignable}
+use Rattle.elab_nodes.specs.elab_scope.Names.{Meanings}
+use Rattle.elab_nodes.specs.elab_scope.Rules.{fault}
 use Rattle.elab_body.specs.Bodies.{all_turns, loop_faults, steps, turns}
 use Rattle.elab_body.specs.Faultless.{node_total, statement_count}
 use Rattle.elab_body.specs.Steps.{Statement, Turn, Faulty, Nodes, checked, delays_of}

@@ -5,9 +5,9 @@ use Rattle.std.specs.Str.{bytes_eq}
 use Rattle.std.proofs.Common.{◌≡◌, ◌∙◌, ap, sym, refl, inl, inr}
 use Rattle.std.proofs.Math.Path.{fun_ext}
 use Rattle.std.proofs.lemmas.Bool.{cases_Bool, cond-true}
-use Rattle.elab_scope.specs.declared.known.Known.{Known}
-use Rattle.elab_scope.specs.declared.known.Known.TheVariants.{Signal, Parameter, Integer}
-use Rattle.elab_scope.specs.Names.{Meanings, with_meaning, indexed, is_integer, number_of}
+use Rattle.elab_nodes.specs.elab_scope.declared.known.Known.{Known}
+use Rattle.elab_nodes.specs.elab_scope.declared.known.Known.TheVariants.{Signal, Parameter, Integer}
+use Rattle.elab_nodes.specs.elab_scope.Names.{Meanings, with_meaning, indexed, is_integer, number_of}
 
 itself : (name : List ℕ) → bytes_eq name name ≡ true
 itself name = (bytes_decides name name).1 refl

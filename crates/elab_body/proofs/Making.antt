@@ -18,9 +18,9 @@ use Rattle.rtl_tree.specs.declared.tree.stmt.CaseItem.TheVariants as listed
 use Rattle.rtl_tree.specs.declared.tree.stmt.Stmt.{Stmt}
 use Rattle.rtl_tree.specs.TreeExpr.{formula}
 use Rattle.rtl_tree.specs.TreeStmt.{action as statement, branch}
-use Rattle.elab_scope.specs.declared.context.Context.{Context}
-use Rattle.elab_scope.specs.Names.{Meanings}
-use Rattle.elab_scope.specs.Trees.{tree_of}
+use Rattle.elab_nodes.specs.elab_scope.declared.context.Context.{Context}
+use Rattle.elab_nodes.specs.elab_scope.Names.{Meanings}
+use Rattle.elab_nodes.specs.elab_scope.Trees.{tree_of}
 use Rattle.elab_body.specs.Acts.{acts, with_branch}
 use Rattle.elab_body.specs.Made.{items_before, otherwise_of}
 

@@ -5,9 +5,9 @@ use Rattle.std.proofs.lemmas.List.{at_drop_more}
 use Rattle.rtl_tree.specs.declared.tree.stmt.CaseItem.{CaseItem}
 use Rattle.rtl_tree.specs.declared.tree.stmt.Stmt.{Stmt}
 use Rattle.rtl_tree.specs.TreeStmt.{action, action_row, branch, branch_row}
-use Rattle.elab_scope.specs.Faults.{Refusal, keep, after}
+use Rattle.elab_nodes.specs.elab_scope.Faults.{Refusal, keep, after}
 use Rattle.elab_body.specs.declared.progress.Left.{Left}
-use Rattle.elab_scope.specs.Names.{Meanings}
+use Rattle.elab_nodes.specs.elab_scope.Names.{Meanings}
 use Rattle.elab_nodes.specs.Spares.{spared}
 use Rattle.elab_body.specs.Bodies.{body_steps, branch_item_steps, branches_steps, steps}
 use Rattle.elab_body.specs.Courses.{is_over}

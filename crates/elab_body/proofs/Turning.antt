@@ -2,9 +2,9 @@
 use Rattle.std.specs.Prelude.{ℕ, zero, suc, ℤ, Bool, true, false, List, [], ◌∷◌, ◌++◌, Ok, Err}
 use Rattle.std.proofs.Common.{◌≡◌, ◌∙◌, ap, refl, sym}
 use Rattle.rtl_const.specs.Constant.{Outcome}
-use Rattle.elab_scope.specs.Faults.{TooLarge}
-use Rattle.elab_scope.specs.Names.{Meanings}
-use Rattle.elab_scope.specs.Rules.{fault, number_faults}
+use Rattle.elab_nodes.specs.elab_scope.Faults.{TooLarge}
+use Rattle.elab_nodes.specs.elab_scope.Names.{Meanings}
+use Rattle.elab_nodes.specs.elab_scope.Rules.{fault, number_faults}
 use Rattle.elab_body.specs.Bodies.{Head, counted, in_head, in_turn, turns, where_true, with_number}
 use Rattle.elab_body.specs.Courses.{goes_on}
 use Rattle.elab_body.specs.Steps.{Course, Step, faulty, passed}

@@ -15,13 +15,13 @@ use Rattle.rtl_flat.specs.declared.act.CaseKind.TheVariants as flat
 use Rattle.rtl_flat.specs.Expression.{Tree}
 use Rattle.rtl_flat.specs.Process.{body_of, Otherwise, Without, With}
 use Rattle.rtl_flat.specs.Process as made
-use Rattle.elab_scope.specs.declared.context.Context.{Context}
-use Rattle.elab_scope.specs.declared.widths.Breadth.{Breadth}
-use Rattle.elab_scope.specs.Names.{Meanings, numbers_in}
-use Rattle.elab_scope.specs.Own.{breadth, sign}
-use Rattle.elab_scope.specs.Targets.{assigned_context, pieces_of}
-use Rattle.elab_scope.specs.Trees.{own_context, spot_in, tree_of}
-use Rattle.elab_scope.specs.Widths.{bits, wider}
+use Rattle.elab_nodes.specs.elab_scope.declared.context.Context.{Context}
+use Rattle.elab_nodes.specs.elab_scope.declared.widths.Breadth.{Breadth}
+use Rattle.elab_nodes.specs.elab_scope.Names.{Meanings, numbers_in}
+use Rattle.elab_nodes.specs.elab_scope.Own.{breadth, sign}
+use Rattle.elab_nodes.specs.elab_scope.Targets.{assigned_context, pieces_of}
+use Rattle.elab_nodes.specs.elab_scope.Trees.{own_context, spot_in, tree_of}
+use Rattle.elab_nodes.specs.elab_scope.Widths.{bits, wider}
 use Rattle.elab_body.specs.Bodies.{Head, in_head, in_turn}
 
 abbrev pub is_delayed : AssignmentKind → Bool

@@ -6,14 +6,14 @@ use Rattle.std.specs.Str.{bytes_eq}
 use Rattle.rtl_const.specs.Constant.{Outcome, constant, is_true}
 use Rattle.rtl_tree.specs.TreeExpr.{Identifier, Formula}
 use Rattle.rtl_tree.specs.TreeStmt.{target_place, Pause, Action, Null, Delayed, Assign, If, IfElse, Case, For, Block, Actions, no_actions, more_actions, Branch, Labelled, Default, Branches, no_branches, more_branches}
-use Rattle.elab_scope.specs.declared.known.Known.{Known}
-use Rattle.elab_scope.specs.declared.known.Known.TheVariants as known
-use Rattle.elab_scope.specs.declared.rules.Writer.TheVariants as writer
-use Rattle.elab_scope.specs.Expressions.{faults, constant_faults}
-use Rattle.elab_scope.specs.Faults.{Undeclared, NotAssignable, TooLarge, Refusal}
-use Rattle.elab_scope.specs.Names.{Meanings, indexed, numbers_in}
-use Rattle.elab_scope.specs.Rules.{fault, number_faults}
-use Rattle.elab_scope.specs.Targets.{target_faults}
+use Rattle.elab_nodes.specs.elab_scope.declared.known.Known.{Known}
+use Rattle.elab_nodes.specs.elab_scope.declared.known.Known.TheVariants as known
+use Rattle.elab_nodes.specs.elab_scope.declared.rules.Writer.TheVariants as writer
+use Rattle.elab_nodes.specs.elab_scope.Expressions.{faults, constant_faults}
+use Rattle.elab_nodes.specs.elab_scope.Faults.{Undeclared, NotAssignable, TooLarge, Refusal}
+use Rattle.elab_nodes.specs.elab_scope.Names.{Meanings, indexed, numbers_in}
+use Rattle.elab_nodes.specs.elab_scope.Rules.{fault, number_faults}
+use Rattle.elab_nodes.specs.elab_scope.Targets.{target_faults}
 use Rattle.elab_nodes.specs.Nodes.{node_count}
 use Rattle.elab_nodes.specs.Totals.{assignment_count, case_count}
 use Rattle.elab_body.specs.Steps.{Step, Statement, Turn, Delay, Nodes, faulty, has_statement}

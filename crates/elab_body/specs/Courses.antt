@@ -4,9 +4,9 @@ use Rattle.std.specs.Prelude.{not, ℕ, ℤ, Bool, false, ◌||◌, if◌then◌
 use Rattle.std.specs.Option.{is_some, option_map}
 use Rattle.rtl_const.specs.Constant.{Outcome, is_true}
 use Rattle.rtl_tree.specs.TreeExpr.{formula, identifier}
-use Rattle.elab_scope.specs.declared.known.Known.{Known}
-use Rattle.elab_scope.specs.declared.known.Known.TheVariants as known
-use Rattle.elab_scope.specs.Faults.{Refusal, refusal}
+use Rattle.elab_nodes.specs.elab_scope.declared.known.Known.{Known}
+use Rattle.elab_nodes.specs.elab_scope.declared.known.Known.TheVariants as known
+use Rattle.elab_nodes.specs.elab_scope.Faults.{Refusal, refusal}
 use Rattle.elab_body.specs.declared.branches.Chosen.{Chosen}
 use Rattle.elab_body.specs.declared.branches.Chosen.TheVariants.{Taken, Otherwise, Both}
 use Rattle.elab_body.specs.declared.head.Head.{Head as Written}

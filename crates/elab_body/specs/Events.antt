@@ -10,14 +10,14 @@ use Rattle.rtl_tree.specs.declared.tree.item.EventEdge.TheVariants.{Posedge, Neg
 use Rattle.rtl_tree.specs.TreeExpr.{Identifier}
 use Rattle.rtl_tree.specs.TreeItem.{Happening, Edge as Edged, Change, ChangeBit, ChangePart, Sensitivity, Star, StarInParens, Listed}
 use Rattle.rtl_flat.specs.Process.{Watched, Whole}
-use Rattle.elab_scope.specs.declared.known.Known.{Known}
-use Rattle.elab_scope.specs.declared.known.Known.TheVariants as known
-use Rattle.elab_scope.specs.Expressions.{faults, constant_faults}
-use Rattle.elab_scope.specs.Faults.{Undeclared, NotAssignable, Width, Refusal}
-use Rattle.elab_scope.specs.Names.{Meanings, numbers_in}
-use Rattle.elab_scope.specs.Rules.{fault, part_faults, range_faults}
-use Rattle.elab_scope.specs.Targets.{bit_selection, part_selection}
-use Rattle.elab_scope.specs.Trees.{field_in, low_of, own_context, signal_of, spot_in, tree_of}
+use Rattle.elab_nodes.specs.elab_scope.declared.known.Known.{Known}
+use Rattle.elab_nodes.specs.elab_scope.declared.known.Known.TheVariants as known
+use Rattle.elab_nodes.specs.elab_scope.Expressions.{faults, constant_faults}
+use Rattle.elab_nodes.specs.elab_scope.Faults.{Undeclared, NotAssignable, Width, Refusal}
+use Rattle.elab_nodes.specs.elab_scope.Names.{Meanings, numbers_in}
+use Rattle.elab_nodes.specs.elab_scope.Rules.{fault, part_faults, range_faults}
+use Rattle.elab_nodes.specs.elab_scope.Targets.{bit_selection, part_selection}
+use Rattle.elab_nodes.specs.elab_scope.Trees.{field_in, low_of, own_context, signal_of, spot_in, tree_of}
 
 -- an event is a change of a signal
 abbrev pub watch_faults : Identifier → Option Known → List Refusal

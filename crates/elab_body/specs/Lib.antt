@@ -5,3 +5,6 @@ pub mod Events
 pub mod Faultless
 pub mod Made
 pub mod Steps
+-- passed on to the crates above
+pub use Rattle.elab_nodes.specs as elab_nodes
+pub use Rattle.elab_nodes.specs.elab_scope

@@ -1,8 +1,8 @@
 -- What the unrolling of a body comes upon, in its order, and how far it goes.
 -- Worked examples: proofs/Examples.antt.
 use Rattle.std.specs.Prelude.{ℕ, zero, suc, Bool, true, false, List, [], ◌∷◌, map, Option, None, Some}
-use Rattle.elab_scope.specs.Faults.{Refusal, TooLarge, keep}
-use Rattle.elab_scope.specs.Rules.{fault}
+use Rattle.elab_nodes.specs.elab_scope.Faults.{Refusal, TooLarge, keep}
+use Rattle.elab_nodes.specs.elab_scope.Rules.{fault}
 use Rattle.elab_nodes.specs.Spares.{spared}
 use Rattle.elab_body.specs.declared.progress.Left.{Left}
 

@@ -3,7 +3,7 @@
 
 ghost use Rattle.std.specs.Prelude.{◌≡◌, ℤ, Option, map};
 ghost use Rattle.rtl_tree.specs.TreeStmt.{action, action_row, branch, branch_row};
-ghost use Rattle.elab_scope.specs.Names.{indexed, meanings};
+ghost use Rattle.elab_nodes.specs.elab_scope.Names.{indexed, meanings};
 ghost use Rattle.elab_body.specs.Bodies.{all_turns, body_steps, branch_item_steps, branches_steps, counted, steps, turns};
 ghost use Rattle.elab_body.specs.Courses.{course, head_of};
 ghost use Rattle.elab_body.specs.Steps.{passed};
@@ -12,7 +12,7 @@ use crate::branches::{Chosen, branches_of, goes_on, judge_condition};
 use crate::head::Head;
 use crate::parts::{assignment, labels};
 use crate::progress::Progress;
-use elab_scope::names::Names;
+use elab_nodes::elab_scope::names::Names;
 use rtl_const::evaluate::constant;
 use rtl_const::params::Lookup;
 use rtl_tree::tree::stmt::{CaseItem, Stmt};

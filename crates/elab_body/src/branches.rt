@@ -3,14 +3,14 @@
 ghost use Rattle.std.specs.Prelude.{◌≡◌};
 ghost use Rattle.rtl_const.specs.Constant.{constant, is_true};
 ghost use Rattle.rtl_tree.specs.TreeExpr.{formula};
-ghost use Rattle.elab_scope.specs.Expressions.{faults};
-ghost use Rattle.elab_scope.specs.Names.{meanings, numbers_in};
+ghost use Rattle.elab_nodes.specs.elab_scope.Expressions.{faults};
+ghost use Rattle.elab_nodes.specs.elab_scope.Names.{meanings, numbers_in};
 ghost use Rattle.elab_nodes.specs.Nodes.{node_count};
 ghost use Rattle.elab_body.specs.Courses.{chosen, condition_steps, course, goes_on};
 ghost use Rattle.elab_body.specs.Steps.{passed};
 
 use crate::progress::Progress;
-use elab_scope::names::Names;
+use elab_nodes::elab_scope::names::Names;
 use rtl_const::evaluate::constant;
 use rtl_const::fault::ConstFault;
 use rtl_tree::tree::expr::Expr;

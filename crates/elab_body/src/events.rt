@@ -6,16 +6,16 @@ ghost use Rattle.std.specs.Option.{option_map};
 ghost use Rattle.rtl_flat.specs.Process.{listing, watched};
 ghost use Rattle.rtl_tree.specs.TreeExpr.{identifier};
 ghost use Rattle.rtl_tree.specs.TreeItem.{happening, sensitivity};
-ghost use Rattle.elab_scope.specs.Faults.{after, refusal};
-ghost use Rattle.elab_scope.specs.Names.{meanings};
+ghost use Rattle.elab_nodes.specs.elab_scope.Faults.{after, refusal};
+ghost use Rattle.elab_nodes.specs.elab_scope.Names.{meanings};
 ghost use Rattle.elab_body.specs.Events.{edge_faults, edge_of_event, event_faults, events_faults, is_clocked_by, is_edge_event, listing_of, sensitivity_faults, watch_faults, watched_of};
 
-use elab_scope::fault::{Cause, Fault};
-use elab_scope::judge::{judge, judge_constant};
-use elab_scope::known::Known;
-use elab_scope::names::Names;
-use elab_scope::size::{Site, field_in, signal_of};
-use elab_scope::{pieces, rules};
+use elab_nodes::elab_scope::fault::{Cause, Fault};
+use elab_nodes::elab_scope::judge::{judge, judge_constant};
+use elab_nodes::elab_scope::known::Known;
+use elab_nodes::elab_scope::names::Names;
+use elab_nodes::elab_scope::size::{Site, field_in, signal_of};
+use elab_nodes::elab_scope::{pieces, rules};
 use rtl_bits::Edge;
 use rtl_const::evaluate::constant;
 use rtl_flat::act::{EventItem, Listed};
@@ -58,7 +58,7 @@ fn edge<'a>(at: u32, known: Option<Known>, best: Option<Fault<'a>>) -> Option<Fa
 }
 
 /// The faults of an event, after `best`.
-#[tactic(auto, using(elab_scope::proofs::Least::after_append))]
+#[tactic(auto, using(crate::proofs::Borrowed::after_append))]
 fn judge_event<'a>(event: &'a Event, names: &Names, best: Option<Fault<'a>>) -> Option<Fault<'a>>
     ensures { option_map refusal result ≡ after (option_map refusal best.entry) (event_faults (meanings names.now) (happening event.now)) }
 {
@@ -91,7 +91,7 @@ fn judge_event<'a>(event: &'a Event, names: &Names, best: Option<Fault<'a>>) -> 
     }
 }
 
-#[tactic(auto, using(elab_scope::proofs::Least::after_append))]
+#[tactic(auto, using(crate::proofs::Borrowed::after_append))]
 fn judge_events<'a>(
     events: &'a [Event],
     names: &Names,

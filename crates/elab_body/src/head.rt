@@ -2,15 +2,15 @@
 
 ghost use Rattle.std.specs.Prelude.{◌≡◌};
 ghost use Rattle.rtl_tree.specs.TreeExpr.{formula};
-ghost use Rattle.elab_scope.specs.Names.{meanings};
+ghost use Rattle.elab_nodes.specs.elab_scope.Names.{meanings};
 ghost use Rattle.elab_body.specs.Bodies.{head_faults, in_head, loop_faults};
 ghost use Rattle.elab_body.specs.Courses.{course, first_of, head_of};
 ghost use Rattle.elab_body.specs.Steps.{faulty, passed};
 
 use crate::parts::{index, stepped};
 use crate::progress::Progress;
-use elab_scope::known::Known;
-use elab_scope::names::Names;
+use elab_nodes::elab_scope::known::Known;
+use elab_nodes::elab_scope::names::Names;
 use rtl_const::evaluate::constant;
 use rtl_const::params::Lookup;
 use rtl_tree::tree::expr::Expr;

@@ -8,3 +8,7 @@ pub mod events;
 pub mod head;
 pub mod parts;
 pub mod progress;
+
+// Passed on to the crates above.
+pub use elab_nodes;
+pub use elab_nodes::elab_scope;

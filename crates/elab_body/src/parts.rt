@@ -4,32 +4,32 @@ ghost use Rattle.std.specs.Prelude.{◌≡◌, ◌≤◌, map};
 ghost use Rattle.std.specs.Option.{option_map};
 ghost use Rattle.rtl_tree.specs.TreeExpr.{formula, identifier};
 ghost use Rattle.rtl_tree.specs.TreeStmt.{Assign, branch, branch_row, pause, target};
-ghost use Rattle.elab_scope.specs.Faults.{refusal};
-ghost use Rattle.elab_scope.specs.Names.{meanings};
-ghost use Rattle.elab_scope.specs.Rules.{fault};
-ghost use Rattle.elab_scope.specs.Targets.{target_faults};
-ghost use Rattle.elab_scope.specs.declared.rules.Writer.TheVariants as writer;
+ghost use Rattle.elab_nodes.specs.elab_scope.Faults.{refusal};
+ghost use Rattle.elab_nodes.specs.elab_scope.Names.{meanings};
+ghost use Rattle.elab_nodes.specs.elab_scope.Rules.{fault};
+ghost use Rattle.elab_nodes.specs.elab_scope.Targets.{target_faults};
+ghost use Rattle.elab_nodes.specs.elab_scope.declared.rules.Writer.TheVariants as writer;
 ghost use Rattle.elab_body.specs.Acts.{branches_breadth, branches_sign, case_context, is_delayed, kind_of, labels_breadth, labels_sign};
 ghost use Rattle.elab_body.specs.Bodies.{all_faults, index_faults, pause_steps, stepped_faults, steps};
 ghost use Rattle.elab_body.specs.Courses.{course};
 ghost use Rattle.elab_body.specs.Steps.{faulty, passed};
 
 use crate::progress::Progress;
-use elab_scope::context::Context;
-use elab_scope::fault::{Cause, Fault};
-use elab_scope::known::Known;
-use elab_scope::names::Names;
-use elab_scope::own::{breadth, sign};
-use elab_scope::rules::Writer;
-use elab_scope::targets::judge_parts;
-use elab_scope::widths::Breadth;
+use elab_nodes::elab_scope::context::Context;
+use elab_nodes::elab_scope::fault::{Cause, Fault};
+use elab_nodes::elab_scope::known::Known;
+use elab_nodes::elab_scope::names::Names;
+use elab_nodes::elab_scope::own::{breadth, sign};
+use elab_nodes::elab_scope::rules::Writer;
+use elab_nodes::elab_scope::targets::judge_parts;
+use elab_nodes::elab_scope::widths::Breadth;
 use rtl_flat::act::CaseKind as FlatKind;
 use rtl_tree::tree::expr::Expr;
 use rtl_tree::tree::names::Name;
 use rtl_tree::tree::stmt::{AssignmentKind, CaseItem, CaseKind, Delay, Lvalue};
 
 /// The faults of what a statement assigns.
-#[tactic(auto, using(crate::proofs::Passing::passed_faulty, crate::proofs::Passing::passed_cut, elab_scope::proofs::Least::after_append))]
+#[tactic(auto, using(crate::proofs::Passing::passed_faulty, crate::proofs::Passing::passed_cut, crate::proofs::Borrowed::after_append))]
 fn assigned<'a>(written: &'a Lvalue, names: &Names, so_far: Progress<'a>) -> Progress<'a>
     ensures { course result ≡ passed (course so_far.entry) (faulty (target_faults writer.Procedural (meanings names.now) (target written.now))) }
 {

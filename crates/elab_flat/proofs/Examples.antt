@@ -11,7 +11,7 @@ use Rattle.rtl_tree.specs.TreeExpr.{Identifier, Read}
 use Rattle.rtl_tree.specs.TreeStmt.{Whole}
 use Rattle.rtl_tree.specs.TreeItem.{ModuleItem, Nets, Drives, Instances, ByName, Instantiation}
 use Rattle.rtl_tree.specs.TreeModule.{Circuit, HeaderPort, Declared}
-use Rattle.elab_links.specs.Modules.{all_placed, found}
+use Rattle.elab_walk.specs.elab_links.Modules.{all_placed, found}
 use Rattle.elab_walk.specs.Placements.{placements}
 use Rattle.elab_walk.specs.Visits.{Library, Visit, top_visit, visits}
 use Rattle.elab_flat.specs.Flats.{flat_of}

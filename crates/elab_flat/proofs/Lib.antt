@@ -1,2 +1,7 @@
 mod Examples
 pub mod Rows
+-- passed on to the crates above
+pub use Rattle.elab_walk.proofs.elab_items_proofs
+pub use Rattle.elab_walk.proofs.elab_links_proofs
+pub use Rattle.elab_walk.proofs.elab_parts_proofs
+pub use Rattle.elab_walk.proofs as elab_walk_proofs

@@ -7,8 +7,8 @@ use Rattle.std.proofs.lemmas.Option.{slice_get_past, slice_get_read}
 use Rattle.rtl_tree.specs.declared.tree.names.Name.{Name}
 use Rattle.rtl_tree.specs.TreeExpr.{Formula, Identifier, identifier}
 use Rattle.rtl_flat.specs.Process.{Task}
-use Rattle.elab_links.specs.Ports.{Sockets}
-use Rattle.elab_links.proofs.Places.{at_place}
+use Rattle.elab_walk.specs.elab_links.Ports.{Sockets}
+use Rattle.elab_walk.proofs.elab_links_proofs.Places.{at_place}
 use Rattle.elab_flat.specs.Links.{Sides, named_port_tasks, placed_tasks}
 
 -- a place behind all names, and the name at a place

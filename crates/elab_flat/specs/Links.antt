@@ -11,16 +11,16 @@ use Rattle.rtl_tree.specs.declared.tree.item.Direction.{Direction}
 use Rattle.rtl_tree.specs.declared.tree.item.Direction.TheVariants.{Input, Output}
 use Rattle.rtl_tree.specs.TreeExpr.{Formula, Identifier}
 use Rattle.rtl_tree.specs.TreeItem.{Association, ByPosition, ByName, Associated, Positional}
-use Rattle.elab_scope.specs.declared.context.Context.{Context}
-use Rattle.elab_scope.specs.declared.known.Known.{Known}
-use Rattle.elab_scope.specs.Names.{Meanings}
-use Rattle.elab_scope.specs.Own.{breadth, name_breadth, name_sign, sign}
-use Rattle.elab_scope.specs.Trees.{signal_of, spot_in, tree_of}
-use Rattle.elab_scope.specs.Widths.{bits, wider}
+use Rattle.elab_walk.specs.elab_scope.declared.context.Context.{Context}
+use Rattle.elab_walk.specs.elab_scope.declared.known.Known.{Known}
+use Rattle.elab_walk.specs.elab_scope.Names.{Meanings}
+use Rattle.elab_walk.specs.elab_scope.Own.{breadth, name_breadth, name_sign, sign}
+use Rattle.elab_walk.specs.elab_scope.Trees.{signal_of, spot_in, tree_of}
+use Rattle.elab_walk.specs.elab_scope.Widths.{bits, wider}
 use Rattle.elab_flat.specs.declared.links.Ends.{Ends as Kept}
-use Rattle.elab_links.specs.Drivable.{link_pieces}
-use Rattle.elab_links.specs.Ports.{Sockets}
-use Rattle.elab_scope.specs.Names.{meanings}
+use Rattle.elab_walk.specs.elab_links.Drivable.{link_pieces}
+use Rattle.elab_walk.specs.elab_links.Ports.{Sockets}
+use Rattle.elab_walk.specs.elab_scope.Names.{meanings}
 
 -- the two sides of connections: the file of the module that holds the instance, how many signals come before its own,
 -- what its names stand for and its number among the instances; and of the instance's module how many signals come

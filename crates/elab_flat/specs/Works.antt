@@ -4,12 +4,12 @@ use Rattle.std.specs.Prelude.{ℕ, List, [], ◌∷◌, ◌++◌, drop, length, 
 use Rattle.rtl_tree.specs.TreeItem.{ModuleItem, Instantiation}
 use Rattle.rtl_flat.specs.declared.instance.Delay.{Delay}
 use Rattle.rtl_flat.specs.Process.{Task}
-use Rattle.elab_scope.specs.Names.{Meanings}
-use Rattle.elab_items.specs.Scopes.{scope_of}
-use Rattle.elab_links.specs.Groups.{Group, group_of}
-use Rattle.elab_links.specs.Ports.{Sockets, sockets_of}
-use Rattle.elab_parts.specs.Delays.{item_delays}
-use Rattle.elab_parts.specs.Tasks.{item_tasks}
+use Rattle.elab_walk.specs.elab_scope.Names.{Meanings}
+use Rattle.elab_walk.specs.elab_items.Scopes.{scope_of}
+use Rattle.elab_walk.specs.elab_links.Groups.{Group, group_of}
+use Rattle.elab_walk.specs.elab_links.Ports.{Sockets, sockets_of}
+use Rattle.elab_walk.specs.elab_parts.Delays.{item_delays}
+use Rattle.elab_walk.specs.elab_parts.Tasks.{item_tasks}
 use Rattle.elab_flat.specs.Links.{Sides, link_tasks}
 use Rattle.elab_walk.specs.Placements.{Placement}
 use Rattle.elab_walk.specs.Visits.{Library, scope_in}

@@ -10,8 +10,8 @@ ghost use Rattle.elab_flat.specs.Views.{flat};
 
 use crate::regions::dropped_in;
 use crate::works::Works;
-use elab_items::declare::declare;
-use elab_items::signals::{Home, push_signals};
+use elab_walk::elab_items::declare::declare;
+use elab_walk::elab_items::signals::{Home, push_signals};
 use elab_walk::library::Library;
 use elab_walk::trail::Placement;
 use elab_walk::visit::file_of;

@@ -6,3 +6,5 @@ pub mod Rosters
 pub mod Scopes
 pub mod Settings
 pub mod Signals
+-- passed on to the crates above
+pub use Rattle.elab_scope.specs as elab_scope

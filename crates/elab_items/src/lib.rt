@@ -10,3 +10,6 @@ pub mod overrides;
 pub mod reach;
 pub mod roster;
 pub mod signals;
+
+// Passed on to the crates above.
+pub use elab_scope;

@@ -2,16 +2,16 @@
 use Rattle.std.specs.Prelude.{ℕ, List, [], ◌++◌}
 use Rattle.std.proofs.Common.{◌≡◌}
 use Rattle.rtl_tree.specs.TreeModule.{Circuit}
-use Rattle.elab_scope.specs.Names.{Meanings, numbers_in}
-use Rattle.elab_scope.proofs.Sound.{nil_left, nil_right}
-use Rattle.elab_items.specs.Claims.{all_claim_faults, all_direction_faults, no_course}
-use Rattle.elab_items.specs.Declarations.{Declaration, declarations}
-use Rattle.elab_items.specs.Drafts.{all_draft_faults, no_draft}
-use Rattle.elab_items.specs.Rosters.{limit_faults, no_roster}
-use Rattle.elab_items.specs.Scopes.{all_name_faults, claims_of, declaration_faults, draft_of, faults_after, roster_from, roster_of}
-use Rattle.elab_items.specs.Settings.{Settings}
-use Rattle.elab_items.proofs.Lawful.{all_lawful, draft_lawful}
-use Rattle.elab_items.proofs.Places.{Stands, all_stand}
+use Rattle.elab_laws.specs.elab_scope.Names.{Meanings, numbers_in}
+use Rattle.elab_laws.proofs.elab_scope_proofs.Sound.{nil_left, nil_right}
+use Rattle.elab_flat.specs.elab_items.Claims.{all_claim_faults, all_direction_faults, no_course}
+use Rattle.elab_flat.specs.elab_items.Declarations.{Declaration, declarations}
+use Rattle.elab_flat.specs.elab_items.Drafts.{all_draft_faults, no_draft}
+use Rattle.elab_flat.specs.elab_items.Rosters.{limit_faults, no_roster}
+use Rattle.elab_flat.specs.elab_items.Scopes.{all_name_faults, claims_of, declaration_faults, draft_of, faults_after, roster_from, roster_of}
+use Rattle.elab_flat.specs.elab_items.Settings.{Settings}
+use Rattle.elab_flat.proofs.elab_items_proofs.Lawful.{all_lawful, draft_lawful}
+use Rattle.elab_flat.proofs.elab_items_proofs.Places.{Stands, all_stand}
 
 pub claim_part : (settings : Settings) (base : ℕ) (c : Circuit) → declaration_faults settings base c ≡ [] → all_claim_faults (numbers_in (draft_of settings (declarations c))) no_course (declarations c) ≡ []
 claim_part settings base c h =

@@ -10,18 +10,18 @@ use Rattle.rtl_flat.specs.declared.instance.Instance.{Instance}
 use Rattle.rtl_flat.specs.declared.signal.Signal.{Signal}
 use Rattle.rtl_flat.specs.Sizing.{HaveBits}
 use Rattle.rtl_flat.specs.WellFormed.{IsSignal}
-use Rattle.elab_items.specs.declared.reach.Reach.{Reach}
-use Rattle.elab_items.specs.declared.reach.Reach.TheVariants.{Scalar, Bits, Hidden}
-use Rattle.elab_items.specs.Rosters.{Listing}
-use Rattle.elab_items.specs.Scopes.{declaration_faults, listings_of}
-use Rattle.elab_items.specs.Signals.{Home, signal_in, width_of}
-use Rattle.elab_items.proofs.Lawful.{IsLawful as IsReachLawful}
-use Rattle.elab_items.proofs.Places.{AreWide, Stands}
-use Rattle.elab_walk.specs.declared.room.Room.{Room}
-use Rattle.elab_walk.specs.Rooms.{room_after, whole_room}
-use Rattle.elab_walk.specs.Placements.{Placement, home_of, instance_of, region, regions_at, signals_at, placements}
-use Rattle.elab_walk.specs.Regions.{dropped_in}
-use Rattle.elab_walk.specs.Visits.{Library, Visit, all_visits, visits}
+use Rattle.elab_flat.specs.elab_items.declared.reach.Reach.{Reach}
+use Rattle.elab_flat.specs.elab_items.declared.reach.Reach.TheVariants.{Scalar, Bits, Hidden}
+use Rattle.elab_flat.specs.elab_items.Rosters.{Listing}
+use Rattle.elab_flat.specs.elab_items.Scopes.{declaration_faults, listings_of}
+use Rattle.elab_flat.specs.elab_items.Signals.{Home, signal_in, width_of}
+use Rattle.elab_flat.proofs.elab_items_proofs.Lawful.{IsLawful as IsReachLawful}
+use Rattle.elab_flat.proofs.elab_items_proofs.Places.{AreWide, Stands}
+use Rattle.elab_flat.specs.elab_walk.declared.room.Room.{Room}
+use Rattle.elab_flat.specs.elab_walk.Rooms.{room_after, whole_room}
+use Rattle.elab_flat.specs.elab_walk.Placements.{Placement, home_of, instance_of, region, regions_at, signals_at, placements}
+use Rattle.elab_flat.specs.elab_walk.Regions.{dropped_in}
+use Rattle.elab_flat.specs.elab_walk.Visits.{Library, Visit, all_visits, visits}
 use Rattle.elab_flat.specs.Flats.{flat_of}
 use Rattle.elab_flat.specs.Works.{no_works, with_placements}
 use Rattle.elab_lawful.specs.Laws.{IsLawful, LawfulLaw}

@@ -9,16 +9,16 @@ use Rattle.rtl_const.specs.Numbers.{Numbers}
 use Rattle.rtl_tree.specs.declared.tree.item.Direction.{Direction}
 use Rattle.rtl_tree.specs.declared.tree.item.PortKind.{PortKind}
 use Rattle.rtl_tree.specs.TreeExpr.{Identifier}
-use Rattle.elab_scope.proofs.Fitting.{no_cons}
-use Rattle.elab_scope.proofs.Sound.{nil_left, nil_right}
-use Rattle.elab_items.specs.declared.claims.Claim.{Claim}
-use Rattle.elab_items.specs.declared.claims.Line.{Line}
-use Rattle.elab_items.specs.declared.claims.Sense.{Sense}
-use Rattle.elab_items.specs.declared.claims.Sense.TheVariants as sense
-use Rattle.elab_items.specs.declared.reach.Reach.{Reach}
-use Rattle.elab_items.specs.Claims.{Claims, Course, all_claim_faults, all_claimed, claim_faults, claimed, claims_after, completes, direction_of, either, first_sense, joins, line_of, listed_claim, outside_faults, plain_claim, plain_faults, signal_claim, signal_faults, signal_sense, with_claim}
-use Rattle.elab_items.specs.Declarations.{Declaration, ParameterRange, Parameter, SignalRange, Listed, Signal, Integer, Instance}
-use Rattle.elab_links.specs.Ports.{Directions, all_directed, directed, with_direction}
+use Rattle.elab_laws.proofs.elab_scope_proofs.Fitting.{no_cons}
+use Rattle.elab_laws.proofs.elab_scope_proofs.Sound.{nil_left, nil_right}
+use Rattle.elab_flat.specs.elab_items.declared.claims.Claim.{Claim}
+use Rattle.elab_flat.specs.elab_items.declared.claims.Line.{Line}
+use Rattle.elab_flat.specs.elab_items.declared.claims.Sense.{Sense}
+use Rattle.elab_flat.specs.elab_items.declared.claims.Sense.TheVariants as sense
+use Rattle.elab_flat.specs.elab_items.declared.reach.Reach.{Reach}
+use Rattle.elab_flat.specs.elab_items.Claims.{Claims, Course, all_claim_faults, all_claimed, claim_faults, claimed, claims_after, completes, direction_of, either, first_sense, joins, line_of, listed_claim, outside_faults, plain_claim, plain_faults, signal_claim, signal_faults, signal_sense, with_claim}
+use Rattle.elab_flat.specs.elab_items.Declarations.{Declaration, ParameterRange, Parameter, SignalRange, Listed, Signal, Integer, Instance}
+use Rattle.elab_flat.specs.elab_links.Ports.{Directions, all_directed, directed, with_direction}
 
 pub same_bytes : (name : List ℕ) → bytes_eq name name ≡ true
 same_bytes name = (bytes_decides name name).1 refl

@@ -7,23 +7,23 @@ use Rattle.std.proofs.lemmas.Bool.Decides.{nat_tests}
 use Rattle.rtl_const.specs.Constant.{Outcome, constant}
 use Rattle.rtl_tree.specs.TreeExpr.{Identifier, Formula, Number, Read, ReadBit, ReadPart, Parens, Convert, Concat, Repeat, Unary, Binary, Choose, Formulas, no_formulas, more_formulas}
 use Rattle.rtl_tree.specs.TreeStmt.{Target, Whole, Bit, Part, Joined, Targets, no_targets, more_targets}
-use Rattle.elab_scope.specs.declared.covers.Cover.{Cover}
-use Rattle.elab_scope.specs.declared.known.Known.{Known}
-use Rattle.elab_scope.specs.declared.rules.Writer.TheVariants.{Continuous}
-use Rattle.elab_scope.specs.declared.widths.Breadth.{Breadth}
-use Rattle.elab_scope.specs.declared.widths.Breadth.TheVariants.{Bits, Unfit, Hidden}
-use Rattle.elab_scope.specs.Expressions.{constant_faults, faults, row_faults}
-use Rattle.elab_scope.specs.Faults.{Refusal}
-use Rattle.elab_scope.specs.Names.{Meanings, numbers_in}
-use Rattle.elab_scope.specs.Own.{breadth, row_breadth}
-use Rattle.elab_scope.specs.Rules.{index_faults, part_faults, range_faults, read_faults, select_faults, width_faults, write_faults}
-use Rattle.elab_scope.specs.Targets.{all_covered, all_twice_faults, bit_cover, cover_faults, covered, joined_faults, overlap, part_cover, part_target_faults, target_breadth, target_faults, targets_breadth, twice_faults, where_known, whole_cover, with_cover}
-use Rattle.elab_scope.specs.Trees.{field_in}
-use Rattle.elab_scope.specs.Widths.{beside, fit}
-use Rattle.elab_scope.proofs.Fitting.{no_cons}
-use Rattle.elab_scope.proofs.Sound.{nil_left, nil_right}
-use Rattle.elab_links.specs.Drivable.{all_covers_of, all_have_nets, cover_list, covers_of, drivable, has_nets, is_number, may_link, meet, meets_itself}
-use Rattle.elab_links.proofs.Pieces.{as_argument, as_arguments}
+use Rattle.elab_laws.specs.elab_scope.declared.covers.Cover.{Cover}
+use Rattle.elab_laws.specs.elab_scope.declared.known.Known.{Known}
+use Rattle.elab_laws.specs.elab_scope.declared.rules.Writer.TheVariants.{Continuous}
+use Rattle.elab_laws.specs.elab_scope.declared.widths.Breadth.{Breadth}
+use Rattle.elab_laws.specs.elab_scope.declared.widths.Breadth.TheVariants.{Bits, Unfit, Hidden}
+use Rattle.elab_laws.specs.elab_scope.Expressions.{constant_faults, faults, row_faults}
+use Rattle.elab_laws.specs.elab_scope.Faults.{Refusal}
+use Rattle.elab_laws.specs.elab_scope.Names.{Meanings, numbers_in}
+use Rattle.elab_laws.specs.elab_scope.Own.{breadth, row_breadth}
+use Rattle.elab_laws.specs.elab_scope.Rules.{index_faults, part_faults, range_faults, read_faults, select_faults, width_faults, write_faults}
+use Rattle.elab_laws.specs.elab_scope.Targets.{all_covered, all_twice_faults, bit_cover, cover_faults, covered, joined_faults, overlap, part_cover, part_target_faults, target_breadth, target_faults, targets_breadth, twice_faults, where_known, whole_cover, with_cover}
+use Rattle.elab_laws.specs.elab_scope.Trees.{field_in}
+use Rattle.elab_laws.specs.elab_scope.Widths.{beside, fit}
+use Rattle.elab_laws.proofs.elab_scope_proofs.Fitting.{no_cons}
+use Rattle.elab_laws.proofs.elab_scope_proofs.Sound.{nil_left, nil_right}
+use Rattle.elab_flat.specs.elab_links.Drivable.{all_covers_of, all_have_nets, cover_list, covers_of, drivable, has_nets, is_number, may_link, meet, meets_itself}
+use Rattle.elab_flat.proofs.elab_links_proofs.Pieces.{as_argument, as_arguments}
 
 -- ---- the target
 

@@ -9,19 +9,19 @@ use Rattle.rtl_tree.specs.declared.tree.item.Direction.{Direction}
 use Rattle.rtl_tree.specs.declared.tree.item.Direction.TheVariants.{Input}
 use Rattle.rtl_tree.specs.TreeExpr.{Identifier}
 use Rattle.rtl_tree.specs.TreeModule.{Circuit}
-use Rattle.elab_scope.specs.declared.known.Known.{Known}
-use Rattle.elab_scope.specs.declared.known.Known.TheVariants as known
-use Rattle.elab_scope.specs.declared.known.Role.TheVariants as role
-use Rattle.elab_scope.specs.Names.{Meanings, entered, numbers_in}
-use Rattle.elab_items.specs.declared.claims.Line.{Line}
-use Rattle.elab_items.specs.declared.claims.Sense.{Sense}
-use Rattle.elab_items.specs.declared.claims.Sense.TheVariants as sense
-use Rattle.elab_items.specs.Claims.{Claims, direction_of, no_course}
-use Rattle.elab_items.specs.Declarations.{Declaration, ParameterRange, Parameter, SignalRange, Listed, Signal, Integer, Instance, declarations}
-use Rattle.elab_items.specs.Rosters.{Roster, all_enrolled, enrolled, no_roster, role_of, signal_known, with_known, with_name, with_sense}
-use Rattle.elab_items.specs.Scopes.{claims_of, declaration_faults, draft_of, scope_of}
-use Rattle.elab_items.specs.Settings.{Settings}
-use Rattle.elab_links.specs.Ports.{Directions, all_directed, no_directions, sockets_of, with_direction}
+use Rattle.elab_laws.specs.elab_scope.declared.known.Known.{Known}
+use Rattle.elab_laws.specs.elab_scope.declared.known.Known.TheVariants as known
+use Rattle.elab_laws.specs.elab_scope.declared.known.Role.TheVariants as role
+use Rattle.elab_laws.specs.elab_scope.Names.{Meanings, entered, numbers_in}
+use Rattle.elab_flat.specs.elab_items.declared.claims.Line.{Line}
+use Rattle.elab_flat.specs.elab_items.declared.claims.Sense.{Sense}
+use Rattle.elab_flat.specs.elab_items.declared.claims.Sense.TheVariants as sense
+use Rattle.elab_flat.specs.elab_items.Claims.{Claims, direction_of, no_course}
+use Rattle.elab_flat.specs.elab_items.Declarations.{Declaration, ParameterRange, Parameter, SignalRange, Listed, Signal, Integer, Instance, declarations}
+use Rattle.elab_flat.specs.elab_items.Rosters.{Roster, all_enrolled, enrolled, no_roster, role_of, signal_known, with_known, with_name, with_sense}
+use Rattle.elab_flat.specs.elab_items.Scopes.{claims_of, declaration_faults, draft_of, scope_of}
+use Rattle.elab_flat.specs.elab_items.Settings.{Settings}
+use Rattle.elab_flat.specs.elab_links.Ports.{Directions, all_directed, no_directions, sockets_of, with_direction}
 use Rattle.elab_lawful.proofs.Claimed.{claim_part}
 use Rattle.elab_lawful.proofs.Directions.{Agrees, AllAgree, IsDirected, all_agree, is_directed, same_bytes, direction_there}
 

@@ -9,33 +9,33 @@ use Rattle.rtl_tree.specs.TreeExpr.{Identifier}
 use Rattle.rtl_tree.specs.TreeItem.{Association, ModuleItem, Ports, Nets, Variables, Integers, Parameters, Drives, Always, Instances, Instantiation}
 use Rattle.rtl_tree.specs.TreeModule.{Circuit}
 use Rattle.rtl_flat.specs.declared.signal.Signal.{Signal}
-use Rattle.elab_scope.specs.Faults.{Refusal, TooLarge}
-use Rattle.elab_scope.specs.Names.{Meanings}
-use Rattle.elab_scope.specs.Rules.{fault}
-use Rattle.elab_scope.proofs.Fitting.{no_cons}
-use Rattle.elab_scope.proofs.Sound.{nil_left, nil_right}
-use Rattle.elab_body.specs.Steps.{Step, faulty}
-use Rattle.elab_items.specs.Declarations.{declarations}
-use Rattle.elab_items.specs.Scopes.{scope_of}
-use Rattle.elab_body.specs.Faultless.{AreFaultless, statement_count}
+use Rattle.elab_laws.specs.elab_scope.Faults.{Refusal, TooLarge}
+use Rattle.elab_laws.specs.elab_scope.Names.{Meanings}
+use Rattle.elab_laws.specs.elab_scope.Rules.{fault}
+use Rattle.elab_laws.proofs.elab_scope_proofs.Fitting.{no_cons}
+use Rattle.elab_laws.proofs.elab_scope_proofs.Sound.{nil_left, nil_right}
+use Rattle.elab_laws.specs.elab_body.Steps.{Step, faulty}
+use Rattle.elab_flat.specs.elab_items.Declarations.{declarations}
+use Rattle.elab_flat.specs.elab_items.Scopes.{scope_of}
+use Rattle.elab_laws.specs.elab_body.Faultless.{AreFaultless, statement_count}
 use Rattle.elab_laws.specs.Scopes.{IsScopeOf}
 use Rattle.elab_laws.proofs.Steps.{count_append, faultless_left, faultless_right, no_faults}
-use Rattle.elab_links.specs.declared.module_set.Lookup.{Lookup}
-use Rattle.elab_links.specs.declared.module_set.Lookup.TheVariants.{Missing, Found, Twice}
-use Rattle.elab_links.specs.declared.module_set.Place.{Place}
-use Rattle.elab_links.specs.Connections.{instantiation_faults, instantiations_faults}
-use Rattle.elab_links.specs.Groups.{Group, found_group, group_at}
-use Rattle.elab_links.specs.Instances.{depth_faults, found_faults, known_child_faults, link_faults, loop_faults}
-use Rattle.elab_links.specs.Modules.{circuit_at}
-use Rattle.elab_links.specs.Parameters.{parameter_faults, settable, settings_by}
-use Rattle.elab_links.specs.Ports.{Sockets, sockets_of}
-use Rattle.elab_parts.specs.Items.{item_places, item_steps}
-use Rattle.elab_parts.specs.Tasks.{item_tasks}
+use Rattle.elab_flat.specs.elab_links.declared.module_set.Lookup.{Lookup}
+use Rattle.elab_flat.specs.elab_links.declared.module_set.Lookup.TheVariants.{Missing, Found, Twice}
+use Rattle.elab_flat.specs.elab_links.declared.module_set.Place.{Place}
+use Rattle.elab_flat.specs.elab_links.Connections.{instantiation_faults, instantiations_faults}
+use Rattle.elab_flat.specs.elab_links.Groups.{Group, found_group, group_at}
+use Rattle.elab_flat.specs.elab_links.Instances.{depth_faults, found_faults, known_child_faults, link_faults, loop_faults}
+use Rattle.elab_flat.specs.elab_links.Modules.{circuit_at}
+use Rattle.elab_flat.specs.elab_links.Parameters.{parameter_faults, settable, settings_by}
+use Rattle.elab_flat.specs.elab_links.Ports.{Sockets, sockets_of}
+use Rattle.elab_flat.specs.elab_parts.Items.{item_places, item_steps}
+use Rattle.elab_flat.specs.elab_parts.Tasks.{item_tasks}
 use Rattle.elab_flat.specs.Links.{link_tasks}
-use Rattle.elab_walk.specs.Links.{link_steps}
-use Rattle.elab_walk.specs.Rooms.{connection_places, link_places, part_steps, instantiation_places}
-use Rattle.elab_walk.specs.Placements.{Placement}
-use Rattle.elab_walk.specs.Visits.{Holder, Library, Visit, child_in, holder_of, item_children, placed_children, scope_in}
+use Rattle.elab_flat.specs.elab_walk.Links.{link_steps}
+use Rattle.elab_flat.specs.elab_walk.Rooms.{connection_places, link_places, part_steps, instantiation_places}
+use Rattle.elab_flat.specs.elab_walk.Placements.{Placement}
+use Rattle.elab_flat.specs.elab_walk.Visits.{Holder, Library, Visit, child_in, holder_of, item_children, placed_children, scope_in}
 use Rattle.elab_flat.specs.Works.{group_in, group_tasks, part_tasks, placed, instantiations_tasks, sides_of}
 use Rattle.elab_lawful.proofs.Links.{AreSides, links_lawful}
 use Rattle.elab_lawful.proofs.Parts.{item_lawful}

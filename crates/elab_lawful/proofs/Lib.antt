@@ -12,3 +12,6 @@ pub mod Scopes
 pub mod Tasks
 pub mod Trees
 pub mod Works
+-- passed on to the crates above
+pub use Rattle.elab_flat.proofs.elab_links_proofs
+pub use Rattle.elab_flat.proofs.elab_walk_proofs

@@ -15,31 +15,31 @@ use Rattle.rtl_flat.specs.Process.{Assign}
 use Rattle.rtl_flat.specs.Signs.{Has, width_in}
 use Rattle.rtl_flat.specs.Sizing.{signed_in}
 use Rattle.rtl_flat.specs.WellFormed.{IsProcess}
-use Rattle.elab_scope.specs.declared.known.Known.{Known}
-use Rattle.elab_scope.specs.declared.known.Known.TheVariants as known
-use Rattle.elab_scope.specs.declared.known.Role.TheVariants as role
-use Rattle.elab_scope.specs.declared.widths.Breadth.{Breadth}
-use Rattle.elab_scope.specs.declared.widths.Breadth.TheVariants.{Bits}
-use Rattle.elab_scope.specs.Expressions.{faults}
-use Rattle.elab_scope.specs.Faults.{Port, Refusal}
-use Rattle.elab_scope.specs.Names.{Meanings}
-use Rattle.elab_scope.specs.Own.{breadth, name_breadth, name_sign}
-use Rattle.elab_scope.specs.Rules.{fault}
-use Rattle.elab_scope.specs.Targets.{pieces_of, target_breadth}
-use Rattle.elab_scope.specs.Trees.{signal_of, spot_in}
-use Rattle.elab_scope.specs.Widths.{bits, wider}
-use Rattle.elab_scope.proofs.Fitting.{fitted_is, no_cons}
-use Rattle.elab_scope.proofs.Sound.{nil_left, nil_right}
+use Rattle.elab_laws.specs.elab_scope.declared.known.Known.{Known}
+use Rattle.elab_laws.specs.elab_scope.declared.known.Known.TheVariants as known
+use Rattle.elab_laws.specs.elab_scope.declared.known.Role.TheVariants as role
+use Rattle.elab_laws.specs.elab_scope.declared.widths.Breadth.{Breadth}
+use Rattle.elab_laws.specs.elab_scope.declared.widths.Breadth.TheVariants.{Bits}
+use Rattle.elab_laws.specs.elab_scope.Expressions.{faults}
+use Rattle.elab_laws.specs.elab_scope.Faults.{Port, Refusal}
+use Rattle.elab_laws.specs.elab_scope.Names.{Meanings}
+use Rattle.elab_laws.specs.elab_scope.Own.{breadth, name_breadth, name_sign}
+use Rattle.elab_laws.specs.elab_scope.Rules.{fault}
+use Rattle.elab_laws.specs.elab_scope.Targets.{pieces_of, target_breadth}
+use Rattle.elab_laws.specs.elab_scope.Trees.{signal_of, spot_in}
+use Rattle.elab_laws.specs.elab_scope.Widths.{bits, wider}
+use Rattle.elab_laws.proofs.elab_scope_proofs.Fitting.{fitted_is, no_cons}
+use Rattle.elab_laws.proofs.elab_scope_proofs.Sound.{nil_left, nil_right}
 use Rattle.elab_laws.specs.Scopes.{IsScopeOf}
 use Rattle.elab_laws.proofs.Assignments.{input_connection, output_connection}
-use Rattle.elab_links.specs.Connections.{argument_faults, connection_faults, driven_faults, named_link_faults, ordered_link_faults, placed_faults, instantiation_faults}
-use Rattle.elab_links.specs.Drivable.{drivable, link_pieces}
-use Rattle.elab_links.specs.Marks.{Marks, no_marks, with_mark}
-use Rattle.elab_links.specs.Parameters.{name_faults, surplus_faults}
-use Rattle.elab_links.specs.Ports.{Sockets}
-use Rattle.elab_links.proofs.Pieces.{as_argument, pieces_agree}
+use Rattle.elab_flat.specs.elab_links.Connections.{argument_faults, connection_faults, driven_faults, named_link_faults, ordered_link_faults, placed_faults, instantiation_faults}
+use Rattle.elab_flat.specs.elab_links.Drivable.{drivable, link_pieces}
+use Rattle.elab_flat.specs.elab_links.Marks.{Marks, no_marks, with_mark}
+use Rattle.elab_flat.specs.elab_links.Parameters.{name_faults, surplus_faults}
+use Rattle.elab_flat.specs.elab_links.Ports.{Sockets}
+use Rattle.elab_flat.proofs.elab_links_proofs.Pieces.{as_argument, pieces_agree}
 use Rattle.elab_flat.specs.Links.{Sides, link_tasks, named_port_tasks, named_tasks, ordered_tasks, output_context, placed_tasks, port_tasks, port_tree}
-use Rattle.elab_walk.specs.Rooms.{argument_places, connection_places, named_places, ordered_places}
+use Rattle.elab_flat.specs.elab_walk.Rooms.{argument_places, connection_places, named_places, ordered_places}
 use Rattle.elab_lawful.proofs.Driven.{IsDriven, breadth_is, driven}
 use Rattle.elab_lawful.proofs.Scopes.{AreLinks, IsInputNet, IsLink}
 use Rattle.elab_lawful.proofs.Tasks.{AreTasks, more_tasks, no_tasks, one_task, tasks_weaker}

@@ -5,13 +5,13 @@ use Rattle.std.proofs.Common.{◌≡◌, refl}
 use Rattle.rtl_tree.specs.declared.tree.item.Direction.{Direction}
 use Rattle.rtl_tree.specs.TreeExpr.{Formula, Identifier}
 use Rattle.rtl_tree.specs.TreeItem.{ModuleItem, Association, ByPosition, ByName, Associated, Positional, Instantiation}
-use Rattle.elab_scope.specs.Names.{Meanings}
-use Rattle.elab_body.specs.Steps.{Step, Faulty, Statement, Turn, Delay, Nodes, delays_of}
-use Rattle.elab_body.specs.Faultless.{statement_count}
-use Rattle.elab_links.specs.Groups.{Group, group_of}
-use Rattle.elab_links.specs.Ports.{Sockets, sockets_of}
-use Rattle.elab_walk.specs.Links.{argument_steps, connection_steps, group_steps, instantiations_steps, link_steps, named_steps, ordered_steps, placed_steps}
-use Rattle.elab_walk.specs.Visits.{Library}
+use Rattle.elab_laws.specs.elab_scope.Names.{Meanings}
+use Rattle.elab_laws.specs.elab_body.Steps.{Step, Faulty, Statement, Turn, Delay, Nodes, delays_of}
+use Rattle.elab_laws.specs.elab_body.Faultless.{statement_count}
+use Rattle.elab_flat.specs.elab_links.Groups.{Group, group_of}
+use Rattle.elab_flat.specs.elab_links.Ports.{Sockets, sockets_of}
+use Rattle.elab_flat.specs.elab_walk.Links.{argument_steps, connection_steps, group_steps, instantiations_steps, link_steps, named_steps, ordered_steps, placed_steps}
+use Rattle.elab_flat.specs.elab_walk.Visits.{Library}
 
 -- whether all steps are nodes
 abbrev AreNodes : List Step → Type 0

@@ -10,22 +10,22 @@ use Rattle.rtl_flat.specs.declared.instance.Delay.{Delay}
 use Rattle.rtl_flat.specs.declared.signal.Signal.{Signal}
 use Rattle.rtl_flat.specs.Process.{Actions, Watched, body_of}
 use Rattle.rtl_flat.specs.WellFormed.{IsProcess, process_statements, statements_of}
-use Rattle.elab_scope.specs.declared.rules.Writer.TheVariants.{Continuous}
-use Rattle.elab_scope.specs.Expressions.{faults}
-use Rattle.elab_scope.specs.Names.{Meanings}
-use Rattle.elab_scope.specs.Targets.{target_faults}
-use Rattle.elab_body.specs.Acts.{acts}
-use Rattle.elab_body.specs.Bodies.{pause_steps, steps}
-use Rattle.elab_body.specs.Events.{is_clocked_by, listing_of, sensitivity_faults, watched_of}
-use Rattle.elab_body.specs.Steps.{Step, delays_of, faulty}
-use Rattle.elab_body.specs.Faultless.{AreFaultless, statement_count}
+use Rattle.elab_laws.specs.elab_scope.declared.rules.Writer.TheVariants.{Continuous}
+use Rattle.elab_laws.specs.elab_scope.Expressions.{faults}
+use Rattle.elab_laws.specs.elab_scope.Names.{Meanings}
+use Rattle.elab_laws.specs.elab_scope.Targets.{target_faults}
+use Rattle.elab_laws.specs.elab_body.Acts.{acts}
+use Rattle.elab_laws.specs.elab_body.Bodies.{pause_steps, steps}
+use Rattle.elab_laws.specs.elab_body.Events.{is_clocked_by, listing_of, sensitivity_faults, watched_of}
+use Rattle.elab_laws.specs.elab_body.Steps.{Step, delays_of, faulty}
+use Rattle.elab_laws.specs.elab_body.Faultless.{AreFaultless, statement_count}
 use Rattle.elab_laws.specs.Scopes.{IsScopeOf}
 use Rattle.elab_laws.proofs.Always.{comb, count, edge}
 use Rattle.elab_laws.proofs.Assignments.{continuous}
 use Rattle.elab_laws.proofs.Steps.{count_append, count_faulty, faultless_left, faultless_right, no_faults}
-use Rattle.elab_parts.specs.Delays.{delay_in, item_delays, repeated}
-use Rattle.elab_parts.specs.Items.{always_steps, assignment_steps, drive_places, drive_steps, item_places, item_steps, net_places, net_steps, value_places, value_steps}
-use Rattle.elab_parts.specs.Tasks.{always_task, assigned_task, drive_tasks, item_tasks, net_tasks, value_tasks, waited}
+use Rattle.elab_flat.specs.elab_parts.Delays.{delay_in, item_delays, repeated}
+use Rattle.elab_flat.specs.elab_parts.Items.{always_steps, assignment_steps, drive_places, drive_steps, item_places, item_steps, net_places, net_steps, value_places, value_steps}
+use Rattle.elab_flat.specs.elab_parts.Tasks.{always_task, assigned_task, drive_tasks, item_tasks, net_tasks, value_tasks, waited}
 use Rattle.elab_lawful.proofs.Tasks.{AreTasks, more_tasks, no_tasks, one_task, tasks_weaker}
 
 assignment_lawful : (file base instance : ℕ) (scope : Meanings) (signals : List Signal) (many : ℕ) (target : Target) (value : Formula) → IsScopeOf base signals scope → instance < many → AreFaultless (assignment_steps scope target value) → AreTasks signals many 1 0 (assigned_task file base instance scope target value ∷ [])

@@ -5,20 +5,20 @@ use Rattle.std.specs.Option.{option_map}
 use Rattle.std.proofs.Common.{◌≡◌, ap, refl, arith, length-append}
 use Rattle.std.proofs.lemmas.Bool.Decides.{nat_tests}
 use Rattle.std.proofs.lemmas.List.{length-map}
-use Rattle.elab_scope.specs.Faults.{Answer, Refusal, least, located}
-use Rattle.elab_scope.proofs.Fitting.{no_cons}
-use Rattle.elab_scope.proofs.Sound.{nil_left, nil_right}
-use Rattle.elab_body.specs.Steps.{checked}
-use Rattle.elab_items.specs.Scopes.{declaration_faults, listings_of}
-use Rattle.elab_items.specs.Signals.{signal_in}
-use Rattle.elab_items.proofs.Law.{few_enough}
-use Rattle.elab_walk.specs.declared.room.Room.{Room}
-use Rattle.elab_walk.specs.Refusals.{own_faults, refusal, told_first, told_of, told_where}
-use Rattle.elab_walk.specs.Rooms.{has_room, parameter_count, process_faults, process_places, room_after, surplus, visit_steps}
-use Rattle.elab_walk.specs.Placements.{Placement, home_of, signals_at, placements}
-use Rattle.elab_walk.specs.Visits.{Library, Visit}
-use Rattle.elab_walk.proofs.Leaving.{nothing_told}
-use Rattle.elab_walk.proofs.Seeking.{short}
+use Rattle.elab_laws.specs.elab_scope.Faults.{Answer, Refusal, least, located}
+use Rattle.elab_laws.proofs.elab_scope_proofs.Fitting.{no_cons}
+use Rattle.elab_laws.proofs.elab_scope_proofs.Sound.{nil_left, nil_right}
+use Rattle.elab_laws.specs.elab_body.Steps.{checked}
+use Rattle.elab_flat.specs.elab_items.Scopes.{declaration_faults, listings_of}
+use Rattle.elab_flat.specs.elab_items.Signals.{signal_in}
+use Rattle.elab_flat.proofs.elab_items_proofs.Law.{few_enough}
+use Rattle.elab_flat.specs.elab_walk.declared.room.Room.{Room}
+use Rattle.elab_flat.specs.elab_walk.Refusals.{own_faults, refusal, told_first, told_of, told_where}
+use Rattle.elab_flat.specs.elab_walk.Rooms.{has_room, parameter_count, process_faults, process_places, room_after, surplus, visit_steps}
+use Rattle.elab_flat.specs.elab_walk.Placements.{Placement, home_of, signals_at, placements}
+use Rattle.elab_flat.specs.elab_walk.Visits.{Library, Visit}
+use Rattle.elab_flat.proofs.elab_walk_proofs.Leaving.{nothing_told}
+use Rattle.elab_flat.proofs.elab_walk_proofs.Seeking.{short}
 use Rattle.elab_lawful.proofs.Trees.{behind_first}
 
 -- an instance of which nothing is told

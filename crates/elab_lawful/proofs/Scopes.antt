@@ -11,23 +11,23 @@ use Rattle.rtl_flat.specs.declared.signal.Kind.TheVariants.{Net, Var}
 use Rattle.rtl_flat.specs.declared.signal.Signal.{Signal}
 use Rattle.rtl_flat.specs.Signs.{Has}
 use Rattle.rtl_flat.specs.Sizing.{HaveBits}
-use Rattle.elab_scope.specs.declared.known.Known.{Known}
-use Rattle.elab_scope.specs.declared.known.Known.TheVariants as known
-use Rattle.elab_scope.specs.declared.known.Role.{Role}
-use Rattle.elab_scope.specs.declared.known.Role.TheVariants as role
-use Rattle.elab_scope.specs.declared.known.Shape.{Shape}
-use Rattle.elab_scope.specs.Names.{Meanings}
-use Rattle.elab_scope.specs.Sources.{Describes, IsDescribed}
-use Rattle.elab_items.specs.Rosters.{Listing}
-use Rattle.elab_items.specs.Scopes.{declaration_faults, listings_of, scope_of}
-use Rattle.elab_items.specs.Settings.{Settings}
-use Rattle.elab_items.specs.Signals.{Home, kind_of, signal_in, signals_in}
-use Rattle.elab_items.proofs.Law.{describes, few_enough}
-use Rattle.elab_items.proofs.Places.{IsAt, IsListed, Stands, within}
+use Rattle.elab_laws.specs.elab_scope.declared.known.Known.{Known}
+use Rattle.elab_laws.specs.elab_scope.declared.known.Known.TheVariants as known
+use Rattle.elab_laws.specs.elab_scope.declared.known.Role.{Role}
+use Rattle.elab_laws.specs.elab_scope.declared.known.Role.TheVariants as role
+use Rattle.elab_laws.specs.elab_scope.declared.known.Shape.{Shape}
+use Rattle.elab_laws.specs.elab_scope.Names.{Meanings}
+use Rattle.elab_laws.specs.elab_scope.Sources.{Describes, IsDescribed}
+use Rattle.elab_flat.specs.elab_items.Rosters.{Listing}
+use Rattle.elab_flat.specs.elab_items.Scopes.{declaration_faults, listings_of, scope_of}
+use Rattle.elab_flat.specs.elab_items.Settings.{Settings}
+use Rattle.elab_flat.specs.elab_items.Signals.{Home, kind_of, signal_in, signals_in}
+use Rattle.elab_flat.proofs.elab_items_proofs.Law.{describes, few_enough}
+use Rattle.elab_flat.proofs.elab_items_proofs.Places.{IsAt, IsListed, Stands, within}
 use Rattle.elab_laws.specs.Scopes.{HasKind, IsScopeOf}
-use Rattle.elab_links.specs.Ports.{Sockets, sockets_of}
-use Rattle.elab_walk.specs.Placements.{Placement, home_of, signals_at}
-use Rattle.elab_walk.specs.Visits.{scope_in}
+use Rattle.elab_flat.specs.elab_links.Ports.{Sockets, sockets_of}
+use Rattle.elab_flat.specs.elab_walk.Placements.{Placement, home_of, signals_at}
+use Rattle.elab_flat.specs.elab_walk.Visits.{scope_in}
 use Rattle.elab_lawful.proofs.Claimed.{stands}
 use Rattle.elab_lawful.proofs.Entries.{IsPort, port_is}
 

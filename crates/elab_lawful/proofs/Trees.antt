@@ -5,10 +5,10 @@ use Rattle.std.proofs.Common.{◌≡◌, ◌∙◌, ap, refl, sym, subst, arith,
 use Rattle.std.proofs.lemmas.Bool.Decides.{nat_tests}
 use Rattle.rtl_tree.specs.TreeItem.{ModuleItem, Ports, Nets, Variables, Integers, Parameters, Drives, Always, Instances, Instantiation}
 use Rattle.rtl_flat.specs.WellFormed.{IsHierarchy, IsUnder}
-use Rattle.elab_items.specs.Scopes.{listings_of}
-use Rattle.elab_links.specs.Groups.{Group, group_of}
-use Rattle.elab_walk.specs.Placements.{Placement, instance_of, placements}
-use Rattle.elab_walk.specs.Visits.{Holder, Library, Visit, child_of, children, holder_of, item_children, placed_children, visits}
+use Rattle.elab_flat.specs.elab_items.Scopes.{listings_of}
+use Rattle.elab_flat.specs.elab_links.Groups.{Group, group_of}
+use Rattle.elab_flat.specs.elab_walk.Placements.{Placement, instance_of, placements}
+use Rattle.elab_flat.specs.elab_walk.Visits.{Holder, Library, Visit, child_of, children, holder_of, item_children, placed_children, visits}
 use Rattle.elab_flat.specs.Held.{held_under}
 
 abbrev pub depth_in : Visit → ℕ

@@ -11,22 +11,22 @@ use Rattle.rtl_flat.specs.declared.instance.Delay.{Delay}
 use Rattle.rtl_flat.specs.declared.signal.Signal.{Signal}
 use Rattle.rtl_flat.specs.Process.{Task}
 use Rattle.rtl_flat.specs.WellFormed.{IsProcess, process_statements}
-use Rattle.elab_scope.specs.Faults.{Refusal}
-use Rattle.elab_body.specs.Steps.{Step, delays_of, faulty}
-use Rattle.elab_body.specs.Faultless.{AreFaultless, statement_count}
+use Rattle.elab_laws.specs.elab_scope.Faults.{Refusal}
+use Rattle.elab_laws.specs.elab_body.Steps.{Step, delays_of, faulty}
+use Rattle.elab_laws.specs.elab_body.Faultless.{AreFaultless, statement_count}
 use Rattle.elab_laws.proofs.Always.{limit}
 use Rattle.elab_laws.proofs.Steps.{count_append, faultless_left, faultless_right}
-use Rattle.elab_links.specs.Instances.{link_faults}
-use Rattle.elab_parts.specs.Delays.{item_delays}
-use Rattle.elab_parts.specs.Items.{item_places, item_steps}
-use Rattle.elab_parts.specs.Tasks.{item_tasks}
-use Rattle.elab_parts.proofs.Law.{delay_places}
-use Rattle.elab_parts.proofs.Pausing.{no_pauses, pauses_append}
-use Rattle.elab_walk.specs.declared.room.Room.{Room}
-use Rattle.elab_walk.specs.Links.{link_steps}
-use Rattle.elab_walk.specs.Rooms.{link_places, part_steps, parts_steps, process_places, room_after, visit_steps}
-use Rattle.elab_walk.specs.Placements.{Placement, placements}
-use Rattle.elab_walk.specs.Visits.{Library, Visit, children, holder_of, item_children, scope_in}
+use Rattle.elab_flat.specs.elab_links.Instances.{link_faults}
+use Rattle.elab_flat.specs.elab_parts.Delays.{item_delays}
+use Rattle.elab_flat.specs.elab_parts.Items.{item_places, item_steps}
+use Rattle.elab_flat.specs.elab_parts.Tasks.{item_tasks}
+use Rattle.elab_flat.proofs.elab_parts_proofs.Law.{delay_places}
+use Rattle.elab_flat.proofs.elab_parts_proofs.Pausing.{no_pauses, pauses_append}
+use Rattle.elab_flat.specs.elab_walk.declared.room.Room.{Room}
+use Rattle.elab_flat.specs.elab_walk.Links.{link_steps}
+use Rattle.elab_flat.specs.elab_walk.Rooms.{link_places, part_steps, parts_steps, process_places, room_after, visit_steps}
+use Rattle.elab_flat.specs.elab_walk.Placements.{Placement, placements}
+use Rattle.elab_flat.specs.elab_walk.Visits.{Library, Visit, children, holder_of, item_children, scope_in}
 use Rattle.elab_flat.specs.Held.{depth_of, held_under}
 use Rattle.elab_flat.specs.Works.{Works, group_in, group_tasks, part_tasks, placed, with_part, with_parts, with_placement, with_placements}
 use Rattle.elab_lawful.proofs.Groups.{AreLinked, IsHolder, IsLinked, base_of, bases_left, children_left, linked_drop, part_lawful}

@@ -1,10 +1,10 @@
 -- What is without faults is lawful in the design: the law of whole designs.
 use Rattle.std.specs.Prelude.{◌≡◌, length, None}
 use Rattle.rtl_flat.specs.WellFormed.{IsDesign}
-use Rattle.elab_walk.specs.Refusals.{refusal}
-use Rattle.elab_walk.specs.Rooms.{whole_room}
-use Rattle.elab_walk.specs.Placements.{placements}
-use Rattle.elab_walk.specs.Visits.{Library, Visit, all_visits}
+use Rattle.elab_flat.specs.elab_walk.Refusals.{refusal}
+use Rattle.elab_flat.specs.elab_walk.Rooms.{whole_room}
+use Rattle.elab_flat.specs.elab_walk.Placements.{placements}
+use Rattle.elab_flat.specs.elab_walk.Visits.{Library, Visit, all_visits}
 use Rattle.elab_flat.specs.Flats.{DesignParts, flat_of}
 
 -- whether a flat design has what holds of every one

@@ -15,22 +15,22 @@ use Rattle.rtl_flat.specs.Process.{Selection, Piece}
 use Rattle.rtl_flat.specs.Process as piece
 use Rattle.rtl_flat.specs.Signs.{width_in}
 use Rattle.rtl_flat.specs.WellFormed.{IsFixed, Selects, AreApart, HasNoneTwice}
-use Rattle.elab_scope.specs.declared.covers.Cover.{Cover}
-use Rattle.elab_scope.specs.declared.known.Known.{Known}
-use Rattle.elab_scope.specs.declared.known.Known.TheVariants as known
-use Rattle.elab_scope.specs.declared.known.Role.{Role}
-use Rattle.elab_scope.specs.declared.known.Shape.{Shape}
-use Rattle.elab_scope.specs.declared.rules.Writer.TheVariants.{Continuous}
-use Rattle.elab_scope.specs.declared.widths.Field.{Field}
-use Rattle.elab_scope.specs.Expressions.{faults, constant_faults}
-use Rattle.elab_scope.specs.Names.{Meanings, numbers_in}
-use Rattle.elab_scope.specs.Rules.{missing, number_faults, part_faults, range_faults, write_faults, index_faults}
-use Rattle.elab_scope.specs.Sources.{Describes, IsDescribed}
-use Rattle.elab_scope.specs.Targets.{part_target_faults, joined_faults, bit_selection, part_selection, pieces_of, all_pieces_of, whole_cover, bit_in, bit_cover, part_cover, overlap, cover_faults, with_cover, covered, all_covered, twice_faults, all_twice_faults}
-use Rattle.elab_scope.specs.Trees.{field_in, low_of, own_context, signal_of, spot_in, tree_of}
-use Rattle.elab_scope.specs.Widths.{field}
-use Rattle.elab_scope.proofs.Fitting.{no_cons}
-use Rattle.elab_scope.proofs.Sound.{nil_left, nil_right}
+use Rattle.elab_body.specs.elab_scope.declared.covers.Cover.{Cover}
+use Rattle.elab_body.specs.elab_scope.declared.known.Known.{Known}
+use Rattle.elab_body.specs.elab_scope.declared.known.Known.TheVariants as known
+use Rattle.elab_body.specs.elab_scope.declared.known.Role.{Role}
+use Rattle.elab_body.specs.elab_scope.declared.known.Shape.{Shape}
+use Rattle.elab_body.specs.elab_scope.declared.rules.Writer.TheVariants.{Continuous}
+use Rattle.elab_body.specs.elab_scope.declared.widths.Field.{Field}
+use Rattle.elab_body.specs.elab_scope.Expressions.{faults, constant_faults}
+use Rattle.elab_body.specs.elab_scope.Names.{Meanings, numbers_in}
+use Rattle.elab_body.specs.elab_scope.Rules.{missing, number_faults, part_faults, range_faults, write_faults, index_faults}
+use Rattle.elab_body.specs.elab_scope.Sources.{Describes, IsDescribed}
+use Rattle.elab_body.specs.elab_scope.Targets.{part_target_faults, joined_faults, bit_selection, part_selection, pieces_of, all_pieces_of, whole_cover, bit_in, bit_cover, part_cover, overlap, cover_faults, with_cover, covered, all_covered, twice_faults, all_twice_faults}
+use Rattle.elab_body.specs.elab_scope.Trees.{field_in, low_of, own_context, signal_of, spot_in, tree_of}
+use Rattle.elab_body.specs.elab_scope.Widths.{field}
+use Rattle.elab_body.proofs.elab_scope_proofs.Fitting.{no_cons}
+use Rattle.elab_body.proofs.elab_scope_proofs.Sound.{nil_left, nil_right}
 use Rattle.elab_laws.proofs.Targets.{piece_at}
 
 -- ---- places that are known

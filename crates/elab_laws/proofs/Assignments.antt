@@ -16,16 +16,16 @@ use Rattle.rtl_flat.specs.Sizing.{HaveBits, signed_in}
 use Rattle.rtl_flat.specs.Sizing as sizing
 use Rattle.rtl_flat.specs.WellFormed.{IsAssignment, IsProcess, AreApart, target_width}
 use Rattle.rtl_flat.proofs.Signed.{is_expression}
-use Rattle.elab_scope.specs.declared.rules.Writer.{Writer}
-use Rattle.elab_scope.specs.declared.rules.Writer.TheVariants.{Continuous}
-use Rattle.elab_scope.specs.declared.widths.Breadth.{Breadth}
-use Rattle.elab_scope.specs.declared.widths.Breadth.TheVariants.{Bits}
-use Rattle.elab_scope.specs.Expressions.{faults}
-use Rattle.elab_scope.specs.Names.{Meanings}
-use Rattle.elab_scope.specs.Targets.{assigned_context, part_target_faults, pieces_of, target_breadth, target_faults, twice_faults, where_known}
-use Rattle.elab_scope.specs.Trees.{tree_of}
-use Rattle.elab_scope.specs.Widths.{bits, wider}
-use Rattle.elab_scope.proofs.Sound.{nil_left, nil_right}
+use Rattle.elab_body.specs.elab_scope.declared.rules.Writer.{Writer}
+use Rattle.elab_body.specs.elab_scope.declared.rules.Writer.TheVariants.{Continuous}
+use Rattle.elab_body.specs.elab_scope.declared.widths.Breadth.{Breadth}
+use Rattle.elab_body.specs.elab_scope.declared.widths.Breadth.TheVariants.{Bits}
+use Rattle.elab_body.specs.elab_scope.Expressions.{faults}
+use Rattle.elab_body.specs.elab_scope.Names.{Meanings}
+use Rattle.elab_body.specs.elab_scope.Targets.{assigned_context, part_target_faults, pieces_of, target_breadth, target_faults, twice_faults, where_known}
+use Rattle.elab_body.specs.elab_scope.Trees.{tree_of}
+use Rattle.elab_body.specs.elab_scope.Widths.{bits, wider}
+use Rattle.elab_body.proofs.elab_scope_proofs.Sound.{nil_left, nil_right}
 use Rattle.elab_laws.specs.Scopes.{written_kind, IsScopeOf}
 use Rattle.elab_laws.proofs.Apart.{one_fixed, target_apart, target_fixed}
 use Rattle.elab_laws.proofs.Targets.{SoundTarget, piece_at, single, target_sound}

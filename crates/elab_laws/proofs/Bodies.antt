@@ -11,16 +11,16 @@ use Rattle.rtl_flat.specs.Expression.{Tree}
 use Rattle.rtl_flat.specs.Process.{body_of, Otherwise}
 use Rattle.rtl_flat.specs.Process as made
 use Rattle.rtl_flat.specs.WellFormed.{AreBranches, IsOtherwise, branch_statements, other_statements, statements_of}
-use Rattle.elab_scope.specs.declared.context.Context.{Context}
-use Rattle.elab_scope.specs.declared.rules.Writer.TheVariants as writer
-use Rattle.elab_scope.specs.Expressions.{faults}
-use Rattle.elab_scope.specs.Names.{Meanings, numbers_in}
-use Rattle.elab_scope.specs.Own.{breadth, sign}
-use Rattle.elab_scope.specs.Targets.{target_faults}
-use Rattle.elab_scope.specs.Trees.{own_context, spot_in, tree_of}
-use Rattle.elab_scope.specs.Widths.{bits}
-use Rattle.elab_scope.proofs.Law.{tree_is_expression}
-use Rattle.elab_nodes.specs.Nodes.{node_count}
+use Rattle.elab_body.specs.elab_scope.declared.context.Context.{Context}
+use Rattle.elab_body.specs.elab_scope.declared.rules.Writer.TheVariants as writer
+use Rattle.elab_body.specs.elab_scope.Expressions.{faults}
+use Rattle.elab_body.specs.elab_scope.Names.{Meanings, numbers_in}
+use Rattle.elab_body.specs.elab_scope.Own.{breadth, sign}
+use Rattle.elab_body.specs.elab_scope.Targets.{target_faults}
+use Rattle.elab_body.specs.elab_scope.Trees.{own_context, spot_in, tree_of}
+use Rattle.elab_body.specs.elab_scope.Widths.{bits}
+use Rattle.elab_body.proofs.elab_scope_proofs.Law.{tree_is_expression}
+use Rattle.elab_body.specs.elab_nodes.Nodes.{node_count}
 use Rattle.elab_body.specs.Acts.{acts, body_acts, branches_breadth, case_branches, case_context, fallback, first_fallback, with_branch}
 use Rattle.elab_body.specs.Bodies.{all_faults, body_steps, branch_item_steps, branches_steps, pause_steps, steps}
 use Rattle.elab_body.specs.Steps.{Step, faulty}

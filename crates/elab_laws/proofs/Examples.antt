@@ -12,12 +12,12 @@ use Rattle.rtl_flat.specs.declared.signal.Signal.{Signal}
 use Rattle.rtl_flat.specs.Process.{Assign as Assigning, body_of}
 use Rattle.rtl_flat.specs.Signs.{width_in}
 use Rattle.rtl_flat.specs.WellFormed.{IsBody, IsProcess}
-use Rattle.elab_scope.specs.declared.known.Known.TheVariants as known
-use Rattle.elab_scope.specs.declared.known.Role.TheVariants as role
-use Rattle.elab_scope.specs.Names.{Meanings}
-use Rattle.elab_scope.specs.Sources.{IsDescribed}
-use Rattle.elab_scope.specs.Targets.{assigned_context, pieces_of}
-use Rattle.elab_scope.specs.Trees.{tree_of}
+use Rattle.elab_body.specs.elab_scope.declared.known.Known.TheVariants as known
+use Rattle.elab_body.specs.elab_scope.declared.known.Role.TheVariants as role
+use Rattle.elab_body.specs.elab_scope.Names.{Meanings}
+use Rattle.elab_body.specs.elab_scope.Sources.{IsDescribed}
+use Rattle.elab_body.specs.elab_scope.Targets.{assigned_context, pieces_of}
+use Rattle.elab_body.specs.elab_scope.Trees.{tree_of}
 use Rattle.elab_body.specs.Acts.{acts}
 use Rattle.elab_body.specs.Bodies.{all_turns, loop_faults, steps, turns}
 use Rattle.elab_body.specs.Faultless.{AreFaultless}

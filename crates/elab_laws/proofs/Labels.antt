@@ -9,15 +9,15 @@ use Rattle.rtl_tree.specs.TreeStmt.{Branch, Labelled, Default, Branches, no_bran
 use Rattle.rtl_flat.specs.declared.signal.Signal.{Signal}
 use Rattle.rtl_flat.specs.Signs.{IsExpression, sign_of, width_in}
 use Rattle.rtl_flat.specs.Sizes.{width_of}
-use Rattle.elab_scope.specs.declared.context.Context.{Context}
-use Rattle.elab_scope.specs.declared.widths.Breadth.{Breadth}
-use Rattle.elab_scope.specs.Expressions.{faults}
-use Rattle.elab_scope.specs.Names.{Meanings}
-use Rattle.elab_scope.specs.Own.{breadth, sign}
-use Rattle.elab_scope.specs.Trees.{tree_of}
-use Rattle.elab_scope.specs.Widths.{bits, wider}
-use Rattle.elab_scope.proofs.Law.{tree_is_expression}
-use Rattle.elab_scope.proofs.Sound.{nil_left, nil_right}
+use Rattle.elab_body.specs.elab_scope.declared.context.Context.{Context}
+use Rattle.elab_body.specs.elab_scope.declared.widths.Breadth.{Breadth}
+use Rattle.elab_body.specs.elab_scope.Expressions.{faults}
+use Rattle.elab_body.specs.elab_scope.Names.{Meanings}
+use Rattle.elab_body.specs.elab_scope.Own.{breadth, sign}
+use Rattle.elab_body.specs.elab_scope.Trees.{tree_of}
+use Rattle.elab_body.specs.elab_scope.Widths.{bits, wider}
+use Rattle.elab_body.proofs.elab_scope_proofs.Law.{tree_is_expression}
+use Rattle.elab_body.proofs.elab_scope_proofs.Sound.{nil_left, nil_right}
 use Rattle.elab_body.specs.Acts.{labels_breadth, labels_sign, branches_breadth, branches_sign}
 use Rattle.elab_body.specs.Bodies.{all_faults, branches_steps, steps}
 use Rattle.elab_body.specs.Steps.{faulty}

@@ -12,3 +12,5 @@ pub mod Targets
 pub mod Turns
 pub mod Values
 pub mod Widths
+-- passed on to the crates above
+pub use Rattle.elab_body.proofs.elab_scope_proofs

@@ -16,21 +16,21 @@ use Rattle.rtl_flat.specs.Expression.{Tree}
 use Rattle.rtl_flat.specs.Process.{Watched}
 use Rattle.rtl_flat.specs.Signs.{Has, IsExpression, width_in}
 use Rattle.rtl_flat.specs.WellFormed.{IsSelection, IsWatched, IsList, has_edge}
-use Rattle.elab_scope.specs.declared.context.Context.{Context}
-use Rattle.elab_scope.specs.declared.known.Known.{Known}
-use Rattle.elab_scope.specs.declared.known.Known.TheVariants as known
-use Rattle.elab_scope.specs.declared.widths.Field.{Field}
-use Rattle.elab_scope.specs.Expressions.{faults, constant_faults}
-use Rattle.elab_scope.specs.Faults.{Refusal}
-use Rattle.elab_scope.specs.Names.{Meanings, numbers_in}
-use Rattle.elab_scope.specs.Own.{field_breadth}
-use Rattle.elab_scope.specs.Rules.{missing, number_faults, part_faults, range_faults}
-use Rattle.elab_scope.specs.Sources.{IsDescribed, part_source}
-use Rattle.elab_scope.specs.Targets.{bit_selection, part_selection}
-use Rattle.elab_scope.specs.Trees.{field_in, low_of, own_context, signal_of, spot_in, tree_of}
-use Rattle.elab_scope.proofs.Fitting.{no_cons}
-use Rattle.elab_scope.proofs.Leaves as leaf
-use Rattle.elab_scope.proofs.Sound.{nil_left, nil_right, Sound}
+use Rattle.elab_body.specs.elab_scope.declared.context.Context.{Context}
+use Rattle.elab_body.specs.elab_scope.declared.known.Known.{Known}
+use Rattle.elab_body.specs.elab_scope.declared.known.Known.TheVariants as known
+use Rattle.elab_body.specs.elab_scope.declared.widths.Field.{Field}
+use Rattle.elab_body.specs.elab_scope.Expressions.{faults, constant_faults}
+use Rattle.elab_body.specs.elab_scope.Faults.{Refusal}
+use Rattle.elab_body.specs.elab_scope.Names.{Meanings, numbers_in}
+use Rattle.elab_body.specs.elab_scope.Own.{field_breadth}
+use Rattle.elab_body.specs.elab_scope.Rules.{missing, number_faults, part_faults, range_faults}
+use Rattle.elab_body.specs.elab_scope.Sources.{IsDescribed, part_source}
+use Rattle.elab_body.specs.elab_scope.Targets.{bit_selection, part_selection}
+use Rattle.elab_body.specs.elab_scope.Trees.{field_in, low_of, own_context, signal_of, spot_in, tree_of}
+use Rattle.elab_body.proofs.elab_scope_proofs.Fitting.{no_cons}
+use Rattle.elab_body.proofs.elab_scope_proofs.Leaves as leaf
+use Rattle.elab_body.proofs.elab_scope_proofs.Sound.{nil_left, nil_right, Sound}
 use Rattle.elab_body.specs.Events.{watch_faults, edge_faults, event_faults, events_faults, sensitivity_faults, edge_of_event, watched_of, listing_of, is_edge_event, is_clocked_by}
 use Rattle.elab_laws.specs.Scopes.{IsScopeOf}
 use Rattle.elab_laws.proofs.Targets.{low_there, width_there}

@@ -8,7 +8,7 @@ use Rattle.rtl_flat.specs.Expression.{Tree}
 use Rattle.rtl_flat.specs.Process.{Action, body_of}
 use Rattle.rtl_flat.specs.Signs.{IsExpression}
 use Rattle.rtl_flat.specs.WellFormed.{IsBody, statements_of}
-use Rattle.elab_scope.specs.Faults.{Refusal}
+use Rattle.elab_body.specs.elab_scope.Faults.{Refusal}
 use Rattle.elab_body.specs.Acts.{branch_acts, acts_if, acts_with}
 use Rattle.elab_body.specs.Bodies.{branch_steps, counted, where_true, with_number}
 use Rattle.elab_body.specs.Steps.{Step, Statement, Turn, faulty, has_statement}

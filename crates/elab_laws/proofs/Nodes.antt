@@ -5,19 +5,19 @@ use Rattle.rtl_const.specs.Constant.{Outcome, constant}
 use Rattle.rtl_tree.specs.TreeExpr.{Formula, Number, Read, ReadBit, ReadPart, Parens, Convert, Concat, Repeat, Unary, Binary, Choose, Formulas, no_formulas, more_formulas}
 use Rattle.rtl_flat.specs.Expression.{Tree}
 use Rattle.rtl_rule.specs.Parts.{nodes}
-use Rattle.elab_scope.specs.declared.context.Context.{Context}
-use Rattle.elab_scope.specs.declared.known.Known.{Known}
-use Rattle.elab_scope.specs.declared.known.Known.TheVariants as known
-use Rattle.elab_scope.specs.declared.operators.Operation.{Operation}
-use Rattle.elab_scope.specs.declared.operators.Operation.TheVariants.{Join, Compare, Link, Shift}
-use Rattle.elab_scope.specs.declared.operators.Prefix.{Prefix}
-use Rattle.elab_scope.specs.declared.operators.Prefix.TheVariants.{Turn, Fold}
-use Rattle.elab_scope.specs.declared.widths.Field.{Field}
-use Rattle.elab_scope.specs.Names.{Meanings, numbers_in}
-use Rattle.elab_scope.specs.Operators.{operation, prefix}
-use Rattle.elab_scope.specs.Own.{sign}
-use Rattle.elab_scope.specs.Trees.{bit_form, field_in, left_context, low_of, named_form, operand_context, operation_form, own_context, part_form, prefix_form, right_context, row_tree, signal_of, tree_of}
-use Rattle.elab_nodes.specs.Nodes.{index_count, node_count, row_count}
+use Rattle.elab_body.specs.elab_scope.declared.context.Context.{Context}
+use Rattle.elab_body.specs.elab_scope.declared.known.Known.{Known}
+use Rattle.elab_body.specs.elab_scope.declared.known.Known.TheVariants as known
+use Rattle.elab_body.specs.elab_scope.declared.operators.Operation.{Operation}
+use Rattle.elab_body.specs.elab_scope.declared.operators.Operation.TheVariants.{Join, Compare, Link, Shift}
+use Rattle.elab_body.specs.elab_scope.declared.operators.Prefix.{Prefix}
+use Rattle.elab_body.specs.elab_scope.declared.operators.Prefix.TheVariants.{Turn, Fold}
+use Rattle.elab_body.specs.elab_scope.declared.widths.Field.{Field}
+use Rattle.elab_body.specs.elab_scope.Names.{Meanings, numbers_in}
+use Rattle.elab_body.specs.elab_scope.Operators.{operation, prefix}
+use Rattle.elab_body.specs.elab_scope.Own.{sign}
+use Rattle.elab_body.specs.elab_scope.Trees.{bit_form, field_in, left_context, low_of, named_form, operand_context, operation_form, own_context, part_form, prefix_form, right_context, row_tree, signal_of, tree_of}
+use Rattle.elab_body.specs.elab_nodes.Nodes.{index_count, node_count, row_count}
 use Rattle.elab_laws.specs.Laws.{NodesLaw}
 
 named_nodes : (base : ℕ) (found : Option Known) (width : ℕ) (signed : Bool) → length (nodes (named_form base found width signed)) ≡ 0

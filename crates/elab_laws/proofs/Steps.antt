@@ -1,10 +1,10 @@
 -- Steps without faults, one after the other.
 use Rattle.std.specs.Prelude.{ℕ, zero, suc, ◌+◌, ◌-◌, ◌≤◌, List, [], ◌∷◌, ◌++◌, length, Option, None, Some}
 use Rattle.std.proofs.Common.{◌≡◌, refl, arith}
-use Rattle.elab_scope.specs.Faults.{Refusal}
-use Rattle.elab_scope.proofs.Fitting.{no_cons}
-use Rattle.elab_nodes.specs.Spares.{spared}
-use Rattle.elab_nodes.proofs.Sparing.{spared_behind, spared_few}
+use Rattle.elab_body.specs.elab_scope.Faults.{Refusal}
+use Rattle.elab_body.proofs.elab_scope_proofs.Fitting.{no_cons}
+use Rattle.elab_body.specs.elab_nodes.Spares.{spared}
+use Rattle.elab_body.proofs.elab_nodes_proofs.Sparing.{spared_behind, spared_few}
 use Rattle.elab_body.specs.Steps.{Step, Faulty, Statement, Turn, Delay, Nodes, faulty, checked, delays_of, where_spared}
 use Rattle.elab_body.specs.Faultless.{AreFaultless, node_total, statement_count}
 

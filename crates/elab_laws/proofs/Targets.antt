@@ -16,28 +16,28 @@ use Rattle.rtl_flat.specs.Process as piece
 use Rattle.rtl_flat.specs.Signs.{Has, IsExpression, width_in}
 use Rattle.rtl_flat.specs.Sizing.{low_in}
 use Rattle.rtl_flat.specs.WellFormed.{IsSelection, selection_width, target_width}
-use Rattle.elab_scope.specs.declared.context.Context.{Context}
-use Rattle.elab_scope.specs.declared.known.Known.{Known}
-use Rattle.elab_scope.specs.declared.known.Known.TheVariants as known
-use Rattle.elab_scope.specs.declared.known.Role.{Role}
-use Rattle.elab_scope.specs.declared.known.Role.TheVariants as role
-use Rattle.elab_scope.specs.declared.known.Shape.{Shape}
-use Rattle.elab_scope.specs.declared.rules.Writer.{Writer}
-use Rattle.elab_scope.specs.declared.rules.Writer.TheVariants.{Continuous, Procedural}
-use Rattle.elab_scope.specs.declared.widths.Breadth.{Breadth}
-use Rattle.elab_scope.specs.declared.widths.Breadth.TheVariants.{Bits}
-use Rattle.elab_scope.specs.declared.widths.Field.{Field}
-use Rattle.elab_scope.specs.Expressions.{faults, constant_faults}
-use Rattle.elab_scope.specs.Names.{Meanings, numbers_in}
-use Rattle.elab_scope.specs.Own.{name_breadth, part_breadth, field_breadth}
-use Rattle.elab_scope.specs.Rules.{width_faults, number_faults, part_faults, missing, range_faults, write_faults, index_faults}
-use Rattle.elab_scope.specs.Sources.{IsDescribed, part_source}
-use Rattle.elab_scope.specs.Targets.{target_breadth, targets_breadth, part_target_faults, joined_faults, bit_selection, part_selection, pieces_of, all_pieces_of}
-use Rattle.elab_scope.specs.Trees.{field_in, low_of, own_context, signal_of, spot_in, tree_of}
-use Rattle.elab_scope.specs.Widths.{beside, fit, fitted}
-use Rattle.elab_scope.proofs.Fitting.{no_cons, fitted_is, summed, beside_summed, fit_summed, fit_is}
-use Rattle.elab_scope.proofs.Leaves as leaf
-use Rattle.elab_scope.proofs.Sound.{nil_left, nil_right, Sound}
+use Rattle.elab_body.specs.elab_scope.declared.context.Context.{Context}
+use Rattle.elab_body.specs.elab_scope.declared.known.Known.{Known}
+use Rattle.elab_body.specs.elab_scope.declared.known.Known.TheVariants as known
+use Rattle.elab_body.specs.elab_scope.declared.known.Role.{Role}
+use Rattle.elab_body.specs.elab_scope.declared.known.Role.TheVariants as role
+use Rattle.elab_body.specs.elab_scope.declared.known.Shape.{Shape}
+use Rattle.elab_body.specs.elab_scope.declared.rules.Writer.{Writer}
+use Rattle.elab_body.specs.elab_scope.declared.rules.Writer.TheVariants.{Continuous, Procedural}
+use Rattle.elab_body.specs.elab_scope.declared.widths.Breadth.{Breadth}
+use Rattle.elab_body.specs.elab_scope.declared.widths.Breadth.TheVariants.{Bits}
+use Rattle.elab_body.specs.elab_scope.declared.widths.Field.{Field}
+use Rattle.elab_body.specs.elab_scope.Expressions.{faults, constant_faults}
+use Rattle.elab_body.specs.elab_scope.Names.{Meanings, numbers_in}
+use Rattle.elab_body.specs.elab_scope.Own.{name_breadth, part_breadth, field_breadth}
+use Rattle.elab_body.specs.elab_scope.Rules.{width_faults, number_faults, part_faults, missing, range_faults, write_faults, index_faults}
+use Rattle.elab_body.specs.elab_scope.Sources.{IsDescribed, part_source}
+use Rattle.elab_body.specs.elab_scope.Targets.{target_breadth, targets_breadth, part_target_faults, joined_faults, bit_selection, part_selection, pieces_of, all_pieces_of}
+use Rattle.elab_body.specs.elab_scope.Trees.{field_in, low_of, own_context, signal_of, spot_in, tree_of}
+use Rattle.elab_body.specs.elab_scope.Widths.{beside, fit, fitted}
+use Rattle.elab_body.proofs.elab_scope_proofs.Fitting.{no_cons, fitted_is, summed, beside_summed, fit_summed, fit_is}
+use Rattle.elab_body.proofs.elab_scope_proofs.Leaves as leaf
+use Rattle.elab_body.proofs.elab_scope_proofs.Sound.{nil_left, nil_right, Sound}
 use Rattle.elab_laws.specs.Scopes.{written_kind, HasKind, IsScopeOf}
 use Rattle.elab_laws.proofs.Values.{own_expression}
 

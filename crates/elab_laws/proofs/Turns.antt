@@ -6,13 +6,13 @@ use Rattle.rtl_const.specs.Constant.{Outcome}
 use Rattle.rtl_tree.specs.TreeExpr.{Identifier}
 use Rattle.rtl_flat.specs.declared.signal.Signal.{Signal}
 use Rattle.rtl_flat.specs.Process.{Action}
-use Rattle.elab_scope.specs.declared.known.Known.{Known}
-use Rattle.elab_scope.specs.declared.known.Known.TheVariants as known
-use Rattle.elab_scope.specs.Expressions.{constant_faults}
-use Rattle.elab_scope.specs.Names.{Meanings, indexed, is_integer, with_meaning}
-use Rattle.elab_scope.specs.Sources.{IsDescribed}
-use Rattle.elab_scope.proofs.Fitting.{no_cons}
-use Rattle.elab_scope.proofs.Sound.{nil_left}
+use Rattle.elab_body.specs.elab_scope.declared.known.Known.{Known}
+use Rattle.elab_body.specs.elab_scope.declared.known.Known.TheVariants as known
+use Rattle.elab_body.specs.elab_scope.Expressions.{constant_faults}
+use Rattle.elab_body.specs.elab_scope.Names.{Meanings, indexed, is_integer, with_meaning}
+use Rattle.elab_body.specs.elab_scope.Sources.{IsDescribed}
+use Rattle.elab_body.proofs.elab_scope_proofs.Fitting.{no_cons}
+use Rattle.elab_body.proofs.elab_scope_proofs.Sound.{nil_left}
 use Rattle.elab_body.specs.Acts.{act_turns, acts_with, loop_acts}
 use Rattle.elab_body.specs.Bodies.{Head, all_turns, counted, first_turns, head_faults, in_head, in_turn, index_faults, loop_faults, loop_steps, loop_turns, turns, with_number}
 use Rattle.elab_body.specs.Steps.{Step, faulty}

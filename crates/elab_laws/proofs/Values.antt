@@ -7,16 +7,16 @@ use Rattle.rtl_flat.specs.Expression.{Tree}
 use Rattle.rtl_flat.specs.Signs.{IsExpression, sign_of, width_in}
 use Rattle.rtl_flat.specs.Sizes.{width_of}
 use Rattle.rtl_flat.specs.Sizing.{own_width}
-use Rattle.elab_scope.specs.declared.context.Context.{Context}
-use Rattle.elab_scope.specs.declared.widths.Breadth.{Breadth}
-use Rattle.elab_scope.specs.declared.widths.Breadth.TheVariants.{Bits, Unfit, Hidden}
-use Rattle.elab_scope.specs.Expressions.{faults}
-use Rattle.elab_scope.specs.Names.{Meanings}
-use Rattle.elab_scope.specs.Own.{breadth, sign}
-use Rattle.elab_scope.specs.Sources.{source}
-use Rattle.elab_scope.specs.Trees.{own_context, tree_of}
-use Rattle.elab_scope.specs.Widths.{bits, wider}
-use Rattle.elab_scope.proofs.Law.{sound, tree_is_expression}
+use Rattle.elab_body.specs.elab_scope.declared.context.Context.{Context}
+use Rattle.elab_body.specs.elab_scope.declared.widths.Breadth.{Breadth}
+use Rattle.elab_body.specs.elab_scope.declared.widths.Breadth.TheVariants.{Bits, Unfit, Hidden}
+use Rattle.elab_body.specs.elab_scope.Expressions.{faults}
+use Rattle.elab_body.specs.elab_scope.Names.{Meanings}
+use Rattle.elab_body.specs.elab_scope.Own.{breadth, sign}
+use Rattle.elab_body.specs.elab_scope.Sources.{source}
+use Rattle.elab_body.specs.elab_scope.Trees.{own_context, tree_of}
+use Rattle.elab_body.specs.elab_scope.Widths.{bits, wider}
+use Rattle.elab_body.proofs.elab_scope_proofs.Law.{sound, tree_is_expression}
 use Rattle.elab_laws.specs.Scopes.{IsScopeOf}
 
 -- a tree has the width and the sign of its context

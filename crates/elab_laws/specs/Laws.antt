@@ -15,18 +15,18 @@ use Rattle.rtl_flat.specs.Signs.{Has, IsExpression, width_in}
 use Rattle.rtl_flat.specs.Sizing.{HaveBits, signed_in, sized}
 use Rattle.rtl_flat.specs.WellFormed.{IsAssignment, IsBody, IsList, IsProcess, IsSignal, IsWatched, has_edge, statements_of}
 use Rattle.rtl_rule.specs.Parts.{nodes}
-use Rattle.elab_scope.specs.declared.context.Context.{Context}
-use Rattle.elab_scope.specs.declared.rules.Writer.TheVariants.{Continuous, Procedural}
-use Rattle.elab_scope.specs.declared.widths.Breadth.{Breadth}
-use Rattle.elab_scope.specs.declared.widths.Breadth.TheVariants.{Bits}
-use Rattle.elab_scope.specs.Expressions.{faults}
-use Rattle.elab_scope.specs.Names.{Meanings, indexed}
-use Rattle.elab_scope.specs.Own.{breadth, sign}
-use Rattle.elab_scope.specs.Sources.{Describes, source}
-use Rattle.elab_scope.specs.Targets.{assigned_context, pieces_of, target_breadth, target_faults}
-use Rattle.elab_scope.specs.Trees.{tree_of}
-use Rattle.elab_scope.specs.Widths.{bits, wider}
-use Rattle.elab_nodes.specs.Nodes.{node_count}
+use Rattle.elab_body.specs.elab_scope.declared.context.Context.{Context}
+use Rattle.elab_body.specs.elab_scope.declared.rules.Writer.TheVariants.{Continuous, Procedural}
+use Rattle.elab_body.specs.elab_scope.declared.widths.Breadth.{Breadth}
+use Rattle.elab_body.specs.elab_scope.declared.widths.Breadth.TheVariants.{Bits}
+use Rattle.elab_body.specs.elab_scope.Expressions.{faults}
+use Rattle.elab_body.specs.elab_scope.Names.{Meanings, indexed}
+use Rattle.elab_body.specs.elab_scope.Own.{breadth, sign}
+use Rattle.elab_body.specs.elab_scope.Sources.{Describes, source}
+use Rattle.elab_body.specs.elab_scope.Targets.{assigned_context, pieces_of, target_breadth, target_faults}
+use Rattle.elab_body.specs.elab_scope.Trees.{tree_of}
+use Rattle.elab_body.specs.elab_scope.Widths.{bits, wider}
+use Rattle.elab_body.specs.elab_nodes.Nodes.{node_count}
 use Rattle.elab_body.specs.Acts.{acts}
 use Rattle.elab_body.specs.Bodies.{steps}
 use Rattle.elab_body.specs.Events.{is_clocked_by, listing_of, sensitivity_faults, watched_of}

@@ -1,2 +1,5 @@
 pub mod Laws
 pub mod Scopes
+-- passed on to the crates above
+pub use Rattle.elab_body.specs as elab_body
+pub use Rattle.elab_body.specs.elab_scope

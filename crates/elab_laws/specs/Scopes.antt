@@ -5,13 +5,13 @@ use Rattle.rtl_flat.specs.declared.signal.Kind.TheVariants.{Net, Var}
 use Rattle.rtl_flat.specs.declared.signal.Signal.{Signal}
 use Rattle.rtl_flat.specs.Signs.{Has}
 use Rattle.rtl_flat.specs.Sizing.{HaveBits}
-use Rattle.elab_scope.specs.declared.known.Known.{Known}
-use Rattle.elab_scope.specs.declared.known.Known.TheVariants as known
-use Rattle.elab_scope.specs.declared.known.Role.TheVariants as role
-use Rattle.elab_scope.specs.declared.rules.Writer.{Writer}
-use Rattle.elab_scope.specs.declared.rules.Writer.TheVariants.{Continuous, Procedural}
-use Rattle.elab_scope.specs.Names.{Meanings}
-use Rattle.elab_scope.specs.Sources.{Describes}
+use Rattle.elab_body.specs.elab_scope.declared.known.Known.{Known}
+use Rattle.elab_body.specs.elab_scope.declared.known.Known.TheVariants as known
+use Rattle.elab_body.specs.elab_scope.declared.known.Role.TheVariants as role
+use Rattle.elab_body.specs.elab_scope.declared.rules.Writer.{Writer}
+use Rattle.elab_body.specs.elab_scope.declared.rules.Writer.TheVariants.{Continuous, Procedural}
+use Rattle.elab_body.specs.elab_scope.Names.{Meanings}
+use Rattle.elab_body.specs.elab_scope.Sources.{Describes}
 
 -- the kind of the signals that an assignment writes: nets continuously, variables by statements (IEEE 1364-2001
 -- sections 6.1 and 9.2)

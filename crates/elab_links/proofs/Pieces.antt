@@ -7,8 +7,8 @@ use Rattle.rtl_tree.specs.declared.tree.expr.Expr.TheVariants as expr
 use Rattle.rtl_tree.specs.TreeExpr.{Formula, Formulas, Read, ReadBit, ReadPart, Concat, no_formulas, more_formulas, formula, formula_row}
 use Rattle.rtl_tree.specs.TreeStmt.{Target, Targets, Whole, Bit, Part, Joined, no_targets, more_targets}
 use Rattle.rtl_tree.proofs.TreeViews.{concat_is}
-use Rattle.elab_scope.specs.Names.{Meanings}
-use Rattle.elab_scope.specs.Targets.{all_pieces_of, pieces_of}
+use Rattle.elab_items.specs.elab_scope.Names.{Meanings}
+use Rattle.elab_items.specs.elab_scope.Targets.{all_pieces_of, pieces_of}
 use Rattle.elab_links.specs.Drivable.{all_link_pieces, link_pieces}
 
 pub concat_pieces : (file base : ℕ) (scope : Meanings) (at : ℕ) (parts : Vec Expr Global) (e : Expr) → e ≡ expr.Concat at parts → link_pieces file base scope (formula e) ≡ all_link_pieces file base scope (formula_row (map formula parts.items))

@@ -6,7 +6,7 @@ use Rattle.rtl_tree.specs.declared.tree.expr.Expr.{Expr}
 use Rattle.rtl_tree.specs.declared.tree.expr.Expr.TheVariants as expr
 use Rattle.rtl_tree.specs.TreeExpr.{formula, formula_row}
 use Rattle.rtl_tree.proofs.TreeViews.{concat_is}
-use Rattle.elab_scope.specs.Names.{Meanings}
+use Rattle.elab_items.specs.elab_scope.Names.{Meanings}
 use Rattle.elab_links.specs.Drivable.{all_covers_of, all_have_nets, covers_of, has_nets}
 
 pub concat_nets : (scope : Meanings) (at : ℕ) (parts : Vec Expr Global) (e : Expr) → e ≡ expr.Concat at parts → has_nets scope (formula e) ≡ all_have_nets scope (formula_row (map formula parts.items))

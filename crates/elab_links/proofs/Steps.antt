@@ -2,8 +2,8 @@
 use Rattle.std.specs.Prelude.{ℕ, suc, List, [], ◌∷◌, ◌++◌, map, Option}
 use Rattle.std.proofs.Common.{◌≡◌, ◌∙◌, ◌<◌, ◌+◌, ap, refl, sym, drop, length, get_or}
 use Rattle.std.proofs.lemmas.List.{append_assoc, drop_more}
-use Rattle.elab_scope.specs.Faults.{Refusal, after}
-use Rattle.elab_scope.proofs.Least.{after_append}
+use Rattle.elab_items.specs.elab_scope.Faults.{Refusal, after}
+use Rattle.elab_items.proofs.elab_scope_proofs.Least.{after_append}
 
 pub left_at : {A : Type 0} (xs : List A) (i : ℕ) (x : A) → i < length xs → x ≡ get_or xs i x → drop i xs ≡ x ∷ drop (i + 1) xs
 left_at xs i x below is = drop_more xs i x below ∙ ap (λ y. y ∷ drop (i + 1) xs) (sym is)

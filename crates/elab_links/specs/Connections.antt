@@ -6,10 +6,10 @@ use Rattle.rtl_tree.specs.declared.tree.item.Direction.{Direction}
 use Rattle.rtl_tree.specs.declared.tree.item.Direction.TheVariants.{Input, Output}
 use Rattle.rtl_tree.specs.TreeExpr.{Formula, Identifier}
 use Rattle.rtl_tree.specs.TreeItem.{Association, ByPosition, ByName, Associated, Positional, Instantiation}
-use Rattle.elab_scope.specs.Expressions.{faults}
-use Rattle.elab_scope.specs.Faults.{Port, Refusal}
-use Rattle.elab_scope.specs.Names.{Meanings}
-use Rattle.elab_scope.specs.Rules.{fault}
+use Rattle.elab_items.specs.elab_scope.Expressions.{faults}
+use Rattle.elab_items.specs.elab_scope.Faults.{Port, Refusal}
+use Rattle.elab_items.specs.elab_scope.Names.{Meanings}
+use Rattle.elab_items.specs.elab_scope.Rules.{fault}
 use Rattle.elab_links.specs.Drivable.{drivable}
 use Rattle.elab_links.specs.Marks.{Marks, no_marks, with_mark}
 use Rattle.elab_links.specs.Parameters.{name_faults, surplus_faults}

@@ -7,15 +7,15 @@ use Rattle.rtl_const.specs.Constant.{Outcome, constant}
 use Rattle.rtl_tree.specs.TreeExpr.{Formula, Number, Read, ReadBit, ReadPart, Parens, Convert, Concat, Repeat, Unary, Binary, Choose, Formulas, no_formulas, more_formulas}
 use Rattle.rtl_flat.specs.Process.{Piece}
 use Rattle.rtl_flat.specs.Process as piece
-use Rattle.elab_scope.specs.declared.covers.Cover.{Cover}
-use Rattle.elab_scope.specs.declared.known.Known.{Known}
-use Rattle.elab_scope.specs.declared.widths.Breadth.{Breadth}
-use Rattle.elab_scope.specs.declared.widths.Breadth.TheVariants.{Bits, Unfit, Hidden}
-use Rattle.elab_scope.specs.Names.{Meanings, numbers_in}
-use Rattle.elab_scope.specs.Own.{breadth}
-use Rattle.elab_scope.specs.Rules.{may_drive}
-use Rattle.elab_scope.specs.Targets.{bit_cover, bit_selection, overlap, part_cover, part_selection, whole_cover}
-use Rattle.elab_scope.specs.Trees.{field_in, low_of, own_context, signal_of, spot_in, tree_of}
+use Rattle.elab_items.specs.elab_scope.declared.covers.Cover.{Cover}
+use Rattle.elab_items.specs.elab_scope.declared.known.Known.{Known}
+use Rattle.elab_items.specs.elab_scope.declared.widths.Breadth.{Breadth}
+use Rattle.elab_items.specs.elab_scope.declared.widths.Breadth.TheVariants.{Bits, Unfit, Hidden}
+use Rattle.elab_items.specs.elab_scope.Names.{Meanings, numbers_in}
+use Rattle.elab_items.specs.elab_scope.Own.{breadth}
+use Rattle.elab_items.specs.elab_scope.Rules.{may_drive}
+use Rattle.elab_items.specs.elab_scope.Targets.{bit_cover, bit_selection, overlap, part_cover, part_selection, whole_cover}
+use Rattle.elab_items.specs.elab_scope.Trees.{field_in, low_of, own_context, signal_of, spot_in, tree_of}
 
 -- a net may be driven; that a name isn't declared is a fault of its own
 abbrev pub may_link : Option Known → Bool

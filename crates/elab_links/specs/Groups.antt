@@ -4,7 +4,7 @@ use Rattle.std.specs.Prelude.{ℕ, List, [], ◌∷◌, Option, None, Some, map}
 use Rattle.rtl_tree.specs.TreeExpr.{Identifier, identifier}
 use Rattle.rtl_tree.specs.TreeItem.{ModuleItem, Ports, Nets, Variables, Integers, Parameters, Drives, Always, Instances, Association, Instantiation, instantiation}
 use Rattle.rtl_tree.specs.TreeModule.{Circuit, circuit}
-use Rattle.elab_scope.specs.Names.{Meanings}
+use Rattle.elab_items.specs.elab_scope.Names.{Meanings}
 use Rattle.elab_items.specs.Declarations.{declarations}
 use Rattle.elab_items.specs.Settings.{Settings, settings_of}
 use Rattle.elab_links.specs.declared.groups.Group.{Group as Kept}

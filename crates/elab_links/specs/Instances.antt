@@ -6,9 +6,9 @@ use Rattle.std.specs.Str.{bytes_eq}
 use Rattle.rtl_tree.specs.TreeExpr.{Identifier}
 use Rattle.rtl_tree.specs.TreeItem.{ModuleItem, Ports, Nets, Variables, Integers, Parameters, Drives, Always, Instances, Association, Instantiation}
 use Rattle.rtl_tree.specs.TreeModule.{Circuit}
-use Rattle.elab_scope.specs.Faults.{InstanceLoop, ModuleTwice, NoSuchModule, Refusal, TooLarge}
-use Rattle.elab_scope.specs.Names.{Meanings}
-use Rattle.elab_scope.specs.Rules.{fault}
+use Rattle.elab_items.specs.elab_scope.Faults.{InstanceLoop, ModuleTwice, NoSuchModule, Refusal, TooLarge}
+use Rattle.elab_items.specs.elab_scope.Names.{Meanings}
+use Rattle.elab_items.specs.elab_scope.Rules.{fault}
 use Rattle.elab_items.specs.Declarations.{declarations}
 use Rattle.elab_links.specs.declared.module_set.Lookup.{Lookup}
 use Rattle.elab_links.specs.declared.module_set.Lookup.TheVariants.{Missing, Found, Twice}

@@ -6,10 +6,10 @@ use Rattle.rtl_const.specs.Numbers.{Numbers}
 use Rattle.rtl_tree.specs.declared.tree.item.ParameterKind.TheVariants as kind
 use Rattle.rtl_tree.specs.TreeExpr.{Formula, Identifier}
 use Rattle.rtl_tree.specs.TreeItem.{Association, ByPosition, ByName, Associated, Positional}
-use Rattle.elab_scope.specs.Expressions.{constant_faults}
-use Rattle.elab_scope.specs.Faults.{Breach, Parameter, Refusal}
-use Rattle.elab_scope.specs.Names.{Meanings, numbers_in}
-use Rattle.elab_scope.specs.Rules.{fault}
+use Rattle.elab_items.specs.elab_scope.Expressions.{constant_faults}
+use Rattle.elab_items.specs.elab_scope.Faults.{Breach, Parameter, Refusal}
+use Rattle.elab_items.specs.elab_scope.Names.{Meanings, numbers_in}
+use Rattle.elab_items.specs.elab_scope.Rules.{fault}
 use Rattle.elab_items.specs.Declarations.{Declaration, ParameterRange, SignalRange, Listed, Signal, Integer, Instance}
 use Rattle.elab_items.specs.Declarations as item
 use Rattle.elab_items.specs.Settings.{Settings, no_settings, value_of, with_setting}

@@ -5,8 +5,8 @@ ghost use Rattle.std.specs.List.{slice_get};
 ghost use Rattle.std.specs.Option.{option_map};
 ghost use Rattle.rtl_tree.specs.TreeExpr.{formula};
 ghost use Rattle.rtl_tree.specs.TreeItem.{associated, association, instantiation, positional};
-ghost use Rattle.elab_scope.specs.Faults.{Port, after, refusal};
-ghost use Rattle.elab_scope.specs.Names.{meanings};
+ghost use Rattle.elab_items.specs.elab_scope.Faults.{Port, after, refusal};
+ghost use Rattle.elab_items.specs.elab_scope.Names.{meanings};
 ghost use Rattle.elab_links.specs.Connections.{argument_faults, connection_faults, named_link_faults, ordered_link_faults, placed_faults, instantiation_faults, instantiations_faults, spare_faults};
 ghost use Rattle.elab_links.specs.Marks.{no_marks};
 ghost use Rattle.elab_links.specs.Parameters.{surplus_faults};
@@ -16,9 +16,9 @@ use crate::drivable::drivable;
 use crate::marks::NameSet;
 use crate::parameters::{judge_name, judge_surplus};
 use crate::ports::Ports;
-use elab_scope::fault::{Cause, Fault};
-use elab_scope::judge::judge;
-use elab_scope::names::Names;
+use elab_items::elab_scope::fault::{Cause, Fault};
+use elab_items::elab_scope::judge::judge;
+use elab_items::elab_scope::names::Names;
 use rtl_tree::memory::Memory;
 use rtl_tree::text::Text;
 use rtl_tree::tree::expr::Expr;
@@ -34,7 +34,7 @@ struct Plug<'a> {
 }
 
 /// An input port reads its argument, an output port drives it.
-#[tactic(auto, using(elab_scope::proofs::Least::after_append))]
+#[tactic(auto, using(crate::proofs::Borrowed::after_append))]
 fn judge_argument<'a>(
     alloc: Global,
     direction: Option<Direction>,
@@ -153,7 +153,7 @@ fn judge_ordered<'a>(
     Ok(best)
 }
 
-#[tactic(auto, using(elab_scope::proofs::Least::after_append))]
+#[tactic(auto, using(crate::proofs::Borrowed::after_append))]
 fn judge_named<'a>(
     alloc: Global,
     ports: &Ports<'a>,
@@ -206,7 +206,7 @@ fn judge_instantiation<'a>(
 }
 
 /// The faults of the connections of several instances of a module with these ports.
-#[tactic(auto, using(elab_scope::proofs::Least::after_append))]
+#[tactic(auto, using(crate::proofs::Borrowed::after_append))]
 pub fn judge_instantiations<'a>(
     alloc: Global,
     child: &'a Text,

@@ -2,15 +2,15 @@
 
 ghost use Rattle.std.specs.Prelude.{◌≡◌, ◌++◌, IfOk, OnOk, map};
 ghost use Rattle.rtl_tree.specs.TreeExpr.{formula, formula_row};
-ghost use Rattle.elab_scope.specs.Names.{meanings};
-ghost use Rattle.elab_scope.specs.Own.{breadth};
+ghost use Rattle.elab_items.specs.elab_scope.Names.{meanings};
+ghost use Rattle.elab_items.specs.elab_scope.Own.{breadth};
 ghost use Rattle.elab_links.specs.Drivable.{all_covers_of, all_have_nets, cover_list, covers_of, drivable, has_nets, may_link, meet, meets_itself};
 
-use elab_scope::covers::{Cover, bit_cover, is_covered, part_cover, whole_cover};
-use elab_scope::known::{Known, Role};
-use elab_scope::names::Names;
-use elab_scope::size::field_in;
-use elab_scope::widths::Breadth;
+use elab_items::elab_scope::covers::{Cover, bit_cover, is_covered, part_cover, whole_cover};
+use elab_items::elab_scope::known::{Known, Role};
+use elab_items::elab_scope::names::Names;
+use elab_items::elab_scope::size::field_in;
+use elab_items::elab_scope::widths::Breadth;
 use rtl_const::evaluate::constant;
 use rtl_tree::memory::Memory;
 use rtl_tree::tree::expr::Expr;

@@ -3,15 +3,15 @@
 ghost use Rattle.std.specs.Prelude.{◌≡◌, IfOk, map};
 ghost use Rattle.std.specs.Option.{option_map};
 ghost use Rattle.rtl_tree.specs.TreeItem.{association, module_item, instantiation};
-ghost use Rattle.elab_scope.specs.Names.{meanings};
+ghost use Rattle.elab_items.specs.elab_scope.Names.{meanings};
 ghost use Rattle.elab_links.specs.Groups.{found_group, group, group_of};
 ghost use Rattle.elab_links.specs.Modules.{circuits_of, lookups_of};
 
 use crate::module_set::{Lookup, ModuleSet, Place, module_at};
 use crate::parameters::{settable, settings_by};
+use elab_items::elab_scope::names::Names;
 use elab_items::entries::entries_of;
 use elab_items::overrides::Overrides;
-use elab_scope::names::Names;
 use rtl_tree::memory::Memory;
 use rtl_tree::tree::item::{Arguments, Instance, Item};
 use rtl_tree::tree::modules::Module;

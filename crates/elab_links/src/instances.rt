@@ -7,8 +7,8 @@ ghost use Rattle.std.specs.Str.{bytes_eq};
 ghost use Rattle.rtl_tree.specs.TreeExpr.{identifier};
 ghost use Rattle.rtl_tree.specs.TreeItem.{association, module_item, instantiation};
 ghost use Rattle.rtl_tree.specs.TreeModule.{circuit};
-ghost use Rattle.elab_scope.specs.Faults.{after, refusal};
-ghost use Rattle.elab_scope.specs.Names.{meanings};
+ghost use Rattle.elab_items.specs.elab_scope.Faults.{after, refusal};
+ghost use Rattle.elab_items.specs.elab_scope.Names.{meanings};
 ghost use Rattle.elab_links.specs.Instances.{child_faults, depth_faults, found_faults, link_faults, loop_faults};
 ghost use Rattle.elab_links.specs.Modules.{circuits_of, lookups_of};
 
@@ -16,9 +16,9 @@ use crate::connections::judge_instantiations;
 use crate::module_set::{Lookup, ModuleSet, module_at};
 use crate::parameters::{judge_parameters, settable};
 use crate::ports::Ports;
+use elab_items::elab_scope::fault::{Cause, Fault};
+use elab_items::elab_scope::names::Names;
 use elab_items::entries::entries_of;
-use elab_scope::fault::{Cause, Fault};
-use elab_scope::names::Names;
 use rtl_tree::memory::Memory;
 use rtl_tree::text::Text;
 use rtl_tree::tree::item::{Arguments, Instance, Item};
@@ -85,7 +85,7 @@ struct Placing<'a> {
 }
 
 /// The faults of instances of a module.
-#[tactic(auto, using(elab_scope::proofs::Least::after_append))]
+#[tactic(auto, using(crate::proofs::Borrowed::after_append))]
 fn judge_child<'a>(
     alloc: Global,
     way: &[&Text],

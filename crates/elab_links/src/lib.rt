@@ -9,3 +9,7 @@ pub mod marks;
 pub mod module_set;
 pub mod parameters;
 pub mod ports;
+
+// Passed on to the crates above.
+pub use elab_items;
+pub use elab_items::elab_scope;

@@ -5,8 +5,8 @@ ghost use Rattle.std.specs.List.{slice_get};
 ghost use Rattle.std.specs.Option.{option_map};
 ghost use Rattle.rtl_tree.specs.TreeExpr.{formula, identifier};
 ghost use Rattle.rtl_tree.specs.TreeItem.{associated, association, positional};
-ghost use Rattle.elab_scope.specs.Faults.{after, breach, refusal};
-ghost use Rattle.elab_scope.specs.Names.{meanings, numbers_in};
+ghost use Rattle.elab_items.specs.elab_scope.Faults.{after, breach, refusal};
+ghost use Rattle.elab_items.specs.elab_scope.Names.{meanings, numbers_in};
 ghost use Rattle.elab_items.specs.Declarations.{declaration};
 ghost use Rattle.elab_items.specs.Settings.{no_settings, settings_of};
 ghost use Rattle.elab_links.specs.Marks.{marks_of, no_marks, with_marks};
@@ -14,11 +14,11 @@ ghost use Rattle.elab_links.specs.Parameters.{name_faults, named_setting_faults,
 
 use crate::marks::NameSet;
 use crate::ports::set_of;
+use elab_items::elab_scope::fault::{Cause, Fault};
+use elab_items::elab_scope::judge::judge_constant;
+use elab_items::elab_scope::names::Names;
 use elab_items::entries::Entry;
 use elab_items::overrides::{Overrides, value_of};
-use elab_scope::fault::{Cause, Fault};
-use elab_scope::judge::judge_constant;
-use elab_scope::names::Names;
 use rtl_tree::memory::Memory;
 use rtl_tree::text::Text;
 use rtl_tree::tree::expr::Expr;
@@ -97,7 +97,7 @@ pub fn judge_name<'a>(
     }
 }
 
-#[tactic(auto, using(elab_scope::proofs::Least::after_append))]
+#[tactic(auto, using(crate::proofs::Borrowed::after_append))]
 fn judge_ordered<'a>(
     child: &'a Text,
     many: usize,
@@ -115,7 +115,7 @@ fn judge_ordered<'a>(
     best
 }
 
-#[tactic(auto, using(elab_scope::proofs::Least::after_append))]
+#[tactic(auto, using(crate::proofs::Borrowed::after_append))]
 fn judge_named<'a>(
     alloc: Global,
     known: &NameSet,

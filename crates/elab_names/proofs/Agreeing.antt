@@ -9,27 +9,27 @@ use Rattle.rtl_tree.specs.TreeItem.{ModuleItem, Instances, Association, Instanti
 use Rattle.rtl_tree.specs.TreeModule.{Circuit}
 use Rattle.rtl_tree.specs.declared.text.Spot.{Spot}
 use Rattle.rtl_flat.specs.Process.{Task}
-use Rattle.elab_scope.specs.Faults.{Answer, Breach, ModuleTwice, NoSuchModule, Refusal, least, located, located_at}
-use Rattle.elab_scope.specs.Names.{Meanings}
-use Rattle.elab_body.specs.Steps.{Step, checked, delays_of, faulty}
-use Rattle.elab_body.specs.Faultless.{node_total, statement_count}
-use Rattle.elab_items.specs.Scopes.{declaration_faults, listings_of}
-use Rattle.elab_parts.specs.Delays.{item_delays}
-use Rattle.elab_parts.specs.Items.{item_steps}
-use Rattle.elab_parts.specs.Tasks.{item_tasks}
-use Rattle.elab_links.specs.declared.module_set.Lookup.{Lookup}
-use Rattle.elab_links.specs.declared.module_set.Lookup.TheVariants.{Missing, Found, Twice}
-use Rattle.elab_links.specs.declared.module_set.Place.{Place}
-use Rattle.elab_links.specs.Groups.{Group, found_group, group_at, group_of}
-use Rattle.elab_links.specs.Instances.{found_faults, known_child_faults, link_faults}
-use Rattle.elab_links.specs.Modules.{circuit_at}
-use Rattle.elab_walk.specs.declared.room.Room.{Room}
-use Rattle.elab_walk.specs.Links.{group_steps}
-use Rattle.elab_walk.specs.Placements.{Placement}
-use Rattle.elab_walk.specs.Refusals.{own_faults, told_of, told_where}
-use Rattle.elab_walk.specs.Rooms.{has_room, parameter_count, part_steps, parts_steps, process_faults, process_places, room_after, visit_steps}
-use Rattle.elab_walk.specs.Visits.{Holder, Library, Visit, child_in, children, holder_of, item_children, placed_children, scope_in}
-use Rattle.elab_flat.specs.Works.{Works, group_in, group_tasks, placed, with_part, with_parts}
+use Rattle.rtl_elab.specs.elab_scope.Faults.{Answer, Breach, ModuleTwice, NoSuchModule, Refusal, least, located, located_at}
+use Rattle.rtl_elab.specs.elab_scope.Names.{Meanings}
+use Rattle.rtl_elab.specs.elab_body.Steps.{Step, checked, delays_of, faulty}
+use Rattle.rtl_elab.specs.elab_body.Faultless.{node_total, statement_count}
+use Rattle.rtl_elab.specs.elab_items.Scopes.{declaration_faults, listings_of}
+use Rattle.rtl_elab.specs.elab_parts.Delays.{item_delays}
+use Rattle.rtl_elab.specs.elab_parts.Items.{item_steps}
+use Rattle.rtl_elab.specs.elab_parts.Tasks.{item_tasks}
+use Rattle.rtl_elab.specs.elab_links.declared.module_set.Lookup.{Lookup}
+use Rattle.rtl_elab.specs.elab_links.declared.module_set.Lookup.TheVariants.{Missing, Found, Twice}
+use Rattle.rtl_elab.specs.elab_links.declared.module_set.Place.{Place}
+use Rattle.rtl_elab.specs.elab_links.Groups.{Group, found_group, group_at, group_of}
+use Rattle.rtl_elab.specs.elab_links.Instances.{found_faults, known_child_faults, link_faults}
+use Rattle.rtl_elab.specs.elab_links.Modules.{circuit_at}
+use Rattle.rtl_elab.specs.elab_walk.declared.room.Room.{Room}
+use Rattle.rtl_elab.specs.elab_walk.Links.{group_steps}
+use Rattle.rtl_elab.specs.elab_walk.Placements.{Placement}
+use Rattle.rtl_elab.specs.elab_walk.Refusals.{own_faults, told_of, told_where}
+use Rattle.rtl_elab.specs.elab_walk.Rooms.{has_room, parameter_count, part_steps, parts_steps, process_faults, process_places, room_after, visit_steps}
+use Rattle.rtl_elab.specs.elab_walk.Visits.{Holder, Library, Visit, child_in, children, holder_of, item_children, placed_children, scope_in}
+use Rattle.rtl_elab.specs.elab_flat.Works.{Works, group_in, group_tasks, placed, with_part, with_parts}
 use Rattle.elab_names.specs.Extracts.{renumbered}
 use Rattle.elab_names.specs.LookUps.{name_in_item, names_in}
 use Rattle.elab_names.specs.Moves.{moved_answer, moved_place, moved_spot, moved_visit}

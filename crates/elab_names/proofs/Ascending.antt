@@ -9,8 +9,8 @@ use Rattle.std.proofs.lemmas.List.{take_more}
 use Rattle.std.proofs.lemmas.List.Edits.{get_or-insert_above, get_or-insert_at, get_or-insert_below, length-insert}
 use Rattle.std.proofs.lemmas.List.Elements.{Contains-append_cases, Contains-append_left, Contains-append_right, Contains-push, Contains-push_cases}
 use Rattle.std.proofs.lemmas.List.Sorted.{Contains-permutation, IsPermutation-insert, IsPermutation-sym, searched}
-use Rattle.elab_links.specs.declared.module_set.Lookup.TheVariants.{Found}
-use Rattle.elab_links.specs.declared.module_set.Place.{Place}
+use Rattle.rtl_elab.specs.elab_links.declared.module_set.Lookup.TheVariants.{Found}
+use Rattle.rtl_elab.specs.elab_links.declared.module_set.Place.{Place}
 use Rattle.elab_names.specs.declared.look_up.LookUp.{LookUp}
 use Rattle.elab_names.specs.Extracts.{place_in}
 use Rattle.elab_names.specs.Moves.{AreFilesOf, HasFile}

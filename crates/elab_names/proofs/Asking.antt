@@ -11,10 +11,10 @@ use Rattle.std.proofs.lemmas.List.Elements.{All-nil, All-push, Contains-append_l
 use Rattle.name_map.specs.Values.{Values, no_values, values_of, with_value}
 use Rattle.rtl_tree.specs.TreeItem.{ModuleItem, module_item}
 use Rattle.rtl_tree.specs.declared.tree.item.Item.{Item}
-use Rattle.elab_links.specs.declared.module_set.Lookup.{Lookup}
-use Rattle.elab_links.specs.Modules.{Lookups}
-use Rattle.elab_walk.specs.declared.trail.Placement.{Placement}
-use Rattle.elab_walk.specs.Visits.{visit}
+use Rattle.rtl_elab.specs.elab_links.declared.module_set.Lookup.{Lookup}
+use Rattle.rtl_elab.specs.elab_links.Modules.{Lookups}
+use Rattle.rtl_elab.specs.elab_walk.declared.trail.Placement.{Placement}
+use Rattle.rtl_elab.specs.elab_walk.Visits.{visit}
 use Rattle.elab_names.specs.declared.look_up.LookUp.{LookUp}
 use Rattle.elab_names.specs.declared.names.Asked.{Asked}
 use Rattle.elab_names.specs.Asking.{AreAsked, Asks, names_of}

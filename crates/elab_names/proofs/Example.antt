@@ -6,11 +6,11 @@ use Rattle.std.proofs.lemmas.List.Elements.{All-cons, All-contains, All-nil}
 use Rattle.rtl_tree.specs.TreeExpr.{Identifier}
 use Rattle.rtl_tree.specs.TreeItem.{ModuleItem, Instances, ByName, Integers}
 use Rattle.rtl_tree.specs.TreeModule.{Absent, Circuit}
-use Rattle.elab_links.specs.declared.module_set.Lookup.{Lookup}
-use Rattle.elab_links.specs.declared.module_set.Lookup.TheVariants.{Missing, Found}
-use Rattle.elab_links.specs.declared.module_set.Place.{Place}
-use Rattle.elab_links.specs.Modules.{circuit_at}
-use Rattle.elab_walk.specs.Visits.{Library, all_visits}
+use Rattle.rtl_elab.specs.elab_links.declared.module_set.Lookup.{Lookup}
+use Rattle.rtl_elab.specs.elab_links.declared.module_set.Lookup.TheVariants.{Missing, Found}
+use Rattle.rtl_elab.specs.elab_links.declared.module_set.Place.{Place}
+use Rattle.rtl_elab.specs.elab_links.Modules.{circuit_at}
+use Rattle.rtl_elab.specs.elab_walk.Visits.{Library, all_visits}
 use Rattle.rtl_elab.specs.Designs.{library_of}
 use Rattle.elab_names.specs.declared.look_up.LookUp.{LookUp}
 use Rattle.elab_names.specs.Extracts.{IsStill, extract, files_at, number_at, place_in, renumbered}

@@ -2,12 +2,12 @@
 use Rattle.std.specs.List.{Contains}
 use Rattle.std.specs.Option.{option_map}
 use Rattle.std.proofs.Common.{◌≡◌, ◌∙◌, ℕ, List, map, None, Ok, refl, ap}
-use Rattle.elab_links.specs.declared.module_set.Lookup.TheVariants.{Found}
-use Rattle.elab_links.specs.declared.module_set.Place.{Place}
-use Rattle.elab_links.specs.Modules.{circuit_at}
-use Rattle.elab_walk.specs.Placements.{placements}
-use Rattle.elab_walk.specs.Visits.{Library}
-use Rattle.elab_flat.specs.Flats.{flat_of}
+use Rattle.rtl_elab.specs.elab_links.declared.module_set.Lookup.TheVariants.{Found}
+use Rattle.rtl_elab.specs.elab_links.declared.module_set.Place.{Place}
+use Rattle.rtl_elab.specs.elab_links.Modules.{circuit_at}
+use Rattle.rtl_elab.specs.elab_walk.Placements.{placements}
+use Rattle.rtl_elab.specs.elab_walk.Visits.{Library}
+use Rattle.rtl_elab.specs.elab_flat.Flats.{flat_of}
 use Rattle.rtl_elab.specs.Elaborated.{elaborated, refused, visited}
 use Rattle.elab_names.specs.Extracts.{extract, files_at, place_in}
 use Rattle.elab_names.specs.LookUps.{AreUsed, looked_up}

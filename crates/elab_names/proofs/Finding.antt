@@ -2,13 +2,13 @@
 use Rattle.std.specs.List.{All, Contains}
 use Rattle.std.proofs.Common.{◌≡◌, ◌∙◌, ℕ, ◌+◌, zero, suc, List, [], ◌∷◌, length, map, refl, sym, ap, subst, arith}
 use Rattle.std.proofs.lemmas.List.Elements.{All-contains, All-map}
-use Rattle.elab_links.specs.declared.module_set.Lookup.{Lookup}
-use Rattle.elab_links.specs.declared.module_set.Lookup.TheVariants.{Found}
-use Rattle.elab_items.specs.Scopes.{listings_of}
-use Rattle.elab_walk.specs.declared.trail.Placement.{Placement as Made}
-use Rattle.elab_walk.specs.Placements.{Placement, placements}
-use Rattle.elab_walk.specs.Trails.{placement}
-use Rattle.elab_walk.specs.Visits.{Library, Visit, visit}
+use Rattle.rtl_elab.specs.elab_links.declared.module_set.Lookup.{Lookup}
+use Rattle.rtl_elab.specs.elab_links.declared.module_set.Lookup.TheVariants.{Found}
+use Rattle.rtl_elab.specs.elab_items.Scopes.{listings_of}
+use Rattle.rtl_elab.specs.elab_walk.declared.trail.Placement.{Placement as Made}
+use Rattle.rtl_elab.specs.elab_walk.Placements.{Placement, placements}
+use Rattle.rtl_elab.specs.elab_walk.Trails.{placement}
+use Rattle.rtl_elab.specs.elab_walk.Visits.{Library, Visit, visit}
 use Rattle.rtl_elab.specs.Elaborated.{visited}
 use Rattle.elab_names.specs.declared.look_up.LookUp.{LookUp}
 use Rattle.elab_names.specs.Asking.{AreFound, names_of}

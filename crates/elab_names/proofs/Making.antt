@@ -2,12 +2,12 @@
 use Rattle.std.specs.Option.{option_map}
 use Rattle.std.proofs.Common.{◌≡◌, ◌∙◌, ℕ, List, ◌++◌, length, map, take, None, Some, Result, Ok, Err, sym, ap}
 use Rattle.std.proofs.lemmas.List.{take_at}
-use Rattle.elab_scope.specs.Faults.{Answer}
-use Rattle.elab_walk.specs.declared.trail.Placement.{Placement as Made}
-use Rattle.elab_walk.specs.Placements.{Placement, placements}
-use Rattle.elab_walk.specs.Trails.{placement}
-use Rattle.elab_walk.specs.Visits.{Library}
-use Rattle.elab_flat.specs.Flats.{DesignParts, flat_of}
+use Rattle.rtl_elab.specs.elab_scope.Faults.{Answer}
+use Rattle.rtl_elab.specs.elab_walk.declared.trail.Placement.{Placement as Made}
+use Rattle.rtl_elab.specs.elab_walk.Placements.{Placement, placements}
+use Rattle.rtl_elab.specs.elab_walk.Trails.{placement}
+use Rattle.rtl_elab.specs.elab_walk.Visits.{Library}
+use Rattle.rtl_elab.specs.elab_flat.Flats.{DesignParts, flat_of}
 use Rattle.rtl_elab.specs.Elaborated.{elaborated, refused, visited}
 use Rattle.elab_names.specs.Extracts.{extract, place_in}
 use Rattle.elab_names.specs.LookUps.{AreUsed}

@@ -2,20 +2,20 @@
 use Rattle.std.specs.Option.{option_map}
 use Rattle.std.proofs.Common.{◌≡◌, ◌∙◌, ℕ, ◌+◌, List, [], ◌∷◌, ◌++◌, length, map, Option, None, Some, Ok, refl, sym, ap, subst, arith}
 use Rattle.rtl_tree.specs.TreeModule.{Circuit}
-use Rattle.elab_scope.specs.Faults.{Answer}
-use Rattle.elab_items.specs.Scopes.{listings_of}
-use Rattle.elab_links.specs.declared.module_set.Lookup.{Lookup}
-use Rattle.elab_links.specs.declared.module_set.Lookup.TheVariants.{Missing, Found, Twice}
-use Rattle.elab_links.specs.declared.module_set.Place.{Place}
-use Rattle.elab_links.specs.Modules.{circuit_at}
-use Rattle.elab_walk.specs.Placements.{Placement, placements}
-use Rattle.elab_walk.specs.Refusals.{come_to, refusal}
-use Rattle.elab_walk.specs.Rooms.{whole_room}
-use Rattle.elab_walk.specs.Visits.{Library, Visit, all_visits, top_visit}
-use Rattle.elab_walk.proofs.Ending.{all_come_to}
-use Rattle.elab_flat.specs.Flats.{DesignParts, flat_of, with_works}
-use Rattle.elab_flat.specs.Held.{bases_under, depth_of}
-use Rattle.elab_flat.specs.Works.{Works, no_works, with_placement, with_placements}
+use Rattle.rtl_elab.specs.elab_scope.Faults.{Answer}
+use Rattle.rtl_elab.specs.elab_items.Scopes.{listings_of}
+use Rattle.rtl_elab.specs.elab_links.declared.module_set.Lookup.{Lookup}
+use Rattle.rtl_elab.specs.elab_links.declared.module_set.Lookup.TheVariants.{Missing, Found, Twice}
+use Rattle.rtl_elab.specs.elab_links.declared.module_set.Place.{Place}
+use Rattle.rtl_elab.specs.elab_links.Modules.{circuit_at}
+use Rattle.rtl_elab.specs.elab_walk.Placements.{Placement, placements}
+use Rattle.rtl_elab.specs.elab_walk.Refusals.{come_to, refusal}
+use Rattle.rtl_elab.specs.elab_walk.Rooms.{whole_room}
+use Rattle.rtl_elab.specs.elab_walk.Visits.{Library, Visit, all_visits, top_visit}
+use Rattle.rtl_elab.proofs.elab_walk_proofs.Ending.{all_come_to}
+use Rattle.rtl_elab.specs.elab_flat.Flats.{DesignParts, flat_of, with_works}
+use Rattle.rtl_elab.specs.elab_flat.Held.{bases_under, depth_of}
+use Rattle.rtl_elab.specs.elab_flat.Works.{Works, no_works, with_placement, with_placements}
 use Rattle.rtl_elab.specs.Elaborated.{decided, elaborated, elaborated_at, elaborated_found, elaborated_of, refused, visited, visited_found, visited_from}
 use Rattle.elab_names.specs.Extracts.{renumbered}
 use Rattle.elab_names.specs.LookUps.{looked_up, names_by, names_in}

@@ -5,8 +5,8 @@ use Rattle.std.proofs.Common.{◌≡◌, ◌∙◌, ℕ, zero, suc, ◌+◌, ◌
 use Rattle.std.proofs.lemmas.Bool.{eq-eqb, eqb-false, eqb-true, ne_eqb}
 use Rattle.std.proofs.lemmas.List.Elements.{Contains-append_cases}
 use Rattle.rtl_tree.specs.TreeModule.{Circuit}
-use Rattle.elab_links.specs.declared.module_set.Place.{Place}
-use Rattle.elab_links.specs.Modules.{circuit_at, listed_at}
+use Rattle.rtl_elab.specs.elab_links.declared.module_set.Place.{Place}
+use Rattle.rtl_elab.specs.elab_links.Modules.{circuit_at, listed_at}
 use Rattle.elab_names.specs.Extracts.{files_at, number_at, place_in}
 use Rattle.elab_names.specs.Moves.{moved_place}
 use Rattle.elab_names.proofs.Naming.{none_in, only}

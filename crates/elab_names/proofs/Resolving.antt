@@ -6,10 +6,10 @@ use Rattle.std.proofs.Common.{◌≡◌, ◌∙◌, ℕ, ◌+◌, ◌<◌, List,
 use Rattle.std.proofs.lemmas.List.{drop_more}
 use Rattle.rtl_tree.specs.TreeModule.{circuit}
 use Rattle.rtl_tree.specs.declared.tree.modules.Module.{Module}
-use Rattle.elab_links.specs.declared.module_set.Lookup.{Lookup}
-use Rattle.elab_links.specs.declared.module_set.Place.{Place}
-use Rattle.elab_links.specs.Modules.{Placed, circuits_of, found, placed_from, placed_in, with_another}
-use Rattle.elab_links.proofs.Steps.{left_at}
+use Rattle.rtl_elab.specs.elab_links.declared.module_set.Lookup.{Lookup}
+use Rattle.rtl_elab.specs.elab_links.declared.module_set.Place.{Place}
+use Rattle.rtl_elab.specs.elab_links.Modules.{Placed, circuits_of, found, placed_from, placed_in, with_another}
+use Rattle.rtl_elab.proofs.elab_links_proofs.Steps.{left_at}
 
 pub one_earlier : (modules : List Module) (file index : ℕ) (written : Module) (name : List ℕ) (later result : Lookup) (others : List Placed) → index < length modules → later ≡ found (placed_in file (index + 1) (map circuit (drop (index + 1) modules)) ++ others) name → result ≡ (if bytes_eq (get_or modules index written).name.text name then with_another (let place : Place = record { file = file; index = index } in place) later else later) → result ≡ found (placed_in file index (map circuit (drop index modules)) ++ others) name
 one_earlier modules file index written name later result others inside before made =

@@ -6,11 +6,11 @@ use Rattle.std.proofs.Common.{◌≡◌, ◌∙◌, ℕ, zero, suc, List, [], �
 use Rattle.std.proofs.lemmas.List.{append-nil, append_assoc, map-append}
 use Rattle.std.proofs.lemmas.List.Concat.{flat_map-append}
 use Rattle.std.proofs.lemmas.List.Elements.{Contains-append_left}
-use Rattle.elab_scope.specs.Faults.{Answer}
-use Rattle.elab_walk.specs.declared.room.Room.{Room}
-use Rattle.elab_walk.specs.Refusals.{come_to, refusal, told_first, told_of, unless_told}
-use Rattle.elab_walk.specs.Rooms.{room_after}
-use Rattle.elab_walk.specs.Visits.{Library, Visit, children, holder_of, visits}
+use Rattle.rtl_elab.specs.elab_scope.Faults.{Answer}
+use Rattle.rtl_elab.specs.elab_walk.declared.room.Room.{Room}
+use Rattle.rtl_elab.specs.elab_walk.Refusals.{come_to, refusal, told_first, told_of, unless_told}
+use Rattle.rtl_elab.specs.elab_walk.Rooms.{room_after}
+use Rattle.rtl_elab.specs.elab_walk.Visits.{Library, Visit, children, holder_of, visits}
 use Rattle.elab_names.specs.LookUps.{names_by, names_in}
 use Rattle.elab_names.specs.Moves.{moved_answer, moved_visit}
 use Rattle.elab_names.proofs.Agreeing.{Agree, agree_left, agree_right, children_moved, same_room, told_moved}

@@ -4,13 +4,13 @@ use Rattle.std.specs.Option.{option_map}
 use Rattle.std.proofs.Common.{◌≡◌, ◌∙◌, ℕ, ◌<◌, List, length, None, Some, Result, Ok, Err, refl, sym, ap, subst}
 use Rattle.std.proofs.lemmas.List.Elements.{Contains-get_or}
 use Rattle.rtl_tree.specs.TreeModule.{Circuit}
-use Rattle.elab_scope.specs.Faults.{Answer, Memory, Named, Placed}
-use Rattle.elab_links.specs.declared.module_set.Lookup.{Lookup}
-use Rattle.elab_links.specs.declared.module_set.Lookup.TheVariants.{Missing, Found, Twice}
-use Rattle.elab_links.specs.declared.module_set.Place.{Place}
-use Rattle.elab_links.specs.Modules.{circuit_at}
-use Rattle.elab_walk.specs.Visits.{Library}
-use Rattle.elab_flat.specs.Flats.{DesignParts}
+use Rattle.rtl_elab.specs.elab_scope.Faults.{Answer, Memory, Named, Placed}
+use Rattle.rtl_elab.specs.elab_links.declared.module_set.Lookup.{Lookup}
+use Rattle.rtl_elab.specs.elab_links.declared.module_set.Lookup.TheVariants.{Missing, Found, Twice}
+use Rattle.rtl_elab.specs.elab_links.declared.module_set.Place.{Place}
+use Rattle.rtl_elab.specs.elab_links.Modules.{circuit_at}
+use Rattle.rtl_elab.specs.elab_walk.Visits.{Library}
+use Rattle.rtl_elab.specs.elab_flat.Flats.{DesignParts}
 use Rattle.rtl_elab.specs.Elaborated.{elaborated, refused}
 use Rattle.elab_names.specs.Extracts.{IsStill, extract, number_at, place_in, renumbered}
 use Rattle.elab_names.specs.LookUps.{AreUsed, IsUsed, looked_up}

@@ -5,12 +5,12 @@ use Rattle.std.specs.List.{Contains}
 use Rattle.std.specs.List.Sorted.{IsStrictlyIncreasing}
 use Rattle.rtl_tree.specs.TreeModule.{Circuit}
 use Rattle.rtl_flat.specs.declared.design.Design.{Design}
-use Rattle.elab_scope.specs.declared.fault.ElabFault.{ElabFault}
-use Rattle.elab_scope.specs.Faults.{Answer, answer}
-use Rattle.elab_links.specs.declared.module_set.Lookup.{Lookup}
-use Rattle.elab_links.specs.declared.module_set.Lookup.TheVariants.{Missing, Found, Twice}
-use Rattle.elab_walk.specs.Visits.{Library}
-use Rattle.elab_flat.specs.Flats.{DesignParts}
+use Rattle.rtl_elab.specs.elab_scope.declared.fault.ElabFault.{ElabFault}
+use Rattle.rtl_elab.specs.elab_scope.Faults.{Answer, answer}
+use Rattle.rtl_elab.specs.elab_links.declared.module_set.Lookup.{Lookup}
+use Rattle.rtl_elab.specs.elab_links.declared.module_set.Lookup.TheVariants.{Missing, Found, Twice}
+use Rattle.rtl_elab.specs.elab_walk.Visits.{Library}
+use Rattle.rtl_elab.specs.elab_flat.Flats.{DesignParts}
 use Rattle.rtl_elab.specs.Designs.{flat_in}
 use Rattle.elab_names.specs.LookUps.{looked_up}
 

@@ -4,8 +4,8 @@ use Rattle.std.specs.Prelude.{ℕ, ◌≡◌, ◌↔◌, List, [], ◌∷◌, �
 use Rattle.std.specs.List.{All, Contains, flat_map}
 use Rattle.std.specs.List.Sorted.{IsStrictlyIncreasing}
 use Rattle.rtl_tree.specs.TreeItem.{ModuleItem, Ports, Nets, Variables, Integers, Parameters, Drives, Always, Instances}
-use Rattle.elab_links.specs.declared.module_set.Lookup.TheVariants.{Found}
-use Rattle.elab_walk.specs.Visits.{Library, Visit}
+use Rattle.rtl_elab.specs.elab_links.declared.module_set.Lookup.TheVariants.{Found}
+use Rattle.rtl_elab.specs.elab_walk.Visits.{Library, Visit}
 use Rattle.rtl_elab.specs.Elaborated.{visited}
 use Rattle.elab_names.specs.declared.look_up.LookUp.{LookUp}
 

@@ -4,11 +4,11 @@ use Rattle.std.specs.Prelude.{ℕ, ◌≡◌, ◌↔◌, List}
 use Rattle.std.specs.List.{Contains}
 use Rattle.std.specs.List.Sorted.{IsStrictlyIncreasing}
 use Rattle.rtl_tree.specs.declared.text.Spot.{Spot}
-use Rattle.elab_scope.specs.Faults.{Answer, Memory, Named, Placed}
-use Rattle.elab_links.specs.declared.module_set.Place.{Place}
-use Rattle.elab_links.specs.declared.module_set.Lookup.TheVariants.{Found}
-use Rattle.elab_walk.specs.Placements.{Placement}
-use Rattle.elab_walk.specs.Visits.{Visit}
+use Rattle.rtl_elab.specs.elab_scope.Faults.{Answer, Memory, Named, Placed}
+use Rattle.rtl_elab.specs.elab_links.declared.module_set.Place.{Place}
+use Rattle.rtl_elab.specs.elab_links.declared.module_set.Lookup.TheVariants.{Found}
+use Rattle.rtl_elab.specs.elab_walk.Placements.{Placement}
+use Rattle.rtl_elab.specs.elab_walk.Visits.{Visit}
 use Rattle.elab_names.specs.declared.look_up.LookUp.{LookUp}
 use Rattle.elab_names.specs.Extracts.{renumbered}
 

@@ -1,8 +1,8 @@
 // Elaboration in the files that a top uses.
 
 ghost use Rattle.std.specs.Prelude.{◌≡◌, ◌+◌, IfOk};
-ghost use Rattle.elab_links.specs.Modules.{all_placed, circuits_of, found, lookups_of};
-ghost use Rattle.elab_walk.specs.Visits.{library};
+ghost use Rattle.rtl_elab.specs.elab_links.Modules.{all_placed, circuits_of, found, lookups_of};
+ghost use Rattle.rtl_elab.specs.elab_walk.Visits.{library};
 ghost use Rattle.rtl_elab.specs.Designs.{library_of};
 ghost use Rattle.rtl_elab.specs.Elaborated.{elaborated};
 ghost use Rattle.elab_names.specs.Extracts.{IsElaborated, extract};
@@ -12,11 +12,11 @@ use crate::look_up::LookUp;
 use crate::moves::{move_look_ups, move_placements, moved_fault};
 use crate::names::look_ups;
 use crate::used::used_files;
-use elab_flat::flat::flat_of;
-use elab_links::module_set::ModuleSet;
-use elab_scope::fault::ElabFault;
-use elab_walk::library::Library;
-use elab_walk::top::Walked;
+use rtl_elab::elab_flat::flat::flat_of;
+use rtl_elab::elab_links::module_set::ModuleSet;
+use rtl_elab::elab_scope::fault::ElabFault;
+use rtl_elab::elab_walk::library::Library;
+use rtl_elab::elab_walk::top::Walked;
 use rtl_elab::elaborate::walk_from;
 use rtl_elab::whole::design_of;
 use rtl_flat::design::Design;
@@ -32,7 +32,7 @@ use steps::Steps;
 pub struct Elaborated {
     /// The design, or why there is none.
     pub design: Result<Design, ElabFault>,
-    /// The names that the top looked up, its own first and each once, with what they mean.
+    /// The names that the top looked up, with what they mean among the used files.
     pub look_ups: Vec<LookUp>,
     /// The numbers of the used files among all files, ascending.
     pub files: Vec<usize>,

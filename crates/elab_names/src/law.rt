@@ -2,7 +2,7 @@
 //! all libraries.
 
 ghost use Rattle.std.specs.Prelude.{◌≡◌, ℕ, List};
-ghost use Rattle.elab_walk.specs.Visits.{Library};
+ghost use Rattle.rtl_elab.specs.elab_walk.Visits.{Library};
 ghost use Rattle.rtl_elab.specs.Elaborated.{elaborated};
 ghost use Rattle.elab_names.specs.Extracts.{IsStill, extract};
 ghost use Rattle.elab_names.specs.LookUps.{AreUsed, looked_up};

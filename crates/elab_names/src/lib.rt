@@ -12,3 +12,7 @@ mod used;
 pub use design::{Elaborated, elaborate};
 pub use look_up::LookUp;
 pub use meaning::resolve;
+
+// Passed on to the crates above.
+pub use rtl_elab;
+pub use rtl_elab::{elab_links, elab_scope};

@@ -1,6 +1,6 @@
 // What a name meant.
 
-use elab_links::module_set::Lookup;
+use rtl_elab::elab_links::module_set::Lookup;
 use rtl_tree::text::Text;
 
 /// A name that was looked up among modules, and what it meant.

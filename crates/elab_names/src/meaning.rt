@@ -3,10 +3,10 @@
 ghost use Rattle.std.specs.Prelude.{◌≡◌, ◌++◌, List, if◌then◌else◌, map};
 ghost use Rattle.std.specs.Str.{bytes_eq};
 ghost use Rattle.rtl_tree.specs.TreeModule.{circuit};
-ghost use Rattle.elab_links.specs.Modules.{Placed, all_placed, circuits_of};
-ghost use Rattle.elab_links.specs.Modules.{found, placed_in, with_another};
+ghost use Rattle.rtl_elab.specs.elab_links.Modules.{Placed, all_placed, circuits_of};
+ghost use Rattle.rtl_elab.specs.elab_links.Modules.{found, placed_in, with_another};
 
-use elab_links::module_set::{Lookup, Place};
+use rtl_elab::elab_links::module_set::{Lookup, Place};
 use rtl_tree::text::Text;
 use rtl_tree::tree::modules::Module;
 

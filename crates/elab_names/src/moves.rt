@@ -2,16 +2,16 @@
 
 ghost use Rattle.std.specs.Prelude.{◌≡◌, IfOk, OnOk, map};
 ghost use Rattle.std.specs.List.Sorted.{IsStrictlyIncreasing};
-ghost use Rattle.elab_scope.specs.Faults.{answer};
-ghost use Rattle.elab_walk.specs.Trails.{placement};
+ghost use Rattle.rtl_elab.specs.elab_scope.Faults.{answer};
+ghost use Rattle.rtl_elab.specs.elab_walk.Trails.{placement};
 ghost use Rattle.elab_names.specs.Extracts.{place_in, renumbered};
 ghost use Rattle.elab_names.specs.Moves.{moved_answer, moved_look_up, moved_place, moved_placement, moved_spot};
 
 use crate::look_up::LookUp;
 use crate::used::place_in;
-use elab_links::module_set::{Lookup, Place};
-use elab_scope::fault::ElabFault;
-use elab_walk::trail::Placement;
+use rtl_elab::elab_links::module_set::{Lookup, Place};
+use rtl_elab::elab_scope::fault::ElabFault;
+use rtl_elab::elab_walk::trail::Placement;
 use rtl_tree::memory::Memory;
 use rtl_tree::text::Spot;
 

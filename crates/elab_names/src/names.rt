@@ -3,15 +3,15 @@
 ghost use Rattle.std.specs.Prelude.{◌≡◌, [], ◌∷◌, IfOk, OnOk, map};
 ghost use Rattle.name_map.specs.Values.{no_values, values_of};
 ghost use Rattle.rtl_tree.specs.TreeItem.{module_item};
-ghost use Rattle.elab_links.specs.Modules.{lookups_of};
-ghost use Rattle.elab_walk.specs.Visits.{visit};
+ghost use Rattle.rtl_elab.specs.elab_links.Modules.{lookups_of};
+ghost use Rattle.rtl_elab.specs.elab_walk.Visits.{visit};
 ghost use Rattle.elab_names.specs.Asking.{AreFound, Asks};
 ghost use Rattle.elab_names.specs.LookUps.{name_in_item, names_by, names_in};
 
 use crate::look_up::LookUp;
-use elab_links::module_set::{Lookup, ModuleSet};
-use elab_walk::trail::Placement;
 use name_map::NameMap;
+use rtl_elab::elab_links::module_set::{Lookup, ModuleSet};
+use rtl_elab::elab_walk::trail::Placement;
 use rtl_tree::memory::Memory;
 use rtl_tree::text::Text;
 use rtl_tree::tree::item::Item;

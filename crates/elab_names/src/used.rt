@@ -7,7 +7,7 @@ ghost use Rattle.elab_names.specs.Extracts.{place_in};
 ghost use Rattle.elab_names.specs.Moves.{AreFilesOf};
 
 use crate::look_up::LookUp;
-use elab_links::module_set::Lookup;
+use rtl_elab::elab_links::module_set::Lookup;
 use rtl_tree::memory::Memory;
 use std::alloc::Global;
 

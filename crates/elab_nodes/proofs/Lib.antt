@@ -1,3 +1,5 @@
 mod Examples
 pub mod Sparing
 pub mod Views
+-- passed on to the crates above
+pub use Rattle.elab_scope.proofs as elab_scope_proofs

@@ -1,3 +1,5 @@
 pub mod Nodes
 pub mod Spares
 pub mod Totals
+-- passed on to the crates above
+pub use Rattle.elab_scope.specs as elab_scope

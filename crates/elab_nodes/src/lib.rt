@@ -4,3 +4,6 @@
 pub mod items;
 pub mod nodes;
 pub mod spare;
+
+// Passed on to the crates above.
+pub use elab_scope;

@@ -6,11 +6,11 @@ use Rattle.rtl_tree.specs.declared.tree.stmt.AssignmentKind.TheVariants.{Blockin
 use Rattle.rtl_tree.specs.TreeExpr.{Identifier, Read}
 use Rattle.rtl_tree.specs.TreeStmt.{Whole, Named, Pause, Assign}
 use Rattle.rtl_tree.specs.TreeItem.{ModuleItem, Integers, Nets, Drives, Always, Star}
-use Rattle.elab_scope.specs.declared.known.Known.TheVariants.{Signal}
-use Rattle.elab_scope.specs.declared.known.Role.TheVariants.{Input, Net, Variable}
-use Rattle.elab_scope.specs.Faults.{NotAssignable}
-use Rattle.elab_scope.specs.Names.{Meanings}
-use Rattle.elab_scope.specs.Rules.{fault}
+use Rattle.elab_body.specs.elab_scope.declared.known.Known.TheVariants.{Signal}
+use Rattle.elab_body.specs.elab_scope.declared.known.Role.TheVariants.{Input, Net, Variable}
+use Rattle.elab_body.specs.elab_scope.Faults.{NotAssignable}
+use Rattle.elab_body.specs.elab_scope.Names.{Meanings}
+use Rattle.elab_body.specs.elab_scope.Rules.{fault}
 use Rattle.elab_body.specs.Steps.{Delay, Faulty, Nodes, Statement}
 use Rattle.elab_parts.specs.Delays.{delay_in, item_delays}
 use Rattle.elab_parts.specs.Items.{item_steps, items_places}

@@ -8,11 +8,11 @@ use Rattle.rtl_tree.specs.TreeStmt.{Target, Pause, Whole}
 use Rattle.rtl_tree.specs.TreeItem.{Net, Drive, ModuleItem, Ports, Nets, Variables, Integers, Parameters, Drives, Always, Instances}
 use Rattle.rtl_flat.specs.declared.instance.Delay.{Delay}
 use Rattle.rtl_flat.specs.Process.{Task}
-use Rattle.elab_scope.specs.declared.rules.Writer.TheVariants as writer
-use Rattle.elab_scope.specs.Expressions.{faults}
-use Rattle.elab_scope.specs.Names.{Meanings}
-use Rattle.elab_scope.specs.Targets.{target_faults}
-use Rattle.elab_scope.specs.Trees.{spot_in}
+use Rattle.elab_body.specs.elab_scope.declared.rules.Writer.TheVariants as writer
+use Rattle.elab_body.specs.elab_scope.Expressions.{faults}
+use Rattle.elab_body.specs.elab_scope.Names.{Meanings}
+use Rattle.elab_body.specs.elab_scope.Targets.{target_faults}
+use Rattle.elab_body.specs.elab_scope.Trees.{spot_in}
 use Rattle.elab_body.specs.Bodies.{steps}
 use Rattle.elab_body.specs.Events.{sensitivity_faults}
 use Rattle.elab_body.specs.Steps.{Step, delays_of, faulty}

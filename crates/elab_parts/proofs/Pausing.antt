@@ -18,12 +18,12 @@ use Rattle.rtl_tree.specs.declared.tree.stmt.Stmt.TheVariants as stmt
 use Rattle.rtl_tree.specs.TreeExpr.{Formula, formula, identifier}
 use Rattle.rtl_tree.specs.TreeStmt.{Target, Pause, Assign, target, pause, action, action_row, branch, branch_row}
 use Rattle.rtl_tree.proofs.TreeViews.{case_is, block_is}
-use Rattle.elab_scope.specs.Expressions.{faults}
-use Rattle.elab_scope.specs.Faults.{TooLarge, Refusal}
-use Rattle.elab_scope.specs.Names.{Meanings}
-use Rattle.elab_scope.specs.Rules.{fault, number_faults}
-use Rattle.elab_scope.specs.Targets.{target_faults}
-use Rattle.elab_scope.specs.declared.rules.Writer.TheVariants as writer
+use Rattle.elab_body.specs.elab_scope.Expressions.{faults}
+use Rattle.elab_body.specs.elab_scope.Faults.{TooLarge, Refusal}
+use Rattle.elab_body.specs.elab_scope.Names.{Meanings}
+use Rattle.elab_body.specs.elab_scope.Rules.{fault, number_faults}
+use Rattle.elab_body.specs.elab_scope.Targets.{target_faults}
+use Rattle.elab_body.specs.elab_scope.declared.rules.Writer.TheVariants as writer
 use Rattle.elab_body.specs.declared.branches.Chosen.{Chosen}
 use Rattle.elab_body.specs.declared.branches.Chosen.TheVariants.{Taken, Otherwise, Both}
 use Rattle.elab_body.specs.Bodies.{Head, all_turns, body_steps, branch_item_steps, branch_steps, branches_steps, counted, in_head, in_turn, loop_faults, pause_steps, steps, turns, where_true, with_number}

@@ -3,15 +3,15 @@ use Rattle.std.specs.Prelude.{List, [], ◌++◌, Option, None, Some}
 use Rattle.std.proofs.Common.{◌≡◌, ◌∙◌, ap, refl, append-nil}
 use Rattle.rtl_tree.specs.TreeExpr.{Identifier}
 use Rattle.rtl_tree.specs.TreeStmt.{Whole}
-use Rattle.elab_scope.specs.declared.covers.Cover.{Cover}
-use Rattle.elab_scope.specs.declared.rules.Writer.TheVariants as writer
-use Rattle.elab_scope.specs.declared.widths.Breadth.{Breadth}
-use Rattle.elab_scope.specs.declared.widths.Breadth.TheVariants.{Bits, Unfit, Hidden}
-use Rattle.elab_scope.specs.Faults.{Refusal}
-use Rattle.elab_scope.specs.Names.{Meanings}
-use Rattle.elab_scope.specs.Own.{name_breadth}
-use Rattle.elab_scope.specs.Rules.{write_faults}
-use Rattle.elab_scope.specs.Targets.{cover_faults, target_faults, where_known, whole_cover}
+use Rattle.elab_body.specs.elab_scope.declared.covers.Cover.{Cover}
+use Rattle.elab_body.specs.elab_scope.declared.rules.Writer.TheVariants as writer
+use Rattle.elab_body.specs.elab_scope.declared.widths.Breadth.{Breadth}
+use Rattle.elab_body.specs.elab_scope.declared.widths.Breadth.TheVariants.{Bits, Unfit, Hidden}
+use Rattle.elab_body.specs.elab_scope.Faults.{Refusal}
+use Rattle.elab_body.specs.elab_scope.Names.{Meanings}
+use Rattle.elab_body.specs.elab_scope.Own.{name_breadth}
+use Rattle.elab_body.specs.elab_scope.Rules.{write_faults}
+use Rattle.elab_body.specs.elab_scope.Targets.{cover_faults, target_faults, where_known, whole_cover}
 
 no_cover : (name : Identifier) (cover : Option Cover) → cover_faults name [] cover ≡ []
 no_cover name None = refl

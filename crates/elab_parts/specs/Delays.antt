@@ -4,8 +4,8 @@ use Rattle.std.specs.Prelude.{ℕ, zero, suc, ◌+◌, length, List, [], ◌∷�
 use Rattle.rtl_tree.specs.TreeStmt.{Pause}
 use Rattle.rtl_tree.specs.TreeItem.{Drive, ModuleItem, Ports, Nets, Variables, Integers, Parameters, Drives, Always, Instances}
 use Rattle.rtl_flat.specs.declared.instance.Delay.{Delay}
-use Rattle.elab_scope.specs.Names.{Meanings}
-use Rattle.elab_scope.specs.Trees.{spot_in}
+use Rattle.elab_body.specs.elab_scope.Names.{Meanings}
+use Rattle.elab_body.specs.elab_scope.Trees.{spot_in}
 use Rattle.elab_body.specs.Bodies.{steps}
 use Rattle.elab_body.specs.Steps.{delays_of}
 

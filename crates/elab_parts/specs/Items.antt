@@ -5,11 +5,11 @@ use Rattle.std.specs.Prelude.{ℕ, List, [], ◌∷◌, ◌++◌, map, Option, N
 use Rattle.rtl_tree.specs.TreeExpr.{Identifier, Formula}
 use Rattle.rtl_tree.specs.TreeStmt.{Target, Whole, Pause, Action, target_place}
 use Rattle.rtl_tree.specs.TreeItem.{Net, Drive, Sensitivity, ModuleItem, Ports, Nets, Variables, Integers, Parameters, Drives, Always, Instances}
-use Rattle.elab_scope.specs.declared.rules.Writer.TheVariants as writer
-use Rattle.elab_scope.specs.Expressions.{faults}
-use Rattle.elab_scope.specs.Names.{Meanings}
-use Rattle.elab_scope.specs.Targets.{target_faults}
-use Rattle.elab_nodes.specs.Totals.{assignment_count, listing_count}
+use Rattle.elab_body.specs.elab_scope.declared.rules.Writer.TheVariants as writer
+use Rattle.elab_body.specs.elab_scope.Expressions.{faults}
+use Rattle.elab_body.specs.elab_scope.Names.{Meanings}
+use Rattle.elab_body.specs.elab_scope.Targets.{target_faults}
+use Rattle.elab_body.specs.elab_nodes.Totals.{assignment_count, listing_count}
 use Rattle.elab_body.specs.Bodies.{pause_steps, steps}
 use Rattle.elab_body.specs.Events.{sensitivity_faults}
 use Rattle.elab_body.specs.Steps.{Step, Nodes, faulty}

@@ -5,9 +5,9 @@ use Rattle.rtl_tree.specs.TreeExpr.{Identifier, Formula}
 use Rattle.rtl_tree.specs.TreeStmt.{Target, Whole, Action, target_place}
 use Rattle.rtl_tree.specs.TreeItem.{Net, Drive, Sensitivity, ModuleItem, Ports, Nets, Variables, Integers, Parameters, Drives, Always, Instances}
 use Rattle.rtl_flat.specs.Process.{Actions, Doing, Assign, Comb, Edge', Task, Watched, body_of}
-use Rattle.elab_scope.specs.Names.{Meanings}
-use Rattle.elab_scope.specs.Targets.{assigned_context, pieces_of}
-use Rattle.elab_scope.specs.Trees.{spot_in, tree_of}
+use Rattle.elab_body.specs.elab_scope.Names.{Meanings}
+use Rattle.elab_body.specs.elab_scope.Targets.{assigned_context, pieces_of}
+use Rattle.elab_body.specs.elab_scope.Trees.{spot_in, tree_of}
 use Rattle.elab_body.specs.Acts.{acts}
 use Rattle.elab_body.specs.Events.{is_clocked_by, listing_of}
 

@@ -3,15 +3,15 @@
 ghost use Rattle.std.specs.Prelude.{◌≡◌, ◌≤◌, ◌<◌, ◌+◌, ◌^◌, ◌∷◌, [], ◌++◌, OnOk, length, map};
 ghost use Rattle.rtl_tree.specs.TreeItem.{module_item};
 ghost use Rattle.rtl_tree.specs.TreeStmt.{action};
-ghost use Rattle.elab_scope.specs.Names.{meanings};
+ghost use Rattle.elab_body.specs.elab_scope.Names.{meanings};
 ghost use Rattle.elab_body.specs.Bodies.{steps};
 ghost use Rattle.elab_body.specs.Steps.{delays_of};
 ghost use Rattle.elab_parts.specs.Delays.{delay_in, item_delays, repeated};
 ghost use Rattle.elab_parts.specs.Items.{item_places};
 
 use crate::pauses::pauses_of;
-use elab_scope::names::Names;
-use elab_scope::size::Site;
+use elab_body::elab_scope::names::Names;
+use elab_body::elab_scope::size::Site;
 use rtl_flat::act::ProcId;
 use rtl_flat::instance::Delay;
 use rtl_tree::memory::Memory;

@@ -6,3 +6,7 @@ pub mod judge;
 pub mod pauses;
 pub mod places;
 pub mod tasks;
+
+// Passed on to the crates above.
+pub use elab_body;
+pub use elab_body::elab_nodes;

@@ -4,14 +4,14 @@
 ghost use Rattle.std.specs.Prelude.{◌≡◌, ◌∷◌, [], ◌++◌, ℤ, IfOk, Option, map};
 ghost use Rattle.std.specs.Option.{option_map};
 ghost use Rattle.rtl_tree.specs.TreeStmt.{action, action_row, branch, branch_row, pause};
-ghost use Rattle.elab_scope.specs.Names.{indexed, meanings};
+ghost use Rattle.elab_body.specs.elab_scope.Names.{indexed, meanings};
 ghost use Rattle.elab_body.specs.Bodies.{all_turns, body_steps, branch_item_steps, branches_steps, pause_steps, steps, turns};
 ghost use Rattle.elab_body.specs.Courses.{chosen_steps, head_of};
 ghost use Rattle.elab_body.specs.Steps.{delays_of};
 
 use elab_body::branches::{Chosen, branches_of, goes_on};
+use elab_body::elab_scope::names::Names;
 use elab_body::head::Head;
-use elab_scope::names::Names;
 use rtl_const::evaluate::constant;
 use rtl_const::params::Lookup;
 use rtl_tree::memory::Memory;

@@ -2,9 +2,9 @@
 use Rattle.std.specs.Prelude.{◌+◌, List, [], ◌∷◌, ◌++◌, map, Option, None, Some}
 use Rattle.std.proofs.Common.{◌≡◌, ◌∙◌, ap, append_assoc, refl, sym}
 use Rattle.std.proofs.lemmas.List.{append-nil}
-use Rattle.elab_scope.specs.declared.fault.ElabFault.{ElabFault}
-use Rattle.elab_scope.specs.declared.fault.ElabFault.TheVariants as variant
-use Rattle.elab_scope.specs.Faults.{Answer, Memory, Named, Placed, answer}
+use Rattle.elab_links.specs.elab_scope.declared.fault.ElabFault.{ElabFault}
+use Rattle.elab_links.specs.elab_scope.declared.fault.ElabFault.TheVariants as variant
+use Rattle.elab_links.specs.elab_scope.Faults.{Answer, Memory, Named, Placed, answer}
 use Rattle.elab_walk.specs.declared.room.Room.{Room}
 use Rattle.elab_walk.specs.declared.trail.Trail.{Trail as Kept}
 use Rattle.elab_walk.specs.Refusals.{come_to, refusal, told_first, told_of, unless_told}

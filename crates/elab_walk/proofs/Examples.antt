@@ -8,7 +8,7 @@ use Rattle.rtl_tree.specs.TreeExpr.{Identifier, Read}
 use Rattle.rtl_tree.specs.TreeStmt.{Whole}
 use Rattle.rtl_tree.specs.TreeItem.{ModuleItem, Drives, Instances, Parameters, ByName}
 use Rattle.rtl_tree.specs.TreeModule.{Circuit, HeaderPort, Declared}
-use Rattle.elab_scope.specs.Faults.{InstanceLoop, Named, NoSuchModule, Placed, TooLarge}
+use Rattle.elab_links.specs.elab_scope.Faults.{InstanceLoop, Named, NoSuchModule, Placed, TooLarge}
 use Rattle.elab_links.specs.Modules.{all_placed, found}
 use Rattle.elab_walk.specs.Refusals.{come_to, refusal}
 use Rattle.elab_walk.specs.Rooms.{whole_room}

@@ -3,19 +3,19 @@ use Rattle.std.specs.Prelude.{ℕ, zero, suc, ◌+◌, ◌-◌, ◌≤◌, min, 
 use Rattle.std.specs.List.{slice_get}
 use Rattle.std.proofs.Common.{◌≡◌, ◌∙◌, ap, refl, sym, arith}
 use Rattle.rtl_tree.specs.TreeItem.{ModuleItem}
-use Rattle.elab_scope.specs.Faults.{Refusal, after, comes_before, keep, least}
-use Rattle.elab_scope.specs.Names.{Meanings}
-use Rattle.elab_scope.proofs.Fitting.{no_cons}
-use Rattle.elab_scope.proofs.Least.{after_append}
-use Rattle.elab_scope.proofs.Sound.{nil_left, nil_right}
-use Rattle.elab_nodes.specs.Spares.{spared}
-use Rattle.elab_nodes.proofs.Sparing.{spared_behind}
-use Rattle.elab_body.specs.declared.progress.Left.{Left}
-use Rattle.elab_body.specs.Steps.{Step, Faulty, Statement, Turn, Delay, Nodes, Course, checked, delays_of, passed, where_spared, with_nodes}
-use Rattle.elab_body.proofs.Passing.{passed_checked}
-use Rattle.elab_items.specs.Scopes.{declaration_faults, listings_of}
-use Rattle.elab_items.proofs.Law.{few_enough}
-use Rattle.elab_body.specs.Faultless.{node_total, statement_count}
+use Rattle.elab_links.specs.elab_scope.Faults.{Refusal, after, comes_before, keep, least}
+use Rattle.elab_links.specs.elab_scope.Names.{Meanings}
+use Rattle.elab_links.proofs.elab_scope_proofs.Fitting.{no_cons}
+use Rattle.elab_links.proofs.elab_scope_proofs.Least.{after_append}
+use Rattle.elab_links.proofs.elab_scope_proofs.Sound.{nil_left, nil_right}
+use Rattle.elab_parts.specs.elab_nodes.Spares.{spared}
+use Rattle.elab_parts.proofs.elab_nodes_proofs.Sparing.{spared_behind}
+use Rattle.elab_parts.specs.elab_body.declared.progress.Left.{Left}
+use Rattle.elab_parts.specs.elab_body.Steps.{Step, Faulty, Statement, Turn, Delay, Nodes, Course, checked, delays_of, passed, where_spared, with_nodes}
+use Rattle.elab_parts.proofs.elab_body_proofs.Passing.{passed_checked}
+use Rattle.elab_links.specs.elab_items.Scopes.{declaration_faults, listings_of}
+use Rattle.elab_links.proofs.elab_items_proofs.Law.{few_enough}
+use Rattle.elab_parts.specs.elab_body.Faultless.{node_total, statement_count}
 use Rattle.elab_walk.specs.declared.places.Seek.{Seek}
 use Rattle.elab_walk.specs.declared.places.Seek.TheVariants as seek
 use Rattle.elab_walk.specs.declared.room.Room.{Room}

@@ -3,7 +3,7 @@ use Rattle.std.specs.Prelude.{ℕ, ◌+◌, ◌<◌, length, drop, List, ◌∷�
 use Rattle.std.specs.List.{flat_map}
 use Rattle.std.proofs.Common.{◌≡◌, ◌∙◌, ap, sym, get_or}
 use Rattle.std.proofs.lemmas.List.{at_drop_more}
-use Rattle.elab_scope.specs.Faults.{Answer}
+use Rattle.elab_links.specs.elab_scope.Faults.{Answer}
 use Rattle.elab_walk.specs.Trails.{Gone, IsStopped, Trail, gone}
 use Rattle.elab_walk.specs.Visits.{Library, Visit, visits}
 use Rattle.elab_walk.proofs.Telling.{held_on, stopped_on}

@@ -3,7 +3,7 @@ use Rattle.std.specs.Prelude.{ℕ, ◌-◌, nat_le}
 use Rattle.std.proofs.Common.{◌≡◌, arith, inl, inr, refl}
 use Rattle.std.proofs.lemmas.Bool.{cases_Bool}
 use Rattle.std.proofs.lemmas.Bool.Decides.{nat_tests}
-use Rattle.elab_nodes.specs.Spares.{spared}
+use Rattle.elab_parts.specs.elab_nodes.Spares.{spared}
 use Rattle.elab_walk.specs.Leavings.{spare_or}
 
 -- what is left behind a module that has room

@@ -4,7 +4,7 @@ use Rattle.std.specs.List.{flat_map}
 use Rattle.std.proofs.Common.{◌≡◌, ◌∙◌, ap, refl, subst, sym, arith}
 use Rattle.std.proofs.lemmas.Grind.{flat_map-append}
 use Rattle.rtl_tree.specs.TreeItem.{ModuleItem}
-use Rattle.elab_scope.specs.Faults.{Answer, Memory, Named, Placed}
+use Rattle.elab_links.specs.elab_scope.Faults.{Answer, Memory, Named, Placed}
 use Rattle.elab_walk.specs.Refusals.{told_of}
 use Rattle.elab_walk.specs.Trails.{Going, Gone, IsStopped, IsTold, Refused, Trail, extended, followed, gone, passed_by, step}
 use Rattle.elab_walk.specs.Visits.{Holder, Library, Visit, children, holder_of, visits}

@@ -1,7 +1,7 @@
 -- It serves inner contracts and proofs; no answer of the program is stated by it.
 -- What the code takes as left by an instance, whether something is told of it or not.
 use Rattle.std.specs.Prelude.{ℕ, ◌+◌, min, Option, None, Some}
-use Rattle.elab_body.specs.declared.progress.Left.{Left}
+use Rattle.elab_parts.specs.elab_body.declared.progress.Left.{Left}
 use Rattle.elab_walk.specs.declared.places.Seek.{Seek}
 use Rattle.elab_walk.specs.declared.places.Seek.TheVariants as seek
 use Rattle.elab_walk.specs.declared.room.Room.{Room}

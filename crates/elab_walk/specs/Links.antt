@@ -6,9 +6,9 @@ use Rattle.rtl_tree.specs.declared.tree.item.Direction.{Direction}
 use Rattle.rtl_tree.specs.declared.tree.item.Direction.TheVariants.{Input, Output}
 use Rattle.rtl_tree.specs.TreeExpr.{Formula, Identifier}
 use Rattle.rtl_tree.specs.TreeItem.{ModuleItem, Association, ByPosition, ByName, Associated, Positional, Instantiation}
-use Rattle.elab_scope.specs.Names.{Meanings}
-use Rattle.elab_nodes.specs.Nodes.{node_count}
-use Rattle.elab_body.specs.Steps.{Step, Nodes}
+use Rattle.elab_links.specs.elab_scope.Names.{Meanings}
+use Rattle.elab_parts.specs.elab_nodes.Nodes.{node_count}
+use Rattle.elab_parts.specs.elab_body.Steps.{Step, Nodes}
 use Rattle.elab_links.specs.Groups.{Group, group_of}
 use Rattle.elab_links.specs.Ports.{Sockets, sockets_of}
 use Rattle.elab_walk.specs.Visits.{Library}

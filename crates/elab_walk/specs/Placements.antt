@@ -5,9 +5,9 @@ use Rattle.rtl_tree.specs.declared.dropped.Dropped.{Dropped}
 use Rattle.rtl_flat.specs.declared.instance.DroppedRegion.{DroppedRegion}
 use Rattle.rtl_flat.specs.declared.instance.Instance.{Instance}
 use Rattle.rtl_flat.specs.declared.signal.Signal.{Signal}
-use Rattle.elab_scope.specs.Trees.{spot_in}
-use Rattle.elab_items.specs.Scopes.{listings_of}
-use Rattle.elab_items.specs.Signals.{Home, signals_in}
+use Rattle.elab_links.specs.elab_scope.Trees.{spot_in}
+use Rattle.elab_links.specs.elab_items.Scopes.{listings_of}
+use Rattle.elab_links.specs.elab_items.Signals.{Home, signals_in}
 use Rattle.elab_walk.specs.Regions.{dropped_in}
 use Rattle.elab_walk.specs.Visits.{Visit}
 

@@ -2,9 +2,9 @@
 -- Worked examples: proofs/Examples.antt.
 use Rattle.std.specs.Prelude.{ℕ, Bool, true, false, List, [], ◌∷◌, ◌++◌, Option, None, Some}
 use Rattle.std.specs.Option.{option_map}
-use Rattle.elab_scope.specs.Faults.{Answer, Named, Placed, Memory, Refusal, TooLarge, least, located}
-use Rattle.elab_body.specs.Steps.{checked}
-use Rattle.elab_items.specs.Scopes.{declaration_faults}
+use Rattle.elab_links.specs.elab_scope.Faults.{Answer, Named, Placed, Memory, Refusal, TooLarge, least, located}
+use Rattle.elab_parts.specs.elab_body.Steps.{checked}
+use Rattle.elab_links.specs.elab_items.Scopes.{declaration_faults}
 use Rattle.elab_walk.specs.declared.room.Room.{Room}
 use Rattle.elab_walk.specs.Rooms.{has_room, process_faults, process_places, room_after, visit_steps}
 use Rattle.elab_walk.specs.Visits.{Library, Visit}

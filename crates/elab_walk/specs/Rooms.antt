@@ -5,12 +5,12 @@ use Rattle.std.specs.List.{slice_get}
 use Rattle.rtl_tree.specs.TreeExpr.{Formula}
 use Rattle.rtl_tree.specs.TreeItem.{ModuleItem, Ports, Nets, Variables, Integers, Parameters, Drives, Always, Instances, Association, ByPosition, ByName, Associated, Positional, Instantiation}
 use Rattle.rtl_tree.specs.TreeModule.{Circuit}
-use Rattle.elab_scope.specs.Faults.{Refusal, TooLarge}
-use Rattle.elab_scope.specs.Names.{Meanings}
-use Rattle.elab_scope.specs.Rules.{fault}
-use Rattle.elab_body.specs.Steps.{Step, delays_of, faulty}
-use Rattle.elab_items.specs.Scopes.{listings_of}
-use Rattle.elab_body.specs.Faultless.{node_total, statement_count}
+use Rattle.elab_links.specs.elab_scope.Faults.{Refusal, TooLarge}
+use Rattle.elab_links.specs.elab_scope.Names.{Meanings}
+use Rattle.elab_links.specs.elab_scope.Rules.{fault}
+use Rattle.elab_parts.specs.elab_body.Steps.{Step, delays_of, faulty}
+use Rattle.elab_links.specs.elab_items.Scopes.{listings_of}
+use Rattle.elab_parts.specs.elab_body.Faultless.{node_total, statement_count}
 use Rattle.elab_links.specs.Instances.{link_faults}
 use Rattle.elab_parts.specs.Items.{item_places, item_steps}
 use Rattle.elab_walk.specs.declared.places.Seek.{Seek}

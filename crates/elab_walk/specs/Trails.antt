@@ -1,8 +1,8 @@
 -- It serves inner contracts and proofs; no answer of the program is stated by it.
 -- The walk over instances, one after the other: how far it comes, or what is told.
 use Rattle.std.specs.Prelude.{ℕ, ◌≡◌, List, [], ◌∷◌, ◌++◌, map, Option, None, Some, Result, Ok, Err}
-use Rattle.elab_scope.specs.declared.fault.ElabFault.{ElabFault}
-use Rattle.elab_scope.specs.Faults.{Answer, Memory, Named, Placed, answer}
+use Rattle.elab_links.specs.elab_scope.declared.fault.ElabFault.{ElabFault}
+use Rattle.elab_links.specs.elab_scope.Faults.{Answer, Memory, Named, Placed, answer}
 use Rattle.elab_walk.specs.declared.room.Room.{Room}
 use Rattle.elab_walk.specs.declared.trail.Placement.{Placement as Made}
 use Rattle.elab_walk.specs.declared.trail.Trail.{Trail as Kept}

@@ -6,10 +6,10 @@ use Rattle.std.specs.List.{flat_map}
 use Rattle.rtl_tree.specs.declared.text.Spot.{Spot}
 use Rattle.rtl_tree.specs.TreeItem.{ModuleItem, Ports, Nets, Variables, Integers, Parameters, Drives, Always, Instances, Instantiation}
 use Rattle.rtl_tree.specs.TreeModule.{Circuit, circuit}
-use Rattle.elab_scope.specs.Names.{Meanings, meanings}
-use Rattle.elab_items.specs.Scopes.{scope_of}
-use Rattle.elab_items.specs.Settings.{Settings, no_settings, settings_of}
-use Rattle.elab_items.specs.Signals.{path_in}
+use Rattle.elab_links.specs.elab_scope.Names.{Meanings, meanings}
+use Rattle.elab_links.specs.elab_items.Scopes.{scope_of}
+use Rattle.elab_links.specs.elab_items.Settings.{Settings, no_settings, settings_of}
+use Rattle.elab_links.specs.elab_items.Signals.{path_in}
 use Rattle.elab_links.specs.declared.module_set.Place.{Place}
 use Rattle.elab_links.specs.Groups.{Group, group_of}
 use Rattle.elab_links.specs.Modules.{Lookups, circuits_of, lookups_of}

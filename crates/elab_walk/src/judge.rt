@@ -4,16 +4,16 @@ ghost use Rattle.std.specs.Prelude.{◌≡◌, ◌<◌, IfOk, map};
 ghost use Rattle.std.specs.Option.{option_map};
 ghost use Rattle.rtl_tree.specs.TreeItem.{module_item};
 ghost use Rattle.rtl_tree.specs.TreeModule.{circuit};
-ghost use Rattle.elab_scope.specs.Faults.{after, refusal};
-ghost use Rattle.elab_scope.specs.Names.{meanings};
-ghost use Rattle.elab_body.specs.Courses.{course};
-ghost use Rattle.elab_body.specs.Steps.{faulty, passed};
+ghost use Rattle.elab_links.specs.elab_scope.Faults.{after, refusal};
+ghost use Rattle.elab_links.specs.elab_scope.Names.{meanings};
+ghost use Rattle.elab_parts.specs.elab_body.Courses.{course};
+ghost use Rattle.elab_parts.specs.elab_body.Steps.{faulty, passed};
 ghost use Rattle.elab_links.specs.Instances.{link_faults};
 ghost use Rattle.elab_walk.specs.Rooms.{part_steps, parts_steps, room_after, surplus};
 ghost use Rattle.elab_walk.specs.Rooms.{place_of};
 ghost use Rattle.elab_walk.specs.Refusals.{own_faults};
 ghost use Rattle.elab_walk.specs.Visits.{library, scope_in, visit};
-ghost use Rattle.elab_scope.specs.Faults.{least};
+ghost use Rattle.elab_links.specs.elab_scope.Faults.{least};
 
 use crate::library::Library;
 use crate::links::spend_links;
@@ -21,19 +21,19 @@ use crate::parameters::spare_parameters;
 use crate::places::{Seek, seek_all};
 use crate::room::Room;
 use crate::visit::Visit;
-use elab_body::progress::Progress;
-use elab_items::declare::declare;
+use elab_links::elab_items::declare::declare;
+use elab_links::elab_scope::fault::{Cause, Fault};
+use elab_links::elab_scope::names::Names;
 use elab_links::instances::judge_instances;
+use elab_parts::elab_body::progress::Progress;
 use elab_parts::judge::judge_item;
-use elab_scope::fault::{Cause, Fault};
-use elab_scope::names::Names;
 use rtl_tree::memory::Memory;
 use rtl_tree::text::Text;
 use rtl_tree::tree::item::Item;
 use std::alloc::Global;
 
 /// The faults of the instances that an item places.
-#[tactic(auto, using(elab_body::proofs::Passing::passed_faulty, elab_body::proofs::Passing::passed_cut))]
+#[tactic(auto, using(crate::proofs::Borrowed::passed_faulty, crate::proofs::Borrowed::passed_cut))]
 fn judge_links<'a>(
     alloc: Global,
     all: Library<'a>,
@@ -60,7 +60,7 @@ fn judge_links<'a>(
     }
 }
 
-#[tactic(auto, using(elab_body::proofs::Passing::passed_append))]
+#[tactic(auto, using(crate::proofs::Borrowed::passed_append))]
 fn judge_part<'a>(
     alloc: Global,
     all: Library<'a>,
@@ -78,7 +78,7 @@ fn judge_part<'a>(
 }
 
 /// The faults of items, one after the other.
-#[tactic(auto, using(elab_body::proofs::Passing::passed_append))]
+#[tactic(auto, using(crate::proofs::Borrowed::passed_append))]
 fn judge_parts<'a>(
     alloc: Global,
     all: Library<'a>,

@@ -11,3 +11,8 @@ pub mod top;
 pub mod trail;
 pub mod visit;
 pub mod walk;
+
+// Passed on to the crates above.
+pub use elab_links;
+pub use elab_links::{elab_items, elab_scope};
+pub use elab_parts;

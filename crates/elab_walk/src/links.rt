@@ -5,30 +5,30 @@ ghost use Rattle.std.specs.List.{slice_get};
 ghost use Rattle.std.specs.Option.{option_map};
 ghost use Rattle.rtl_tree.specs.TreeExpr.{formula};
 ghost use Rattle.rtl_tree.specs.TreeItem.{associated, association, instantiation, module_item, positional};
-ghost use Rattle.elab_scope.specs.Names.{meanings};
-ghost use Rattle.elab_nodes.specs.Spares.{spared};
-ghost use Rattle.elab_body.specs.Courses.{course};
-ghost use Rattle.elab_body.specs.Steps.{passed};
+ghost use Rattle.elab_links.specs.elab_scope.Names.{meanings};
+ghost use Rattle.elab_parts.specs.elab_nodes.Spares.{spared};
+ghost use Rattle.elab_parts.specs.elab_body.Courses.{course};
+ghost use Rattle.elab_parts.specs.elab_body.Steps.{passed};
 ghost use Rattle.elab_links.specs.Groups.{group};
 ghost use Rattle.elab_links.specs.Ports.{sockets};
 ghost use Rattle.elab_walk.specs.Links.{argument_steps, connection_steps, group_steps, instantiations_steps, link_steps, named_steps, ordered_steps, placed_steps, port_count};
 ghost use Rattle.elab_walk.specs.Visits.{library};
 
 use crate::library::Library;
-use elab_body::progress::Progress;
-use elab_items::entries::entries_of;
+use elab_links::elab_items::entries::entries_of;
+use elab_links::elab_scope::names::Names;
 use elab_links::groups::{Group, group_of};
 use elab_links::ports::Ports;
-use elab_nodes::nodes::spend;
-use elab_nodes::spare::spare;
-use elab_scope::names::Names;
+use elab_parts::elab_body::progress::Progress;
+use elab_parts::elab_nodes::nodes::spend;
+use elab_parts::elab_nodes::spare::spare;
 use rtl_tree::memory::Memory;
 use rtl_tree::tree::expr::Expr;
 use rtl_tree::tree::item::{Arguments, Direction, Instance, Item, NamedArgument, OrderedArgument};
 use std::alloc::Global;
 
 /// What is left behind the nodes of a connection.
-#[tactic(auto, using(elab_nodes::proofs::Sparing::spared_zero))]
+#[tactic(auto, using(crate::proofs::Borrowed::spared_zero))]
 fn spend_port(direction: Option<Direction>, e: &Expr, names: &Names, left: u32) -> Option<u32>
     ensures { result ≡ spared left (port_count (meanings names.now) direction (formula e.now)) }
 {
@@ -154,7 +154,7 @@ fn spend_group<'a>(
 }
 
 /// The nodes of the connections of the instances that an item places.
-#[tactic(auto, using(elab_body::proofs::Passing::passed_cut))]
+#[tactic(auto, using(crate::proofs::Borrowed::passed_cut))]
 pub fn spend_links<'a>(
     alloc: Global,
     all: Library<'_>,

@@ -4,9 +4,9 @@ ghost use Rattle.std.specs.Prelude.{◌≡◌};
 ghost use Rattle.rtl_tree.specs.TreeItem.{module_item};
 ghost use Rattle.rtl_tree.specs.TreeModule.{circuit};
 ghost use Rattle.elab_walk.specs.Rooms.{item_parameters, parameter_count};
-ghost use Rattle.elab_nodes.specs.Spares.{spared};
+ghost use Rattle.elab_parts.specs.elab_nodes.Spares.{spared};
 
-use elab_nodes::spare::spare;
+use elab_parts::elab_nodes::spare::spare;
 use rtl_tree::tree::item::Item;
 use rtl_tree::tree::modules::Module;
 
@@ -26,7 +26,7 @@ fn count_in(item: &Item) -> usize
 }
 
 /// How many of so many parameters are left behind those of a module; none where it has more.
-#[tactic(auto, using(elab_nodes::proofs::Sparing::spared_more))]
+#[tactic(auto, using(crate::proofs::Borrowed::spared_more))]
 pub fn spare_parameters(written: &Module, most: u32) -> Option<u32>
     ensures { result ≡ spared most (parameter_count (circuit written.now)) }
 {

@@ -4,7 +4,7 @@ ghost use Rattle.std.specs.Prelude.{◌≡◌, ◌<◌};
 ghost use Rattle.elab_walk.specs.Leavings.{behind, left_or, most_of};
 
 use crate::places::Seek;
-use elab_body::progress::Left;
+use elab_parts::elab_body::progress::Left;
 
 /// The most signals of a design.
 const SIGNALS: usize = 20_000;

@@ -2,7 +2,7 @@
 
 ghost use Rattle.std.specs.Prelude.{◌≡◌, IfOk, map};
 ghost use Rattle.std.specs.Option.{option_map};
-ghost use Rattle.elab_scope.specs.Faults.{answer};
+ghost use Rattle.elab_links.specs.elab_scope.Faults.{answer};
 ghost use Rattle.rtl_tree.specs.TreeModule.{circuit};
 ghost use Rattle.elab_walk.specs.Rooms.{whole_room};
 ghost use Rattle.elab_walk.specs.Placements.{placements};
@@ -15,10 +15,10 @@ use crate::room::Room;
 use crate::trail::{Placement, Trail};
 use crate::visit::{Visit, file_of};
 use crate::walk::visit;
-use elab_body::progress::Left;
-use elab_items::overrides::Overrides;
+use elab_links::elab_items::overrides::Overrides;
+use elab_links::elab_scope::fault::ElabFault;
 use elab_links::module_set::Place;
-use elab_scope::fault::ElabFault;
+use elab_parts::elab_body::progress::Left;
 use rtl_tree::memory::Memory;
 use rtl_tree::text::{Spot, Text};
 use rtl_tree::tree::modules::Module;

@@ -1,15 +1,15 @@
 //! Instances on the walk.
 
 ghost use Rattle.std.specs.Prelude.{◌≡◌, ◌++◌, ◌∷◌, [], IfOk, map};
-ghost use Rattle.elab_items.specs.Signals.{path_in};
+ghost use Rattle.elab_links.specs.elab_items.Signals.{path_in};
 ghost use Rattle.elab_links.specs.Groups.{group};
-ghost use Rattle.elab_scope.specs.Names.{meanings};
+ghost use Rattle.elab_links.specs.elab_scope.Names.{meanings};
 ghost use Rattle.elab_walk.specs.Visits.{child_in, holder, holder_of, scope_in, visit};
 
-use elab_items::overrides::Overrides;
+use elab_links::elab_items::overrides::Overrides;
+use elab_links::elab_scope::names::Names;
 use elab_links::groups::Group;
 use elab_links::module_set::Place;
-use elab_scope::names::Names;
 use rtl_tree::memory::Memory;
 use rtl_tree::text::{Spot, Text};
 use rtl_tree::tree::modules::Module;

@@ -4,8 +4,8 @@ ghost use Rattle.std.specs.Prelude.{◌≡◌, IfErr, IfOk, map};
 ghost use Rattle.std.specs.List.{flat_map};
 ghost use Rattle.std.specs.Option.{option_map};
 ghost use Rattle.rtl_tree.specs.TreeItem.{module_item, instantiation};
-ghost use Rattle.elab_scope.specs.Faults.{answer, located, refusal};
-ghost use Rattle.elab_scope.specs.Names.{meanings};
+ghost use Rattle.elab_links.specs.elab_scope.Faults.{answer, located, refusal};
+ghost use Rattle.elab_links.specs.elab_scope.Names.{meanings};
 ghost use Rattle.elab_links.specs.Groups.{group, group_of};
 ghost use Rattle.elab_walk.specs.Refusals.{told_of};
 ghost use Rattle.rtl_tree.specs.TreeModule.{circuit};
@@ -19,10 +19,10 @@ use crate::parameters::spare_parameters;
 use crate::room::Room;
 use crate::trail::Trail;
 use crate::visit::{Holder, Visit, file_of};
+use elab_links::elab_scope::fault::{ElabFault, Fault};
+use elab_links::elab_scope::names::Names;
 use elab_links::groups::{Group, group_of};
 use elab_links::module_set::Place;
-use elab_scope::fault::{ElabFault, Fault};
-use elab_scope::names::Names;
 use rtl_tree::memory::Memory;
 use rtl_tree::tree::item::{Instance, Item};
 use rtl_tree::tree::modules::Module;
@@ -54,7 +54,7 @@ struct Left {
 }
 
 /// Whether a design has room for one instance more, of this module.
-#[tactic(auto, using(elab_nodes::proofs::Sparing::some_spared))]
+#[tactic(auto, using(crate::proofs::Borrowed::some_spared))]
 fn has_room(room: Room, written: &Module) -> bool
     ensures { result ≡ has_room room (circuit written.now) }
 {

@@ -14,11 +14,11 @@ use Rattle.event_model.specs.Bodies.{body_made}
 use Rattle.event_model.specs.Queue.{Flat, State, Event, Input, Evaluate, Update, Run, Delayed, Activate, CanRun, IsAtRest, IsThere, after, doing_at, happens, run, widths}
 use Rattle.event_model.specs.Traces.{FollowsPath, Same}
 use Rattle.event_model.specs.Writes.{Values}
-use Rattle.event_laws.specs.Steady.{HaveWidths}
+use Rattle.event_runs.specs.event_laws.Steady.{HaveWidths}
 use Rattle.net_model.specs.Control.{InCone, IsReached}
 use Rattle.net_model.specs.Numbers.{bit}
 use Rattle.net_model.specs.Solution.{IsLasting}
-use Rattle.event_laws.proofs.Laws.{depends, outside_inside}
+use Rattle.event_runs.proofs.event_laws_proofs.Laws.{depends, outside_inside}
 use Rattle.event_runs.specs.Effects.{delayed_after, laters, run_made}
 use Rattle.event_runs.specs.Plain.{ran_by}
 use Rattle.event_runs.proofs.Laws.{effect}

@@ -7,9 +7,9 @@ use Rattle.rtl_flat.specs.Process.{Watched, Actions, Doing, Assign, Comb, Edge'}
 use Rattle.event_model.specs.Bodies.{body_made}
 use Rattle.event_model.specs.Queue.{Flat, State, Event, Input, Evaluate, Update, Run, Delayed, Activate, CanRun, IsThere, after, doing_at, is_assignment, run, widths}
 use Rattle.event_model.specs.Writes.{Write, all_written}
-use Rattle.event_laws.specs.Steady.{AreLawful, IsWithin}
+use Rattle.event_runs.specs.event_laws.Steady.{AreLawful, IsWithin}
 use Rattle.net_model.specs.Numbers.{bit}
-use Rattle.event_laws.proofs.Laws.{may_late, writes_variables}
+use Rattle.event_runs.proofs.event_laws_proofs.Laws.{may_late, writes_variables}
 use Rattle.event_runs.specs.Effects.{IsEffect, activated_after, delayed_after, event_writes, first_update, laters, other_updates, run_made, runs}
 use Rattle.event_runs.specs.Writers.{CanWrite, IsOrderly, IsSole, are_over}
 use Rattle.event_runs.proofs.Laws.{effect, orderly_after, untouched}

@@ -26,11 +26,11 @@ use Rattle.rtl_flat.proofs.Paths.{decided}
 use Rattle.event_model.specs.Bodies.{body_made}
 use Rattle.event_model.specs.Queue.{Flat, doing_at, doing_of, listens, settled_at, widths}
 use Rattle.event_model.specs.Writes.{Values}
-use Rattle.event_laws.specs.Steady.{AreLawful, HaveWidths}
-use Rattle.event_laws.proofs.Steady.{steady_settled}
+use Rattle.event_runs.specs.event_laws.Steady.{AreLawful, HaveWidths}
+use Rattle.event_runs.proofs.event_laws_proofs.Steady.{steady_settled}
 use Rattle.net_model.specs.Control.{InCone, IsFromTop, IsPassedOn, IsReached, Itself, Through, waits_for, whole_of}
 use Rattle.net_model.specs.Numbers.{bit}
-use Rattle.event_laws.proofs.Laws.{outside_inside, writes_variables}
+use Rattle.event_runs.proofs.event_laws_proofs.Laws.{outside_inside, writes_variables}
 use Rattle.event_runs.specs.Effects.{laters}
 use Rattle.event_runs.proofs.Laws.{late_none}
 use Rattle.event_edges.specs.Registers.{updates_bit}

@@ -8,7 +8,7 @@ use Rattle.rtl_bits.specs.declared.Bit.{Bit}
 use Rattle.rtl_flat.specs.Process.{Watched}
 use Rattle.event_model.specs.Queue.{Flat, State, Event, Input, Evaluate, Update, Run, Delayed, Activate, CanRun, HasNoActive, IsAtRest, IsThere, after, doing_at, is_assignment, run, widths}
 use Rattle.event_model.specs.Writes.{Values, put}
-use Rattle.event_laws.proofs.Lengths.{put_at, put_other}
+use Rattle.event_runs.proofs.event_laws_proofs.Lengths.{put_at, put_other}
 use Rattle.net_model.specs.Control.{IsReached}
 use Rattle.net_model.specs.Numbers.{bit}
 use Rattle.event_runs.specs.Nets.{AreOffered, AreResolved}

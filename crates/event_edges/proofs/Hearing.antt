@@ -13,9 +13,9 @@ use Rattle.rtl_flat.specs.Process.{Watched, Doing, Assign, Comb, Edge'}
 use Rattle.event_model.specs.Queue.{Flat, doing_at, happens, hears, hears_from, item_hears, listens, widths}
 use Rattle.event_model.specs.Traces.{covers}
 use Rattle.event_model.specs.Writes.{Values, Write, written}
-use Rattle.event_laws.specs.Steady.{HaveWidths, IsWithin}
-use Rattle.event_laws.proofs.Lengths.{fits, written_length}
-use Rattle.event_laws.proofs.Written.{written_out}
+use Rattle.event_runs.specs.event_laws.Steady.{HaveWidths, IsWithin}
+use Rattle.event_runs.proofs.event_laws_proofs.Lengths.{fits, written_length}
+use Rattle.event_runs.proofs.event_laws_proofs.Written.{written_out}
 use Rattle.event_edges.specs.Synchronous.{sensitive}
 
 -- ---- tests and lists

@@ -6,8 +6,8 @@ use Rattle.std.proofs.lemmas.List.Elements.{All-head, All-tail}
 use Rattle.rtl_bits.specs.declared.Bit.{Bit}
 use Rattle.event_model.specs.Queue.{Flat, Event, Activate, after, is_input, run}
 use Rattle.event_model.specs.Writes.{put}
-use Rattle.event_laws.specs.Steady.{AreLawful}
-use Rattle.event_laws.proofs.Lengths.{put_at, put_other}
+use Rattle.event_runs.specs.event_laws.Steady.{AreLawful}
+use Rattle.event_runs.proofs.event_laws_proofs.Lengths.{put_at, put_other}
 use Rattle.net_model.specs.Control.{InCone, IsControl, IsReached, Itself, Through}
 use Rattle.event_runs.specs.Nets.{offered_after}
 use Rattle.event_runs.specs.Plain.{ran_after, ran_by}

@@ -12,3 +12,6 @@ pub mod Resets
 pub mod Temporaries
 pub mod Turning
 pub mod Turns
+-- passed on to the crates above
+pub use Rattle.event_runs.proofs.event_laws_proofs
+pub use Rattle.event_runs.proofs as event_runs_proofs

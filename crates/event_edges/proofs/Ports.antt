@@ -12,7 +12,7 @@ use Rattle.rtl_flat.specs.Process.{Piece, Doing, Assign}
 use Rattle.rtl_flat.specs.Value.{value}
 use Rattle.event_model.specs.Queue.{Flat, State, HasNoActive, doing_at, is_assignment, resolved, widths}
 use Rattle.event_model.specs.Writes.{driven, no_drive}
-use Rattle.event_laws.proofs.Lengths.{put_at}
+use Rattle.event_runs.proofs.event_laws_proofs.Lengths.{put_at}
 use Rattle.net_model.specs.Control.{IsControl, IsLink, IsPassedOn, IsReached, Itself, Through, whole_of}
 use Rattle.event_runs.specs.Nets.{AreDriven}
 use Rattle.event_runs.specs.Writers.{IsOrderly, IsSole}

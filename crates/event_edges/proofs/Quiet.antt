@@ -12,12 +12,12 @@ use Rattle.event_model.specs.Bodies.{body_made}
 use Rattle.event_model.specs.Queue.{Flat, State, Event, Input, Evaluate, Update, Run, Delayed, Activate, IsThere, after, doing_at, hears, is_assignment, widths}
 use Rattle.event_model.specs.Traces.{Same, covers}
 use Rattle.event_model.specs.Writes.{Values, Write, written}
-use Rattle.event_laws.specs.Steady.{HaveWidths, IsWithin}
-use Rattle.event_laws.proofs.Lengths.{have_written}
+use Rattle.event_runs.specs.event_laws.Steady.{HaveWidths, IsWithin}
+use Rattle.event_runs.proofs.event_laws_proofs.Lengths.{have_written}
 use Rattle.net_model.specs.Control.{InCone, IsControl, IsReached, Itself, Through, whole_of}
-use Rattle.event_laws.proofs.Laws.{may_late}
-use Rattle.event_laws.proofs.Targets.{IsOver}
-use Rattle.event_laws.proofs.Within.{target_inside}
+use Rattle.event_runs.proofs.event_laws_proofs.Laws.{may_late}
+use Rattle.event_runs.proofs.event_laws_proofs.Targets.{IsOver}
+use Rattle.event_runs.proofs.event_laws_proofs.Within.{target_inside}
 use Rattle.event_runs.specs.Effects.{IsEffect, delayed_after, evaluates, event_writes, heard, laters, run_made, runs, takes, updates}
 use Rattle.event_runs.specs.Writers.{CanWrite, IsOrderly, are_over}
 use Rattle.event_runs.proofs.Laws.{effect, untouched}

@@ -8,10 +8,10 @@ use Rattle.rtl_bits.specs.declared.Bit.{Bit}
 use Rattle.event_model.specs.Queue.{Flat, widths}
 use Rattle.event_model.specs.Traces.{covers}
 use Rattle.event_model.specs.Writes.{Values, Write, all_written, written}
-use Rattle.event_laws.specs.Steady.{HaveWidths, IsWithin}
-use Rattle.event_laws.proofs.Lengths.{have_written}
+use Rattle.event_runs.specs.event_laws.Steady.{HaveWidths, IsWithin}
+use Rattle.event_runs.proofs.event_laws_proofs.Lengths.{have_written}
 use Rattle.net_model.specs.Numbers.{bit}
-use Rattle.event_laws.proofs.Written.{written_in, written_out}
+use Rattle.event_runs.proofs.event_laws_proofs.Written.{written_in, written_out}
 use Rattle.event_runs.specs.Writers.{are_over}
 use Rattle.event_edges.specs.Registers.{update_bit, updates_bit, write_bit}
 

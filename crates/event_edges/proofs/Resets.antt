@@ -17,9 +17,9 @@ use Rattle.rtl_flat.specs.Process.{Doing, Edge'}
 use Rattle.event_model.specs.Queue.{Flat, State, Event, Input, Evaluate, Update, Run, Delayed, Activate, CanRun, IsAtRest, IsThere, after, doing_at, first_bit, first_bits, hears, is_assignment, listens, offer, power_up, run, widths}
 use Rattle.event_model.specs.Traces.{Same}
 use Rattle.event_model.specs.Writes.{Values, Write, all_written, written}
-use Rattle.event_laws.specs.Steady.{AreLawful, HaveWidths, IsWithin}
-use Rattle.event_laws.proofs.Lengths.{fits, have_written, put_other, written_length}
-use Rattle.event_laws.proofs.Unheard.{same_bits, unheard_from}
+use Rattle.event_runs.specs.event_laws.Steady.{AreLawful, HaveWidths, IsWithin}
+use Rattle.event_runs.proofs.event_laws_proofs.Lengths.{fits, have_written, put_other, written_length}
+use Rattle.event_runs.proofs.event_laws_proofs.Unheard.{same_bits, unheard_from}
 use Rattle.net_model.specs.Numbers.{bit}
 use Rattle.event_runs.specs.Effects.{evaluates, event_writes, heard, laters, run_made, runs}
 use Rattle.event_runs.specs.Writers.{IsOrderly}

@@ -12,12 +12,12 @@ use Rattle.event_model.specs.Bodies.{Made, Now, Later}
 use Rattle.event_model.specs.Queue.{Flat, State, doing_at, happens, hears, perform, perform_all, widths, write}
 use Rattle.event_model.specs.Traces.{covers, makes_now}
 use Rattle.event_model.specs.Writes.{Values, Write, written}
-use Rattle.event_laws.specs.Steady.{IsWithin}
-use Rattle.event_laws.proofs.Lengths.{have_written}
-use Rattle.event_laws.proofs.Made.{IsMadeWithin}
+use Rattle.event_runs.specs.event_laws.Steady.{IsWithin}
+use Rattle.event_runs.proofs.event_laws_proofs.Lengths.{have_written}
+use Rattle.event_runs.proofs.event_laws_proofs.Made.{IsMadeWithin}
 use Rattle.net_model.specs.Control.{IsReached}
 use Rattle.net_model.specs.Numbers.{bit}
-use Rattle.event_laws.proofs.Written.{written_out}
+use Rattle.event_runs.proofs.event_laws_proofs.Written.{written_out}
 use Rattle.event_edges.specs.Synchronous.{IsSynchronous}
 use Rattle.event_edges.specs.Turned.{IsTurn, IsTurnedPort, IsTurning, fires, item_fires}
 use Rattle.event_edges.proofs.Hearing.{any_same, falsely, hearing, signal_kept, or_none}

@@ -10,8 +10,8 @@ use Rattle.rtl_flat.specs.Flows.{may_select}
 use Rattle.rtl_flat.specs.Process.{Selection, Whole, Piece, Watched, Actions, Doing, Assign, Comb, Edge'}
 use Rattle.event_model.specs.Queue.{Flat, State, doing_at, happens, hears, item_hears, widths, write}
 use Rattle.event_model.specs.Writes.{Values, Write, written}
-use Rattle.event_laws.specs.Steady.{IsWithin}
-use Rattle.event_laws.proofs.Lengths.{have_written, put_at, put_other}
+use Rattle.event_runs.specs.event_laws.Steady.{IsWithin}
+use Rattle.event_runs.proofs.event_laws_proofs.Lengths.{have_written, put_at, put_other}
 use Rattle.net_model.specs.Control.{InCone, IsReached}
 use Rattle.net_model.specs.Numbers.{bit}
 use Rattle.event_edges.specs.Synchronous.{IsItem, IsSynchronous}

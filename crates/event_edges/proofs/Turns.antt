@@ -11,10 +11,10 @@ use Rattle.rtl_flat.specs.WellFormed.{IsBody}
 use Rattle.event_model.specs.Bodies.{Made, Now, Later, body_made}
 use Rattle.event_model.specs.Queue.{Flat, State, Event, Input, Evaluate, Update, Run, Delayed, Activate, IsThere, after, after_evaluate, after_input, after_run, after_update, doing_at, drive, is_body, is_input, perform_all, resolved, widths, write}
 use Rattle.event_model.specs.Writes.{Values, put}
-use Rattle.event_laws.proofs.Lengths.{put_at, put_other}
-use Rattle.event_laws.proofs.Made.{body_within}
+use Rattle.event_runs.proofs.event_laws_proofs.Lengths.{put_at, put_other}
+use Rattle.event_runs.proofs.event_laws_proofs.Made.{body_within}
 use Rattle.net_model.specs.Control.{Itself, Through, whole_of}
-use Rattle.event_laws.proofs.Laws.{may_now}
+use Rattle.event_runs.proofs.event_laws_proofs.Laws.{may_now}
 use Rattle.event_runs.specs.Plain.{ran_by}
 use Rattle.event_edges.specs.Synchronous.{IsSynchronous}
 use Rattle.event_edges.specs.Turned.{IsReachedPort, IsTurn, IsTurnedPort, IsTurning, fires}

@@ -4,3 +4,6 @@ pub mod Registers
 pub mod Reset
 pub mod Synchronous
 pub mod Turned
+-- passed on to the crates above
+pub use Rattle.event_runs.specs.event_laws
+pub use Rattle.event_runs.specs as event_runs

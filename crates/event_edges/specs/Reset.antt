@@ -10,7 +10,7 @@ use Rattle.rtl_flat.specs.Signs.{Has}
 use Rattle.event_model.specs.Bodies.{body_made}
 use Rattle.event_model.specs.Queue.{Flat, State, doing_at, listens, widths}
 use Rattle.event_model.specs.Writes.{Values}
-use Rattle.event_laws.specs.Steady.{HaveWidths}
+use Rattle.event_runs.specs.event_laws.Steady.{HaveWidths}
 use Rattle.net_model.specs.Numbers.{bit}
 use Rattle.event_runs.specs.Effects.{laters}
 use Rattle.event_runs.specs.Writers.{IsSole}

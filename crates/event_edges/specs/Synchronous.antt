@@ -8,7 +8,7 @@ use Rattle.rtl_flat.specs.PathSets.{IsTemporaryOf, items_list, listed}
 use Rattle.rtl_flat.specs.Process.{Piece, Watched, Actions, Doing, Assign, Comb, Edge'}
 use Rattle.rtl_flat.specs.WellFormed.{has_edge}
 use Rattle.event_model.specs.Queue.{Flat, doing_at, is_input, widths}
-use Rattle.event_laws.specs.Steady.{AreLawful}
+use Rattle.event_runs.specs.event_laws.Steady.{AreLawful}
 use Rattle.net_model.specs.Control.{InCone, IsFromTop, IsLink, IsPassedOn, IsReached}
 
 -- the bits to which a process is sensitive: those that an assignment reads, and those that a body lists

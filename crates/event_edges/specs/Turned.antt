@@ -8,7 +8,7 @@ use Rattle.rtl_flat.specs.Process.{Piece, Watched, Actions, Assign, Comb, Edge'}
 use Rattle.event_model.specs.Queue.{Flat, State, IsAtRest, doing_at, happens, is_input, offer}
 use Rattle.event_model.specs.Traces.{Same}
 use Rattle.event_model.specs.Writes.{Values}
-use Rattle.event_laws.specs.Steady.{HaveWidths}
+use Rattle.event_runs.specs.event_laws.Steady.{HaveWidths}
 use Rattle.net_model.specs.Control.{InCone, IsControl, IsLink, IsPassedOn, IsReached}
 use Rattle.net_model.specs.Numbers.{bit}
 use Rattle.event_runs.specs.Nets.{AreResolved}

@@ -12,11 +12,11 @@ use Rattle.event_model.specs.Policies.{one_if}
 use Rattle.event_model.specs.Queue.{Flat, State, Event, Input, Evaluate, Update, Run, Delayed, Activate, CanRun, IsThere, HasNoActive, IsAtRest, after, doing_at, is_assignment, is_input, is_input_kind, is_input_of, offer, run, widths}
 use Rattle.event_model.specs.Writes.{Write, put}
 use Rattle.event_model.proofs.Active.{Each, all_there, no_active}
-use Rattle.event_laws.specs.Steady.{AreLawful, IsWithin}
-use Rattle.event_laws.proofs.Steady.{steady_offer}
-use Rattle.event_runs.specs.Effects.{laters, run_made}
-use Rattle.event_runs.specs.Writers.{IsOrderly}
-use Rattle.event_runs.proofs.Late.{late_none, orderly_after, orderly_power_up, orderly_run}
+use Rattle.event_settling.specs.event_laws.Steady.{AreLawful, IsWithin}
+use Rattle.event_settling.proofs.event_laws_proofs.Steady.{steady_offer}
+use Rattle.event_settling.specs.event_runs.Effects.{laters, run_made}
+use Rattle.event_settling.specs.event_runs.Writers.{IsOrderly}
+use Rattle.event_settling.proofs.event_runs_proofs.Late.{late_none, orderly_after, orderly_power_up, orderly_run}
 use Rattle.event_settling.specs.Settling.{Fits, IsSettling}
 use Rattle.event_settling.proofs.Quiet.{IsQuiet, begins_quiet, made_none, quiet_after}
 use Rattle.event_settling.proofs.Totals.{of_some, total, total_list, total_most, total_same}

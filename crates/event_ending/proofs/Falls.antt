@@ -6,10 +6,10 @@ use Rattle.rtl_flat.specs.Process.{Doing, Assign, Comb, Edge'}
 use Rattle.event_model.specs.Policies.{is_below}
 use Rattle.event_model.specs.Queue.{Flat, State, Event, Input, Evaluate, Update, Run, Delayed, Activate, IsThere, after, doing_at, drive_now, is_assignment, is_body, is_input}
 use Rattle.event_model.proofs.Active.{assignment_is, signal_there, task_there}
-use Rattle.event_laws.specs.Steady.{AreLawful}
-use Rattle.event_runs.specs.Effects.{evaluates, event_writes, heard, laters, run_made, runs, takes, updates}
-use Rattle.event_runs.specs.Writers.{IsOrderly}
-use Rattle.event_runs.proofs.Effects.{effect}
+use Rattle.event_settling.specs.event_laws.Steady.{AreLawful}
+use Rattle.event_settling.specs.event_runs.Effects.{evaluates, event_writes, heard, laters, run_made, runs, takes, updates}
+use Rattle.event_settling.specs.event_runs.Writers.{IsOrderly}
+use Rattle.event_settling.proofs.event_runs_proofs.Effects.{effect}
 use Rattle.event_settling.specs.Settling.{IsSettling}
 use Rattle.event_settling.proofs.Totals.{total, total_both, total_less, total_most}
 use Rattle.event_settling.proofs.Hears.{hears_run, hears_update}

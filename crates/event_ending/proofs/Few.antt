@@ -13,7 +13,7 @@ use Rattle.event_model.specs.Bodies.{Made, Now, Later, after_made, assigned, bod
 use Rattle.event_model.specs.Policies.{late, nonblocking, nonblocking_branches, nonblocking_in, nonblocking_of, nonblocking_other}
 use Rattle.event_model.specs.Queue.{Flat, doing_at, doing_of, widths}
 use Rattle.event_model.specs.Writes.{Values, Write, writes}
-use Rattle.event_runs.specs.Effects.{laters, other_updates, run_made}
+use Rattle.event_settling.specs.event_runs.Effects.{laters, other_updates, run_made}
 use Rattle.event_ending.specs.Ending.{lates}
 
 -- ---- a number for each element of a list

@@ -7,9 +7,9 @@ use Rattle.event_model.specs.Queue.{Flat, State, Event, Activate, HasNoActive, a
 use Rattle.event_model.specs.Writes.{Write}
 use Rattle.event_model.proofs.Active.{no_active}
 use Rattle.event_model.proofs.Runs.{chosen_there, policy_ready, policy_rests}
-use Rattle.event_laws.specs.Steady.{AreLawful}
-use Rattle.event_runs.specs.Writers.{IsOrderly}
-use Rattle.event_runs.proofs.Late.{orderly_after}
+use Rattle.event_settling.specs.event_laws.Steady.{AreLawful}
+use Rattle.event_settling.specs.event_runs.Writers.{IsOrderly}
+use Rattle.event_settling.proofs.event_runs_proofs.Late.{orderly_after}
 use Rattle.event_settling.specs.Settling.{IsSettling}
 use Rattle.event_settling.proofs.Going.{orderly_active}
 use Rattle.event_settling.proofs.Quiet.{begins_quiet}

@@ -9,9 +9,9 @@ use Rattle.rtl_flat.specs.Process.{task}
 use Rattle.rtl_flat.specs.Value.{store}
 use Rattle.event_model.specs.Policies.{budget}
 use Rattle.event_model.specs.Queue.{Flat, flat}
-use Rattle.event_write.specs.declared.fanout.Fanout.{Fanout}
-use Rattle.event_write.specs.declared.queue_state.QueueState.{QueueState}
-use Rattle.event_write.specs.QueueState.{IsFanout, IsQueueState, design_of, state}
+use Rattle.event_tables.specs.event_write.declared.fanout.Fanout.{Fanout}
+use Rattle.event_tables.specs.event_write.declared.queue_state.QueueState.{QueueState}
+use Rattle.event_tables.specs.event_write.QueueState.{IsFanout, IsQueueState, design_of, state}
 use Rattle.event_take.specs.Lawful.{IsLawful}
 use Rattle.event_queue.specs.declared.costs.Costs.{Costs}
 use Rattle.event_queue.specs.declared.start.Start.{Start}

@@ -12,10 +12,10 @@ use Rattle.rtl_bits.specs.Bits.{replaced, selected}
 use Rattle.rtl_flat.specs.Process.{Piece, Doing, Assign, Comb, Edge', Task}
 use Rattle.event_model.specs.Writes.{Values, Span, all_written, count_of, counts, no_drive, put, span_of, write_at, writes, written}
 use Rattle.event_model.specs.Queue.{Flat, widths}
-use Rattle.event_tally.specs.declared.tally.Tally.{Tally}
-use Rattle.event_tally.specs.Given.{bit_given, given_from}
-use Rattle.event_tally.specs.Tallies.{IsTalliedAt}
-use Rattle.event_write.specs.QueueState.{AreTallied, driver_of, row}
+use Rattle.event_tables.specs.event_tally.declared.tally.Tally.{Tally}
+use Rattle.event_tables.specs.event_tally.Given.{bit_given, given_from}
+use Rattle.event_tables.specs.event_tally.Tallies.{IsTalliedAt}
+use Rattle.event_tables.specs.event_write.QueueState.{AreTallied, driver_of, row}
 use Rattle.event_queue.specs.First.{driver_in}
 use Rattle.event_queue.specs.Tallying.{AreReady}
 

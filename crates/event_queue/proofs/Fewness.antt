@@ -15,8 +15,8 @@ use Rattle.rtl_flat.specs.WellFormed.{IsAction, IsAssignment, IsBody, IsOtherwis
 use Rattle.rtl_flat.specs.Signs.{width_in}
 use Rattle.event_model.specs.Queue.{is_assignment, is_input_kind}
 use Rattle.event_model.specs.Policies.{late, one_if, nonblocking, nonblocking_in, nonblocking_other, nonblocking_branches, nonblocking_of}
-use Rattle.event_write.specs.Rooms.{branch_rooms, late_parts, other_room, room, rooms}
-use Rattle.event_write.proofs.Targets.{are_selected, counts_is, few_parts, some_bits}
+use Rattle.event_tables.specs.event_write.Rooms.{branch_rooms, late_parts, other_room, room, rooms}
+use Rattle.event_tables.proofs.event_write_proofs.Targets.{are_selected, counts_is, few_parts, some_bits}
 use Rattle.event_queue.specs.declared.costs.Costs.{Costs}
 use Rattle.event_queue.specs.Costs.{AreCosts, IsEntered}
 use Rattle.event_queue.specs.Lates.{IsFew, room_in}

@@ -14,11 +14,11 @@ use Rattle.rank_set.specs.Ranks.{flag}
 use Rattle.agenda.specs.Agendas.{Numbered}
 use Rattle.event_model.specs.Writes.{Values}
 use Rattle.event_model.specs.Queue.{Flat, State, doing_at, flat, is_assignment, power_up, settled_at}
-use Rattle.event_write.specs.declared.entries.Entry.{Entry as Code}
-use Rattle.event_write.specs.declared.queue_state.QueueState.{QueueState}
-use Rattle.event_write.specs.Entries.{Entry, IsClosed, entry}
-use Rattle.event_write.specs.QueueState.{AreInside, HasWidth, IsInside, IsQueueState}
-use Rattle.event_write.specs.Stored.{AreStored}
+use Rattle.event_tables.specs.event_write.declared.entries.Entry.{Entry as Code}
+use Rattle.event_tables.specs.event_write.declared.queue_state.QueueState.{QueueState}
+use Rattle.event_tables.specs.event_write.Entries.{Entry, IsClosed, entry}
+use Rattle.event_tables.specs.event_write.QueueState.{AreInside, HasWidth, IsInside, IsQueueState}
+use Rattle.event_tables.specs.event_write.Stored.{AreStored}
 use Rattle.event_queue.specs.First.{AreDriven, IsFirst, IsFresh, blank, driver_in, first_driver, first_value, now_driver, quiet}
 use Rattle.event_queue.specs.Tallying.{AreTallies}
 use Rattle.event_queue.proofs.Starting.{blank_widths, first_are, first_driven, first_driver_widths, first_stored, now_driven, now_driver_widths, powered, quiet_state, settled_is}

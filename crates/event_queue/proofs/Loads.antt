@@ -5,11 +5,11 @@ use Rattle.std.specs.declared.alloc.Global.{Global}
 use Rattle.std.proofs.lemmas.List.{length-map}
 use Rattle.event_model.specs.Queue.{Flat, State, after_delayed, write, write_all}
 use Rattle.event_model.specs.Writes.{Write}
-use Rattle.event_write.specs.declared.entries.Entry.{Entry as Code}
-use Rattle.event_write.specs.declared.queue_state.QueueState.{QueueState}
-use Rattle.event_write.specs.Entries.{Entry, entry, glue, updates, writes_of}
-use Rattle.event_write.specs.QueueState.{state}
-use Rattle.event_write.proofs.Entering.{some_update}
+use Rattle.event_tables.specs.event_write.declared.entries.Entry.{Entry as Code}
+use Rattle.event_tables.specs.event_write.declared.queue_state.QueueState.{QueueState}
+use Rattle.event_tables.specs.event_write.Entries.{Entry, entry, glue, updates, writes_of}
+use Rattle.event_tables.specs.event_write.QueueState.{state}
+use Rattle.event_tables.proofs.event_write_proofs.Entering.{some_update}
 use Rattle.event_queue.specs.Rooms.{IsMadeReady, IsTaken}
 
 -- writes leave the activated updates

@@ -11,9 +11,9 @@ use Rattle.rtl_flat.specs.Signs.{width_in}
 use Rattle.rtl_flat.specs.Value.{store}
 use Rattle.event_model.specs.Queue.{Flat, is_input, is_input_of}
 use Rattle.event_model.specs.Writes.{put}
-use Rattle.event_write.specs.declared.queue_state.QueueState.{QueueState}
-use Rattle.event_write.specs.QueueState.{IsQueueState, held, state}
-use Rattle.event_write.specs.Stored.{AreStored}
+use Rattle.event_tables.specs.event_write.declared.queue_state.QueueState.{QueueState}
+use Rattle.event_tables.specs.event_write.QueueState.{IsQueueState, held, state}
+use Rattle.event_tables.specs.event_write.Stored.{AreStored}
 use Rattle.event_take.proofs.Taking.{held_more}
 
 pub input_within : (d : Flat) (i : ℕ) → is_input d i ≡ true → i < length d.signals

@@ -3,7 +3,7 @@ use Rattle.std.proofs.Common.{◌≡◌, ◌≤◌, ◌<◌, ◌+◌, ◌*◌, �
 use Rattle.rtl_flat.specs.Process.{Doing}
 use Rattle.event_model.specs.Policies.{cost, run_cost}
 use Rattle.event_model.specs.Queue.{Flat, Event, Input, Evaluate, Update, Run, Delayed, Activate, doing_at}
-use Rattle.event_write.specs.declared.queue_state.QueueState.{QueueState}
+use Rattle.event_tables.specs.event_write.declared.queue_state.QueueState.{QueueState}
 use Rattle.event_queue.specs.declared.costs.Costs.{Costs}
 use Rattle.event_queue.specs.Costs.{AreCosts}
 use Rattle.event_queue.specs.Rooms.{IsMadeReady, IsTaken, free, load, room_for}

@@ -5,8 +5,8 @@ use Rattle.event_model.specs.declared.policy.Policy.{Policy}
 use Rattle.event_model.specs.Order.{ready}
 use Rattle.event_model.specs.Policies.{Here, IsDone, IsTooDear, Next, PolicyRun, chosen, cost}
 use Rattle.event_model.specs.Queue.{Flat, State, Event, Activate, after}
-use Rattle.event_write.specs.declared.fanout.Fanout.{Fanout}
-use Rattle.event_write.specs.QueueState.{design_of}
+use Rattle.event_tables.specs.event_write.declared.fanout.Fanout.{Fanout}
+use Rattle.event_tables.specs.event_write.QueueState.{design_of}
 use Rattle.event_take.specs.declared.choice.Choice.{Choice}
 use Rattle.event_take.specs.declared.choice.Choice.TheVariants as choice
 use Rattle.event_take.specs.Taken.{event_of}

@@ -20,10 +20,10 @@ use Rattle.rank_set.specs.Ranks.{flag}
 use Rattle.rank_set.proofs.Law.{flag-replicate}
 use Rattle.event_model.specs.Writes.{Values}
 use Rattle.event_model.specs.Queue.{Flat, doing_at, doing_of, drive_now, first_bits, first_drive, is_assignment, power_up, settled_at}
-use Rattle.event_write.specs.declared.queue_state.QueueState.{QueueState}
-use Rattle.event_write.specs.Entries.{entry, updates}
-use Rattle.event_write.specs.QueueState.{HasWidth, driver_of, held, state}
-use Rattle.event_write.specs.Stored.{AreStored}
+use Rattle.event_tables.specs.event_write.declared.queue_state.QueueState.{QueueState}
+use Rattle.event_tables.specs.event_write.Entries.{entry, updates}
+use Rattle.event_tables.specs.event_write.QueueState.{HasWidth, driver_of, held, state}
+use Rattle.event_tables.specs.event_write.Stored.{AreStored}
 use Rattle.event_queue.specs.First.{blank, driver_in, first_driver, first_value, now_driver, quiet}
 
 -- ---- values

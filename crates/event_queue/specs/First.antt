@@ -10,8 +10,8 @@ use Rattle.rtl_flat.specs.Sizes.{width_of}
 use Rattle.rtl_flat.specs.Value.{value}
 use Rattle.event_model.specs.Writes.{Values}
 use Rattle.event_model.specs.Queue.{Flat, State, doing_at, first_bit, widths}
-use Rattle.event_write.specs.declared.queue_state.QueueState.{QueueState}
-use Rattle.event_write.specs.QueueState.{HasWidth, IsQueueState, driver_of, state}
+use Rattle.event_tables.specs.event_write.declared.queue_state.QueueState.{QueueState}
+use Rattle.event_tables.specs.event_write.QueueState.{HasWidth, IsQueueState, driver_of, state}
 
 abbrev pub first_value : Signal → List Bit
 first_value signal = replicate signal.width (first_bit signal.kind)

@@ -2,7 +2,7 @@
 -- The nonblocking assignments of bodies: how many, and how many parts they have.
 use Rattle.std.specs.Prelude.{◌≡◌, ◌≤◌, ℕ, Bool, true, false}
 use Rattle.rtl_flat.specs.Process.{Doing, Assign, Comb, Edge'}
-use Rattle.event_write.specs.Rooms.{rooms}
+use Rattle.event_tables.specs.event_write.Rooms.{rooms}
 use Rattle.event_queue.specs.declared.bodies.Late.{Late}
 
 -- so few that they can be counted

@@ -7,10 +7,10 @@ use Rattle.rtl_flat.specs.declared.signal.Signal.{Signal}
 use Rattle.rtl_flat.specs.Process.{Doing, Assign, Comb, Edge', Task}
 use Rattle.event_model.specs.Queue.{Flat, State, widths}
 use Rattle.event_model.specs.Writes.{Span}
-use Rattle.event_write.specs.declared.fanout.Fanout.{Fanout}
-use Rattle.event_write.specs.declared.queue_state.QueueState.{QueueState}
-use Rattle.event_write.specs.Entries.{Entry, IsClosed}
-use Rattle.event_write.specs.QueueState.{HasWidth, IsFanout, IsInside, IsQueueState, design_of, state}
+use Rattle.event_tables.specs.event_write.declared.fanout.Fanout.{Fanout}
+use Rattle.event_tables.specs.event_write.declared.queue_state.QueueState.{QueueState}
+use Rattle.event_tables.specs.event_write.Entries.{Entry, IsClosed}
+use Rattle.event_tables.specs.event_write.QueueState.{HasWidth, IsFanout, IsInside, IsQueueState, design_of, state}
 use Rattle.event_take.specs.Lawful.{IsLawful}
 use Rattle.event_queue.specs.declared.costs.Costs.{Costs}
 use Rattle.event_queue.specs.Costs.{AreCosts}

@@ -2,8 +2,8 @@
 -- The room and the work of delayed updates.
 use Rattle.std.specs.Prelude.{◌≡◌, ◌≤◌, ◌+◌, ◌*◌, ℕ, Bool, true, false, List, [], ◌∷◌, length, vec_capacity}
 use Rattle.event_model.specs.Queue.{Flat, Event, Run, Delayed, doing_at}
-use Rattle.event_write.specs.declared.queue_state.QueueState.{QueueState}
-use Rattle.event_write.specs.QueueState.{state}
+use Rattle.event_tables.specs.event_write.declared.queue_state.QueueState.{QueueState}
+use Rattle.event_tables.specs.event_write.QueueState.{state}
 use Rattle.event_take.specs.Rooms.{room_of}
 
 -- whether a list is empty

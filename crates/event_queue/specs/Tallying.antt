@@ -7,9 +7,9 @@ use Rattle.rtl_bits.specs.declared.Bit.TheVariants.{Z}
 use Rattle.rtl_flat.specs.declared.signal.Signal.{Signal}
 use Rattle.rtl_flat.specs.Signs.{width_in}
 use Rattle.event_model.specs.Queue.{Flat}
-use Rattle.event_tally.specs.declared.tally.Tally.{Tally}
-use Rattle.event_tally.specs.Tallies.{IsTalliedAt}
-use Rattle.event_write.specs.QueueState.{AreTallied, row}
+use Rattle.event_tables.specs.event_tally.declared.tally.Tally.{Tally}
+use Rattle.event_tables.specs.event_tally.Tallies.{IsTalliedAt}
+use Rattle.event_tables.specs.event_write.QueueState.{AreTallied, row}
 
 -- a row for each signal, no longer than it, that counts no driver
 pub record AreReady (signals : List Signal) (rows : List (Vec Tally Global)) : Type 0 where

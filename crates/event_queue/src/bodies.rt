@@ -2,9 +2,9 @@
 
 ghost use Rattle.std.specs.Prelude.{◌+◌, map};
 ghost use Rattle.rtl_flat.specs.Process.{action, body_of, doing};
-ghost use Rattle.rtl_scan.specs.Bodies.{branches_of, other_of};
+ghost use Rattle.event_tables.specs.rtl_scan.Bodies.{branches_of, other_of};
 ghost use Rattle.event_model.specs.Policies.{nonblocking, nonblocking_in, nonblocking_other, nonblocking_branches, nonblocking_of, late};
-ghost use Rattle.event_write.specs.Rooms.{room, rooms, other_room, branch_rooms};
+ghost use Rattle.event_tables.specs.event_write.Rooms.{room, rooms, other_room, branch_rooms};
 ghost use Rattle.event_queue.specs.Lates.{IsFew, IsLate, parts_if, room_in};
 
 use rtl_flat::act::{Act, CaseItem, Does};

@@ -7,13 +7,13 @@ ghost use Rattle.rtl_flat.specs.Value.{store};
 ghost use Rattle.rtl_flat.specs.WellFormed.{IsProcess};
 ghost use Rattle.rank_set.specs.Ranks.{flag};
 ghost use Rattle.event_model.specs.Queue.{doing_at, flat, is_assignment, power_up, settled_at};
-ghost use Rattle.event_write.specs.Stored.{AreStored};
+ghost use Rattle.event_tables.specs.event_write.Stored.{AreStored};
 ghost use Rattle.event_queue.specs.First.{AreDriven, IsFirst, IsFresh, blank, driver_in, first_driver, first_value, now_driver};
 
 use crate::first_tallies::first_tallies;
 use agenda::Agenda;
-use event_write::queue_state::QueueState;
-use event_write::stores::evaluate;
+use event_tables::event_write::queue_state::QueueState;
+use event_tables::event_write::stores::evaluate;
 use rank_set::RankSet;
 use rtl_bits::{Bit, Vec4};
 use rtl_flat::act::{Does, ProcId};

@@ -2,16 +2,16 @@
 
 ghost use Rattle.std.specs.Prelude.{ℕ, ◌≡◌, ◌<◌, ◌≤◌, Some, length, replicate, IfOk};
 ghost use Rattle.event_model.specs.Queue.{doing_at, flat, widths};
-ghost use Rattle.event_tally.specs.Tallies.{IsTalliedAt};
+ghost use Rattle.event_tables.specs.event_tally.Tallies.{IsTalliedAt};
 ghost use Rattle.event_take.specs.Tallied.{AreMoved, AreTalliedWith};
-ghost use Rattle.event_write.specs.QueueState.{HasWidth, driver_of};
-ghost use Rattle.event_write.specs.Stored.{AreStored};
+ghost use Rattle.event_tables.specs.event_write.QueueState.{HasWidth, driver_of};
+ghost use Rattle.event_tables.specs.event_write.Stored.{AreStored};
 ghost use Rattle.event_queue.specs.First.{AreDriven, driver_in};
 ghost use Rattle.event_queue.specs.Tallying.{AreReady, AreTallies};
 
+use event_tables::event_tally::tally::Tally;
+use event_tables::event_write::stores::width_of;
 use event_take::tallies::retally;
-use event_tally::tally::Tally;
-use event_write::stores::width_of;
 use rtl_bits::{Bit, Vec4};
 use rtl_flat::act::ProcId;
 use rtl_flat::design::Design;

@@ -10,3 +10,6 @@ mod offering;
 pub mod sim;
 pub mod start;
 mod taking;
+
+// Passed on to the crates above.
+pub use event_tables::rtl_scan;

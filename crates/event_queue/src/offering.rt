@@ -2,13 +2,13 @@
 
 ghost use Rattle.std.specs.Prelude.{◌≡◌, [], ◌∷◌, map};
 ghost use Rattle.event_model.specs.Queue.{offer};
-ghost use Rattle.event_write.specs.QueueState.{IsQueueState, design_of, state};
+ghost use Rattle.event_tables.specs.event_write.QueueState.{IsQueueState, design_of, state};
 ghost use Rattle.event_take.specs.Rooms.{IsStill};
 ghost use Rattle.event_queue.specs.Offers.{AreAllowed, set_of};
 
 use event_model::setting::Setting;
-use event_write::fanout::Fanout;
-use event_write::queue_state::QueueState;
+use event_tables::event_write::fanout::Fanout;
+use event_tables::event_write::queue_state::QueueState;
 
 /// Offers a value to a top input.
 fn offer_one(fanout: &Fanout, queue: &mut QueueState, setting: Setting)

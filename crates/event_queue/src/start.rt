@@ -6,7 +6,7 @@ ghost use Rattle.event_queue.specs.First.{IsFirst};
 ghost use Rattle.event_queue.specs.Starts.{IsStart, start_of};
 
 use crate::first_queue::{power_up, settled};
-use event_write::queue_state::QueueState;
+use event_tables::event_write::queue_state::QueueState;
 use rtl_bits::Vec4;
 use rtl_flat::act::ProcId;
 use rtl_flat::design::Design;

@@ -3,18 +3,18 @@
 ghost use Rattle.std.specs.Prelude.{◌≡◌, ◌≤◌, ◌+◌, length, vec_capacity};
 ghost use Rattle.event_model.specs.Queue.{after};
 ghost use Rattle.event_model.specs.Order.{active, ready};
-ghost use Rattle.event_write.specs.QueueState.{IsFanout, IsQueueState, design_of, state};
+ghost use Rattle.event_tables.specs.event_write.QueueState.{IsFanout, IsQueueState, design_of, state};
 ghost use Rattle.event_take.specs.Lawful.{IsLawful};
 ghost use Rattle.event_take.specs.Taken.{IsAble, event_of};
 ghost use Rattle.event_queue.specs.Rooms.{IsMadeReady, IsTaken, free, is_nil, room_for};
 
 use event_model::policy::Policy;
+use event_tables::event_write::fanout::Fanout;
+use event_tables::event_write::queue_state::QueueState;
 use event_take::choice::Choice;
 use event_take::events::{activate, evaluate_driver, make_update, run_body, take_input};
 use event_take::policies::choose;
 use event_take::updates::update_driver;
-use event_write::fanout::Fanout;
-use event_write::queue_state::QueueState;
 
 /// Takes an event.
 pub(crate) fn take_event(fanout: &Fanout, queue: &mut QueueState, choice: Choice)

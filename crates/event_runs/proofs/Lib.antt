@@ -10,3 +10,5 @@ pub mod Signals
 pub mod Still
 pub mod Writers
 pub mod Writes
+-- passed on to the crates above
+pub use Rattle.event_laws.proofs as event_laws_proofs

@@ -14,9 +14,9 @@ use Rattle.rtl_flat.specs.WellFormed.{has_edge}
 use Rattle.rtl_flat.proofs.Paths.{decided}
 use Rattle.event_model.specs.Queue.{Flat, doing_at, doing_of, is_assignment, is_body, is_input, widths}
 use Rattle.net_model.specs.Control.{InCone, IsControl, IsFromTop, IsReached, Itself, Through, waits_for, whole_of}
-use Rattle.event_laws.specs.Steady.{AreLawful}
-use Rattle.event_laws.proofs.Laws.{writes_inside}
-use Rattle.event_laws.proofs.Within.{may_read_outside, target_inside}
+use Rattle.event_runs.specs.event_laws.Steady.{AreLawful}
+use Rattle.event_runs.proofs.event_laws_proofs.Laws.{writes_inside}
+use Rattle.event_runs.proofs.event_laws_proofs.Within.{may_read_outside, target_inside}
 use Rattle.event_runs.proofs.Signals.{assign_net, body_variable, net_input, variable_input}
 use Rattle.event_runs.proofs.Writers.{assign_may, from_process, of_process}
 use Rattle.event_settling.specs.Conditions.{AreRulesKept}

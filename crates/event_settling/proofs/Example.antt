@@ -22,9 +22,9 @@ use Rattle.rtl_flat.specs.WellFormed.{AreApart, IsAssignment, IsFixed, IsProcess
 use Rattle.rtl_flat.proofs.Paths.{decided}
 use Rattle.event_model.specs.Queue.{Flat, doing_at, widths}
 use Rattle.net_model.specs.Control.{InCone, IsFromTop, Itself}
-use Rattle.event_laws.specs.Steady.{AreLawful}
-use Rattle.event_laws.proofs.Steady.{lawful_processes}
-use Rattle.event_laws.proofs.Within.{may_read_outside}
+use Rattle.event_runs.specs.event_laws.Steady.{AreLawful}
+use Rattle.event_runs.proofs.event_laws_proofs.Steady.{lawful_processes}
+use Rattle.event_runs.proofs.event_laws_proofs.Within.{may_read_outside}
 use Rattle.event_runs.proofs.Writers.{to_process}
 use Rattle.event_settling.specs.Conditions.{AreRulesKept}
 use Rattle.event_settling.specs.Settling.{AlwaysSettles, IsSettling}

@@ -12,7 +12,7 @@ use Rattle.event_model.specs.Queue.{Flat, State, Event, Input, Evaluate, Update,
 use Rattle.event_model.specs.Writes.{Write}
 use Rattle.event_model.proofs.Active.{no_active}
 use Rattle.event_model.proofs.Runs.{chosen_there}
-use Rattle.event_laws.specs.Steady.{AreLawful, IsWithin}
+use Rattle.event_runs.specs.event_laws.Steady.{AreLawful, IsWithin}
 use Rattle.event_runs.specs.Effects.{other_updates}
 use Rattle.event_runs.specs.Writers.{IsOrderly}
 use Rattle.event_runs.proofs.Late.{orderly_after}

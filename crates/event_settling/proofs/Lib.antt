@@ -12,3 +12,6 @@ mod Selecting
 pub mod Totals
 mod Waking
 mod Wave
+-- passed on to the crates above
+pub use Rattle.event_runs.proofs.event_laws_proofs
+pub use Rattle.event_runs.proofs as event_runs_proofs

@@ -9,8 +9,8 @@ use Rattle.event_model.specs.Queue.{Flat, State, Event, after, offer, power_up, 
 use Rattle.event_model.specs.Writes.{put}
 use Rattle.event_model.proofs.Active.{no_active}
 use Rattle.event_model.proofs.Runs.{none_left, policy_ready, policy_rests}
-use Rattle.event_laws.specs.Steady.{AreLawful}
-use Rattle.event_laws.proofs.Steady.{steady_offer}
+use Rattle.event_runs.specs.event_laws.Steady.{AreLawful}
+use Rattle.event_runs.proofs.event_laws_proofs.Steady.{steady_offer}
 use Rattle.event_runs.proofs.Late.{orderly_power_up}
 use Rattle.event_settling.specs.Settling.{AlwaysSettles, AreTaken, Begin, Further, ComesToRest, Fits, IsBegun, IsSettling, Rests, Settles, StepsBegin}
 use Rattle.event_settling.proofs.Going.{IsGoing, begins, goes}

@@ -14,9 +14,9 @@ use Rattle.rtl_flat.specs.Process.{Watched, Doing, Assign, Comb, Edge'}
 use Rattle.event_model.specs.Queue.{Flat, happens, hears, hears_from, item_hears, listens, widths}
 use Rattle.event_model.specs.Traces.{covers}
 use Rattle.event_model.specs.Writes.{Values, Write, written}
-use Rattle.event_laws.specs.Steady.{HaveWidths, IsWithin}
-use Rattle.event_laws.proofs.Lengths.{have_written}
-use Rattle.event_laws.proofs.Written.{written_out}
+use Rattle.event_runs.specs.event_laws.Steady.{HaveWidths, IsWithin}
+use Rattle.event_runs.proofs.event_laws_proofs.Lengths.{have_written}
+use Rattle.event_runs.proofs.event_laws_proofs.Written.{written_out}
 use Rattle.event_runs.specs.Effects.{heard}
 
 -- the bits that a process listens to

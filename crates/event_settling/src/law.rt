@@ -3,7 +3,7 @@
 ghost use Rattle.std.specs.Prelude.{ℕ, Option};
 ghost use Rattle.event_model.specs.Queue.{Flat};
 ghost use Rattle.net_model.specs.Control.{InCone};
-ghost use Rattle.event_laws.specs.Steady.{AreLawful};
+ghost use Rattle.event_runs.specs.event_laws.Steady.{AreLawful};
 ghost use Rattle.event_settling.specs.Conditions.{AreRulesKept};
 ghost use Rattle.event_settling.specs.Settling.{AlwaysSettles, IsSettling, Rests, Settles, StepsBegin};
 

@@ -10,8 +10,8 @@ use Rattle.rtl_bits.specs.declared.Edge.{Edge}
 use Rattle.rtl_bits.specs.Bits.{is_one_at}
 use Rattle.rtl_flat.specs.declared.act.ProcId.{ProcId}
 use Rattle.rtl_flat.specs.Process.{Doing}
-use Rattle.rtl_scan.specs.declared.bits.Row.{Row}
-use Rattle.rtl_scan.specs.Sets.{has_row}
+use Rattle.event_write.specs.rtl_scan.declared.bits.Row.{Row}
+use Rattle.event_write.specs.rtl_scan.Sets.{has_row}
 use Rattle.event_model.specs.Queue.{happens, hears, hears_from as listened_from}
 use Rattle.event_write.specs.declared.listener.Listener.{Listener}
 use Rattle.event_write.specs.Listeners.{AreBelow, hears_from, heard_by}

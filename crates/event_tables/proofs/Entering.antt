@@ -13,7 +13,7 @@ use Rattle.rtl_flat.specs.Process.{Piece, Doing, Assign, Comb, Edge', Task, Acti
 use Rattle.rtl_flat.specs.Expression.{Tree}
 use Rattle.event_model.specs.Queue.{Flat, doing_of, doing_at}
 use Rattle.event_write.specs.QueueState.{row}
-use Rattle.event_tally.specs.Targets.{names, drives_of}
+use Rattle.event_write.specs.event_tally.Targets.{names, drives_of}
 use Rattle.event_tables.specs.Driving.{drives, ends_in, entered, Enters}
 use Rattle.event_tables.proofs.Ears.{row_set, row_other}
 

@@ -8,11 +8,11 @@ use Rattle.std.proofs.lemmas.List.Elements.{All-nil, All-head, All-tail, All-pus
 use Rattle.rtl_bits.specs.declared.Bit.{Bit}
 use Rattle.rtl_flat.specs.declared.act.ProcId.{ProcId}
 use Rattle.rtl_flat.specs.Process.{Task}
-use Rattle.rtl_scan.proofs.Places.{width_past}
+use Rattle.event_write.proofs.rtl_scan_proofs.Places.{width_past}
 use Rattle.event_model.specs.Writes.{no_drive}
 use Rattle.event_model.specs.Queue.{Flat, doing_of, doing_at, widths, drive_with, resolved_from, resolved}
-use Rattle.event_tally.specs.Targets.{drives_of}
-use Rattle.event_tally.proofs.Lengths.{resolved_length, undriven}
+use Rattle.event_write.specs.event_tally.Targets.{drives_of}
+use Rattle.event_write.proofs.event_tally_proofs.Lengths.{resolved_length, undriven}
 use Rattle.event_write.specs.QueueState.{row, driven_with, resolved_by}
 use Rattle.event_tables.specs.Driving.{drives, ends_in, entered, Enters, given_by, AreDriven}
 use Rattle.event_tables.proofs.Ears.{row_past}

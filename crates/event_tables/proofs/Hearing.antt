@@ -19,9 +19,9 @@ use Rattle.rtl_flat.specs.Paths.{BitSet, ReadsOutside, reads_outside}
 use Rattle.rtl_flat.specs.Flows.{reads, targets, flow_of}
 use Rattle.rtl_flat.specs.PathSets.{OfProcess, Lists, listed}
 use Rattle.rtl_flat.proofs.Paths.{decided}
-use Rattle.rtl_scan.specs.declared.bits.Row.{Row}
-use Rattle.rtl_scan.specs.Sets.{has_row, has_rows}
-use Rattle.rtl_scan.proofs.Places.{width_past}
+use Rattle.event_write.specs.rtl_scan.declared.bits.Row.{Row}
+use Rattle.event_write.specs.rtl_scan.Sets.{has_row, has_rows}
+use Rattle.event_write.proofs.rtl_scan_proofs.Places.{width_past}
 use Rattle.event_model.specs.Queue.{Flat, happens, hears, item_hears, doing_of, doing_at, widths}
 use Rattle.event_write.specs.declared.listener.Listener.{Listener}
 use Rattle.event_write.specs.Listeners.{AreBelow, heard_by}

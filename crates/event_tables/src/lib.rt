@@ -7,3 +7,7 @@ mod rows;
 mod tables;
 
 pub use tables::fanout_of;
+
+// Passed on to the crates above.
+pub use event_write;
+pub use event_write::{event_tally, rtl_scan};

@@ -5,16 +5,16 @@ ghost use Rattle.std.specs.List.{list_any};
 ghost use Rattle.rtl_bits.specs.declared.Edge.TheVariants.{No};
 ghost use Rattle.rtl_flat.specs.Process.{watched};
 ghost use Rattle.event_model.specs.Queue.{flat, happens, item_hears, widths};
-ghost use Rattle.rtl_scan.specs.Sets.{has_row, has_rows};
+ghost use Rattle.event_write.specs.rtl_scan.Sets.{has_row, has_rows};
 ghost use Rattle.event_tables.specs.Hearing.{AreHeard, Hears, IsLike, Joins, listens_at};
 
 use crate::rows::empty_rows;
 use event_write::listener::Listener;
+use event_write::rtl_scan::bits::Row;
+use event_write::rtl_scan::{lists, reads, selected};
 use rtl_bits::Edge;
 use rtl_flat::act::{Does, EventItem, Listed, ProcId};
 use rtl_flat::design::Design;
-use rtl_scan::bits::Row;
-use rtl_scan::{lists, reads, selected};
 use rtl_tree::memory::Memory;
 use std::alloc::Global;
 

@@ -16,12 +16,12 @@ use Rattle.rtl_flat.specs.Value.{index_number, value}
 use Rattle.rtl_flat.specs.WellFormed.{IsSelection}
 use Rattle.event_model.specs.Queue.{Flat, widths}
 use Rattle.event_model.specs.Writes.{Span, Values, bit_inside, count_of, driven, put, span_of}
-use Rattle.event_tally.specs.declared.tally.Tally.{Tally}
-use Rattle.event_tally.specs.Given.{AreCounted}
-use Rattle.event_tally.specs.Tallies.{IsTalliedAt, IsTalliedWith}
-use Rattle.event_tally.specs.Targets.{names}
-use Rattle.event_tally.proofs.Counting.{counted_apart, counted_moved, counted_with}
-use Rattle.event_tally.proofs.Places.{read_same, read_other}
+use Rattle.event_write.specs.event_tally.declared.tally.Tally.{Tally}
+use Rattle.event_write.specs.event_tally.Given.{AreCounted}
+use Rattle.event_write.specs.event_tally.Tallies.{IsTalliedAt, IsTalliedWith}
+use Rattle.event_write.specs.event_tally.Targets.{names}
+use Rattle.event_write.proofs.event_tally_proofs.Counting.{counted_apart, counted_moved, counted_with}
+use Rattle.event_write.proofs.event_tally_proofs.Places.{read_same, read_other}
 use Rattle.event_write.specs.Entries.{AreSelected}
 use Rattle.event_write.specs.QueueState.{AreTallied, IsInside, items_of, row}
 use Rattle.event_write.proofs.Entering.{part_inside}

@@ -9,7 +9,7 @@ use Rattle.rtl_flat.specs.Process.{Piece, Assign}
 use Rattle.rtl_flat.specs.WellFormed.{IsFixed}
 use Rattle.event_model.specs.Queue.{Flat, doing_at}
 use Rattle.event_model.specs.Writes.{put}
-use Rattle.event_tally.specs.declared.tally.Tally.{Tally}
+use Rattle.event_write.specs.event_tally.declared.tally.Tally.{Tally}
 use Rattle.event_write.specs.Entries.{AreSelected}
 use Rattle.event_write.specs.QueueState.{AreTallied}
 

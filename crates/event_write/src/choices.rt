@@ -17,10 +17,10 @@ ghost use Rattle.event_write.specs.Stored.{AreStored};
 
 use crate::stores::evaluate;
 use rtl_bits::{Bit, Vec4};
-use rtl_expr::is_match;
 use rtl_flat::act::{Act, CaseItem, CaseKind};
 use rtl_flat::expr::SizedExpr;
 use rtl_flat::signal::Signal;
+use rtl_scan::rtl_expr::is_match;
 
 /// Whether a condition has a 1.
 pub fn holds(signals: &[Signal], values: &[Vec4], test: &SizedExpr) -> bool

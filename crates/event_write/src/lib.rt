@@ -12,3 +12,7 @@ pub mod spans;
 pub mod statements;
 pub mod stores;
 pub mod waking;
+
+// Passed on to the crates above.
+pub use event_tally;
+pub use rtl_scan;

@@ -7,9 +7,9 @@ ghost use Rattle.rtl_flat.specs.Value.{value, store};
 ghost use Rattle.event_write.specs.Stored.{AreStored};
 
 use rtl_bits::Vec4;
-use rtl_expr::eval;
 use rtl_flat::expr::{SigId, SizedExpr};
 use rtl_flat::signal::Signal;
+use rtl_scan::rtl_expr::eval;
 
 /// How many bits a signal has.
 #[tactic(auto, using(crate::proofs::Widths::width_at))]

@@ -9,10 +9,10 @@ use net_list::blocks::Blocks;
 use net_list::clocked::waits;
 use net_list::drivers::drives_again;
 use net_list::fault::InferFault;
+use net_list::rtl_scan::bits::BitSet;
 use net_model::fill::Fill;
 use rtl_flat::act::ProcId;
 use rtl_flat::design::Design;
-use rtl_scan::bits::BitSet;
 use std::alloc::Global;
 
 /// The blocks of a design, with a fill for bits that have no number.

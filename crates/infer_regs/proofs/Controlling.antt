@@ -10,15 +10,15 @@ use Rattle.rtl_flat.specs.declared.signal.Signal.{Signal}
 use Rattle.event_model.specs.Queue.{is_input_kind, is_input_of}
 use Rattle.net_model.specs.Control.{IsControl, IsReached, Itself, Through}
 use Rattle.rtl_rule.specs.Parts.{Parts}
-use Rattle.rtl_scan.specs.Arrows.{Among, AreRising}
-use Rattle.check_clocks.specs.declared.reach.Link.{Link}
-use Rattle.check_clocks.specs.Cone.{AreEdgeMarks, ArePassing, ReachesMarked, flat_of}
-use Rattle.check_clocks.specs.Links.{AreRows}
-use Rattle.check_clocks.specs.Reach.{Reaches}
-use Rattle.check_clocks.specs.Tops.{is_top, is_top_kind}
-use Rattle.check_clocks.proofs.Coned.{reached_from, reached_to}
-use Rattle.check_clocks.proofs.Linked.{bit_inside}
-use Rattle.check_clocks.proofs.Reached.{among_cases, among_left, among_right}
+use Rattle.net_list.specs.rtl_scan.Arrows.{Among, AreRising}
+use Rattle.net_list.specs.check_clocks.declared.reach.Link.{Link}
+use Rattle.net_list.specs.check_clocks.Cone.{AreEdgeMarks, ArePassing, ReachesMarked, flat_of}
+use Rattle.net_list.specs.check_clocks.Links.{AreRows}
+use Rattle.net_list.specs.check_clocks.Reach.{Reaches}
+use Rattle.net_list.specs.check_clocks.Tops.{is_top, is_top_kind}
+use Rattle.net_list.proofs.check_clocks_proofs.Coned.{reached_from, reached_to}
+use Rattle.net_list.proofs.check_clocks_proofs.Linked.{bit_inside}
+use Rattle.net_list.proofs.check_clocks_proofs.Reached.{among_cases, among_left, among_right}
 use Rattle.infer_regs.specs.Forms.{AreControls}
 
 -- ---- numbers that rise

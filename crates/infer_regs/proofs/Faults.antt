@@ -11,13 +11,13 @@ use Rattle.rtl_flat.specs.Process.{Watched, Actions, Doing, Assign, Comb, Edge',
 use Rattle.rtl_rule.specs.declared.rule.Rule.{Rule}
 use Rattle.rtl_rule.specs.declared.rule.Rule.TheVariants.{SenseMissing, NeverWakes, MixedEdges, BlockingState, NonblockingComb, MixedAssign, SeveralDrivers, Undriven, CombLoop, DerivedClock, ClockAsData, LatchInferred, Tristate, ResetShape, ResetPolarity, AsyncPair, ResetValue, FullCase, ParallelCase, UnknownItem, UnknownLiteral, SelectRange, DivideVariable, CaseEquality, DelayIgnored, InitialIgnored, TranslateOff, XOptimism, WildSelector}
 use Rattle.rtl_rule.specs.Parts.{Parts, items_of, parts, within}
-use Rattle.check_found.proofs.Sites.{task_count}
-use Rattle.check_sense.specs.Sense.{first_level}
-use Rattle.check_sense.specs.Telling.{level_in}
-use Rattle.check_clocks.specs.Clocks.{IsDerivedClock, events_of}
-use Rattle.check_clocks.specs.Tops.{is_derived}
-use Rattle.check_clocks.proofs.Derivations.{derived_is}
-use Rattle.check_assign.specs.Assigned.{is_clocked}
+use Rattle.net_list.proofs.check_found_proofs.Sites.{task_count}
+use Rattle.net_list.specs.check_sense.Sense.{first_level}
+use Rattle.net_list.specs.check_sense.Telling.{level_in}
+use Rattle.net_list.specs.check_clocks.Clocks.{IsDerivedClock, events_of}
+use Rattle.net_list.specs.check_clocks.Tops.{is_derived}
+use Rattle.net_list.proofs.check_clocks_proofs.Derivations.{derived_is}
+use Rattle.net_list.specs.check_assign.Assigned.{is_clocked}
 use Rattle.net_list.specs.Faults.{HasFault, IsFault, Waits}
 use Rattle.infer_regs.specs.Facts.{AreFacts}
 use Rattle.infer_regs.specs.Forms.{AreNone, IsFirstOf, form_rules}

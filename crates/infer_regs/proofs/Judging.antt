@@ -13,18 +13,18 @@ use Rattle.net_model.specs.Cycle.{Chain, Guard}
 use Rattle.rtl_rule.specs.declared.rule.Rule.{Rule}
 use Rattle.rtl_rule.specs.declared.rule.Rule.TheVariants.{MixedEdges, DerivedClock, ResetShape, ResetPolarity}
 use Rattle.rtl_rule.specs.Parts.{Parts, parts}
-use Rattle.check_found.proofs.Sites.{task_at}
-use Rattle.check_sense.specs.Sense.{has_item}
-use Rattle.check_sense.specs.Telling.{level_in}
-use Rattle.check_chains.specs.declared.chain.Chain as code
-use Rattle.check_chains.specs.Chains.{chain_of, is_shapeless}
-use Rattle.check_chains.specs.Inner.{has_turned}
-use Rattle.check_chains.specs.Views.{chain_view}
-use Rattle.check_chains.proofs.Told.{same_truth}
-use Rattle.check_clocks.specs.Clocks.{events_of}
-use Rattle.check_clocks.specs.Tops.{AreTops, is_derived}
-use Rattle.chain_laws.specs.Chained.{HasChain}
-use Rattle.chain_laws.proofs.Lists.{Each}
+use Rattle.net_list.proofs.check_found_proofs.Sites.{task_at}
+use Rattle.net_list.specs.check_sense.Sense.{has_item}
+use Rattle.net_list.specs.check_sense.Telling.{level_in}
+use Rattle.net_list.specs.check_chains.declared.chain.Chain as code
+use Rattle.net_list.specs.check_chains.Chains.{chain_of, is_shapeless}
+use Rattle.net_list.specs.check_chains.Inner.{has_turned}
+use Rattle.net_list.specs.check_chains.Views.{chain_view}
+use Rattle.net_list.proofs.check_chains_proofs.Told.{same_truth}
+use Rattle.net_list.specs.check_clocks.Clocks.{events_of}
+use Rattle.net_list.specs.check_clocks.Tops.{AreTops, is_derived}
+use Rattle.net_list.specs.chain_laws.Chained.{HasChain}
+use Rattle.net_list.proofs.chain_laws_proofs.Lists.{Each}
 use Rattle.net_list.specs.Faults.{IsFault, Waits}
 use Rattle.net_list.proofs.Formed.{chain_at, lawful_at}
 use Rattle.infer_regs.specs.Facts.{AreFacts}

@@ -8,9 +8,9 @@ use Rattle.std.proofs.lemmas.List.Elements.{All-nil, All-push, filter_map-append
 use Rattle.rtl_flat.specs.Process.{Doing, Assign, Comb, Edge', Task}
 use Rattle.rtl_rule.specs.declared.rule.Rule.TheVariants.{SeveralDrivers}
 use Rattle.rtl_rule.specs.Parts.{Parts}
-use Rattle.check_found.proofs.Gathering.{take_next}
-use Rattle.check_found.proofs.Sites.{numbered_push}
-use Rattle.check_assign.specs.Assigned.{is_clocked}
+use Rattle.net_list.proofs.check_found_proofs.Gathering.{take_next}
+use Rattle.net_list.proofs.check_found_proofs.Sites.{numbered_push}
+use Rattle.net_list.specs.check_assign.Assigned.{is_clocked}
 use Rattle.net_list.specs.declared.clocked.Clocked.{Clocked}
 use Rattle.net_list.specs.Chosen.{AreClocked, IsClocked, number_of}
 use Rattle.net_list.specs.Failing.{IsLeast}

@@ -12,15 +12,15 @@ use Rattle.rtl_flat.specs.Process.{Watched, Task}
 use Rattle.net_model.specs.Cycle.{Guard}
 use Rattle.rtl_rule.specs.declared.rule.Rule.TheVariants.{DerivedClock}
 use Rattle.rtl_rule.specs.Parts.{Parts, At, within}
-use Rattle.rtl_scan.specs.Arrows.{Among}
-use Rattle.rtl_scan.specs.Graph.{row}
-use Rattle.check_chains.specs.declared.chain.Guard as code
+use Rattle.net_list.specs.rtl_scan.Arrows.{Among}
+use Rattle.net_list.specs.rtl_scan.Graph.{row}
+use Rattle.net_list.specs.check_chains.declared.chain.Guard as code
 use Rattle.std.proofs.lemmas.List.{map-append, take_more}
-use Rattle.check_chains.specs.Views.{guard_view}
-use Rattle.check_clocks.specs.Clocks.{IsDerivedClock, events_of}
-use Rattle.check_clocks.specs.Tops.{AreTops}
-use Rattle.check_clocks.proofs.Topped.{comes_from}
-use Rattle.chain_laws.proofs.Lists.{Each, each_all, each_from, each_map}
+use Rattle.net_list.specs.check_chains.Views.{guard_view}
+use Rattle.net_list.specs.check_clocks.Clocks.{IsDerivedClock, events_of}
+use Rattle.net_list.specs.check_clocks.Tops.{AreTops}
+use Rattle.net_list.proofs.check_clocks_proofs.Topped.{comes_from}
+use Rattle.net_list.proofs.chain_laws_proofs.Lists.{Each, each_all, each_from, each_map}
 use Rattle.net_list.specs.Faults.{IsFault}
 use Rattle.infer_regs.specs.Taken.{AreResetTops, HasTop}
 

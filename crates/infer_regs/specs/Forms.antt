@@ -8,8 +8,8 @@ use Rattle.net_model.specs.Cycle.{Chain, Guard}
 use Rattle.rtl_rule.specs.declared.rule.Rule.{Rule}
 use Rattle.rtl_rule.specs.declared.rule.Rule.TheVariants.{MixedEdges, DerivedClock, ResetShape, ResetPolarity, ResetValue}
 use Rattle.rtl_rule.specs.Parts.{Parts}
-use Rattle.rtl_scan.specs.Arrows.{Among, AreRising}
-use Rattle.check_chains.specs.Chains.{chain_of}
+use Rattle.net_list.specs.rtl_scan.Arrows.{Among, AreRising}
+use Rattle.net_list.specs.check_chains.Chains.{chain_of}
 use Rattle.net_list.specs.Faults.{IsFault}
 use Rattle.infer_regs.specs.declared.forms.Form.{Form}
 use Rattle.infer_regs.specs.declared.forms.Form.TheVariants.{Bad, Clock}

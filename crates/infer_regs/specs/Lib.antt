@@ -2,3 +2,6 @@ pub mod Facts
 pub mod Forms
 pub mod Judged
 pub mod Taken
+-- passed on to the crates above
+pub use Rattle.net_list.specs.check_clocks
+pub use Rattle.net_list.specs as net_list

@@ -8,8 +8,8 @@ use Rattle.rtl_flat.specs.Process.{Task}
 use Rattle.net_model.specs.Cycle.{Guard}
 use Rattle.rtl_rule.specs.declared.rule.Rule.{Rule}
 use Rattle.rtl_rule.specs.Parts.{Parts}
-use Rattle.rtl_scan.specs.Arrows.{Among}
-use Rattle.rtl_scan.specs.Graph.{row}
+use Rattle.net_list.specs.rtl_scan.Arrows.{Among}
+use Rattle.net_list.specs.rtl_scan.Graph.{row}
 use Rattle.net_list.specs.declared.clocked.Clocked.{Clocked}
 use Rattle.net_list.specs.Chosen.{IsClocked, number_of}
 use Rattle.net_list.specs.Faults.{HasFault, IsFault, IsShapeless}

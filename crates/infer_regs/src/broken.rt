@@ -4,18 +4,18 @@ ghost use Rattle.std.specs.Prelude.{◌≡◌, ◌<◌, ◌↔◌, true, length,
 ghost use Rattle.std.specs.List.{list_any, slice_get};
 ghost use Rattle.rtl_flat.specs.Process.{Task, doing, watched};
 ghost use Rattle.rtl_rule.specs.Parts.{parts};
-ghost use Rattle.check_sense.specs.Sense.{has_item};
-ghost use Rattle.check_sense.specs.Telling.{level_in};
-ghost use Rattle.check_clocks.specs.Clocks.{events_of};
-ghost use Rattle.check_clocks.specs.Tops.{is_derived};
+ghost use Rattle.net_list.specs.check_sense.Sense.{has_item};
+ghost use Rattle.net_list.specs.check_sense.Telling.{level_in};
+ghost use Rattle.net_list.specs.check_clocks.Clocks.{events_of};
+ghost use Rattle.net_list.specs.check_clocks.Tops.{is_derived};
 ghost use Rattle.net_list.specs.Faults.{Waits};
 ghost use Rattle.infer_regs.specs.Facts.{AreFacts};
 ghost use Rattle.infer_regs.specs.Judged.{IsJudged};
 
 use crate::facts::Facts;
-use check_chains::branches::has_bad_reset;
-use check_chains::shapes::{has_turned, is_shapeless};
-use check_clocks::derived::is_derived;
+use net_list::check_chains::branches::has_bad_reset;
+use net_list::check_chains::shapes::{has_turned, is_shapeless};
+use net_list::check_clocks::derived::is_derived;
 use rtl_bits::Edge;
 use rtl_flat::act::{Does, EventItem, ProcId};
 use rtl_flat::design::Design;

@@ -10,14 +10,14 @@ ghost use Rattle.infer_regs.specs.Taken.{IsBroken, IsOne, Takes};
 use crate::broken::first_broken;
 use crate::facts::Facts;
 use crate::tops::{reset_tops, top_of};
-use check_chains::chain::chain_of;
+use net_list::check_chains::chain::chain_of;
 use net_list::clocked::{Clocked, waits};
 use net_list::drivers::drives_again;
 use net_list::fault::InferFault;
 use net_list::registers::Registers;
+use net_list::rtl_scan::bits::BitSet;
 use rtl_flat::act::ProcId;
 use rtl_flat::design::Design;
-use rtl_scan::bits::BitSet;
 use rtl_tree::memory::Memory;
 use std::alloc::Global;
 

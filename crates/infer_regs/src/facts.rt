@@ -4,9 +4,9 @@ ghost use Rattle.std.specs.Prelude.{IfOk};
 ghost use Rattle.rtl_rule.specs.Parts.{parts};
 ghost use Rattle.infer_regs.specs.Facts.{AreFacts};
 
-use check_clocks::tops::{Roles, roles_of, tops_of};
+use net_list::check_clocks::tops::{Roles, roles_of, tops_of};
+use net_list::rtl_scan::temporaries;
 use rtl_flat::design::Design;
-use rtl_scan::temporaries;
 use rtl_tree::memory::Memory;
 use std::alloc::Global;
 

@@ -4,13 +4,13 @@ ghost use Rattle.std.specs.Prelude.{◌≡◌, ◌<◌, Some, length, map, IfOk}
 ghost use Rattle.std.specs.List.{slice_get};
 ghost use Rattle.rtl_flat.specs.Process.{Task, watched};
 ghost use Rattle.rtl_rule.specs.Parts.{parts};
-ghost use Rattle.check_chains.specs.Views.{guard_view};
+ghost use Rattle.net_list.specs.check_chains.Views.{guard_view};
 ghost use Rattle.net_list.specs.Faults.{Waits};
 ghost use Rattle.infer_regs.specs.Forms.{IsForm};
 
 use crate::broken::first_broken;
 use crate::facts::Facts;
-use check_chains::chain::{Guard, chain_of};
+use net_list::check_chains::chain::{Guard, chain_of};
 use rtl_flat::act::{EventItem, ProcId};
 use rtl_flat::design::Design;
 use rtl_rule::rule::Rule;

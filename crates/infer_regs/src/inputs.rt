@@ -2,15 +2,15 @@
 
 ghost use Rattle.std.specs.Prelude.{◌≡◌, ◌<◌, ◌↔◌, length, map, true, IfOk};
 ghost use Rattle.event_model.specs.Queue.{flat};
-ghost use Rattle.check_clocks.specs.Cone.{ReachesMarked};
+ghost use Rattle.net_list.specs.check_clocks.Cone.{ReachesMarked};
 ghost use Rattle.infer_regs.specs.Forms.{AreControls};
 
-use check_clocks::cone::{any_marked, mark_all_waited};
-use check_clocks::links::rows_of;
-use check_clocks::passed::passing_links;
-use check_clocks::reach::reached;
-use check_clocks::tops::is_top;
-use check_found::scans::Scans;
+use net_list::check_clocks::cone::{any_marked, mark_all_waited};
+use net_list::check_clocks::links::rows_of;
+use net_list::check_clocks::passed::passing_links;
+use net_list::check_clocks::reach::reached;
+use net_list::check_clocks::tops::is_top;
+use net_list::check_found::scans::Scans;
 use rtl_flat::design::Design;
 use rtl_flat::expr::SigId;
 use rtl_tree::memory::Memory;

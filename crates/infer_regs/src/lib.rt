@@ -11,3 +11,7 @@ mod tops;
 pub use clocked::registers;
 pub use forms::form_of;
 pub use inputs::controls;
+
+// Passed on to the crates above.
+pub use net_list;
+pub use net_list::check_clocks;

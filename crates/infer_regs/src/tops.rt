@@ -2,13 +2,13 @@
 
 ghost use Rattle.std.specs.Prelude.{map, IfOk};
 ghost use Rattle.std.specs.List.{All};
-ghost use Rattle.rtl_scan.specs.Arrows.{Among};
-ghost use Rattle.rtl_scan.specs.Graph.{row};
-ghost use Rattle.check_chains.specs.Views.{guard_view};
+ghost use Rattle.net_list.specs.rtl_scan.Arrows.{Among};
+ghost use Rattle.net_list.specs.rtl_scan.Graph.{row};
+ghost use Rattle.net_list.specs.check_chains.Views.{guard_view};
 ghost use Rattle.infer_regs.specs.Taken.{AreResetTops, HasTop};
 
-use check_chains::chain::Guard;
-use check_clocks::tops::row_at;
+use net_list::check_chains::chain::Guard;
+use net_list::check_clocks::tops::row_at;
 use rtl_flat::expr::SigId;
 use rtl_tree::memory::Memory;
 use std::alloc::Global;

@@ -2,18 +2,18 @@
 
 ghost use Rattle.std.specs.Prelude.{◌≡◌};
 ghost use Rattle.event_model.specs.Queue.{flat};
-ghost use Rattle.netlist_eval.specs.Sims.{flat_of};
+ghost use Rattle.tests_netlists.specs.netlist_eval.Sims.{flat_of};
 ghost use Rattle.net_bench.specs.declared.run.Stop.TheVariants as stop;
 
 use desk_steps::read_steps;
-use net_list::netlist::Netlist;
 use net_model::fill::Fill;
-use netlist_eval::sim::NetSim;
 use rtl_flat::design::Design;
 use rtl_flat::expr::SigId;
 use std::alloc::{AllocError, AllocFailed, Global};
 use std::io;
 use tests_designs::{NoDesign, designed};
+use tests_netlists::net_list::netlist::Netlist;
+use tests_netlists::netlist_eval::sim::NetSim;
 use tests_netlists::{NoRun, netlist, simulator, take};
 use thiserror::Error;
 

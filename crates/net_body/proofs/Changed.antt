@@ -5,7 +5,7 @@ use Rattle.rtl_bits.specs.declared.Bit.{Bit}
 use Rattle.rtl_bits.specs.declared.Bit.TheVariants.{Zero, One, X, Z}
 use Rattle.rtl_bits.specs.Bit.{xor_bit}
 use Rattle.rtl_bits.specs.Bits.{zip_with}
-use Rattle.net_laws.proofs.Known.{KnownBit}
+use Rattle.net_number.proofs.net_laws_proofs.Known.{KnownBit}
 use Rattle.net_body.specs.Ends.{changed}
 
 zip_length : (g : Bit → Bit → Bit) (a b : List Bit) → length a ≡ length b → length (zip_with g a b) ≡ length a

@@ -16,11 +16,11 @@ use Rattle.rtl_flat.specs.Signs.{width_in}
 use Rattle.rtl_flat.specs.WellFormed.{IsFixed, IsProcess}
 use Rattle.event_model.specs.Traces.{covers}
 use Rattle.event_model.specs.Writes.{Values, Write, all_written, count_of, counts, driven, no_drive, span_of, write_at, writes, written}
-use Rattle.event_laws.specs.Steady.{IsWithin}
-use Rattle.event_laws.proofs.Inside.{writes_within}
-use Rattle.event_laws.proofs.Lengths.{written_length}
-use Rattle.event_laws.proofs.Targets.{IsOver, none_over, target_may, target_over}
-use Rattle.event_laws.proofs.Written.{bit_kept, bit_written}
+use Rattle.net_number.specs.event_laws.Steady.{IsWithin}
+use Rattle.net_number.proofs.event_laws_proofs.Inside.{writes_within}
+use Rattle.net_number.proofs.event_laws_proofs.Lengths.{written_length}
+use Rattle.net_number.proofs.event_laws_proofs.Targets.{IsOver, none_over, target_may, target_over}
+use Rattle.net_number.proofs.event_laws_proofs.Written.{bit_kept, bit_written}
 use Rattle.net_model.specs.declared.fill.Fill.{Fill}
 use Rattle.net_model.specs.Block.{digit_writes, span_by}
 use Rattle.net_model.specs.Numbers.{bit}

@@ -13,14 +13,14 @@ use Rattle.rtl_bits.proofs.Lists.{get_or-tabulate, tabulate-congr}
 use Rattle.rtl_flat.specs.Process.{Actions}
 use Rattle.rtl_flat.specs.Value.{store}
 use Rattle.rtl_flat.specs.WellFormed.{IsBody}
-use Rattle.event_laws.proofs.Lengths.{put_at, put_other}
+use Rattle.net_number.proofs.event_laws_proofs.Lengths.{put_at, put_other}
 use Rattle.event_model.specs.Queue.{Flat, widths}
 use Rattle.event_model.specs.Writes.{Values, put}
 use Rattle.net_model.specs.declared.fill.Fill.{Fill}
 use Rattle.net_model.specs.Block.{Maps, acts, begun, bit_after, block_bit}
 use Rattle.net_model.specs.Numbers.{AreNumbers, bit}
-use Rattle.net_laws.proofs.Known.{Known, known_at, known_each}
-use Rattle.net_laws.proofs.Laws.{block_known}
+use Rattle.net_number.proofs.net_laws_proofs.Known.{Known, known_at, known_each}
+use Rattle.net_number.proofs.net_laws_proofs.Laws.{block_known}
 use Rattle.net_body.specs.declared.mark.Mark.{Mark}
 use Rattle.net_body.specs.Ends.{Ending, bits_after, changed, ending, ending_after, ending_after_one}
 use Rattle.net_body.specs.Marks.{maps, next_bit, seen}

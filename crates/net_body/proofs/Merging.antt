@@ -13,7 +13,7 @@ use Rattle.rtl_bits.specs.Digits.{one_at_and, one_at_or}
 use Rattle.rtl_bits.specs.Planes.{bit_of, bits_of_planes, in_val}
 use Rattle.rtl_scan.proofs.Masks.{without_is}
 use Rattle.event_model.specs.Writes.{Values, Write}
-use Rattle.event_laws.proofs.Written.{bit_kept, bit_written}
+use Rattle.net_number.proofs.event_laws_proofs.Written.{bit_kept, bit_written}
 use Rattle.net_body.specs.Marks.{is_over}
 
 pick_table : (m n o : Bool) → ((m && n) || (o && not m)) ≡ cond m n o

@@ -12,7 +12,7 @@ use Rattle.rtl_flat.specs.Signs.{width_in}
 use Rattle.rtl_flat.specs.Value.{store, widths}
 use Rattle.event_model.specs.Traces.{covers}
 use Rattle.event_model.specs.Writes.{Values, Write, put}
-use Rattle.event_laws.proofs.Lengths.{put_at, put_other}
+use Rattle.net_number.proofs.event_laws_proofs.Lengths.{put_at, put_other}
 use Rattle.net_model.specs.Block.{Maps, write_next, write_now}
 use Rattle.net_body.specs.declared.mark.Mark.{Mark}
 use Rattle.net_body.specs.Marks.{AreKept, AreStored, is_over, maps, next_bit, seen}

@@ -13,7 +13,7 @@ use Rattle.rtl_flat.specs.Flows.{action_then, body_flow, is_complete, labels_of,
 use Rattle.rtl_flat.specs.Paths.{BitSet, Step, Read, Write, End, either, may_write_blocking, may_write_delayed, may_write_late, may_write_now, some, some_way}
 use Rattle.rtl_flat.specs.Process.{Piece, Action, Set, If, Case, Block, Actions, Done, Then, Otherwise, Without, With, Branches, NoBranch, Branch}
 use Rattle.rtl_scan.specs.Scan.{some_item}
-use Rattle.event_laws.proofs.Lengths.{put_other}
+use Rattle.net_number.proofs.event_laws_proofs.Lengths.{put_other}
 use Rattle.event_model.specs.Traces.{covers}
 use Rattle.event_model.specs.Writes as writes
 use Rattle.event_model.specs.Writes.{Span, Values, count_of, counts, write_at}

@@ -9,11 +9,11 @@ use Rattle.rtl_rule.specs.Order.{comes_before, placed, ranked}
 use Rattle.rtl_rule.specs.Parts.{Parts}
 use Rattle.rtl_rule.specs.Rows.{row_of}
 use Rattle.rtl_rule.specs.Sites.{AreFindings}
-use Rattle.check_sense.specs.Sense.{AreMixedEdges, AreSenseFindings, IsMixedEdges, mixed_edges_at}
-use Rattle.check_assign.specs.Assigned.{AreCombLoop, AreSeveralDrivers, IsCombLoop, IsSeveralDrivers, comb_loop_at, several_drivers_at}
-use Rattle.check_assign.specs.Findings.{AreAssignFindings}
-use Rattle.check_chains.specs.Chains.{AreResetPolarity, AreResetShape, AreResetValue, IsResetPolarity, IsResetShape, IsResetValue, reset_polarity_at, reset_shape_at, reset_value_at}
-use Rattle.check_clocks.specs.Clocks.{AreDerivedClock, IsDerivedClock, derived_clock_at}
+use Rattle.check_all.specs.check_sense.Sense.{AreMixedEdges, AreSenseFindings, IsMixedEdges, mixed_edges_at}
+use Rattle.check_all.specs.check_assign.Assigned.{AreCombLoop, AreSeveralDrivers, IsCombLoop, IsSeveralDrivers, comb_loop_at, several_drivers_at}
+use Rattle.check_all.specs.check_assign.Findings.{AreAssignFindings}
+use Rattle.check_laws.specs.check_chains.Chains.{AreResetPolarity, AreResetShape, AreResetValue, IsResetPolarity, IsResetShape, IsResetValue, reset_polarity_at, reset_shape_at, reset_value_at}
+use Rattle.check_laws.specs.check_clocks.Clocks.{AreDerivedClock, IsDerivedClock, derived_clock_at}
 use Rattle.check_all.specs.Findings.{AreAllFindings, IsClean, queue_of}
 
 -- ---- ranked findings

@@ -9,21 +9,21 @@ use Rattle.event_model.specs.Queue.{flat}
 use Rattle.rtl_rule.specs.declared.rule.Rule.{Rule}
 use Rattle.rtl_rule.specs.declared.rule.Rule.TheVariants.{MixedEdges, SeveralDrivers, DerivedClock, ResetShape, ResetPolarity, ResetValue}
 use Rattle.rtl_rule.specs.Parts.{Parts, parts, within}
-use Rattle.check_sense.specs.Sense.{IsMixedEdges, mixed_edges_at}
-use Rattle.check_assign.specs.Assigned.{IsSeveralDrivers, several_drivers_at}
-use Rattle.check_chains.specs.Chains.{IsResetPolarity, IsResetShape, IsResetValue, reset_polarity_at, reset_shape_at, reset_value_at}
-use Rattle.check_clocks.specs.Clocks.{IsDerivedClock, derived_clock_at, events_of}
+use Rattle.check_all.specs.check_sense.Sense.{IsMixedEdges, mixed_edges_at}
+use Rattle.check_all.specs.check_assign.Assigned.{IsSeveralDrivers, several_drivers_at}
+use Rattle.check_laws.specs.check_chains.Chains.{IsResetPolarity, IsResetShape, IsResetValue, reset_polarity_at, reset_shape_at, reset_value_at}
+use Rattle.check_laws.specs.check_clocks.Clocks.{IsDerivedClock, derived_clock_at, events_of}
 use Rattle.check_all.specs.Findings.{queue_of}
 use Rattle.check_laws.proofs.Designs.{comb_loop}
 use Rattle.check_laws.proofs.Sites.{Each, process_refuted, refuted_in, signal_refuted}
-use Rattle.net_list.specs.declared.fault.InferFault.{InferFault}
-use Rattle.net_list.specs.declared.fault.InferFault.TheVariants.{Memory, Shape}
-use Rattle.net_list.specs.Failing.{IsFirst}
-use Rattle.net_list.specs.Faults.{AreAlone, AreFormed, IsContended, IsFault, IsShapeless}
-use Rattle.net_order.specs.declared.order.Ranking.{Ranking}
-use Rattle.net_order.specs.declared.order.Ranking.TheVariants.{Cyclic, Order}
-use Rattle.net_order.specs.Order.{IsCyclic, IsRanking}
-use Rattle.net_solve.specs.Feeds.{IsFeed}
+use Rattle.netlist_eval.specs.net_list.declared.fault.InferFault.{InferFault}
+use Rattle.netlist_eval.specs.net_list.declared.fault.InferFault.TheVariants.{Memory, Shape}
+use Rattle.netlist_eval.specs.net_list.Failing.{IsFirst}
+use Rattle.netlist_eval.specs.net_list.Faults.{AreAlone, AreFormed, IsContended, IsFault, IsShapeless}
+use Rattle.netlist_eval.specs.net_order.declared.order.Ranking.{Ranking}
+use Rattle.netlist_eval.specs.net_order.declared.order.Ranking.TheVariants.{Cyclic, Order}
+use Rattle.netlist_eval.specs.net_order.Order.{IsCyclic, IsRanking}
+use Rattle.netlist_eval.specs.net_solve.Feeds.{IsFeed}
 use Rattle.netlist_eval.specs.declared.fault.NetFault.TheVariants as net_fault
 use Rattle.net_clean.specs.Netlist.{BeginsByRules, HasNetlist, InferredByRules, IsOrdered, NetlistByRules}
 use Rattle.net_clean.proofs.Grades.{HasNoFinding, no_finding}

@@ -10,13 +10,13 @@ use Rattle.event_model.specs.Queue.{flat}
 use Rattle.rtl_rule.specs.declared.finding.Finding.{Finding}
 use Rattle.rtl_rule.specs.Parts.{Parts, parts}
 use Rattle.check_all.specs.Findings.{AreAllFindings, IsClean, queue_of}
-use Rattle.net_list.specs.declared.fault.InferFault.{InferFault}
-use Rattle.net_list.specs.declared.fault.InferFault.TheVariants.{Memory}
-use Rattle.net_list.specs.Failing.{IsFirst}
-use Rattle.net_list.specs.Faults.{AreAlone, AreFormed, IsContended, IsShapeless}
-use Rattle.net_order.specs.declared.order.Ranking.{Ranking}
-use Rattle.net_order.specs.declared.order.Ranking.TheVariants.{Order}
-use Rattle.net_order.specs.Order.{IsCyclic, IsRanking}
+use Rattle.netlist_eval.specs.net_list.declared.fault.InferFault.{InferFault}
+use Rattle.netlist_eval.specs.net_list.declared.fault.InferFault.TheVariants.{Memory}
+use Rattle.netlist_eval.specs.net_list.Failing.{IsFirst}
+use Rattle.netlist_eval.specs.net_list.Faults.{AreAlone, AreFormed, IsContended, IsShapeless}
+use Rattle.netlist_eval.specs.net_order.declared.order.Ranking.{Ranking}
+use Rattle.netlist_eval.specs.net_order.declared.order.Ranking.TheVariants.{Order}
+use Rattle.netlist_eval.specs.net_order.Order.{IsCyclic, IsRanking}
 use Rattle.netlist_eval.specs.declared.fault.NetFault.{NetFault}
 use Rattle.netlist_eval.specs.declared.fault.NetFault.TheVariants as fault
 use Rattle.netlist_eval.specs.Steps.{IsFault}

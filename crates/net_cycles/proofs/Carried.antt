@@ -12,7 +12,7 @@ use Rattle.rtl_flat.specs.Flows.{may_target}
 use Rattle.rtl_flat.specs.Process.{Assign, Piece}
 use Rattle.event_model.specs.Queue.{Flat, doing_at, widths}
 use Rattle.event_model.specs.Writes.{Values, Write, driven, no_drive}
-use Rattle.event_laws.proofs.Written.{covers_from, written_in}
+use Rattle.net_laws.proofs.event_laws_proofs.Written.{covers_from, written_in}
 use Rattle.net_model.specs.declared.fill.Fill.{Fill}
 use Rattle.net_model.specs.Control.{Here, IsBehind, IsLink, Next, whole_of}
 use Rattle.net_model.specs.Numbers.{bit, digits}

@@ -18,3 +18,5 @@ pub mod Numeric
 pub mod Outside
 pub mod Parts
 pub mod Starts
+-- passed on to the crates above
+pub use Rattle.event_laws.proofs as event_laws_proofs

@@ -7,8 +7,8 @@ use Rattle.std.proofs.lemmas.Bool.{and_from, cases_Bool, cases_order, lt-ltb, or
 use Rattle.rtl_flat.specs.Process.{Task}
 use Rattle.rtl_rule.specs.declared.rule.Rule.TheVariants.{SeveralDrivers}
 use Rattle.rtl_rule.specs.Parts.{Parts, widths, written}
-use Rattle.check_found.proofs.Inside.{written_inside}
-use Rattle.check_found.proofs.Signals.{some_at}
+use Rattle.check_assign.proofs.check_found_proofs.Inside.{written_inside}
+use Rattle.check_assign.proofs.check_found_proofs.Signals.{some_at}
 use Rattle.check_assign.specs.Assigned.{is_clocked, lower_writes}
 use Rattle.check_assign.proofs.Below.{signal_there}
 use Rattle.net_list.specs.Faults.{AreAlone, AreApart, AreFormed, HasFault, IsFault}

@@ -12,7 +12,7 @@ use Rattle.net_model.specs.Cycle.{AreChains, IsChain}
 use Rattle.rtl_rule.specs.declared.rule.Rule.{Rule}
 use Rattle.rtl_rule.specs.declared.rule.Rule.TheVariants.{MixedEdges, ResetPolarity, ResetShape}
 use Rattle.rtl_rule.specs.Parts.{Parts, parts}
-use Rattle.check_chains.specs.Chains.{chain_of}
+use Rattle.chain_laws.specs.check_chains.Chains.{chain_of}
 use Rattle.check_assign.specs.Assigned.{is_clocked}
 use Rattle.chain_laws.specs.Chained.{HasChain}
 use Rattle.chain_laws.proofs.Chained.{chains_hold}

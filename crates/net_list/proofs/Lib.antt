@@ -1,3 +1,9 @@
 pub mod Apart
 pub mod Meeting
 pub mod Formed
+-- passed on to the crates above
+pub use Rattle.chain_laws.proofs as chain_laws_proofs
+pub use Rattle.check_assign.proofs as check_assign_proofs
+pub use Rattle.chain_laws.proofs.check_chains_proofs
+pub use Rattle.check_assign.proofs.check_clocks_proofs
+pub use Rattle.check_assign.proofs.check_found_proofs

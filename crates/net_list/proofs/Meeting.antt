@@ -8,9 +8,9 @@ use Rattle.std.proofs.lemmas.Bool.{and_from, and_parts, eq-eqb, false≢true, or
 use Rattle.rtl_flat.specs.Process.{Task}
 use Rattle.rtl_rule.specs.declared.rule.Rule.TheVariants.{SeveralDrivers}
 use Rattle.rtl_rule.specs.Parts.{Parts, has_some, widths, written}
-use Rattle.rtl_scan.specs.declared.bits.Row.{Row}
-use Rattle.rtl_scan.specs.Sets.{has, has_rows}
-use Rattle.check_found.proofs.Inside.{written_inside}
+use Rattle.check_assign.specs.rtl_scan.declared.bits.Row.{Row}
+use Rattle.check_assign.specs.rtl_scan.Sets.{has, has_rows}
+use Rattle.check_assign.proofs.check_found_proofs.Inside.{written_inside}
 use Rattle.check_assign.specs.Assigned.{lower_writes}
 use Rattle.check_assign.specs.Marks.{any_row, shares}
 use Rattle.check_assign.proofs.Below.{signal_there}

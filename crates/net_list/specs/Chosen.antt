@@ -8,9 +8,9 @@ use Rattle.rtl_flat.specs.declared.expr.SigId.{SigId}
 use Rattle.rtl_flat.specs.Process.{Whole, Done, Doing, Assign, Comb, Edge', Task}
 use Rattle.net_model.specs.Cycle.{Chain, Guard}
 use Rattle.rtl_rule.specs.Parts.{Parts}
-use Rattle.check_chains.specs.Chains.{chain_of}
-use Rattle.check_chains.specs.Views.{chain_view}
-use Rattle.check_clocks.specs.Clocks.{ComesFrom}
+use Rattle.chain_laws.specs.check_chains.Chains.{chain_of}
+use Rattle.chain_laws.specs.check_chains.Views.{chain_view}
+use Rattle.check_assign.specs.check_clocks.Clocks.{ComesFrom}
 use Rattle.net_list.specs.declared.clocked.Clocked.{Clocked}
 
 -- ---- chains of processes

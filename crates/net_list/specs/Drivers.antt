@@ -2,8 +2,8 @@
 -- The bits that the processes below a number may write, as a set that grows.
 use Rattle.std.specs.Prelude.{ℕ, ◌≡◌}
 use Rattle.rtl_rule.specs.Parts.{Parts}
-use Rattle.rtl_scan.specs.Sets.{has}
-use Rattle.rtl_scan.specs.declared.bits.BitSet.{BitSet}
+use Rattle.check_assign.specs.rtl_scan.Sets.{has}
+use Rattle.check_assign.specs.rtl_scan.declared.bits.BitSet.{BitSet}
 use Rattle.check_assign.specs.Assigned.{lower_writes}
 
 -- a set has just the bits that a process below a number may write

@@ -8,9 +8,9 @@ use Rattle.rtl_flat.specs.Process.{Task}
 use Rattle.rtl_rule.specs.declared.rule.Rule.{Rule}
 use Rattle.rtl_rule.specs.declared.rule.Rule.TheVariants.{MixedEdges, SeveralDrivers, DerivedClock, ResetShape, ResetPolarity, ResetValue}
 use Rattle.rtl_rule.specs.Parts.{Parts, within, written}
-use Rattle.check_sense.specs.Sense.{IsMixedEdges}
-use Rattle.check_chains.specs.Chains.{IsResetPolarity, IsResetShape, IsResetValue}
-use Rattle.check_clocks.specs.Clocks.{IsDerivedClock, events_of}
+use Rattle.chain_laws.specs.check_sense.Sense.{IsMixedEdges}
+use Rattle.chain_laws.specs.check_chains.Chains.{IsResetPolarity, IsResetShape, IsResetValue}
+use Rattle.check_assign.specs.check_clocks.Clocks.{IsDerivedClock, events_of}
 use Rattle.check_assign.specs.Assigned.{IsSeveralDrivers, is_clocked}
 
 -- ---- findings on a process

@@ -4,7 +4,7 @@ ghost use Rattle.std.specs.Prelude.{◌≡◌};
 ghost use Rattle.rtl_flat.specs.Process.{doing};
 ghost use Rattle.check_assign.specs.Assigned.{is_clocked};
 
-use check_chains::chain::Chain;
+use chain_laws::check_chains::chain::Chain;
 use rtl_flat::act::{Does, ProcId};
 use rtl_flat::expr::SigId;
 

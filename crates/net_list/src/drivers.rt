@@ -4,15 +4,15 @@ ghost use Rattle.std.specs.Prelude.{ℕ, ◌≡◌, ◌<◌, ◌+◌, ◌||◌, 
 ghost use Rattle.std.specs.List.{list_any};
 ghost use Rattle.rtl_rule.specs.declared.rule.Rule.TheVariants.{SeveralDrivers};
 ghost use Rattle.rtl_rule.specs.Parts.{parts};
-ghost use Rattle.rtl_scan.specs.Sets.{has, has_rows};
+ghost use Rattle.check_assign.specs.rtl_scan.Sets.{has, has_rows};
 ghost use Rattle.check_assign.specs.Marks.{shares};
 ghost use Rattle.net_list.specs.Drivers.{AreLower};
 ghost use Rattle.net_list.specs.Faults.{HasFault};
 
-use check_found::sets::written;
+use check_assign::check_found::sets::written;
+use check_assign::rtl_scan::bits::{BitSet, Row};
 use rtl_flat::act::ProcId;
 use rtl_flat::design::Design;
-use rtl_scan::bits::{BitSet, Row};
 use rtl_tree::memory::Memory;
 use std::alloc::Global;
 

@@ -8,3 +8,7 @@ pub mod fault;
 pub mod law;
 pub mod netlist;
 pub mod registers;
+
+// Passed on to the crates above.
+pub use chain_laws::check_chains;
+pub use check_assign::{check_clocks, check_found, rtl_scan};

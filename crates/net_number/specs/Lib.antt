@@ -1,1 +1,3 @@
 pub mod Spans
+-- passed on to the crates above
+pub use Rattle.net_laws.specs.event_laws

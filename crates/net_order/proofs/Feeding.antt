@@ -14,9 +14,9 @@ use Rattle.rtl_flat.specs.Paths.{MayWrite, ReadsOutside, reads_outside}
 use Rattle.rtl_flat.specs.Process.{Doing, Assign, Comb, Edge', Task}
 use Rattle.rtl_flat.specs.Signs.{width_in}
 use Rattle.rtl_flat.proofs.Paths.{decided}
-use Rattle.rtl_scan.specs.Arrows.{IsWriting, is_node}
-use Rattle.rtl_scan.specs.Graph.{AreRows, row}
-use Rattle.rtl_scan.proofs.Processes.{there, back}
+use Rattle.check_found.specs.rtl_scan.Arrows.{IsWriting, is_node}
+use Rattle.check_found.specs.rtl_scan.Graph.{AreRows, row}
+use Rattle.check_found.proofs.rtl_scan_proofs.Processes.{there, back}
 use Rattle.net_order.specs.declared.writers.Writer.{Writer}
 use Rattle.net_order.specs.Feeds.{AreFed, AreFeeders, AreFeeds, AreWriters, In, IsFed, Waits, Writes}
 use Rattle.net_solve.specs.Feeds.{IsFeed}

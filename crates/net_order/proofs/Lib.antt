@@ -6,3 +6,5 @@ pub mod Feeding
 pub mod Ranking
 pub mod Losing
 pub mod Answering
+-- passed on to the crates above
+pub use Rattle.net_solve.proofs as net_solve_proofs

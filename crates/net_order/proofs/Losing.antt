@@ -12,7 +12,7 @@ use Rattle.rtl_flat.specs.Process.{Task}
 use Rattle.rtl_flat.specs.Signs.{width_in}
 use Rattle.rtl_flat.proofs.Paths.{decided}
 use Rattle.rtl_rule.specs.Parts.{Parts, first_below, first_of, has_some, number, some_below, widths, written}
-use Rattle.rtl_scan.proofs.Processes.{back, there}
+use Rattle.check_found.proofs.rtl_scan_proofs.Processes.{back, there}
 use Rattle.check_found.proofs.Inside.{written_inside}
 use Rattle.check_found.proofs.Signals.{some_at, some_found}
 use Rattle.net_order.specs.Feeds.{IsLeastOf, IsLost, lesser_of}

@@ -10,11 +10,11 @@ use Rattle.rtl_bits.specs.Bits.{is_one_at}
 use Rattle.rtl_flat.specs.Flows.{flow_of}
 use Rattle.rtl_flat.specs.Paths.{may_write}
 use Rattle.rtl_flat.specs.Process.{Task}
-use Rattle.rtl_scan.specs.declared.bits.Row.{Row}
-use Rattle.rtl_scan.specs.Arrows.{IsWriting, is_node}
-use Rattle.rtl_scan.specs.Sets.{has_row, has_rows}
-use Rattle.rtl_scan.proofs.Bools.{or_is, or_left, or_right, and_is}
-use Rattle.rtl_scan.proofs.Processes.{there, back, below_next}
+use Rattle.check_found.specs.rtl_scan.declared.bits.Row.{Row}
+use Rattle.check_found.specs.rtl_scan.Arrows.{IsWriting, is_node}
+use Rattle.check_found.specs.rtl_scan.Sets.{has_row, has_rows}
+use Rattle.check_found.proofs.rtl_scan_proofs.Bools.{or_is, or_left, or_right, and_is}
+use Rattle.check_found.proofs.rtl_scan_proofs.Processes.{there, back, below_next}
 use Rattle.net_order.specs.declared.writers.Writer.{Writer}
 use Rattle.net_order.specs.Feeds.{AreWriters, In, IsNote, Joins, Notes, OneOf, Puts, Writes, WritesMore, bucket, row_at}
 use Rattle.net_order.proofs.Joining.{in_push, joins_as, joins_next, joins_none, joins_zero}

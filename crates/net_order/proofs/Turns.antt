@@ -7,8 +7,8 @@ use Rattle.rtl_flat.specs.declared.design.Design.{Design}
 use Rattle.rtl_flat.specs.Levels.{HasNoEdge, IsNode}
 use Rattle.rtl_flat.specs.Process.{Task, doing, task}
 use Rattle.rtl_rule.specs.Parts.{parts}
-use Rattle.rtl_scan.specs.Arrows.{is_node}
-use Rattle.rtl_scan.proofs.Processes.{back, there}
+use Rattle.check_found.specs.rtl_scan.Arrows.{is_node}
+use Rattle.check_found.proofs.rtl_scan_proofs.Processes.{back, there}
 use Rattle.check_found.proofs.Sites.{task_at, task_count}
 use Rattle.net_order.proofs.Feeding.{edge_node, node_edge}
 

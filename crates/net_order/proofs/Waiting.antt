@@ -7,11 +7,11 @@ use Rattle.rtl_bits.specs.Digits.{one_at_and}
 use Rattle.rtl_flat.specs.Flows.{flow_of}
 use Rattle.rtl_flat.specs.Paths.{BitSet, reads_outside}
 use Rattle.rtl_flat.specs.Process.{Task}
-use Rattle.rtl_scan.specs.declared.bits.Row.{Row}
-use Rattle.rtl_scan.specs.Arrows.{is_node}
-use Rattle.rtl_scan.specs.Sets.{has_rows}
-use Rattle.rtl_scan.proofs.Bools.{and_is}
-use Rattle.rtl_scan.proofs.Users.{some_bit_is}
+use Rattle.check_found.specs.rtl_scan.declared.bits.Row.{Row}
+use Rattle.check_found.specs.rtl_scan.Arrows.{is_node}
+use Rattle.check_found.specs.rtl_scan.Sets.{has_rows}
+use Rattle.check_found.proofs.rtl_scan_proofs.Bools.{and_is}
+use Rattle.check_found.proofs.rtl_scan_proofs.Users.{some_bit_is}
 use Rattle.net_order.specs.declared.writers.Writer.{Writer}
 use Rattle.net_order.specs.Feeds.{AreFeeders, FromRow, FromRows, FromWriters, In, IsFed, Joins, Waits, bucket, comes, is_from, row_at, writer_at}
 use Rattle.net_order.proofs.Joining.{in_at, joins_as, joins_none, joins_push}

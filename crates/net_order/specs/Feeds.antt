@@ -12,9 +12,9 @@ use Rattle.rtl_flat.specs.Levels.{IsNode}
 use Rattle.rtl_flat.specs.Paths.{BitSet, MayWrite, reads_outside}
 use Rattle.rtl_flat.specs.PathSets.{OfProcess}
 use Rattle.rtl_flat.specs.Process.{Task}
-use Rattle.rtl_scan.specs.declared.bits.Row.{Row}
-use Rattle.rtl_scan.specs.Arrows.{IsWriting, is_node}
-use Rattle.rtl_scan.specs.Graph.{ArrowIn, row}
+use Rattle.check_found.specs.rtl_scan.declared.bits.Row.{Row}
+use Rattle.check_found.specs.rtl_scan.Arrows.{IsWriting, is_node}
+use Rattle.check_found.specs.rtl_scan.Graph.{ArrowIn, row}
 use Rattle.net_order.specs.declared.rank.Placed.{Placed}
 use Rattle.net_order.specs.declared.writers.Writer.{Writer}
 use Rattle.net_solve.specs.Feeds.{IsFeed}

@@ -7,10 +7,10 @@ ghost use Rattle.rtl_rule.specs.Parts.{parts, widths};
 ghost use Rattle.net_order.specs.Feeds.{AreFeeders, AreFeeds, FromRow, FromRows, FromWriters, Joins, comes, is_from};
 
 use crate::writers::{Writer, is_node, writers};
+use check_found::rtl_scan::bits::Row;
 use check_found::sets::read_outside;
 use rtl_flat::act::ProcId;
 use rtl_flat::design::Design;
-use rtl_scan::bits::Row;
 use rtl_tree::memory::Memory;
 use std::alloc::Global;
 

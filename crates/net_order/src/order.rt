@@ -6,10 +6,10 @@ ghost use Rattle.net_order.specs.Order.{IsRanking};
 
 use crate::feeds::arrows;
 use crate::rank::{lost, ranked};
+use check_found::rtl_scan::graph::depths;
 use rtl_flat::act::ProcId;
 use rtl_flat::design::Design;
 use rtl_flat::expr::SigId;
-use rtl_scan::graph::depths;
 use rtl_tree::memory::Memory;
 use std::alloc::Global;
 

@@ -4,13 +4,13 @@ ghost use Rattle.std.specs.Prelude.{ℕ, ◌≡◌, ◌<◌, length, Some, IfOk,
 ghost use Rattle.std.specs.List.{slice_get};
 ghost use Rattle.rtl_flat.specs.Process.{Task, doing};
 ghost use Rattle.rtl_rule.specs.Parts.{parts, widths};
-ghost use Rattle.rtl_scan.specs.Arrows.{is_node};
+ghost use Rattle.check_found.specs.rtl_scan.Arrows.{is_node};
 ghost use Rattle.net_order.specs.Feeds.{AreWriters, Notes, Puts, WritesMore, bucket};
 
+use check_found::rtl_scan::bits::Row;
 use check_found::sets::written;
 use rtl_flat::act::{Does, ProcId};
 use rtl_flat::design::Design;
-use rtl_scan::bits::Row;
 use rtl_tree::memory::Memory;
 use std::alloc::Global;
 

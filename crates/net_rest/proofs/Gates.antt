@@ -22,13 +22,13 @@ use Rattle.event_model.specs.Bodies.{Made, body_made}
 use Rattle.event_model.specs.Queue.{Flat, doing_at, widths}
 use Rattle.event_model.specs.Traces.{FollowsPath, Same, makes, makes_late, makes_now}
 use Rattle.event_model.specs.Writes.{Span, Values, count_of, counts, driven, no_drive, span_of, write_at, writes}
-use Rattle.event_laws.specs.Steady.{HaveWidths}
-use Rattle.event_laws.proofs.Agreement.{value_agrees}
-use Rattle.event_laws.proofs.Inside.{writes_within}
-use Rattle.event_laws.specs.Laws.{AgreeOutside, MakesNow, RunAlike, after_body}
-use Rattle.event_laws.proofs.Laws.{depends, made_alike, made_out, may_late, may_now, outside_inside, sure_made, value_size, writes_inside}
-use Rattle.event_laws.proofs.Targets.{same_count, target_over}
-use Rattle.event_laws.proofs.Written.{covered}
+use Rattle.event_runs.specs.event_laws.Steady.{HaveWidths}
+use Rattle.event_runs.proofs.event_laws_proofs.Agreement.{value_agrees}
+use Rattle.event_runs.proofs.event_laws_proofs.Inside.{writes_within}
+use Rattle.event_runs.specs.event_laws.Laws.{AgreeOutside, MakesNow, RunAlike, after_body}
+use Rattle.event_runs.proofs.event_laws_proofs.Laws.{depends, made_alike, made_out, may_late, may_now, outside_inside, sure_made, value_size, writes_inside}
+use Rattle.event_runs.proofs.event_laws_proofs.Targets.{same_count, target_over}
+use Rattle.event_runs.proofs.event_laws_proofs.Written.{covered}
 use Rattle.net_model.specs.declared.fill.Fill.{Fill}
 use Rattle.net_model.specs.Block.{block_bit}
 use Rattle.net_model.specs.Numbers.{AreNumbers, bit, digits}

@@ -18,7 +18,7 @@ use Rattle.rtl_flat.proofs.Paths.{decided}
 use Rattle.event_model.specs.Queue.{Flat, is_input, widths}
 use Rattle.event_model.specs.Traces.{Same}
 use Rattle.event_model.specs.Writes.{Values}
-use Rattle.event_laws.specs.Steady.{HaveWidths}
+use Rattle.event_runs.specs.event_laws.Steady.{HaveWidths}
 use Rattle.net_model.specs.declared.fill.Fill.{Fill}
 use Rattle.net_model.specs.declared.fill.Fill.TheVariants as fill
 use Rattle.net_model.specs.Numbers.{AreNumbers, bit, fill_bit, filled_bit}

@@ -16,9 +16,9 @@ use Rattle.rtl_flat.proofs.Paths.{decided}
 use Rattle.event_model.specs.Queue.{Flat, doing_at, is_input, widths}
 use Rattle.event_model.specs.Traces.{FollowsPath, Same}
 use Rattle.event_model.specs.Writes.{Values, driven}
-use Rattle.event_laws.specs.Steady.{HaveWidths}
-use Rattle.event_laws.specs.Laws.{after_body}
-use Rattle.event_laws.proofs.Laws.{writes_inside}
+use Rattle.event_runs.specs.event_laws.Steady.{HaveWidths}
+use Rattle.event_runs.specs.event_laws.Laws.{after_body}
+use Rattle.event_runs.proofs.event_laws_proofs.Laws.{writes_inside}
 use Rattle.net_model.specs.declared.fill.Fill.{Fill}
 use Rattle.net_model.specs.declared.fill.Fill.TheVariants as fill
 use Rattle.net_model.specs.Block.{block_bit}

@@ -13,7 +13,7 @@ use Rattle.rtl_flat.specs.Value.{value}
 use Rattle.event_model.specs.Queue.{Flat, doing_at, is_input, widths}
 use Rattle.event_model.specs.Traces.{FollowsPath, Same}
 use Rattle.event_model.specs.Writes.{Values, driven}
-use Rattle.event_laws.specs.Steady.{AreLawful, HaveWidths}
+use Rattle.event_runs.specs.event_laws.Steady.{AreLawful, HaveWidths}
 use Rattle.net_model.specs.declared.fill.Fill.{Fill}
 use Rattle.net_model.specs.Numbers.{bit, fill_bit, filled_bit}
 use Rattle.net_model.specs.Solution.{IsLasting, IsRegisterBit}

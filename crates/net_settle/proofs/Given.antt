@@ -16,9 +16,9 @@ use Rattle.event_model.specs.declared.setting.Setting as queue
 use Rattle.event_model.specs.Queue.{Flat, is_input, is_input_of, widths}
 use Rattle.event_model.specs.Traces.{Same}
 use Rattle.event_model.specs.Writes.{Values, put}
-use Rattle.event_laws.specs.Steady.{AreLawful}
-use Rattle.event_runs.proofs.Writers.{to_process}
-use Rattle.event_laws.proofs.Lengths.{put_at, put_other}
+use Rattle.net_cycles.specs.event_laws.Steady.{AreLawful}
+use Rattle.net_solve.proofs.event_runs_proofs.Writers.{to_process}
+use Rattle.net_cycles.proofs.event_laws_proofs.Lengths.{put_at, put_other}
 use Rattle.net_model.specs.declared.fill.Fill.{Fill}
 use Rattle.net_model.specs.Cycle.{Data, Setting, given_after}
 use Rattle.net_model.specs.Numbers.{AreNumbers}

@@ -6,7 +6,7 @@ use Rattle.rtl_flat.specs.declared.design.Design.{Design}
 use Rattle.rtl_flat.specs.Process.{Task}
 use Rattle.rtl_flat.specs.WellFormed.{IsProcess}
 use Rattle.event_model.specs.Queue.{doing_of, flat}
-use Rattle.event_laws.specs.Steady.{AreLawful}
+use Rattle.net_cycles.specs.event_laws.Steady.{AreLawful}
 
 pub lawful_flat : (design : Design) → AreLawful (flat design)
 lawful_flat design p does here = by (slice_get (flat design).tasks p) refl here

@@ -22,17 +22,17 @@ use Rattle.rtl_flat.proofs.Paths.{decided}
 use Rattle.event_model.specs.Queue.{Flat, widths}
 use Rattle.event_model.specs.Traces.{Same, covers}
 use Rattle.event_model.specs.Writes.{Span, Values, Write, count_of, counts, write_at}
-use Rattle.event_laws.specs.Steady.{HaveWidths, IsWithin}
-use Rattle.event_laws.proofs.Inside.{at_most}
-use Rattle.event_laws.proofs.Lengths.{have_written}
-use Rattle.event_laws.proofs.Targets.{left_within, part_may, right_within}
-use Rattle.event_laws.proofs.Written.{covered, written_out}
-use Rattle.event_runs.proofs.May.{late_may, now_may}
+use Rattle.net_cycles.specs.event_laws.Steady.{HaveWidths, IsWithin}
+use Rattle.net_cycles.proofs.event_laws_proofs.Inside.{at_most}
+use Rattle.net_cycles.proofs.event_laws_proofs.Lengths.{have_written}
+use Rattle.net_cycles.proofs.event_laws_proofs.Targets.{left_within, part_may, right_within}
+use Rattle.net_cycles.proofs.event_laws_proofs.Written.{covered, written_out}
+use Rattle.net_solve.proofs.event_runs_proofs.May.{late_may, now_may}
 use Rattle.net_model.specs.declared.fill.Fill.{Fill}
 use Rattle.net_model.specs.Block.{Maps, act, act_arms, act_first, act_other, acts, arm_bits, arms_late, arms_write, begun, block_bit, digit_writes, filled_case, fresh, item_meets, joined_arms, some_meets, span_by, with_bits, write_each, write_next, write_now}
 use Rattle.net_model.specs.Numbers.{bit, digits, fill_bit}
-use Rattle.net_laws.proofs.Depends.{writes_within}
-use Rattle.net_laws.proofs.Parts.{Gives, GivesItems, fallback_gives, first_gives, item_gives, items_give, later_give, other_gives, others_give, taken_gives}
+use Rattle.net_cycles.proofs.net_laws_proofs.Depends.{writes_within}
+use Rattle.net_cycles.proofs.net_laws_proofs.Parts.{Gives, GivesItems, fallback_gives, first_gives, item_gives, items_give, later_give, other_gives, others_give, taken_gives}
 
 none_of : (a b : Bool) → (a || b) ≡ false → (a ≡ false) × (b ≡ false)
 none_of true b h = absurd (true≢false h)

@@ -4,3 +4,6 @@
 
 pub mod settle;
 pub mod work;
+
+// Passed on to the crates above.
+pub use net_body;

@@ -11,11 +11,11 @@ use Rattle.rtl_flat.specs.Value.{bit_by, chosen, compared, folded, joined, linke
 use Rattle.event_model.specs.Queue.{Flat, widths}
 use Rattle.event_model.specs.Traces.{Same}
 use Rattle.event_model.specs.Writes.{Values}
-use Rattle.event_laws.specs.Steady.{HaveWidths}
-use Rattle.event_laws.proofs.Agreement.{value_agrees}
+use Rattle.net_rest.specs.event_laws.Steady.{HaveWidths}
+use Rattle.net_rest.proofs.event_laws_proofs.Agreement.{value_agrees}
 use Rattle.net_model.specs.declared.fill.Fill.{Fill}
 use Rattle.net_model.specs.Numbers.{digits, filled, filled_bit}
-use Rattle.net_laws.proofs.Known.{both}
+use Rattle.net_rest.proofs.net_laws_proofs.Known.{both}
 
 -- whether two values have the same bits of a set
 abbrev pub AgreeOn : Values → Values → BitSet → Type 0

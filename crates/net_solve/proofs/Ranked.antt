@@ -2,7 +2,7 @@
 use Rattle.std.proofs.Common.{◌≡◌, ◌<◌, ◌==◌, ℕ, zero, suc, Bool, true, false, List, [], ◌∷◌, length, get_or, if◌then◌else◌, refl, sym, subst, arith}
 use Rattle.std.proofs.lemmas.Bool.{eq-eqb, eqb-true}
 use Rattle.event_model.specs.Queue.{Flat}
-use Rattle.event_laws.specs.Steady.{AreLawful}
+use Rattle.net_rest.specs.event_laws.Steady.{AreLawful}
 use Rattle.net_solve.specs.Feeds.{IsFeed}
 use Rattle.net_solve.specs.Laws.{AreSame, Ascends, IsOrder}
 use Rattle.net_solve.proofs.Same.{same}

@@ -14,13 +14,13 @@ use Rattle.rtl_flat.specs.Process.{Assign, Comb, Doing, Edge', Piece, Task}
 use Rattle.event_model.specs.Queue.{Flat, doing_at, doing_of, is_input, widths}
 use Rattle.event_model.specs.Traces.{Same}
 use Rattle.event_model.specs.Writes.{Values, driven}
-use Rattle.event_laws.specs.Steady.{AreLawful}
+use Rattle.net_rest.specs.event_laws.Steady.{AreLawful}
 use Rattle.net_model.specs.declared.fill.Fill.{Fill}
 use Rattle.net_model.specs.Numbers.{bit}
 use Rattle.net_model.specs.Solution.{IsLasting, IsRegisterBit, IsSolution}
-use Rattle.event_runs.proofs.Signals.{target_may}
-use Rattle.event_runs.proofs.Writers.{of_process, to_process}
-use Rattle.net_laws.proofs.Laws.{start_depends}
+use Rattle.net_rest.proofs.event_runs_proofs.Signals.{target_may}
+use Rattle.net_rest.proofs.event_runs_proofs.Writers.{of_process, to_process}
+use Rattle.net_rest.proofs.net_laws_proofs.Laws.{start_depends}
 use Rattle.net_rest.specs.Rest.{AreAlike, AreGivenAlike, is_written}
 use Rattle.net_rest.proofs.Levels.{assign_reads, read_inside, read_lasts}
 use Rattle.net_rest.proofs.Numbers.{past_ends, written_by, writer_of}

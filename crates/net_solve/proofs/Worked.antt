@@ -19,11 +19,11 @@ use Rattle.net_model.specs.declared.fill.Fill.{Fill}
 use Rattle.net_model.specs.Block.{block_bit}
 use Rattle.net_model.specs.Numbers.{AreNumbers, bit, digits}
 use Rattle.net_model.specs.Solution.{IsSolution, start}
-use Rattle.event_laws.specs.Steady.{AreLawful}
-use Rattle.event_runs.proofs.Signals.{assign_net, body_variable, net_input, variable_input}
-use Rattle.event_runs.proofs.Writers.{assign_may, of_process, to_process}
-use Rattle.net_laws.proofs.Laws.{block_depends, start_depends}
-use Rattle.net_laws.proofs.Starts.{start_wide}
+use Rattle.net_rest.specs.event_laws.Steady.{AreLawful}
+use Rattle.net_rest.proofs.event_runs_proofs.Signals.{assign_net, body_variable, net_input, variable_input}
+use Rattle.net_rest.proofs.event_runs_proofs.Writers.{assign_may, of_process, to_process}
+use Rattle.net_rest.proofs.net_laws_proofs.Laws.{block_depends, start_depends}
+use Rattle.net_rest.proofs.net_laws_proofs.Starts.{start_wide}
 use Rattle.net_rest.proofs.Levels.{assign_reads}
 use Rattle.net_solve.specs.Laws.{AreDone, IsBeginning, IsOrder, IsWorkable, IsWorked, WorkedSolve, place}
 use Rattle.net_solve.proofs.Digits.{same_digits}

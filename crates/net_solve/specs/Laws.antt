@@ -10,7 +10,7 @@ use Rattle.rtl_flat.specs.Process.{Actions, Assign, Comb, Piece, Watched}
 use Rattle.event_model.specs.Queue.{Flat, doing_at, is_input, widths}
 use Rattle.event_model.specs.Traces.{Same}
 use Rattle.event_model.specs.Writes.{Values, driven}
-use Rattle.event_laws.specs.Steady.{AreLawful}
+use Rattle.net_rest.specs.event_laws.Steady.{AreLawful}
 use Rattle.net_model.specs.declared.fill.Fill.{Fill}
 use Rattle.net_model.specs.Block.{block_bit}
 use Rattle.net_model.specs.Numbers.{AreNumbers, bit, digits, fill_bit}

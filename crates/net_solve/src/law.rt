@@ -2,7 +2,7 @@
 
 ghost use Rattle.std.specs.Prelude.{ℕ, List};
 ghost use Rattle.event_model.specs.Queue.{Flat};
-ghost use Rattle.event_laws.specs.Steady.{AreLawful};
+ghost use Rattle.net_rest.specs.event_laws.Steady.{AreLawful};
 ghost use Rattle.net_solve.specs.Laws.{AreSame, Ascends, IsOrder, IsWorkable, WorkedSolve};
 
 /// Where no process feeds itself over others, two solutions of one design that are given alike are alike.

@@ -5,7 +5,7 @@ use Rattle.std.proofs.lemmas.List.{get_or-set_other, get_or-set_same}
 use Rattle.rtl_bits.specs.declared.Bit.{Bit}
 use Rattle.rtl_flat.specs.Value.{store}
 use Rattle.event_model.specs.Writes.{Values}
-use Rattle.rtl_scan.specs.Arrows.{Among, AreRising}
+use Rattle.check_found.specs.rtl_scan.Arrows.{Among, AreRising}
 use Rattle.net_start.specs.Listing.{AreGiven}
 use Rattle.net_start.proofs.Listed.{place_among, rising_places}
 

@@ -7,8 +7,8 @@ use Rattle.rtl_flat.specs.Flows.{flow_of}
 use Rattle.rtl_flat.specs.Paths.{is_sure, may_write}
 use Rattle.rtl_flat.specs.Process.{Assign, Comb, Edge', Doing, Task}
 use Rattle.event_model.specs.Queue.{Flat, widths}
-use Rattle.rtl_scan.specs.declared.bits.Row.{Row}
-use Rattle.rtl_scan.specs.Sets.{has_row, has_rows}
+use Rattle.check_found.specs.rtl_scan.declared.bits.Row.{Row}
+use Rattle.check_found.specs.rtl_scan.Sets.{has_row, has_rows}
 use Rattle.check_found.proofs.Gathering.{take_next}
 use Rattle.net_start.specs.Kept.{kept_below, kept_by, kept_in}
 use Rattle.net_start.specs.Stored.{is_kept, keeps}

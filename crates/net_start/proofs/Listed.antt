@@ -5,7 +5,7 @@ use Rattle.std.specs.List.{AllByRecursion}
 use Rattle.std.proofs.lemmas.Bool.{cases_eq}
 use Rattle.std.proofs.lemmas.List.{length-append, map-append}
 use Rattle.rtl_flat.specs.declared.expr.SigId.{SigId}
-use Rattle.rtl_scan.specs.Arrows.{Among, AreRising}
+use Rattle.check_found.specs.rtl_scan.Arrows.{Among, AreRising}
 use Rattle.net_start.specs.Listing.{AreBelow}
 use Rattle.net_start.specs.Stored.{AreAll, places}
 

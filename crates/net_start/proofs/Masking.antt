@@ -17,7 +17,7 @@ use Rattle.rtl_flat.specs.Value.{store}
 use Rattle.net_model.specs.declared.fill.Fill.{Fill}
 use Rattle.net_model.specs.declared.fill.Fill.TheVariants as fill
 use Rattle.net_model.specs.Numbers.{bit, fill_bit}
-use Rattle.rtl_scan.specs.Sets.{has}
+use Rattle.check_found.specs.rtl_scan.Sets.{has}
 use Rattle.net_start.specs.Listing.{AreMasked, fills_of}
 
 -- ---- one value

@@ -19,9 +19,9 @@ use Rattle.rtl_flat.specs.Value.{store}
 use Rattle.event_model.specs.Queue.{Flat, is_input, is_input_kind, is_input_of, widths}
 use Rattle.net_model.specs.declared.fill.Fill.{Fill}
 use Rattle.net_model.specs.Numbers.{bit, fill_bit}
-use Rattle.rtl_scan.specs.Arrows.{Among}
-use Rattle.rtl_scan.specs.Sets.{has}
-use Rattle.rtl_scan.proofs.Users.{some_bit_is}
+use Rattle.check_found.specs.rtl_scan.Arrows.{Among}
+use Rattle.check_found.specs.rtl_scan.Sets.{has}
+use Rattle.check_found.proofs.rtl_scan_proofs.Users.{some_bit_is}
 use Rattle.net_start.specs.Listing.{AreGiven, AreMasked, fills_of, is_var, is_var_kind}
 use Rattle.net_start.specs.Start.{AreKnown, IsStart}
 use Rattle.net_start.specs.Stored.{AreInputs, AreStored, IsStored, is_kept, places}

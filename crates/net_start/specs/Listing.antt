@@ -11,8 +11,8 @@ use Rattle.rtl_flat.specs.Value.{store}
 use Rattle.event_model.specs.Writes.{Values}
 use Rattle.net_model.specs.declared.fill.Fill.{Fill}
 use Rattle.net_model.specs.Numbers.{bit, fill_bit}
-use Rattle.rtl_scan.specs.Arrows.{Among, AreRising}
-use Rattle.rtl_scan.specs.Sets.{has}
+use Rattle.check_found.specs.rtl_scan.Arrows.{Among, AreRising}
+use Rattle.check_found.specs.rtl_scan.Sets.{has}
 
 -- whether there is a variable
 abbrev pub is_var_kind : Kind → Bool

@@ -8,7 +8,7 @@ use Rattle.event_model.specs.Queue.{Flat, is_input, widths}
 use Rattle.event_model.specs.Writes.{Values}
 use Rattle.net_model.specs.declared.fill.Fill.{Fill}
 use Rattle.net_model.specs.Numbers.{AreNumbers, bit, fill_bit}
-use Rattle.rtl_scan.specs.Arrows.{Among}
+use Rattle.check_found.specs.rtl_scan.Arrows.{Among}
 use Rattle.net_start.specs.Stored.{is_kept}
 
 -- a value of its width for each of some signals, where `Are` says which these are

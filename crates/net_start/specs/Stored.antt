@@ -10,7 +10,7 @@ use Rattle.rtl_flat.specs.Process.{Doing, Assign, Comb, Edge', Task}
 use Rattle.rtl_flat.specs.Signs.{Has}
 use Rattle.event_model.specs.Queue.{Flat, is_input, widths}
 use Rattle.net_model.specs.Solution.{IsLasting}
-use Rattle.rtl_scan.specs.Arrows.{Among, AreRising}
+use Rattle.check_found.specs.rtl_scan.Arrows.{Among, AreRising}
 
 -- ---- bits that are kept
 

@@ -7,14 +7,14 @@ ghost use Rattle.rtl_flat.specs.Flows.{flow_of};
 ghost use Rattle.rtl_flat.specs.Paths.{is_sure};
 ghost use Rattle.rtl_flat.specs.Process.{Task};
 ghost use Rattle.rtl_rule.specs.Parts.{parts, widths, written};
-ghost use Rattle.rtl_scan.specs.Sets.{has, has_rows};
+ghost use Rattle.check_found.specs.rtl_scan.Sets.{has, has_rows};
 ghost use Rattle.net_start.specs.Kept.{kept_by};
 ghost use Rattle.net_start.specs.Stored.{is_kept};
 
+use check_found::rtl_scan::bits::{BitSet, Row};
 use check_found::sets::{sure, written};
 use rtl_flat::act::{Does, ProcId};
 use rtl_flat::design::Design;
-use rtl_scan::bits::{BitSet, Row};
 use rtl_tree::memory::Memory;
 use std::alloc::Global;
 

@@ -7,3 +7,6 @@ pub mod stored;
 mod unknown;
 
 pub use unknown::first_unknown;
+
+// Passed on to the crates above.
+pub use check_found::rtl_scan;

@@ -7,18 +7,18 @@ ghost use Rattle.rtl_bits.specs.Bit.{is_one};
 ghost use Rattle.rtl_bits.specs.Bits.{has_unknown, is_one_at};
 ghost use Rattle.rtl_flat.specs.Value.{store};
 ghost use Rattle.event_model.specs.Queue.{flat, widths};
-ghost use Rattle.rtl_scan.specs.Arrows.{AreRising};
-ghost use Rattle.rtl_scan.specs.Sets.{has};
+ghost use Rattle.check_found.specs.rtl_scan.Arrows.{AreRising};
+ghost use Rattle.check_found.specs.rtl_scan.Sets.{has};
 ghost use Rattle.net_model.specs.Numbers.{fill_bit};
 ghost use Rattle.net_start.specs.Listing.{AreGiven, AreMasked, fills_of};
 ghost use Rattle.net_start.specs.Start.{AreKnown, IsStart};
 ghost use Rattle.net_start.specs.Stored.{AreInputs, AreStored, is_kept, places};
 
+use check_found::rtl_scan::bits::BitSet;
 use net_model::fill::Fill;
 use rtl_bits::{Bit, Vec4};
 use rtl_flat::design::Design;
 use rtl_flat::expr::SigId;
-use rtl_scan::bits::BitSet;
 use rtl_tree::memory::Memory;
 use std::alloc::Global;
 

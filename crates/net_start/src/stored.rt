@@ -7,10 +7,10 @@ ghost use Rattle.net_start.specs.Listing.{is_var};
 ghost use Rattle.net_start.specs.Stored.{AreInputs, AreStored, places};
 
 use crate::kept::kept_bits;
+use check_found::rtl_scan::temporaries;
 use rtl_flat::design::Design;
 use rtl_flat::expr::SigId;
 use rtl_flat::signal::Kind;
-use rtl_scan::temporaries;
 use rtl_tree::memory::Memory;
 use std::alloc::Global;
 

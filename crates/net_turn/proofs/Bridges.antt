@@ -16,9 +16,9 @@ use Rattle.rtl_flat.proofs.Paths.{decided}
 use Rattle.event_model.specs.Queue.{doing_of, flat, is_input, is_input_kind, is_input_of, widths}
 use Rattle.net_model.specs.Control.{Here, IsBehind, Next, whole_of}
 use Rattle.rtl_rule.specs.Parts.{parts}
-use Rattle.check_clocks.specs.Clocks.{ComesFrom, GoesTo, Itself, Through}
+use Rattle.net_list.specs.check_clocks.Clocks.{ComesFrom, GoesTo, Itself, Through}
 use Rattle.net_list.specs.Faults as faults
-use Rattle.net_solve.specs.Laws.{AreApart}
+use Rattle.net_settle.specs.net_solve.Laws.{AreApart}
 
 pub apart : (design : Design) → faults.AreApart (parts design) → AreApart (flat design)
 apart design none_twice p q i k may may' =

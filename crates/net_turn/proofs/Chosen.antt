@@ -13,7 +13,7 @@ use Rattle.net_model.specs.Block.{block_bit}
 use Rattle.net_model.specs.Control.{IsBehind}
 use Rattle.net_model.specs.Cycle.{Chain, Guard, level, reset_bit, strongest}
 use Rattle.net_model.specs.Numbers.{bit}
-use Rattle.check_chains.specs.Views.{chain_view}
+use Rattle.net_list.specs.check_chains.Views.{chain_view}
 use Rattle.net_list.specs.declared.clocked.Clocked.{Clocked}
 use Rattle.net_turn.specs.Runs.{IsPartOf, active_of, body_run, numbers_of, run_bit, run_of}
 use Rattle.net_turn.specs.Sources.{AreFrom}

@@ -6,3 +6,5 @@ pub mod Turned
 pub mod Numbered
 pub mod Parted
 pub mod Sourced
+-- passed on to the crates above
+pub use Rattle.net_settle.proofs.net_cycles_proofs

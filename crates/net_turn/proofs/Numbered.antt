@@ -4,7 +4,7 @@ use Rattle.std.specs.Prelude.{◌⊎◌}
 use Rattle.std.specs.List.{cons_option, enumerate_from, filter_map, slice_get}
 use Rattle.rtl_flat.specs.Process.{Actions, Assign, Comb, Doing, Edge', Task, Watched}
 use Rattle.net_list.specs.Chosen.{number_of}
-use Rattle.net_solve.specs.Laws.{place}
+use Rattle.net_settle.specs.net_solve.Laws.{place}
 
 abbrev pub waits : ℕ → List Task → List ℕ
 waits n tasks = filter_map (λ (one : ℕ × Task). number_of one.0 one.1.does) (enumerate_from n tasks)

@@ -9,10 +9,10 @@ use Rattle.rtl_flat.specs.WellFormed.{IsBody}
 use Rattle.rtl_flat.proofs.Paths.{decided}
 use Rattle.event_model.specs.Queue.{Flat}
 use Rattle.net_model.specs.Cycle.{Chain, Guard, IsChained, opened}
-use Rattle.net_laws.proofs.Parts.{Gives, other_gives, taken_gives}
-use Rattle.chain_laws.proofs.Branches.{IsLawfulGuard, chain_lawful}
-use Rattle.chain_laws.proofs.Lists.{Each}
-use Rattle.net_body.specs.Levels.{levels_of}
+use Rattle.net_settle.proofs.net_laws_proofs.Parts.{Gives, other_gives, taken_gives}
+use Rattle.net_list.proofs.chain_laws_proofs.Branches.{IsLawfulGuard, chain_lawful}
+use Rattle.net_list.proofs.chain_laws_proofs.Lists.{Each}
+use Rattle.net_settle.specs.net_body.Levels.{levels_of}
 use Rattle.net_turn.specs.Runs.{IsPartOf}
 
 each_at : (P : Guard → Type 0) (xs : List Guard) (k : ℕ) (body : Actions) (Q : Actions → Type 0) → ((x : Guard) → P x → Q x.branch) → Each P xs → IsSomeAnd (slice_get xs k) (λ x. x.branch ≡ body) → Q body

@@ -16,21 +16,21 @@ use Rattle.rtl_flat.specs.WellFormed.{IsBody}
 use Rattle.event_model.specs.Queue.{Flat, doing_at, widths}
 use Rattle.event_model.specs.Traces.{Same}
 use Rattle.event_model.specs.Writes.{Values, put}
-use Rattle.event_laws.specs.Steady.{AreLawful}
-use Rattle.event_laws.proofs.Lengths.{put_at, put_other}
-use Rattle.event_runs.proofs.Writers.{of_process}
-use Rattle.event_laws.proofs.Within as within
+use Rattle.net_settle.specs.event_laws.Steady.{AreLawful}
+use Rattle.net_settle.proofs.event_laws_proofs.Lengths.{put_at, put_other}
+use Rattle.net_settle.proofs.event_runs_proofs.Writers.{of_process}
+use Rattle.net_settle.proofs.event_laws_proofs.Within as within
 use Rattle.net_model.specs.declared.fill.Fill.{Fill}
 use Rattle.net_model.specs.Numbers.{AreNumbers, bit}
-use Rattle.net_laws.proofs.Known.{Known, KnownBit, known_at, known_each}
-use Rattle.net_laws.proofs.Laws.{block_known}
-use Rattle.net_rest.proofs.Numbers.{past_ends}
-use Rattle.net_solve.specs.Laws.{AreApart}
-use Rattle.net_solve.proofs.Same.{its_target}
+use Rattle.net_settle.proofs.net_laws_proofs.Known.{Known, KnownBit, known_at, known_each}
+use Rattle.net_settle.proofs.net_laws_proofs.Laws.{block_known}
+use Rattle.net_settle.proofs.net_rest_proofs.Numbers.{past_ends}
+use Rattle.net_settle.specs.net_solve.Laws.{AreApart}
+use Rattle.net_settle.proofs.net_solve_proofs.Same.{its_target}
 use Rattle.net_settle.proofs.Stays.{block_stays}
-use Rattle.net_body.specs.Ends.{changed}
-use Rattle.net_body.proofs.Changed.{changed_at, xor_left, xor_taken}
-use Rattle.net_body.proofs.Ended.{changed_number}
+use Rattle.net_settle.specs.net_body.Ends.{changed}
+use Rattle.net_settle.proofs.net_body_proofs.Changed.{changed_at, xor_left, xor_taken}
+use Rattle.net_settle.proofs.net_body_proofs.Ended.{changed_number}
 use Rattle.net_turn.specs.Runs.{ArePut, AreRuns, Run, run_at, run_bit}
 
 -- ---- numbers

@@ -10,20 +10,20 @@ use Rattle.rtl_flat.specs.declared.expr.SigId.{SigId}
 use Rattle.rtl_flat.specs.Paths.{MayWrite}
 use Rattle.rtl_flat.specs.Process.{Actions, Assign, Comb, Doing, Edge', Task, Watched}
 use Rattle.event_model.specs.Queue.{doing_at, doing_of, flat, widths}
-use Rattle.event_runs.proofs.Writers.{to_process}
+use Rattle.net_settle.proofs.event_runs_proofs.Writers.{to_process}
 use Rattle.net_model.specs.Cycle.{Chain, Guard, IsChained}
 use Rattle.rtl_rule.specs.Parts.{parts}
-use Rattle.check_chains.specs.Chains.{chain_of}
-use Rattle.check_chains.specs.Views.{chain_view, guard_view}
-use Rattle.check_clocks.specs.Clocks.{ComesFrom}
-use Rattle.chain_laws.proofs.Lists.{each_all, each_from, each_more}
+use Rattle.net_list.specs.check_chains.Chains.{chain_of}
+use Rattle.net_list.specs.check_chains.Views.{chain_view, guard_view}
+use Rattle.net_list.specs.check_clocks.Clocks.{ComesFrom}
+use Rattle.net_list.proofs.chain_laws_proofs.Lists.{each_all, each_from, each_more}
 use Rattle.net_list.specs.declared.clocked.Clocked.{Clocked}
 use Rattle.net_list.specs.Chosen.{AreClocked, IsClocked, chain_in, chains_of, no_chain}
 use Rattle.net_list.specs.Faults.{AreFormed}
 use Rattle.net_list.proofs.Formed.{are_chains, task_of}
-use Rattle.net_body.specs.Levels.{levels_of}
+use Rattle.net_settle.specs.net_body.Levels.{levels_of}
 use Rattle.net_settle.proofs.Given.{input_there}
-use Rattle.net_solve.specs.Laws.{place}
+use Rattle.net_settle.specs.net_solve.Laws.{place}
 use Rattle.net_settle.proofs.Lawful.{lawful_flat}
 use Rattle.net_turn.specs.Runs.{numbers_of}
 use Rattle.net_turn.specs.Sources.{AreFrom, AreSources, CanRun, IsFrom, IsSource, processes_of}

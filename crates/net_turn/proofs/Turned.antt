@@ -17,8 +17,8 @@ use Rattle.event_model.specs.declared.setting.Setting.{Setting}
 use Rattle.event_model.specs.Queue.{Flat, doing_at, happens, is_input, widths}
 use Rattle.event_model.specs.Traces.{Same}
 use Rattle.event_model.specs.Writes.{Values, put}
-use Rattle.event_laws.specs.Steady.{AreLawful}
-use Rattle.event_runs.proofs.Writers.{to_process}
+use Rattle.net_settle.specs.event_laws.Steady.{AreLawful}
+use Rattle.net_settle.proofs.event_runs_proofs.Writers.{to_process}
 use Rattle.net_model.specs.declared.fill.Fill.{Fill}
 use Rattle.net_model.specs.Block.{block_bit}
 use Rattle.net_model.specs.Control.{IsBehind}
@@ -26,14 +26,14 @@ use Rattle.net_model.specs.Cycle as cycle
 use Rattle.net_model.specs.Cycle.{Chain, IsCycle, Turn, clocked_bit, given_after, register_bit, reset_bit, strongest}
 use Rattle.net_model.specs.Numbers.{AreNumbers, bit, fill_bit}
 use Rattle.net_model.specs.Solution.{IsSolution}
-use Rattle.check_chains.specs.Views.{chain_view}
+use Rattle.net_list.specs.check_chains.Views.{chain_view}
 use Rattle.net_list.specs.declared.clocked.Clocked.{Clocked}
-use Rattle.net_cycles.proofs.Carried.{carried}
-use Rattle.net_cycles.proofs.Cycles as cycles
+use Rattle.net_settle.proofs.net_cycles_proofs.Carried.{carried}
+use Rattle.net_settle.proofs.net_cycles_proofs.Cycles as cycles
 use Rattle.net_settle.specs.Settle.{SetsInput, setting_view}
 use Rattle.net_settle.proofs.Given.{given_numbers, given_other}
-use Rattle.net_solve.specs.Laws.{AreApart, IsBeginning, place}
-use Rattle.net_solve.proofs.Worked.{no_input_written}
+use Rattle.net_settle.specs.net_solve.Laws.{AreApart, IsBeginning, place}
+use Rattle.net_settle.proofs.net_solve_proofs.Worked.{no_input_written}
 use Rattle.net_turn.specs.Runs.{ArePut, AreRuns, Run, active_of, numbers_of, run_at, run_bit, run_from, runs_of, settings_of, turned}
 use Rattle.net_turn.specs.Sources.{AreSources, IsSource, processes_of}
 use Rattle.net_turn.proofs.Chosen.{run_gives, run_part, strongest_is}

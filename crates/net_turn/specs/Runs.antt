@@ -21,7 +21,7 @@ use Rattle.net_model.specs.Block.{block_bit}
 use Rattle.net_model.specs.Cycle as cycle
 use Rattle.net_model.specs.Cycle.{Chain, Guard, given_after, level}
 use Rattle.net_model.specs.Numbers.{bit}
-use Rattle.check_chains.specs.Views.{chain_view}
+use Rattle.net_list.specs.check_chains.Views.{chain_view}
 use Rattle.net_list.specs.declared.clocked.Clocked.{Clocked}
 use Rattle.net_settle.specs.Settle.{setting_view}
 

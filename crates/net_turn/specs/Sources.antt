@@ -12,11 +12,11 @@ use Rattle.rtl_flat.specs.WellFormed.{IsBody}
 use Rattle.event_model.specs.Queue.{Flat, doing_at, is_input, widths}
 use Rattle.net_model.specs.Control.{IsBehind}
 use Rattle.net_model.specs.Cycle.{Chain, Guard}
-use Rattle.check_chains.specs.Views.{chain_view}
+use Rattle.net_list.specs.check_chains.Views.{chain_view}
 use Rattle.net_list.specs.declared.clocked.Clocked.{Clocked}
-use Rattle.net_body.specs.declared.maps.Maps.{Maps}
-use Rattle.net_body.specs.Ready.{HasRoom}
-use Rattle.net_solve.specs.Laws.{place}
+use Rattle.net_settle.specs.net_body.declared.maps.Maps.{Maps}
+use Rattle.net_settle.specs.net_body.Ready.{HasRoom}
+use Rattle.net_settle.specs.net_solve.Laws.{place}
 use Rattle.net_settle.specs.Work.{IsAble}
 use Rattle.net_turn.specs.Runs.{IsPartOf, numbers_of}
 

@@ -9,11 +9,11 @@ ghost use Rattle.rtl_flat.specs.Value.{store};
 ghost use Rattle.event_model.specs.Queue.{happens};
 ghost use Rattle.net_model.specs.Cycle.{level};
 ghost use Rattle.net_model.specs.Numbers.{bit};
-ghost use Rattle.check_chains.specs.Views.{guard_view};
+ghost use Rattle.net_list.specs.check_chains.Views.{guard_view};
 ghost use Rattle.net_turn.specs.Runs.{active_of, branch_of, numbers_of, run_of, turned, view_of};
 
-use check_chains::chain::Guard;
 use event_model::setting::Setting;
+use net_list::check_chains::chain::Guard;
 use net_list::clocked::Clocked;
 use rtl_bits::{Bit, Edge, Vec4, edge_of};
 use rtl_flat::act::Act;

@@ -6,12 +6,12 @@ ghost use Rattle.rtl_flat.specs.declared.design.Design.{Design};
 ghost use Rattle.event_model.specs.Queue.{flat};
 ghost use Rattle.net_model.specs.Control.{IsBehind};
 ghost use Rattle.rtl_rule.specs.Parts.{parts};
-ghost use Rattle.check_clocks.specs.Clocks.{ComesFrom};
+ghost use Rattle.net_list.specs.check_clocks.Clocks.{ComesFrom};
 ghost use Rattle.net_list.specs.declared.clocked.Clocked.{Clocked};
 ghost use Rattle.net_list.specs.Chosen.{AreClocked, chains_of};
 ghost use Rattle.net_list.specs.Faults as faults;
 ghost use Rattle.net_list.specs.Faults.{AreFormed};
-ghost use Rattle.net_solve.specs.Laws.{AreApart};
+ghost use Rattle.net_settle.specs.net_solve.Laws.{AreApart};
 ghost use Rattle.net_turn.specs.Sources.{AreSources, CanRun};
 
 /// Where no bit has two drivers among those that are inferred, no two processes may write one.

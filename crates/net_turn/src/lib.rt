@@ -5,3 +5,7 @@ mod choice;
 pub mod law;
 mod take;
 pub mod turn;
+
+// Passed on to the crates above.
+pub use net_settle;
+pub use net_settle::net_body;

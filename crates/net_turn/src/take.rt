@@ -6,17 +6,17 @@ ghost use Rattle.rtl_bits.specs.Bits.{tabulate};
 ghost use Rattle.rtl_flat.specs.Value.{store};
 ghost use Rattle.event_model.specs.Queue.{flat, widths};
 ghost use Rattle.net_model.specs.Numbers.{AreNumbers};
-ghost use Rattle.net_body.specs.Ends.{changed};
-ghost use Rattle.net_solve.specs.Laws.{AreApart};
+ghost use Rattle.net_settle.specs.net_body.Ends.{changed};
+ghost use Rattle.net_settle.specs.net_solve.Laws.{AreApart};
 ghost use Rattle.net_settle.specs.Work.{IsAble};
 ghost use Rattle.net_turn.specs.Runs.{ArePut, AreRuns, run_bit, run_of, runs_of, turned};
 ghost use Rattle.net_turn.specs.Sources.{CanRun};
 
 use crate::choice::chosen;
 use event_model::setting::Setting;
-use net_body::Maps;
 use net_list::clocked::Clocked;
 use net_model::fill::Fill;
+use net_settle::net_body::Maps;
 use rtl_bits::Vec4;
 use rtl_flat::expr::SigId;
 

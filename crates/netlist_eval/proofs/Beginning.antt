@@ -12,12 +12,12 @@ use Rattle.rtl_flat.specs.Value.{store}
 use Rattle.event_model.specs.Queue.{Flat, doing_at, doing_of, flat}
 use Rattle.event_model.specs.Writes.{Values}
 use Rattle.net_model.specs.Numbers.{AreNumbers}
-use Rattle.net_list.specs.declared.clocked.Clocked.{Clocked}
-use Rattle.net_list.specs.declared.netlist.Netlist.{Netlist}
-use Rattle.net_body.specs.declared.maps.Maps.{Maps}
-use Rattle.net_body.specs.Levels.{process_levels}
-use Rattle.net_body.specs.Ready.{IsReady}
-use Rattle.net_settle.specs.Work.{IsAble}
+use Rattle.infer_regs.specs.net_list.declared.clocked.Clocked.{Clocked}
+use Rattle.infer_regs.specs.net_list.declared.netlist.Netlist.{Netlist}
+use Rattle.net_turn.specs.net_body.declared.maps.Maps.{Maps}
+use Rattle.net_turn.specs.net_body.Levels.{process_levels}
+use Rattle.net_turn.specs.net_body.Ready.{IsReady}
+use Rattle.net_turn.specs.net_settle.Work.{IsAble}
 use Rattle.net_turn.specs.Steps.{AreFilled, Begins}
 use Rattle.net_turn.proofs.Sourced.{sources}
 use Rattle.netlist_eval.specs.Netlists.{chains_in, flat_in}

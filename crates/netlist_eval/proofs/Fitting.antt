@@ -5,7 +5,7 @@ use Rattle.rtl_flat.specs.declared.signal.Kind.TheVariants.{TopInput, Net, Var}
 use Rattle.rtl_flat.specs.declared.signal.Signal.{Signal}
 use Rattle.rtl_flat.specs.Signs.{width_in}
 use Rattle.event_model.specs.Queue.{is_input_kind, is_input_of}
-use Rattle.check_clocks.specs.Tops.{is_top, is_top_kind}
+use Rattle.infer_regs.specs.check_clocks.Tops.{is_top, is_top_kind}
 
 kind_is : (kind : Kind) → is_top_kind kind ≡ is_input_kind kind
 kind_is TopInput = refl

@@ -6,3 +6,8 @@ pub mod Once
 pub mod Ordered
 pub mod Started
 pub mod Stepping
+-- passed on to the crates above
+pub use Rattle.infer_regs.proofs.check_clocks_proofs
+pub use Rattle.net_turn.proofs.net_cycles_proofs
+pub use Rattle.net_order.proofs.net_solve_proofs
+pub use Rattle.net_start.proofs as net_start_proofs

@@ -7,9 +7,9 @@ use Rattle.rtl_flat.specs.declared.design.Design.{Design}
 use Rattle.rtl_flat.specs.declared.signal.Signal.{Signal}
 use Rattle.event_model.specs.Queue.{flat, is_input_of}
 use Rattle.net_model.specs.Control.{IsControl}
-use Rattle.rtl_scan.specs.Arrows.{Among}
-use Rattle.check_clocks.specs.Tops.{AreMarkedAlso}
-use Rattle.check_clocks.proofs.Reached.{none_marked}
+use Rattle.net_start.specs.rtl_scan.Arrows.{Among}
+use Rattle.infer_regs.specs.check_clocks.Tops.{AreMarkedAlso}
+use Rattle.infer_regs.proofs.check_clocks_proofs.Reached.{none_marked}
 use Rattle.infer_regs.specs.Forms.{AreControls}
 
 pub input_below : (signals : List Signal) (c : ℕ) → is_input_of (slice_get signals c) ≡ true → c < length signals

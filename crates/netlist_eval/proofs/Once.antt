@@ -10,11 +10,11 @@ use Rattle.event_model.specs.Writes.{Values}
 use Rattle.net_model.specs.declared.fill.Fill.{Fill}
 use Rattle.net_model.specs.Cycle.{Chain, IsCycle, Setting, Step}
 use Rattle.net_model.specs.Solution.{IsSolution}
-use Rattle.net_list.specs.declared.clocked.Clocked.{Clocked}
-use Rattle.net_body.specs.declared.maps.Maps.{Maps}
-use Rattle.net_solve.specs.Laws.{AreApart}
-use Rattle.net_settle.specs.Work.{IsAble}
-use Rattle.net_settle.specs.Settle.{SetsInput}
+use Rattle.infer_regs.specs.net_list.declared.clocked.Clocked.{Clocked}
+use Rattle.net_turn.specs.net_body.declared.maps.Maps.{Maps}
+use Rattle.net_order.specs.net_solve.Laws.{AreApart}
+use Rattle.net_turn.specs.net_settle.Work.{IsAble}
+use Rattle.net_turn.specs.net_settle.Settle.{SetsInput}
 use Rattle.net_turn.specs.Sources.{CanRun}
 use Rattle.netlist_eval.specs.Steps.{Starts}
 

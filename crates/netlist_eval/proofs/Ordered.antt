@@ -10,8 +10,8 @@ use Rattle.rtl_flat.specs.Levels.{Chain, HasNoEdge, Here, IsNode, Then}
 use Rattle.rtl_flat.specs.Process.{Assign, Comb, Edge', Doing, Task}
 use Rattle.event_model.specs.Queue.{Flat}
 use Rattle.net_order.specs.Order.{IsCyclic}
-use Rattle.net_solve.specs.Feeds.{IsFeed}
-use Rattle.net_solve.specs.Laws.{IsOrder, place}
+use Rattle.net_order.specs.net_solve.Feeds.{IsFeed}
+use Rattle.net_order.specs.net_solve.Laws.{IsOrder, place}
 
 no_edge_one : (does : Doing) → IsProp (HasNoEdge does)
 no_edge_one (Assign target value) = hlevel props

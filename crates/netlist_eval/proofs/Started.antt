@@ -21,7 +21,7 @@ use Rattle.net_start.proofs.Started.{place_of}
 use Rattle.net_turn.specs.Steps as turns
 use Rattle.net_turn.specs.Steps.{AreFilled}
 use Rattle.netlist_eval.specs.Steps.{Starts}
-use Rattle.rtl_scan.specs.Arrows.{Among}
+use Rattle.net_start.specs.rtl_scan.Arrows.{Among}
 
 -- ---- a bit that is kept is written
 

@@ -15,11 +15,11 @@ use Rattle.net_model.specs.Control.{IsControl}
 use Rattle.net_model.specs.Cycle as cycle
 use Rattle.net_model.specs.Cycle.{Chain, IsCycle, Setting}
 use Rattle.net_model.specs.Lawful.{IsLawfulStep, SetsData}
-use Rattle.net_list.specs.declared.netlist.Netlist.{Netlist}
-use Rattle.net_body.specs.declared.maps.Maps.{Maps}
-use Rattle.net_solve.specs.Laws.{AreApart, IsOrder}
-use Rattle.net_settle.specs.Work.{IsAble, numbers_of}
-use Rattle.net_settle.specs.Settle.{IsSolved, MakesCycle, SetsInput}
+use Rattle.infer_regs.specs.net_list.declared.netlist.Netlist.{Netlist}
+use Rattle.net_turn.specs.net_body.declared.maps.Maps.{Maps}
+use Rattle.net_order.specs.net_solve.Laws.{AreApart, IsOrder}
+use Rattle.net_turn.specs.net_settle.Work.{IsAble, numbers_of}
+use Rattle.net_turn.specs.net_settle.Settle.{IsSolved, MakesCycle, SetsInput}
 use Rattle.net_turn.proofs.Bridges.{apart}
 use Rattle.net_turn.proofs.Sourced.{can_run, sources}
 use Rattle.net_turn.specs.Sources.{CanRun}

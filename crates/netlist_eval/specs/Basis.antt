@@ -3,10 +3,10 @@
 use Rattle.std.specs.Prelude.{◌≡◌, ◌↔◌, ◌≤◌, ℕ, false, true, length, slice_index_or}
 use Rattle.event_model.specs.Queue.{Flat}
 use Rattle.net_model.specs.Control.{IsControl}
-use Rattle.net_solve.specs.Laws.{IsOrder}
-use Rattle.rtl_scan.specs.Sets.{has}
+use Rattle.net_order.specs.net_solve.Laws.{IsOrder}
+use Rattle.net_start.specs.rtl_scan.Sets.{has}
 use Rattle.net_start.specs.Stored.{AreInputs, AreStored, is_kept, places}
-use Rattle.net_settle.specs.Work.{numbers_of}
+use Rattle.net_turn.specs.net_settle.Work.{numbers_of}
 use Rattle.netlist_eval.specs.declared.basis.Basis.{Basis}
 use Rattle.netlist_eval.specs.Steps.{HasNoCycle}
 

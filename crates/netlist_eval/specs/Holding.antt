@@ -6,11 +6,11 @@ use Rattle.rtl_flat.specs.declared.act.ProcId.{ProcId}
 use Rattle.rtl_flat.specs.Value.{store}
 use Rattle.event_model.specs.Queue.{flat}
 use Rattle.net_model.specs.Control.{IsControl}
-use Rattle.net_list.specs.declared.netlist.Netlist.{Netlist}
-use Rattle.net_solve.specs.Laws.{IsOrder}
-use Rattle.net_body.specs.declared.maps.Maps.{Maps}
-use Rattle.net_settle.specs.Work.{IsAble, numbers_of}
-use Rattle.net_settle.specs.Settle.{IsSolved}
+use Rattle.infer_regs.specs.net_list.declared.netlist.Netlist.{Netlist}
+use Rattle.net_order.specs.net_solve.Laws.{IsOrder}
+use Rattle.net_turn.specs.net_body.declared.maps.Maps.{Maps}
+use Rattle.net_turn.specs.net_settle.Work.{IsAble, numbers_of}
+use Rattle.net_turn.specs.net_settle.Settle.{IsSolved}
 use Rattle.netlist_eval.specs.Netlists.{flat_in}
 
 -- numbers that solve the equations of the netlist's design, an order of its processes, which of its inputs

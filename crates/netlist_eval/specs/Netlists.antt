@@ -4,8 +4,8 @@ use Rattle.std.specs.Prelude.{ℕ}
 use Rattle.rtl_rule.specs.Parts.{parts}
 use Rattle.event_model.specs.Queue.{Flat, flat}
 use Rattle.net_model.specs.Cycle.{Chain}
-use Rattle.net_list.specs.declared.netlist.Netlist.{Netlist}
-use Rattle.net_list.specs.Chosen.{chains_of}
+use Rattle.infer_regs.specs.net_list.declared.netlist.Netlist.{Netlist}
+use Rattle.infer_regs.specs.net_list.Chosen.{chains_of}
 
 -- its signals and processes
 abbrev pub flat_in : Netlist → Flat

@@ -3,7 +3,7 @@
 use Rattle.rtl_flat.specs.Value.{store}
 use Rattle.event_model.specs.Queue.{Flat}
 use Rattle.event_model.specs.Writes.{Values}
-use Rattle.net_list.specs.declared.netlist.Netlist.{Netlist}
+use Rattle.infer_regs.specs.net_list.declared.netlist.Netlist.{Netlist}
 use Rattle.netlist_eval.specs.declared.sim.NetSim.{NetSim}
 use Rattle.netlist_eval.specs.Netlists.{flat_in}
 

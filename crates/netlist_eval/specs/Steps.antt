@@ -17,7 +17,7 @@ use Rattle.net_model.specs.Lawful.{IsLawfulStep}
 use Rattle.net_model.specs.Numbers.{bit}
 use Rattle.net_model.specs.Solution.{IsLasting, IsSolution}
 use Rattle.net_order.specs.Order.{IsCyclic, IsLeastCyclic}
-use Rattle.net_settle.specs.Settle.{setting_view}
+use Rattle.net_turn.specs.net_settle.Settle.{setting_view}
 use Rattle.net_start.specs.Start.{IsFirstUnknown, IsStart}
 use Rattle.net_start.specs.Stored.{AreInputs, AreStored}
 use Rattle.netlist_eval.specs.declared.fault.NetFault.{NetFault}

@@ -3,21 +3,21 @@
 ghost use Rattle.std.specs.Prelude.{ℕ, ◌≡◌, ◌↔◌, false, true, slice_index_or, IfErr, IfOk};
 ghost use Rattle.event_model.specs.Queue.{flat};
 ghost use Rattle.net_model.specs.Control.{IsControl};
-ghost use Rattle.net_solve.specs.Laws.{IsOrder};
-ghost use Rattle.net_settle.specs.Work.{numbers_of};
+ghost use Rattle.net_order.specs.net_solve.Laws.{IsOrder};
+ghost use Rattle.net_turn.specs.net_settle.Work.{numbers_of};
 ghost use Rattle.net_start.specs.Stored.{places};
 ghost use Rattle.netlist_eval.specs.Steps.{HasNoCycle, IsOrderFault};
 
 use crate::fault::NetFault;
-use check_clocks::tops::mark_all;
+use infer_regs::check_clocks::tops::mark_all;
 use infer_regs::controls;
 use net_order::order::{Ranking, order};
 use net_start::kept::kept_bits;
+use net_start::rtl_scan::bits::BitSet;
 use net_start::stored::{stored, top_inputs};
 use rtl_flat::act::ProcId;
 use rtl_flat::design::Design;
 use rtl_flat::expr::SigId;
-use rtl_scan::bits::BitSet;
 use rtl_tree::memory::Memory;
 use std::alloc::Global;
 

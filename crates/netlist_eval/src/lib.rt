@@ -5,3 +5,8 @@ pub mod basis;
 pub mod fault;
 pub mod sim;
 pub mod step;
+
+// Passed on to the crates above.
+pub use infer_regs;
+pub use infer_regs::check_clocks;
+pub use net_start;

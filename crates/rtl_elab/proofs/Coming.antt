@@ -2,17 +2,17 @@
 use Rattle.std.specs.Prelude.{ℕ, ◌≡◌, List, Option, None, Some, Ok}
 use Rattle.std.proofs.Common.{◌∙◌, ap, refl, sym}
 use Rattle.rtl_tree.specs.TreeModule.{Circuit}
-use Rattle.elab_scope.specs.Faults.{Answer}
-use Rattle.elab_links.specs.declared.module_set.Lookup.{Lookup}
-use Rattle.elab_links.specs.declared.module_set.Lookup.TheVariants.{Missing, Found, Twice}
-use Rattle.elab_links.specs.declared.module_set.Place.{Place}
-use Rattle.elab_links.specs.Modules.{circuit_at}
-use Rattle.elab_walk.specs.Refusals.{refusal}
-use Rattle.elab_walk.specs.Rooms.{whole_room}
-use Rattle.elab_walk.specs.Placements.{placements}
-use Rattle.elab_walk.specs.Visits.{Library, Visit, all_visits, top_visit}
-use Rattle.elab_walk.proofs.Ending.{all_come_to}
-use Rattle.elab_flat.specs.Flats.{DesignParts, flat_of}
+use Rattle.elab_lawful.specs.elab_scope.Faults.{Answer}
+use Rattle.elab_lawful.specs.elab_links.declared.module_set.Lookup.{Lookup}
+use Rattle.elab_lawful.specs.elab_links.declared.module_set.Lookup.TheVariants.{Missing, Found, Twice}
+use Rattle.elab_lawful.specs.elab_links.declared.module_set.Place.{Place}
+use Rattle.elab_lawful.specs.elab_links.Modules.{circuit_at}
+use Rattle.elab_lawful.specs.elab_walk.Refusals.{refusal}
+use Rattle.elab_lawful.specs.elab_walk.Rooms.{whole_room}
+use Rattle.elab_lawful.specs.elab_walk.Placements.{placements}
+use Rattle.elab_lawful.specs.elab_walk.Visits.{Library, Visit, all_visits, top_visit}
+use Rattle.elab_lawful.proofs.elab_walk_proofs.Ending.{all_come_to}
+use Rattle.elab_lawful.specs.elab_flat.Flats.{DesignParts, flat_of}
 use Rattle.rtl_elab.specs.Elaborated.{decided, elaborated, elaborated_at, elaborated_found, refused, visited, visited_found, visited_from}
 
 -- ---- what is told

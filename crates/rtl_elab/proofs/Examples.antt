@@ -7,9 +7,9 @@ use Rattle.rtl_tree.specs.TreeExpr.{Identifier, Read}
 use Rattle.rtl_tree.specs.TreeStmt.{Whole}
 use Rattle.rtl_tree.specs.TreeItem.{ModuleItem, Drives}
 use Rattle.rtl_tree.specs.TreeModule.{Circuit, HeaderPort, Declared}
-use Rattle.elab_scope.specs.Faults.{ModuleTwice, Named, NoSuchModule}
-use Rattle.elab_links.specs.Modules.{all_placed, found}
-use Rattle.elab_walk.specs.Visits.{Library}
+use Rattle.elab_lawful.specs.elab_scope.Faults.{ModuleTwice, Named, NoSuchModule}
+use Rattle.elab_lawful.specs.elab_links.Modules.{all_placed, found}
+use Rattle.elab_lawful.specs.elab_walk.Visits.{Library}
 use Rattle.rtl_elab.specs.Elaborated.{elaborated}
 
 abbrev named : ℕ → ℕ → Identifier

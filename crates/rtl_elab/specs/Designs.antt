@@ -4,9 +4,9 @@ use Rattle.std.specs.Prelude.{List, map}
 use Rattle.rtl_tree.specs.TreeModule.{Circuit}
 use Rattle.rtl_flat.specs.declared.design.Design.{Design}
 use Rattle.rtl_flat.specs.Process.{task}
-use Rattle.elab_links.specs.Modules.{all_placed, found}
-use Rattle.elab_walk.specs.Visits.{Library}
-use Rattle.elab_flat.specs.Flats.{DesignParts}
+use Rattle.elab_lawful.specs.elab_links.Modules.{all_placed, found}
+use Rattle.elab_lawful.specs.elab_walk.Visits.{Library}
+use Rattle.elab_lawful.specs.elab_flat.Flats.{DesignParts}
 
 -- the modules of files, and which of them a name means
 abbrev pub library_of : List (List Circuit) → Library

@@ -2,16 +2,16 @@
 -- Worked examples: proofs/Examples.antt, crates/tests_elab/src/refusals.rt.
 use Rattle.std.specs.Prelude.{ℕ, List, [], Option, None, Some, Result, Ok, Err}
 use Rattle.rtl_tree.specs.TreeModule.{Circuit}
-use Rattle.elab_scope.specs.Faults.{Answer, ModuleTwice, Named, NoSuchModule}
-use Rattle.elab_links.specs.declared.module_set.Lookup.{Lookup}
-use Rattle.elab_links.specs.declared.module_set.Lookup.TheVariants.{Missing, Found, Twice}
-use Rattle.elab_links.specs.declared.module_set.Place.{Place}
-use Rattle.elab_links.specs.Modules.{circuit_at}
-use Rattle.elab_walk.specs.Refusals.{come_to, refusal}
-use Rattle.elab_walk.specs.Rooms.{whole_room}
-use Rattle.elab_walk.specs.Placements.{placements}
-use Rattle.elab_walk.specs.Visits.{Library, Visit, all_visits, top_visit}
-use Rattle.elab_flat.specs.Flats.{DesignParts, flat_of}
+use Rattle.elab_lawful.specs.elab_scope.Faults.{Answer, ModuleTwice, Named, NoSuchModule}
+use Rattle.elab_lawful.specs.elab_links.declared.module_set.Lookup.{Lookup}
+use Rattle.elab_lawful.specs.elab_links.declared.module_set.Lookup.TheVariants.{Missing, Found, Twice}
+use Rattle.elab_lawful.specs.elab_links.declared.module_set.Place.{Place}
+use Rattle.elab_lawful.specs.elab_links.Modules.{circuit_at}
+use Rattle.elab_lawful.specs.elab_walk.Refusals.{come_to, refusal}
+use Rattle.elab_lawful.specs.elab_walk.Rooms.{whole_room}
+use Rattle.elab_lawful.specs.elab_walk.Placements.{placements}
+use Rattle.elab_lawful.specs.elab_walk.Visits.{Library, Visit, all_visits, top_visit}
+use Rattle.elab_lawful.specs.elab_flat.Flats.{DesignParts, flat_of}
 
 abbrev pub decided : Option Answer → DesignParts → Result DesignParts Answer
 decided None flat = Ok flat

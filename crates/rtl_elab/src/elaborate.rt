@@ -2,18 +2,18 @@
 
 ghost use Rattle.std.specs.Prelude.{◌≡◌, [], IfErr, IfOk, Some, map};
 ghost use Rattle.std.specs.Option.{option_map};
-ghost use Rattle.elab_scope.specs.Faults.{answer};
+ghost use Rattle.elab_lawful.specs.elab_scope.Faults.{answer};
 ghost use Rattle.rtl_elab.specs.Elaborated.{elaborated, refused, visited};
-ghost use Rattle.elab_flat.specs.Views.{flat};
-ghost use Rattle.elab_walk.specs.Placements.{placements};
-ghost use Rattle.elab_walk.specs.Trails.{IsTold, placement};
-ghost use Rattle.elab_walk.specs.Visits.{library};
+ghost use Rattle.elab_lawful.specs.elab_flat.Views.{flat};
+ghost use Rattle.elab_lawful.specs.elab_walk.Placements.{placements};
+ghost use Rattle.elab_lawful.specs.elab_walk.Trails.{IsTold, placement};
+ghost use Rattle.elab_lawful.specs.elab_walk.Visits.{library};
 
-use elab_flat::flat::{DesignParts, flat_of};
-use elab_links::module_set::{Lookup, module_at};
-use elab_scope::fault::ElabFault;
-use elab_walk::library::Library;
-use elab_walk::top::{Walked, top_visit, walk};
+use elab_lawful::elab_flat::flat::{DesignParts, flat_of};
+use elab_lawful::elab_links::module_set::{Lookup, module_at};
+use elab_lawful::elab_scope::fault::ElabFault;
+use elab_lawful::elab_walk::library::Library;
+use elab_lawful::elab_walk::top::{Walked, top_visit, walk};
 use rtl_tree::memory::Memory;
 use rtl_tree::text::Text;
 use std::alloc::Global;

@@ -3,3 +3,6 @@
 
 pub mod elaborate;
 pub mod whole;
+
+// Passed on to the crates above.
+pub use elab_lawful::{elab_flat, elab_links, elab_scope, elab_walk};

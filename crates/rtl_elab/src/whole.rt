@@ -1,21 +1,21 @@
 //! The design of a top module, and that it is lawful.
 
 ghost use Rattle.std.specs.Prelude.{◌≡◌, ◌+◌, IfErr, IfOk, Ok};
-ghost use Rattle.elab_scope.specs.Faults.{answer};
-ghost use Rattle.elab_flat.specs.Views.{flat};
-ghost use Rattle.elab_links.specs.Modules.{all_placed, circuits_of, found, lookups_of};
-ghost use Rattle.elab_walk.specs.Trails.{IsTold};
-ghost use Rattle.elab_walk.specs.Visits.{library};
+ghost use Rattle.elab_lawful.specs.elab_scope.Faults.{answer};
+ghost use Rattle.elab_lawful.specs.elab_flat.Views.{flat};
+ghost use Rattle.elab_lawful.specs.elab_links.Modules.{all_placed, circuits_of, found, lookups_of};
+ghost use Rattle.elab_lawful.specs.elab_walk.Trails.{IsTold};
+ghost use Rattle.elab_lawful.specs.elab_walk.Visits.{library};
 ghost use Rattle.elab_lawful.specs.Laws.{IsLawful};
 ghost use Rattle.rtl_elab.specs.Designs.{flat_in, library_of};
 ghost use Rattle.rtl_elab.specs.Elaborated.{elaborated, refused};
 
 use crate::elaborate::flat_design;
-use elab_flat::flat::DesignParts;
-use elab_flat::works::Works;
-use elab_links::module_set::ModuleSet;
-use elab_scope::fault::ElabFault;
-use elab_walk::library::Library;
+use elab_lawful::elab_flat::flat::DesignParts;
+use elab_lawful::elab_flat::works::Works;
+use elab_lawful::elab_links::module_set::ModuleSet;
+use elab_lawful::elab_scope::fault::ElabFault;
+use elab_lawful::elab_walk::library::Library;
 use rtl_flat::design::Design;
 use rtl_tree::text::Text;
 use rtl_tree::tree::modules::Module;

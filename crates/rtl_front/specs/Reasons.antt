@@ -1,6 +1,6 @@
 -- It serves laws and proofs; no answer of the program is stated by it.
 -- What the fault of a file tells.
--- Worked examples: crates/tests_lines/src/refusal_lines.rt.
+-- Worked examples: crates/tests_rows/stdin.
 use Rattle.std.specs.Prelude.{Option, Some, None}
 use Rattle.rtl_text.specs.declared.fault.LexFault.{LexFault}
 use Rattle.rtl_prep.specs.declared.fault.PrepFault.{PrepFault}

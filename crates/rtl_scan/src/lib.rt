@@ -20,3 +20,6 @@ mod values;
 pub use feeds::levels;
 pub use sets::{lists, reads, selected, sure, writes};
 pub use usages::temporaries;
+
+// Passed on to the crates above.
+pub use rtl_expr;

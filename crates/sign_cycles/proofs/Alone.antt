@@ -10,17 +10,17 @@ use Rattle.rtl_flat.specs.Paths.{MayWrite}
 use Rattle.rtl_flat.specs.Process.{Watched, Actions, Assign, Edge'}
 use Rattle.event_model.specs.Queue.{Flat, doing_at, happens, widths}
 use Rattle.event_model.specs.Writes.{Values, driven, no_drive}
-use Rattle.event_laws.proofs.Lengths.{put_at}
+use Rattle.event_edges.proofs.event_laws_proofs.Lengths.{put_at}
 use Rattle.net_model.specs.declared.fill.Fill.{Fill}
 use Rattle.net_model.specs.Block.{block_bit}
 use Rattle.net_model.specs.Control.{IsControl, IsPassedOn, IsReached, Itself, Through, whole_of}
 use Rattle.net_model.specs.Cycle.{Chain, Data, Guard, IsCycle, Step, Turn, clocked_bit, item_bit, register_bit, reset_bit, settings, stepped_bit, strongest}
 use Rattle.net_model.specs.Numbers.{AreNumbers, bit, digits}
 use Rattle.net_model.specs.Solution.{IsLasting, IsSolution}
-use Rattle.net_laws.proofs.Laws.{tame_depends}
-use Rattle.net_rest.specs.Rest.{AreGivenAlike}
-use Rattle.net_rest.proofs.Levels.{read_lasts}
-use Rattle.net_rest.proofs.Laws.{alone}
+use Rattle.sign_rounds.proofs.net_laws_proofs.Laws.{tame_depends}
+use Rattle.sign_rounds.specs.net_rest.Rest.{AreGivenAlike}
+use Rattle.sign_rounds.proofs.net_rest_proofs.Levels.{read_lasts}
+use Rattle.sign_rounds.proofs.net_rest_proofs.Laws.{alone}
 use Rattle.sign_rounds.proofs.Settled.{input_lasts}
 use Rattle.event_edges.specs.Synchronous.{IsItem, IsSynchronous}
 use Rattle.event_edges.proofs.Cone.{connection_does, item_control, whole_bit}

@@ -11,21 +11,21 @@ use Rattle.rtl_bits.specs.Bits.{has_unknown}
 use Rattle.rtl_flat.specs.Process.{Watched, Actions, Edge'}
 use Rattle.event_model.specs.Queue.{Flat, State, IsAtRest, doing_at, offer, power_up, run, widths}
 use Rattle.event_model.specs.Writes.{Values, put}
-use Rattle.event_laws.proofs.Lengths.{put_at, put_other}
+use Rattle.event_edges.proofs.event_laws_proofs.Lengths.{put_at, put_other}
 use Rattle.net_model.specs.declared.fill.Fill.{Fill}
 use Rattle.net_model.specs.Block.{block_bit}
 use Rattle.net_model.specs.Cycle.{Chain, Guard, Setting, given_after, level}
 use Rattle.net_model.specs.Numbers.{AreNumbers, bit}
 use Rattle.net_model.specs.Solution.{IsRegisterBit}
-use Rattle.event_runs.specs.Nets.{AreDriven, AreOffered, AreResolved, given_with}
-use Rattle.event_runs.specs.Writers.{IsOrderly}
-use Rattle.event_runs.proofs.Inputs.{offer_is, offered_offer, offered_run, orderly_offer}
-use Rattle.event_runs.proofs.Late.{orderly_power_up, orderly_run}
-use Rattle.event_runs.proofs.Nets.{driven_from, resolved_power_up, resolved_run}
-use Rattle.net_laws.proofs.Laws.{block_known}
-use Rattle.net_rest.specs.Rest.{numbers_of}
-use Rattle.net_rest.proofs.Numbers.{are_numbers}
-use Rattle.net_rest.proofs.Rest.{register_inside}
+use Rattle.event_edges.specs.event_runs.Nets.{AreDriven, AreOffered, AreResolved, given_with}
+use Rattle.event_edges.specs.event_runs.Writers.{IsOrderly}
+use Rattle.event_edges.proofs.event_runs_proofs.Inputs.{offer_is, offered_offer, offered_run, orderly_offer}
+use Rattle.event_edges.proofs.event_runs_proofs.Late.{orderly_power_up, orderly_run}
+use Rattle.event_edges.proofs.event_runs_proofs.Nets.{driven_from, resolved_power_up, resolved_run}
+use Rattle.sign_rounds.proofs.net_laws_proofs.Laws.{block_known}
+use Rattle.sign_rounds.specs.net_rest.Rest.{numbers_of}
+use Rattle.sign_rounds.proofs.net_rest_proofs.Numbers.{are_numbers}
+use Rattle.sign_rounds.proofs.net_rest_proofs.Rest.{register_inside}
 use Rattle.sign_rounds.specs.BringUp.{AreRounds, CanAllWake, after_rounds}
 use Rattle.sign_rounds.specs.BringUp as up
 use Rattle.sign_rounds.specs.Round.{AreSettings, IsSettled, Round}

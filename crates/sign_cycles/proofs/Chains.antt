@@ -24,8 +24,8 @@ use Rattle.net_model.specs.Block.{Maps, acts, begun, bit_after, block_bit}
 use Rattle.net_model.specs.Cycle.{Guard, IsChained, Tests, clocked_bit, is_active, item_bit, level, opened, reset_bit, strongest}
 use Rattle.net_model.specs.Numbers.{AreNumbers, bit, digits}
 use Rattle.net_model.specs.Solution.{IsLasting}
-use Rattle.net_laws.specs.Tame.{AreExclusive, AreSplit, AreTame}
-use Rattle.net_laws.proofs.Laws.{tame_depends}
+use Rattle.sign_rounds.specs.net_laws.Tame.{AreExclusive, AreSplit, AreTame}
+use Rattle.sign_rounds.proofs.net_laws_proofs.Laws.{tame_depends}
 use Rattle.sign_cycles.specs.Formed.{IsConstant}
 
 -- a body whose run from numbers is as synthesis takes it

@@ -18,15 +18,15 @@ use Rattle.rtl_flat.specs.Sizes.{width_of}
 use Rattle.rtl_flat.specs.WellFormed.{IsAssignment, IsProcess, IsSelection, IsWatched, has_edge}
 use Rattle.rtl_flat.proofs.Paths.{decided}
 use Rattle.event_model.specs.Queue.{doing_at, is_input, widths}
-use Rattle.event_laws.specs.Steady.{AreLawful}
-use Rattle.event_laws.proofs.Laws.{outside_inside}
-use Rattle.event_laws.proofs.Within.{may_read_outside}
+use Rattle.event_edges.specs.event_laws.Steady.{AreLawful}
+use Rattle.event_edges.proofs.event_laws_proofs.Laws.{outside_inside}
+use Rattle.event_edges.proofs.event_laws_proofs.Within.{may_read_outside}
 use Rattle.net_model.specs.declared.fill.Fill.{Fill}
 use Rattle.net_model.specs.Control.{InCone, IsFromTop, Itself, waits_for}
 use Rattle.net_model.specs.Cycle.{Guard}
 use Rattle.net_model.specs.Solution.{IsLasting, IsRegisterBit}
-use Rattle.net_laws.specs.Tame.{AreTame, HasFirmIndex, IsFirm}
-use Rattle.net_rest.specs.Rest.{IsComputed, IsSolvable}
+use Rattle.sign_rounds.specs.net_laws.Tame.{AreTame, HasFirmIndex, IsFirm}
+use Rattle.sign_rounds.specs.net_rest.Rest.{IsComputed, IsSolvable}
 use Rattle.event_edges.specs.Synchronous.{IsItem, IsSynchronous, MayHear}
 use Rattle.event_edges.proofs.Hearing.{find}
 use Rattle.sign_cycles.specs.Agree.{Agree}

@@ -11,22 +11,22 @@ use Rattle.rtl_flat.specs.Process.{Edge'}
 use Rattle.event_model.specs.Queue.{Flat, State, IsAtRest, is_body, is_input, offer, run}
 use Rattle.event_model.specs.Traces.{Same}
 use Rattle.event_model.specs.Writes.{Values, put}
-use Rattle.event_laws.proofs.Lengths.{put_other}
+use Rattle.event_edges.proofs.event_laws_proofs.Lengths.{put_other}
 use Rattle.net_model.specs.declared.fill.Fill.{Fill}
 use Rattle.net_model.specs.Control.{InCone}
 use Rattle.net_model.specs.Cycle.{Chain, Setting, given_after}
 use Rattle.net_model.specs.Lawful.{SetsData}
 use Rattle.net_model.specs.Numbers.{bit}
 use Rattle.net_model.specs.Solution.{IsRegisterBit}
-use Rattle.event_runs.specs.Nets.{AreWide, given_with}
-use Rattle.event_runs.specs.Writers.{IsOrderly}
-use Rattle.event_runs.proofs.Inputs.{offer_is, orderly_offer}
-use Rattle.event_runs.proofs.Signals.{body_variable, variable_input}
-use Rattle.event_runs.proofs.Writers.{to_process}
-use Rattle.net_rest.specs.Rest.{AreGiven, IsSolvable, numbers_of}
-use Rattle.net_laws.proofs.Known.{known_at}
-use Rattle.net_rest.proofs.Numbers.{past_ends}
-use Rattle.net_rest.proofs.Rest.{register_inside}
+use Rattle.event_edges.specs.event_runs.Nets.{AreWide, given_with}
+use Rattle.event_edges.specs.event_runs.Writers.{IsOrderly}
+use Rattle.event_edges.proofs.event_runs_proofs.Inputs.{offer_is, orderly_offer}
+use Rattle.event_edges.proofs.event_runs_proofs.Signals.{body_variable, variable_input}
+use Rattle.event_edges.proofs.event_runs_proofs.Writers.{to_process}
+use Rattle.sign_rounds.specs.net_rest.Rest.{AreGiven, IsSolvable, numbers_of}
+use Rattle.sign_rounds.proofs.net_laws_proofs.Known.{known_at}
+use Rattle.sign_rounds.proofs.net_rest_proofs.Numbers.{past_ends}
+use Rattle.sign_rounds.proofs.net_rest_proofs.Rest.{register_inside}
 use Rattle.sign_rounds.specs.Round.{AreSettings, IsArrived, IsFollowed, IsSettled}
 use Rattle.sign_rounds.proofs.Followed as followed
 use Rattle.sign_rounds.proofs.Settled.{arrive}

@@ -21,9 +21,9 @@ use Rattle.event_model.specs.Bodies.{Made, Now, Later, body_made}
 use Rattle.event_model.specs.Queue.{Flat, State, IsAtRest, Reaches, doing_at, happens, offer, widths}
 use Rattle.event_model.specs.Traces.{FollowsPath, Same, covers, makes_now}
 use Rattle.event_model.specs.Writes.{Values, Write, driven}
-use Rattle.event_laws.specs.Steady.{HaveWidths}
-use Rattle.event_laws.specs.Laws.{RunAlike, after_body}
-use Rattle.event_laws.proofs.Laws.{depends, made_out, may_now, writes_variables}
+use Rattle.event_edges.specs.event_laws.Steady.{HaveWidths}
+use Rattle.event_edges.specs.event_laws.Laws.{RunAlike, after_body}
+use Rattle.event_edges.proofs.event_laws_proofs.Laws.{depends, made_out, may_now, writes_variables}
 use Rattle.net_model.specs.declared.fill.Fill.{Fill}
 use Rattle.net_model.specs.Block.{block_bit}
 use Rattle.net_model.specs.Control.{InCone, IsControl, IsReached, Itself, Through, waits_for}
@@ -31,17 +31,17 @@ use Rattle.net_model.specs.Cycle.{Chain, Guard, IsChain, IsCycle, Setting, Turn,
 use Rattle.net_model.specs.Lawful.{TurnsControl}
 use Rattle.net_model.specs.Numbers.{AreNumbers, bit}
 use Rattle.net_model.specs.Solution.{IsLasting, IsRegisterBit}
-use Rattle.event_runs.specs.Effects.{laters}
-use Rattle.event_runs.specs.Nets.{given_with}
-use Rattle.event_runs.proofs.Nets.{resolved_from}
-use Rattle.net_laws.specs.Laws.{last_written, late_writes}
-use Rattle.net_laws.proofs.Known.{known_at}
-use Rattle.net_laws.proofs.Late.{last_append}
-use Rattle.net_laws.proofs.Laws.{late_is, tame_depends, whole_path, block_known}
-use Rattle.net_rest.specs.Rest.{AreGiven, numbers_of}
-use Rattle.net_rest.proofs.Levels.{read_lasts}
-use Rattle.net_rest.proofs.Numbers.{are_numbers, has_source, number_same, past_ends}
-use Rattle.net_rest.proofs.Rest.{register_inside}
+use Rattle.event_edges.specs.event_runs.Effects.{laters}
+use Rattle.event_edges.specs.event_runs.Nets.{given_with}
+use Rattle.event_edges.proofs.event_runs_proofs.Nets.{resolved_from}
+use Rattle.sign_rounds.specs.net_laws.Laws.{last_written, late_writes}
+use Rattle.sign_rounds.proofs.net_laws_proofs.Known.{known_at}
+use Rattle.sign_rounds.proofs.net_laws_proofs.Late.{last_append}
+use Rattle.sign_rounds.proofs.net_laws_proofs.Laws.{late_is, tame_depends, whole_path, block_known}
+use Rattle.sign_rounds.specs.net_rest.Rest.{AreGiven, numbers_of}
+use Rattle.sign_rounds.proofs.net_rest_proofs.Levels.{read_lasts}
+use Rattle.sign_rounds.proofs.net_rest_proofs.Numbers.{are_numbers, has_source, number_same, past_ends}
+use Rattle.sign_rounds.proofs.net_rest_proofs.Rest.{register_inside}
 use Rattle.sign_rounds.specs.Round.{IsArrived, IsFollowed, IsSettled}
 use Rattle.sign_rounds.proofs.Followed as followed
 use Rattle.sign_rounds.proofs.Settled.{arrive}

@@ -20,24 +20,24 @@ use Rattle.event_model.specs.Bodies.{Made, body_made}
 use Rattle.event_model.specs.Queue.{Flat, doing_at, happens, item_hears, widths}
 use Rattle.event_model.specs.Traces.{Same, makes_late, makes_now}
 use Rattle.event_model.specs.Writes.{Values}
-use Rattle.event_laws.specs.Steady.{HaveWidths}
-use Rattle.event_laws.proofs.Agreement.{value_agrees}
-use Rattle.event_laws.specs.Laws.{Makes, after_body}
-use Rattle.event_laws.proofs.Laws.{depends, may_now, sure_made, writes_variables}
-use Rattle.event_laws.proofs.Within.{reads_inside}
+use Rattle.event_edges.specs.event_laws.Steady.{HaveWidths}
+use Rattle.event_edges.proofs.event_laws_proofs.Agreement.{value_agrees}
+use Rattle.event_edges.specs.event_laws.Laws.{Makes, after_body}
+use Rattle.event_edges.proofs.event_laws_proofs.Laws.{depends, may_now, sure_made, writes_variables}
+use Rattle.event_edges.proofs.event_laws_proofs.Within.{reads_inside}
 use Rattle.net_model.specs.declared.fill.Fill.{Fill}
 use Rattle.net_model.specs.Block.{block_bit}
 use Rattle.net_model.specs.Cycle.{Chain, Guard, IsChained, Tests, level, opened}
 use Rattle.net_model.specs.Numbers.{AreNumbers, bit}
 use Rattle.net_model.specs.Solution.{IsLasting}
-use Rattle.event_runs.specs.Effects.{laters}
-use Rattle.net_laws.specs.Laws.{last_late, late_writes}
-use Rattle.net_laws.proofs.After.{made_either}
-use Rattle.net_laws.proofs.Late.{any_late, late_known, some_last}
-use Rattle.net_laws.proofs.Laws.{exact, late_is, whole_path}
-use Rattle.net_laws.proofs.Numbers.{body_known}
-use Rattle.net_rest.specs.Rest.{numbers_of}
-use Rattle.net_rest.proofs.Numbers.{are_numbers, has_source, number_same}
+use Rattle.event_edges.specs.event_runs.Effects.{laters}
+use Rattle.sign_rounds.specs.net_laws.Laws.{last_late, late_writes}
+use Rattle.sign_rounds.proofs.net_laws_proofs.After.{made_either}
+use Rattle.sign_rounds.proofs.net_laws_proofs.Late.{any_late, late_known, some_last}
+use Rattle.sign_rounds.proofs.net_laws_proofs.Laws.{exact, late_is, whole_path}
+use Rattle.sign_rounds.proofs.net_laws_proofs.Numbers.{body_known}
+use Rattle.sign_rounds.specs.net_rest.Rest.{numbers_of}
+use Rattle.sign_rounds.proofs.net_rest_proofs.Numbers.{are_numbers, has_source, number_same}
 use Rattle.event_edges.specs.Registers.{updates_bit}
 use Rattle.event_edges.specs.Reset.{IsReset}
 use Rattle.event_edges.specs.Synchronous.{IsItem}

@@ -11,8 +11,8 @@ use Rattle.net_model.specs.Block.{block_bit}
 use Rattle.net_model.specs.Cycle.{Chain, Data, Guard, Turn, item_bit}
 use Rattle.net_model.specs.Numbers.{bit}
 use Rattle.net_model.specs.Solution.{IsLasting, IsRegisterBit}
-use Rattle.net_laws.proofs.Laws.{fills_agree}
-use Rattle.net_rest.specs.Rest.{numbers_of}
+use Rattle.sign_rounds.proofs.net_laws_proofs.Laws.{fills_agree}
+use Rattle.sign_rounds.specs.net_rest.Rest.{numbers_of}
 use Rattle.sign_rounds.specs.Round.{IsSettled}
 use Rattle.event_edges.specs.Synchronous.{IsItem}
 use Rattle.event_edges.proofs.Cone.{item_in_cone}

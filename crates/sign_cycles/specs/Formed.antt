@@ -9,8 +9,8 @@ use Rattle.event_model.specs.Queue.{Flat, doing_at, widths}
 use Rattle.net_model.specs.Control.{InCone}
 use Rattle.net_model.specs.Cycle.{Chain, Guard, IsChain}
 use Rattle.net_model.specs.Solution.{IsLasting}
-use Rattle.net_laws.specs.Tame.{AreSplit, AreTame}
-use Rattle.net_rest.specs.Rest.{IsSolvable}
+use Rattle.sign_rounds.specs.net_laws.Tame.{AreSplit, AreTame}
+use Rattle.sign_rounds.specs.net_rest.Rest.{IsSolvable}
 use Rattle.event_edges.specs.Synchronous.{IsSynchronous}
 
 -- ---- resets

@@ -8,7 +8,7 @@ use Rattle.net_model.specs.Cycle.{Chain, Data, IsCycle, Setting, Step, Turn, reg
 use Rattle.net_model.specs.Lawful.{IsLawfulStep, SetsData, TurnsControl}
 use Rattle.net_model.specs.Numbers.{AreNumbers, bit}
 use Rattle.net_model.specs.Solution.{IsRegisterBit}
-use Rattle.net_rest.specs.Rest.{numbers_of}
+use Rattle.sign_rounds.specs.net_rest.Rest.{numbers_of}
 use Rattle.sign_rounds.specs.BringUp.{CanAllWake}
 use Rattle.sign_rounds.specs.Round.{IsSettled}
 use Rattle.sign_cycles.specs.Agree.{AreSame, IsNext, IsSettledKnown}

@@ -31,8 +31,8 @@ use Rattle.net_model.specs.Cycle.{Chain, Data, Setting}
 use Rattle.net_model.specs.Lawful.{SetsData}
 use Rattle.net_model.specs.Numbers.{bit, digits}
 use Rattle.net_model.specs.Solution.{IsLasting, IsSolution}
-use Rattle.sign_cycles.specs.Agree.{Agree, AreCycles, AreRuns, IsSettledKnown, offered}
-use Rattle.sign_cycles.specs.BringUp.{BringsUp, IsBringUp, SetsInput, sets}
+use Rattle.check_clean.specs.sign_cycles.Agree.{Agree, AreCycles, AreRuns, IsSettledKnown, offered}
+use Rattle.check_clean.specs.sign_cycles.BringUp.{BringsUp, IsBringUp, SetsInput, sets}
 
 -- a signal of one bit, and where what stands at a place in the text does
 abbrev bit_of : List ℕ → Kind → Bool → ℕ → Signal

@@ -6,12 +6,12 @@ use Rattle.net_model.specs.Control.{InCone}
 use Rattle.rtl_rule.specs.declared.finding.Finding.{Finding}
 use Rattle.rtl_rule.specs.Order.{comes_before, ranked}
 use Rattle.rtl_rule.specs.Parts.{Parts}
-use Rattle.check_found.proofs.Ordered.{finding_order, level, one_order, ranked_sum, ranked_up}
-use Rattle.check_sense.specs.Sense.{AreSenseFindings}
-use Rattle.check_assign.specs.Findings.{AreAssignFindings}
-use Rattle.check_case.specs.Cases.{AreCaseFindings}
-use Rattle.check_xprop.specs.Unknowns.{AreUnknownFindings}
-use Rattle.check_all.specs.Findings.{AreAllFindings, queue_of}
+use Rattle.check_clean.proofs.check_found_proofs.Ordered.{finding_order, level, one_order, ranked_sum, ranked_up}
+use Rattle.check_clean.specs.check_sense.Sense.{AreSenseFindings}
+use Rattle.check_clean.specs.check_assign.Findings.{AreAssignFindings}
+use Rattle.check_clean.specs.check_case.Cases.{AreCaseFindings}
+use Rattle.check_clean.specs.check_xprop.Unknowns.{AreUnknownFindings}
+use Rattle.check_clean.specs.check_all.Findings.{AreAllFindings, queue_of}
 
 -- what is ranked stays as it is when it is ranked again
 again : (xs : List Finding) → ranked (ranked xs) ≡ ranked xs

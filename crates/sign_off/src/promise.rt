@@ -2,11 +2,11 @@
 
 ghost use Rattle.event_model.specs.Queue.{flat};
 ghost use Rattle.rtl_rule.specs.Parts.{parts};
-ghost use Rattle.check_all.specs.Findings.{AreAllFindings, IsClean};
+ghost use Rattle.check_clean.specs.check_all.Findings.{AreAllFindings, IsClean};
 ghost use Rattle.check_clean.specs.Promise.{IsPromised};
 
+use check_clean::check_laws::law::stored;
 use check_clean::law::promised;
-use check_laws::law::stored;
 use rtl_flat::design::Design;
 use rtl_rule::finding::Finding;
 

@@ -2,18 +2,18 @@
 
 ghost use Rattle.std.specs.Prelude.{◌≡◌, ◌↔◌, ℕ, [], IsTrue, IfOk};
 ghost use Rattle.event_model.specs.Queue.{flat};
-ghost use Rattle.event_ending.specs.Ending.{RunsEnd};
+ghost use Rattle.check_clean.specs.event_ending.Ending.{RunsEnd};
 ghost use Rattle.net_model.specs.declared.fill.Fill.{Fill};
 ghost use Rattle.net_model.specs.Cycle.{AreChains, Chain};
-ghost use Rattle.sign_cycles.specs.Agree.{Agree};
-ghost use Rattle.sign_cycles.specs.BringUp.{BringsUp, HaveResets};
+ghost use Rattle.check_clean.specs.sign_cycles.Agree.{Agree};
+ghost use Rattle.check_clean.specs.sign_cycles.BringUp.{BringsUp, HaveResets};
 ghost use Rattle.rtl_rule.specs.Parts.{parts};
 ghost use Rattle.rtl_rule.specs.Rows.{row_of};
-ghost use Rattle.check_all.specs.Findings.{AreAllFindings, IsClean, has_first_grade};
+ghost use Rattle.check_clean.specs.check_all.Findings.{AreAllFindings, IsClean, has_first_grade};
 
 use crate::promise::vouch;
-use check_found::order::merged;
-use check_found::scans::Scans;
+use check_clean::check_found::order::merged;
+use check_clean::check_found::scans::Scans;
 use rtl_flat::design::Design;
 use rtl_rule::finding::{Finding, Ruling};
 use rtl_rule::rule::first_grade;
@@ -60,10 +60,10 @@ fn all_findings(alloc: Global, design: &Design) -> Result<Vec<Finding>, Memory>
     ensures { IfOk result (λ all. AreAllFindings (parts design.now) all.items) }
 {
     let scans = Scans::of(alloc, design)?;
-    let sense = check_sense::check(alloc, &scans)?;
-    let assigned = check_assign::check(alloc, &scans)?;
-    let cases = check_case::check(alloc, design)?;
-    let unknown = check_xprop::check(alloc, &scans)?;
+    let sense = check_clean::check_sense::check(alloc, &scans)?;
+    let assigned = check_clean::check_assign::check(alloc, &scans)?;
+    let cases = check_clean::check_case::check(alloc, design)?;
+    let unknown = check_clean::check_xprop::check(alloc, &scans)?;
     let two = merged(alloc, &sense, &assigned)?;
     let three = merged(alloc, &two, &cases)?;
     merged(alloc, &three, &unknown)

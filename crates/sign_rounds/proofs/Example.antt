@@ -20,13 +20,13 @@ use Rattle.rtl_flat.specs.Signs.{Has}
 use Rattle.rtl_flat.specs.WellFormed.{IsAssignment, IsProcess, IsSelection}
 use Rattle.rtl_flat.proofs.Paths.{decided}
 use Rattle.event_model.specs.Queue.{Flat, Input, IsAtRest, Run, State, doing_at, is_input, power_up, widths}
-use Rattle.event_laws.specs.Steady.{AreLawful}
-use Rattle.event_laws.proofs.Steady.{lawful_processes}
-use Rattle.event_laws.proofs.Within.{may_read_outside}
+use Rattle.net_rest.specs.event_laws.Steady.{AreLawful}
+use Rattle.net_rest.proofs.event_laws_proofs.Steady.{lawful_processes}
+use Rattle.net_rest.proofs.event_laws_proofs.Within.{may_read_outside}
 use Rattle.net_model.specs.declared.fill.Fill.TheVariants as fill
 use Rattle.net_model.specs.Solution.{IsLasting, IsRegisterBit}
-use Rattle.event_runs.specs.Plain.{IsPlain}
-use Rattle.net_laws.specs.Tame.{HasFirmIndex}
+use Rattle.net_rest.specs.event_runs.Plain.{IsPlain}
+use Rattle.net_rest.specs.net_laws.Tame.{HasFirmIndex}
 use Rattle.net_rest.specs.Rest.{IsComputed, IsGate, IsSolvable, numbers_of}
 use Rattle.sign_rounds.specs.BringUp.{CanAllWake, CanWake, IsBroughtUp, after_rounds, given_by}
 use Rattle.sign_rounds.specs.Round.{IsSettled, Round}

@@ -10,8 +10,8 @@ use Rattle.event_model.specs.Writes.{Values, put}
 use Rattle.net_model.specs.declared.fill.Fill.{Fill}
 use Rattle.net_model.specs.Numbers.{AreNumbers, bit}
 use Rattle.net_model.specs.Solution.{IsRegisterBit}
-use Rattle.event_runs.specs.Nets.{given_with}
-use Rattle.net_laws.proofs.Known.{known_at}
+use Rattle.net_rest.specs.event_runs.Nets.{given_with}
+use Rattle.net_rest.proofs.net_laws_proofs.Known.{known_at}
 use Rattle.net_rest.specs.Rest.{AreAlike, AreGiven, IsIdle, IsSolvable, numbers_of}
 use Rattle.net_rest.proofs.Numbers.{are_numbers}
 use Rattle.net_rest.proofs.Rest.{alone, known_at_rest, register_inside, solved}

@@ -15,19 +15,19 @@ use Rattle.rtl_flat.proofs.Paths.{decided}
 use Rattle.event_model.specs.Queue.{Flat, State, Event, IsAtRest, doing_at, is_assignment, is_input, offer, run, widths}
 use Rattle.event_model.specs.Traces.{Same}
 use Rattle.event_model.specs.Writes.{Values, driven}
-use Rattle.event_laws.specs.Steady.{IsWithin}
+use Rattle.net_rest.specs.event_laws.Steady.{IsWithin}
 use Rattle.net_model.specs.declared.fill.Fill.{Fill}
 use Rattle.net_model.specs.Numbers.{bit}
 use Rattle.net_model.specs.Solution.{IsLasting}
-use Rattle.event_runs.specs.Effects.{runs}
-use Rattle.event_runs.specs.Nets.{AreDriven, AreOffered, AreResolved, AreWide, given_with}
-use Rattle.event_runs.specs.Plain.{AreStill, ran_after, ran_by}
-use Rattle.event_runs.specs.Writers.{IsOrderly}
-use Rattle.event_runs.proofs.Inputs.{offer_is, offered_offer, offered_run, orderly_offer}
-use Rattle.event_runs.proofs.Late.{late_none, orderly_run}
-use Rattle.event_runs.proofs.Nets.{driven_from, driver_value, resolved_from, resolved_run}
-use Rattle.event_runs.proofs.Signals.{variable_input}
-use Rattle.event_runs.proofs.Still.{still_run}
+use Rattle.net_rest.specs.event_runs.Effects.{runs}
+use Rattle.net_rest.specs.event_runs.Nets.{AreDriven, AreOffered, AreResolved, AreWide, given_with}
+use Rattle.net_rest.specs.event_runs.Plain.{AreStill, ran_after, ran_by}
+use Rattle.net_rest.specs.event_runs.Writers.{IsOrderly}
+use Rattle.net_rest.proofs.event_runs_proofs.Inputs.{offer_is, offered_offer, offered_run, orderly_offer}
+use Rattle.net_rest.proofs.event_runs_proofs.Late.{late_none, orderly_run}
+use Rattle.net_rest.proofs.event_runs_proofs.Nets.{driven_from, driver_value, resolved_from, resolved_run}
+use Rattle.net_rest.proofs.event_runs_proofs.Signals.{variable_input}
+use Rattle.net_rest.proofs.event_runs_proofs.Still.{still_run}
 use Rattle.net_rest.specs.Rest.{IsIdle, IsSolvable}
 use Rattle.net_rest.proofs.Gates.{after_same, others_stay, takes_path, value_same}
 use Rattle.net_rest.proofs.Levels.{assign_reads, read_lasts}

@@ -22,14 +22,14 @@ use Rattle.event_model.specs.Writes.{Values, driven}
 use Rattle.net_model.specs.declared.fill.Fill.{Fill}
 use Rattle.net_model.specs.Numbers.{bit}
 use Rattle.net_model.specs.Solution.{IsLasting, IsRegisterBit}
-use Rattle.event_runs.specs.Nets.{AreOffered, AreResolved, given_with}
-use Rattle.event_runs.specs.Plain.{AreStill, AreUnheard, ran_after}
-use Rattle.event_runs.specs.Writers.{IsOrderly}
-use Rattle.event_runs.proofs.Inputs.{offer_is, offered_offer, offered_run, orderly_offer}
-use Rattle.event_runs.proofs.Late.{orderly_power_up, orderly_run}
-use Rattle.event_runs.proofs.Nets.{driven_from, driver_value, resolved_power_up, resolved_run}
-use Rattle.event_runs.proofs.Still.{still_run, unheard_run}
-use Rattle.net_laws.proofs.Known.{KnownBit, known_at}
+use Rattle.net_rest.specs.event_runs.Nets.{AreOffered, AreResolved, given_with}
+use Rattle.net_rest.specs.event_runs.Plain.{AreStill, AreUnheard, ran_after}
+use Rattle.net_rest.specs.event_runs.Writers.{IsOrderly}
+use Rattle.net_rest.proofs.event_runs_proofs.Inputs.{offer_is, offered_offer, offered_run, orderly_offer}
+use Rattle.net_rest.proofs.event_runs_proofs.Late.{orderly_power_up, orderly_run}
+use Rattle.net_rest.proofs.event_runs_proofs.Nets.{driven_from, driver_value, resolved_power_up, resolved_run}
+use Rattle.net_rest.proofs.event_runs_proofs.Still.{still_run, unheard_run}
+use Rattle.net_rest.proofs.net_laws_proofs.Known.{KnownBit, known_at}
 use Rattle.net_rest.specs.Rest.{AreGiven, IsFromOutside, IsSolvable, numbers_of}
 use Rattle.net_rest.proofs.Levels.{by_level_listed, listed_lasts}
 use Rattle.net_rest.proofs.Numbers.{are_numbers}

@@ -8,7 +8,7 @@ use Rattle.event_model.specs.Queue.{Flat, State, IsAtRest, doing_at, is_input, p
 use Rattle.event_model.specs.Writes.{Values}
 use Rattle.net_model.specs.Numbers.{bit}
 use Rattle.net_model.specs.Solution.{IsRegisterBit}
-use Rattle.event_runs.specs.Nets.{given_with}
+use Rattle.net_rest.specs.event_runs.Nets.{given_with}
 use Rattle.net_rest.specs.Rest.{IsFromOutside}
 use Rattle.sign_rounds.specs.Round.{IsRound, Round, after_round}
 

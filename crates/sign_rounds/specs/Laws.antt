@@ -5,7 +5,7 @@ use Rattle.event_model.specs.Writes.{Values}
 use Rattle.net_model.specs.declared.fill.Fill.{Fill}
 use Rattle.net_model.specs.Numbers.{AreNumbers, bit}
 use Rattle.net_model.specs.Solution.{IsRegisterBit}
-use Rattle.event_runs.specs.Nets.{given_with}
+use Rattle.net_rest.specs.event_runs.Nets.{given_with}
 use Rattle.net_rest.specs.Rest.{AreGiven, numbers_of}
 use Rattle.sign_rounds.specs.BringUp.{IsBroughtUp, after_rounds}
 use Rattle.sign_rounds.specs.Round.{Follows, IsArrived, IsFollowed, IsRound, IsSettled, Round, after_round}

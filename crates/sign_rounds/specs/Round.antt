@@ -9,13 +9,13 @@ use Rattle.rtl_flat.specs.Value.{value}
 use Rattle.event_model.specs.Queue.{Flat, State, Event, CanRun, IsAtRest, doing_at, is_input, offer, run, widths}
 use Rattle.event_model.specs.Traces.{FollowsPath}
 use Rattle.event_model.specs.Writes.{Values, driven}
-use Rattle.event_laws.specs.Steady.{HaveWidths}
+use Rattle.net_rest.specs.event_laws.Steady.{HaveWidths}
 use Rattle.net_model.specs.declared.fill.Fill.{Fill}
 use Rattle.net_model.specs.Numbers.{AreNumbers, bit}
 use Rattle.net_model.specs.Solution.{IsSolution}
-use Rattle.event_runs.specs.Nets.{given_with}
-use Rattle.event_runs.specs.Plain.{IsConsistent}
-use Rattle.event_runs.specs.Writers.{IsOrderly}
+use Rattle.net_rest.specs.event_runs.Nets.{given_with}
+use Rattle.net_rest.specs.event_runs.Plain.{IsConsistent}
+use Rattle.net_rest.specs.event_runs.Writers.{IsOrderly}
 use Rattle.net_rest.specs.Rest.{AreAlike, AreGivenAlike}
 
 -- ---- settled states

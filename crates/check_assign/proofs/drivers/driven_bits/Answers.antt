@@ -1,6 +1,6 @@
 use Rattle.std.proofs.Common.{◌≤◌, ◌∙◌, ◌||◌, length, sym, ap, arith}
 use Rattle.rtl_rule.specs.Parts.{parts, written}
-use Rattle.check_found.proofs.Sites.{task_count}
+use Rattle.check_graph.proofs.check_found_proofs.Sites.{task_count}
 use Rattle.check_assign.proofs.Turns.{below_all, below_next, task_of}
 use Rattle.check_assign.proofs.drivers.driven_bits.Goals as goal
 

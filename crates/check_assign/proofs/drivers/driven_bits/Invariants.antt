@@ -1,6 +1,6 @@
 use Rattle.std.proofs.Common.{◌≡◌, ℕ}
 use Rattle.rtl_rule.specs.Parts.{parts}
-use Rattle.rtl_scan.specs.Sets.{has}
+use Rattle.check_graph.specs.rtl_scan.Sets.{has}
 use Rattle.check_assign.proofs.Turns.{below_writes}
 use Rattle.check_assign.proofs.drivers.driven_bits.Given as goal
 

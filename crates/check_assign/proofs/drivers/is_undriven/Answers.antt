@@ -1,6 +1,6 @@
 use Rattle.std.proofs.Common.{◌≡◌, ◌∙◌, ◌&&◌, not, false, sym, ap}
 use Rattle.rtl_rule.specs.Parts.{has_some, parts, widths}
-use Rattle.rtl_scan.specs.Sets.{has}
+use Rattle.check_graph.specs.rtl_scan.Sets.{has}
 use Rattle.check_assign.specs.Assigned.{is_input}
 use Rattle.check_assign.proofs.Hits.{whole_leaves}
 use Rattle.check_assign.proofs.drivers.is_undriven.Goals as goal

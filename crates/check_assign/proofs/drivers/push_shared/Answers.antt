@@ -5,11 +5,11 @@ use Rattle.std.proofs.lemmas.Result.{on_ok_weaker}
 use Rattle.rtl_flat.specs.Process.{Task, task}
 use Rattle.rtl_rule.specs.declared.rule.Rule.TheVariants.{SeveralDrivers}
 use Rattle.rtl_rule.specs.Parts.{parts, widths, written}
-use Rattle.rtl_scan.specs.declared.bits.Row.{Row}
-use Rattle.rtl_scan.specs.Sets.{has, has_rows}
-use Rattle.check_found.specs.Gathered.{Gets, signal_numbers, task_sites}
-use Rattle.check_found.proofs.Inside.{written_inside}
-use Rattle.check_found.proofs.Sites.{task_at}
+use Rattle.check_graph.specs.rtl_scan.declared.bits.Row.{Row}
+use Rattle.check_graph.specs.rtl_scan.Sets.{has, has_rows}
+use Rattle.check_graph.specs.check_found.Gathered.{Gets, signal_numbers, task_sites}
+use Rattle.check_graph.proofs.check_found_proofs.Inside.{written_inside}
+use Rattle.check_graph.proofs.check_found_proofs.Sites.{task_at}
 use Rattle.check_assign.specs.Assigned.{IsSeveralDrivers, lower_writes, several_drivers_at}
 use Rattle.check_assign.specs.Marks.{any_row, shares}
 use Rattle.check_assign.proofs.Hits.{shares_some}

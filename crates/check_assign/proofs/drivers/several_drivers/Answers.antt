@@ -2,8 +2,8 @@ use Rattle.std.proofs.Common.{◌≤◌, ◌∙◌, ◌||◌, List, length, sym,
 use Rattle.rtl_rule.specs.declared.finding.Finding.{Finding}
 use Rattle.rtl_rule.specs.Parts.{parts, written}
 use Rattle.rtl_rule.specs.Sites.{AreFindings}
-use Rattle.check_found.specs.Gathered.{signal_numbers, sites_below}
-use Rattle.check_found.proofs.Sites.{all_below, next_below, none_below, task_count}
+use Rattle.check_graph.specs.check_found.Gathered.{signal_numbers, sites_below}
+use Rattle.check_graph.proofs.check_found_proofs.Sites.{all_below, next_below, none_below, task_count}
 use Rattle.check_assign.specs.Assigned.{IsSeveralDrivers, several_drivers_at}
 use Rattle.check_assign.proofs.Turns.{lower_next, lower_none, task_of}
 use Rattle.check_assign.proofs.drivers.several_drivers.Goals as goal

@@ -1,8 +1,8 @@
 use Rattle.std.proofs.Common.{◌≡◌, ℕ}
 use Rattle.rtl_rule.specs.Parts.{parts}
 use Rattle.rtl_rule.specs.Sites.{AreFindings}
-use Rattle.rtl_scan.specs.Sets.{has}
-use Rattle.check_found.specs.Gathered.{signal_numbers, sites_below}
+use Rattle.check_graph.specs.rtl_scan.Sets.{has}
+use Rattle.check_graph.specs.check_found.Gathered.{signal_numbers, sites_below}
 use Rattle.check_assign.specs.Assigned.{IsSeveralDrivers, lower_writes, several_drivers_at}
 use Rattle.check_assign.proofs.drivers.several_drivers.Given as goal
 

@@ -1,7 +1,7 @@
 use Rattle.rtl_flat.specs.Process.{task}
 use Rattle.rtl_rule.specs.Parts.{parts}
-use Rattle.check_found.specs.Gathered.{signal_numbers}
-use Rattle.check_found.proofs.Sites.{next_below}
+use Rattle.check_graph.specs.check_found.Gathered.{signal_numbers}
+use Rattle.check_graph.proofs.check_found_proofs.Sites.{next_below}
 use Rattle.check_assign.specs.Assigned.{IsNonblockingComb, nonblocking_comb_at}
 use Rattle.check_assign.proofs.Turns.{task_there}
 use Rattle.check_assign.proofs.kinds.nonblocking_comb.Goals as goal

@@ -3,7 +3,7 @@ use Rattle.std.specs.Prelude.{◌↔◌}
 use Rattle.std.proofs.lemmas.List.{get_or_default}
 use Rattle.rtl_rule.specs.Parts.{parts}
 use Rattle.check_graph.specs.Loops.{AreLevelLoops, IsOnLevelCycle}
-use Rattle.check_found.proofs.Sites.{next_below, task_count}
+use Rattle.check_graph.proofs.check_found_proofs.Sites.{next_below, task_count}
 use Rattle.check_assign.specs.Assigned.{IsCombLoop, comb_loop_at}
 use Rattle.check_assign.proofs.Turns.{task_of}
 use Rattle.check_assign.proofs.loops.comb_loop.Goals as goal

@@ -5,8 +5,8 @@ use Rattle.rtl_flat.specs.declared.act.CaseItem.{CaseItem}
 use Rattle.rtl_flat.specs.Expression.{tree}
 use Rattle.rtl_flat.specs.Process.{Case, action}
 use Rattle.rtl_rule.specs.Parts.{parts, widths}
-use Rattle.rtl_scan.specs.Bodies.{branches_of, other_of}
-use Rattle.rtl_scan.proofs.Bodies.{case_is}
+use Rattle.check_parts.specs.rtl_scan.Bodies.{branches_of, other_of}
+use Rattle.check_parts.proofs.rtl_scan_proofs.Bodies.{case_is}
 use Rattle.check_case.specs.declared.claims.Claim.{Claim}
 use Rattle.check_case.specs.Cases.{all_disjoint, is_false_full}
 use Rattle.check_case.specs.Claims.{claims_falsely}

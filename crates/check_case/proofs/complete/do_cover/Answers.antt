@@ -1,5 +1,5 @@
 use Rattle.std.proofs.Common.{◌∙◌, arith}
-use Rattle.rtl_scan.proofs.Known.{covers_are}
+use Rattle.check_parts.proofs.rtl_scan_proofs.Known.{covers_are}
 use Rattle.check_case.proofs.complete.do_cover.Goals as goal
 
 pub returns : goal.returns

@@ -1,4 +1,4 @@
-use Rattle.rtl_scan.proofs.Places.{width_at, width_past}
+use Rattle.check_parts.proofs.rtl_scan_proofs.Places.{width_at, width_past}
 use Rattle.check_case.proofs.complete.signal_width.Goals as goal
 
 pub returns-then-place-signals : goal.returns-then-place-signals

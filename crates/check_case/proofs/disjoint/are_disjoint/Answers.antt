@@ -4,8 +4,8 @@ use Rattle.rtl_flat.specs.declared.expr.SizedExpr.{SizedExpr}
 use Rattle.rtl_flat.specs.Expression.{tree}
 use Rattle.rtl_flat.specs.Flows.{labels_of}
 use Rattle.rtl_flat.specs.Process.{action, body_of}
-use Rattle.rtl_scan.specs.Bodies.{branches_of}
-use Rattle.rtl_scan.proofs.Labels.{left_at}
+use Rattle.check_parts.specs.rtl_scan.Bodies.{branches_of}
+use Rattle.check_parts.proofs.rtl_scan_proofs.Labels.{left_at}
 use Rattle.check_case.specs.Cases.{all_disjoint}
 use Rattle.check_case.specs.Literals.{GetsAllSeen, overlap_some}
 use Rattle.check_case.proofs.Apart.{disjoint_next, none_overlap, rest_disjoint}

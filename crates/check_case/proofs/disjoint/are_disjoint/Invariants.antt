@@ -1,5 +1,5 @@
 use Rattle.std.proofs.Common.{◌≡◌, drop}
-use Rattle.rtl_scan.specs.Bodies.{branches_of}
+use Rattle.check_parts.specs.rtl_scan.Bodies.{branches_of}
 use Rattle.check_case.specs.Cases.{all_disjoint}
 use Rattle.check_case.proofs.Apart.{rest_disjoint}
 use Rattle.check_case.proofs.disjoint.are_disjoint.Given as goal

@@ -7,11 +7,11 @@ use Rattle.rtl_flat.specs.Process.{action, body_of}
 use Rattle.rtl_flat.specs.WellFormed.{statements}
 use Rattle.rtl_flat.proofs.ActViews.{block_is}
 use Rattle.rtl_rule.specs.Parts.{parts}
-use Rattle.rtl_scan.specs.Bodies.{branches_of, other_of}
-use Rattle.rtl_scan.specs.Loads.{load, other_load, items_load}
-use Rattle.rtl_scan.proofs.Bodies.{case_is, choice_is}
-use Rattle.rtl_scan.proofs.Labels.{left_at}
-use Rattle.rtl_scan.proofs.Weights.{if_load, case_load, block_load, act_load, item_load}
+use Rattle.check_parts.specs.rtl_scan.Bodies.{branches_of, other_of}
+use Rattle.check_parts.specs.rtl_scan.Loads.{load, other_load, items_load}
+use Rattle.check_parts.proofs.rtl_scan_proofs.Bodies.{case_is, choice_is}
+use Rattle.check_parts.proofs.rtl_scan_proofs.Labels.{left_at}
+use Rattle.check_parts.proofs.rtl_scan_proofs.Weights.{if_load, case_load, block_load, act_load, item_load}
 use Rattle.check_case.specs.Cases.{first_in}
 use Rattle.check_case.specs.Least.{first_of_all, first_of_items, first_of_other, lesser}
 use Rattle.check_case.proofs.Firsts.{all_next, case_first, if_first, items_next, lesser-none, lesser_assoc, pieces_none}

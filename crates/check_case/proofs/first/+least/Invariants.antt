@@ -2,8 +2,8 @@ use Rattle.std.proofs.Common.{◌≡◌, ◌+◌, ◌*◌, map, drop}
 use Rattle.rtl_flat.specs.Process.{action, body_of}
 use Rattle.rtl_flat.specs.WellFormed.{statements}
 use Rattle.rtl_rule.specs.Parts.{parts}
-use Rattle.rtl_scan.specs.Bodies.{branches_of}
-use Rattle.rtl_scan.specs.Loads.{load, other_load, items_load}
+use Rattle.check_parts.specs.rtl_scan.Bodies.{branches_of}
+use Rattle.check_parts.specs.rtl_scan.Loads.{load, other_load, items_load}
 use Rattle.check_case.specs.Least.{first_of_all, first_of_items, lesser}
 use Rattle.check_case.proofs.first.+least.Given as goal
 

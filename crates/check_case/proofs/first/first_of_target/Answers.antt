@@ -3,7 +3,7 @@ use Rattle.std.proofs.lemmas.List.{drop_all}
 use Rattle.rtl_flat.specs.declared.act.TargetPart.{TargetPart}
 use Rattle.rtl_flat.specs.Process.{piece}
 use Rattle.rtl_rule.specs.Parts.{parts}
-use Rattle.rtl_scan.proofs.Labels.{left_at}
+use Rattle.check_parts.proofs.rtl_scan_proofs.Labels.{left_at}
 use Rattle.check_case.specs.Least.{first_of_pieces, lesser}
 use Rattle.check_case.proofs.Firsts.{lesser-none, lesser_assoc, pieces_next, pieces_none}
 use Rattle.check_case.proofs.first.first_of_target.Goals as goal

@@ -1,8 +1,8 @@
 use Rattle.std.proofs.Common.{◌++◌, ◌∙◌, ap, map}
 use Rattle.rtl_flat.specs.Expression.{tree}
 use Rattle.rtl_flat.specs.Flows.{literals}
-use Rattle.rtl_scan.proofs.Labels.{left_at}
-use Rattle.rtl_scan.proofs.Covers.{literals_step}
+use Rattle.check_parts.proofs.rtl_scan_proofs.Labels.{left_at}
+use Rattle.check_parts.proofs.rtl_scan_proofs.Covers.{literals_step}
 use Rattle.check_case.proofs.labels.literal_labels.Goals as goal
 
 pub loop-item-preserved : goal.loop-item-preserved

@@ -1,6 +1,6 @@
 use Rattle.std.proofs.Common.{◌≡◌, ◌++◌, drop}
 use Rattle.rtl_flat.specs.Flows.{literals, labels_of}
-use Rattle.rtl_scan.specs.Bodies.{branches_of}
+use Rattle.check_parts.specs.rtl_scan.Bodies.{branches_of}
 use Rattle.check_case.proofs.labels.literal_labels.Given as goal
 
 abbrev pub invariant-loop-item : goal.invariant-loop-item

@@ -1,5 +1,5 @@
 use Rattle.std.proofs.Common.{sym}
-use Rattle.rtl_scan.proofs.Covers.{no_literal}
+use Rattle.check_parts.proofs.rtl_scan_proofs.Covers.{no_literal}
 use Rattle.check_case.proofs.labels.literal_of.Goals as goal
 
 pub returns-in_default : goal.returns-in_default

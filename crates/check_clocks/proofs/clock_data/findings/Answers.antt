@@ -3,8 +3,8 @@ use Rattle.event_model.specs.Queue.{flat}
 use Rattle.net_model.specs.Control.{InCone}
 use Rattle.rtl_flat.specs.Process.{task}
 use Rattle.rtl_rule.specs.Parts.{parts}
-use Rattle.check_found.specs.Gathered.{signal_numbers}
-use Rattle.check_found.proofs.Sites.{next_below, task_at}
+use Rattle.check_chains.specs.check_found.Gathered.{signal_numbers}
+use Rattle.check_chains.proofs.check_found_proofs.Sites.{next_below, task_at}
 use Rattle.check_clocks.specs.Clocks.{IsClockAsData, clock_as_data_at}
 use Rattle.check_clocks.proofs.clock_data.findings.Goals as goal
 

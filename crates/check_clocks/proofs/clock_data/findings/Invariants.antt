@@ -2,7 +2,7 @@ use Rattle.event_model.specs.Queue.{flat}
 use Rattle.net_model.specs.Control.{InCone}
 use Rattle.rtl_rule.specs.Parts.{parts}
 use Rattle.rtl_rule.specs.Sites.{AreFindings}
-use Rattle.check_found.specs.Gathered.{signal_numbers, sites_below}
+use Rattle.check_chains.specs.check_found.Gathered.{signal_numbers, sites_below}
 use Rattle.check_clocks.specs.Clocks.{IsClockAsData, clock_as_data_at}
 use Rattle.check_clocks.proofs.clock_data.findings.Given as goal
 

@@ -1,6 +1,6 @@
 use Rattle.std.proofs.Common.{◌∙◌, ℕ, sym, subst}
 use Rattle.std.specs.Prelude.{◌↔◌}
-use Rattle.rtl_scan.specs.Arrows.{Among}
+use Rattle.check_chains.specs.rtl_scan.Arrows.{Among}
 use Rattle.check_clocks.specs.Cone.{IsSpread}
 use Rattle.check_clocks.specs.Reach.{Reaches}
 use Rattle.check_clocks.specs.Tops.{AreMarkedAlso}

@@ -2,7 +2,7 @@ use Rattle.std.proofs.Common.{◌≡◌, ◌∙◌, ◌++◌, ap, map}
 use Rattle.std.specs.List.{flat_map}
 use Rattle.rtl_flat.specs.Process.{doing, task, watched}
 use Rattle.rtl_rule.specs.Parts.{items_of, nodes, parts}
-use Rattle.check_parts.specs.Kept.{expressions}
+use Rattle.check_chains.specs.check_parts.Kept.{expressions}
 use Rattle.check_clocks.specs.Clocks.{data_trees}
 use Rattle.check_clocks.specs.Uses.{level_places, places_of, read_places}
 use Rattle.check_clocks.proofs.data.uses_of.Goals as goal

@@ -1,7 +1,7 @@
 use Rattle.std.proofs.Common.{length}
 use Rattle.rtl_rule.specs.Parts.{parts}
 use Rattle.rtl_rule.specs.Sites.{AreFindings}
-use Rattle.check_found.specs.Gathered.{sites_below}
+use Rattle.check_chains.specs.check_found.Gathered.{sites_below}
 use Rattle.check_clocks.specs.Clocks.{IsDerivedClock, derived_clock_at, events_of}
 use Rattle.check_clocks.specs.Tops.{AreRoles, AreTops}
 use Rattle.check_clocks.proofs.derived.findings.Given as goal

@@ -1,7 +1,7 @@
 use Rattle.std.proofs.Common.{◌∙◌, ◌==◌, ap, sym, length}
 use Rattle.std.proofs.lemmas.Bool.{ltb-true, ltb-false}
 use Rattle.rtl_flat.specs.Signs.{width_in}
-use Rattle.rtl_scan.proofs.Places.{width_at, width_past}
+use Rattle.check_chains.proofs.rtl_scan_proofs.Places.{width_at, width_past}
 use Rattle.check_clocks.proofs.links.is_bit.Goals as goal
 
 pub returns-in-Some : goal.returns-in-Some

@@ -3,7 +3,7 @@ use Rattle.std.proofs.lemmas.Option.{same_Some}
 use Rattle.rtl_flat.specs.Expression.{tree}
 use Rattle.rtl_flat.specs.Process.{doing, piece, task}
 use Rattle.rtl_rule.specs.Parts.{parts}
-use Rattle.check_found.proofs.Sites.{task_at}
+use Rattle.check_chains.proofs.check_found_proofs.Sites.{task_at}
 use Rattle.check_clocks.specs.Links.{linked, whole_target}
 use Rattle.check_clocks.specs.Passed.{IsPassingLink}
 use Rattle.check_clocks.proofs.Passing.{assign_link, no_link, single}

@@ -1,6 +1,6 @@
 use Rattle.std.proofs.Common.{◌≡◌, length, subst, arith}
 use Rattle.rtl_rule.specs.Parts.{parts}
-use Rattle.check_found.proofs.Sites.{task_count}
+use Rattle.check_chains.proofs.check_found_proofs.Sites.{task_count}
 use Rattle.check_clocks.specs.Cone.{ArePassing}
 use Rattle.check_clocks.proofs.Coned.{passing_next, task_there}
 use Rattle.check_clocks.proofs.passed.passing_links.Goals as goal

@@ -1,6 +1,6 @@
 use Rattle.std.proofs.Common.{◌≡◌, ◌∙◌, ◌<◌, false, length, get_or, replicate, rules, sym, ap, subst, arith}
 use Rattle.std.proofs.lemmas.List.{get_or_read, length-replicate}
-use Rattle.rtl_scan.specs.Graph.{row}
+use Rattle.check_chains.specs.rtl_scan.Graph.{row}
 use Rattle.check_clocks.specs.Reach.{Finds}
 use Rattle.check_clocks.proofs.Reached.{found_below, row_read, search_begins, search_ends, search_goes_on}
 use Rattle.check_clocks.proofs.reach.reached.Goals as goal

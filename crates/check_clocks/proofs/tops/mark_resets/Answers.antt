@@ -2,7 +2,7 @@ use Rattle.std.proofs.Common.{◌≡◌, ◌∙◌, ◌+◌, ◌∷◌, [], ◌+
 use Rattle.std.specs.List.{flat_map}
 use Rattle.std.proofs.lemmas.List.{take_all, take_more}
 use Rattle.std.proofs.lemmas.List.Concat.{flat_map-append}
-use Rattle.rtl_scan.specs.Graph.{row}
+use Rattle.check_chains.specs.rtl_scan.Graph.{row}
 use Rattle.check_chains.specs.declared.chain.Guard.{Guard}
 use Rattle.check_clocks.specs.Tops.{AreMarkedAlso}
 use Rattle.check_clocks.proofs.Topped.{marked_more}

@@ -1,6 +1,6 @@
 use Rattle.std.proofs.Common.{take}
 use Rattle.std.specs.List.{flat_map}
-use Rattle.rtl_scan.specs.Graph.{row}
+use Rattle.check_chains.specs.rtl_scan.Graph.{row}
 use Rattle.check_clocks.specs.Tops.{AreMarkedAlso}
 use Rattle.check_clocks.proofs.tops.mark_resets.Given as goal
 

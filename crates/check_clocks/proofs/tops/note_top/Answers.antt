@@ -1,7 +1,7 @@
 use Rattle.std.proofs.Common.{ℕ, sym, subst}
 use Rattle.std.specs.Prelude.{◌↔◌}
 use Rattle.std.proofs.lemmas.Result.{on_ok_weaker}
-use Rattle.rtl_scan.specs.Arrows.{Among}
+use Rattle.check_chains.specs.rtl_scan.Arrows.{Among}
 use Rattle.check_clocks.specs.Reach.{Reaches}
 use Rattle.check_clocks.proofs.Topped.{found_inside, noted_all}
 use Rattle.check_clocks.proofs.tops.note_top.Goals as goal

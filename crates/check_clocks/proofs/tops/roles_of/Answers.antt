@@ -3,7 +3,7 @@ use Rattle.rtl_rule.specs.Parts.{parts}
 use Rattle.rtl_flat.specs.Process.{task}
 use Rattle.check_clocks.specs.Tops.{AreRoles}
 use Rattle.check_clocks.proofs.Topped.{roles_noted, roles_none}
-use Rattle.check_found.proofs.Sites.{task_at}
+use Rattle.check_chains.proofs.check_found_proofs.Sites.{task_at}
 use Rattle.check_clocks.proofs.tops.roles_of.Goals as goal
 
 pub loop-process-init : goal.loop-process-init

@@ -1,8 +1,8 @@
 use Rattle.std.proofs.Common.{◌<◌, ◌^◌, length, subst, sym, arith}
 use Rattle.std.proofs.lemmas.Result.{IfOk-weaker}
 use Rattle.rtl_rule.specs.Parts.{parts}
-use Rattle.rtl_scan.specs.Graph.{AreRows}
-use Rattle.rtl_scan.proofs.Feeding.{rows_of_arrows}
+use Rattle.check_loops.specs.rtl_scan.Graph.{AreRows}
+use Rattle.check_loops.proofs.rtl_scan_proofs.Feeding.{rows_of_arrows}
 use Rattle.check_found.proofs.Sites.{task_count}
 use Rattle.check_graph.proofs.Cycles.{loops_are}
 use Rattle.check_graph.proofs.level.loops.Goals as goal

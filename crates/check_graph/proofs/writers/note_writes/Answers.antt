@@ -2,7 +2,7 @@ use Rattle.std.proofs.Common.{◌≡◌, ◌∙◌, true, Some, sym, ap}
 use Rattle.std.proofs.lemmas.Result.{on_ok_weaker}
 use Rattle.rtl_flat.specs.Process.{Task, task}
 use Rattle.rtl_rule.specs.Parts.{parts, widths}
-use Rattle.rtl_scan.specs.Arrows.{is_node}
+use Rattle.check_loops.specs.rtl_scan.Arrows.{is_node}
 use Rattle.check_found.proofs.Sites.{task_at}
 use Rattle.check_graph.proofs.Tabling.{writes_more}
 use Rattle.check_graph.proofs.writers.note_writes.Goals as goal

@@ -2,7 +2,7 @@ use Rattle.std.proofs.Common.{◌∙◌, ap, sym, ◌++◌, List}
 use Rattle.std.proofs.lemmas.Result.{on_ok_weaker}
 use Rattle.rtl_flat.specs.Process.{Task, task}
 use Rattle.rtl_rule.specs.Parts.{parts}
-use Rattle.rtl_scan.specs.declared.bits.Row.{Row}
+use Rattle.check_found.specs.rtl_scan.declared.bits.Row.{Row}
 use Rattle.check_sense.specs.Telling.{has_items, lacking_in}
 use Rattle.check_sense.proofs.Findings.{task_is}
 use Rattle.check_sense.proofs.Left.{gets_missing, gets_no_missing}

@@ -2,7 +2,7 @@ use Rattle.std.proofs.Common.{◌∙◌, ap, List}
 use Rattle.std.specs.List.{list_any}
 use Rattle.rtl_flat.specs.declared.signal.Signal.{Signal}
 use Rattle.rtl_rule.specs.Parts.{parts}
-use Rattle.rtl_scan.specs.declared.bits.Row.{Row}
+use Rattle.check_found.specs.rtl_scan.declared.bits.Row.{Row}
 use Rattle.check_sense.specs.Telling.{row_wakes}
 use Rattle.check_sense.proofs.Woken.{can_wake_is}
 use Rattle.check_sense.proofs.waking.can_wake.Goals as goal

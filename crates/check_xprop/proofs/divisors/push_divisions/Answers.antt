@@ -8,7 +8,7 @@ use Rattle.rtl_flat.specs.Expression.{tree}
 use Rattle.rtl_flat.specs.Process.{Task, task}
 use Rattle.rtl_flat.specs.Signs.{width_in}
 use Rattle.rtl_flat.specs.Sizes.{IsSized}
-use Rattle.rtl_scan.proofs.Processes.{task_at}
+use Rattle.check_assign.proofs.rtl_scan_proofs.Processes.{task_at}
 use Rattle.check_xprop.proofs.Sized.{all_sized, each_at}
 use Rattle.rtl_rule.specs.declared.rule.Rule.TheVariants as rule
 use Rattle.rtl_rule.specs.Parts.{parts, place_of}

@@ -3,10 +3,10 @@ use Rattle.std.proofs.Common.{◌≡◌, ◌∙◌, ◌&&◌, not, true, false, 
 use Rattle.std.proofs.lemmas.Result.{on_ok_weaker}
 use Rattle.rtl_flat.specs.Process.{Task}
 use Rattle.rtl_rule.specs.Parts.{parts}
-use Rattle.rtl_scan.specs.declared.bits.Row.{Row}
-use Rattle.rtl_scan.specs.Usage.{has_row_of}
+use Rattle.check_assign.specs.rtl_scan.declared.bits.Row.{Row}
+use Rattle.check_assign.specs.rtl_scan.Usage.{has_row_of}
 use Rattle.check_assign.specs.Assigned.{is_clocked}
-use Rattle.check_chains.specs.Chains.{chain_of, has_chain}
+use Rattle.check_assign.specs.check_chains.Chains.{chain_of, has_chain}
 use Rattle.check_xprop.specs.Spreading.{starts, writes}
 use Rattle.check_xprop.proofs.Processes.{same_task}
 use Rattle.check_xprop.proofs.Spreading.{marks_as, writes_are}

@@ -6,7 +6,7 @@ use Rattle.rtl_flat.specs.declared.expr.SigId.{SigId}
 use Rattle.rtl_flat.specs.Process.{task}
 use Rattle.rtl_rule.specs.declared.rule.Rule.TheVariants.{DelayIgnored}
 use Rattle.rtl_rule.specs.Parts.{parts, first_of, written}
-use Rattle.rtl_scan.proofs.Processes.{length-tasks, task_at}
+use Rattle.check_assign.proofs.rtl_scan_proofs.Processes.{length-tasks, task_at}
 use Rattle.check_xprop.specs.Lists.{at_spot}
 use Rattle.check_xprop.proofs.Regions.{delay_nowhere, delay_there}
 use Rattle.check_xprop.proofs.dropped.push_delay.Goals as goal

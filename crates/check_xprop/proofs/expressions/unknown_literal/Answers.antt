@@ -1,7 +1,7 @@
 use Rattle.std.proofs.Common.{◌≡◌, ◌<◌, length, map, arith}
 use Rattle.rtl_flat.specs.Process.{task}
 use Rattle.rtl_rule.specs.Parts.{parts}
-use Rattle.rtl_scan.proofs.Processes.{length-tasks}
+use Rattle.check_assign.proofs.rtl_scan_proofs.Processes.{length-tasks}
 use Rattle.check_xprop.proofs.Lists.{below_more}
 use Rattle.check_xprop.proofs.Processes.{literals_all, slice_there}
 use Rattle.check_xprop.proofs.expressions.unknown_literal.Goals as goal

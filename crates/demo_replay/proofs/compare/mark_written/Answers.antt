@@ -2,8 +2,8 @@ use Rattle.std.proofs.Common.{◌≡◌, ℕ, List, Ok, map, subst, rules}
 use Rattle.std.specs.declared.alloc.AllocError.{AllocError}
 use Rattle.std.proofs.lemmas.Iterator.{items_from_collect, YieldsList-from_map, YieldsList-from_slice}
 use Rattle.rtl_rule.specs.Parts.{parts}
-use Rattle.rtl_scan.specs.declared.bits.Row.{Row}
-use Rattle.check_clocks.specs.Tops.{AreMarkedAlso}
+use Rattle.event_queue.specs.rtl_scan.declared.bits.Row.{Row}
+use Rattle.netlist_eval.specs.check_clocks.Tops.{AreMarkedAlso}
 use Rattle.demo_replay.proofs.Marking.{marks_written}
 use Rattle.demo_replay.proofs.compare.mark_written.Goals as goal
 

@@ -5,8 +5,8 @@ use Rattle.rtl_flat.specs.declared.expr.SigId.{SigId}
 use Rattle.rtl_rule.specs.Parts.{parts}
 use Rattle.event_model.specs.Queue.{flat}
 use Rattle.net_model.specs.declared.fill.Fill.{Fill}
-use Rattle.net_order.specs.Order.{IsCyclic}
-use Rattle.net_start.specs.Stored.{places}
+use Rattle.netlist_eval.specs.net_order.Order.{IsCyclic}
+use Rattle.netlist_eval.specs.net_start.Stored.{places}
 use Rattle.netlist_eval.specs.Basis.{IsBasisOf}
 use Rattle.netlist_eval.specs.Netlists.{flat_in}
 use Rattle.netlist_eval.specs.Steps.{IsFault}

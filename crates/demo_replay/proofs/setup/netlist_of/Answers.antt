@@ -1,8 +1,8 @@
 use Rattle.std.proofs.Common.{subst}
 use Rattle.rtl_flat.specs.declared.design.Design.{Design}
 use Rattle.rtl_rule.specs.Parts.{parts}
-use Rattle.net_list.specs.Failing.{IsFirst}
-use Rattle.net_list.specs.Faults.{AreFormed, IsContended, IsShapeless}
+use Rattle.infer_latches.specs.net_list.Failing.{IsFirst}
+use Rattle.infer_latches.specs.net_list.Faults.{AreFormed, IsContended, IsShapeless}
 use Rattle.demo_replay.specs.Setups.{Contended, Shapeless}
 use Rattle.demo_replay.proofs.setup.netlist_of.Goals as goal
 

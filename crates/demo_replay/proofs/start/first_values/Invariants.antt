@@ -1,7 +1,7 @@
 use Rattle.std.proofs.Common.{◌≡◌, length, map, take}
 use Rattle.event_model.specs.Queue.{flat, widths}
 use Rattle.rtl_rule.specs.Parts.{parts}
-use Rattle.net_start.specs.Stored.{places}
+use Rattle.netlist_eval.specs.net_start.Stored.{places}
 use Rattle.demo_replay.specs.Setups.{first_value}
 use Rattle.demo_replay.proofs.start.first_values.Given as goal
 

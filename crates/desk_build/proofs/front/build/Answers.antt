@@ -4,7 +4,7 @@ use Rattle.std.specs.declared.alloc.Global.{Global}
 use Rattle.rtl_tree.specs.declared.tree.modules.Module.{Module}
 use Rattle.rtl_front.specs.declared.fault.SourceFault.{SourceFault}
 use Rattle.rtl_front.specs.Fronts.{IsFirstFaulty}
-use Rattle.elab_links.specs.Modules.{circuits_of}
+use Rattle.rtl_elab.specs.elab_links.Modules.{circuits_of}
 use Rattle.rtl_elab.specs.Designs.{library_of}
 use Rattle.rtl_elab.specs.Elaborated.{elaborated}
 use Rattle.desk_places.specs.Places.{sources_of}

@@ -1,6 +1,6 @@
 use Rattle.std.proofs.Common.{◌∙◌, ℕ, List, Err, subst, arith}
-use Rattle.desk_core.specs.Starting.{IsStart}
-use Rattle.desk_core.specs.declared.start.StartFault.{StartFault}
+use Rattle.desk_server.specs.desk_core.Starting.{IsStart}
+use Rattle.desk_server.specs.desk_core.declared.start.StartFault.{StartFault}
 use Rattle.desk_top.specs.Delivery.{Delivers}
 use Rattle.desk_command.specs.Commands.{taken_between}
 use Rattle.desk_command.proofs.Started.{on_bad_tables}

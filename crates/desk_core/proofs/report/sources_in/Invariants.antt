@@ -1,6 +1,6 @@
 use Rattle.std.proofs.Common.{◌≡◌, map, take}
 use Rattle.desk_places.specs.Places.{sources_of}
-use Rattle.desk_memo.specs.Fresh.{sources_in}
+use Rattle.design_db.specs.desk_memo.Fresh.{sources_in}
 use Rattle.desk_core.proofs.report.sources_in.Given as goal
 
 abbrev pub invariant-loop-number : goal.invariant-loop-number

@@ -1,6 +1,6 @@
 use Rattle.std.proofs.Common.{◌∙◌, sym}
 use Rattle.std.proofs.lemmas.Bool.{and_from, and_left, and_right}
-use Rattle.elab_links.specs.Modules.{circuits_of}
+use Rattle.elab_names.specs.elab_links.Modules.{circuits_of}
 use Rattle.desk_memo.specs.Rulings.{is_current, is_current_of, is_of}
 use Rattle.desk_memo.specs.Shown.{ruling_of}
 use Rattle.desk_memo.proofs.Kepts.{is_place, one_more}

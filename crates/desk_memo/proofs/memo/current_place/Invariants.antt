@@ -1,6 +1,6 @@
 use Rattle.std.proofs.Common.{◌≡◌, map, take}
 use Rattle.std.specs.Prelude.{find, None}
-use Rattle.elab_links.specs.Modules.{circuits_of}
+use Rattle.elab_names.specs.elab_links.Modules.{circuits_of}
 use Rattle.desk_memo.specs.Rulings.{is_current_of}
 use Rattle.desk_memo.specs.Shown.{ruling_of}
 use Rattle.desk_memo.proofs.memo.current_place.Given as goal

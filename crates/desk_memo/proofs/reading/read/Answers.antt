@@ -2,7 +2,7 @@ use Rattle.std.proofs.Common.{◌∙◌, List, ℕ, ap, subst}
 use Rattle.rtl_front.specs.Fronts.{IsFirstFaulty, texts_of}
 use Rattle.rtl_front.specs.declared.fault.SourceFault.{SourceFault}
 use Rattle.rtl_front.specs.declared.fault.SourceFault.TheVariants as source
-use Rattle.elab_links.specs.Modules.{circuits_of}
+use Rattle.elab_names.specs.elab_links.Modules.{circuits_of}
 use Rattle.desk_build.specs.Building.{AreSpelled}
 use Rattle.desk_memo.proofs.Read.{lone_fault}
 use Rattle.desk_memo.proofs.reading.read.Goals as goal

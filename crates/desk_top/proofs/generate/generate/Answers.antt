@@ -1,5 +1,5 @@
 use Rattle.std.proofs.Common.{codes, map, subst}
-use Rattle.rtl_elab.specs.Designs.{flat_in}
+use Rattle.desk_build.specs.rtl_elab.Designs.{flat_in}
 use Rattle.desk_places.specs.Places.{sources_of}
 use Rattle.desk_build.specs.declared.front.Built.{Built as Made}
 use Rattle.desk_build.specs.Building.{Designed, IsBuilt, Refused, built}

@@ -1,7 +1,7 @@
 use Rattle.std.proofs.Common.{◌∙◌, map, subst}
 use Rattle.desk_places.specs.Places.{sources_of}
 use Rattle.desk_build.specs.declared.front.Built.{Built as Made}
-use Rattle.rtl_elab.specs.Designs.{flat_in}
+use Rattle.desk_build.specs.rtl_elab.Designs.{flat_in}
 use Rattle.desk_build.specs.Building.{Designed, IsBuilt, Refused, built}
 use Rattle.desk_top.specs.Texts.{named}
 use Rattle.desk_top.specs.Words.{texts}

@@ -2,7 +2,7 @@ use Rattle.std.proofs.Common.{◌∙◌, Ok, map, subst}
 use Rattle.desk_places.specs.Places.{sources_of}
 use Rattle.desk_build.specs.declared.front.Built.{Built as Made}
 use Rattle.desk_top.specs.declared.simulate.Plan.TheVariants.{Told}
-use Rattle.rtl_elab.specs.Designs.{flat_in}
+use Rattle.desk_build.specs.rtl_elab.Designs.{flat_in}
 use Rattle.desk_build.specs.Building.{Designed, IsBuilt, Refused, built}
 use Rattle.desk_top.specs.Texts.{named}
 use Rattle.desk_top.specs.Words.{texts}

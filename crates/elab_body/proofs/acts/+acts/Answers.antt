@@ -4,8 +4,8 @@ use Rattle.std.proofs.lemmas.Int.{to_z-of_z}
 use Rattle.rtl_tree.specs.TreeExpr.{formula}
 use Rattle.rtl_tree.specs.TreeStmt.{action}
 use Rattle.rtl_flat.specs.Process.{action as made_action}
-use Rattle.elab_scope.specs.Names.{meanings}
-use Rattle.elab_scope.specs.Trees.{tree_of}
+use Rattle.elab_nodes.specs.elab_scope.Names.{meanings}
+use Rattle.elab_nodes.specs.elab_scope.Trees.{tree_of}
 use Rattle.elab_body.specs.Acts.{act_turns, acts}
 use Rattle.elab_body.specs.Bodies.{in_turn}
 use Rattle.elab_body.specs.Courses.{head_of}

@@ -1,7 +1,7 @@
 use Rattle.std.proofs.Common.{◌≡◌, ◌-◌, ◌++◌, ℤ, Option, map, drop}
 use Rattle.rtl_tree.specs.TreeStmt.{action, action_row, branch, branch_row}
 use Rattle.rtl_flat.specs.Process.{action as made_action}
-use Rattle.elab_scope.specs.Names.{indexed, meanings}
+use Rattle.elab_nodes.specs.elab_scope.Names.{indexed, meanings}
 use Rattle.elab_body.specs.Acts.{act_turns, acts, body_acts, case_branches, fallback}
 use Rattle.elab_body.specs.Courses.{head_of}
 use Rattle.elab_body.specs.Made.{items_before}

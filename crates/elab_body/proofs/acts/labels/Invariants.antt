@@ -1,8 +1,8 @@
 use Rattle.std.proofs.Common.{◌≡◌, ◌++◌, map, drop}
 use Rattle.rtl_tree.specs.TreeExpr.{formula}
 use Rattle.rtl_flat.specs.Expression.{tree}
-use Rattle.elab_scope.specs.Names.{meanings}
-use Rattle.elab_scope.specs.Trees.{tree_of}
+use Rattle.elab_nodes.specs.elab_scope.Names.{meanings}
+use Rattle.elab_nodes.specs.elab_scope.Trees.{tree_of}
 use Rattle.elab_body.proofs.acts.labels.Given as goal
 
 abbrev pub invariant-loop-label : goal.invariant-loop-label

@@ -2,7 +2,7 @@ use Rattle.std.proofs.Common.{◌≡◌, ◌∙◌, ◌+◌, ◌-◌, zero, suc,
 use Rattle.std.proofs.lemmas.Int.{to_z-of_z}
 use Rattle.std.proofs.lemmas.Grind.{common_steps}
 use Rattle.rtl_tree.specs.TreeStmt.{action}
-use Rattle.elab_scope.specs.Names.{meanings}
+use Rattle.elab_nodes.specs.elab_scope.Names.{meanings}
 use Rattle.elab_body.specs.Bodies.{in_turn, steps, turns}
 use Rattle.elab_body.specs.Courses.{course, ended, head_of}
 use Rattle.elab_body.specs.Steps.{passed}

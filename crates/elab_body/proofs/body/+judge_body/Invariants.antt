@@ -1,6 +1,6 @@
 use Rattle.std.proofs.Common.{◌≡◌, ◌-◌, ℤ, Option, map, drop}
 use Rattle.rtl_tree.specs.TreeStmt.{action, action_row, branch, branch_row}
-use Rattle.elab_scope.specs.Names.{indexed, meanings}
+use Rattle.elab_nodes.specs.elab_scope.Names.{indexed, meanings}
 use Rattle.elab_body.specs.Bodies.{body_steps, branches_steps, steps, turns}
 use Rattle.elab_body.specs.Courses.{course, head_of}
 use Rattle.elab_body.specs.Steps.{passed}

@@ -1,7 +1,7 @@
 use Rattle.std.proofs.Common.{◌≡◌, ◌++◌, map, drop}
 use Rattle.rtl_tree.specs.TreeItem.{happening}
 use Rattle.rtl_flat.specs.Process.{watched}
-use Rattle.elab_scope.specs.Names.{meanings}
+use Rattle.elab_nodes.specs.elab_scope.Names.{meanings}
 use Rattle.elab_body.specs.Events.{watched_of}
 use Rattle.elab_body.proofs.events.items.Given as goal
 

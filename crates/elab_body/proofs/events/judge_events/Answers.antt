@@ -1,6 +1,6 @@
 use Rattle.std.proofs.Common.{arith}
 use Rattle.std.proofs.lemmas.Grind.{common_steps}
-use Rattle.elab_scope.proofs.Least.{after_append}
+use Rattle.elab_nodes.proofs.elab_scope_proofs.Least.{after_append}
 use Rattle.elab_body.proofs.events.judge_events.Goals as goal
 
 pub loop-event-preserved : goal.loop-event-preserved

@@ -1,8 +1,8 @@
 use Rattle.std.proofs.Common.{◌≡◌, map, drop}
 use Rattle.std.specs.Option.{option_map}
 use Rattle.rtl_tree.specs.TreeItem.{happening}
-use Rattle.elab_scope.specs.Faults.{after, refusal}
-use Rattle.elab_scope.specs.Names.{meanings}
+use Rattle.elab_nodes.specs.elab_scope.Faults.{after, refusal}
+use Rattle.elab_nodes.specs.elab_scope.Names.{meanings}
 use Rattle.elab_body.specs.Events.{events_faults}
 use Rattle.elab_body.proofs.events.judge_events.Given as goal
 

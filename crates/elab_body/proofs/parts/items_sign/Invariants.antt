@@ -1,6 +1,6 @@
 use Rattle.std.proofs.Common.{◌≡◌, map, drop}
 use Rattle.rtl_tree.specs.TreeStmt.{branch, branch_row}
-use Rattle.elab_scope.specs.Names.{meanings}
+use Rattle.elab_nodes.specs.elab_scope.Names.{meanings}
 use Rattle.elab_body.specs.Acts.{branches_sign}
 use Rattle.elab_body.proofs.parts.items_sign.Given as goal
 

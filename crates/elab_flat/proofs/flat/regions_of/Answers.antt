@@ -1,7 +1,7 @@
 use Rattle.std.specs.List.{flat_map}
 use Rattle.std.proofs.Common.{List, map, refl}
 use Rattle.rtl_flat.specs.declared.instance.DroppedRegion.{DroppedRegion}
-use Rattle.elab_parts.proofs.Rows.{more_made}
+use Rattle.elab_walk.proofs.elab_parts_proofs.Rows.{more_made}
 use Rattle.elab_walk.specs.declared.trail.Placement.{Placement}
 use Rattle.elab_walk.specs.Placements.{regions_at}
 use Rattle.elab_walk.specs.Trails.{placement}

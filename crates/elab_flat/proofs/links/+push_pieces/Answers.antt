@@ -2,9 +2,9 @@ use Rattle.std.proofs.Common.{◌∙◌, ◌++◌, ap, map, sym}
 use Rattle.std.proofs.lemmas.Result.{IfOk-weaker}
 use Rattle.rtl_flat.specs.Process.{piece}
 use Rattle.rtl_tree.specs.TreeExpr.{formula, formula_row}
-use Rattle.elab_scope.specs.Names.{meanings}
-use Rattle.elab_links.specs.Drivable.{all_link_pieces}
-use Rattle.elab_links.proofs.Pieces.{concat_pieces}
+use Rattle.elab_walk.specs.elab_scope.Names.{meanings}
+use Rattle.elab_walk.specs.elab_links.Drivable.{all_link_pieces}
+use Rattle.elab_walk.proofs.elab_links_proofs.Pieces.{concat_pieces}
 use Rattle.elab_flat.proofs.links.+push_pieces.Goals as goal
 
 pub push_pieces-returns-in-Concat : goal.push_pieces-returns-in-Concat

@@ -2,8 +2,8 @@ use Rattle.std.proofs.Common.{◌∙◌, ap, sym, map, ◌++◌}
 use Rattle.rtl_flat.specs.Process.{task}
 use Rattle.rtl_tree.specs.TreeItem.{associated}
 use Rattle.elab_flat.specs.Links.{named_tasks, sides}
-use Rattle.elab_links.specs.Ports.{sockets}
-use Rattle.elab_links.proofs.Steps.{joined_on, left_at}
+use Rattle.elab_walk.specs.elab_links.Ports.{sockets}
+use Rattle.elab_walk.proofs.elab_links_proofs.Steps.{joined_on, left_at}
 use Rattle.elab_flat.proofs.links.push_named.Goals as goal
 
 pub loop-argument-preserved : goal.loop-argument-preserved

@@ -3,7 +3,7 @@ use Rattle.std.specs.Option.{option_map}
 use Rattle.std.proofs.lemmas.Result.{on_ok_weaker}
 use Rattle.rtl_flat.specs.Process.{task}
 use Rattle.rtl_tree.specs.TreeExpr.{formula}
-use Rattle.elab_links.specs.Ports.{sockets}
+use Rattle.elab_walk.specs.elab_links.Ports.{sockets}
 use Rattle.elab_flat.specs.Links.{sides}
 use Rattle.elab_flat.proofs.Rows.{placed_none, placed_some}
 use Rattle.elab_flat.proofs.links.push_placed.Goals as goal

@@ -1,8 +1,8 @@
 use Rattle.std.proofs.Common.{◌≡◌, ◌++◌, map, drop}
 use Rattle.rtl_flat.specs.Process.{task}
 use Rattle.rtl_tree.specs.TreeItem.{instantiation}
-use Rattle.elab_scope.specs.Names.{meanings}
-use Rattle.elab_links.specs.Ports.{sockets}
+use Rattle.elab_walk.specs.elab_scope.Names.{meanings}
+use Rattle.elab_walk.specs.elab_links.Ports.{sockets}
 use Rattle.elab_walk.specs.Trails.{placement}
 use Rattle.elab_flat.specs.Works.{instantiations_tasks}
 use Rattle.elab_flat.proofs.works.push_instantiations.Given as goal

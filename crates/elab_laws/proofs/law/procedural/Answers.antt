@@ -1,4 +1,4 @@
-use Rattle.elab_scope.specs.declared.rules.Writer.TheVariants.{Procedural}
+use Rattle.elab_body.specs.elab_scope.declared.rules.Writer.TheVariants.{Procedural}
 use Rattle.elab_laws.proofs.Assignments.{assignment}
 use Rattle.elab_laws.proofs.law.procedural.Goals as goal
 

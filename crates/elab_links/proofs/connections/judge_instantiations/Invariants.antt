@@ -1,8 +1,8 @@
 use Rattle.std.proofs.Common.{◌≡◌, map, drop}
 use Rattle.std.specs.Option.{option_map}
 use Rattle.rtl_tree.specs.TreeItem.{instantiation}
-use Rattle.elab_scope.specs.Faults.{after, refusal}
-use Rattle.elab_scope.specs.Names.{meanings}
+use Rattle.elab_items.specs.elab_scope.Faults.{after, refusal}
+use Rattle.elab_items.specs.elab_scope.Names.{meanings}
 use Rattle.elab_links.specs.Connections.{instantiations_faults}
 use Rattle.elab_links.specs.Ports.{sockets}
 use Rattle.elab_links.proofs.connections.judge_instantiations.Given as goal

@@ -2,8 +2,8 @@ use Rattle.std.proofs.Common.{◌∙◌, ap, sym, map, drop, ◌+◌}
 use Rattle.std.specs.Option.{option_map}
 use Rattle.rtl_tree.specs.TreeExpr.{formula}
 use Rattle.rtl_tree.specs.TreeItem.{associated}
-use Rattle.elab_scope.specs.Faults.{Port, after, refusal}
-use Rattle.elab_scope.specs.Names.{meanings}
+use Rattle.elab_items.specs.elab_scope.Faults.{Port, after, refusal}
+use Rattle.elab_items.specs.elab_scope.Names.{meanings}
 use Rattle.elab_links.specs.Connections.{connection_faults, named_link_faults}
 use Rattle.elab_links.specs.Marks.{marks_of, with_mark}
 use Rattle.elab_links.specs.Parameters.{name_faults}

@@ -3,8 +3,8 @@ use Rattle.std.specs.Option.{option_map}
 use Rattle.std.specs.List.{slice_get}
 use Rattle.rtl_tree.specs.TreeExpr.{formula}
 use Rattle.rtl_tree.specs.TreeItem.{positional}
-use Rattle.elab_scope.specs.Faults.{Port, after, refusal}
-use Rattle.elab_scope.specs.Names.{meanings}
+use Rattle.elab_items.specs.elab_scope.Faults.{Port, after, refusal}
+use Rattle.elab_items.specs.elab_scope.Names.{meanings}
 use Rattle.elab_links.specs.Connections.{ordered_link_faults, placed_faults}
 use Rattle.elab_links.specs.Parameters.{surplus_faults}
 use Rattle.elab_links.specs.Ports.{sockets}

@@ -1,6 +1,6 @@
 use Rattle.std.proofs.Common.{◌≡◌, map, drop}
 use Rattle.rtl_tree.specs.TreeExpr.{formula, formula_row}
-use Rattle.elab_scope.specs.Names.{meanings}
+use Rattle.elab_items.specs.elab_scope.Names.{meanings}
 use Rattle.elab_links.specs.Drivable.{all_have_nets}
 use Rattle.elab_links.proofs.drivable.+has_nets.Given as goal
 

@@ -1,6 +1,6 @@
 use Rattle.std.proofs.Common.{◌≡◌, ◌++◌, map, drop}
 use Rattle.rtl_tree.specs.TreeExpr.{formula, formula_row}
-use Rattle.elab_scope.specs.Names.{meanings}
+use Rattle.elab_items.specs.elab_scope.Names.{meanings}
 use Rattle.elab_links.specs.Drivable.{all_covers_of}
 use Rattle.elab_links.proofs.drivable.+push_covers.Given as goal
 

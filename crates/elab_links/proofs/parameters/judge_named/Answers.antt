@@ -2,8 +2,8 @@ use Rattle.std.proofs.Common.{◌∙◌, ap, sym, map, drop, ◌+◌}
 use Rattle.std.specs.Option.{option_map}
 use Rattle.rtl_tree.specs.TreeExpr.{formula}
 use Rattle.rtl_tree.specs.TreeItem.{associated}
-use Rattle.elab_scope.specs.Faults.{Parameter, after, refusal}
-use Rattle.elab_scope.specs.Names.{meanings}
+use Rattle.elab_items.specs.elab_scope.Faults.{Parameter, after, refusal}
+use Rattle.elab_items.specs.elab_scope.Names.{meanings}
 use Rattle.elab_links.specs.Marks.{marks_of, with_mark}
 use Rattle.elab_links.specs.Parameters.{name_faults, named_setting_faults, setting_faults}
 use Rattle.elab_links.proofs.Steps.{left_at, two_told}

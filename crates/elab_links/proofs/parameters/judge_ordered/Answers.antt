@@ -2,8 +2,8 @@ use Rattle.std.proofs.Common.{◌∙◌, ap, sym, map, drop, ◌+◌}
 use Rattle.std.specs.Option.{option_map}
 use Rattle.rtl_tree.specs.TreeExpr.{formula}
 use Rattle.rtl_tree.specs.TreeItem.{positional}
-use Rattle.elab_scope.specs.Faults.{Parameter, after, refusal}
-use Rattle.elab_scope.specs.Names.{meanings}
+use Rattle.elab_items.specs.elab_scope.Faults.{Parameter, after, refusal}
+use Rattle.elab_items.specs.elab_scope.Names.{meanings}
 use Rattle.elab_links.specs.Parameters.{ordered_setting_faults, setting_faults, surplus_faults}
 use Rattle.elab_links.proofs.Steps.{left_at, two_told}
 use Rattle.elab_links.proofs.parameters.judge_ordered.Goals as goal

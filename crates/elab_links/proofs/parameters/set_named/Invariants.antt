@@ -1,6 +1,6 @@
 use Rattle.std.proofs.Common.{◌≡◌, map, drop}
 use Rattle.rtl_tree.specs.TreeItem.{associated}
-use Rattle.elab_scope.specs.Names.{meanings, numbers_in}
+use Rattle.elab_items.specs.elab_scope.Names.{meanings, numbers_in}
 use Rattle.elab_items.specs.Settings.{settings_of}
 use Rattle.elab_links.specs.Parameters.{named_settings}
 use Rattle.elab_links.proofs.parameters.set_named.Given as goal

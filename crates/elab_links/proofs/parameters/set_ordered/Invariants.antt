@@ -1,7 +1,7 @@
 use Rattle.std.proofs.Common.{◌≡◌, map, drop}
 use Rattle.rtl_tree.specs.TreeExpr.{identifier}
 use Rattle.rtl_tree.specs.TreeItem.{positional}
-use Rattle.elab_scope.specs.Names.{meanings, numbers_in}
+use Rattle.elab_items.specs.elab_scope.Names.{meanings, numbers_in}
 use Rattle.elab_items.specs.Settings.{settings_of}
 use Rattle.elab_links.specs.Parameters.{ordered_settings}
 use Rattle.elab_links.proofs.parameters.set_ordered.Given as goal

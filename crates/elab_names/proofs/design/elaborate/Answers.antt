@@ -1,6 +1,6 @@
 use Rattle.std.proofs.Common.{subst}
 use Rattle.std.specs.Prelude.{IfOk}
-use Rattle.elab_walk.specs.Visits.{Library}
+use Rattle.rtl_elab.specs.elab_walk.Visits.{Library}
 use Rattle.rtl_elab.specs.Elaborated.{elaborated}
 use Rattle.rtl_elab.proofs.Libraries.{library_is}
 use Rattle.elab_names.specs.Extracts.{IsElaborated, extract}

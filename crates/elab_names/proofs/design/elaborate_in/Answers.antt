@@ -2,13 +2,13 @@ use Rattle.std.proofs.Common.{◌≡◌, ◌∙◌, ◌++◌, ℕ, List, drop, l
 use Rattle.std.specs.Option.{option_map}
 use Rattle.std.proofs.lemmas.List.{take_at}
 use Rattle.rtl_flat.specs.declared.design.Design.{Design}
-use Rattle.elab_scope.specs.declared.fault.ElabFault.{ElabFault}
-use Rattle.elab_scope.specs.Faults.{answer}
-use Rattle.elab_walk.specs.Placements.{placements}
-use Rattle.elab_walk.specs.Trails.{placement}
-use Rattle.elab_walk.specs.Visits.{library}
-use Rattle.elab_flat.specs.Flats.{DesignParts}
-use Rattle.elab_flat.specs.Views.{flat}
+use Rattle.rtl_elab.specs.elab_scope.declared.fault.ElabFault.{ElabFault}
+use Rattle.rtl_elab.specs.elab_scope.Faults.{answer}
+use Rattle.rtl_elab.specs.elab_walk.Placements.{placements}
+use Rattle.rtl_elab.specs.elab_walk.Trails.{placement}
+use Rattle.rtl_elab.specs.elab_walk.Visits.{library}
+use Rattle.rtl_elab.specs.elab_flat.Flats.{DesignParts}
+use Rattle.rtl_elab.specs.elab_flat.Views.{flat}
 use Rattle.rtl_elab.specs.Elaborated.{elaborated, refused, visited}
 use Rattle.elab_names.specs.declared.look_up.LookUp.{LookUp}
 use Rattle.elab_names.specs.Asking.{AreFound}

@@ -4,7 +4,7 @@ use Rattle.std.specs.Prelude.{Vec}
 use Rattle.std.specs.declared.alloc.Global.{Global}
 use Rattle.rtl_tree.specs.TreeModule.{circuit}
 use Rattle.rtl_tree.specs.declared.tree.modules.Module.{Module}
-use Rattle.elab_links.specs.Modules.{circuits_of, found, placed_from, placed_in}
+use Rattle.rtl_elab.specs.elab_links.Modules.{circuits_of, found, placed_from, placed_in}
 use Rattle.elab_names.proofs.Resolving.{file_earlier}
 use Rattle.elab_names.proofs.meaning.resolve.Goals as goal
 

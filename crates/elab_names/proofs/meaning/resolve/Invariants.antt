@@ -1,5 +1,5 @@
 use Rattle.std.proofs.Common.{◌≡◌, ◌≤◌, length, drop}
-use Rattle.elab_links.specs.Modules.{circuits_of, found, placed_from}
+use Rattle.rtl_elab.specs.elab_links.Modules.{circuits_of, found, placed_from}
 use Rattle.elab_names.proofs.meaning.resolve.Given as goal
 
 abbrev pub invariant-loop-file : goal.invariant-loop-file

@@ -2,7 +2,7 @@ use Rattle.std.proofs.Common.{◌≡◌, ◌∙◌, ℕ, ◌+◌, ◌-◌, ◌<�
 use Rattle.std.proofs.lemmas.List.{drop_all}
 use Rattle.rtl_tree.specs.TreeModule.{circuit}
 use Rattle.rtl_tree.specs.declared.tree.modules.Module.{Module}
-use Rattle.elab_links.specs.Modules.{found, placed_in}
+use Rattle.rtl_elab.specs.elab_links.Modules.{found, placed_in}
 use Rattle.elab_names.proofs.Resolving.{one_earlier}
 use Rattle.elab_names.proofs.meaning.with_file.Goals as goal
 

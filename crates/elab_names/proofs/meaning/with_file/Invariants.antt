@@ -1,6 +1,6 @@
 use Rattle.std.proofs.Common.{◌≡◌, ◌≤◌, List, ◌++◌, length, map, drop}
 use Rattle.rtl_tree.specs.TreeModule.{circuit}
-use Rattle.elab_links.specs.Modules.{Placed, found, placed_in}
+use Rattle.rtl_elab.specs.elab_links.Modules.{Placed, found, placed_in}
 use Rattle.elab_names.proofs.meaning.with_file.Given as goal
 
 abbrev pub invariant-loop-index : goal.invariant-loop-index

@@ -1,4 +1,4 @@
-use Rattle.elab_walk.specs.Trails.{placement}
+use Rattle.rtl_elab.specs.elab_walk.Trails.{placement}
 use Rattle.elab_names.specs.Extracts.{place_in}
 use Rattle.elab_names.specs.Moves.{moved_placement}
 use Rattle.elab_names.proofs.Mapping.{moved_more_seen}

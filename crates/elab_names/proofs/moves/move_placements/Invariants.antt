@@ -1,5 +1,5 @@
 use Rattle.std.proofs.Common.{◌≡◌, map}
-use Rattle.elab_walk.specs.Trails.{placement}
+use Rattle.rtl_elab.specs.elab_walk.Trails.{placement}
 use Rattle.elab_names.specs.Extracts.{place_in}
 use Rattle.elab_names.specs.Moves.{moved_placement}
 use Rattle.elab_names.proofs.Mapping.{moved_to}

@@ -1,7 +1,7 @@
 use Rattle.std.proofs.Common.{◌≤◌, ◌∷◌, [], List, length, arith, subst}
 use Rattle.std.proofs.lemmas.List.{take_all}
-use Rattle.elab_links.specs.Modules.{lookups_of}
-use Rattle.elab_walk.specs.declared.trail.Placement.{Placement}
+use Rattle.rtl_elab.specs.elab_links.Modules.{lookups_of}
+use Rattle.rtl_elab.specs.elab_walk.declared.trail.Placement.{Placement}
 use Rattle.elab_names.specs.Asking.{AreAsked, Asks}
 use Rattle.elab_names.proofs.Asking.{asked_more, begins, placed_names}
 use Rattle.elab_names.proofs.names.look_ups.Goals as goal

@@ -1,5 +1,5 @@
 use Rattle.std.proofs.Common.{◌∷◌, take}
-use Rattle.elab_links.specs.Modules.{lookups_of}
+use Rattle.rtl_elab.specs.elab_links.Modules.{lookups_of}
 use Rattle.elab_names.specs.Asking.{AreAsked}
 use Rattle.elab_names.proofs.Asking.{placed_names}
 use Rattle.elab_names.proofs.names.look_ups.Given as goal

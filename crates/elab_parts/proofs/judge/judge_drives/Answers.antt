@@ -4,7 +4,7 @@ use Rattle.rtl_tree.specs.declared.tree.item.Assignment.{Assignment}
 use Rattle.rtl_tree.specs.TreeExpr.{formula}
 use Rattle.rtl_tree.specs.TreeItem.{drive}
 use Rattle.rtl_tree.specs.TreeStmt.{pause, target}
-use Rattle.elab_scope.specs.Names.{meanings}
+use Rattle.elab_body.specs.elab_scope.Names.{meanings}
 use Rattle.elab_body.specs.Bodies.{pause_steps}
 use Rattle.elab_body.specs.Courses.{course}
 use Rattle.elab_body.specs.Steps.{Step}

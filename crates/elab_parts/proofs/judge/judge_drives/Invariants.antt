@@ -2,7 +2,7 @@ use Rattle.std.proofs.Common.{◌≡◌, map, drop}
 use Rattle.std.specs.Option.{option_map}
 use Rattle.rtl_tree.specs.TreeItem.{drive}
 use Rattle.rtl_tree.specs.TreeStmt.{pause}
-use Rattle.elab_scope.specs.Names.{meanings}
+use Rattle.elab_body.specs.elab_scope.Names.{meanings}
 use Rattle.elab_body.specs.Courses.{course}
 use Rattle.elab_body.specs.Steps.{passed}
 use Rattle.elab_parts.specs.Items.{drive_steps}

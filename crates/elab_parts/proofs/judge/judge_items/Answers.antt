@@ -1,7 +1,7 @@
 use Rattle.std.proofs.Common.{◌∙◌, List, ap, map, refl}
 use Rattle.rtl_tree.specs.declared.tree.item.Item.{Item}
 use Rattle.rtl_tree.specs.TreeItem.{module_item}
-use Rattle.elab_scope.specs.Names.{meanings}
+use Rattle.elab_body.specs.elab_scope.Names.{meanings}
 use Rattle.elab_body.specs.Courses.{course}
 use Rattle.elab_body.specs.Steps.{Step, passed}
 use Rattle.elab_parts.specs.Items.{item_steps, items_steps}

@@ -3,7 +3,7 @@ use Rattle.std.specs.Option.{option_map}
 use Rattle.rtl_tree.specs.declared.tree.item.Wire.{Wire}
 use Rattle.rtl_tree.specs.TreeExpr.{formula, identifier}
 use Rattle.rtl_tree.specs.TreeItem.{net}
-use Rattle.elab_scope.specs.Names.{meanings}
+use Rattle.elab_body.specs.elab_scope.Names.{meanings}
 use Rattle.elab_body.specs.Courses.{course}
 use Rattle.elab_body.specs.Steps.{Step}
 use Rattle.elab_parts.specs.Items.{net_steps, value_steps}

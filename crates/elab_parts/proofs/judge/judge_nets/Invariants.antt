@@ -1,6 +1,6 @@
 use Rattle.std.proofs.Common.{◌≡◌, map, drop}
 use Rattle.rtl_tree.specs.TreeItem.{net}
-use Rattle.elab_scope.specs.Names.{meanings}
+use Rattle.elab_body.specs.elab_scope.Names.{meanings}
 use Rattle.elab_body.specs.Courses.{course}
 use Rattle.elab_body.specs.Steps.{passed}
 use Rattle.elab_parts.specs.Items.{net_steps}

@@ -2,7 +2,7 @@ use Rattle.std.proofs.Common.{◌≡◌, ◌∙◌, ◌+◌, ◌-◌, ◌++◌, 
 use Rattle.std.proofs.lemmas.Int.{to_z-of_z}
 use Rattle.rtl_tree.specs.TreeExpr.{formula, identifier}
 use Rattle.rtl_tree.specs.TreeStmt.{action, action_row, branch, branch_row}
-use Rattle.elab_scope.specs.Names.{meanings}
+use Rattle.elab_body.specs.elab_scope.Names.{meanings}
 use Rattle.elab_body.specs.Bodies.{Head, all_turns, body_steps, branches_steps, in_turn, steps, turns}
 use Rattle.elab_body.specs.Courses.{head_of}
 use Rattle.elab_body.specs.Steps.{delays_of}

@@ -1,7 +1,7 @@
 use Rattle.std.proofs.Common.{◌≡◌, ◌++◌, map, drop}
 use Rattle.rtl_tree.specs.TreeItem.{drive}
 use Rattle.rtl_flat.specs.Process.{task}
-use Rattle.elab_scope.specs.Names.{meanings}
+use Rattle.elab_body.specs.elab_scope.Names.{meanings}
 use Rattle.elab_parts.specs.Tasks.{drive_tasks}
 use Rattle.elab_parts.proofs.tasks.push_drives.Given as goal
 

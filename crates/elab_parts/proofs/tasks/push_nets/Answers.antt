@@ -4,7 +4,7 @@ use Rattle.rtl_tree.specs.declared.tree.item.Wire.{Wire}
 use Rattle.rtl_tree.specs.TreeExpr.{formula, identifier}
 use Rattle.rtl_tree.specs.TreeItem.{net}
 use Rattle.rtl_flat.specs.Process.{Task, task}
-use Rattle.elab_scope.specs.Names.{meanings}
+use Rattle.elab_body.specs.elab_scope.Names.{meanings}
 use Rattle.elab_parts.specs.Tasks.{net_tasks, value_tasks}
 use Rattle.elab_parts.proofs.Rows.{more_made}
 use Rattle.elab_parts.proofs.tasks.push_nets.Goals as goal

@@ -1,8 +1,8 @@
 use Rattle.std.proofs.Common.{◌≡◌, map, drop}
 use Rattle.rtl_tree.specs.TreeItem.{module_item}
-use Rattle.elab_scope.specs.Names.{meanings}
-use Rattle.elab_body.specs.Courses.{course}
-use Rattle.elab_body.specs.Steps.{passed}
+use Rattle.elab_links.specs.elab_scope.Names.{meanings}
+use Rattle.elab_parts.specs.elab_body.Courses.{course}
+use Rattle.elab_parts.specs.elab_body.Steps.{passed}
 use Rattle.elab_walk.specs.Rooms.{parts_steps}
 use Rattle.elab_walk.specs.Visits.{library}
 use Rattle.elab_walk.proofs.judge.judge_parts.Given as goal

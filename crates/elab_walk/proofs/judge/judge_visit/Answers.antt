@@ -2,11 +2,11 @@ use Rattle.std.specs.Option.{option_map}
 use Rattle.std.proofs.Common.{◌∙◌, ◌≡◌, ℕ, List, Option, Some, ap, arith, false, length, map, sym}
 use Rattle.std.proofs.lemmas.List.{length-map}
 use Rattle.rtl_tree.specs.TreeItem.{module_item}
-use Rattle.elab_scope.specs.Faults.{Refusal, after, least, refusal}
-use Rattle.elab_body.specs.Courses.{course}
-use Rattle.elab_body.specs.Steps.{Course, passed}
-use Rattle.elab_items.specs.Rosters.{listing}
-use Rattle.elab_items.specs.Scopes.{declaration_faults, listings_of}
+use Rattle.elab_links.specs.elab_scope.Faults.{Refusal, after, least, refusal}
+use Rattle.elab_parts.specs.elab_body.Courses.{course}
+use Rattle.elab_parts.specs.elab_body.Steps.{Course, passed}
+use Rattle.elab_links.specs.elab_items.Rosters.{listing}
+use Rattle.elab_links.specs.elab_items.Scopes.{declaration_faults, listings_of}
 use Rattle.elab_walk.specs.declared.places.Seek.TheVariants as seek
 use Rattle.elab_walk.specs.Leavings.{behind}
 use Rattle.elab_walk.specs.Refusals.{own_faults}

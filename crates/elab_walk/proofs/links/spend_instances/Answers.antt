@@ -1,9 +1,9 @@
 use Rattle.std.proofs.Common.{List, map, refl}
 use Rattle.rtl_tree.specs.declared.tree.item.Instance.{Instance}
 use Rattle.rtl_tree.specs.TreeItem.{association, instantiation}
-use Rattle.elab_scope.specs.Names.{meanings}
-use Rattle.elab_body.specs.Courses.{course}
-use Rattle.elab_body.specs.Steps.{Step}
+use Rattle.elab_links.specs.elab_scope.Names.{meanings}
+use Rattle.elab_parts.specs.elab_body.Courses.{course}
+use Rattle.elab_parts.specs.elab_body.Steps.{Step}
 use Rattle.elab_parts.proofs.Rows.{passed_more}
 use Rattle.elab_links.specs.Ports.{sockets}
 use Rattle.elab_walk.specs.Links.{connection_steps, instantiations_steps}

@@ -1,8 +1,8 @@
 use Rattle.std.proofs.Common.{◌≡◌, map, drop}
 use Rattle.rtl_tree.specs.TreeItem.{instantiation}
-use Rattle.elab_scope.specs.Names.{meanings}
-use Rattle.elab_body.specs.Courses.{course}
-use Rattle.elab_body.specs.Steps.{passed}
+use Rattle.elab_links.specs.elab_scope.Names.{meanings}
+use Rattle.elab_parts.specs.elab_body.Courses.{course}
+use Rattle.elab_parts.specs.elab_body.Steps.{passed}
 use Rattle.elab_links.specs.Ports.{sockets}
 use Rattle.elab_walk.specs.Links.{instantiations_steps}
 use Rattle.elab_walk.proofs.links.spend_instances.Given as goal

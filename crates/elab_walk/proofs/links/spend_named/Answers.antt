@@ -3,9 +3,9 @@ use Rattle.std.proofs.Common.{◌∙◌, List, ap, map, refl}
 use Rattle.rtl_tree.specs.declared.tree.item.NamedArgument.{NamedArgument}
 use Rattle.rtl_tree.specs.TreeExpr.{formula}
 use Rattle.rtl_tree.specs.TreeItem.{associated}
-use Rattle.elab_scope.specs.Names.{meanings}
-use Rattle.elab_body.specs.Courses.{course}
-use Rattle.elab_body.specs.Steps.{Step, passed}
+use Rattle.elab_links.specs.elab_scope.Names.{meanings}
+use Rattle.elab_parts.specs.elab_body.Courses.{course}
+use Rattle.elab_parts.specs.elab_body.Steps.{Step, passed}
 use Rattle.elab_parts.proofs.Rows.{passed_more}
 use Rattle.elab_links.specs.Ports.{sockets}
 use Rattle.elab_walk.specs.Links.{argument_steps, named_steps}

@@ -3,10 +3,10 @@ use Rattle.std.specs.Option.{option_map}
 use Rattle.std.proofs.Common.{◌∙◌, ap, sym, map, drop, ◌+◌}
 use Rattle.rtl_tree.specs.TreeExpr.{formula}
 use Rattle.rtl_tree.specs.TreeItem.{positional}
-use Rattle.elab_scope.specs.Names.{meanings}
-use Rattle.elab_body.specs.Courses.{course}
-use Rattle.elab_body.specs.Steps.{passed}
-use Rattle.elab_body.proofs.Passing.{passed_append}
+use Rattle.elab_links.specs.elab_scope.Names.{meanings}
+use Rattle.elab_parts.specs.elab_body.Courses.{course}
+use Rattle.elab_parts.specs.elab_body.Steps.{passed}
+use Rattle.elab_parts.proofs.elab_body_proofs.Passing.{passed_append}
 use Rattle.elab_links.specs.Ports.{sockets}
 use Rattle.elab_links.proofs.Steps.{left_at}
 use Rattle.elab_walk.specs.Links.{ordered_steps, placed_steps}

@@ -4,9 +4,9 @@ use Rattle.std.proofs.Common.{◌≡◌, ◌∙◌, ◌<◌, ℕ, Bor, List, Som
 use Rattle.std.proofs.lemmas.Option.{slice_get_read}
 use Rattle.rtl_tree.specs.declared.tree.names.Name.{Name}
 use Rattle.rtl_tree.specs.TreeExpr.{formula, identifier}
-use Rattle.elab_scope.specs.Names.{meanings}
-use Rattle.elab_body.specs.Courses.{course}
-use Rattle.elab_body.specs.Steps.{passed}
+use Rattle.elab_links.specs.elab_scope.Names.{meanings}
+use Rattle.elab_parts.specs.elab_body.Courses.{course}
+use Rattle.elab_parts.specs.elab_body.Steps.{passed}
 use Rattle.elab_links.specs.Ports.{sockets}
 use Rattle.elab_links.proofs.Places.{at_place}
 use Rattle.elab_walk.specs.Links.{argument_steps, placed_steps}

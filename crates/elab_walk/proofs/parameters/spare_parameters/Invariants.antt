@@ -1,7 +1,7 @@
 use Rattle.std.proofs.Common.{◌≡◌, map, drop}
 use Rattle.rtl_tree.specs.TreeItem.{module_item}
 use Rattle.rtl_tree.specs.TreeModule.{circuit}
-use Rattle.elab_nodes.specs.Spares.{spared}
+use Rattle.elab_parts.specs.elab_nodes.Spares.{spared}
 use Rattle.elab_walk.specs.Rooms.{items_parameters, parameter_count}
 use Rattle.elab_walk.proofs.parameters.spare_parameters.Given as goal
 

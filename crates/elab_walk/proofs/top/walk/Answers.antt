@@ -1,6 +1,6 @@
 use Rattle.std.specs.Option.{option_map}
 use Rattle.std.proofs.Common.{◌∙◌, ap, rules}
-use Rattle.elab_scope.specs.Faults.{answer}
+use Rattle.elab_links.specs.elab_scope.Faults.{answer}
 use Rattle.elab_walk.specs.declared.trail.Trail.{Trail}
 use Rattle.elab_walk.specs.Trails.{Going, Refused, gone, trail}
 use Rattle.elab_walk.specs.Visits.{library, visit, visits}

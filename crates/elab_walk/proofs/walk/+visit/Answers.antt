@@ -3,7 +3,7 @@ use Rattle.std.proofs.lemmas.Result.{err_from_is_err_and}
 use Rattle.rtl_tree.specs.declared.tree.item.Instance.{Instance}
 use Rattle.rtl_tree.specs.declared.tree.item.Item.{Item}
 use Rattle.rtl_tree.specs.TreeItem.{module_item, instantiation}
-use Rattle.elab_scope.specs.Faults.{answer}
+use Rattle.elab_links.specs.elab_scope.Faults.{answer}
 use Rattle.elab_links.specs.Groups.{group_of}
 use Rattle.elab_walk.specs.Trails.{Going, Gone, Went, extended, followed, trail}
 use Rattle.elab_walk.specs.Visits.{Visit, child_of, children, holder, item_children, library, placed_children, visit}

@@ -3,13 +3,13 @@ use Rattle.rtl_flat.specs.declared.act.Act.{Act}
 use Rattle.rtl_flat.specs.declared.act.CaseItem.{CaseItem}
 use Rattle.rtl_flat.specs.Process.{action, body_of}
 use Rattle.rtl_flat.specs.WellFormed.{statements}
-use Rattle.rtl_scan.specs.Bodies.{branches_of}
-use Rattle.rtl_scan.specs.Loads.{load, other_load, items_load}
-use Rattle.rtl_scan.proofs.Labels.{left_at}
-use Rattle.rtl_scan.proofs.Weights.{act_load, block_load, case_load, if_load, item_load}
+use Rattle.event_tables.specs.rtl_scan.Bodies.{branches_of}
+use Rattle.event_tables.specs.rtl_scan.Loads.{load, other_load, items_load}
+use Rattle.event_tables.proofs.rtl_scan_proofs.Labels.{left_at}
+use Rattle.event_tables.proofs.rtl_scan_proofs.Weights.{act_load, block_load, case_load, if_load, item_load}
 use Rattle.event_model.specs.Policies.{nonblocking, nonblocking_branches, nonblocking_in}
-use Rattle.event_write.specs.Rooms.{branch_rooms, room, rooms}
-use Rattle.event_write.proofs.Making.{block_action, case_action, if_action}
+use Rattle.event_tables.specs.event_write.Rooms.{branch_rooms, room, rooms}
+use Rattle.event_tables.proofs.event_write_proofs.Making.{block_action, case_action, if_action}
 use Rattle.event_queue.proofs.bodies.+lates.Goals as goal
 
 -- ---- statements in order

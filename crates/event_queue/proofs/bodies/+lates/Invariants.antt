@@ -1,10 +1,10 @@
 use Rattle.std.proofs.Common.{◌≡◌, ◌+◌, ◌*◌, map, drop}
 use Rattle.rtl_flat.specs.Process.{action, body_of}
 use Rattle.rtl_flat.specs.WellFormed.{statements}
-use Rattle.rtl_scan.specs.Bodies.{branches_of}
-use Rattle.rtl_scan.specs.Loads.{load, other_load, items_load}
+use Rattle.event_tables.specs.rtl_scan.Bodies.{branches_of}
+use Rattle.event_tables.specs.rtl_scan.Loads.{load, other_load, items_load}
 use Rattle.event_model.specs.Policies.{nonblocking_branches, nonblocking_in}
-use Rattle.event_write.specs.Rooms.{branch_rooms, rooms}
+use Rattle.event_tables.specs.event_write.Rooms.{branch_rooms, rooms}
 use Rattle.event_queue.proofs.bodies.+lates.Given as goal
 
 abbrev pub invariant-late_in-loop-act : goal.invariant-late_in-loop-act

@@ -1,5 +1,5 @@
 use Rattle.std.proofs.Common.{sym, subst}
-use Rattle.event_write.specs.Stored.{AreStored}
+use Rattle.event_tables.specs.event_write.Stored.{AreStored}
 use Rattle.event_queue.proofs.Freshness.{first_drivers_are, power_up_is}
 use Rattle.event_queue.proofs.Starting.{first_stored}
 use Rattle.event_queue.proofs.first_queue.power_up.Goals as goal

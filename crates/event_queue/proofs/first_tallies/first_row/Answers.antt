@@ -2,8 +2,8 @@ use Rattle.std.proofs.Common.{◌∙◌, List, [], ◌∷◌, length, replicate,
 use Rattle.std.specs.List.{slice_get}
 use Rattle.std.proofs.lemmas.List.{length-append}
 use Rattle.rtl_bits.specs.declared.Bit.TheVariants.{Z}
-use Rattle.event_tally.specs.declared.tally.Tally.{Tally}
-use Rattle.event_tally.specs.Tallies.{IsTally}
+use Rattle.event_tables.specs.event_tally.declared.tally.Tally.{Tally}
+use Rattle.event_tables.specs.event_tally.Tallies.{IsTally}
 use Rattle.event_queue.proofs.Counted.{read_push}
 use Rattle.event_queue.proofs.first_tallies.first_row.Goals as goal
 

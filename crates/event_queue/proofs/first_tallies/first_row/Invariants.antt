@@ -1,6 +1,6 @@
 use Rattle.std.proofs.Common.{ℕ, ◌≡◌, length, replicate}
 use Rattle.rtl_bits.specs.declared.Bit.TheVariants.{Z}
-use Rattle.event_tally.specs.Tallies.{IsTalliedAt}
+use Rattle.event_tables.specs.event_tally.Tallies.{IsTalliedAt}
 use Rattle.event_queue.proofs.first_tallies.first_row.Given as goal
 
 abbrev pub invariant-loop : goal.invariant-loop

@@ -4,9 +4,9 @@ use Rattle.std.proofs.lemmas.List.{length-append}
 use Rattle.rtl_bits.specs.declared.Bit.TheVariants.{Z}
 use Rattle.rtl_flat.specs.declared.signal.Signal.{Signal}
 use Rattle.rtl_flat.specs.Signs.{width_in}
-use Rattle.event_tally.specs.declared.tally.Tally.{Tally}
-use Rattle.event_tally.specs.Tallies.{IsTalliedAt}
-use Rattle.event_write.specs.QueueState.{row}
+use Rattle.event_tables.specs.event_tally.declared.tally.Tally.{Tally}
+use Rattle.event_tables.specs.event_tally.Tallies.{IsTalliedAt}
+use Rattle.event_tables.specs.event_write.QueueState.{row}
 use Rattle.event_queue.proofs.Counted.{row_pushed}
 use Rattle.event_queue.proofs.first_tallies.first_rows.Goals as goal
 

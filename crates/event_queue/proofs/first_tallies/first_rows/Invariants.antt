@@ -1,8 +1,8 @@
 use Rattle.std.proofs.Common.{ℕ, ◌≡◌, ◌≤◌, length, replicate}
 use Rattle.rtl_bits.specs.declared.Bit.TheVariants.{Z}
 use Rattle.rtl_flat.specs.Signs.{width_in}
-use Rattle.event_tally.specs.Tallies.{IsTalliedAt}
-use Rattle.event_write.specs.QueueState.{row}
+use Rattle.event_tables.specs.event_tally.Tallies.{IsTalliedAt}
+use Rattle.event_tables.specs.event_write.QueueState.{row}
 use Rattle.event_queue.proofs.first_tallies.first_rows.Given as goal
 
 abbrev pub invariant-loop-number : goal.invariant-loop-number

@@ -6,7 +6,7 @@ use Rattle.rtl_bits.specs.declared.Bit.TheVariants.{Z}
 use Rattle.rtl_flat.specs.Process.{task}
 use Rattle.event_model.specs.Queue.{doing_at, flat, widths}
 use Rattle.event_model.specs.Writes.{put}
-use Rattle.event_write.specs.QueueState.{AreTallied, HasWidth, driver_of}
+use Rattle.event_tables.specs.event_write.QueueState.{AreTallied, HasWidth, driver_of}
 use Rattle.event_queue.specs.First.{driver_in}
 use Rattle.event_queue.proofs.Counted.{all_so_far, no_driver, none_yet, not_yet, one_more, ready_tallied, so_far}
 use Rattle.event_queue.proofs.first_tallies.first_tallies.Goals as goal

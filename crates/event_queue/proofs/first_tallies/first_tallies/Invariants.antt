@@ -1,6 +1,6 @@
 use Rattle.std.proofs.Common.{◌≡◌, length}
 use Rattle.event_model.specs.Queue.{flat}
-use Rattle.event_write.specs.QueueState.{AreTallied}
+use Rattle.event_tables.specs.event_write.QueueState.{AreTallied}
 use Rattle.event_queue.specs.First.{driver_in}
 use Rattle.event_queue.proofs.Counted.{so_far}
 use Rattle.event_queue.proofs.first_tallies.first_tallies.Given as goal

@@ -3,7 +3,7 @@ use Rattle.rtl_bits.specs.declared.Bit.{Bit}
 use Rattle.rtl_bits.specs.declared.Bit.TheVariants.{Z}
 use Rattle.event_model.specs.Queue.{doing_at, flat, widths}
 use Rattle.event_model.specs.Writes.{put}
-use Rattle.event_write.specs.QueueState.{AreTallied, HasWidth, driver_of}
+use Rattle.event_tables.specs.event_write.QueueState.{AreTallied, HasWidth, driver_of}
 use Rattle.event_queue.proofs.Counted.{put_same}
 use Rattle.event_queue.proofs.first_tallies.tally_first.Goals as goal
 

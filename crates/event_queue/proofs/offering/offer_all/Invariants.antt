@@ -1,6 +1,6 @@
 use Rattle.std.proofs.Common.{◌≡◌, map, drop}
 use Rattle.event_model.specs.Queue.{offer}
-use Rattle.event_write.specs.QueueState.{IsQueueState, design_of, state}
+use Rattle.event_tables.specs.event_write.QueueState.{IsQueueState, design_of, state}
 use Rattle.event_take.specs.Rooms.{IsStill}
 use Rattle.event_queue.specs.Offers.{AreAllowed, set_of}
 use Rattle.event_queue.proofs.offering.offer_all.Given as goal

@@ -1,5 +1,5 @@
 use Rattle.std.proofs.Common.{sym, subst}
-use Rattle.event_write.specs.QueueState.{design_of}
+use Rattle.event_tables.specs.event_write.QueueState.{design_of}
 use Rattle.event_take.specs.declared.choice.Choice.{Choice}
 use Rattle.event_take.specs.Taken.{IsAble, event_of}
 use Rattle.event_queue.specs.Rooms.{IsTaken, free, room_for}

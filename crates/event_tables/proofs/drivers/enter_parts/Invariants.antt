@@ -3,7 +3,7 @@ use Rattle.std.specs.Prelude.{Vec}
 use Rattle.std.specs.declared.alloc.Global.{Global}
 use Rattle.rtl_flat.specs.declared.act.ProcId.{ProcId}
 use Rattle.rtl_flat.specs.Process.{piece}
-use Rattle.event_tally.specs.Targets.{names}
+use Rattle.event_write.specs.event_tally.Targets.{names}
 use Rattle.event_tables.specs.Driving.{Enters}
 use Rattle.event_tables.proofs.drivers.enter_parts.Given as goal
 

@@ -4,8 +4,8 @@ use Rattle.rtl_flat.specs.declared.act.EventItem.{EventItem}
 use Rattle.rtl_flat.specs.declared.act.Does.TheVariants as does
 use Rattle.rtl_flat.specs.Expression.{tree}
 use Rattle.rtl_flat.specs.Process.{piece, doing, task, body_of, action}
-use Rattle.rtl_scan.specs.Sets.{has_rows}
-use Rattle.rtl_scan.proofs.Processes.{task_at}
+use Rattle.event_write.specs.rtl_scan.Sets.{has_rows}
+use Rattle.event_write.proofs.rtl_scan_proofs.Processes.{task_at}
 use Rattle.event_model.specs.Queue.{flat, widths}
 use Rattle.event_tables.specs.Hearing.{Hears}
 use Rattle.event_tables.proofs.Hearing.{items_ear, exact_reads, exact_lists, assignment_hears, star_hears, list_hears, edges_hear}

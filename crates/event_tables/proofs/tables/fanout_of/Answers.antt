@@ -1,5 +1,5 @@
 use Rattle.std.proofs.Common.{ℕ, length, subst}
-use Rattle.rtl_scan.proofs.Processes.{length-tasks}
+use Rattle.event_write.proofs.rtl_scan_proofs.Processes.{length-tasks}
 use Rattle.event_model.specs.Queue.{flat}
 use Rattle.event_tables.specs.Hearing.{AreHeard}
 use Rattle.event_tables.specs.Driving.{AreDriven}

@@ -10,7 +10,7 @@ use Rattle.rtl_flat.specs.Expression.{tree}
 use Rattle.rtl_flat.specs.Process.{Doing, Assign, Piece, doing, piece, task}
 use Rattle.rtl_flat.specs.Signs.{width_in}
 use Rattle.rtl_flat.specs.WellFormed.{IsFixed, IsProcess}
-use Rattle.rtl_scan.proofs.Processes.{widths_fit}
+use Rattle.event_write.proofs.rtl_scan_proofs.Processes.{widths_fit}
 use Rattle.event_model.specs.Queue.{doing_at}
 use Rattle.event_model.specs.Writes.{counts, driven}
 use Rattle.event_write.specs.Entries.{AreSelected}

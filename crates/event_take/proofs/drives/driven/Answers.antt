@@ -8,7 +8,7 @@ use Rattle.rtl_flat.specs.declared.act.TargetPart.{TargetPart}
 use Rattle.rtl_flat.specs.Process.{Piece, piece, selection}
 use Rattle.rtl_flat.specs.Signs.{width_in}
 use Rattle.rtl_flat.specs.WellFormed.{IsFixed}
-use Rattle.rtl_scan.proofs.Labels.{left_at}
+use Rattle.event_write.proofs.rtl_scan_proofs.Labels.{left_at}
 use Rattle.event_model.specs.Writes.{Values, all_written, count_of, counts, no_drive, span_of, write_at, writes}
 use Rattle.event_write.specs.Entries.{AreSelected}
 use Rattle.event_take.proofs.Driving.{all_written_append, all_written_at}

@@ -1,12 +1,12 @@
 use Rattle.std.proofs.Common.{◌<◌, ◌+◌, ◌∙◌, List, sym, subst, arith}
 use Rattle.rtl_bits.specs.Bits.{selected}
-use Rattle.rtl_scan.proofs.Processes.{widths_fit}
+use Rattle.event_write.proofs.rtl_scan_proofs.Processes.{widths_fit}
 use Rattle.event_model.specs.Queue.{resolved, widths}
-use Rattle.event_tally.specs.declared.tally.Tally.{Tally}
-use Rattle.event_tally.specs.Given as tally
-use Rattle.event_tally.specs.Tallies.{IsTalliedAt}
-use Rattle.event_tally.proofs.Counting.{resolved_at}
-use Rattle.event_tally.proofs.Lengths.{resolved_length}
+use Rattle.event_write.specs.event_tally.declared.tally.Tally.{Tally}
+use Rattle.event_write.specs.event_tally.Given as tally
+use Rattle.event_write.specs.event_tally.Tallies.{IsTalliedAt}
+use Rattle.event_write.proofs.event_tally_proofs.Counting.{resolved_at}
+use Rattle.event_write.proofs.event_tally_proofs.Lengths.{resolved_length}
 use Rattle.event_write.specs.QueueState.{design_of, state}
 use Rattle.event_write.proofs.Writing.{row_at}
 use Rattle.event_take.proofs.Retallying.{same_places, selected_at, selected_length}

@@ -1,6 +1,6 @@
 use Rattle.std.proofs.Common.{◌≡◌, drop, map}
 use Rattle.rtl_flat.specs.Process.{piece}
-use Rattle.event_tally.specs.Targets.{names}
+use Rattle.event_write.specs.event_tally.Targets.{names}
 use Rattle.event_take.proofs.tallies.is_named.Given as goal
 
 abbrev pub invariant-loop-at : goal.invariant-loop-at

@@ -5,10 +5,10 @@ use Rattle.rtl_bits.specs.declared.Bit.TheVariants.{Z}
 use Rattle.rtl_flat.specs.declared.signal.Signal.{Signal}
 use Rattle.rtl_flat.specs.Process.{piece}
 use Rattle.rtl_flat.specs.Signs.{width_in}
-use Rattle.rtl_scan.proofs.Processes.{widths_fit}
+use Rattle.event_write.proofs.rtl_scan_proofs.Processes.{widths_fit}
 use Rattle.event_model.specs.Writes.{driven}
-use Rattle.event_tally.specs.declared.tally.Tally.{Tally}
-use Rattle.event_tally.specs.Tallies.{IsTalliedAt, IsTalliedWith}
+use Rattle.event_write.specs.event_tally.declared.tally.Tally.{Tally}
+use Rattle.event_write.specs.event_tally.Tallies.{IsTalliedAt, IsTalliedWith}
 use Rattle.event_write.specs.QueueState.{row}
 use Rattle.event_write.proofs.Targets.{some_bits}
 use Rattle.event_take.proofs.Retallying.{row_other, row_read, row_same}

@@ -5,12 +5,12 @@ use Rattle.rtl_bits.specs.declared.Bit.{Bit}
 use Rattle.rtl_bits.specs.declared.Bit.TheVariants.{Z}
 use Rattle.rtl_flat.specs.declared.act.TargetPart.{TargetPart}
 use Rattle.rtl_flat.specs.Process.{piece, selection}
-use Rattle.rtl_scan.proofs.Labels.{left_at}
+use Rattle.event_write.proofs.rtl_scan_proofs.Labels.{left_at}
 use Rattle.event_model.specs.Queue.{flat, widths}
 use Rattle.event_model.specs.Writes.{driven, put}
-use Rattle.event_tally.specs.Given.{AreCounted}
-use Rattle.event_tally.specs.Tallies.{IsTalliedAt}
-use Rattle.event_tally.specs.Targets.{names}
+use Rattle.event_write.specs.event_tally.Given.{AreCounted}
+use Rattle.event_write.specs.event_tally.Tallies.{IsTalliedAt}
+use Rattle.event_write.specs.event_tally.Targets.{names}
 use Rattle.event_write.specs.Entries.{AreSelected}
 use Rattle.event_write.specs.QueueState.{row}
 use Rattle.event_take.proofs.Retallying.{Half, half_begin, half_here, half_moved, half_skip, selected_later, selection_there, with_old}

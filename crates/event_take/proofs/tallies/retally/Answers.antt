@@ -7,8 +7,8 @@ use Rattle.rtl_flat.specs.Signs.{width_in}
 use Rattle.rtl_flat.specs.WellFormed.{IsProcess}
 use Rattle.event_model.specs.Queue.{doing_at, flat}
 use Rattle.event_model.specs.Writes.{counts}
-use Rattle.event_tally.specs.Targets.{drives_of}
-use Rattle.event_tally.proofs.Counting.{counted_apart}
+use Rattle.event_write.specs.event_tally.Targets.{drives_of}
+use Rattle.event_write.proofs.event_tally_proofs.Counting.{counted_apart}
 use Rattle.event_write.specs.QueueState.{HasWidth, driver_of, row}
 use Rattle.event_write.proofs.Targets.{are_selected, counts_is, some_bits}
 use Rattle.event_take.specs.Tallied.{IsTarget}

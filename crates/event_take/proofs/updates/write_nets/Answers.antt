@@ -7,7 +7,7 @@ use Rattle.rtl_flat.specs.declared.act.TargetPart.{TargetPart}
 use Rattle.rtl_flat.specs.Process.{Piece, piece, selection}
 use Rattle.rtl_flat.specs.Signs.{width_in}
 use Rattle.rtl_flat.specs.WellFormed.{IsFixed}
-use Rattle.rtl_scan.proofs.Labels.{left_at}
+use Rattle.event_write.proofs.rtl_scan_proofs.Labels.{left_at}
 use Rattle.event_model.specs.Queue.{State, bits_in, net_writes, resolved, write_all}
 use Rattle.event_model.specs.Writes.{no_drive, span_of, write_at}
 use Rattle.event_write.specs.Entries.{AreSelected}

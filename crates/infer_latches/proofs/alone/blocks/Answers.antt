@@ -1,8 +1,8 @@
 use Rattle.std.proofs.Common.{◌∙◌, ◌<◌, ◌≤◌, length, sym, arith}
 use Rattle.rtl_flat.specs.Process.{task}
 use Rattle.rtl_rule.specs.Parts.{parts}
-use Rattle.check_found.proofs.Sites.{task_at, task_count}
-use Rattle.check_assign.proofs.Turns.{lower_none, task_of}
+use Rattle.net_list.proofs.check_found_proofs.Sites.{task_at, task_count}
+use Rattle.net_list.proofs.check_assign_proofs.Turns.{lower_none, task_of}
 use Rattle.infer_latches.proofs.Below.{alone_all, alone_next, least_at, single, waiting}
 use Rattle.infer_latches.proofs.alone.blocks.Goals as goal
 use Rattle.infer_latches.proofs.alone.blocks.Goals.{else-again-via-then-again+else-not-waits, else-again-via-else-again}

@@ -1,7 +1,7 @@
 use Rattle.std.proofs.Common.{◌≡◌, map, drop}
 use Rattle.rtl_flat.specs.Process.{watched}
-use Rattle.check_sense.specs.Sense.{has_item}
-use Rattle.check_sense.specs.Telling.{level_in}
+use Rattle.net_list.specs.check_sense.Sense.{has_item}
+use Rattle.net_list.specs.check_sense.Telling.{level_in}
 use Rattle.infer_regs.proofs.broken.has_level.Given as goal
 
 abbrev pub invariant-loop-item : goal.invariant-loop-item

@@ -3,13 +3,13 @@ use Rattle.std.specs.List.{All}
 use Rattle.std.specs.Option.{IsSomeAnd}
 use Rattle.rtl_flat.specs.Process.{Task}
 use Rattle.rtl_rule.specs.Parts.{parts}
-use Rattle.rtl_scan.specs.Arrows.{Among}
-use Rattle.rtl_scan.specs.Graph.{row}
-use Rattle.check_assign.proofs.Turns.{task_of}
-use Rattle.check_chains.specs.declared.chain.Guard.{Guard}
-use Rattle.check_chains.specs.Chains.{chain_of}
-use Rattle.check_chains.specs.Views.{chain_view, guard_view}
-use Rattle.check_clocks.proofs.Topped.{comes_from}
+use Rattle.net_list.specs.rtl_scan.Arrows.{Among}
+use Rattle.net_list.specs.rtl_scan.Graph.{row}
+use Rattle.net_list.proofs.check_assign_proofs.Turns.{task_of}
+use Rattle.net_list.specs.check_chains.declared.chain.Guard.{Guard}
+use Rattle.net_list.specs.check_chains.Chains.{chain_of}
+use Rattle.net_list.specs.check_chains.Views.{chain_view, guard_view}
+use Rattle.net_list.proofs.check_clocks_proofs.Topped.{comes_from}
 use Rattle.infer_regs.specs.Taken.{AreResetTops, HasTop}
 use Rattle.infer_regs.proofs.Faults.{has_fault}
 use Rattle.infer_regs.proofs.Judging.{chain_is, chain_there, judged_not, judged_some, topped}

@@ -3,9 +3,9 @@ use Rattle.std.specs.Option.{IsSomeAnd}
 use Rattle.rtl_flat.specs.Process.{Task, task}
 use Rattle.rtl_rule.specs.declared.rule.Rule.TheVariants.{SeveralDrivers}
 use Rattle.rtl_rule.specs.Parts.{parts}
-use Rattle.check_found.proofs.Sites.{task_at, task_count}
-use Rattle.check_assign.specs.Assigned.{is_clocked}
-use Rattle.check_assign.proofs.Turns.{lower_none}
+use Rattle.net_list.proofs.check_found_proofs.Sites.{task_at, task_count}
+use Rattle.net_list.specs.check_assign.Assigned.{is_clocked}
+use Rattle.net_list.proofs.check_assign_proofs.Turns.{lower_none}
 use Rattle.infer_regs.specs.Taken.{AreTaken, IsBroken, Takes}
 use Rattle.infer_regs.proofs.Judging.{refuted}
 use Rattle.infer_regs.proofs.Taking.{all_clocked, all_formed, least_at, taken_more, taken_none, taken_pass}

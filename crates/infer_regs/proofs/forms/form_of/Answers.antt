@@ -1,8 +1,8 @@
 use Rattle.std.proofs.Common.{◌≡◌, ◌∙◌, List, Option, None, Some, map, refl, sym, ap}
 use Rattle.net_model.specs.Cycle.{Guard}
 use Rattle.rtl_rule.specs.Parts.{parts}
-use Rattle.check_chains.specs.declared.chain.Guard as code
-use Rattle.check_chains.specs.Views.{chain_view, guard_view}
+use Rattle.net_list.specs.check_chains.declared.chain.Guard as code
+use Rattle.net_list.specs.check_chains.Views.{chain_view, guard_view}
 use Rattle.infer_regs.proofs.Faults.{below_of}
 use Rattle.infer_regs.proofs.Judging.{chain_is, chain_there, judged_none}
 use Rattle.infer_regs.proofs.forms.form_of.Goals as goal

@@ -6,10 +6,10 @@ use Rattle.rtl_flat.specs.declared.act.Process.{Process}
 use Rattle.rtl_flat.specs.declared.expr.SigId.{SigId}
 use Rattle.rtl_flat.specs.Process.{doing}
 use Rattle.rtl_rule.specs.Parts.{parts}
-use Rattle.check_clocks.specs.Cone.{AreEdgeMarks, ArePassing, ReachesMarked, waited}
-use Rattle.check_clocks.specs.Links.{AreRows}
-use Rattle.check_clocks.specs.Tops.{AreMarkedAlso}
-use Rattle.check_clocks.proofs.Coned.{edge_marks, waits_of, written}
+use Rattle.net_list.specs.check_clocks.Cone.{AreEdgeMarks, ArePassing, ReachesMarked, waited}
+use Rattle.net_list.specs.check_clocks.Links.{AreRows}
+use Rattle.net_list.specs.check_clocks.Tops.{AreMarkedAlso}
+use Rattle.net_list.proofs.check_clocks_proofs.Coned.{edge_marks, waits_of, written}
 use Rattle.infer_regs.proofs.Controlling.{AreBelow, all_controls, control_is, control_reaches, no_top, pass_one, push_one}
 use Rattle.infer_regs.proofs.Judging.{refuted}
 use Rattle.infer_regs.proofs.inputs.controls.Goals as goal

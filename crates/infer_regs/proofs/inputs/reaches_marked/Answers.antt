@@ -1,7 +1,7 @@
 use Rattle.std.proofs.Common.{◌≡◌, ◌∙◌, true, false, get_or, sym, ap, subst}
 use Rattle.std.specs.Prelude.{◌↔◌}
 use Rattle.std.specs.List.{list_any}
-use Rattle.check_clocks.specs.Cone.{ReachesMarked}
+use Rattle.net_list.specs.check_clocks.Cone.{ReachesMarked}
 use Rattle.infer_regs.proofs.Controlling.{reaches_is}
 use Rattle.infer_regs.proofs.inputs.reaches_marked.Goals as goal
 

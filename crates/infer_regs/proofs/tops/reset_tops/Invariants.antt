@@ -1,5 +1,5 @@
 use Rattle.std.proofs.Common.{map, take}
-use Rattle.check_chains.specs.Views.{guard_view}
+use Rattle.net_list.specs.check_chains.Views.{guard_view}
 use Rattle.infer_regs.specs.Taken.{AreResetTops}
 use Rattle.infer_regs.proofs.tops.reset_tops.Given as goal
 

@@ -1,6 +1,6 @@
 use Rattle.std.proofs.Common.{◌≡◌}
 use Rattle.event_model.specs.Queue.{flat}
-use Rattle.netlist_eval.specs.Sims.{flat_of}
+use Rattle.tests_netlists.specs.netlist_eval.Sims.{flat_of}
 use Rattle.net_bench.proofs.run.stepped.Given as goal
 
 abbrev pub invariant-loop-settings : goal.invariant-loop-settings

@@ -8,7 +8,7 @@ use Rattle.rtl_flat.specs.Value.{store}
 use Rattle.rtl_flat.specs.WellFormed.{IsSelection}
 use Rattle.rtl_flat.proofs.Bits.{have_bits}
 use Rattle.event_model.specs.Writes.{counts}
-use Rattle.event_laws.proofs.Targets.{same_count}
+use Rattle.net_number.proofs.event_laws_proofs.Targets.{same_count}
 use Rattle.net_model.specs.Block.{digit_writes, write_each}
 use Rattle.net_body.specs.Marks.{maps}
 use Rattle.net_body.proofs.Targets.{parts_selected}

@@ -1,8 +1,8 @@
 use Rattle.std.proofs.Common.{◌≡◌, ◌∙◌, true, false, Some, sym, ap}
 use Rattle.rtl_flat.specs.Process.{Task, task}
 use Rattle.rtl_rule.specs.Parts.{parts, widths}
-use Rattle.rtl_scan.specs.Arrows.{is_node}
-use Rattle.rtl_scan.specs.Sets.{has_rows}
+use Rattle.check_found.specs.rtl_scan.Arrows.{is_node}
+use Rattle.check_found.specs.rtl_scan.Sets.{has_rows}
 use Rattle.check_found.proofs.Sites.{task_at}
 use Rattle.net_order.proofs.Waiting.{feeders_are, no_feeders}
 use Rattle.net_order.proofs.feeds.feeders.Goals as goal

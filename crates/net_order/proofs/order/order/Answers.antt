@@ -2,7 +2,7 @@ use Rattle.std.proofs.Common.{◌<◌, ◌^◌, ℕ, List, Option, length, subst
 use Rattle.rtl_flat.specs.declared.expr.SigId.{SigId}
 use Rattle.rtl_rule.specs.Parts.{parts}
 use Rattle.event_model.specs.Queue.{flat}
-use Rattle.rtl_scan.specs.Graph.{AreRows}
+use Rattle.check_found.specs.rtl_scan.Graph.{AreRows}
 use Rattle.check_found.proofs.Sites.{task_count}
 use Rattle.net_order.specs.Feeds.{IsLeastOf, IsLost, IsRanked}
 use Rattle.net_order.proofs.Answering.{least_cyclic, ranked_order}

@@ -3,8 +3,8 @@ use Rattle.std.proofs.lemmas.Result.{IfOk-weaker}
 use Rattle.rtl_flat.specs.Flows.{flow_of}
 use Rattle.rtl_flat.specs.Paths.{is_sure}
 use Rattle.rtl_rule.specs.Parts.{parts, widths, written}
-use Rattle.rtl_scan.specs.declared.bits.Row.{Row}
-use Rattle.rtl_scan.specs.Sets.{has, has_rows}
+use Rattle.check_found.specs.rtl_scan.declared.bits.Row.{Row}
+use Rattle.check_found.specs.rtl_scan.Sets.{has, has_rows}
 use Rattle.net_start.proofs.kept.add_latched.Goals as goal
 
 pub returns : goal.returns

@@ -1,5 +1,5 @@
 use Rattle.std.proofs.Common.{◌≡◌, ◌∙◌, ◌+◌, ◌||◌, ◌&&◌, not, drop, get_or, sym, ap}
-use Rattle.rtl_scan.specs.Sets.{has, has_row, has_rows}
+use Rattle.check_found.specs.rtl_scan.Sets.{has, has_row, has_rows}
 use Rattle.net_start.proofs.Keeping.{rows_from, spread}
 use Rattle.net_start.proofs.kept.add_left.Goals as goal
 

@@ -1,5 +1,5 @@
 use Rattle.std.proofs.Common.{◌≡◌, ℕ, ◌||◌, ◌&&◌, not, drop}
-use Rattle.rtl_scan.specs.Sets.{has, has_rows}
+use Rattle.check_found.specs.rtl_scan.Sets.{has, has_rows}
 use Rattle.net_start.proofs.kept.add_left.Given as goal
 
 abbrev pub invariant-loop-row : goal.invariant-loop-row

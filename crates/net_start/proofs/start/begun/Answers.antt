@@ -5,7 +5,7 @@ use Rattle.rtl_bits.specs.Bits.{is_one_at}
 use Rattle.rtl_flat.specs.declared.expr.SigId.{SigId}
 use Rattle.rtl_flat.specs.Value.{store}
 use Rattle.net_model.specs.Numbers.{fill_bit}
-use Rattle.rtl_scan.specs.Sets.{has, mask_of}
+use Rattle.check_found.specs.rtl_scan.Sets.{has, mask_of}
 use Rattle.net_start.specs.Stored.{places}
 use Rattle.net_start.proofs.Given.{read_is}
 use Rattle.net_start.proofs.Masking.{masked_more}

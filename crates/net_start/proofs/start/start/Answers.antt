@@ -4,7 +4,7 @@ use Rattle.std.proofs.lemmas.List.{length-map}
 use Rattle.rtl_bits.specs.declared.Bit.{Bit}
 use Rattle.rtl_flat.specs.declared.expr.SigId.{SigId}
 use Rattle.rtl_flat.specs.Value.{store}
-use Rattle.rtl_scan.proofs.Users.{written_back}
+use Rattle.check_found.proofs.rtl_scan_proofs.Users.{written_back}
 use Rattle.event_model.specs.Queue.{flat}
 use Rattle.net_start.specs.Listing.{AreGiven, AreMasked}
 use Rattle.net_start.specs.Start.{IsStart}

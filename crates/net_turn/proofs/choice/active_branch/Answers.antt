@@ -5,7 +5,7 @@ use Rattle.rtl_flat.specs.declared.expr.SigId.{SigId}
 use Rattle.rtl_flat.specs.Value.{store}
 use Rattle.net_model.specs.Cycle.{level}
 use Rattle.net_model.specs.Numbers.{bit}
-use Rattle.check_chains.specs.Views.{guard_view}
+use Rattle.net_list.specs.check_chains.Views.{guard_view}
 use Rattle.net_turn.specs.Runs.{branch_of, numbers_of, turned}
 use Rattle.net_turn.proofs.Chosen.{active_here, active_later}
 use Rattle.net_turn.proofs.choice.active_branch.Goals as goal

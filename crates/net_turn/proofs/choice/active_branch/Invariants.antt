@@ -1,6 +1,6 @@
 use Rattle.std.proofs.Common.{◌≡◌, drop, map}
 use Rattle.rtl_flat.specs.Value.{store}
-use Rattle.check_chains.specs.Views.{guard_view}
+use Rattle.net_list.specs.check_chains.Views.{guard_view}
 use Rattle.net_turn.specs.Runs.{active_of, numbers_of, turned}
 use Rattle.net_turn.proofs.choice.active_branch.Given as goal
 

@@ -8,7 +8,7 @@ use Rattle.event_model.specs.Queue.{flat, widths}
 use Rattle.net_model.specs.Numbers.{AreNumbers}
 use Rattle.net_list.specs.declared.clocked.Clocked.{Clocked}
 use Rattle.net_settle.proofs.Lawful.{lawful_flat}
-use Rattle.net_body.specs.Ends.{changed}
+use Rattle.net_settle.specs.net_body.Ends.{changed}
 use Rattle.net_turn.specs.Runs.{Run, run_at, run_bit, run_from, run_of, runs_of, turned}
 use Rattle.net_turn.specs.Sources.{CanRun}
 use Rattle.net_turn.proofs.Chosen.{run_part}

@@ -5,7 +5,7 @@ use Rattle.rtl_flat.specs.Process.{Actions}
 use Rattle.rtl_flat.specs.Value.{store}
 use Rattle.event_model.specs.Queue.{flat, widths}
 use Rattle.net_model.specs.Numbers.{AreNumbers}
-use Rattle.net_body.specs.Ends.{changed}
+use Rattle.net_settle.specs.net_body.Ends.{changed}
 use Rattle.net_settle.proofs.Able.{able_after}
 use Rattle.net_turn.specs.Runs.{run_bit, run_of, turned, view_of}
 use Rattle.net_turn.proofs.Chosen.{run_part}

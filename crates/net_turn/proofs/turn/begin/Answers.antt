@@ -5,7 +5,7 @@ use Rattle.rtl_flat.specs.Value.{store}
 use Rattle.event_model.specs.Queue.{flat}
 use Rattle.net_model.specs.Numbers.{AreNumbers}
 use Rattle.net_settle.specs.Settle.{SetsInput}
-use Rattle.net_solve.specs.Laws.{AreApart, IsOrder}
+use Rattle.net_settle.specs.net_solve.Laws.{AreApart, IsOrder}
 use Rattle.net_settle.specs.Work.{Solves, numbers_of}
 use Rattle.net_settle.proofs.Lawful.{lawful_flat}
 use Rattle.net_turn.proofs.Turned.{are_runs, begins, begun_is, input_given}

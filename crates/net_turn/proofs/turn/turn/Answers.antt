@@ -7,7 +7,7 @@ use Rattle.event_model.specs.Writes.{put}
 use Rattle.net_model.specs.Numbers.{AreNumbers}
 use Rattle.net_settle.specs.Settle.{SetsInput, setting_view}
 use Rattle.net_settle.proofs.Given.{input_there}
-use Rattle.net_solve.specs.Laws.{AreApart, IsOrder}
+use Rattle.net_settle.specs.net_solve.Laws.{AreApart, IsOrder}
 use Rattle.net_settle.specs.Work.{Solves, numbers_of}
 use Rattle.net_settle.proofs.Able.{able_after}
 use Rattle.net_settle.proofs.Lawful.{lawful_flat}

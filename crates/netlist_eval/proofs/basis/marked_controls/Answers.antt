@@ -4,8 +4,8 @@ use Rattle.std.proofs.lemmas.List.{length-replicate}
 use Rattle.event_model.specs.Queue.{flat}
 use Rattle.net_model.specs.Control.{IsControl}
 use Rattle.net_start.specs.Stored.{places}
-use Rattle.check_clocks.specs.Tops.{AreMarkedAlso}
-use Rattle.check_clocks.proofs.Coned.{written}
+use Rattle.infer_regs.specs.check_clocks.Tops.{AreMarkedAlso}
+use Rattle.infer_regs.proofs.check_clocks_proofs.Coned.{written}
 use Rattle.netlist_eval.proofs.Marked.{are_marked}
 use Rattle.netlist_eval.proofs.basis.marked_controls.Goals as goal
 

@@ -2,7 +2,7 @@ use Rattle.std.proofs.Common.{subst}
 use Rattle.event_model.specs.Queue.{flat}
 use Rattle.net_order.specs.declared.order.Ranking.{Ranking}
 use Rattle.net_order.specs.Order.{IsRanking}
-use Rattle.net_settle.specs.Work.{numbers_of}
+use Rattle.net_turn.specs.net_settle.Work.{numbers_of}
 use Rattle.netlist_eval.proofs.Ordered.{no_cycle}
 use Rattle.netlist_eval.proofs.basis.order_of.Goals as goal
 

@@ -1,7 +1,7 @@
 use Rattle.std.proofs.Common.{◌≡◌, ◌∙◌, None, ap, sym}
 use Rattle.std.specs.Option.{option_map}
-use Rattle.elab_scope.specs.Faults.{answer}
-use Rattle.elab_walk.specs.Visits.{library}
+use Rattle.elab_lawful.specs.elab_scope.Faults.{answer}
+use Rattle.elab_lawful.specs.elab_walk.Visits.{library}
 use Rattle.rtl_elab.specs.Elaborated.{elaborated, refused}
 use Rattle.rtl_elab.proofs.Coming.{elaborated_made}
 use Rattle.rtl_elab.proofs.elaborate.flat_design.Goals as goal

@@ -1,5 +1,5 @@
-use Rattle.elab_flat.specs.Views.{flat}
-use Rattle.elab_walk.specs.Visits.{library}
+use Rattle.elab_lawful.specs.elab_flat.Views.{flat}
+use Rattle.elab_lawful.specs.elab_walk.Visits.{library}
 use Rattle.rtl_elab.proofs.Deciding.{elaborated_lawful}
 use Rattle.rtl_elab.proofs.whole.design_in.Goals as goal
 

@@ -1,8 +1,8 @@
 use Rattle.std.proofs.Common.{◌≡◌, Ok, subst}
 use Rattle.std.specs.Prelude.{IfErr, IfOk}
-use Rattle.elab_scope.specs.Faults.{answer}
-use Rattle.elab_walk.specs.Trails.{IsTold}
-use Rattle.elab_walk.specs.Visits.{Library}
+use Rattle.elab_lawful.specs.elab_scope.Faults.{answer}
+use Rattle.elab_lawful.specs.elab_walk.Trails.{IsTold}
+use Rattle.elab_lawful.specs.elab_walk.Visits.{Library}
 use Rattle.rtl_elab.specs.Designs.{flat_in}
 use Rattle.rtl_elab.specs.Elaborated.{elaborated, refused}
 use Rattle.rtl_elab.proofs.Libraries.{library_is}

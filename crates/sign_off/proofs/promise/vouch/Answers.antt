@@ -1,6 +1,6 @@
 use Rattle.std.proofs.Common.{refl}
 use Rattle.event_model.specs.Queue.{flat}
-use Rattle.event_laws.proofs.Steady.{lawful_processes}
+use Rattle.check_clean.proofs.event_laws_proofs.Steady.{lawful_processes}
 use Rattle.rtl_rule.specs.Parts.{parts}
 use Rattle.sign_off.proofs.promise.vouch.Goals as goal
 

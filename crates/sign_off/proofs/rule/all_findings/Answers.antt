@@ -2,9 +2,9 @@ use Rattle.std.proofs.Common.{◌∙◌, subst}
 use Rattle.event_model.specs.Queue.{flat}
 use Rattle.net_model.specs.Control.{InCone}
 use Rattle.rtl_rule.specs.Parts.{parts}
-use Rattle.check_sense.specs.Sense.{AreSenseFindings}
-use Rattle.check_assign.specs.Findings.{AreAssignFindings}
-use Rattle.check_xprop.specs.Unknowns.{AreUnknownFindings}
+use Rattle.check_clean.specs.check_sense.Sense.{AreSenseFindings}
+use Rattle.check_clean.specs.check_assign.Findings.{AreAssignFindings}
+use Rattle.check_clean.specs.check_xprop.Unknowns.{AreUnknownFindings}
 use Rattle.sign_off.proofs.Merging.{all_of}
 use Rattle.sign_off.proofs.rule.all_findings.Goals as goal
 

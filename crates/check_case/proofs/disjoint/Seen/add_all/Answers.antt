@@ -3,8 +3,8 @@ use Rattle.std.specs.List.{list_any}
 use Rattle.rtl_flat.specs.declared.expr.SizedExpr.{SizedExpr}
 use Rattle.rtl_flat.specs.Expression.{Tree, tree}
 use Rattle.rtl_flat.specs.Flows.{literal}
-use Rattle.rtl_scan.proofs.Bools.{or_assoc}
-use Rattle.rtl_scan.proofs.Labels.{left_at}
+use Rattle.check_parts.proofs.rtl_scan_proofs.Bools.{or_assoc}
+use Rattle.check_parts.proofs.rtl_scan_proofs.Labels.{left_at}
 use Rattle.check_case.specs.Cases.{some_differ}
 use Rattle.check_case.specs.Literals.{overlap_in}
 use Rattle.check_case.proofs.disjoint.Seen.add_all.Goals as goal

@@ -4,7 +4,7 @@ use Rattle.std.specs.Ordering.{nat_cmp}
 use Rattle.std.specs.BTreeSet.{contains}
 use Rattle.std.proofs.lemmas.Result.{on_ok_weaker}
 use Rattle.rtl_bits.specs.Bits.{has_unknown}
-use Rattle.rtl_scan.proofs.Known.{gets_number, gets_other}
+use Rattle.check_parts.proofs.rtl_scan_proofs.Known.{gets_number, gets_other}
 use Rattle.check_case.proofs.labels.Labels.add.Goals as goal
 
 known : (a b : Bool) → b ≡ not a → b ≡ true → a ≡ false

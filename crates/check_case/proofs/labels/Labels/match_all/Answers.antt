@@ -1,8 +1,8 @@
 use Rattle.std.proofs.Common.{◌≡◌, ◌∙◌, ◌<◌, ◌^◌, ◌*◌, ◌%◌, false, true, sym, ap, ℕ, Bool, arith}
 use Rattle.rtl_bits.specs.Bits.{bits_of, extended, has_unknown}
 use Rattle.check_case.specs.Literals.{matches_in}
-use Rattle.rtl_scan.proofs.Covers.{each_none, each_more, each_fails, power_small}
-use Rattle.rtl_scan.proofs.Known.{extended_known}
+use Rattle.check_parts.proofs.rtl_scan_proofs.Covers.{each_none, each_more, each_fails, power_small}
+use Rattle.check_parts.proofs.rtl_scan_proofs.Known.{extended_known}
 use Rattle.check_case.proofs.labels.Labels.match_all.Goals as goal
 
 pub loop-n-init : goal.loop-n-init

@@ -1,4 +1,4 @@
-use Rattle.rtl_scan.proofs.Known.{sorted_step, sorted_end}
+use Rattle.check_parts.proofs.rtl_scan_proofs.Known.{sorted_step, sorted_end}
 use Rattle.check_case.proofs.labels.Labels.sorted.Goals as goal
 
 pub loop-label-preserved : goal.loop-label-preserved

@@ -1,6 +1,6 @@
 use Rattle.std.proofs.lemmas.Result.{on_ok_weaker}
-use Rattle.rtl_scan.specs.Sets.{mask_of}
-use Rattle.rtl_scan.proofs.Masks.{put_or}
+use Rattle.check_found.specs.rtl_scan.Sets.{mask_of}
+use Rattle.check_found.proofs.rtl_scan_proofs.Masks.{put_or}
 use Rattle.check_sense.proofs.masks.Masks.insert.Goals as goal
 
 pub returns : goal.returns

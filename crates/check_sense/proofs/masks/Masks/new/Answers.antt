@@ -1,4 +1,4 @@
-use Rattle.rtl_scan.proofs.Masks.{has_none}
+use Rattle.check_found.proofs.rtl_scan_proofs.Masks.{has_none}
 use Rattle.check_sense.proofs.masks.Masks.new.Goals as goal
 
 pub returns : goal.returns

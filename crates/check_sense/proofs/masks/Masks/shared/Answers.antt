@@ -1,5 +1,5 @@
-use Rattle.rtl_scan.specs.Sets.{mask_of}
-use Rattle.rtl_scan.proofs.Masks.{row_inside}
+use Rattle.check_found.specs.rtl_scan.Sets.{mask_of}
+use Rattle.check_found.proofs.rtl_scan_proofs.Masks.{row_inside}
 use Rattle.check_sense.proofs.masks.Masks.shared.Goals as goal
 
 pub returns : goal.returns

@@ -1,6 +1,6 @@
 use Rattle.std.proofs.Common.{arith}
 use Rattle.rtl_rule.specs.Parts.{parts}
-use Rattle.rtl_scan.specs.Sets.{has_rows}
+use Rattle.check_found.specs.rtl_scan.Sets.{has_rows}
 use Rattle.check_sense.proofs.Findings.{process_there}
 use Rattle.check_sense.proofs.Woken.{writers_more}
 use Rattle.check_sense.proofs.waking.Writers.of.Goals as goal

@@ -1,8 +1,8 @@
 use Rattle.std.proofs.Common.{◌∙◌, List, ℕ, ap, subst}
-use Rattle.elab_links.specs.Modules.{circuits_of}
+use Rattle.elab_names.specs.elab_links.Modules.{circuits_of}
 use Rattle.elab_names.specs.Extracts.{extract}
-use Rattle.rtl_elab.specs.Designs.{library_of}
-use Rattle.rtl_elab.specs.Elaborated.{elaborated}
+use Rattle.elab_names.specs.rtl_elab.Designs.{library_of}
+use Rattle.elab_names.specs.rtl_elab.Elaborated.{elaborated}
 use Rattle.desk_memo.specs.Fresh.{IsOfDesign, sources_at}
 use Rattle.desk_memo.specs.Readings.{file_at}
 use Rattle.desk_memo.specs.ShownReadings.{modules_of, readings_of}

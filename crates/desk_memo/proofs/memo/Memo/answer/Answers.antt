@@ -1,7 +1,7 @@
 use Rattle.std.proofs.Common.{◌∙◌, ap, sym}
 use Rattle.std.specs.Prelude.{option_to_list}
 use Rattle.std.specs.Option.{option_map}
-use Rattle.elab_links.specs.Modules.{circuits_of}
+use Rattle.elab_names.specs.elab_links.Modules.{circuits_of}
 use Rattle.desk_memo.specs.Rulings.{Ruling}
 use Rattle.desk_memo.specs.Shown.{absent_of}
 use Rattle.desk_memo.proofs.Kepts.{answer_found, none_found}

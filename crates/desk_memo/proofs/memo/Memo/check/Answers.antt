@@ -2,7 +2,7 @@ use Rattle.std.proofs.Common.{◌∙◌, ap, sym, true}
 use Rattle.std.specs.Prelude.{is_some, option_to_list}
 use Rattle.std.proofs.Math.Seq.{map-set_same}
 use Rattle.std.proofs.lemmas.List.Elements.{All-set}
-use Rattle.elab_links.specs.Modules.{circuits_of}
+use Rattle.elab_names.specs.elab_links.Modules.{circuits_of}
 use Rattle.desk_memo.specs.Shown.{IsChecked, absent_of, ruling_of}
 use Rattle.desk_memo.specs.declared.kept.Kept.{Kept}
 use Rattle.desk_memo.proofs.Kepts.{found_holds, none_found, ruling_found}

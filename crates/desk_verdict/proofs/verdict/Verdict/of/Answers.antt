@@ -2,7 +2,7 @@ use Rattle.std.proofs.Common.{◌≡◌, ◌∙◌, List, length, map, min, take
 use Rattle.std.proofs.lemmas.List.{take_min}
 use Rattle.rtl_elab.specs.Designs.{flat_in}
 use Rattle.rtl_rule.specs.declared.finding.Finding.{Finding}
-use Rattle.demo_replay.specs.Firsts.{AreFirsts, told}
+use Rattle.demo_clean.specs.demo_replay.Firsts.{AreFirsts, told}
 use Rattle.desk_report.specs.Tellings.{tellings}
 use Rattle.desk_verdict.specs.declared.verdict.TheConstants.{MAX_SHOWN}
 use Rattle.desk_verdict.specs.Verdicts.{parts_of}

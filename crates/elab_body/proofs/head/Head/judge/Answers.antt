@@ -1,7 +1,7 @@
 use Rattle.std.proofs.Common.{◌∙◌, ap}
 use Rattle.rtl_tree.specs.TreeExpr.{formula, identifier}
-use Rattle.elab_scope.specs.Expressions.{constant_faults}
-use Rattle.elab_scope.specs.Names.{meanings}
+use Rattle.elab_nodes.specs.elab_scope.Expressions.{constant_faults}
+use Rattle.elab_nodes.specs.elab_scope.Names.{meanings}
 use Rattle.elab_body.specs.Bodies.{head_faults, in_head, index_faults, loop_faults, stepped_faults}
 use Rattle.elab_body.specs.Courses.{course, head_of}
 use Rattle.elab_body.specs.Steps.{faulty, passed}

@@ -1,4 +1,4 @@
-use Rattle.elab_scope.specs.Names.{meanings}
+use Rattle.elab_nodes.specs.elab_scope.Names.{meanings}
 use Rattle.elab_body.proofs.Indices.{indexed_undone}
 use Rattle.elab_body.proofs.head.Head.judge_first.Goals as goal
 

@@ -1,6 +1,6 @@
 use Rattle.std.proofs.Common.{◌≡◌, map, drop}
 use Rattle.rtl_tree.specs.TreeItem.{module_item}
-use Rattle.elab_scope.specs.Names.{meanings}
+use Rattle.elab_walk.specs.elab_scope.Names.{meanings}
 use Rattle.elab_walk.specs.Trails.{placement}
 use Rattle.elab_walk.specs.Visits.{library}
 use Rattle.elab_flat.specs.Views.{works}

@@ -1,7 +1,7 @@
 use Rattle.std.specs.Option.{is_some}
 use Rattle.std.proofs.Common.{◌≡◌, ◌∙◌, ℕ, List, [], ◌∷◌, ◌++◌, ap, sym}
 use Rattle.name_map.specs.Values.{values_of, with_value}
-use Rattle.elab_links.specs.Modules.{lookups_of}
+use Rattle.rtl_elab.specs.elab_links.Modules.{lookups_of}
 use Rattle.elab_names.specs.declared.look_up.LookUp.{LookUp}
 use Rattle.elab_names.specs.declared.names.Asked.{Asked}
 use Rattle.elab_names.proofs.Asking.{asks_new, asks_old}

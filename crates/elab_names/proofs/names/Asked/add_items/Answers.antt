@@ -1,6 +1,6 @@
 use Rattle.std.proofs.Common.{ℕ, List, map, take, sym, subst}
 use Rattle.rtl_tree.specs.TreeItem.{module_item}
-use Rattle.elab_links.specs.Modules.{lookups_of}
+use Rattle.rtl_elab.specs.elab_links.Modules.{lookups_of}
 use Rattle.elab_names.specs.Asking.{Asks}
 use Rattle.elab_names.specs.LookUps.{name_in_item, names_in}
 use Rattle.elab_names.proofs.Asking.{asks_both, names_more}

@@ -1,6 +1,6 @@
 use Rattle.std.proofs.Common.{map, take}
 use Rattle.rtl_tree.specs.TreeItem.{module_item}
-use Rattle.elab_links.specs.Modules.{lookups_of}
+use Rattle.rtl_elab.specs.elab_links.Modules.{lookups_of}
 use Rattle.elab_names.specs.Asking.{Asks}
 use Rattle.elab_names.specs.LookUps.{names_in}
 use Rattle.elab_names.proofs.names.Asked.add_items.Given as goal

@@ -2,8 +2,8 @@ use Rattle.std.proofs.Common.{length, map, Vec, ap, sym, subst, arith}
 use Rattle.std.specs.Prelude.{vec_capacity}
 use Rattle.std.specs.declared.alloc.Global.{Global}
 use Rattle.std.proofs.lemmas.List.{length-map}
-use Rattle.event_write.specs.declared.entries.Entry.{Entry as Code}
-use Rattle.event_write.specs.Entries.{entry}
+use Rattle.event_tables.specs.event_write.declared.entries.Entry.{Entry as Code}
+use Rattle.event_tables.specs.event_write.Entries.{entry}
 use Rattle.event_take.specs.Lawful.{IsLawful}
 use Rattle.event_queue.specs.Sims.{flat_of, state_of}
 use Rattle.event_queue.proofs.Kept.{offer_lawful}

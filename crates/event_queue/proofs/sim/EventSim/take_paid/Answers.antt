@@ -3,7 +3,7 @@ use Rattle.std.specs.Prelude.{vec_capacity}
 use Rattle.std.specs.declared.alloc.Global.{Global}
 use Rattle.event_model.specs.Order.{ready}
 use Rattle.event_model.specs.Policies.{cost}
-use Rattle.event_write.specs.declared.entries.Entry.{Entry as Code}
+use Rattle.event_tables.specs.event_write.declared.entries.Entry.{Entry as Code}
 use Rattle.event_take.specs.Lawful.{IsLawful}
 use Rattle.event_take.specs.Taken.{event_of}
 use Rattle.event_queue.specs.Sims.{flat_of, state_of}

@@ -10,7 +10,7 @@ use Rattle.rtl_flat.specs.Value.{store}
 use Rattle.rtl_flat.specs.WellFormed.{IsSelection}
 use Rattle.rtl_flat.proofs.Bits.{have_bits}
 use Rattle.event_model.specs.Writes.{Values, all_written, counts}
-use Rattle.event_laws.proofs.Targets.{same_count}
+use Rattle.net_number.proofs.event_laws_proofs.Targets.{same_count}
 use Rattle.net_model.specs.Block.{begun, digit_writes}
 use Rattle.net_model.specs.Numbers.{digits}
 use Rattle.net_body.specs.Marks.{AreKept, AreStored, maps}

@@ -4,7 +4,7 @@ use Rattle.std.proofs.lemmas.List.{take_all}
 use Rattle.std.proofs.lemmas.List.Elements.{All-more}
 use Rattle.event_model.specs.declared.setting.Setting.{Setting}
 use Rattle.net_model.specs.Lawful.{SetsData}
-use Rattle.net_settle.specs.Settle.{setting_view}
+use Rattle.net_turn.specs.net_settle.Settle.{setting_view}
 use Rattle.netlist_eval.specs.Sims.{flat_of}
 use Rattle.netlist_eval.proofs.sim.NetSim.all_set_data.Goals as goal
 

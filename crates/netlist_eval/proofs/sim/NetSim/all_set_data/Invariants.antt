@@ -1,7 +1,7 @@
 use Rattle.std.proofs.Common.{take}
 use Rattle.std.specs.List.{All}
 use Rattle.net_model.specs.Lawful.{SetsData}
-use Rattle.net_settle.specs.Settle.{setting_view}
+use Rattle.net_turn.specs.net_settle.Settle.{setting_view}
 use Rattle.netlist_eval.specs.Sims.{flat_of}
 use Rattle.netlist_eval.proofs.sim.NetSim.all_set_data.Given as goal
 

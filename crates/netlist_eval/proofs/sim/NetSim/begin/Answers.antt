@@ -5,14 +5,14 @@ use Rattle.std.proofs.Props.{props}
 use Rattle.rtl_bits.specs.declared.Bit.{Bit}
 use Rattle.rtl_flat.specs.declared.design.Design.{Design}
 use Rattle.rtl_flat.specs.Value.{store}
-use Rattle.rtl_scan.proofs.Users.{written_back}
+use Rattle.net_start.proofs.rtl_scan_proofs.Users.{written_back}
 use Rattle.event_model.specs.Queue.{flat}
-use Rattle.net_list.specs.declared.clocked.Clocked.{Clocked}
-use Rattle.net_settle.specs.Settle.{IsSolved}
-use Rattle.net_solve.specs.Laws.{AreApart, IsOrder}
+use Rattle.infer_regs.specs.net_list.declared.clocked.Clocked.{Clocked}
+use Rattle.net_turn.specs.net_settle.Settle.{IsSolved}
+use Rattle.net_order.specs.net_solve.Laws.{AreApart, IsOrder}
 use Rattle.net_turn.specs.Sources.{CanRun}
 use Rattle.net_turn.proofs.Bridges.{apart}
-use Rattle.net_settle.specs.Work.{numbers_of}
+use Rattle.net_turn.specs.net_settle.Work.{numbers_of}
 use Rattle.netlist_eval.proofs.Beginning.{able_new, begun_starts}
 use Rattle.netlist_eval.proofs.Stepping.{can_all}
 use Rattle.netlist_eval.proofs.sim.NetSim.begin.Goals as goal

@@ -3,7 +3,7 @@ use Rattle.std.proofs.Math.Logic.{∥∥₁_elim}
 use Rattle.std.proofs.Props.{props}
 use Rattle.event_model.specs.declared.setting.Setting.{Setting}
 use Rattle.net_model.specs.Lawful.{SetsData}
-use Rattle.net_settle.specs.Settle.{setting_view}
+use Rattle.net_turn.specs.net_settle.Settle.{setting_view}
 use Rattle.netlist_eval.specs.declared.step.Step.{Step}
 use Rattle.netlist_eval.specs.Sims.{flat_of, shown}
 use Rattle.netlist_eval.specs.Steps.{IsLawful}

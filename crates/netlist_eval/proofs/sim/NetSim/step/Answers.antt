@@ -3,16 +3,16 @@ use Rattle.std.specs.List.{All}
 use Rattle.rtl_bits.specs.declared.Bit.{Bit}
 use Rattle.rtl_flat.specs.declared.act.ProcId.{ProcId}
 use Rattle.rtl_flat.specs.Value.{store}
-use Rattle.rtl_scan.proofs.Users.{written_back}
+use Rattle.net_start.proofs.rtl_scan_proofs.Users.{written_back}
 use Rattle.event_model.specs.Queue.{flat}
 use Rattle.net_model.specs.Cycle as cycle
 use Rattle.net_model.specs.Cycle.{IsCycle}
-use Rattle.net_list.specs.declared.clocked.Clocked.{Clocked}
-use Rattle.net_solve.specs.Laws.{IsOrder}
+use Rattle.infer_regs.specs.net_list.declared.clocked.Clocked.{Clocked}
+use Rattle.net_order.specs.net_solve.Laws.{IsOrder}
 use Rattle.net_turn.specs.Sources.{CanRun}
 use Rattle.net_turn.specs.Steps.{Turns}
-use Rattle.net_settle.specs.Work.{numbers_of}
-use Rattle.net_settle.specs.Settle.{setting_view}
+use Rattle.net_turn.specs.net_settle.Work.{numbers_of}
+use Rattle.net_turn.specs.net_settle.Settle.{setting_view}
 use Rattle.netlist_eval.specs.declared.step.Step.{Step}
 use Rattle.netlist_eval.specs.Netlists.{chains_in, flat_in}
 use Rattle.netlist_eval.specs.Sims.{netlist_of, shown}

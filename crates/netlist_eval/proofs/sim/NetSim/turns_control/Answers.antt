@@ -2,7 +2,7 @@ use Rattle.std.proofs.Common.{◌≡◌, ◌∙◌, Bool, true, false, not, refl
 use Rattle.std.proofs.Math.Logic.{∥∥₁_elim}
 use Rattle.std.proofs.Props.{props}
 use Rattle.std.proofs.lemmas.Bool.{false≢true}
-use Rattle.net_settle.specs.Settle.{SetsInput, setting_view}
+use Rattle.net_turn.specs.net_settle.Settle.{SetsInput, setting_view}
 use Rattle.net_model.specs.Control.{IsControl}
 use Rattle.netlist_eval.specs.Sims.{flat_of}
 use Rattle.netlist_eval.proofs.sim.NetSim.turns_control.Goals as goal
