@@ -3,3 +3,4 @@ pub mod Digits
 pub mod Fitting
 pub mod Reading
 pub mod Widths
+pub mod Written

@@ -1,5 +1,5 @@
 use Rattle.std.proofs.Common.{◌∙◌, ap}
-use Rattle.name_map.proofs.Written.{written}
+use Rattle.desk_steps.proofs.Written.{written}
 use Rattle.desk_steps.specs.Names.{named, names_of}
 use Rattle.desk_steps.proofs.names.Names.put.Goals as goal
 
