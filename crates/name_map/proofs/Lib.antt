@@ -1,2 +1,4 @@
+mod Example
+pub mod Numbers
 pub mod Reading
 pub mod Written

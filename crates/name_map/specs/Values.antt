@@ -6,6 +6,7 @@ use Rattle.std.specs.BTreeMap.{get_by}
 use Rattle.std.specs.Cmp.Lexicographic.{slice_cmp}
 use Rattle.std.specs.Ordering.{nat_cmp}
 use Rattle.std.specs.Str.{bytes_eq}
+use Rattle.name_map.specs.Packed.{is_short, packed}
 use Rattle.name_map.specs.declared.NameMap.{NameMap}
 
 -- the value of each name that has one
@@ -25,5 +26,7 @@ abbrev pub entered : {V : Type 0} → Values V → List ℕ → V → Values V
 entered values name value = if is_some (values name) then values else with_value values name value
 
 -- what a map holds
-abbrev pub values_of : {V : Type 0} → NameMap V → Values V
-values_of names = λ name. get_by (λ key. slice_cmp nat_cmp name key.items) names.known
+unfoldable pub values_of : {V : Type 0} → NameMap V → Values V
+values_of names = λ name.
+    if is_short name then get_by (λ key. nat_cmp (packed name) key) names.short
+    else get_by (λ key. slice_cmp nat_cmp name key.items) names.long

@@ -1,19 +1,25 @@
 //! A map from names to values, as contracts see it: a function of the name.
 #![tactic(auto)]
 
+mod packed;
+
 ghost use Rattle.std.specs.Prelude.{◌≡◌, IsSome, OnErr, OnOk};
 ghost use Rattle.name_map.specs.Values.{entered, no_values, values_of, with_value};
 
+use crate::packed::{is_short, packed};
 use rtl_tree::memory::Memory;
 use rtl_tree::text::Text;
 use std::alloc::Global;
 use std::collections::BTreeMap;
 
 /// A map from names to values. The order of its keys can't be made slow by a choice of names.
+///
+/// Nearly all names are short. Each of these is a number, so that a comparison is one of numbers, and its key takes no memory.
 #[derive(Drop)]
 pub struct NameMap<V> {
     alloc: Global,
-    known: BTreeMap<Vec<u8>, V>,
+    short: BTreeMap<u128, V>,
+    long: BTreeMap<Vec<u8>, V>,
 }
 
 impl<V: Copy> NameMap<V> {
@@ -23,7 +29,8 @@ impl<V: Copy> NameMap<V> {
     {
         NameMap {
             alloc,
-            known: BTreeMap::new(alloc),
+            short: BTreeMap::new(alloc),
+            long: BTreeMap::new(alloc),
         }
     }
 
@@ -31,7 +38,12 @@ impl<V: Copy> NameMap<V> {
     pub fn find(&self, name: &Text) -> Option<V>
         ensures { result ≡ values_of self.now name.now }
     {
-        self.known.get(name.as_bytes()).copied()
+        let bytes = name.as_bytes();
+        if is_short(bytes) {
+            self.short.get(&packed(bytes)).copied()
+        } else {
+            self.long.get(bytes).copied()
+        }
     }
 
     /// Gives the name this value, in place of the one that it may have. Where memory runs out, nothing has changed.
@@ -39,8 +51,13 @@ impl<V: Copy> NameMap<V> {
         ensures ok { OnOk result (values_of self.new ≡ with_value (values_of self.old) name.now value) }
         ensures err { OnErr result (values_of self.new ≡ values_of self.old) }
     {
-        let key = Vec::from_slice(self.alloc, name.as_bytes())?;
-        self.known.insert(key, value)?;
+        let bytes = name.as_bytes();
+        if is_short(bytes) {
+            self.short.insert(packed(bytes), value)?;
+        } else {
+            let key = Vec::from_slice(self.alloc, bytes)?;
+            self.long.insert(key, value)?;
+        }
         Ok(())
     }
 
@@ -60,7 +77,12 @@ impl<V: Copy> NameMap<V> {
         requires { IsSome (values_of self.old name.now) }
         ensures { values_of self.new ≡ with_value (values_of self.old) name.now value }
     {
-        if let Some(place) = self.known.get_mut(name.as_bytes()) {
+        let bytes = name.as_bytes();
+        if is_short(bytes) {
+            if let Some(place) = self.short.get_mut(&packed(bytes)) {
+                *place = value;
+            }
+        } else if let Some(place) = self.long.get_mut(bytes) {
             *place = value;
         }
     }
