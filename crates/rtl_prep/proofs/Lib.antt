@@ -4,3 +4,4 @@ mod Parts
 mod Passes
 mod Resumes
 mod Tables
+mod Kept

@@ -21,6 +21,9 @@ word_of kind word s = false
 abbrev pub is_word : List ℕ → List ℕ → Token → Bool
 is_word word text t = word_of t.kind word (slice text t)
 
+abbrev pub is_initial : List ℕ → Token → Bool
+is_initial text t = is_word (codes "initial") text t
+
 abbrev pub mark_of : Tok → List ℕ → List ℕ → Bool
 mark_of Mark mark s = bytes_eq s mark
 mark_of kind mark s = false
@@ -65,7 +68,7 @@ block text at depth t =
 
 abbrev pub shed_at : List ℕ → Within → Shed → Token → Shed
 shed_at text Outside s t =
-    if is_word (codes "initial") text t then record { within = Opened t.at; kept = s.kept; dropped = s.dropped ++ initial_at t.at ∷ [] }
+    if is_initial text t then record { within = Opened t.at; kept = s.kept; dropped = s.dropped ++ initial_at t.at ∷ [] }
     else record { within = Outside; kept = s.kept ++ t ∷ []; dropped = s.dropped }
 shed_at text (Opened at) s t = drops (if is_word (codes "begin") text t then Block at 1 else statement text at t) s
 shed_at text (Block at depth) s t = drops (block text at depth t) s

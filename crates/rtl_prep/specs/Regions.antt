@@ -1,6 +1,6 @@
 -- Regions that synthesis is told not to see.
 -- Worked examples: crates/tests_text/src/tokens.rt.
-use Rattle.std.specs.Prelude.{ℕ, Option, Some, None, List, [], ◌∷◌, ◌++◌, Result, Ok, Err}
+use Rattle.std.specs.Prelude.{ℕ, Bool, true, false, Option, Some, None, List, [], ◌∷◌, ◌++◌, Result, Ok, Err}
 use Rattle.rtl_tree.specs.declared.token.Tok.{Tok}
 use Rattle.rtl_tree.specs.declared.token.Tok.TheVariants.{Pragma}
 use Rattle.rtl_tree.specs.declared.token.Pragma.TheVariants.{TranslateOff, TranslateOn}
@@ -24,6 +24,15 @@ whole = record { opened = None; kept = []; dropped = [] }
 
 abbrev pub region_at : ℕ → Dropped
 region_at at = record { kind = kind.TranslateOff; at = at }
+
+-- the token begins or ends a region
+abbrev pub bounds : Tok → Bool
+bounds (Pragma TranslateOff) = true
+bounds (Pragma TranslateOn) = true
+bounds kind = false
+
+abbrev pub bounds_region : Token → Bool
+bounds_region t = bounds t.kind
 
 abbrev pub cut_at : Tok → Option ℕ → Cut → Token → Result Cut Stop
 cut_at (Pragma TranslateOff) None c t = Ok (record { opened = Some t.at; kept = c.kept; dropped = c.dropped ++ region_at t.at ∷ [] })

@@ -1,6 +1,7 @@
 // `initial` constructs.
 
 ghost use Rattle.std.specs.Prelude.{◌≡◌, ◌+◌, ◌<◌, ◌≤◌, OnOk};
+ghost use Rattle.std.specs.List.{list_any};
 ghost use Rattle.rtl_prep.specs.Stops.{Tells};
 ghost use Rattle.rtl_prep.specs.Initials as spec;
 
@@ -80,7 +81,7 @@ impl Shed {
     {
         self.within = match self.within {
             Within::Outside => {
-                if is_word(b"initial", text, token) {
+                if is_initial(text, token) {
                     self.dropped.push(Dropped {
                         kind: DropKind::Initial,
                         at: token.at,
@@ -105,8 +106,38 @@ impl Shed {
     }
 }
 
-/// The tokens outside the `initial` constructs, with these regions and then theirs.
+fn is_initial(text: &[u8], token: Token) -> bool
+    ensures { result ≡ spec.is_initial text.now token }
+{
+    is_word(b"initial", text, token)
+}
+
+fn has_initials(text: &[u8], tokens: &[Token]) -> bool
+    ensures { result ≡ list_any (spec.is_initial text.now) tokens.now }
+{
+    tokens.iter().any(|token| is_initial(text, *token))
+}
+
+/// The tokens outside the `initial` constructs, with these regions and then theirs. Where there is none, it takes no memory.
 pub fn initials(
+    alloc: Global,
+    text: &[u8],
+    dropped: Vec<Dropped>,
+    tokens: Vec<Token>,
+) -> Result<Shed, PrepFault>
+    ensures { Tells spec.seen (spec.initials text.now dropped.items tokens.items) result }
+{
+    if has_initials(text, tokens.as_slice()) {
+        return shed_from(alloc, text, dropped, tokens.as_slice());
+    }
+    Ok(Shed {
+        within: Within::Outside,
+        kept: tokens,
+        dropped,
+    })
+}
+
+fn shed_from(
     alloc: Global,
     text: &[u8],
     dropped: Vec<Dropped>,

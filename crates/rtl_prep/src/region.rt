@@ -1,6 +1,7 @@
 // Regions that synthesis is told not to see.
 
 ghost use Rattle.std.specs.Prelude.{◌≡◌};
+ghost use Rattle.std.specs.List.{list_any};
 ghost use Rattle.rtl_prep.specs.Stops.{Tells};
 ghost use Rattle.rtl_prep.specs.Regions as spec;
 
@@ -46,8 +47,37 @@ impl Cut {
     }
 }
 
-/// The tokens outside the regions, with the regions.
-pub fn regions(alloc: Global, tokens: &[Token]) -> Result<Cut, PrepFault>
+/// Whether a token begins or ends a region.
+fn bounds_region(token: Token) -> bool
+    ensures { result ≡ spec.bounds_region token }
+{
+    matches!(
+        token.kind,
+        Tok::Pragma(Pragma::TranslateOff | Pragma::TranslateOn)
+    )
+}
+
+fn has_regions(tokens: &[Token]) -> bool
+    ensures { result ≡ list_any spec.bounds_region tokens.now }
+{
+    tokens.iter().any(|token| bounds_region(*token))
+}
+
+/// The tokens outside the regions, with the regions. Where there is none, it takes no memory.
+pub fn regions(alloc: Global, tokens: Vec<Token>) -> Result<Cut, PrepFault>
+    ensures { Tells spec.seen (spec.regions tokens.items) result }
+{
+    if has_regions(tokens.as_slice()) {
+        return cut_out(alloc, tokens.as_slice());
+    }
+    Ok(Cut {
+        opened: None,
+        kept: tokens,
+        dropped: Vec::new(alloc),
+    })
+}
+
+fn cut_out(alloc: Global, tokens: &[Token]) -> Result<Cut, PrepFault>
     ensures { Tells spec.seen (spec.regions tokens.now) result }
 {
     let mut cut = Cut {

@@ -1,6 +1,8 @@
 // Preparation as a whole.
 
 ghost use Rattle.std.specs.Prelude.{◌≡◌, None};
+ghost use Rattle.std.specs.List.{list_any};
+ghost use Rattle.rtl_prep.specs.Macros as macros;
 ghost use Rattle.rtl_prep.specs.Stops.{Tells};
 ghost use Rattle.rtl_prep.specs.Tables.{seen};
 ghost use Rattle.rtl_prep.specs.Prepares as spec;
@@ -11,10 +13,10 @@ use crate::initial::initials;
 use crate::macros::Macros;
 use crate::reader::{Reader, after};
 use crate::region::regions;
-use crate::replace::Replacer;
+use crate::replace::{Replacer, is_directive};
 use rtl_tree::prepared::Prepared;
 use rtl_tree::text::Text;
-use rtl_tree::token::{Token, Tokens};
+use rtl_tree::token::{MAX_TOKENS, Token, Tokens};
 use std::alloc::Global;
 use std::collections::LinkedList;
 
@@ -42,8 +44,25 @@ fn finished(reader: Reader) -> Result<Vec<Token>, PrepFault>
     }
 }
 
-/// The tokens of the text that is kept, with macros replaced.
-fn conditions(alloc: Global, text: &[u8], tokens: &[Token]) -> Result<Vec<Token>, PrepFault>
+fn has_directives(tokens: &[Token]) -> bool
+    ensures { result ≡ list_any (λ t. macros.is_directive t.kind) tokens.now }
+{
+    tokens.iter().any(|token| is_directive(token.kind))
+}
+
+/// The tokens of the text that is kept, with macros replaced. Where no directive stands in it, they are all of them, and it takes no
+/// memory.
+fn conditions(alloc: Global, text: &[u8], tokens: Vec<Token>) -> Result<Vec<Token>, PrepFault>
+    ensures { Tells (λ v. v.items) (spec.conditions text.now tokens.items) result }
+{
+    if tokens.len() > MAX_TOKENS || has_directives(tokens.as_slice()) {
+        return directed(alloc, text, tokens.as_slice());
+    }
+    Ok(tokens)
+}
+
+/// The same, token by token.
+fn directed(alloc: Global, text: &[u8], tokens: &[Token]) -> Result<Vec<Token>, PrepFault>
     ensures { Tells (λ v. v.items) (spec.conditions text.now tokens.now) result }
 {
     let mut reader = Reader {
@@ -71,9 +90,9 @@ fn conditions(alloc: Global, text: &[u8], tokens: &[Token]) -> Result<Vec<Token>
 pub fn prepare(alloc: Global, tokens: Tokens, text: &[u8]) -> Result<Prepared, PrepFault>
     ensures { Tells (λ p. p) (spec.prepared text.now tokens) result }
 {
-    let cut = regions(alloc, tokens.as_slice())?;
-    let kept = conditions(alloc, text, cut.kept.as_slice())?;
-    let shed = initials(alloc, text, cut.dropped, kept.as_slice())?;
+    let cut = regions(alloc, tokens.into_vec())?;
+    let kept = conditions(alloc, text, cut.kept)?;
+    let shed = initials(alloc, text, cut.dropped, kept)?;
     let text = Text::from_bytes(alloc, text)?;
     Ok(Prepared::new(shed.kept, shed.dropped, text))
 }

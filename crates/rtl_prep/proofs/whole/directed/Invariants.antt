@@ -2,7 +2,7 @@ use Rattle.std.proofs.Common.{◌≡◌, drop}
 use Rattle.rtl_prep.specs.Tables.{seen}
 use Rattle.rtl_prep.specs.Reading.{read}
 use Rattle.rtl_prep.specs.Prepares.{start}
-use Rattle.rtl_prep.proofs.whole.conditions.Given as goal
+use Rattle.rtl_prep.proofs.whole.directed.Given as goal
 
 abbrev pub invariant-loop-at : goal.invariant-loop-at
 invariant-loop-at l =

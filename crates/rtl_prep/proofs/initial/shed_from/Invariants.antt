@@ -2,7 +2,7 @@ use Rattle.std.proofs.Common.{◌≡◌, ◌≤◌, [], drop}
 use Rattle.rtl_prep.specs.Initials as spec
 use Rattle.rtl_prep.specs.declared.initial.Within.TheVariants.{Outside}
 use Rattle.rtl_prep.specs.Stops.{each}
-use Rattle.rtl_prep.proofs.initial.initials.Given as goal
+use Rattle.rtl_prep.proofs.initial.shed_from.Given as goal
 
 abbrev pub invariant-loop-token : goal.invariant-loop-token
 invariant-loop-token l = record {
