@@ -1,3 +1,4 @@
+mod Buckets
 pub mod Laws
 mod Numbers
 mod Pragmas

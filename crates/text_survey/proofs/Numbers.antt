@@ -10,7 +10,7 @@ use Rattle.rtl_tree.specs.declared.token.Pragma.{Pragma}
 use Rattle.rtl_tree.specs.declared.token.Token.{Token}
 use Rattle.rtl_tree.specs.Symbols as symbols
 use Rattle.rtl_tree.specs.Symbols.{Terminal, keywords, refused_words, marks, lookup, is_system, words, word_symbol, mark_symbol, slice, pragma_of, Sight, sight, seen, terminals}
-use Rattle.text_survey.specs.Surveys.{IsNumbered, AreNumbered}
+use Rattle.text_survey.specs.Surveys.{AreNumbered}
 
 is_number : Symbol → Bool
 is_number symbol.Number = true

@@ -1,5 +1,5 @@
 -- Terminals that were found, with what comes after them.
-use Rattle.std.proofs.Common.{◌≡◌, ◌||◌, ℕ, ◌+◌, ◌<◌, ◌≤◌, Bool, true, false, List, [], ◌∷◌, ◌++◌, Option, Some, None, refl, sym, ap, ◌∙◌, drop, length, get_or}
+use Rattle.std.proofs.Common.{◌≡◌, ◌||◌, ℕ, ◌+◌, ◌<◌, Bool, true, false, List, [], ◌∷◌, ◌++◌, Some, None, refl, ap, ◌∙◌, drop, length, get_or}
 use Rattle.std.proofs.lemmas.List.{drop_more}
 use Rattle.rtl_tree.specs.declared.token.Tok.{Tok}
 use Rattle.rtl_tree.specs.declared.token.Tok.TheVariants as tok

@@ -1,11 +1,10 @@
 -- It serves inner contracts and proofs; no answer of the program is stated by it.
 -- What becomes of a task, by the next token alone: one line for each alternative of the grammar.
-use Rattle.std.specs.Prelude.{List, [], ◌∷◌, Option, Some, None}
+use Rattle.std.specs.Prelude.{[], ◌∷◌, Option, None}
 use Rattle.rtl_tree.specs.declared.symbol.Symbol.{Symbol}
 use Rattle.rtl_tree.specs.declared.symbol.Symbol.TheVariants as symbol
 use Rattle.text_survey.specs.declared.task.Task.{Task}
 use Rattle.text_survey.specs.declared.task.Task.TheVariants as task
-use Rattle.text_survey.specs.declared.task.Taking.{Taking}
 use Rattle.text_survey.specs.declared.task.Taking.TheVariants as taking
 use Rattle.text_survey.specs.declared.task.Level.TheVariants as level
 use Rattle.text_survey.specs.Table.{Step, go, required, optional, unless, leveled, chain, choice, select_end, parts}

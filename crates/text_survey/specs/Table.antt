@@ -1,6 +1,6 @@
 -- It serves inner contracts and proofs; no answer of the program is stated by it.
 -- What becomes of a task, by the next token alone. Expressions.
-use Rattle.std.specs.Prelude.{ℕ, Bool, true, false, if◌then◌else◌, nat_eq, List, [], ◌∷◌, Option, Some, None}
+use Rattle.std.specs.Prelude.{ℕ, Bool, false, if◌then◌else◌, nat_eq, List, [], ◌∷◌, Option, Some, None}
 use denote.Enum.Bare.{sameb}
 use Rattle.rtl_tree.specs.contracts.symbol.Symbol.{the_type}
 use Rattle.rtl_tree.specs.declared.symbol.Symbol.{Symbol}

@@ -1,11 +1,9 @@
 -- It serves inner contracts and proofs; no answer of the program is stated by it.
 -- What becomes of the tasks of items and modules.
-use Rattle.std.specs.Prelude.{List, [], ◌∷◌, Option, Some, None}
+use Rattle.std.specs.Prelude.{[], ◌∷◌, Option, Some, None}
 use Rattle.rtl_tree.specs.declared.symbol.Symbol.{Symbol}
 use Rattle.rtl_tree.specs.declared.symbol.Symbol.TheVariants as symbol
-use Rattle.text_survey.specs.declared.task.Task.{Task}
 use Rattle.text_survey.specs.declared.task.Task.TheVariants as task
-use Rattle.text_survey.specs.declared.task.Taking.{Taking}
 use Rattle.text_survey.specs.declared.task.Taking.TheVariants as taking
 use Rattle.text_survey.specs.Table.{Step, go}
 

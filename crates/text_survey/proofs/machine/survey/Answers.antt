@@ -1,4 +1,4 @@
-use Rattle.std.proofs.Common.{rules, ◌≡◌, ◌≤◌, ◌-◌, [], length, map, reverse, sym, subst, arith, ap, ◌∙◌}
+use Rattle.std.proofs.Common.{rules, ◌≤◌, ◌-◌, length, map, reverse, sym, subst}
 use Rattle.rtl_tree.specs.Symbols.{terminal}
 use Rattle.text_survey.specs.Rule.{rule}
 use Rattle.text_survey.specs.Machine.{symbol_at, moved}

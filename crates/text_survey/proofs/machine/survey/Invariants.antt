@@ -1,4 +1,4 @@
-use Rattle.std.proofs.Common.{ℕ, ◌+◌, ◌*◌, length, map, reverse}
+use Rattle.std.proofs.Common.{◌+◌, ◌*◌, length, map, reverse}
 use Rattle.rtl_tree.specs.Symbols.{terminal}
 use Rattle.text_survey.proofs.Laws.Loops.{So}
 use Rattle.text_survey.proofs.Laws.Weights.{load}

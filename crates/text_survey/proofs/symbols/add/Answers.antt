@@ -1,7 +1,7 @@
-use Rattle.std.proofs.Common.{◌≡◌, ◌∙◌, List, [], ◌∷◌, ◌++◌, sym, ap, map}
+use Rattle.std.proofs.Common.{◌∙◌, [], ◌∷◌, ◌++◌, sym, ap, map}
 use Rattle.std.proofs.lemmas.List.{map-append}
-use Rattle.rtl_tree.specs.Symbols.{Sight, terminal, sight, pragma_of}
-use Rattle.text_survey.specs.Terminals.{joined, bare}
+use Rattle.rtl_tree.specs.Symbols.{terminal, sight, pragma_of}
+use Rattle.text_survey.specs.Terminals.{joined}
 use Rattle.text_survey.proofs.Pragmas.{joined_note, joined_push, no_pragma}
 use Rattle.text_survey.proofs.symbols.add.Goals as goal
 

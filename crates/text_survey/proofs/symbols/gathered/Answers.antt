@@ -1,9 +1,8 @@
-use Rattle.std.proofs.Common.{◌≡◌, ◌+◌, ◌∙◌, [], ◌∷◌, sym, ap, map, drop}
-use Rattle.std.proofs.lemmas.List.{drop_all, map-append}
-use Rattle.std.proofs.Math.Seq.{drop-cons}
+use Rattle.std.proofs.Common.{◌+◌, ◌∙◌, sym, ap, map, drop}
+use Rattle.std.proofs.lemmas.List.{drop_all}
 use Rattle.rtl_tree.specs.Symbols.{terminal, seen}
 use Rattle.text_survey.specs.Terminals.{joined}
-use Rattle.text_survey.proofs.Pragmas.{joined_end, seen_more, seen_at}
+use Rattle.text_survey.proofs.Pragmas.{joined_end, seen_at}
 use Rattle.text_survey.proofs.symbols.gathered.Goals as goal
 
 pub loop-token-preserved : goal.loop-token-preserved

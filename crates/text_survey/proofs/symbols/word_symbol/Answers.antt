@@ -1,16 +1,9 @@
-use Rattle.std.proofs.Common.{◌≡◌, ◌∙◌, ap, map, refl}
-use Rattle.text_survey.specs.declared.symbols.TheConstants.{WORDS}
-use Rattle.text_survey.specs.Terminals.{unlisted}
+use Rattle.std.proofs.Common.{◌∙◌, ap}
 use Rattle.rtl_tree.specs.Symbols.{words, keywords, refused_words, lookup, word_symbol}
+use Rattle.text_survey.proofs.Buckets.{found}
 use Rattle.text_survey.proofs.symbols.word_symbol.Goals as goal
 
--- the table of the code is that of the definition
-same_table : map (λ k. (k.0.now, k.1)) WORDS ≡ words
-unfolding words keywords refused_words
-same_table = refl
-
+-- the table of the code is that of the definition, in buckets
 pub returns : goal.returns
-unfolding word_symbol
-returns c =
-    c.lookup.ensures ∙ ap (λ other. lookup (map (λ k. (k.0.now, k.1)) WORDS) other c.args.word.now) c.unlisted.ensures
-    ∙ ap (λ ks. lookup ks (unlisted c.args.word.now) c.args.word.now) same_table
+unfolding word_symbol words keywords refused_words
+returns c = c.lookup_in.ensures ∙ found words c.unlisted.result c.args.word.now ∙ ap (λ other. lookup words other c.args.word.now) c.unlisted.ensures

@@ -1,4 +1,4 @@
-use Rattle.std.proofs.Common.{rules, ◌≡◌, ◌-◌, ◌∙◌, ap, take, length, reverse}
+use Rattle.std.proofs.Common.{rules, ◌∙◌, ap, take}
 use Rattle.text_survey.specs.Depths as spec
 use Rattle.text_survey.proofs.Profiles.{kept_least, least_levels}
 use Rattle.text_survey.proofs.depths.Depths.deeper.Goals as goal

@@ -1,5 +1,4 @@
-use Rattle.std.proofs.Common.{rules, ◌≡◌, ◌≤◌, ◌<◌, length, reverse}
-use Rattle.text_survey.specs.Depths as spec
+use Rattle.std.proofs.Common.{rules}
 use Rattle.text_survey.proofs.Profiles.{Behind, behind_some, behind_none, kept_forget, kept_forget_none}
 use Rattle.text_survey.proofs.depths.Depths.forget.Goals as goal
 

@@ -1,5 +1,4 @@
-use Rattle.std.proofs.Common.{rules, ◌≡◌, sym, ap, ◌∙◌, subst, [], ◌∷◌, ◌++◌, reverse}
-use Rattle.text_survey.specs.Depths as spec
+use Rattle.std.proofs.Common.{rules, ap, ◌∙◌, reverse}
 use Rattle.text_survey.proofs.Profiles.{kept_join, kept_join_none}
 use Rattle.text_survey.proofs.depths.Depths.join.Goals as goal
 use Rattle.text_survey.proofs.depths.Depths.join.Goals.{in-Some-pop+in_ok-joined-in-Some-pop, in-None}
