@@ -14,7 +14,7 @@ use Rattle.elab_flat.specs.elab_items.Signals.{signal_in}
 use Rattle.elab_flat.proofs.elab_items_proofs.Law.{few_enough}
 use Rattle.elab_flat.specs.elab_walk.declared.room.Room.{Room}
 use Rattle.elab_flat.specs.elab_walk.Refusals.{own_faults, refusal, told_first, told_of, told_where}
-use Rattle.elab_flat.specs.elab_walk.Rooms.{has_room, parameter_count, process_faults, process_places, room_after, surplus, visit_steps}
+use Rattle.elab_flat.specs.elab_walk.Rooms.{has_room, extra_count, process_faults, process_places, room_after, surplus, visit_steps}
 use Rattle.elab_flat.specs.elab_walk.Placements.{Placement, home_of, signals_at, placements}
 use Rattle.elab_flat.specs.elab_walk.Visits.{Library, Visit}
 use Rattle.elab_flat.proofs.elab_walk_proofs.Leaving.{nothing_told}
@@ -55,7 +55,7 @@ first_holds false b h = absurd cc
 clean_one : (library : Library) (room : Room) (v : Visit) → told_of library room v ≡ None → IsClean library room v
 clean_one library room v h =
     let both = none_where (has_room room v.circuit) v (own_faults library room v) h in
-    let few : nat_lt room.number 20000 ≡ true = first_holds (nat_lt room.number 20000) (nat_le (parameter_count v.circuit) room.parameters) both.0 in
+    let few : nat_lt room.number 20000 ≡ true = first_holds (nat_lt room.number 20000) (nat_le (extra_count v.circuit) room.extras) both.0 in
     let declared : List Refusal = declaration_faults v.settings room.base v.circuit in
     let found : List Refusal = checked room.left.statements room.left.delays room.left.nodes (visit_steps library v) in
     let over : List Refusal = process_faults room.processes (process_places v.circuit.items) in

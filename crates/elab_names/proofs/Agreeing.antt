@@ -27,7 +27,7 @@ use Rattle.rtl_elab.specs.elab_walk.declared.room.Room.{Room}
 use Rattle.rtl_elab.specs.elab_walk.Links.{group_steps}
 use Rattle.rtl_elab.specs.elab_walk.Placements.{Placement}
 use Rattle.rtl_elab.specs.elab_walk.Refusals.{own_faults, told_of, told_where}
-use Rattle.rtl_elab.specs.elab_walk.Rooms.{has_room, parameter_count, part_steps, parts_steps, process_faults, process_places, room_after, visit_steps}
+use Rattle.rtl_elab.specs.elab_walk.Rooms.{has_room, extra_count, part_steps, parts_steps, process_faults, process_places, room_after, visit_steps}
 use Rattle.rtl_elab.specs.elab_walk.Visits.{Holder, Library, Visit, child_in, children, holder_of, item_children, placed_children, scope_in}
 use Rattle.rtl_elab.specs.elab_flat.Works.{Works, group_in, group_tasks, placed, with_part, with_parts}
 use Rattle.elab_names.specs.Extracts.{renumbered}
@@ -168,7 +168,7 @@ module _ (number : ℕ → ℕ) (first second : Library) where
           nodes = room.left.nodes - node_total steps;
         };
         number = room.number + 1;
-        parameters = room.parameters - parameter_count v.circuit;
+        extras = room.extras - extra_count v.circuit;
       }
 
   spot_moved : (spot : Spot) (breach : Breach) → located_at (moved_spot number spot) breach ≡ moved_answer number (located_at spot breach)

@@ -66,25 +66,25 @@ nothing : refusal two whole_room met ≡ None
 nothing = refl
 
 -- one instance too many is told where its module is named
-crowded : refusal two (record { base = 0; number = 19999; processes = 20000; left = record { statements = 9; delays = 9; nodes = 9 }; parameters = 9 }) met ≡ Some (Placed TooLarge (record { file = 0; at = 20 }))
+crowded : refusal two (record { base = 0; number = 19999; processes = 20000; left = record { statements = 9; delays = 9; nodes = 9 }; extras = 9 }) met ≡ Some (Placed TooLarge (record { file = 0; at = 20 }))
 crowded = refl
 
 -- one process too many, at its place
-busy : refusal two (record { base = 0; number = 0; processes = 2; left = record { statements = 9; delays = 9; nodes = 9 }; parameters = 9 }) met ≡ Some (Placed TooLarge (record { file = 0; at = 127 }))
+busy : refusal two (record { base = 0; number = 0; processes = 2; left = record { statements = 9; delays = 9; nodes = 9 }; extras = 9 }) met ≡ Some (Placed TooLarge (record { file = 0; at = 127 }))
 busy = refl
 
 -- what has one node too many, of three in all: the second connection, or the assignment of the instance
-connected : refusal two (record { base = 0; number = 0; processes = 9; left = record { statements = 9; delays = 9; nodes = 1 }; parameters = 9 }) met ≡ Some (Placed TooLarge (record { file = 0; at = 30 }))
+connected : refusal two (record { base = 0; number = 0; processes = 9; left = record { statements = 9; delays = 9; nodes = 1 }; extras = 9 }) met ≡ Some (Placed TooLarge (record { file = 0; at = 30 }))
 connected = refl
 
-assigned : refusal two (record { base = 0; number = 0; processes = 9; left = record { statements = 9; delays = 9; nodes = 2 }; parameters = 9 }) met ≡ Some (Placed TooLarge (record { file = 0; at = 127 }))
+assigned : refusal two (record { base = 0; number = 0; processes = 9; left = record { statements = 9; delays = 9; nodes = 2 }; extras = 9 }) met ≡ Some (Placed TooLarge (record { file = 0; at = 127 }))
 assigned = refl
 
-fitting : refusal two (record { base = 0; number = 0; processes = 9; left = record { statements = 9; delays = 9; nodes = 3 }; parameters = 9 }) met ≡ None
+fitting : refusal two (record { base = 0; number = 0; processes = 9; left = record { statements = 9; delays = 9; nodes = 3 }; extras = 9 }) met ≡ None
 fitting = refl
 
 -- one signal too many
-wide : refusal two (record { base = 19997; number = 0; processes = 9; left = record { statements = 9; delays = 9; nodes = 9 }; parameters = 9 }) met ≡ Some (Placed TooLarge (record { file = 0; at = 112 }))
+wide : refusal two (record { base = 19997; number = 0; processes = 9; left = record { statements = 9; delays = 9; nodes = 9 }; extras = 9 }) met ≡ Some (Placed TooLarge (record { file = 0; at = 112 }))
 wide = refl
 
 -- a, which holds l as u and again as v
@@ -96,11 +96,11 @@ abbrev with_pair : Library
 with_pair = library_of (pair ∷ leaf ∷ [])
 
 -- where something is told of the second of three instances, the walk comes to the first two
-reached : map (λ v. v.path) (come_to with_pair (record { base = 0; number = 19999; processes = 9; left = record { statements = 9; delays = 9; nodes = 9 }; parameters = 9 }) (visits with_pair 2 (top with_pair pair))) ≡ (97 ∷ []) ∷ (97 ∷ 46 ∷ 117 ∷ []) ∷ []
+reached : map (λ v. v.path) (come_to with_pair (record { base = 0; number = 19999; processes = 9; left = record { statements = 9; delays = 9; nodes = 9 }; extras = 9 }) (visits with_pair 2 (top with_pair pair))) ≡ (97 ∷ []) ∷ (97 ∷ 46 ∷ 117 ∷ []) ∷ []
 reached = refl
 
 -- and else to all
-come : map (λ v. v.path) (come_to with_pair (record { base = 0; number = 0; processes = 9; left = record { statements = 9; delays = 9; nodes = 9 }; parameters = 9 }) (visits with_pair 2 (top with_pair pair))) ≡ (97 ∷ []) ∷ (97 ∷ 46 ∷ 117 ∷ []) ∷ (97 ∷ 46 ∷ 118 ∷ []) ∷ []
+come : map (λ v. v.path) (come_to with_pair (record { base = 0; number = 0; processes = 9; left = record { statements = 9; delays = 9; nodes = 9 }; extras = 9 }) (visits with_pair 2 (top with_pair pair))) ≡ (97 ∷ []) ∷ (97 ∷ 46 ∷ 117 ∷ []) ∷ (97 ∷ 46 ∷ 118 ∷ []) ∷ []
 come = refl
 
 -- t, which holds as u a module with a localparam
@@ -112,7 +112,7 @@ abbrev with_one : Library
 with_one = library_of (with_items 116 0 (holds 108 ∷ []) ∷ counted ∷ [])
 
 -- one parameter too many is told where the module of its instance is named
-loaded : refusal with_one (record { base = 0; number = 0; processes = 9; left = record { statements = 9; delays = 9; nodes = 9 }; parameters = 0 }) (visits with_one 2 (top with_one (with_items 116 0 (holds 108 ∷ [])))) ≡ Some (Placed TooLarge (record { file = 0; at = 20 }))
+loaded : refusal with_one (record { base = 0; number = 0; processes = 9; left = record { statements = 9; delays = 9; nodes = 9 }; extras = 0 }) (visits with_one 2 (top with_one (with_items 116 0 (holds 108 ∷ [])))) ≡ Some (Placed TooLarge (record { file = 0; at = 20 }))
 loaded = refl
 
 -- a module that isn't there is told without a place

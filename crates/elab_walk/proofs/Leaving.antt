@@ -21,7 +21,7 @@ use Rattle.elab_walk.specs.declared.places.Seek.TheVariants as seek
 use Rattle.elab_walk.specs.declared.room.Room.{Room}
 use Rattle.elab_walk.specs.Leavings.{behind, left_or, most_of, spare_or}
 use Rattle.elab_walk.specs.Refusals.{own_faults}
-use Rattle.elab_walk.specs.Rooms.{parameter_count, parts_steps, place_of, process_faults, process_places, room_after, sought, sought_on, surplus, visit_steps}
+use Rattle.elab_walk.specs.Rooms.{extra_count, parts_steps, place_of, process_faults, process_places, room_after, sought, sought_on, surplus, visit_steps}
 use Rattle.elab_walk.specs.Visits.{Library, Visit}
 use Rattle.elab_walk.proofs.Seeking.{found_is, short, sought_left}
 use Rattle.elab_walk.proofs.Sparing.{spare_is}
@@ -115,7 +115,7 @@ no_surplus None h = refl
 no_surplus (Some at) h = absurd (no_cons _ _ h)
 
 -- what an instance leaves of which nothing is told
-pub leaves : (library : Library) (room : Room) (v : Visit) (first : Option Refusal) (so_far : Course) (seek' : Seek) (spare : Option ℕ) → room.base ≤ 65535 → spare ≡ spared room.parameters (parameter_count v.circuit) → so_far ≡ passed (record { best = first; left = Some room.left; filled = false }) (visit_steps library v) → seek' ≡ sought_on (seek.Left room.processes) (process_places v.circuit.items) → least (own_faults library room v) ≡ None → behind room (length (listings_of v.settings v.circuit)) so_far.left seek' spare ≡ room_after library room v
+pub leaves : (library : Library) (room : Room) (v : Visit) (first : Option Refusal) (so_far : Course) (seek' : Seek) (spare : Option ℕ) → room.base ≤ 65535 → spare ≡ spared room.extras (extra_count v.circuit) → so_far ≡ passed (record { best = first; left = Some room.left; filled = false }) (visit_steps library v) → seek' ≡ sought_on (seek.Left room.processes) (process_places v.circuit.items) → least (own_faults library room v) ≡ None → behind room (length (listings_of v.settings v.circuit)) so_far.left seek' spare ≡ room_after library room v
 leaves library room v first so_far seek' spare small is_spare is_so_far is_seek nothing =
     let declared : List Refusal = declaration_faults v.settings room.base v.circuit in
     let steps : List Step = visit_steps library v in
@@ -138,8 +138,8 @@ leaves library room v first so_far seek' spare small is_spare is_so_far is_seek 
     let one : left_or so_far.left room.left ≡ record { statements = room.left.statements - statement_count steps; delays = room.left.delays - length (delays_of steps); nodes = room.left.nodes - node_total steps } =
     ap (λ l. left_or l room.left) left in
     let other : most_of seek' ≡ room.processes - length places = ap most_of sought_is in
-    let rest : spare_or spare ≡ room.parameters - parameter_count v.circuit =
-    ap spare_or is_spare ∙ spare_is room.parameters (parameter_count v.circuit) in
+    let rest : spare_or spare ≡ room.extras - extra_count v.circuit =
+    ap spare_or is_spare ∙ spare_is room.extras (extra_count v.circuit) in
     cc
 
 -- what is come upon in the items of an instance

@@ -1,4 +1,4 @@
--- How many parameters are left.
+-- How many extras are left.
 use Rattle.std.specs.Prelude.{ℕ, ◌-◌, nat_le}
 use Rattle.std.proofs.Common.{◌≡◌, arith, inl, inr, refl}
 use Rattle.std.proofs.lemmas.Bool.{cases_Bool}

@@ -25,5 +25,5 @@ behind room signals left seek spare =
       number = room.number + 1;
       processes = most_of seek;
       left = left_or left room.left;
-      parameters = spare_or spare;
+      extras = spare_or spare;
     }

@@ -17,7 +17,7 @@ own_faults library room v =
     ++ checked room.left.statements room.left.delays room.left.nodes (visit_steps library v)
     ++ process_faults room.processes (process_places v.circuit.items)
 
--- an instance that is one too many, or whose parameters are too many, is told where its module is named, and nothing in
+-- an instance that is one too many, or whose extras are too many, is told where its module is named, and nothing in
 -- it counts
 abbrev pub told_where : Bool → Visit → List Refusal → Option Answer
 told_where false v faults = Some (Placed TooLarge v.spot)

@@ -77,30 +77,30 @@ parts_steps library way scope (first ∷ others) =
 abbrev pub visit_steps : Library → Visit → List Step
 visit_steps library v = parts_steps library v.way (scope_in v) v.circuit.items
 
--- ---- parameters
+-- ---- extras: what an instance has that is no signal, no process and no statement
 
--- each `parameter` and `localparam` of an item
-abbrev pub item_parameters : ModuleItem → ℕ
-item_parameters (Parameters at kind bounds values) = length values
-item_parameters (Ports head names) = 0
-item_parameters (Nets at signed bounds nets) = 0
-item_parameters (Variables at signed bounds variables) = 0
-item_parameters (Integers at names) = 0
-item_parameters (Drives at pause drives) = 0
-item_parameters (Always at sensitivity body) = 0
-item_parameters (Instances child parameters instantiations) = 0
+-- each `parameter`, `localparam` and `integer` of an item
+abbrev pub item_extras : ModuleItem → ℕ
+item_extras (Parameters at kind bounds values) = length values
+item_extras (Ports head names) = 0
+item_extras (Nets at signed bounds nets) = 0
+item_extras (Variables at signed bounds variables) = 0
+item_extras (Integers at names) = length names
+item_extras (Drives at pause drives) = 0
+item_extras (Always at sensitivity body) = 0
+item_extras (Instances child parameters instantiations) = 0
 
-abbrev pub items_parameters : List ModuleItem → ℕ
-items_parameters [] = 0
-items_parameters (first ∷ others) = item_parameters first + items_parameters others
+abbrev pub items_extras : List ModuleItem → ℕ
+items_extras [] = 0
+items_extras (first ∷ others) = item_extras first + items_extras others
 
--- those of a module's head and of its items
-abbrev pub parameter_count : Circuit → ℕ
-parameter_count circuit = length circuit.parameters + items_parameters circuit.items
+-- those of a module's head and of its items, and the regions that were dropped in it
+abbrev pub extra_count : Circuit → ℕ
+extra_count circuit = length circuit.parameters + (length circuit.dropped + items_extras circuit.items)
 
 -- ---- limits
 
--- a design has at most 20,000 instances, 200,000 parameters in all of them, 20,000 signals, 20,000 processes, 100,000
+-- a design has at most 20,000 instances, 200,000 extras in all of them, 20,000 signals, 20,000 processes, 100,000
 -- statements, 100,000 delays and 2,000,000 nodes of expressions
 abbrev pub whole_room : Room
 whole_room =
@@ -109,7 +109,7 @@ whole_room =
       processes = 20000;
       left = record { statements = 100000; delays = 100000; nodes = 2000000 };
       number = 0;
-      parameters = 200000;
+      extras = 200000;
     }
 
 -- what an instance leaves
@@ -124,13 +124,13 @@ room_after library room v =
         nodes = room.left.nodes - node_total (visit_steps library v);
       };
       number = room.number + 1;
-      parameters = room.parameters - parameter_count v.circuit;
+      extras = room.extras - extra_count v.circuit;
     }
 
 -- whether a design has room for one instance more, of this module
 abbrev pub has_room : Room → Circuit → Bool
 has_room room circuit =
-    nat_lt room.number 20000 && nat_le (parameter_count circuit) room.parameters
+    nat_lt room.number 20000 && nat_le (extra_count circuit) room.extras
 
 -- a process that is one too many
 abbrev pub surplus : Option ℕ → List Refusal

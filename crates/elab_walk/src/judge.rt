@@ -15,9 +15,9 @@ ghost use Rattle.elab_walk.specs.Refusals.{own_faults};
 ghost use Rattle.elab_walk.specs.Visits.{library, scope_in, visit};
 ghost use Rattle.elab_links.specs.elab_scope.Faults.{least};
 
+use crate::extras::spare_extras;
 use crate::library::Library;
 use crate::links::spend_links;
-use crate::parameters::spare_parameters;
 use crate::places::{Seek, seek_all};
 use crate::room::Room;
 use crate::visit::Visit;
@@ -145,7 +145,7 @@ pub fn judge_visit<'a>(
     let items = met.written.items.as_slice();
     let judged = judge_parts(alloc, all, way, items, &mut names, so_far)?;
     let seek = seek_all(items, Seek::Left(room.processes));
-    let spare = spare_parameters(met.written, room.parameters);
+    let spare = spare_extras(met.written, room.extras);
     let listed = declared.signals.as_slice();
     let signals = listed.len();
     Ok(Judged {

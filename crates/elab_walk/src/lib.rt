@@ -1,10 +1,10 @@
 //! The walk over the instances of a top module, and what is told of them.
 #![tactic(auto)]
 
+pub mod extras;
 pub mod judge;
 pub mod library;
 pub mod links;
-pub mod parameters;
 pub mod places;
 pub mod room;
 pub mod top;

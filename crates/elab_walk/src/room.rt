@@ -19,8 +19,8 @@ pub struct Room {
     /// How many processes may still come.
     pub processes: u16,
     pub left: Left,
-    /// How many parameters may still come.
-    pub parameters: u32,
+    /// How many parameters, `integer`s and dropped regions may still come.
+    pub extras: u32,
 }
 
 /// How many processes may still come; none where one is found that is one too many.
@@ -35,7 +35,7 @@ fn most_of(seek: Seek) -> u16
 
 impl Room {
     /// The room behind an instance with so many signals, where so much is left of statements, delays, processes and
-    /// parameters.
+    /// extras.
     pub fn behind(self, signals: usize, left: Option<Left>, seek: Seek, spare: Option<u32>) -> Room
         requires { self.number < 20000 }
         ensures { result ≡ behind self signals left seek spare }
@@ -45,7 +45,7 @@ impl Room {
             number: self.number + 1,
             processes: most_of(seek),
             left: left.unwrap_or(self.left),
-            parameters: spare.unwrap_or(0),
+            extras: spare.unwrap_or(0),
         }
     }
 }

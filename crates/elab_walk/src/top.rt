@@ -43,7 +43,7 @@ fn whole_room() -> Room
             delays: 100_000,
             nodes: NODES,
         },
-        parameters: 200_000,
+        extras: 200_000,
     }
 }
 

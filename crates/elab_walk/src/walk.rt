@@ -13,9 +13,9 @@ ghost use Rattle.elab_walk.specs.Rooms.{has_room, room_after};
 ghost use Rattle.elab_walk.specs.Trails.{Going, IsTold, Went, gone, trail};
 ghost use Rattle.elab_walk.specs.Visits.{child_of, children, holder, item_children, library, placed_children, scope_in, visit, visits};
 
+use crate::extras::spare_extras;
 use crate::judge::{Judged, judge_visit};
 use crate::library::Library;
-use crate::parameters::spare_parameters;
 use crate::room::Room;
 use crate::trail::Trail;
 use crate::visit::{Holder, Visit, file_of};
@@ -58,7 +58,7 @@ struct Left {
 fn has_room(room: Room, written: &Module) -> bool
     ensures { result ≡ has_room room (circuit written.now) }
 {
-    room.number < INSTANCES && spare_parameters(written, room.parameters).is_some()
+    room.number < INSTANCES && spare_extras(written, room.extras).is_some()
 }
 
 /// An instance of which nothing is told.

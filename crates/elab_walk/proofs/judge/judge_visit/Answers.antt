@@ -45,5 +45,5 @@ returns-clause-room c = λ nothing.
     let count : length c.as_slice-listed.result.now ≡ length (listings_of v.settings v.circuit) =
     ap length c.as_slice-listed.ensures.value ∙ sym (length-map c.in_ok-declared.declared.signals.items listing) ∙ ap length c.in_ok-declared.ensures.signals in
     c.behind.ensures
-    ∙ ap (λ n. behind c.args.room n (course c.in_ok-judged.judged).left c.seek_all-seek.result c.spare_parameters-spare.result) count
-    ∙ leaves all c.args.room v first (course c.in_ok-judged.judged) c.seek_all-seek.result c.spare_parameters-spare.result (omega arith) c.spare_parameters-spare.ensures is_so_far is_seek (sym is_told ∙ sym c.judge_surplus.ensures ∙ nothing)
+    ∙ ap (λ n. behind c.args.room n (course c.in_ok-judged.judged).left c.seek_all-seek.result c.spare_extras-spare.result) count
+    ∙ leaves all c.args.room v first (course c.in_ok-judged.judged) c.seek_all-seek.result c.spare_extras-spare.result (omega arith) c.spare_extras-spare.ensures is_so_far is_seek (sym is_told ∙ sym c.judge_surplus.ensures ∙ nothing)
