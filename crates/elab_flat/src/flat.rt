@@ -6,11 +6,15 @@ ghost use Rattle.elab_walk.specs.Placements.{instance_of, region, regions_at, si
 ghost use Rattle.elab_walk.specs.Trails.{placement};
 ghost use Rattle.elab_walk.specs.Visits.{library};
 ghost use Rattle.elab_flat.specs.Flats.{flat_of};
-ghost use Rattle.elab_flat.specs.Views.{flat};
+ghost use Rattle.elab_flat.specs.Views.{flat, works};
+ghost use Rattle.elab_flat.specs.Works.{no_works, with_placement, with_placements};
+ghost use Rattle.elab_walk.specs.elab_items.Rosters.{listing};
+ghost use Rattle.elab_walk.specs.elab_items.Scopes.{listings_of};
 
 use crate::regions::dropped_in;
 use crate::works::Works;
 use elab_walk::elab_items::declare::declare;
+use elab_walk::elab_items::roster::Listing;
 use elab_walk::elab_items::signals::{Home, push_signals};
 use elab_walk::library::Library;
 use elab_walk::trail::Placement;
@@ -55,11 +59,16 @@ fn instances_of(alloc: Global, placements: &[Placement<'_>]) -> Result<Vec<Insta
     Ok(made)
 }
 
-/// The signals of an instance, behind others.
-fn push_own(alloc: Global, at: &Placement<'_>, signals: &mut Vec<Signal>) -> Result<(), Memory>
+/// The signals of an instance, behind others; `listed` has those of its module.
+fn push_own(
+    alloc: Global,
+    at: &Placement<'_>,
+    listed: &[Listing<'_>],
+    signals: &mut Vec<Signal>,
+) -> Result<(), Memory>
+    requires { map listing listed.now ≡ listings_of (placement at.now).visit.settings (placement at.now).visit.circuit }
     ensures { OnOk result (signals.new.items ≡ signals.old.items ++ signals_at (placement at.now)) }
 {
-    let declared = declare(alloc, at.visit.written, &at.visit.overrides, 0, None)?;
     let home = Home {
         alloc,
         path: at.visit.path.as_bytes(),
@@ -67,15 +76,53 @@ fn push_own(alloc: Global, at: &Placement<'_>, signals: &mut Vec<Signal>) -> Res
         file: file_of(at.visit.place)?,
         is_top: at.number == 0,
     };
-    push_signals(home, &declared.signals, signals)
+    push_signals(home, listed, signals)
 }
 
-fn signals_of(alloc: Global, placements: &[Placement<'_>]) -> Result<Vec<Signal>, Memory>
-    ensures { IfOk result (λ made. made.items ≡ flat_map signals_at (map placement placements.now)) }
+/// The signals of instances, and their processes with the delays in them, from one look at what each instance declares.
+#[derive(Drop)]
+struct Contents {
+    signals: Vec<Signal>,
+    works: Works,
+}
+
+impl Contents {
+    /// Those of one instance more, where `behind` has the instances behind it.
+    fn add(
+        &mut self,
+        alloc: Global,
+        all: Library<'_>,
+        at: &Placement<'_>,
+        behind: &[Placement<'_>],
+    ) -> Result<(), Memory>
+        ensures signals { OnOk result (self.new.signals.items
+            ≡ self.old.signals.items ++ signals_at (placement at.now)) }
+        ensures works { OnOk result (works self.new.works
+            ≡ with_placement (library all.entry) (works self.old.works) (placement at.now)
+            (map placement behind.now)) }
+    {
+        let declared = declare(alloc, at.visit.written, &at.visit.overrides, 0, None)?;
+        push_own(alloc, at, &declared.signals, &mut self.signals)?;
+        let mut names = declared.names;
+        self.works.add_placement(alloc, all, at, &mut names, behind)
+    }
+}
+
+fn contents_of(
+    alloc: Global,
+    all: Library<'_>,
+    placements: &[Placement<'_>],
+) -> Result<Contents, Memory>
+    ensures signals { IfOk result (λ made. made.signals.items ≡ flat_map signals_at (map placement placements.now)) }
+    ensures works { IfOk result (λ made. works made.works
+        ≡ with_placements (library all.entry) no_works (map placement placements.now)) }
 {
-    let mut made = Vec::new(alloc);
-    for at in placements {
-        push_own(alloc, at, &mut made)?;
+    let mut made = Contents {
+        signals: Vec::new(alloc),
+        works: Works::none(alloc),
+    };
+    for index in 0..placements.len() {
+        made.add(alloc, all, &placements[index], &placements[index + 1..])?;
     }
     Ok(made)
 }
@@ -130,9 +177,10 @@ pub fn flat_of(
 ) -> Result<DesignParts, Memory>
     ensures { IfOk result (λ made. flat made ≡ flat_of (library all.entry) (map placement placements.now)) }
 {
+    let Contents { signals, works } = contents_of(alloc, all, placements)?;
     Ok(DesignParts {
-        signals: signals_of(alloc, placements)?,
-        works: Works::of(alloc, all, placements)?,
+        signals,
+        works,
         instances: instances_of(alloc, placements)?,
         dropped: regions_of(alloc, placements)?,
     })

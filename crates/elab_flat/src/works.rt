@@ -257,40 +257,31 @@ impl Works {
     }
 
     /// Those of an instance, where `behind` has the instances behind it.
-    fn add_placement(
+    pub fn add_placement(
         &mut self,
         alloc: Global,
         all: Library<'_>,
         at: &Placement<'_>,
+        names: &mut Names,
         behind: &[Placement<'_>],
     ) -> Result<(), Memory>
+        requires { meanings names.old ≡ scope_in (placement at.now).visit }
         ensures { OnOk result (works self.new
             ≡ with_placement (library all.entry) (works self.old) (placement at.now)
             (map placement behind.now)) }
     {
         let site = site_of(alloc, at)?;
-        let written = at.visit.written;
-        let mut names = declare(alloc, written, &at.visit.overrides, 0, None)?.names;
         let bases = bases_under(alloc, at, behind)?;
-        self.add_all(all, site, at, &mut names, &bases, &written.items)
+        self.add_all(all, site, at, names, &bases, &at.visit.written.items)
     }
 
-    /// The processes of instances with their delays.
-    pub fn of(
-        alloc: Global,
-        all: Library<'_>,
-        placements: &[Placement<'_>],
-    ) -> Result<Works, Memory>
-        ensures { IfOk result (λ made. works made
-            ≡ with_placements (library all.entry) no_works (map placement placements.now)) }
+    /// No processes.
+    pub fn none(alloc: Global) -> Works
+        ensures { works result ≡ no_works }
     {
-        let mut made = Works {
+        Works {
             processes: Vec::new(alloc),
             delays: Vec::new(alloc),
-        };
-        for index in 0..placements.len() {
-            made.add_placement(alloc, all, &placements[index], &placements[index + 1..])?;
         }
-        Ok(made)
     }
 }
