@@ -22,7 +22,7 @@ pub record Terminal : Type 0 where
   pub parallel : Bool
 
 abbrev pub terminal : code.Terminal → Terminal
-terminal t = record { symbol = t.symbol; kind = t.kind; at = t.at; text = t.text.now; full = t.full; parallel = t.parallel }
+terminal t = record { symbol = t.symbol; kind = t.kind.now; at = t.at; text = t.text.now; full = t.full; parallel = t.parallel }
 
 -- the keywords that the grammar has
 unfoldable pub keywords : List (List ℕ × Symbol)

@@ -137,8 +137,8 @@ pub enum Symbol {
 #[derive(Clone, Copy, Debug)]
 pub struct Terminal<'a> {
     pub symbol: Symbol,
-    /// With a number's value.
-    pub kind: Tok,
+    /// With a number's value. It is that of the token, since a value is large.
+    pub kind: &'a Tok,
     /// Its place, in bytes from 0.
     pub at: u32,
     /// Its slice of the text.

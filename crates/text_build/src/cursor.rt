@@ -137,7 +137,7 @@ impl<'a> Cursor<'a> {
         ensures { Reads (λ value. value) (reading.literal (map terminal self.old.rest.now)) result (map terminal self.new.rest.now) }
     {
         let number = self.token(Symbol::Number)?;
-        match value_of(number.kind) {
+        match value_of(*number.kind) {
             Some(value) => Ok(value),
             None => Err(BuildFault::NotSpelled),
         }

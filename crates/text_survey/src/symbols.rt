@@ -318,13 +318,13 @@ fn symbol(kind: Tok, text: &[u8]) -> Symbol
     }
 }
 
-fn terminal<'a>(text: &'a [u8], token: Token) -> Terminal<'a>
-    ensures { spec.terminal result ≡ here.bare text.now token }
+fn terminal<'a>(text: &'a [u8], token: &'a Token) -> Terminal<'a>
+    ensures { spec.terminal result ≡ here.bare text.now token.entry.now }
 {
-    let text = slice(text, token);
+    let text = slice(text, *token);
     Terminal {
         symbol: symbol(token.kind, text),
-        kind: token.kind,
+        kind: &token.kind,
         at: token.at,
         text,
         full: false,
@@ -344,8 +344,12 @@ fn marked<'a>(last: Terminal<'a>, pragma: Pragma) -> Terminal<'a>
     last
 }
 
-fn add<'a>(terminals: &mut Vec<Terminal<'a>>, text: &'a [u8], token: Token) -> Result<(), Memory>
-    ensures { IfOk result (λ _. (after : spec.Sight) → here.joined (map spec.terminal terminals.new.items) after ≡ here.joined (map spec.terminal terminals.old.items) (spec.sight text.now token (spec.pragma_of token.kind) after)) }
+fn add<'a>(
+    terminals: &mut Vec<Terminal<'a>>,
+    text: &'a [u8],
+    token: &'a Token,
+) -> Result<(), Memory>
+    ensures { IfOk result (λ _. (after : spec.Sight) → here.joined (map spec.terminal terminals.new.items) after ≡ here.joined (map spec.terminal terminals.old.items) (spec.sight text.now token.entry.now (spec.pragma_of token.entry.now.kind) after)) }
 {
     match token.kind {
         Tok::Pragma(pragma) => {
@@ -361,13 +365,13 @@ fn add<'a>(terminals: &mut Vec<Terminal<'a>>, text: &'a [u8], token: Token) -> R
 fn gathered<'a>(
     alloc: Global,
     text: &'a [u8],
-    tokens: &[Token],
+    tokens: &'a [Token],
 ) -> Result<Vec<Terminal<'a>>, Memory>
     ensures { IfOk result (λ ts. map spec.terminal ts.items ≡ spec.terminals text.now tokens.now) }
 {
     let mut terminals = Vec::new(alloc);
     for token in tokens {
-        add(&mut terminals, text, *token)?;
+        add(&mut terminals, text, token)?;
     }
     Ok(terminals)
 }
@@ -377,7 +381,7 @@ fn gathered<'a>(
 pub fn terminals<'a>(
     alloc: Global,
     text: &'a [u8],
-    tokens: &[Token],
+    tokens: &'a [Token],
 ) -> Result<Vec<Terminal<'a>>, Memory>
     ensures found { IfOk result (λ ts. map spec.terminal ts.items ≡ spec.terminals text.now tokens.now) }
     ensures numbered { IfOk result (λ ts. surveys.AreNumbered (map spec.terminal ts.items)) }
