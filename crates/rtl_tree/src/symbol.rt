@@ -133,16 +133,16 @@ pub enum Symbol {
     OrOr,
 }
 
-/// A token as the grammar sees it.
+/// A token as the grammar sees it. Fields stand in the order of their size, which leaves no room between them.
 #[derive(Clone, Copy, Debug)]
 pub struct Terminal<'a> {
-    pub symbol: Symbol,
+    /// Its slice of the text.
+    pub text: &'a [u8],
     /// With a number's value. It is that of the token, since a value is large.
     pub kind: &'a Tok,
     /// Its place, in bytes from 0.
     pub at: u32,
-    /// Its slice of the text.
-    pub text: &'a [u8],
+    pub symbol: Symbol,
     /// A pragma directly after it says `full_case`.
     pub full: bool,
     /// A pragma directly after it says `parallel_case`.
