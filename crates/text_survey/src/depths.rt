@@ -17,14 +17,25 @@ pub struct Depths {
     /// The places of the nodes that have begun.
     places: Vec<u32>,
     profiles: Vec<Profile>,
+    /// Room of profiles that are done with: most last for a few tokens only.
+    spare: Vec<Profile>,
+}
+
+/// The least places of the trees of two profiles, and room that serves again.
+#[derive(Drop)]
+struct Merged {
+    profile: Profile,
+    room: Profile,
+    other_room: Profile,
 }
 
 /// The least places of the trees of both, in the time of the shallower one.
-fn merge(alloc: Global, a: Profile, b: Profile) -> Result<Profile, Memory>
-    ensures { IfOk result (λ p. reverse p.items ≡ spec.merged (reverse a.items) (reverse b.items)) }
+fn merge(room: Profile, a: Profile, b: Profile) -> Result<Merged, Memory>
+    ensures { IfOk result (λ p. reverse p.profile.items ≡ spec.merged (reverse a.items) (reverse b.items)) }
 {
     let (mut deeper, mut other) = if a.len() < b.len() { (b, a) } else { (a, b) };
-    let mut both = Vec::new(alloc);
+    let mut both = room;
+    both.clear();
     while let Some(place) = other.pop() {
         if let Some(at) = deeper.pop() {
             both.push(at.min(place))?;
@@ -33,7 +44,11 @@ fn merge(alloc: Global, a: Profile, b: Profile) -> Result<Profile, Memory>
     while let Some(place) = both.pop() {
         deeper.push(place)?;
     }
-    Ok(deeper)
+    Ok(Merged {
+        profile: deeper,
+        room: both,
+        other_room: other,
+    })
 }
 
 fn least(places: &[u32]) -> Option<u32>
@@ -59,7 +74,19 @@ impl Depths {
             alloc,
             places: Vec::new(alloc),
             profiles,
+            spare: Vec::new(alloc),
         })
+    }
+
+    /// Room for a profile.
+    fn room(&mut self) -> Profile
+        ensures places { self.new.places ≡ self.old.places }
+        ensures profiles { self.new.profiles ≡ self.old.profiles }
+    {
+        match self.spare.pop() {
+            Some(room) => room,
+            None => Vec::new(self.alloc),
+        }
     }
 
     /// Begins a node where one begins.
@@ -70,7 +97,9 @@ impl Depths {
             Taking::Nothing | Taking::Token => {}
             Taking::Node | Taking::Ahead => {
                 self.places.push(at)?;
-                self.profiles.push(Vec::new(self.alloc))?;
+                let mut profile = self.room();
+                profile.clear();
+                self.profiles.push(profile)?;
             }
             Taking::Operator => self.places.push(at)?,
         }
@@ -89,16 +118,31 @@ impl Depths {
         Ok(())
     }
 
+    /// Two profiles as one; their room serves again.
+    fn merged(&mut self, one: Profile, other: Profile) -> Result<Profile, Memory>
+        ensures merged { IfOk result (λ p. reverse p.items ≡ spec.merged (reverse one.items) (reverse other.items)) }
+        ensures places { self.new.places ≡ self.old.places }
+        ensures profiles { self.new.profiles ≡ self.old.profiles }
+    {
+        let room = self.room();
+        let merged = merge(room, one, other)?;
+        self.spare.push(merged.room)?;
+        self.spare.push(merged.other_room)?;
+        Ok(merged.profile)
+    }
+
     fn join(&mut self) -> Result<(), Memory>
         ensures { IfOk result (λ _. (s : spec.Depths) → spec.IsKept self.old s → spec.IsKept self.new (spec.joined s.places s.top s.under)) }
     {
-        if let Some(last) = self.profiles.pop() {
-            let joined = match self.profiles.pop() {
-                Some(other) => merge(self.alloc, other, last)?,
-                None => last,
-            };
-            self.profiles.push(joined)?;
-        }
+        let Some(last) = self.profiles.pop() else {
+            return Ok(());
+        };
+        let Some(other) = self.profiles.pop() else {
+            self.profiles.push(last)?;
+            return Ok(());
+        };
+        let joined = self.merged(other, last)?;
+        self.profiles.push(joined)?;
         Ok(())
     }
 

@@ -8,7 +8,7 @@ use Rattle.text_survey.proofs.depths.merge.Goals.{then-len, else-len}
 pub loop-place-init : goal.loop-place-init
 loop-place-init c =
     elim c.if-len.branch [
-      | then-len w ↦ (merge_start c.args.a.items c.args.b.items c.if-len.deeper.0.items c.if-len.deeper.1.items c.new-both.result.items (search rules) (search rules) c.new-both.ensures.items, search rules)
+      | then-len w ↦ (merge_start c.args.a.items c.args.b.items c.if-len.deeper.0.items c.if-len.deeper.1.items c.clear.new.self.items (search rules) (search rules) (search rules), search rules)
       | else-len w ↦ (search rules, search rules)
     ]
 
