@@ -59,7 +59,7 @@ impl<'a> Cursor<'a> {
     pub fn names(&mut self) -> Result<Vec<Name>, BuildFault>
         ensures { Reads (λ all. map identifier all.items) (generic.listed generic.name (map terminal self.old.rest.now)) result (map terminal self.new.rest.now) }
     {
-        let mut all = Vec::new(self.alloc);
+        let mut all = Vec::with_capacity(self.alloc, 1)?;
         // Each turn takes a token, so these are enough.
         for _turn in 0..self.rest.len() {
             all.push(self.name()?)?;
@@ -179,7 +179,7 @@ impl<'a> Cursor<'a> {
             (generic.listed (reading.net MAX_NESTING) (map terminal self.old.rest.now)) result
             (map terminal self.new.rest.now) }
     {
-        let mut all = Vec::new(self.alloc);
+        let mut all = Vec::with_capacity(self.alloc, 1)?;
         // Each turn takes a token, so these are enough.
         for _turn in 0..self.rest.len() {
             all.push(self.wire()?)?;
@@ -221,7 +221,7 @@ impl<'a> Cursor<'a> {
     fn listed_regs(&mut self) -> Result<Vec<Reg>, BuildFault>
         ensures { Reads (λ all. map variable all.items) (generic.listed reading.variable (map terminal self.old.rest.now)) result (map terminal self.new.rest.now) }
     {
-        let mut all = Vec::new(self.alloc);
+        let mut all = Vec::with_capacity(self.alloc, 1)?;
         // Each turn takes a token, so these are enough.
         for _turn in 0..self.rest.len() {
             all.push(self.reg()?)?;
@@ -275,7 +275,7 @@ impl<'a> Cursor<'a> {
             (generic.listed (reading.valuation MAX_NESTING) (map terminal self.old.rest.now))
             result (map terminal self.new.rest.now) }
     {
-        let mut all = Vec::new(self.alloc);
+        let mut all = Vec::with_capacity(self.alloc, 1)?;
         // Each turn takes a token, so these are enough.
         for _turn in 0..self.rest.len() {
             all.push(self.setting()?)?;
@@ -321,7 +321,7 @@ impl<'a> Cursor<'a> {
             (generic.listed (reading.drive MAX_NESTING) (map terminal self.old.rest.now)) result
             (map terminal self.new.rest.now) }
     {
-        let mut all = Vec::new(self.alloc);
+        let mut all = Vec::with_capacity(self.alloc, 1)?;
         // Each turn takes a token, so these are enough.
         for _turn in 0..self.rest.len() {
             all.push(self.assignment()?)?;

@@ -284,7 +284,7 @@ impl<'a> Cursor<'a> {
     pub fn listed_expressions(&mut self, depth: u32) -> Result<Vec<Expr>, BuildFault>
         ensures { Reads (λ all. map formula all.items) (generic.listed (reading.climb depth 11) (map terminal self.old.rest.now)) result (map terminal self.new.rest.now) }
     {
-        self.expressions_after(depth, Vec::new(self.alloc))
+        self.expressions_after(depth, Vec::with_capacity(self.alloc, 1)?)
     }
 
     #[cycle(expression)]

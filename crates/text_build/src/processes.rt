@@ -63,7 +63,7 @@ impl<'a> Cursor<'a> {
             (reading.events MAX_NESTING (map terminal self.old.rest.now)) result
             (map terminal self.new.rest.now) }
     {
-        let mut all = Vec::new(self.alloc);
+        let mut all = Vec::with_capacity(self.alloc, 1)?;
         // Each turn takes a token, so these are enough.
         for _turn in 0..self.rest.len() {
             all.push(self.event()?)?;

@@ -9,11 +9,11 @@ use Rattle.text_build.proofs.ItemSteps.{events_start}
 use Rattle.text_build.proofs.cursor.Cursor.events.Goals as goal
 
 pub loop-turn-init : goal.loop-turn-init
-loop-turn-init c = events_start _ _ _ _ (omega (arith, length-map c.args.self.now.rest.now terminal)) (ap (λ ts. map happening ts) c.new-all.ensures.items)
+loop-turn-init c = events_start _ _ _ _ (omega (arith, length-map c.args.self.now.rest.now terminal)) (ap (λ ts. map happening ts) c.in_ok-all.ensures.items)
 
 pub returns-in_err-event : goal.returns-in_err-event
 returns-in_err-event c =
-    let p = err_from_is_err_and c.from_residual.result c.from_residual.ensures.1 in
+    let p = err_from_is_err_and c.from_residual-in_err-event.result c.from_residual-in_err-event.ensures.1 in
     rw (p.1, p.2)
     (reads_err happening (λ (v : Vec Event Global). map happening v.items) _ _ c.in_err-event.field-0.0 _ _
     (λ none. sym c.loop-turn.invariant ∙ lists_fail _ _ _ _ _ _ (omega arith) none) c.in_err-event.ensures)

@@ -8,11 +8,11 @@ use Rattle.text_build.proofs.Steps.{reads_err, lists_fail, lists_stop, lists_tur
 use Rattle.text_build.proofs.cursor.Cursor.listed_instances.Goals as goal
 
 pub loop-turn-init : goal.loop-turn-init
-loop-turn-init c = listed_start _ _ _ _ (omega (arith, length-map c.args.self.now.rest.now terminal)) (ap (λ ts. map instantiation ts) c.new-all.ensures.items)
+loop-turn-init c = listed_start _ _ _ _ (omega (arith, length-map c.args.self.now.rest.now terminal)) (ap (λ ts. map instantiation ts) c.in_ok-all.ensures.items)
 
 pub returns-in_err-instance : goal.returns-in_err-instance
 returns-in_err-instance c =
-    let p = err_from_is_err_and c.from_residual.result c.from_residual.ensures.1 in
+    let p = err_from_is_err_and c.from_residual-in_err-instance.result c.from_residual-in_err-instance.ensures.1 in
     rw (p.1, p.2)
     (reads_err instantiation (λ (v : Vec Instance Global). map instantiation v.items) _ _ c.in_err-instance.field-0.0 _ _
     (λ none. sym c.loop-turn.invariant ∙ lists_fail _ _ _ _ _ _ (omega arith) none) c.in_err-instance.ensures)

@@ -8,11 +8,11 @@ use Rattle.text_build.proofs.Steps.{reads_err, lists_fail, lists_stop, lists_tur
 use Rattle.text_build.proofs.cursor.Cursor.listed_wires.Goals as goal
 
 pub loop-turn-init : goal.loop-turn-init
-loop-turn-init c = listed_start _ _ _ _ (omega (arith, length-map c.args.self.now.rest.now terminal)) (ap (λ ts. map net ts) c.new-all.ensures.items)
+loop-turn-init c = listed_start _ _ _ _ (omega (arith, length-map c.args.self.now.rest.now terminal)) (ap (λ ts. map net ts) c.in_ok-all.ensures.items)
 
 pub returns-in_err-wire : goal.returns-in_err-wire
 returns-in_err-wire c =
-    let p = err_from_is_err_and c.from_residual.result c.from_residual.ensures.1 in
+    let p = err_from_is_err_and c.from_residual-in_err-wire.result c.from_residual-in_err-wire.ensures.1 in
     rw (p.1, p.2)
     (reads_err net (λ (v : Vec Wire Global). map net v.items) _ _ c.in_err-wire.field-0.0 _ _
     (λ none. sym c.loop-turn.invariant ∙ lists_fail _ _ _ _ _ _ (omega arith) none) c.in_err-wire.ensures)

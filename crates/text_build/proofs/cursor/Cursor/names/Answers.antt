@@ -8,11 +8,11 @@ use Rattle.text_build.proofs.Steps.{reads_err, lists_fail, lists_stop, lists_tur
 use Rattle.text_build.proofs.cursor.Cursor.names.Goals as goal
 
 pub loop-turn-init : goal.loop-turn-init
-loop-turn-init c = listed_start _ _ _ _ (omega (arith, length-map c.args.self.now.rest.now terminal)) (ap (λ ts. map identifier ts) c.new-all.ensures.items)
+loop-turn-init c = listed_start _ _ _ _ (omega (arith, length-map c.args.self.now.rest.now terminal)) (ap (λ ts. map identifier ts) c.in_ok-all.ensures.items)
 
 pub returns-in_err-name : goal.returns-in_err-name
 returns-in_err-name c =
-    let p = err_from_is_err_and c.from_residual.result c.from_residual.ensures.1 in
+    let p = err_from_is_err_and c.from_residual-in_err-name.result c.from_residual-in_err-name.ensures.1 in
     rw (p.1, p.2)
     (reads_err identifier (λ (v : Vec Name Global). map identifier v.items) _ _ c.in_err-name.field-0.0 _ _
     (λ none. sym c.loop-turn.invariant ∙ lists_fail _ _ _ _ _ _ (omega arith) none) c.in_err-name.ensures)
