@@ -9,7 +9,7 @@ ghost use Rattle.rtl_rule.specs.Parts.{index_of, indices, is_one_literal, labels
 ghost use Rattle.rtl_scan.specs.Bodies.{branches_of};
 ghost use Rattle.check_parts.specs.Kept.{actions, expressions};
 
-use crate::statements::{items, statements};
+use crate::statements::{USUAL, items, statements};
 use rtl_flat::act::{Act, CaseItem, Does, EventItem, TargetPart};
 use rtl_flat::expr::{Index, Node, Select, SizedExpr};
 use rtl_tree::memory::Memory;
@@ -43,8 +43,9 @@ pub fn trees<'d>(alloc: Global, does: &'d Does) -> Result<Vec<&'d SizedExpr>, Me
         push_indices(&target.parts, &mut found)?;
         return Ok(found);
     }
+    let all = statements(alloc, does)?;
     push_watched(items(does), &mut found)?;
-    push_all_own(&statements(alloc, does)?, &mut found)?;
+    push_all_own(&all, &mut found)?;
     Ok(found)
 }
 
@@ -84,7 +85,7 @@ pub fn nodes<'d>(alloc: Global, all: &[&'d SizedExpr]) -> Result<Vec<&'d SizedEx
     ensures { IfOk result (λ found.
         map (λ e. tree e.now) found.items ≡ flat_map nodes (map (λ e. tree e.now) all.now)) }
 {
-    let mut found = Vec::new(alloc);
+    let mut found = Vec::with_capacity(alloc, USUAL)?;
     for e in all {
         push_nodes(e, &mut found)?;
     }

@@ -10,27 +10,29 @@ use rtl_flat::act::{Act, CaseItem, Does, EventItem, Listed, TargetPart};
 use rtl_tree::memory::Memory;
 use std::alloc::Global;
 
+/// Room for as many statements or expressions as most bodies have: lists that grow from nothing are asked for so often
+/// that their growing shows.
+pub(crate) const USUAL: usize = 16;
+
 /// The statements of a process, each before those within it, without blocks.
 pub fn statements<'d>(alloc: Global, does: &'d Does) -> Result<Vec<&'d Act>, Memory>
     ensures { IfOk result (λ all. map (λ one. action one.now) all.items ≡ statements (doing does.now)) }
 {
-    let mut found = Vec::new(alloc);
     match does {
         Does::Assign {
             target: _,
             value: _,
-        } => {}
-        Does::Comb { list: _, body } => push_body(body, &mut found)?,
-        Does::Edge { events: _, body } => push_body(body, &mut found)?,
+        } => Ok(Vec::new(alloc)),
+        Does::Comb { list: _, body } => statements_of(alloc, body),
+        Does::Edge { events: _, body } => statements_of(alloc, body),
     }
-    Ok(found)
 }
 
 /// The statements of a body, each before those within it, without blocks.
 pub fn statements_of<'d>(alloc: Global, body: &'d [Act]) -> Result<Vec<&'d Act>, Memory>
     ensures { IfOk result (λ all. map (λ one. action one.now) all.items ≡ all_of (body_of (map action body.now))) }
 {
-    let mut found = Vec::new(alloc);
+    let mut found = Vec::with_capacity(alloc, USUAL)?;
     push_body(body, &mut found)?;
     Ok(found)
 }

@@ -246,7 +246,8 @@ fn push_items<'a>(items: &'a [Item], entries: &mut Vec<Entry<'a>>) -> Result<(),
 pub fn entries_of(alloc: Global, written: &Module) -> Result<Vec<Entry<'_>>, Memory>
     ensures { IfOk result (λ entries. map declaration entries.items ≡ declarations (circuit written.now)) }
 {
-    let mut entries = Vec::new(alloc);
+    // Most items declare one name, and a head has a few.
+    let mut entries = Vec::with_capacity(alloc, written.items.len().saturating_add(8))?;
     push_parameters(&written.parameters, &mut entries)?;
     push_header(&written.ports, &mut entries)?;
     push_items(&written.items, &mut entries)?;
