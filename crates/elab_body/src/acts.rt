@@ -5,7 +5,7 @@ ghost use Rattle.std.specs.Prelude.{◌≡◌, ◌≤◌, ◌∷◌, [], ◌++�
 ghost use Rattle.rtl_flat.specs.Expression.{tree};
 ghost use Rattle.rtl_flat.specs.Process.{Block, Branches, If, NoBranch, action as made_action, body_of};
 ghost use Rattle.rtl_tree.specs.TreeExpr.{formula};
-ghost use Rattle.rtl_tree.specs.TreeStmt.{action, action_row, branch, branch_row, target};
+ghost use Rattle.rtl_tree.specs.TreeStmt.{Case, action, action_row, branch, branch_row, target};
 ghost use Rattle.elab_nodes.specs.elab_scope.Names.{indexed, meanings};
 ghost use Rattle.elab_nodes.specs.elab_scope.Trees.{own_context, spot_in, tree_of};
 ghost use Rattle.elab_body.specs.Acts.{act_turns, acts, body_acts, case_branches, fallback, loop_acts, set_of, with_branch};
@@ -28,7 +28,7 @@ use rtl_flat::expr::SizedExpr;
 use rtl_tree::memory::Memory;
 use rtl_tree::text::Spot;
 use rtl_tree::tree::expr::Expr;
-use rtl_tree::tree::stmt::{AssignmentKind, CaseItem, Lvalue, Stmt};
+use rtl_tree::tree::stmt::{AssignmentKind, CaseItem, CaseKind, Lvalue, Stmt};
 
 fn spot_at(site: Site, at: u32) -> Spot
     ensures { result ≡ spot_in site.file at }
@@ -83,11 +83,60 @@ fn with(mut made: Vec<Act>, act: Act) -> Result<Vec<Act>, Memory>
     Ok(made)
 }
 
-/// The test of an `if`.
-fn test(condition: &Expr, names: &Names, site: Site) -> Result<SizedExpr, Memory>
-    ensures { IfOk result (λ made. tree made ≡ tree_of site.file site.base (meanings names.now) (formula condition.now) (own_context (meanings names.now) (formula condition.now))) }
+/// An expression in its context, in a box.
+fn boxed(e: &Expr, context: Context, names: &Names, site: Site) -> Result<Box<SizedExpr>, Memory>
+    requires not_empty { 1 ≤ context.width }
+    requires at_most { context.width ≤ 128 }
+    ensures { IfOk result (λ made. tree made.value ≡ tree_of site.file site.base (meanings names.now) (formula e.now) context) }
 {
-    size(condition, own_context(condition, names), names, site)
+    Ok(Box::new(site.alloc, size(e, context, names, site)?)?)
+}
+
+/// An `if` more, whose test stands in a box: what is held by value while more is made is dear to prove.
+fn push_branches(
+    made: Vec<Act>,
+    test: Box<SizedExpr>,
+    yes: Vec<Act>,
+    no: Option<Vec<Act>>,
+    spot: Spot,
+) -> Result<Vec<Act>, Memory>
+    ensures { IfOk result (λ all. map made_action all.items ≡ map made_action made.items
+        ++ (If (tree test.value) (body_of (map made_action yes.items)) (otherwise_of no) spot ∷ [])) }
+{
+    with(made, branched(Box::into_inner(test), yes, no, spot))
+}
+
+/// The test of an `if`.
+fn test(condition: &Expr, names: &Names, site: Site) -> Result<Box<SizedExpr>, Memory>
+    ensures { IfOk result (λ made. tree made.value ≡ tree_of site.file site.base (meanings names.now) (formula condition.now) (own_context (meanings names.now) (formula condition.now))) }
+{
+    boxed(condition, own_context(condition, names), names, site)
+}
+
+/// An assignment, behind other statements.
+fn push_assignment(
+    written: &Lvalue,
+    kind: AssignmentKind,
+    value: &Expr,
+    names: &Names,
+    site: Site,
+    mut made: Vec<Act>,
+) -> Result<Vec<Act>, Memory>
+    ensures { IfOk result (λ all. map made_action all.items ≡ map made_action made.items ++ (set_of site.file site.base (meanings names.now) (target written.now) kind (formula value.now) ∷ [])) }
+{
+    made.push(assigned(written, kind, value, names, site)?)?;
+    Ok(made)
+}
+
+/// The head of a case: all of it but its items.
+#[derive(Clone, Copy)]
+struct CaseHead<'a> {
+    /// The place of the word.
+    at: u32,
+    kind: CaseKind,
+    full: bool,
+    parallel: bool,
+    selector: &'a Expr,
 }
 
 /// The labels of an item of a case.
@@ -117,7 +166,7 @@ pub fn acts_of(body: &Stmt, names: &mut Names, site: Site) -> Result<Vec<Act>, M
     ensures made { IfOk result (λ all. map made_action all.items ≡ acts site.file site.base (action body.now) (meanings names.old)) }
     ensures same { meanings names.new ≡ meanings names.old }
 {
-    push_acts(body, names, site, Vec::new(site.alloc))
+    push_acts(body, names, site, Vec::with_capacity(site.alloc, 1)?)
 }
 
 /// A statement, behind others.
@@ -131,7 +180,7 @@ fn push_acts(body: &Stmt, names: &mut Names, site: Site, made: Vec<Act>) -> Resu
         Stmt::Null(_) => Ok(made),
         Stmt::Delayed(_, body) => push_acts(body, names, site, made),
         Stmt::Assign(written, kind, _, value) => {
-            with(made, assigned(written, *kind, value, names, site)?)
+            push_assignment(written, *kind, value, names, site, made)
         }
         Stmt::If(at, condition, taken) => match branches_of(constant(condition, names)) {
             Chosen::Taken => push_acts(taken, names, site, made),
@@ -139,7 +188,7 @@ fn push_acts(body: &Stmt, names: &mut Names, site: Site, made: Vec<Act>) -> Resu
             Chosen::Both => {
                 let test = test(condition, names, site)?;
                 let yes = acts_of(taken, names, site)?;
-                with(made, branched(test, yes, None, spot_at(site, *at)))
+                push_branches(made, test, yes, None, spot_at(site, *at))
             }
         },
         Stmt::IfElse(at, condition, taken, otherwise) => {
@@ -150,7 +199,7 @@ fn push_acts(body: &Stmt, names: &mut Names, site: Site, made: Vec<Act>) -> Resu
                     let test = test(condition, names, site)?;
                     let yes = acts_of(taken, names, site)?;
                     let no = acts_of(otherwise, names, site)?;
-                    with(made, branched(test, yes, Some(no), spot_at(site, *at)))
+                    push_branches(made, test, yes, Some(no), spot_at(site, *at))
                 }
             }
         }
@@ -162,17 +211,14 @@ fn push_acts(body: &Stmt, names: &mut Names, site: Site, made: Vec<Act>) -> Resu
             selector,
             items,
         } => {
-            let context = case_context(selector, items, names);
-            let act = Act::Case {
-                kind: kind_of(*kind),
+            let head = CaseHead {
+                at: *at,
+                kind: *kind,
                 full: *full,
                 parallel: *parallel,
-                selector: size(selector, context, names, site)?,
-                items: items_of(items, context, names, site)?,
-                fallback: fallback_of(items, names, site)?,
-                spot: spot_at(site, *at),
+                selector,
             };
-            with(made, act)
+            push_case(head, items, names, site, made)
         }
         Stmt::For {
             at,
@@ -193,11 +239,57 @@ fn push_acts(body: &Stmt, names: &mut Names, site: Site, made: Vec<Act>) -> Resu
             };
             push_loop(head, body, names, site, made)
         }
-        Stmt::Block(_, _, all) => {
-            let body = push_bodies(all, names, site, Vec::new(site.alloc))?;
-            with(made, block(body))
-        }
+        Stmt::Block(_, _, all) => push_block(all, names, site, made),
     }
+}
+
+/// A case, behind other statements.
+#[cycle(acts)]
+fn push_case(
+    head: CaseHead<'_>,
+    items: &[CaseItem],
+    names: &mut Names,
+    site: Site,
+    made: Vec<Act>,
+) -> Result<Vec<Act>, Memory>
+    ensures made { IfOk result (λ all. map made_action all.items ≡ map made_action made.items
+        ++ acts site.file site.base
+        (Case head.entry.at head.entry.kind head.entry.full head.entry.parallel
+        (formula head.entry.selector.now) (branch_row (map branch items.now)))
+        (meanings names.old)) }
+    ensures same { meanings names.new ≡ meanings names.old }
+{
+    let context = case_context(head.selector, items, names);
+    let selector = boxed(head.selector, context, names, site)?;
+    let items_made = items_of(items, context, names, site)?;
+    let fallback = fallback_of(items, names, site)?;
+    let act = Act::Case {
+        kind: kind_of(head.kind),
+        full: head.full,
+        parallel: head.parallel,
+        selector: Box::into_inner(selector),
+        items: items_made,
+        fallback,
+        spot: spot_at(site, head.at),
+    };
+    with(made, act)
+}
+
+/// Statements between `begin` and `end`, behind other statements.
+#[cycle(acts)]
+fn push_block(
+    all: &[Stmt],
+    names: &mut Names,
+    site: Site,
+    made: Vec<Act>,
+) -> Result<Vec<Act>, Memory>
+    ensures made { IfOk result (λ acts. map made_action acts.items ≡ map made_action made.items
+        ++ (Block (body_of (body_acts site.file site.base (action_row (map action all.now))
+        (meanings names.old))) ∷ [])) }
+    ensures same { meanings names.new ≡ meanings names.old }
+{
+    let body = push_bodies(all, names, site, Vec::new(site.alloc))?;
+    with(made, block(body))
 }
 
 /// Statements in a row, behind others.

@@ -74,15 +74,19 @@ push_turns-returns-clause-made t c =
     ∙ c.loop-turn.invariant.0
     ∙ ap (λ n. map made_action c.args.made.items ++ act_turns (acts c.args.site.file c.args.site.base (action c.args.body.now)) scope (head_of c.args.head) 4096 n) (to_z-of_z w64 c.args.first c.ranges.first)
 
-pub push_acts-returns-in_ok-body-in-Block-clause-made : goal.push_acts-returns-in_ok-body-in-Block-clause-made
-push_acts-returns-in_ok-body-in-Block-clause-made t c =
+pub push_acts-returns-in-Block-clause-made : goal.push_acts-returns-in-Block-clause-made
+push_acts-returns-in-Block-clause-made t c =
     let k = c.in-Block in
     let told = block_acts c.args.site.file c.args.site.base (meanings c.args.names.now) k.field-0 k.field-1 k.all c.args.body.now k.is in
     grind (arith, common_steps, told)
 
-pub push_acts-returns-in_ok-fallback_of-in-Case-clause-made : goal.push_acts-returns-in_ok-fallback_of-in-Case-clause-made
-push_acts-returns-in_ok-fallback_of-in-Case-clause-made t c =
+pub push_acts-returns-in-Case-clause-made : goal.push_acts-returns-in-Case-clause-made
+push_acts-returns-in-Case-clause-made t c =
     let k = c.in-Case in
     let told = case_acts c.args.site.file c.args.site.base (meanings c.args.names.now) k.at k.kind k.full k.parallel k.selector k.items c.args.body.now k.is in
-    let act = case_made c.kind_of.result k.full k.parallel c.in_ok-size-in-Case.field-0 c.in_ok-items_of-in-Case.field-0 c.in_ok-fallback_of-in-Case.field-0 c.spot_at-in-Case.result in
-    grind (arith, common_steps, told, act)
+    grind (arith, common_steps, told)
+
+pub push_case-returns-clause-made : goal.push_case-returns-clause-made
+push_case-returns-clause-made t c =
+    let act = case_made c.kind_of.result c.args.head.full c.args.head.parallel c.into_inner.result c.in_ok-items_made.items_made c.in_ok-fallback.fallback c.spot_at.result in
+    grind (arith, common_steps, act)
