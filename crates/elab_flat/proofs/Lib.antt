@@ -1,5 +1,6 @@
 mod Examples
 pub mod Rows
+mod Taking
 -- passed on to the crates above
 pub use Rattle.elab_walk.proofs.elab_items_proofs
 pub use Rattle.elab_walk.proofs.elab_links_proofs

@@ -1,20 +1,20 @@
 //! What instances are in a flat design.
 
-ghost use Rattle.std.specs.Prelude.{◌≡◌, ◌++◌, IfOk, OnOk, map};
-ghost use Rattle.std.specs.List.{flat_map};
+ghost use Rattle.std.specs.Prelude.{◌≡◌, ◌+◌, ◌<◌, ◌++◌, IfOk, IfSome, None, OnOk, drop, length, map};
+ghost use Rattle.std.specs.List.{flat_map, slice_get};
 ghost use Rattle.elab_walk.specs.Placements.{instance_of, region, regions_at, signals_at};
-ghost use Rattle.elab_walk.specs.Trails.{placement};
+ghost use Rattle.elab_walk.specs.Trails.{AreDeclared, IsDeclared, placement};
 ghost use Rattle.elab_walk.specs.Visits.{library};
 ghost use Rattle.elab_flat.specs.Flats.{flat_of};
 ghost use Rattle.elab_flat.specs.Views.{flat, works};
-ghost use Rattle.elab_flat.specs.Works.{no_works, with_placement, with_placements};
+ghost use Rattle.elab_flat.specs.Works.{no_works, with_placements};
 ghost use Rattle.elab_walk.specs.elab_items.Rosters.{listing};
 ghost use Rattle.elab_walk.specs.elab_items.Scopes.{listings_of};
 
 use crate::regions::dropped_in;
 use crate::works::Works;
 use elab_walk::elab_items::declare::declare;
-use elab_walk::elab_items::roster::Listing;
+use elab_walk::elab_items::roster::{Listing, Roster};
 use elab_walk::elab_items::signals::{Home, push_signals};
 use elab_walk::library::Library;
 use elab_walk::trail::Placement;
@@ -79,6 +79,25 @@ fn push_own(
     push_signals(home, listed, signals)
 }
 
+/// Takes from an instance what its module declares in it.
+fn take_declared<'a>(alloc: Global, at: &mut Placement<'a>) -> Result<Roster<'a>, Memory>
+    requires { IfSome at.old.declared (IsDeclared (placement at.old).visit) }
+    ensures declared { IfOk result (IsDeclared (placement at.old).visit) }
+    ensures same { placement at.new ≡ placement at.old }
+    ensures taken { at.new.declared ≡ None }
+{
+    match at.declared.take() {
+        Some(declared) => Ok(declared),
+        None => {
+            let declared = declare(alloc, at.visit.written, &at.visit.overrides, 0, None)?;
+            Ok(Roster {
+                names: declared.names,
+                signals: declared.signals,
+            })
+        }
+    }
+}
+
 /// The signals of instances, and their processes with the delays in them, from one look at what each instance declares.
 #[derive(Drop)]
 struct Contents {
@@ -87,42 +106,53 @@ struct Contents {
 }
 
 impl Contents {
-    /// Those of one instance more, where `behind` has the instances behind it.
+    /// Those of the instance in this place, which declares this.
     fn add(
         &mut self,
         alloc: Global,
         all: Library<'_>,
-        at: &Placement<'_>,
-        behind: &[Placement<'_>],
+        placements: &[Placement<'_>],
+        place: usize,
+        declared: Roster<'_>,
     ) -> Result<(), Memory>
-        ensures signals { OnOk result (self.new.signals.items
-            ≡ self.old.signals.items ++ signals_at (placement at.now)) }
-        ensures works { OnOk result (works self.new.works
-            ≡ with_placement (library all.entry) (works self.old.works) (placement at.now)
-            (map placement behind.now)) }
+        requires inside { place < length placements.now }
+        requires declared { IfSome (slice_get (map placement placements.now) place)
+            (λ at. IsDeclared at.visit declared) }
+        ensures signals { let seen = map placement placements.now in OnOk result
+            (self.new.signals.items ++ flat_map signals_at (drop (place + 1) seen)
+            ≡ self.old.signals.items ++ flat_map signals_at (drop place seen)) }
+        ensures works { let seen = map placement placements.now in OnOk result
+            (with_placements (library all.entry) (works self.new.works) (drop (place + 1) seen)
+            ≡ with_placements (library all.entry) (works self.old.works) (drop place seen)) }
     {
-        let declared = declare(alloc, at.visit.written, &at.visit.overrides, 0, None)?;
-        push_own(alloc, at, &declared.signals, &mut self.signals)?;
-        let mut names = declared.names;
-        self.works.add_placement(alloc, all, at, &mut names, behind)
+        let Roster { mut names, signals } = declared;
+        let at = &placements[place];
+        push_own(alloc, at, &signals, &mut self.signals)?;
+        self.works
+            .add_placement(alloc, all, at, &mut names, &placements[place + 1..])
     }
 }
 
+/// Those of all instances, from each of which what it declares is taken.
 fn contents_of(
     alloc: Global,
     all: Library<'_>,
-    placements: &[Placement<'_>],
+    placements: &mut [Placement<'_>],
 ) -> Result<Contents, Memory>
-    ensures signals { IfOk result (λ made. made.signals.items ≡ flat_map signals_at (map placement placements.now)) }
+    requires { AreDeclared placements.old }
+    ensures signals { IfOk result (λ made. made.signals.items
+        ≡ flat_map signals_at (map placement placements.old)) }
     ensures works { IfOk result (λ made. works made.works
-        ≡ with_placements (library all.entry) no_works (map placement placements.now)) }
+        ≡ with_placements (library all.entry) no_works (map placement placements.old)) }
+    ensures same { OnOk result (map placement placements.new ≡ map placement placements.old) }
 {
     let mut made = Contents {
         signals: Vec::new(alloc),
         works: Works::none(alloc),
     };
-    for index in 0..placements.len() {
-        made.add(alloc, all, &placements[index], &placements[index + 1..])?;
+    for place in 0..placements.len() {
+        let declared = take_declared(alloc, &mut placements[place])?;
+        made.add(alloc, all, placements, place, declared)?;
     }
     Ok(made)
 }
@@ -169,13 +199,15 @@ fn regions_of(alloc: Global, placements: &[Placement<'_>]) -> Result<Vec<Dropped
     Ok(made)
 }
 
-/// The design of these instances.
+/// The design of these instances. What they declare is taken from them.
 pub fn flat_of(
     alloc: Global,
     all: Library<'_>,
-    placements: &[Placement<'_>],
+    placements: &mut [Placement<'_>],
 ) -> Result<DesignParts, Memory>
-    ensures { IfOk result (λ made. flat made ≡ flat_of (library all.entry) (map placement placements.now)) }
+    requires { AreDeclared placements.old }
+    ensures { IfOk result (λ made. flat made
+        ≡ flat_of (library all.entry) (map placement placements.old)) }
 {
     let Contents { signals, works } = contents_of(alloc, all, placements)?;
     Ok(DesignParts {

@@ -257,7 +257,7 @@ impl Works {
     }
 
     /// Those of an instance, where `behind` has the instances behind it.
-    pub fn add_placement(
+    pub(crate) fn add_placement(
         &mut self,
         alloc: Global,
         all: Library<'_>,
@@ -276,7 +276,7 @@ impl Works {
     }
 
     /// No processes.
-    pub fn none(alloc: Global) -> Works
+    pub(crate) fn none(alloc: Global) -> Works
         ensures { works result ≡ no_works }
     {
         Works {

@@ -83,7 +83,7 @@ fn elaborate_in(alloc: Global, all: Library<'_>, top: &Text) -> Result<Elaborate
         Some(fault) => Err(moved_fault(fault, &files)?),
         None => {
             move_placements(&mut placements, &files)?;
-            Ok(design_of(flat_of(alloc, all, &placements)?))
+            Ok(design_of(flat_of(alloc, all, &mut placements)?))
         }
     };
     Ok(Elaborated {

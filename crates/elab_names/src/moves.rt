@@ -1,9 +1,9 @@
 // Names, instances and faults where files are numbered among those that are used.
 
-ghost use Rattle.std.specs.Prelude.{◌≡◌, IfOk, OnOk, map};
+ghost use Rattle.std.specs.Prelude.{◌≡◌, IfOk, IfSome, OnOk, map};
 ghost use Rattle.std.specs.List.Sorted.{IsStrictlyIncreasing};
 ghost use Rattle.rtl_elab.specs.elab_scope.Faults.{answer};
-ghost use Rattle.rtl_elab.specs.elab_walk.Trails.{placement};
+ghost use Rattle.rtl_elab.specs.elab_walk.Trails.{AreDeclared, IsDeclared, placement};
 ghost use Rattle.elab_names.specs.Extracts.{place_in, renumbered};
 ghost use Rattle.elab_names.specs.Moves.{moved_answer, moved_look_up, moved_place, moved_placement, moved_spot};
 
@@ -58,7 +58,10 @@ pub(crate) fn move_look_ups(look_ups: &mut [LookUp], numbers: &[usize])
 
 fn move_placement(at: &mut Placement<'_>, numbers: &[usize]) -> Result<(), Memory>
     requires { IsStrictlyIncreasing numbers.now }
-    ensures { OnOk result (placement at.new ≡ moved_placement (place_in numbers.now) (placement at.old)) }
+    ensures moved { OnOk result (placement at.new
+        ≡ moved_placement (place_in numbers.now) (placement at.old)) }
+    ensures declared { OnOk result (IfSome at.old.declared (IsDeclared (placement at.old).visit)
+        → IfSome at.new.declared (IsDeclared (placement at.new).visit)) }
 {
     at.visit.spot = moved_spot(at.visit.spot, numbers)?;
     at.visit.place = moved_place(at.visit.place, numbers);
@@ -70,8 +73,9 @@ pub(crate) fn move_placements(
     numbers: &[usize],
 ) -> Result<(), Memory>
     requires { IsStrictlyIncreasing numbers.now }
-    ensures { OnOk result (map placement placements.new
+    ensures moved { OnOk result (map placement placements.new
         ≡ map (moved_placement (place_in numbers.now)) (map placement placements.old)) }
+    ensures declared { OnOk result (AreDeclared placements.old → AreDeclared placements.new) }
 {
     for place in 0..placements.len() {
         move_placement(&mut placements[place], numbers)?;

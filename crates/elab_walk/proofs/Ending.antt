@@ -4,7 +4,7 @@ use Rattle.std.proofs.Common.{◌≡◌, ◌∙◌, ap, append_assoc, refl, sym}
 use Rattle.std.proofs.lemmas.List.{append-nil}
 use Rattle.elab_links.specs.elab_scope.declared.fault.ElabFault.{ElabFault}
 use Rattle.elab_links.specs.elab_scope.declared.fault.ElabFault.TheVariants as variant
-use Rattle.elab_links.specs.elab_scope.Faults.{Answer, Memory, Named, Placed, answer}
+use Rattle.elab_links.specs.elab_scope.Faults.{Answer, answer}
 use Rattle.elab_walk.specs.declared.room.Room.{Room}
 use Rattle.elab_walk.specs.declared.trail.Trail.{Trail as Kept}
 use Rattle.elab_walk.specs.Refusals.{come_to, refusal, told_first, told_of, unless_told}
@@ -23,7 +23,7 @@ told_is library t [] = refl
 told_is library t (v ∷ vs) =
     by_told library t v vs (told_is library (extended library t v) vs) (told_of library t.room v)
 
-abbrev own_placement : Trail → Visit → Placement
+abbrev pub own_placement : Trail → Visit → Placement
 own_placement t v = record { visit = v; number = t.room.number; base = t.room.base }
 
 by_come : (library : Library) (t : Trail) (v : Visit) (vs : List Visit) → (trail_in (gone library (Going (extended library t v)) vs)).placements ≡ (extended library t v).placements ++ placements (t.room.number + 1) (room_after library t.room v).base (come_to library (room_after library t.room v) vs) → (told : Option Answer) → (trail_in (gone library (passed_by library t v told) vs)).placements ≡ t.placements ++ (own_placement t v ∷ placements (t.room.number + 1) (room_after library t.room v).base (unless_told told (come_to library (room_after library t.room v) vs)))

@@ -1,6 +1,7 @@
 mod Borrowed
 pub mod Ending
 mod Examples
+pub mod Keeping
 pub mod Leaving
 pub mod Rows
 pub mod Seeking

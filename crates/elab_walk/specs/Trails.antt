@@ -1,15 +1,20 @@
 -- It serves inner contracts and proofs; no answer of the program is stated by it.
 -- The walk over instances, one after the other: how far it comes, or what is told.
-use Rattle.std.specs.Prelude.{ℕ, ◌≡◌, List, [], ◌∷◌, ◌++◌, map, Option, None, Some, Result, Ok, Err}
+use Rattle.std.specs.Prelude.{◌≡◌, List, [], ◌∷◌, ◌++◌, map, Option, None, Some, Result, Ok, Err, IfSome}
+use Rattle.std.specs.List.{All}
+use Rattle.elab_links.specs.elab_items.declared.roster.Roster.{Roster as Declared}
+use Rattle.elab_links.specs.elab_items.Rosters.{listing}
+use Rattle.elab_links.specs.elab_items.Scopes.{listings_of}
 use Rattle.elab_links.specs.elab_scope.declared.fault.ElabFault.{ElabFault}
 use Rattle.elab_links.specs.elab_scope.Faults.{Answer, Memory, Named, Placed, answer}
+use Rattle.elab_links.specs.elab_scope.Names.{meanings}
 use Rattle.elab_walk.specs.declared.room.Room.{Room}
 use Rattle.elab_walk.specs.declared.trail.Placement.{Placement as Made}
 use Rattle.elab_walk.specs.declared.trail.Trail.{Trail as Kept}
 use Rattle.elab_walk.specs.Refusals.{told_of}
 use Rattle.elab_walk.specs.Rooms.{room_after}
 use Rattle.elab_walk.specs.Placements.{Placement}
-use Rattle.elab_walk.specs.Visits.{Library, Visit, visit}
+use Rattle.elab_walk.specs.Visits.{Library, Visit, scope_in, visit}
 
 -- the instances so far, and the room that they leave
 pub record Trail : Type 0 where
@@ -78,3 +83,13 @@ IsStopped (Placed breach spot) trail walk = walk ≡ Refused trail (Placed breac
 abbrev pub Went : {T : Type 0} → Result T ElabFault → Trail → Gone → Type 0
 Went (Ok done) trail walk = walk ≡ Going trail
 Went (Err error) trail walk = IsStopped (answer error) trail walk
+
+-- whether these are the names and the signals of an instance's module
+abbrev pub IsDeclared : Visit → Declared → Type 0
+IsDeclared v declared =
+    (meanings declared.names ≡ scope_in v)
+    × (map listing declared.signals.items ≡ listings_of v.settings v.circuit)
+
+-- whether each instance that has names and signals has those of its module
+abbrev pub AreDeclared : List Made → Type 0
+AreDeclared placements = All (λ made. IfSome made.declared (IsDeclared (visit made.visit))) placements

@@ -6,6 +6,8 @@ ghost use Rattle.rtl_tree.specs.TreeItem.{module_item};
 ghost use Rattle.rtl_tree.specs.TreeModule.{circuit};
 ghost use Rattle.elab_links.specs.elab_scope.Faults.{after, refusal};
 ghost use Rattle.elab_links.specs.elab_scope.Names.{meanings};
+ghost use Rattle.elab_links.specs.elab_items.Rosters.{listing};
+ghost use Rattle.elab_links.specs.elab_items.Scopes.{listings_of};
 ghost use Rattle.elab_parts.specs.elab_body.Courses.{course};
 ghost use Rattle.elab_parts.specs.elab_body.Steps.{faulty, passed};
 ghost use Rattle.elab_links.specs.Instances.{link_faults};
@@ -22,6 +24,7 @@ use crate::places::{Seek, seek_all};
 use crate::room::Room;
 use crate::visit::Visit;
 use elab_links::elab_items::declare::declare;
+use elab_links::elab_items::roster::Listing;
 use elab_links::elab_scope::fault::{Cause, Fault};
 use elab_links::elab_scope::names::Names;
 use elab_links::instances::judge_instances;
@@ -115,6 +118,8 @@ fn judge_surplus<'a>(seek: Seek, best: Option<Fault<'a>>) -> Option<Fault<'a>>
 pub struct Judged<'a> {
     /// What the names of its module stand for.
     pub names: Names,
+    /// The signals of its module, in the order of their numbers.
+    pub signals: Vec<Listing<'a>>,
     /// The fault that is told.
     pub best: Option<Fault<'a>>,
     /// The room behind it; it counts where nothing is told.
@@ -130,6 +135,8 @@ pub fn judge_visit<'a>(
 ) -> Result<Judged<'a>, Memory>
     requires { room.number < 20000 }
     ensures names { IfOk result (λ judged. meanings judged.names ≡ scope_in (visit met.now)) }
+    ensures signals { IfOk result (λ judged. map listing judged.signals.items
+        ≡ listings_of (visit met.now).settings (visit met.now).circuit) }
     ensures told { IfOk result (λ judged. option_map refusal judged.best ≡ least (own_faults (library all.entry) room (visit met.now))) }
     ensures room { IfOk result (λ judged. option_map refusal judged.best ≡ None → judged.room ≡ room_after (library all.entry) room (visit met.now)) }
 {
@@ -150,6 +157,7 @@ pub fn judge_visit<'a>(
     let signals = listed.len();
     Ok(Judged {
         names,
+        signals: declared.signals,
         best: judge_surplus(seek, judged.best),
         room: room.behind(signals, judged.left, seek, spare),
     })

@@ -6,7 +6,7 @@ ghost use Rattle.elab_links.specs.elab_scope.Faults.{answer};
 ghost use Rattle.rtl_tree.specs.TreeModule.{circuit};
 ghost use Rattle.elab_walk.specs.Rooms.{whole_room};
 ghost use Rattle.elab_walk.specs.Placements.{placements};
-ghost use Rattle.elab_walk.specs.Trails.{placement};
+ghost use Rattle.elab_walk.specs.Trails.{AreDeclared, placement};
 ghost use Rattle.elab_walk.specs.Visits.{all_visits, library, top_visit, visit};
 ghost use Rattle.elab_walk.specs.Refusals.{come_to, refusal};
 
@@ -83,6 +83,7 @@ pub fn walk<'a>(alloc: Global, all: Library<'a>, met: Visit<'a>) -> Result<Walke
     ensures placements { IfOk result (λ walk. map placement walk.placements.items
         ≡ placements 0 0 (come_to (library all.entry) whole_room
         (all_visits (library all.entry) (visit met.entry)))) }
+    ensures declared { IfOk result (λ walk. AreDeclared walk.placements.items) }
 {
     let mut trail = Trail {
         placements: Vec::new(alloc),

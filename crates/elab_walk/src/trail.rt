@@ -1,11 +1,13 @@
 //! How far the walk over the instances has come.
 
-ghost use Rattle.std.specs.Prelude.{◌≡◌, OnOk};
-ghost use Rattle.elab_walk.specs.Trails.{followed, trail};
+ghost use Rattle.std.specs.Prelude.{◌≡◌, IfSome, OnOk};
+ghost use Rattle.std.specs.List.{slice_get};
+ghost use Rattle.elab_walk.specs.Trails.{AreDeclared, IsDeclared, followed, trail};
 ghost use Rattle.elab_walk.specs.Visits.{visit};
 
 use crate::room::Room;
 use crate::visit::Visit;
+use elab_links::elab_items::roster::Roster;
 use rtl_tree::memory::Memory;
 
 /// An instance, its number, and how many signals come before its own.
@@ -14,6 +16,8 @@ pub struct Placement<'a> {
     pub visit: Visit<'a>,
     pub number: u16,
     pub base: u16,
+    /// What its module declares in it, where the walk came past all that it holds.
+    pub declared: Option<Roster<'a>>,
 }
 
 /// The instances so far, and the room that they leave.
@@ -26,14 +30,31 @@ pub struct Trail<'a> {
 impl<'a> Trail<'a> {
     /// One instance more, which leaves this room.
     pub(crate) fn follow(&mut self, met: Visit<'a>, room: Room) -> Result<(), Memory>
-        ensures { OnOk result (trail self.new ≡ followed (trail self.old) (visit met.entry) room) }
+        ensures followed { OnOk result
+            (trail self.new ≡ followed (trail self.old) (visit met.entry) room) }
+        ensures declared { AreDeclared self.old.placements.items
+            → AreDeclared self.new.placements.items }
     {
         self.placements.push(Placement {
             visit: met,
             number: self.room.number,
             base: self.room.base,
+            declared: None,
         })?;
         self.room = room;
         Ok(())
+    }
+
+    /// Keeps what the module of the instance in this place declares in it.
+    pub(crate) fn keep(&mut self, place: usize, declared: Roster<'a>)
+        requires { IfSome (slice_get (trail self.old).placements place)
+            (λ at. IsDeclared at.visit declared) }
+        ensures same { trail self.new ≡ trail self.old }
+        ensures declared { AreDeclared self.old.placements.items
+            → AreDeclared self.new.placements.items }
+    {
+        if let Some(at) = self.placements.get_mut(place) {
+            at.declared = Some(declared);
+        }
     }
 }

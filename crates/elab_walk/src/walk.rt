@@ -6,11 +6,13 @@ ghost use Rattle.std.specs.Option.{option_map};
 ghost use Rattle.rtl_tree.specs.TreeItem.{module_item, instantiation};
 ghost use Rattle.elab_links.specs.elab_scope.Faults.{answer, located, refusal};
 ghost use Rattle.elab_links.specs.elab_scope.Names.{meanings};
+ghost use Rattle.elab_links.specs.elab_items.Rosters.{listing};
+ghost use Rattle.elab_links.specs.elab_items.Scopes.{listings_of};
 ghost use Rattle.elab_links.specs.Groups.{group, group_of};
 ghost use Rattle.elab_walk.specs.Refusals.{told_of};
 ghost use Rattle.rtl_tree.specs.TreeModule.{circuit};
 ghost use Rattle.elab_walk.specs.Rooms.{has_room, room_after};
-ghost use Rattle.elab_walk.specs.Trails.{Going, IsTold, Went, gone, trail};
+ghost use Rattle.elab_walk.specs.Trails.{AreDeclared, Going, IsTold, Went, gone, trail};
 ghost use Rattle.elab_walk.specs.Visits.{child_of, children, holder, item_children, library, placed_children, scope_in, visit, visits};
 
 use crate::extras::spare_extras;
@@ -19,6 +21,7 @@ use crate::library::Library;
 use crate::room::Room;
 use crate::trail::Trail;
 use crate::visit::{Holder, Visit, file_of};
+use elab_links::elab_items::roster::{Listing, Roster};
 use elab_links::elab_scope::fault::{ElabFault, Fault};
 use elab_links::elab_scope::names::Names;
 use elab_links::groups::{Group, group_of};
@@ -47,9 +50,11 @@ fn told(alloc: Global, place: Place, fault: Fault<'_>) -> ElabFault
 
 /// What an instance leaves of which nothing is told.
 #[derive(Drop)]
-struct Left {
+struct Left<'a> {
     /// What the names of its module stand for.
     names: Names,
+    /// The signals of its module, in the order of their numbers.
+    signals: Vec<Listing<'a>>,
     room: Room,
 }
 
@@ -62,8 +67,15 @@ fn has_room(room: Room, written: &Module) -> bool
 }
 
 /// An instance of which nothing is told.
-fn pass<'a>(alloc: Global, all: Library<'a>, met: &Visit<'a>, room: Room) -> Result<Left, ElabFault>
+fn pass<'a>(
+    alloc: Global,
+    all: Library<'a>,
+    met: &Visit<'a>,
+    room: Room,
+) -> Result<Left<'a>, ElabFault>
     ensures names { IfOk result (λ left. meanings left.names ≡ scope_in (visit met.now)) }
+    ensures signals { IfOk result (λ left. map listing left.signals.items
+        ≡ listings_of (visit met.now).settings (visit met.now).circuit) }
     ensures nothing { IfOk result (λ left. told_of (library all.entry) room (visit met.now) ≡ None) }
     ensures room { IfOk result (λ left. left.room ≡ room_after (library all.entry) room (visit met.now)) }
     ensures told { IfErr result (λ error. IsTold (answer error) (told_of (library all.entry) room (visit met.now))) }
@@ -73,8 +85,19 @@ fn pass<'a>(alloc: Global, all: Library<'a>, met: &Visit<'a>, room: Room) -> Res
     }
     match judge_visit(alloc, all, met, room) {
         Err(_) => Err(ElabFault::Memory),
-        Ok(Judged { names, best, room }) => match best {
-            None => Ok(Left { names, room }),
+        Ok(
+            Judged {
+                names,
+                signals,
+                best,
+                room,
+            },
+        ) => match best {
+            None => Ok(Left {
+                names,
+                signals,
+                room,
+            }),
             Some(fault) => Err(told(alloc, met.place, fault)),
         },
     }
@@ -90,9 +113,11 @@ pub fn visit<'a>(
     met: Visit<'a>,
     so_far: &mut Trail<'a>,
 ) -> Result<(), ElabFault>
-    ensures { Went result (trail so_far.new)
+    ensures went { Went result (trail so_far.new)
         (gone (library all.entry) (Going (trail so_far.old))
         (visits (library all.entry) levels (visit met.entry))) }
+    ensures declared { AreDeclared so_far.old.placements.items
+        → AreDeclared so_far.new.placements.items }
 {
     if levels == 0 {
         return Ok(());
@@ -106,8 +131,13 @@ pub fn visit<'a>(
         Ok(left) => {
             let holder = Holder::new(alloc, &met, left.names)?;
             let items = met.written.items.as_slice();
+            let place = so_far.placements.len();
             so_far.follow(met, left.room)?;
-            visit_items(alloc, all, levels - 1, &holder, items, so_far)
+            visit_items(alloc, all, levels - 1, &holder, items, so_far)?;
+            let names = holder.names;
+            let signals = left.signals;
+            so_far.keep(place, Roster { names, signals });
+            Ok(())
         }
     }
 }
@@ -122,10 +152,12 @@ fn visit_items<'a>(
     items: &'a [Item],
     so_far: &mut Trail<'a>,
 ) -> Result<(), ElabFault>
-    ensures { Went result (trail so_far.new)
+    ensures went { Went result (trail so_far.new)
         (gone (library all.entry) (Going (trail so_far.old))
         (flat_map (visits (library all.entry) levels)
         (children (library all.entry) (holder within.now) (map module_item items.now)))) }
+    ensures declared { AreDeclared so_far.old.placements.items
+        → AreDeclared so_far.new.placements.items }
 {
     for item in items {
         visit_item(alloc, all, levels, within, item, so_far)?;
@@ -143,10 +175,12 @@ fn visit_item<'a>(
     item: &'a Item,
     so_far: &mut Trail<'a>,
 ) -> Result<(), ElabFault>
-    ensures { Went result (trail so_far.new)
+    ensures went { Went result (trail so_far.new)
         (gone (library all.entry) (Going (trail so_far.old))
         (flat_map (visits (library all.entry) levels)
         (item_children (library all.entry) (holder within.now) (module_item item.now)))) }
+    ensures declared { AreDeclared so_far.old.placements.items
+        → AreDeclared so_far.new.placements.items }
 {
     match item {
         Item::Instances {
@@ -180,12 +214,14 @@ fn visit_instantiations<'a>(
     instances: &'a [Instance],
     so_far: &mut Trail<'a>,
 ) -> Result<(), ElabFault>
-    ensures { Went result (trail so_far.new)
+    ensures went { Went result (trail so_far.new)
         (gone (library all.entry) (Going (trail so_far.old))
         (flat_map (visits (library all.entry) levels)
         (placed_children (holder within.now) at
         (group_of (library all.entry).lookups (library all.entry).files
         (holder within.now).scope (module_item item.now)) (map instantiation instances.now)))) }
+    ensures declared { AreDeclared so_far.old.placements.items
+        → AreDeclared so_far.new.placements.items }
 {
     for instance in instances {
         visit_instantiation(alloc, all, levels, within, at, item, instance, so_far)?;
@@ -205,12 +241,14 @@ fn visit_instantiation<'a>(
     instance: &'a Instance,
     so_far: &mut Trail<'a>,
 ) -> Result<(), ElabFault>
-    ensures { Went result (trail so_far.new)
+    ensures went { Went result (trail so_far.new)
         (gone (library all.entry) (Going (trail so_far.old))
         (flat_map (visits (library all.entry) levels)
         (child_of (holder within.now) at instance.now.name.text
         (group_of (library all.entry).lookups (library all.entry).files
         (holder within.now).scope (module_item item.now))))) }
+    ensures declared { AreDeclared so_far.old.placements.items
+        → AreDeclared so_far.new.placements.items }
 {
     match group_of(alloc, all.files, all.set, item, &within.names)? {
         None => Ok(()),

@@ -6,7 +6,7 @@ ghost use Rattle.elab_lawful.specs.elab_scope.Faults.{answer};
 ghost use Rattle.rtl_elab.specs.Elaborated.{elaborated, refused, visited};
 ghost use Rattle.elab_lawful.specs.elab_flat.Views.{flat};
 ghost use Rattle.elab_lawful.specs.elab_walk.Placements.{placements};
-ghost use Rattle.elab_lawful.specs.elab_walk.Trails.{IsTold, placement};
+ghost use Rattle.elab_lawful.specs.elab_walk.Trails.{AreDeclared, IsTold, placement};
 ghost use Rattle.elab_lawful.specs.elab_walk.Visits.{library};
 
 use elab_lawful::elab_flat::flat::{DesignParts, flat_of};
@@ -27,6 +27,7 @@ pub fn walk_from<'a>(alloc: Global, all: Library<'a>, top: &Text) -> Result<Walk
         ≡ placements 0 0 (visited (library all.entry) top.now)) }
     ensures told { IfOk result (λ walk.
         option_map answer walk.fault ≡ refused (elaborated (library all.entry) top.now)) }
+    ensures declared { IfOk result (λ walk. AreDeclared walk.placements.items) }
 {
     match all.set.find(top) {
         Lookup::Missing => Ok(unmet(alloc, ElabFault::NoSuchModule(bytes(alloc, top)?))),
@@ -54,9 +55,12 @@ pub fn flat_design(alloc: Global, all: Library<'_>, top: &Text) -> Result<Design
     ensures design { IfOk result (λ made. elaborated (library all.entry) top.now ≡ Ok (flat made)) }
     ensures told { IfErr result (λ error. IsTold (answer error) (refused (elaborated (library all.entry) top.now))) }
 {
-    let Walked { placements, fault } = walk_from(alloc, all, top)?;
+    let Walked {
+        mut placements,
+        fault,
+    } = walk_from(alloc, all, top)?;
     match fault {
-        None => Ok(flat_of(alloc, all, &placements)?),
+        None => Ok(flat_of(alloc, all, &mut placements)?),
         Some(fault) => Err(fault),
     }
 }

@@ -1,18 +1,38 @@
-use Rattle.std.specs.List.{flat_map}
-use Rattle.std.proofs.Common.{List, map, refl, arith}
-use Rattle.std.proofs.lemmas.Grind.{common_steps}
-use Rattle.rtl_flat.specs.declared.signal.Signal.{Signal}
-use Rattle.elab_walk.proofs.elab_parts_proofs.Rows.{more_made}
-use Rattle.elab_walk.specs.declared.trail.Placement.{Placement}
-use Rattle.elab_walk.specs.Placements.{signals_at}
-use Rattle.elab_walk.specs.Trails.{placement}
+use Rattle.std.specs.Prelude.{IfSome, List, ◌++◌, Option}
+use Rattle.std.specs.List.{flat_map, slice_get}
+use Rattle.std.proofs.Common.{◌+◌, ◌<◌, ◌≡◌, ◌∙◌, arith, drop, length, map, set, subst, sym}
+use Rattle.std.proofs.Math.Seq.{map-set_same}
+use Rattle.std.proofs.lemmas.List.Elements.{All-set}
+use Rattle.elab_walk.specs.declared.trail.Placement.{Placement as Made}
+use Rattle.elab_walk.specs.elab_items.declared.roster.Roster.{Roster}
+use Rattle.elab_walk.specs.Placements.{Placement, signals_at}
+use Rattle.elab_walk.specs.Trails.{IsDeclared, placement}
+use Rattle.elab_walk.specs.Visits.{library, visit}
+use Rattle.elab_flat.specs.Views.{works}
+use Rattle.elab_flat.specs.Works.{with_placements}
+use Rattle.elab_flat.proofs.Taking.{to_read}
 use Rattle.elab_flat.proofs.flat.contents_of.Goals as goal
 
-pub loop-index-preserved : goal.loop-index-preserved
-loop-index-preserved c =
-    let row : List Placement → List Signal = λ placements. flat_map signals_at (map placement placements) in
-    let own : Placement → List Signal = λ at. signals_at (placement at) in
+pub add-requires-clause-declared : goal.add-requires-clause-declared
+add-requires-clause-declared c =
+    let made = c.loop-place.placements in
+    let inside : c.loop-place.place < length made = omega (arith, c.loop-place.auto.placements, c.loop-place-test.true) in
+    let same = map-set_same placement made c.loop-place.place c.take_declared.new.at c.index-placements-place.result c.in_ok-declared.ensures.same in
+    subst (λ (seen : List Placement). IfSome (slice_get seen c.loop-place.place) (λ at. IsDeclared at.visit c.in_ok-declared.declared)) (sym same) (to_read (λ at. IsDeclared at.visit c.in_ok-declared.declared) made c.loop-place.place c.index-placements-place.result inside c.in_ok-declared.ensures.declared)
+
+pub loop-place-preserved : goal.loop-place-preserved
+loop-place-preserved c =
+    let all = library c.args.all in
+    let made = c.loop-place.placements in
+    let place = c.loop-place.place in
+    let seen : List Placement = map placement c.args.placements.now in
+    let new : List Made = set made place c.take_declared.new.at in
+    let kept = map-set_same placement made place c.take_declared.new.at c.index-placements-place.result c.in_ok-declared.ensures.same in
+    let same : map placement new ≡ seen = kept ∙ c.loop-place.invariant.same in
+    let none : IfSome c.take_declared.new.at.declared (IsDeclared (visit c.take_declared.new.at.visit)) = subst (λ (o : Option Roster). IfSome o (IsDeclared (visit c.take_declared.new.at.visit))) (sym c.in_ok-declared.ensures.taken) tt in
     record {
-      signals = more_made row own (λ at placements. refl) c.loop-index.made.signals.items c.add.new.self.signals.items c.args.placements.now c.loop-index.index c.index-placements-index.result _ c.loop-index-test.true c.index-placements-index.is c.in_ok-add.ensures.signals c.loop-index.invariant.signals;
-      works = grind (arith, common_steps, c.in_ok-add.ensures.works, c.loop-index.invariant.works);
+      declared = All-set (λ (made : Made). IfSome made.declared (IsDeclared (visit made.visit))) made place c.take_declared.new.at none c.loop-place.invariant.declared;
+      same = same;
+      signals = subst (λ (ps : List Placement). c.add.new.self.signals.items ++ flat_map signals_at (drop (place + 1) ps) ≡ c.loop-place.made.signals.items ++ flat_map signals_at (drop place ps)) same c.in_ok-add.ensures.signals ∙ c.loop-place.invariant.signals;
+      works = subst (λ (ps : List Placement). with_placements all (works c.add.new.self.works) (drop (place + 1) ps) ≡ with_placements all (works c.loop-place.made.works) (drop place ps)) same c.in_ok-add.ensures.works ∙ c.loop-place.invariant.works;
     }

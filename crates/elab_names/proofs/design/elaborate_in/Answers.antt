@@ -5,7 +5,7 @@ use Rattle.rtl_flat.specs.declared.design.Design.{Design}
 use Rattle.rtl_elab.specs.elab_scope.declared.fault.ElabFault.{ElabFault}
 use Rattle.rtl_elab.specs.elab_scope.Faults.{answer}
 use Rattle.rtl_elab.specs.elab_walk.Placements.{placements}
-use Rattle.rtl_elab.specs.elab_walk.Trails.{placement}
+use Rattle.rtl_elab.specs.elab_walk.Trails.{AreDeclared, placement}
 use Rattle.rtl_elab.specs.elab_walk.Visits.{library}
 use Rattle.rtl_elab.specs.elab_flat.Flats.{DesignParts}
 use Rattle.rtl_elab.specs.elab_flat.Views.{flat}
@@ -22,6 +22,14 @@ use Rattle.elab_names.proofs.Making.{made_there, moved_back, refused_there}
 use Rattle.elab_names.proofs.design.elaborate_in.Goals as goal
 use Rattle.elab_names.proofs.design.elaborate_in.Goals.{in-Some+in_ok-moved_fault-in-Some, in-None+in_ok-move_placements-in-None+in_ok-flat_of-in-None}
 
+pub flat_of-requires : goal.flat_of-requires
+flat_of-requires c =
+    let before = c.deref_mut-in-None.result.now in
+    let new = c.move_placements.new.placements in
+    let given : AreDeclared before = subst AreDeclared (sym c.deref_mut-in-None.ensures.value) c.in_ok-placements.ensures.declared in
+    let shown = c.deref_mut-in-None-2.ensures.value ∙ take_at new (drop (length new) c.in_ok-placements.field-0.placements.items) c.in_ok-placements.field-0.placements.len (c.move_placements.auto.placements ∙ c.deref_mut-in-None.ensures.len) in
+    subst AreDeclared (sym shown) (c.in_ok-move_placements-in-None.ensures.declared given)
+
 pub design_of-requires : goal.design_of-requires
 design_of-requires c =
     let all = library c.args.all in
@@ -32,9 +40,9 @@ design_of-requires c =
     let used = used_there all top c.deref.result.now c.in_ok-look_ups.look_ups.items c.deref-2.result.now numbers come c.in_ok-look_ups.ensures c.deref-2.ensures.value c.in_ok-files.ensures in
     let nothing : None ≡ refused (elaborated all top) = sym (ap (option_map answer) c.in-None.is) ∙ c.in_ok-placements.ensures.told in
     let new = c.move_placements.new.placements in
-    let moved = moved_back numbers c.deref-in-None.result.now c.deref.result.now c.deref_mut-in-None.result.now new c.deref-in-None-2.result.now (drop (length new) c.in_ok-placements.field-0.placements.items) c.in_ok-placements.field-0.placements.len (c.deref_mut-in-None.ensures.value ∙ sym c.deref.ensures.value) c.deref-in-None.ensures.value c.in_ok-move_placements-in-None.ensures (c.move_placements.auto.placements ∙ c.deref_mut-in-None.ensures.len) c.deref-in-None-2.ensures.value in
+    let moved = moved_back numbers c.deref-in-None.result.now c.deref.result.now c.deref_mut-in-None.result.now new c.deref_mut-in-None-2.result.now (drop (length new) c.in_ok-placements.field-0.placements.items) c.in_ok-placements.field-0.placements.len (c.deref_mut-in-None.ensures.value ∙ sym c.deref.ensures.value) c.deref-in-None.ensures.value c.in_ok-move_placements-in-None.ensures.moved (c.move_placements.auto.placements ∙ c.deref_mut-in-None.ensures.len) c.deref_mut-in-None-2.ensures.value in
     elaborated_lawful (extract numbers all) top made
-    (made_there all top numbers used (map placement c.deref.result.now) (map placement c.deref-in-None-2.result.now) made nothing come moved c.in_ok-flat_of-in-None.ensures)
+    (made_there all top numbers used (map placement c.deref.result.now) (map placement c.deref_mut-in-None-2.result.now) made nothing come moved c.in_ok-flat_of-in-None.ensures)
 
 pub returns-clause-used : goal.returns-clause-used
 returns-clause-used c =
@@ -78,8 +86,8 @@ returns-clause-design c =
           let nothing : None ≡ refused (elaborated all top) = sym (ap (option_map answer) w.in-None.is) ∙ c.in_ok-placements.ensures.told in
           let new = w.move_placements.new.placements in
           let made = flat w.in_ok-flat_of-in-None.field-0 in
-          let moved = moved_back numbers w.deref-in-None.result.now c.deref.result.now w.deref_mut-in-None.result.now new w.deref-in-None-2.result.now (drop (length new) c.in_ok-placements.field-0.placements.items) c.in_ok-placements.field-0.placements.len (w.deref_mut-in-None.ensures.value ∙ sym c.deref.ensures.value) w.deref-in-None.ensures.value w.in_ok-move_placements-in-None.ensures (w.move_placements.auto.placements ∙ w.deref_mut-in-None.ensures.len) w.deref-in-None-2.ensures.value in
+          let moved = moved_back numbers w.deref-in-None.result.now c.deref.result.now w.deref_mut-in-None.result.now new w.deref_mut-in-None-2.result.now (drop (length new) c.in_ok-placements.field-0.placements.items) c.in_ok-placements.field-0.placements.len (w.deref_mut-in-None.ensures.value ∙ sym c.deref.ensures.value) w.deref-in-None.ensures.value w.in_ok-move_placements-in-None.ensures.moved (w.move_placements.auto.placements ∙ w.deref_mut-in-None.ensures.len) w.deref_mut-in-None-2.ensures.value in
           subst (IsElaborated there) (sym w.design-is)
-          (made_there all top numbers used (map placement c.deref.result.now) (map placement w.deref-in-None-2.result.now) made nothing come moved w.in_ok-flat_of-in-None.ensures
+          (made_there all top numbers used (map placement c.deref.result.now) (map placement w.deref_mut-in-None-2.result.now) made nothing come moved w.in_ok-flat_of-in-None.ensures
           ∙ ap (λ (m : DesignParts). Ok m) (sym w.design_of.ensures))
     ]

@@ -14,7 +14,7 @@ returns-clause-told c =
     let v = visit c.args.met in
     let before : Trail = record { placements = c.new.result; room = c.whole_room.result } in
     let end = trail c.visit.new.so_far in
-    elim c.match-visit.branch [ in-Ok w ↦ ap (option_map answer) w.fault-is ∙ told_at_end all before v (Going end) c.whole_room.ensures w.in-Ok.ensures | in-Err+in_default w ↦ ap (option_map answer) w.fault-is ∙ told_at_end all before v (Refused end (answer w.in-Err.fault)) c.whole_room.ensures (stopped_at w.in-Err.fault end (gone all (Going (trail before)) (visits all 32 v)) w.in_default.not-Memory w.in-Err.ensures) ]
+    elim c.match-visit.branch [ in-Ok w ↦ ap (option_map answer) w.fault-is ∙ told_at_end all before v (Going end) c.whole_room.ensures w.in-Ok.ensures.went | in-Err+in_default w ↦ ap (option_map answer) w.fault-is ∙ told_at_end all before v (Refused end (answer w.in-Err.fault)) c.whole_room.ensures (stopped_at w.in-Err.fault end (gone all (Going (trail before)) (visits all 32 v)) w.in_default.not-Memory w.in-Err.ensures.went) ]
 
 pub returns-clause-placements : goal.returns-clause-placements
 returns-clause-placements c =
@@ -22,4 +22,4 @@ returns-clause-placements c =
     let v = visit c.args.met in
     let before : Trail = record { placements = c.new.result; room = c.whole_room.result } in
     let end = trail c.visit.new.so_far in
-    elim c.match-visit.branch [ in-Ok w ↦ placed_at_end all before v (Going end) (search rules) c.whole_room.ensures w.in-Ok.ensures | in-Err+in_default w ↦ placed_at_end all before v (Refused end (answer w.in-Err.fault)) (search rules) c.whole_room.ensures (stopped_at w.in-Err.fault end (gone all (Going (trail before)) (visits all 32 v)) w.in_default.not-Memory w.in-Err.ensures) ]
+    elim c.match-visit.branch [ in-Ok w ↦ placed_at_end all before v (Going end) (search rules) c.whole_room.ensures w.in-Ok.ensures.went | in-Err+in_default w ↦ placed_at_end all before v (Refused end (answer w.in-Err.fault)) (search rules) c.whole_room.ensures (stopped_at w.in-Err.fault end (gone all (Going (trail before)) (visits all 32 v)) w.in_default.not-Memory w.in-Err.ensures.went) ]

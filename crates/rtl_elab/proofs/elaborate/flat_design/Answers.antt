@@ -12,4 +12,4 @@ returns-in-None-clause-design c =
     let top = c.args.top.now in
     let nothing : refused (elaborated all top) ≡ None
     = sym c.in_ok-placements.ensures.told ∙ ap (option_map answer) c.in-None.is in
-    cc (elaborated_made all top nothing, c.in_ok-placements.ensures.visited, c.in_ok-flat_of-in-None.ensures, c.deref.ensures.value)
+    cc (elaborated_made all top nothing, c.in_ok-placements.ensures.visited, c.in_ok-flat_of-in-None.ensures, c.deref_mut.ensures.value)
