@@ -1,18 +1,9 @@
 -- Sets of bits, kept process by process.
-use Rattle.std.proofs.Common.{ℕ, zero, suc, ◌≡◌, ◌+◌, List, [], ◌∷◌, ◌++◌, length, Some, Result, Ok, Err, IfOk, refl, sym, subst, arith}
+use Rattle.std.proofs.Common.{ℕ, zero, suc, ◌≡◌, ◌+◌, List, [], ◌∷◌, ◌++◌, length, Some, refl, sym, subst, arith}
 use Rattle.std.specs.List.{slice_get}
-use Rattle.rtl_flat.specs.Process.{Task}
 use Rattle.rtl_rule.specs.Parts.{Parts}
 use Rattle.rtl_scan.specs.declared.bits.Bits.{Bits}
-use Rattle.rtl_scan.specs.Sets.{IsInOrder, has_rows}
-use Rattle.check_found.specs.declared.scans.Asked.{Asked}
-use Rattle.check_found.specs.Scanned.{AreSets, IsSet, set_of}
-
--- a set in order that is the one asked for
-pub is_set : {E : Type 0} (d : Parts) (asked asks : Asked) (p : ℕ) (result : Result Bits E) → asked ≡ asks → IfOk result (λ bits. (task : Task) → slice_get d.tasks p ≡ Some task → (s k : ℕ) → has_rows bits.rows.items s k ≡ set_of d asks task s k) → IfOk result (λ bits. IsInOrder bits.rows.items) → IfOk result (IsSet d asked p)
-is_set d asked asks p (Ok bits) same are order =
-    subst (λ a. IsSet d a p bits) (sym same) (record { bits = are; order = order })
-is_set d asked asks p (Err error) same are order = order
+use Rattle.check_found.specs.Scanned.{AreSets, Asked, IsSet}
 
 pushed_length : {X : Type 0} (xs : List X) (y : X) → length (xs ++ y ∷ []) ≡ length xs + 1
 pushed_length [] y = refl

@@ -9,9 +9,14 @@ use Rattle.rtl_flat.specs.Process.{Task}
 use Rattle.rtl_rule.specs.Parts.{Parts, parts, widths, written}
 use Rattle.rtl_scan.specs.declared.bits.Bits.{Bits}
 use Rattle.rtl_scan.specs.Sets.{IsInOrder, has_rows}
-use Rattle.check_found.specs.declared.scans.Asked.{Asked}
-use Rattle.check_found.specs.declared.scans.Asked.TheVariants.{Written, Outside, Listed}
 use Rattle.check_found.specs.declared.scans.Scans.{Scans}
+
+-- what is asked of a process: the bits that it may write, those that it reads before it has written them, and those that
+-- it lists
+pub data Asked : Type 0 where
+  Written : Asked
+  Outside : Asked
+  Listed : Asked
 
 -- the bits that are asked of a process
 abbrev pub set_of : Parts → Asked → Task → BitSet

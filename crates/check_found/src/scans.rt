@@ -8,7 +8,7 @@ ghost use Rattle.rtl_flat.specs.Paths.{reads_outside};
 ghost use Rattle.rtl_flat.specs.Process.{Task};
 ghost use Rattle.rtl_rule.specs.Parts.{parts, widths, written};
 ghost use Rattle.rtl_scan.specs.Sets.{IsInOrder, has_rows};
-ghost use Rattle.check_found.specs.Scanned.{AreScans, AreSets, IsSet, set_of};
+ghost use Rattle.check_found.specs.Scanned.{AreScans, AreSets, Listed, Outside, Written};
 
 use crate::sets;
 use rtl_flat::act::ProcId;
@@ -17,16 +17,6 @@ use rtl_scan::bits::Bits;
 use rtl_scan::temporaries;
 use rtl_tree::memory::Memory;
 use std::alloc::Global;
-
-/// A set of bits that a process has.
-#[derive(Clone, Copy)]
-enum Asked {
-    /// Those that it may write.
-    Written,
-    /// Those that it reads before it has written them.
-    Outside,
-    Listed,
-}
 
 /// What rules ask of the processes of a design.
 #[derive(Drop)]
@@ -38,26 +28,37 @@ pub struct Scans<'d> {
     temporaries: Vec<bool>,
 }
 
-/// A set of bits of one process.
-fn set_of(alloc: Global, design: &Design, asked: Asked, p: ProcId) -> Result<Bits, Memory>
-    requires { p.0 < length design.now.processes.items }
-    ensures { IfOk result (IsSet (parts design.now) asked p.0) }
-{
-    match asked {
-        Asked::Written => sets::written(alloc, design, p),
-        Asked::Outside => sets::read_outside(alloc, design, p),
-        Asked::Listed => sets::listed(alloc, design, p),
-    }
+/// The bits that each process may write, and those that it reads before it has written them.
+#[derive(Drop)]
+struct Used {
+    written: Vec<Bits>,
+    outside: Vec<Bits>,
 }
 
-/// That of each process.
-fn sets_of(alloc: Global, design: &Design, asked: Asked) -> Result<Vec<Bits>, Memory>
-    ensures { let count = length design.now.processes.items in
-        IfOk result (λ sets. AreSets (parts design.now) asked count sets.items) }
+fn uses_of(alloc: Global, design: &Design) -> Result<Used, Memory>
+    ensures written { let count = length design.now.processes.items in
+        IfOk result (λ used. AreSets (parts design.now) Written count used.written.items) }
+    ensures outside { let count = length design.now.processes.items in
+        IfOk result (λ used. AreSets (parts design.now) Outside count used.outside.items) }
 {
-    let mut found = Vec::new(alloc);
+    let mut written = Vec::with_capacity(alloc, design.processes.len())?;
+    let mut outside = Vec::with_capacity(alloc, design.processes.len())?;
     for number in 0..design.processes.len() {
-        found.push(set_of(alloc, design, asked, ProcId(number as u32))?)?;
+        let touched = sets::uses(alloc, design, ProcId(number as u32))?;
+        written.push(touched.writes)?;
+        outside.push(touched.reads)?;
+    }
+    Ok(Used { written, outside })
+}
+
+/// The bits that each process lists.
+fn lists_of(alloc: Global, design: &Design) -> Result<Vec<Bits>, Memory>
+    ensures { let count = length design.now.processes.items in
+        IfOk result (λ sets. AreSets (parts design.now) Listed count sets.items) }
+{
+    let mut found = Vec::with_capacity(alloc, design.processes.len())?;
+    for number in 0..design.processes.len() {
+        found.push(sets::listed(alloc, design, ProcId(number as u32))?)?;
     }
     Ok(found)
 }
@@ -68,9 +69,8 @@ impl<'d> Scans<'d> {
         ensures design { IfOk result (λ scans. scans.design.now ≡ design.now) }
         ensures scans { IfOk result AreScans }
     {
-        let written = sets_of(alloc, design, Asked::Written)?;
-        let outside = sets_of(alloc, design, Asked::Outside)?;
-        let listed = sets_of(alloc, design, Asked::Listed)?;
+        let Used { written, outside } = uses_of(alloc, design)?;
+        let listed = lists_of(alloc, design)?;
         let temporaries = temporaries(alloc, design)?;
         Ok(Scans {
             design,

@@ -92,7 +92,7 @@ impl BitSet {
         ensures bits { IfOk result (λ bits. (s k : ℕ) → has_rows bits.rows.items s k ≡ has self.now.masks s k) }
         ensures order { IfOk result (λ bits. IsInOrder bits.rows.items) }
     {
-        let mut rows = Vec::new(alloc);
+        let mut rows = Vec::with_capacity(alloc, self.masks.len())?;
         for (signal, mask) in &self.masks {
             push_mask(&mut rows, *signal, *mask)?;
         }

@@ -18,7 +18,7 @@ mod usages;
 mod values;
 
 pub use feeds::levels;
-pub use sets::{lists, reads, selected, sure, writes};
+pub use sets::{Touched, lists, reads, selected, sure, uses, writes};
 pub use usages::temporaries;
 
 // Passed on to the crates above.

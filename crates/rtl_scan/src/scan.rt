@@ -1,6 +1,6 @@
 // One pass over a body.
 
-ghost use Rattle.std.specs.Prelude.{ℕ, ◌≡◌, ◌&&◌, ◌||◌, not, map, OnOk, IfOk};
+ghost use Rattle.std.specs.Prelude.{ℕ, [], ◌≡◌, ◌&&◌, ◌||◌, not, map, OnOk, IfOk};
 ghost use Rattle.rtl_flat.specs.Signs.{width_in};
 ghost use Rattle.rtl_flat.specs.Process.{piece};
 ghost use Rattle.rtl_flat.specs.Flows.{may_target, targets};
@@ -12,6 +12,7 @@ use crate::spans::Widths;
 use rtl_flat::act::TargetPart;
 use rtl_tree::memory::Memory;
 use std::alloc::Global;
+use std::mem;
 
 /// Which writes count as sure.
 #[derive(Clone, Copy)]
@@ -42,6 +43,23 @@ pub(crate) struct Sets {
     pub(crate) writes: BitSet,
     pub(crate) late: BitSet,
     pub(crate) done: BitSet,
+    /// Room for the bits of one expression, which most passes need often.
+    pub(crate) rows: Vec<Row>,
+}
+
+impl Sets {
+    /// The room, empty.
+    pub(crate) fn take_rows(&mut self, alloc: Global) -> Vec<Row>
+        ensures empty { result.items ≡ [] }
+        ensures reads { self.new.reads ≡ self.old.reads }
+        ensures writes { self.new.writes ≡ self.old.writes }
+        ensures late { self.new.late ≡ self.old.late }
+        ensures done { self.new.done ≡ self.old.done }
+    {
+        let mut rows = mem::replace(&mut self.rows, Vec::new(alloc));
+        rows.clear();
+        rows
+    }
 }
 
 /// Adds the bits of rows that aren't written yet.

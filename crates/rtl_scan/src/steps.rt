@@ -33,9 +33,9 @@ impl<'d> Pass<'d> {
     pub(crate) fn read(&self, e: &SizedExpr, sets: &mut Sets) -> Result<(), Memory>
         ensures { OnOk result (Reads (reads (width_in self.now.widths.signals.now) (tree e.now)) sets.old sets.new) }
     {
-        let mut rows = Vec::new(self.alloc);
+        let mut rows = sets.take_rows(self.alloc);
         self.widths.push_reads(e, &mut rows)?;
-        read_rows(&rows, sets)
+        read_rows(rows, sets)
     }
 
     /// Reads a selector and all labels of a case.
@@ -47,10 +47,10 @@ impl<'d> Pass<'d> {
     ) -> Result<(), Memory>
         ensures { OnOk result (Reads (either (reads (width_in self.now.widths.signals.now) (tree selector.now)) (reads_all (width_in self.now.widths.signals.now) (labels_of (branches_of items.now)))) sets.old sets.new) }
     {
-        let mut rows = Vec::new(self.alloc);
+        let mut rows = sets.take_rows(self.alloc);
         self.widths.push_reads(selector, &mut rows)?;
         self.widths.push_labels(items, &mut rows)?;
-        read_rows(&rows, sets)
+        read_rows(rows, sets)
     }
 
     /// Reads the value and the indices of an assignment.
@@ -62,10 +62,10 @@ impl<'d> Pass<'d> {
     ) -> Result<(), Memory>
         ensures { OnOk result (Reads (either (reads (width_in self.now.widths.signals.now) (tree value.now)) (target_reads (width_in self.now.widths.signals.now) (map piece parts.now))) sets.old sets.new) }
     {
-        let mut rows = Vec::new(self.alloc);
+        let mut rows = sets.take_rows(self.alloc);
         self.widths.push_reads(value, &mut rows)?;
         self.widths.push_indices(parts, &mut rows)?;
-        read_rows(&rows, sets)
+        read_rows(rows, sets)
     }
 
     /// Writes a target.
@@ -116,10 +116,13 @@ impl<'d> Pass<'d> {
     }
 }
 
-fn read_rows(rows: &[Row], sets: &mut Sets) -> Result<(), Memory>
-    ensures { OnOk result (Reads (has_rows rows.now) sets.old sets.new) }
+/// Reads these bits; their room serves again.
+fn read_rows(rows: Vec<Row>, sets: &mut Sets) -> Result<(), Memory>
+    ensures { OnOk result (Reads (has_rows rows.items) sets.old sets.new) }
 {
-    add_reads(&mut sets.reads, &sets.done, rows)
+    add_reads(&mut sets.reads, &sets.done, &rows)?;
+    sets.rows = rows;
+    Ok(())
 }
 
 /// What all ways of a fork surely wrote stays written behind it.

@@ -13,7 +13,7 @@ returns c =
     c.in_ok-written.ensures.order c.in_ok-read.ensures.order c.in_ok-watched.ensures.order
     (λ s k. c.in_ok-written.ensures.bits s k ∙ c.in_ok-found.ensures.writes s k)
     (λ s k. c.in_ok-read.ensures.bits s k ∙ c.in_ok-anywhere.ensures s k)
-    (λ s k. c.in_ok-watched.ensures.bits s k ∙ c.in_ok-listed.ensures s k)
+    c.in_ok-watched.ensures.bits
     c.args.usages.now c.note_rows.new.usages c.note_rows-2.new.usages c.note_rows-3.new.usages
     (same_rows c.deref.result.now c.in_ok-written.written.rows.items c.deref.ensures.value p found c.args.usages.now c.note_rows.new.usages c.note_rows.ensures)
     (same_rows c.deref-2.result.now c.in_ok-read.read.rows.items c.deref-2.ensures.value p found c.note_rows.new.usages c.note_rows-2.new.usages c.note_rows-2.ensures)
