@@ -1,32 +1,46 @@
--- Sets of bits, kept process by process.
-use Rattle.std.proofs.Common.{ℕ, zero, suc, ◌≡◌, ◌+◌, List, [], ◌∷◌, ◌++◌, length, Some, refl, sym, subst, arith}
+-- The sets that a scan of all processes found, as those that rules ask for.
+use Rattle.std.proofs.Common.{ℕ, ◌≡◌, true, List, length, map, Some, sym, subst}
+use Rattle.std.specs.Prelude.{◌↔◌}
 use Rattle.std.specs.List.{slice_get}
-use Rattle.rtl_rule.specs.Parts.{Parts}
+use Rattle.rtl_flat.specs.declared.design.Design.{Design}
+use Rattle.rtl_flat.specs.PathSets.{Lists, OfProcess}
+use Rattle.rtl_flat.specs.Paths.{BitSet, MayWrite, ReadsOutside, may_write, reads_outside}
+use Rattle.rtl_flat.specs.Process.{Task, task}
+use Rattle.rtl_flat.proofs.Paths.{decided}
+use Rattle.rtl_rule.specs.Parts.{parts}
+use Rattle.rtl_scan.specs.declared.accesses.Accesses.{Accesses}
 use Rattle.rtl_scan.specs.declared.bits.Bits.{Bits}
-use Rattle.check_found.specs.Scanned.{AreSets, Asked, IsSet}
+use Rattle.rtl_scan.specs.Accesses.{AreAccesses, AreOfEach}
+use Rattle.rtl_scan.specs.Sets.{has_rows}
+use Rattle.rtl_scan.proofs.Processes.{length-tasks}
+use Rattle.check_found.specs.Scanned.{AreSets, Asked, Listed, Outside, Written, set_of}
+use Rattle.check_found.proofs.Decided.{as_list, as_set}
 
-pushed_length : {X : Type 0} (xs : List X) (y : X) → length (xs ++ y ∷ []) ≡ length xs + 1
-pushed_length [] y = refl
-pushed_length (x ∷ xs) y =
-    let others = pushed_length xs y in omega (arith, others)
+module _ (design : Design) (accesses : Accesses) (are : AreAccesses design.signals.items (map task design.processes.items) accesses) where
+  -- where a condition decides what is asked
+  kept : (asked : Asked) (P : ℕ → ℕ → ℕ → Type 0) (sets : List Bits) →
+      ((p : ℕ) (found : BitSet) → ((s k : ℕ) → found s k ≡ true ↔ P p s k) → (one : Task) → slice_get (parts design).tasks p ≡ Some one → (s k : ℕ) → found s k ≡ set_of (parts design) asked one s k) →
+      AreOfEach P (length (map task design.processes.items)) sets → AreSets (parts design) asked (length design.processes.items) sets
+  kept asked P sets means each =
+      subst (λ n. AreSets (parts design) asked n sets) (sym (length-tasks design.processes.items))
+      (record {
+        many = each.many;
+        each = λ p found there. record {
+          bits = means p (has_rows found.rows.items) (each.each p found there).bits;
+          order = (each.each p found there).order;
+        };
+      })
 
-each_pushed : {X : Type 0} (P : ℕ → X → Type 0) (xs : List X) (y : X) → ((p : ℕ) (x : X) → slice_get xs p ≡ Some x → P p x) → P (length xs) y → (p : ℕ) (x : X) → slice_get (xs ++ y ∷ []) p ≡ Some x → P p x
-each_pushed P [] y each last zero x there =
-    let same : y ≡ x = cc in subst (P 0) same last
-each_pushed P [] y each last (suc p) x there = absurd (cc)
-each_pushed P (z ∷ xs) y each last zero x there = each zero x there
-each_pushed P (z ∷ xs) y each last (suc p) x there =
-    each_pushed (λ q. P (suc q)) xs y (λ q. each (suc q)) last p x there
+  pub written_kept : AreSets (parts design) Written (length design.processes.items) accesses.writes.items
+  written_kept =
+      kept Written (OfProcess MayWrite design.signals.items (map task design.processes.items)) accesses.writes.items
+      (as_set MayWrite may_write (λ flow s k. (decided flow s k).writes) design) are.writes
 
--- those of no process
-pub no_sets : (d : Parts) (asked : Asked) (sets : List Bits) → sets ≡ [] → AreSets d asked 0 sets
-no_sets d asked sets is =
-    subst (AreSets d asked 0) (sym is) (record { many = refl; each = λ p found there. absurd (cc) })
+  pub outside_kept : AreSets (parts design) Outside (length design.processes.items) accesses.reads.items
+  outside_kept =
+      kept Outside (OfProcess ReadsOutside design.signals.items (map task design.processes.items)) accesses.reads.items
+      (as_set ReadsOutside reads_outside (λ flow s k. (decided flow s k).outside) design) are.reads
 
--- that of one process more
-pub sets_next : (d : Parts) (asked : Asked) (n : ℕ) (old new : List Bits) (one : Bits) → AreSets d asked n old → IsSet d asked n one → new ≡ old ++ one ∷ [] → AreSets d asked (n + 1) new
-sets_next d asked n old new one are is pushed =
-    let count = pushed_length old one in
-    let last : IsSet d asked (length old) one = subst (λ p. IsSet d asked p one) (sym are.many) is in
-    subst (AreSets d asked (n + 1)) (sym pushed)
-    (record { many = omega (arith, count, are.many); each = each_pushed (IsSet d asked) old one are.each last })
+  pub listed_kept : AreSets (parts design) Listed (length design.processes.items) accesses.lists.items
+  listed_kept =
+      kept Listed (Lists design.signals.items (map task design.processes.items)) accesses.lists.items (as_list design) are.lists

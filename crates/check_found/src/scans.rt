@@ -8,13 +8,12 @@ ghost use Rattle.rtl_flat.specs.Paths.{reads_outside};
 ghost use Rattle.rtl_flat.specs.Process.{Task};
 ghost use Rattle.rtl_rule.specs.Parts.{parts, widths, written};
 ghost use Rattle.rtl_scan.specs.Sets.{IsInOrder, has_rows};
-ghost use Rattle.check_found.specs.Scanned.{AreScans, AreSets, Listed, Outside, Written};
+ghost use Rattle.check_found.specs.Scanned.{AreScans};
 
-use crate::sets;
 use rtl_flat::act::ProcId;
 use rtl_flat::design::Design;
+use rtl_scan::accesses::Accesses;
 use rtl_scan::bits::Bits;
-use rtl_scan::temporaries;
 use rtl_tree::memory::Memory;
 use std::alloc::Global;
 
@@ -28,56 +27,19 @@ pub struct Scans<'d> {
     temporaries: Vec<bool>,
 }
 
-/// The bits that each process may write, and those that it reads before it has written them.
-#[derive(Drop)]
-struct Used {
-    written: Vec<Bits>,
-    outside: Vec<Bits>,
-}
-
-fn uses_of(alloc: Global, design: &Design) -> Result<Used, Memory>
-    ensures written { let count = length design.now.processes.items in
-        IfOk result (λ used. AreSets (parts design.now) Written count used.written.items) }
-    ensures outside { let count = length design.now.processes.items in
-        IfOk result (λ used. AreSets (parts design.now) Outside count used.outside.items) }
-{
-    let mut written = Vec::with_capacity(alloc, design.processes.len())?;
-    let mut outside = Vec::with_capacity(alloc, design.processes.len())?;
-    for number in 0..design.processes.len() {
-        let touched = sets::uses(alloc, design, ProcId(number as u32))?;
-        written.push(touched.writes)?;
-        outside.push(touched.reads)?;
-    }
-    Ok(Used { written, outside })
-}
-
-/// The bits that each process lists.
-fn lists_of(alloc: Global, design: &Design) -> Result<Vec<Bits>, Memory>
-    ensures { let count = length design.now.processes.items in
-        IfOk result (λ sets. AreSets (parts design.now) Listed count sets.items) }
-{
-    let mut found = Vec::with_capacity(alloc, design.processes.len())?;
-    for number in 0..design.processes.len() {
-        found.push(sets::listed(alloc, design, ProcId(number as u32))?)?;
-    }
-    Ok(found)
-}
-
 impl<'d> Scans<'d> {
     /// Scans the processes of a design. Fails where memory runs out.
     pub fn of(alloc: Global, design: &'d Design) -> Result<Scans<'d>, Memory>
         ensures design { IfOk result (λ scans. scans.design.now ≡ design.now) }
         ensures scans { IfOk result AreScans }
     {
-        let Used { written, outside } = uses_of(alloc, design)?;
-        let listed = lists_of(alloc, design)?;
-        let temporaries = temporaries(alloc, design)?;
+        let found = Accesses::of(alloc, design)?;
         Ok(Scans {
             design,
-            written,
-            outside,
-            listed,
-            temporaries,
+            written: found.writes,
+            outside: found.reads,
+            listed: found.lists,
+            temporaries: found.temporaries,
         })
     }
 

@@ -12,7 +12,6 @@ ghost use Rattle.rtl_scan.specs.Sets.{IsInOrder, has_rows};
 use rtl_flat::act::ProcId;
 use rtl_flat::design::Design;
 use rtl_flat::expr::SigId;
-use rtl_scan::Touched;
 use rtl_scan::bits::Bits;
 use rtl_tree::memory::Memory;
 use std::alloc::Global;
@@ -37,21 +36,6 @@ pub fn read_outside(alloc: Global, design: &Design, p: ProcId) -> Result<Bits, M
     ensures order { IfOk result (λ bits. IsInOrder bits.rows.items) }
 {
     rtl_scan::reads(alloc, design, p)
-}
-
-/// Both of these, from one scan.
-pub fn uses(alloc: Global, design: &Design, p: ProcId) -> Result<Touched, Memory>
-    requires { p.0 < length design.now.processes.items }
-    ensures reads { let d = parts design.now in
-        IfOk result (λ uses. (task : Task) → slice_get d.tasks p.0 ≡ Some task → (s k : ℕ) →
-        has_rows uses.reads.rows.items s k ≡ reads_outside (flow_of (widths d) task.does) s k) }
-    ensures writes { let d = parts design.now in
-        IfOk result (λ uses. (task : Task) → slice_get d.tasks p.0 ≡ Some task → (s k : ℕ) →
-        has_rows uses.writes.rows.items s k ≡ written d task.does s k) }
-    ensures reads_order { IfOk result (λ uses. IsInOrder uses.reads.rows.items) }
-    ensures writes_order { IfOk result (λ uses. IsInOrder uses.writes.rows.items) }
-{
-    rtl_scan::uses(alloc, design, p)
 }
 
 /// The bits that a process lists.

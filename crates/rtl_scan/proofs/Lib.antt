@@ -18,3 +18,4 @@ pub mod Users
 pub mod Tables
 pub mod Advances
 pub mod Feeding
+pub mod Accessed

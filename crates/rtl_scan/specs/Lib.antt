@@ -7,3 +7,4 @@ pub mod Values
 pub mod Graph
 pub mod Usage
 pub mod Arrows
+pub mod Accesses

@@ -1,6 +1,7 @@
 //! What the processes of a flat design read, write and list on the paths of their bodies.
 #![tactic(auto)]
 
+pub mod accesses;
 mod arrows;
 pub mod bits;
 mod complete;
@@ -18,7 +19,7 @@ mod usages;
 mod values;
 
 pub use feeds::levels;
-pub use sets::{Touched, lists, reads, selected, sure, uses, writes};
+pub use sets::{lists, reads, selected, sure, writes};
 pub use usages::temporaries;
 
 // Passed on to the crates above.

@@ -126,32 +126,6 @@ pub fn writes(alloc: Global, d: &Design, p: ProcId) -> Result<Bits, Memory>
     sets.writes.to_bits(alloc)
 }
 
-/// What a process reads from outside and what it may write.
-#[derive(Drop)]
-pub struct Touched {
-    /// The bits that it externally reads.
-    pub reads: Bits,
-    /// The bits that some path of it writes.
-    pub writes: Bits,
-}
-
-/// What a process externally reads and what it may write, from one scan.
-pub fn uses(alloc: Global, d: &Design, p: ProcId) -> Result<Touched, Memory>
-    requires { p.0 < length d.now.processes.items }
-    ensures reads { IfOk result (λ uses. (s k : ℕ) → has_rows uses.reads.rows.items s k ≡ true
-        ↔ OfProcess ReadsOutside d.now.signals.items (map task d.now.processes.items) p.0 s k) }
-    ensures writes { IfOk result (λ uses. (s k : ℕ) → has_rows uses.writes.rows.items s k ≡ true
-        ↔ OfProcess MayWrite d.now.signals.items (map task d.now.processes.items) p.0 s k) }
-    ensures reads_order { IfOk result (λ uses. IsInOrder uses.reads.rows.items) }
-    ensures writes_order { IfOk result (λ uses. IsInOrder uses.writes.rows.items) }
-{
-    let does = &d.processes[p.0 as usize].does;
-    let sets = scan(alloc, widths_of(d), does, Counted::Blocking)?;
-    let reads = sets.reads.to_bits(alloc)?;
-    let writes = sets.writes.to_bits(alloc)?;
-    Ok(Touched { reads, writes })
-}
-
 /// The bits that every path of a process writes, by blocking or nonblocking assignments.
 pub fn sure(alloc: Global, d: &Design, p: ProcId) -> Result<Bits, Memory>
     requires { p.0 < length d.now.processes.items }

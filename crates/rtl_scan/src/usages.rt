@@ -7,6 +7,7 @@ ghost use Rattle.rtl_flat.specs.Flows.{flow_of};
 ghost use Rattle.rtl_flat.specs.Paths.{may_read};
 ghost use Rattle.rtl_flat.specs.PathSets.{IsTemporary, listed};
 ghost use Rattle.rtl_flat.specs.Process.{doing, task};
+ghost use Rattle.rtl_scan.specs.Accesses.{IsAccess};
 ghost use Rattle.rtl_scan.specs.Sets.{IsInOrder, has, has_rows};
 ghost use Rattle.rtl_scan.specs.Usage as spec;
 
@@ -141,25 +142,39 @@ fn listed(alloc: Global, widths: Widths, does: &Does, anywhere: &BitSet) -> Resu
     bits.to_bits(alloc)
 }
 
-/// Notes a process at the signals that it writes, reads or lists.
-fn note(
+/// What a process externally reads, may write and lists.
+#[derive(Drop)]
+pub(crate) struct Access {
+    pub(crate) reads: Bits,
+    pub(crate) writes: Bits,
+    pub(crate) lists: Bits,
+}
+
+/// Notes a process at the signals that it writes, reads or lists, and gives what it accesses.
+pub(crate) fn note(
     alloc: Global,
     widths: Widths,
     process: &Process,
     number: usize,
     usages: &mut [Usage],
-) -> Result<(), Memory>
-    ensures { OnOk result (spec.IsNotedIn (width_in widths.entry.signals.now) (task process.now) number usages.old usages.new) }
+) -> Result<Access, Memory>
+    ensures noted { OnOk result (spec.IsNotedIn (width_in widths.entry.signals.now) (task process.now) number usages.old usages.new) }
+    ensures access { IfOk result (IsAccess (width_in widths.entry.signals.now) (task process.now)) }
 {
     let found = scan(alloc, widths, &process.does, Counted::Blocking)?;
     let anywhere = read_anywhere(alloc, widths, &process.does)?;
+    let outside = found.reads.to_bits(alloc)?;
     let written = found.writes.to_bits(alloc)?;
     let read = anywhere.to_bits(alloc)?;
     let watched = listed(alloc, widths, &process.does, &anywhere)?;
     note_rows(usages, &written.rows, number, &found);
     note_rows(usages, &read.rows, number, &found);
     note_rows(usages, &watched.rows, number, &found);
-    Ok(())
+    Ok(Access {
+        reads: outside,
+        writes: written,
+        lists: watched,
+    })
 }
 
 /// Which processes use each signal.
@@ -180,7 +195,12 @@ fn is_temporary(signal: &Signal, usage: Usage) -> bool
     is_inner(signal) && usage.is_alone()
 }
 
-fn answers(alloc: Global, signals: &[Signal], usages: &[Usage]) -> Result<Vec<bool>, Memory>
+/// Whether each signal is a temporary, from the processes that use it.
+pub(crate) fn answers(
+    alloc: Global,
+    signals: &[Signal],
+    usages: &[Usage],
+) -> Result<Vec<bool>, Memory>
     requires { length usages.now ≡ length signals.now }
     ensures { IfOk result (λ answers. spec.AreAnswers signals.now usages.now (length signals.now) answers.items) }
 {

@@ -16,7 +16,7 @@ loop-number-preserved c =
     let signals = c.args.widths.signals.now in
     let one = c.index-processes-number.result in
     let is_noted : IsNotedIn (width_in signals) (task one) n old new
-    = subst (λ (us : List Usage). IsNotedIn (width_in signals) (task one) n us new) c.deref_mut.ensures.value c.in_ok-note.ensures in
+    = subst (λ (us : List Usage). IsNotedIn (width_in signals) (task one) n us new) c.deref_mut.ensures.value c.in_ok-note.ensures.noted in
     subst (λ (us : List Usage). AreUsages signals (map task processes) (n + 1) us) (sym (written_back old new c.loop-number.usages.len is_noted.same_length c.loop-number.usages.ok.0))
     (usages_more signals (map task processes) n (task one) (task_at processes n one c.loop-number-test.true c.index-processes-number.is) old new c.loop-number.invariant is_noted)
 
