@@ -284,7 +284,8 @@ impl<'a> Cursor<'a> {
         self.module_after(regions)
     }
 
-    fn is_more(&self) -> bool
+    /// Whether a token is left.
+    pub fn is_more(&self) -> bool
         ensures { result ≡ reading.is_more (map terminal self.now.rest.now) }
     {
         match self.rest {

@@ -1,12 +1,13 @@
 // Builds the modules of a whole text.
 
-ghost use Rattle.std.specs.Prelude.{◌≡◌, ◌≤◌, All, List, map};
+ghost use Rattle.std.specs.Prelude.{◌≡◌, ◌≤◌, [], All, List, Some, map, IfOk};
 ghost use Rattle.rtl_tree.specs.Depth.{depth};
 ghost use Rattle.rtl_tree.specs.GrammarModule.{AreSpelled};
 ghost use Rattle.rtl_tree.specs.Symbols.{terminal};
-ghost use Rattle.rtl_tree.specs.TreeModule.{Circuit};
+ghost use Rattle.rtl_tree.specs.TreeModule.{Circuit, circuit};
 ghost use Rattle.rtl_tree.specs.declared.tree.nesting.TheConstants.{MAX_NESTING};
 ghost use Rattle.text_build.specs.Built.{IsBuilt, SpelledOnce};
+ghost use Rattle.text_build.specs.ReadingModule.{circuits};
 
 use crate::cursor::Cursor;
 use crate::fault::BuildFault;
@@ -21,20 +22,30 @@ use std::alloc::Global;
 /// # Errors
 ///
 /// `Memory` where memory runs out. Where the tokens spell modules and nothing in them is nested more than 200 deep,
-/// there is no other error; of other tokens nothing is said.
+/// there is no other error. Of other tokens no more is said than that all of them were read.
 pub fn build(
     alloc: Global,
     tokens: &[Terminal],
     regions: &[Dropped],
 ) -> Result<Vec<Module>, BuildFault>
-    ensures { (cs : List Circuit) → AreSpelled regions.now (map terminal tokens.now) cs
+    ensures built { (cs : List Circuit) → AreSpelled regions.now (map terminal tokens.now) cs
         → All (λ c. depth c ≤ MAX_NESTING) cs → IsBuilt cs result }
+    ensures read { IfOk result (λ modules. circuits MAX_NESTING regions.now (map terminal tokens.now)
+        ≡ Some (map circuit modules.items, [])) }
 {
     let mut cursor = Cursor {
         rest: tokens,
         alloc,
     };
-    cursor.modules(&Regions::new(regions))
+    match cursor.modules(&Regions::new(regions)) {
+        Ok(modules) => {
+            if cursor.is_more() {
+                return Err(BuildFault::NotSpelled);
+            }
+            Ok(modules)
+        }
+        Err(fault) => Err(fault),
+    }
 }
 
 /// A law: no tokens spell two lists of modules.

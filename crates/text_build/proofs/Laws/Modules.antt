@@ -310,3 +310,11 @@ built cs o (Ok v) rest e h =
     ap (λ (p : List Circuit × List Terminal). p.0) (some_is (map view v.items, rest) (cs, []) q)
 built cs o (Err fault.NotSpelled) rest e h = let q : ◌≡◌ {A = Outcome (List Circuit)} None (Some (cs, [])) = sym h ∙ e in absurd (cc)
 built cs o (Err fault.Memory) rest e h = tt
+
+-- where all is read that is spelled, nothing is left
+pub none_left : (cs : List Circuit) (o : Outcome (List Circuit)) (r : Result (Vec Module Global) BuildFault) (v : Vec Module Global) (rest : List Terminal) → o ≡ Some (cs, []) → Reads (λ (v : Vec Module Global). map view v.items) o r rest → r ≡ Ok v → is_more rest ≡ true → ⊥
+none_left cs o r v rest e h k more =
+    let read : ◌≡◌ {A = Outcome (List Circuit)} o (Some (map view v.items, rest)) = subst (λ r. Reads (λ (v : Vec Module Global). map view v.items) o r rest) k h in
+    let q : ◌≡◌ {A = Outcome (List Circuit)} (Some (map view v.items, rest)) (Some (cs, [])) = sym read ∙ e in
+    let z : true ≡ false = sym more ∙ ap (λ (p : List Circuit × List Terminal). is_more p.1) (some_is (map view v.items, rest) (cs, []) q) in
+    absurd (cc)
