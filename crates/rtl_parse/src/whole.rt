@@ -1,14 +1,15 @@
 // The way of a prepared text through the parser.
 
-ghost use Rattle.std.specs.Prelude.{◌≡◌, ◌+◌, [], None, map, position, IfOk, IfErr};
+ghost use Rattle.std.specs.Prelude.{◌≡◌, ◌+◌, [], None, map, position, IfOk, IfErr, IfSome};
 ghost use Rattle.std.specs.List.{slice_get};
 ghost use Rattle.rtl_tree.specs.Symbols.{terminal};
 ghost use Rattle.rtl_tree.specs.TreeModule.{circuit};
-ghost use Rattle.rtl_tree.specs.GrammarModule.{Spells};
+ghost use Rattle.rtl_tree.specs.GrammarModule.{AreSpelled, Spells};
 ghost use Rattle.rtl_tree.specs.Deeper.{too_deep};
 ghost use Rattle.rtl_parse.specs.Parses.{IsCause, IsThere, first_outside};
 
 use crate::fault::ParseFault;
+use rtl_tree::dropped::Dropped;
 use rtl_tree::memory::Memory;
 use rtl_tree::prepared::Prepared;
 use rtl_tree::symbol::Terminal;
@@ -16,7 +17,8 @@ use rtl_tree::tree::modules::Module;
 use std::alloc::Global;
 use std::sync::ledger::Ledger;
 use steps::Steps;
-use text_build::build;
+use text_build::{BuildFault, build};
+use text_sound::{are_proper, is_ordinary};
 use text_survey::{Surveyed, refused, survey, terminals};
 
 /// The text and the place of a token, or of the end of the text.
@@ -37,8 +39,35 @@ fn place(
     }
 }
 
-/// The modules that a prepared text spells. It is searched for a word outside this language first, then surveyed without recursion,
-/// which tells where it stops being spelled and how deep it is nested, and only then built. Each call is one step.
+/// The modules of a text that is so ordinary that what is read of it is spelled by it for certain; none of another text.
+fn certain(
+    alloc: Global,
+    tokens: &[Terminal],
+    regions: &[Dropped],
+) -> Result<Option<Vec<Module>>, Memory>
+    ensures spelled { IfOk result (λ found. IfSome found (λ modules.
+        AreSpelled regions.now (map terminal tokens.now) (map circuit modules.items))) }
+    ensures shallow { IfOk result (λ found. IfSome found (λ modules.
+        too_deep (map circuit modules.items) ≡ [])) }
+{
+    if !is_ordinary(tokens) {
+        return Ok(None);
+    }
+    match build(alloc, tokens, regions) {
+        Ok(modules) => {
+            if are_proper(&modules) {
+                return Ok(Some(modules));
+            }
+            Ok(None)
+        }
+        Err(BuildFault::NotSpelled) => Ok(None),
+        Err(BuildFault::Memory) => Err(Memory),
+    }
+}
+
+/// The modules that a prepared text spells. It is searched for a word outside this language first. Then an ordinary text is built at
+/// once, and any other, and one whose trees aren't spelled by it for certain, is surveyed without recursion, which tells where it stops
+/// being spelled and how deep it is nested, and only then built. Each call is one step.
 ///
 /// # Errors
 ///
@@ -62,13 +91,17 @@ pub fn parse<L: Ledger>(
         let (word, at) = place(alloc, text.text(), tokens, number)?;
         return Err(ParseFault::Refused(word, at));
     }
+    let regions = text.dropped();
+    if let Some(modules) = certain(alloc, tokens, regions)? {
+        return Ok(modules);
+    }
     match survey(alloc, tokens)? {
         Surveyed::Stopped(number) => {
             let (token, at) = place(alloc, text.text(), tokens, number)?;
             Err(ParseFault::Syntax(token, at))
         }
         Surveyed::TooDeep(at) => Err(ParseFault::TooDeep(at)),
-        Surveyed::Spelled => match build(alloc, tokens, text.dropped()) {
+        Surveyed::Spelled => match build(alloc, tokens, regions) {
             Ok(modules) => Ok(modules),
             // What is spelled and not too deep is built, unless memory runs out.
             Err(_) => Err(ParseFault::Memory),

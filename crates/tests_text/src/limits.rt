@@ -27,7 +27,7 @@ const WORDS: [Limit<'static>; 8] = [
 ];
 
 /// Their modules, or their fault.
-const MODULES: [Limit<'static>; 15] = [
+const MODULES: [Limit<'static>; 17] = [
     (
         [b"", b"; ", b"", b"", b""],
         200_001,
@@ -54,6 +54,9 @@ const MODULES: [Limit<'static>; 15] = [
     ([ASSIGN, b"a + ", b"a", b"", BACK], 199, b"// m"),
     // A chain of 201 operands, which groups to the left
     ([ASSIGN, b"a + ", b"a", b"", BACK], 200, b"TooDeep(21)"),
+    // Two levels a turn
+    ([ASSIGN, b"(", b"a", b") + a", BACK], 99, b"// m"),
+    ([ASSIGN, b"(", b"a", b") + a", BACK], 100, b"TooDeep(121)"),
     (
         [ASSIGN, b"a ? b : ", b"a", b"", BACK],
         200,

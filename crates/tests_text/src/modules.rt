@@ -126,7 +126,7 @@ const HEADS: [Row<'static>; 15] = [
     (b"module top; child u() endmodule", b"Syntax endmodule 22"),
 ];
 
-const BODIES: [Row<'static>; 15] = [
+const BODIES: [Row<'static>; 16] = [
     (b"module top; assign = b; endmodule", b"Syntax = 19"),
     (b"module top; assign y <= a; endmodule", b"Syntax <= 21"),
     (b"module top; assign {y, } = a; endmodule", b"Syntax } 23"),
@@ -159,6 +159,7 @@ const BODIES: [Row<'static>; 15] = [
         b"module top; always @* begin : ; end endmodule",
         b"Syntax ; 30",
     ),
+    (b"module top; reg a = ; endmodule", b"Syntax ; 20"),
     (b"x initial begin a; end ; initial b", b"Unbalanced(25)"),
 ];
 

@@ -27,9 +27,14 @@ returns-in-Ok-clause-inside g c =
 pub returns-in-Ok-clause-spelled : goal.returns-in-Ok-clause-spelled
 returns-in-Ok-clause-spelled g c =
     let read = are_read c.args.text.now _ _ _ c.as_slice-tokens.result.now c.text.ensures c.tokens.ensures c.in_ok-terminals.ensures.found c.in_ok-terminals.ensures.numbered c.as_slice-tokens.ensures.value in
-    (built c.args.text.now c.as_slice-tokens.result.now c.in_ok-number.field-0 _ c.build.result c.in-Ok.modules read c.in_ok-number.ensures c.in-Spelled.is c.dropped.ensures c.build.ensures c.in-Ok.is).0
+    (built c.args.text.now c.as_slice-tokens.result.now c.in_ok-number.field-0 _ c.build.result c.in-Ok.modules read c.in_ok-number.ensures c.in-Spelled.is c.dropped-regions.ensures c.build.ensures.built c.in-Ok.is).0
 
 pub returns-in-Ok-clause-shallow : goal.returns-in-Ok-clause-shallow
 returns-in-Ok-clause-shallow g c =
     let read = are_read c.args.text.now _ _ _ c.as_slice-tokens.result.now c.text.ensures c.tokens.ensures c.in_ok-terminals.ensures.found c.in_ok-terminals.ensures.numbered c.as_slice-tokens.ensures.value in
-    (built c.args.text.now c.as_slice-tokens.result.now c.in_ok-number.field-0 _ c.build.result c.in-Ok.modules read c.in_ok-number.ensures c.in-Spelled.is c.dropped.ensures c.build.ensures c.in-Ok.is).1
+    (built c.args.text.now c.as_slice-tokens.result.now c.in_ok-number.field-0 _ c.build.result c.in-Ok.modules read c.in_ok-number.ensures c.in-Spelled.is c.dropped-regions.ensures c.build.ensures.built c.in-Ok.is).1
+
+pub returns-in-Some-2-clause-inside : goal.returns-in-Some-2-clause-inside
+returns-in-Some-2-clause-inside g c =
+    let read = are_read c.args.text.now _ _ _ c.as_slice-tokens.result.now c.text.ensures c.tokens.ensures c.in_ok-terminals.ensures.found c.in_ok-terminals.ensures.numbered c.as_slice-tokens.ensures.value in
+    all_inside c.args.text.now c.as_slice-tokens.result.now c.refused.result read c.refused.ensures c.in_default.is

@@ -1,0 +1,20 @@
+mod Gives
+mod Lists
+mod Operators
+mod References
+mod Operands
+pub mod Exprs
+mod Targets
+mod Stmts
+mod Events
+mod Each
+mod Arguments
+mod Heads
+mod Items
+mod Headers
+pub mod Modules
+pub mod Shallow
+mod Example
+mod Deep
+mod Rows
+pub mod Certain
