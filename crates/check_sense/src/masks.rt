@@ -54,6 +54,10 @@ impl Masks {
         ensures { OnOk result ((s k : ℕ)
             → has self.new.masks s k ≡ (has self.old.masks s k || has_row row s k)) }
     {
+        // A signal with no bit takes no room.
+        if row.mask == 0 {
+            return Ok(());
+        }
         let mask = self.mask(row.signal);
         self.put(row.signal, mask | row.mask)
     }
