@@ -6,16 +6,16 @@ ghost use Rattle.rtl_flat.specs.Expression.{tree};
 ghost use Rattle.rtl_flat.specs.Process.{Task, action, task};
 ghost use Rattle.rtl_rule.specs.Parts.{Parts, first_of, is_literal_with, parts, within, written};
 ghost use Rattle.check_found.specs.Gathered.{task_sites};
+ghost use Rattle.check_found.specs.Scanned.{AreScans};
 ghost use Rattle.check_case.specs.Cases.{AreUnknownItem, label_in, never_matches, own_kinds};
 ghost use Rattle.check_case.specs.Claims.{GetsUnknown, kinds_in, kinds_of};
 
 use crate::labels::literal_of;
-use check_found::sets::first_written;
+use check_found::scans::Scans;
 use check_parts::expressions::own_labels;
 use check_parts::statements::statements;
 use rtl_bits::{Bit, Vec4};
 use rtl_flat::act::{Act, CaseKind, ProcId, Process};
-use rtl_flat::design::Design;
 use rtl_flat::expr::{SigId, SizedExpr};
 use rtl_rule::finding::Finding;
 use rtl_rule::rule::Rule;
@@ -143,23 +143,35 @@ fn push_statement(
     push_labels(process, signal, kind_of(one), &labels, found)
 }
 
+/// The least signal that a process may write.
+fn first_signal(scans: &Scans, p: ProcId) -> Option<SigId>
+    requires scans { AreScans scans.now }
+    requires there { p.0 < length scans.now.design.now.processes.items }
+    ensures { let d = parts scans.now.design.now in
+        (task : Task) → slice_get d.tasks p.0 ≡ Some task → result ≡ first_of d (written d task.does) }
+{
+    match scans.written(p).rows.as_slice() {
+        [first, ..] => Some(first.signal),
+        [] => None,
+    }
+}
+
 fn push_unknown(
     alloc: Global,
-    design: &Design,
+    scans: &Scans,
     p: ProcId,
     found: &mut Vec<Finding>,
 ) -> Result<(), Memory>
-    requires { p.0 < length design.now.processes.items }
-    ensures { OnOk result ((task : Task) → slice_get (parts design.now).tasks p.0 ≡ Some task
-        → GetsUnknown (parts design.now) (task_sites kinds_in p.0 task)
+    requires scans { AreScans scans.now }
+    requires there { p.0 < length scans.now.design.now.processes.items }
+    ensures { let d = parts scans.now.design.now in
+        OnOk result ((task : Task) → slice_get d.tasks p.0 ≡ Some task
+        → GetsUnknown d (task_sites kinds_in p.0 task)
         found.old.items found.new.items) }
 {
-    let process = &design.processes[p.0 as usize];
+    let process = &scans.design.processes[p.0 as usize];
     let all = statements(alloc, &process.does)?;
-    if all.is_empty() {
-        return Ok(());
-    }
-    let signal = first_written(alloc, design, p)?;
+    let signal = first_signal(scans, p);
     for one in &all {
         push_statement(alloc, process, signal, one, found)?;
     }
@@ -167,12 +179,13 @@ fn push_unknown(
 }
 
 /// Labels that are a literal with a bit which matches nothing.
-pub fn unknown_item(alloc: Global, design: &Design) -> Result<Vec<Finding>, Memory>
-    ensures { IfOk result (λ found. AreUnknownItem (parts design.now) found.items) }
+pub fn unknown_item(alloc: Global, scans: &Scans) -> Result<Vec<Finding>, Memory>
+    requires { AreScans scans.now }
+    ensures { IfOk result (λ found. AreUnknownItem (parts scans.now.design.now) found.items) }
 {
     let mut found = Vec::new(alloc);
-    for number in 0..design.processes.len() {
-        push_unknown(alloc, design, ProcId(number as u32), &mut found)?;
+    for number in 0..scans.design.processes.len() {
+        push_unknown(alloc, scans, ProcId(number as u32), &mut found)?;
     }
     Ok(found)
 }

@@ -62,7 +62,7 @@ fn all_findings(alloc: Global, design: &Design) -> Result<Vec<Finding>, Memory>
     let scans = Scans::of(alloc, design)?;
     let sense = check_clean::check_sense::check(alloc, &scans)?;
     let assigned = check_clean::check_assign::check(alloc, &scans)?;
-    let cases = check_clean::check_case::check(alloc, design)?;
+    let cases = check_clean::check_case::check(alloc, &scans)?;
     let unknown = check_clean::check_xprop::check(alloc, &scans)?;
     let two = merged(alloc, &sense, &assigned)?;
     let three = merged(alloc, &two, &cases)?;

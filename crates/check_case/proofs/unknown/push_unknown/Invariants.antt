@@ -8,4 +8,4 @@ use Rattle.check_case.proofs.unknown.push_unknown.Given as goal
 
 abbrev pub invariant-loop-one : goal.invariant-loop-one
 invariant-loop-one l =
-    Gets IsUnknownItem (unknown_item_at (parts l.design)) (flat_map (λ one. map (within (l.fn.p.0, task l.process)) (own_kinds (action one.now))) (take l.one-index l.one-items)) l.fn.found.items l.found.items
+    Gets IsUnknownItem (unknown_item_at (parts l.scans.design.now)) (flat_map (λ one. map (within (l.fn.p.0, task l.process)) (own_kinds (action one.now))) (take l.one-index l.one-items)) l.fn.found.items l.found.items

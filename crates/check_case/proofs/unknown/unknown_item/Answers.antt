@@ -8,7 +8,7 @@ use Rattle.check_case.proofs.unknown.unknown_item.Goals as goal
 
 pub loop-number-preserved : goal.loop-number-preserved
 loop-number-preserved c =
-    let d = parts c.args.design.now in
+    let d = parts c.args.scans.now.design.now in
     let n = c.loop-number.number in
-    let (t, at) = process_there c.args.design.now n (omega arith) in
+    let (t, at) = process_there c.args.scans.now.design.now n (omega arith) in
     next_below IsUnknownItem (unknown_item_at d) kinds_in d n t c.loop-number.found.items c.push_unknown.new.found.items at c.loop-number.invariant (c.in_ok-push_unknown.ensures t at)

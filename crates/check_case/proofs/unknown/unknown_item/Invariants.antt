@@ -7,4 +7,4 @@ use Rattle.check_case.proofs.unknown.unknown_item.Given as goal
 
 abbrev pub invariant-loop-number : goal.invariant-loop-number
 invariant-loop-number l =
-    AreFindings IsUnknownItem (unknown_item_at (parts l.design)) (sites_below kinds_in (parts l.design) l.number) l.found.items
+    AreFindings IsUnknownItem (unknown_item_at (parts l.scans.design.now)) (sites_below kinds_in (parts l.scans.design.now) l.number) l.found.items
