@@ -70,6 +70,40 @@ fn push_shared(
     lower.insert_all(&written.rows)
 }
 
+/// The findings of signals that several processes drive, and the bits that some process drives.
+#[derive(Drop)]
+pub(crate) struct Drivers {
+    pub(crate) several: Vec<Finding>,
+    pub(crate) driven: Masks,
+}
+
+impl Drivers {
+    /// Those of a design, from one look at each process.
+    pub(crate) fn of(alloc: Global, scans: &Scans) -> Result<Drivers, Memory>
+        requires { AreScans scans.now }
+        ensures several { IfOk result (λ made.
+            AreSeveralDrivers (parts scans.now.design.now) made.several.items) }
+        ensures driven { IfOk result (λ made.
+            (s k : ℕ) → has made.driven.masks s k ≡ is_written (parts scans.now.design.now) s k) }
+    {
+        let mut several = Vec::new(alloc);
+        let mut lower = Masks::new(alloc);
+        for number in 0..scans.design.processes.len() {
+            push_shared(
+                alloc,
+                scans,
+                ProcId(number as u32),
+                &mut lower,
+                &mut several,
+            )?;
+        }
+        Ok(Drivers {
+            several,
+            driven: lower,
+        })
+    }
+}
+
 /// Signals with a bit that a process may write and one of a lower number, too.
 ///
 /// Fails where memory runs out.
@@ -77,36 +111,7 @@ pub fn several_drivers(alloc: Global, scans: &Scans) -> Result<Vec<Finding>, Mem
     requires { AreScans scans.now }
     ensures { IfOk result (λ found. AreSeveralDrivers (parts scans.now.design.now) found.items) }
 {
-    let mut found = Vec::new(alloc);
-    let mut lower = Masks::new(alloc);
-    for number in 0..scans.design.processes.len() {
-        push_shared(alloc, scans, ProcId(number as u32), &mut lower, &mut found)?;
-    }
-    Ok(found)
-}
-
-/// Adds the bits that a process may write.
-fn drive(scans: &Scans, p: ProcId, driven: &mut Masks) -> Result<(), Memory>
-    requires scans { AreScans scans.now }
-    requires there { p.0 < length scans.now.design.now.processes.items }
-    ensures { let d = parts scans.now.design.now in
-        OnOk result ((task : Task) → slice_get d.tasks p.0 ≡ Some task → (s k : ℕ) →
-        has driven.new.masks s k ≡ (has driven.old.masks s k || written d task.does s k)) }
-{
-    driven.insert_all(&scans.written(p).rows)
-}
-
-/// The bits that some process may write.
-fn driven_bits(alloc: Global, scans: &Scans) -> Result<Masks, Memory>
-    requires { AreScans scans.now }
-    ensures { IfOk result (λ driven.
-        (s k : ℕ) → has driven.masks s k ≡ is_written (parts scans.now.design.now) s k) }
-{
-    let mut driven = Masks::new(alloc);
-    for number in 0..scans.design.processes.len() {
-        drive(scans, ProcId(number as u32), &mut driven)?;
-    }
-    Ok(driven)
+    Ok(Drivers::of(alloc, scans)?.several)
 }
 
 fn is_input(kind: Kind) -> bool
@@ -151,6 +156,23 @@ fn push_undriven(
     Ok(())
 }
 
+/// The findings of signals that aren't top inputs and have a bit that isn't among those that processes may write.
+pub(crate) fn undriven_beside(
+    alloc: Global,
+    design: &Design,
+    driven: &Masks,
+) -> Result<Vec<Finding>, Memory>
+    requires { (s k : ℕ) → has driven.now.masks s k ≡ is_written (parts design.now) s k }
+    ensures { IfOk result (λ found. AreUndriven (parts design.now) found.items) }
+{
+    let mut found = Vec::new(alloc);
+    for number in 0..design.signals.len() {
+        let signal = &design.signals[number];
+        push_undriven(design, signal, SigId(number as u32), driven, &mut found)?;
+    }
+    Ok(found)
+}
+
 /// Signals that aren't top inputs and have a bit that no process may write.
 ///
 /// Fails where memory runs out.
@@ -158,12 +180,6 @@ pub fn undriven(alloc: Global, scans: &Scans) -> Result<Vec<Finding>, Memory>
     requires { AreScans scans.now }
     ensures { IfOk result (λ found. AreUndriven (parts scans.now.design.now) found.items) }
 {
-    let driven = driven_bits(alloc, scans)?;
-    let mut found = Vec::new(alloc);
-    for number in 0..scans.design.signals.len() {
-        let signal = &scans.design.signals[number];
-        let signal_id = SigId(number as u32);
-        push_undriven(scans.design, signal, signal_id, &driven, &mut found)?;
-    }
-    Ok(found)
+    let drivers = Drivers::of(alloc, scans)?;
+    undriven_beside(alloc, scans.design, &drivers.driven)
 }

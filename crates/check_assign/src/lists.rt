@@ -10,7 +10,7 @@ ghost use Rattle.check_graph.specs.check_found.Scanned.{AreScans};
 ghost use Rattle.check_assign.specs.Findings.{AreAssignFindings};
 ghost use Rattle.check_assign.specs.Lists.{AreAssigned, AreClocked, AreDriven, AreHeld, AreReset, Both};
 
-use crate::drivers::{several_drivers, undriven};
+use crate::drivers::{Drivers, undriven_beside};
 use crate::kinds::{blocking_state, mixed_assign, nonblocking_comb};
 use crate::latches::latch_inferred;
 use crate::literals::tristate;
@@ -47,8 +47,8 @@ fn driven(alloc: Global, scans: &Scans) -> Result<Vec<Finding>, Memory>
     requires { AreScans scans.now }
     ensures { IfOk result (λ found. AreDriven (parts scans.now.design.now) found.items) }
 {
-    let several = several_drivers(alloc, scans)?;
-    let none = undriven(alloc, scans)?;
+    let Drivers { several, driven } = Drivers::of(alloc, scans)?;
+    let none = undriven_beside(alloc, scans.design, &driven)?;
     let looped = comb_loop(alloc, scans)?;
     let found = joined(several, none)?;
     joined(found, looped)

@@ -7,11 +7,11 @@ use Rattle.rtl_rule.specs.Sites.{AreFindings}
 use Rattle.check_graph.proofs.check_found_proofs.Gathering.{all_taken, findings_more, take_next}
 use Rattle.check_graph.proofs.check_found_proofs.Sites.{numbered_at, read_at}
 use Rattle.check_assign.specs.Assigned.{IsUndriven, undriven_at}
-use Rattle.check_assign.proofs.drivers.undriven.Goals as goal
+use Rattle.check_assign.proofs.drivers.undriven_beside.Goals as goal
 
 pub loop-number-preserved : goal.loop-number-preserved
 loop-number-preserved c =
-    let d = parts c.args.scans.now.design.now in
+    let d = parts c.args.design.now in
     let n = c.loop-number.number in
     let signal = c.index-signal.result.now in
     let all = enumerate_from 0 d.signals in
@@ -22,6 +22,6 @@ loop-number-preserved c =
 
 pub returns : goal.returns
 returns c =
-    let d = parts c.args.scans.now.design.now in
+    let d = parts c.args.design.now in
     let count = length-enumerate_from 0 d.signals in
     all_taken (IsUndriven d) undriven_at (enumerate_from 0 d.signals) c.loop-number.number c.loop-number.found.items (omega (arith, count)) c.loop-number.invariant
