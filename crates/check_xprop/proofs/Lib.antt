@@ -1,6 +1,7 @@
 mod Doubts
 mod Example
 mod Lists
+mod NodeRules
 mod Nodes
 mod Picks
 mod Processes

@@ -3,7 +3,9 @@ use Rattle.std.proofs.Common.{ℕ, zero, suc, ◌≡◌, ◌∙◌, ◌+◌, ◌
 use Rattle.std.specs.List.{cons_option, enumerate_from, filter, filter_map, flat_map, list_any, slice_get}
 use Rattle.std.proofs.lemmas.List.{map-append, take_more}
 use Rattle.std.proofs.lemmas.Simd.{map-map}
-use Rattle.std.proofs.lemmas.Bool.{false≢true}
+use Rattle.std.proofs.lemmas.Bool.{false≢true, or_parts}
+use Rattle.std.proofs.lemmas.Grind.{flat_map-append}
+use Rattle.std.proofs.lemmas.List.Folds.{list_any-append}
 use Rattle.std.proofs.lemmas.List.Elements.{filter-append}
 use Rattle.rtl_tree.specs.declared.text.Spot.{Spot}
 use Rattle.rtl_flat.specs.Process.{Doing, Task}
@@ -151,3 +153,37 @@ pub some_spots : {A : Type 0} (test : A → Bool) (place : A → Spot) (xs : Lis
 some_spots test place [] = refl
 some_spots test place (x ∷ xs) =
     ap (λ ys. not (is_empty ys)) (map_cond place x (filter test xs) (test x)) ∙ empty_or (place x) (test x) (list_any test xs) (map place (filter test xs)) (some_spots test place xs)
+
+-- ---- lists of which no element passes a test
+
+pub any_left : {A : Type 0} (test : A → Bool) (xs ys : List A) → list_any test (xs ++ ys) ≡ false → list_any test xs ≡ false
+any_left test [] ys h = refl
+any_left test (x ∷ xs) ys h =
+    let (here, rest) = or_parts (test x) (list_any test (xs ++ ys)) h in
+    ap (λ b. b || list_any test xs) here ∙ any_left test xs ys rest
+
+pub any_right : {A : Type 0} (test : A → Bool) (xs ys : List A) → list_any test (xs ++ ys) ≡ false → list_any test ys ≡ false
+any_right test [] ys h = h
+any_right test (x ∷ xs) ys h =
+    any_right test xs ys (or_parts (test x) (list_any test (xs ++ ys)) h).1
+
+any_neither : {A : Type 0} (test : A → Bool) (xs ys : List A) → list_any test xs ≡ false → list_any test ys ≡ false → list_any test (xs ++ ys) ≡ false
+any_neither test xs ys h k =
+    list_any-append test xs ys ∙ ap (λ b. b || list_any test ys) h ∙ k
+
+module _ {A B : Type 0} (test : B → Bool) (f : A → List B) where
+  none_or : (b : Bool) (x : A) (xs : List A) → list_any test (f x) ≡ false → list_any test (flat_map f xs) ≡ false → list_any test (flat_map f (cond b (x ∷ xs) xs)) ≡ false
+  none_or true x xs h k = any_neither test (f x) (flat_map f xs) h k
+  none_or false x xs h k = k
+
+  none_kept : (keep : A → Bool) (xs : List A) → list_any test (flat_map f xs) ≡ false → list_any test (flat_map f (filter keep xs)) ≡ false
+  none_kept keep [] h = refl
+  none_kept keep (x ∷ xs) h =
+      none_or (keep x) x (filter keep xs) (any_left test (f x) (flat_map f xs) h) (none_kept keep xs (any_right test (f x) (flat_map f xs) h))
+
+  -- nor does one where some elements stay out
+  pub none_without : (keep : A → Bool) (xs ys : List A) → list_any test (flat_map f (xs ++ ys)) ≡ false → list_any test (flat_map f (xs ++ filter keep ys)) ≡ false
+  none_without keep xs ys h =
+      let split = sym (ap (list_any test) (flat_map-append f xs ys)) ∙ h in
+      ap (list_any test) (flat_map-append f xs (filter keep ys))
+      ∙ any_neither test (flat_map f xs) (flat_map f (filter keep ys)) (any_left test (flat_map f xs) (flat_map f ys) split) (none_kept keep ys (any_right test (flat_map f xs) (flat_map f ys) split))

@@ -1,6 +1,6 @@
 -- Processes one after another, and their expressions.
 use Rattle.std.proofs.Common.{ℕ, zero, suc, ◌≡◌, ◌∙◌, ◌<◌, ◌≤◌, Bool, true, false, not, cond, List, [], ◌∷◌, ◌++◌, map, length, take, get_or, Some, refl, sym, ap, arith, append-nil}
-use Rattle.std.specs.List.{flat_map, slice_get}
+use Rattle.std.specs.List.{flat_map, list_any, slice_get}
 use Rattle.std.proofs.lemmas.List.{take_all}
 use Rattle.rtl_tree.specs.declared.text.Spot.{Spot}
 use Rattle.rtl_flat.specs.declared.act.Process.{Process}
@@ -9,12 +9,12 @@ use Rattle.rtl_flat.specs.Process.{Task, task}
 use Rattle.rtl_rule.specs.declared.finding.Finding.{Finding}
 use Rattle.rtl_rule.specs.declared.rule.Rule.{Rule}
 use Rattle.rtl_rule.specs.declared.rule.Rule.TheVariants as rule
-use Rattle.rtl_rule.specs.Parts.{Parts, At, first_of, has_literal, is_literal_with, is_x, least_place, literal_places, nodes, place_of, valued_trees, within, written}
+use Rattle.rtl_rule.specs.Parts.{Parts, At, first_of, has_literal, is_literal_with, is_one_literal, is_x, labels, least_place, literal_places, nodes, place_of, trees, valued_trees, within, written}
 use Rattle.rtl_rule.specs.Sites.{AreFindings}
 use Rattle.check_assign.proofs.rtl_scan_proofs.Processes.{task_at}
 use Rattle.check_xprop.specs.Lists.{at_spot, at_spots, below, literal_found, nodes_found, tree_spots}
 use Rattle.check_xprop.specs.Unknowns.{AreUnknownLiteral, IsUnknownLiteral, all_nodes, at_node, node_sites, unknown_literal_at}
-use Rattle.check_xprop.proofs.Lists.{found_of, is_empty, some_spots, spots_if, spots_picked}
+use Rattle.check_xprop.proofs.Lists.{found_of, is_empty, none_without, some_spots, spots_if, spots_picked}
 
 -- what stands at a number
 pub slice_there : {A : Type 0} (xs : List A) (n : ℕ) → n < length xs → (x : A) × (slice_get xs n ≡ Some x)
@@ -81,3 +81,9 @@ module _ (d : Parts) (p : ℕ) (one : Task) where
       = is ∙ sym (spots_if (is_literal_with is_x) (place_of one.spot) (flat_map nodes (valued_trees one.does))) in
       let make = at_spot rule.UnknownLiteral (first_of d (written d one.does)) one.instance in
       ap (λ at. fs ++ make at ∷ []) (least ∙ ap (least_place one.spot) places) ∙ sym (ap (λ more. fs ++ more) (found_if true any))
+
+  -- where no expression at all is a literal with an x bit
+  pub unknown_nowhere : (fs : List Finding) → list_any (is_literal_with is_x) (all_nodes one.does) ≡ false → fs ≡ fs ++ literal_found d p one
+  unknown_nowhere fs none =
+      let valued = none_without (is_literal_with is_x) nodes (λ label. not (is_one_literal label)) (trees one.does) (labels one.does) none in
+      sym (ap (λ more. fs ++ more) (found_if false valued) ∙ append-nil fs)

@@ -1,5 +1,5 @@
 -- The expressions of a lawful design are sized, and those that read no signal by themselves.
-use Rattle.std.proofs.Common.{ℕ, zero, suc, ◌≡◌, ◌∙◌, ◌+◌, ◌<◌, ◌≤◌, Bool, false, ◌||◌, List, [], ◌∷◌, ◌++◌, map, length, get_or, Option, None, Some, refl, sym, ap, subst, arith}
+use Rattle.std.proofs.Common.{ℕ, zero, suc, ◌≡◌, ◌∙◌, ◌+◌, ◌<◌, ◌≤◌, Bool, false, List, [], ◌∷◌, ◌++◌, map, length, get_or, Option, None, Some, refl, sym, ap, subst, arith}
 use Rattle.std.specs.List.{All, flat_map, list_any, slice_get}
 use Rattle.std.proofs.lemmas.Bool.{false≢true, or_parts}
 use Rattle.std.proofs.lemmas.List.Elements.{All-head, All-tail}
@@ -19,6 +19,7 @@ use Rattle.rtl_flat.specs.Sizes.{FitsWidth, IsSized, width_of}
 use Rattle.rtl_flat.specs.WellFormed.{AreBranches, IsAction, IsBody, IsList, IsOtherwise, IsProcess, IsSelection, IsWatched}
 use Rattle.rtl_rule.specs.Parts.{all_branches, all_in, all_of, all_other, index_of, indices, is_some_name, items_of, labels, named, nodes, own_labels, own_trees, reads_signal, trees}
 use Rattle.check_xprop.specs.Unknowns.{all_nodes}
+use Rattle.check_xprop.proofs.Lists.{any_left, any_right}
 
 -- ---- each element of a list
 
@@ -180,17 +181,6 @@ Names one = is_some_name (named one)
 
 abbrev none : ℕ → ℕ
 none i = 0
-
-any_left : {A : Type 0} (test : A → Bool) (xs ys : List A) → list_any test (xs ++ ys) ≡ false → list_any test xs ≡ false
-any_left test [] ys h = refl
-any_left test (x ∷ xs) ys h =
-    let (here, rest) = or_parts (test x) (list_any test (xs ++ ys)) h in
-    ap (λ b. b || list_any test xs) here ∙ any_left test xs ys rest
-
-any_right : {A : Type 0} (test : A → Bool) (xs ys : List A) → list_any test (xs ++ ys) ≡ false → list_any test ys ≡ false
-any_right test [] ys h = h
-any_right test (x ∷ xs) ys h =
-    any_right test xs ys (or_parts (test x) (list_any test (xs ++ ys)) h).1
 
 module _ (n : ℕ) (ws : ℕ → ℕ) where
   row_width : {m : _} (parts : Row_of-SizedExpr m) → width_of ws (row parts) ≡ width_of none (row parts)

@@ -33,6 +33,10 @@ below of k (task ∷ tasks) (suc n) = of k task ++ below of (k + 1) tasks n
 abbrev pub picked : {A : Type 0} → (Doing → List A) → (At A → Bool) → (At A → Finding) → ℕ → Task → List Finding
 picked list test at p task = map at (filter test (map (within (p, task)) (list task.does)))
 
+-- these are all expressions of a process
+abbrev pub AreNodes : Parts → ℕ → List Tree → Type 0
+AreNodes d p all = (task : Task) → slice_get d.tasks p ≡ Some task → all ≡ all_nodes task.does
+
 -- ---- at places in a process
 
 abbrev pub at_spot : Rule → Option SigId → ℕ → Spot → Finding

@@ -1,23 +1,39 @@
 -- It serves inner contracts and proofs; no answer of the program is stated by it.
 -- The findings of all rules, put together by their kinds.
-use Rattle.std.specs.Prelude.{◌≡◌, List, ◌++◌}
+use Rattle.std.specs.Prelude.{ℕ, ◌≡◌, List, ◌++◌}
+use Rattle.rtl_flat.specs.Process.{Task}
 use Rattle.rtl_rule.specs.declared.finding.Finding.{Finding}
-use Rattle.rtl_rule.specs.Parts.{Parts}
-use Rattle.check_xprop.specs.Unknowns.{AreCaseEquality, AreDelayIgnored, AreDivideVariable, AreInitialIgnored, AreSelectRange, AreTranslateOff, AreUnknownLiteral, AreWildSelector, AreXOptimism}
+use Rattle.rtl_rule.specs.declared.rule.Rule.TheVariants.{CaseEquality, DivideVariable}
+use Rattle.rtl_rule.specs.Parts.{Parts, widths}
+use Rattle.check_xprop.specs.declared.node_rules.NodeFindings.{NodeFindings}
+use Rattle.check_xprop.specs.Lists.{literal_found, misses_found, nodes_found}
+use Rattle.check_xprop.specs.Unknowns.{AreCaseEquality, AreDelayIgnored, AreDivideVariable, AreInitialIgnored, AreSelectRange, AreTranslateOff, AreUnknownLiteral, AreWildSelector, AreXOptimism, divides_by_other, is_case_equality, picks}
 
-pub record AreOfLiterals (d : Parts) (found : List Finding) : Type 0 where
+-- the findings of each rule that looks at all expressions of processes
+pub record AreNodeFindings (d : Parts) (found : NodeFindings) : Type 0 where
+  pub literals : AreUnknownLiteral d found.literals.items
+  pub ranges : AreSelectRange d found.ranges.items
+  pub divisions : AreDivideVariable d found.divisions.items
+  pub equalities : AreCaseEquality d found.equalities.items
+
+-- those of one process are added
+pub record AddsProcess (d : Parts) (p : ℕ) (task : Task) (old new : NodeFindings) : Type 0 where
+  pub literals : new.literals.items ≡ old.literals.items ++ literal_found d p task
+  pub ranges : new.ranges.items ≡ old.ranges.items ++ misses_found (widths d) task.instance (picks task.does)
+  pub divisions : new.divisions.items ≡ old.divisions.items ++ nodes_found DivideVariable divides_by_other d task
+  pub equalities : new.equalities.items ≡ old.equalities.items ++ nodes_found CaseEquality is_case_equality d task
+
+-- the findings of literals, selects and operators
+pub record AreOfExpressions (d : Parts) (found : List Finding) : Type 0 where
   pub literal : List Finding
   pub range : List Finding
-  pub are_literal : AreUnknownLiteral d literal
-  pub are_range : AreSelectRange d range
-  pub is : found ≡ literal ++ range
-
-pub record AreOfOperators (d : Parts) (old new : List Finding) : Type 0 where
   pub divide : List Finding
   pub equality : List Finding
+  pub are_literal : AreUnknownLiteral d literal
+  pub are_range : AreSelectRange d range
   pub are_divide : AreDivideVariable d divide
   pub are_equality : AreCaseEquality d equality
-  pub is : new ≡ old ++ divide ++ equality
+  pub is : found ≡ literal ++ range ++ divide ++ equality
 
 pub record AreOfDropped (d : Parts) (old new : List Finding) : Type 0 where
   pub delay : List Finding

@@ -3,15 +3,13 @@
 ghost use Rattle.std.specs.Prelude.{◌≡◌, IfOk, OnOk};
 ghost use Rattle.rtl_rule.specs.Parts.{parts};
 ghost use Rattle.check_assign.specs.check_found.Scanned.{AreScans};
-ghost use Rattle.check_xprop.specs.Parts.{AreOfDropped, AreOfLiterals, AreOfChoices, AreOfOperators};
+ghost use Rattle.check_xprop.specs.Parts.{AreOfChoices, AreOfDropped, AreOfExpressions};
 ghost use Rattle.check_xprop.specs.Unknowns.{AreUnknownFindings};
 
 use crate::choices::{wild_selector, x_optimism};
-use crate::divisors::divide_variable;
 use crate::doubt::doubtful;
 use crate::dropped::{delay_ignored, initial_ignored, translate_off};
-use crate::expressions::{case_equality, unknown_literal};
-use crate::selects::select_range;
+use crate::node_rules::node_findings;
 use check_assign::check_found::order::ranked;
 use check_assign::check_found::scans::Scans;
 use rtl_flat::design::Design;
@@ -19,25 +17,16 @@ use rtl_rule::finding::Finding;
 use rtl_tree::memory::Memory;
 use std::alloc::Global;
 
-/// The findings of literals and selects.
-fn of_literals(alloc: Global, design: &Design) -> Result<Vec<Finding>, Memory>
-    ensures { IfOk result (λ found. AreOfLiterals (parts design.now) found.items) }
+/// The findings of literals, selects and operators.
+fn of_expressions(alloc: Global, design: &Design) -> Result<Vec<Finding>, Memory>
+    ensures { IfOk result (λ found. AreOfExpressions (parts design.now) found.items) }
 {
-    let mut found = unknown_literal(alloc, design)?;
-    let range = select_range(alloc, design)?;
-    found.extend_from_slice(&range)?;
+    let all = node_findings(alloc, design)?;
+    let mut found = all.literals;
+    found.extend_from_slice(&all.ranges)?;
+    found.extend_from_slice(&all.divisions)?;
+    found.extend_from_slice(&all.equalities)?;
     Ok(found)
-}
-
-/// Adds the findings of operators.
-fn push_operators(alloc: Global, design: &Design, found: &mut Vec<Finding>) -> Result<(), Memory>
-    ensures { OnOk result (AreOfOperators (parts design.now) found.old.items found.new.items) }
-{
-    let divide = divide_variable(alloc, design)?;
-    let equality = case_equality(alloc, design)?;
-    found.extend_from_slice(&divide)?;
-    found.extend_from_slice(&equality)?;
-    Ok(())
 }
 
 /// Adds the findings of what synthesis ignores.
@@ -74,8 +63,7 @@ pub fn check(alloc: Global, scans: &Scans) -> Result<Vec<Finding>, Memory>
     requires { AreScans scans.now }
     ensures { IfOk result (λ found. AreUnknownFindings (parts scans.now.design.now) found.items) }
 {
-    let mut found = of_literals(alloc, scans.design)?;
-    push_operators(alloc, scans.design, &mut found)?;
+    let mut found = of_expressions(alloc, scans.design)?;
     push_dropped(alloc, scans.design, &mut found)?;
     push_choices(alloc, scans, &mut found)?;
     ranked(found)

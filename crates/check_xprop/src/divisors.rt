@@ -8,10 +8,10 @@ ghost use Rattle.rtl_flat.specs.Expression.{tree};
 ghost use Rattle.rtl_flat.specs.Process.{Task};
 ghost use Rattle.rtl_rule.specs.declared.rule.Rule.TheVariants.{DivideVariable};
 ghost use Rattle.rtl_rule.specs.Parts.{is_some_name, named, parts, reads_signal};
-ghost use Rattle.check_xprop.specs.Lists.{HasSizes, is_division, nodes_found};
+ghost use Rattle.check_xprop.specs.Lists.{AreNodes, HasSizes, is_division, nodes_found};
 ghost use Rattle.check_xprop.specs.Unknowns.{AreDivideVariable, divides_by_other, has_one, is_power};
 
-use crate::expressions::all_nodes;
+use crate::expressions::process_nodes;
 use crate::places::push_all;
 use check_assign::check_parts::expressions::nodes;
 use check_assign::rtl_expr::eval;
@@ -116,21 +116,22 @@ fn divides_by_other(alloc: Global, e: &SizedExpr) -> Result<bool, Memory>
     }
 }
 
-/// Adds the findings of divisions in a process.
-fn push_divisions(
+/// Adds the findings of divisions among all expressions of a process.
+pub(crate) fn push_divisions(
     alloc: Global,
     design: &Design,
     p: ProcId,
+    all: &[&SizedExpr],
     found: &mut Vec<Finding>,
 ) -> Result<(), Memory>
-    requires { p.0 < length design.now.processes.items }
+    requires there { p.0 < length design.now.processes.items }
+    requires all { AreNodes (parts design.now) p.0 (map (λ e. tree e.now) all.now) }
     ensures { OnOk result ((task : Task) → slice_get (parts design.now).tasks p.0 ≡ Some task
         → found.new.items ≡ found.old.items ++ nodes_found DivideVariable divides_by_other
         (parts design.now) task) }
 {
-    let all = all_nodes(alloc, &design.processes[p.0 as usize].does)?;
     let mut spots = Vec::new(alloc);
-    for e in &all {
+    for e in all {
         if divides_by_other(alloc, e)? {
             spots.push(e.spot)?;
         }
@@ -146,7 +147,9 @@ pub fn divide_variable(alloc: Global, design: &Design) -> Result<Vec<Finding>, M
 {
     let mut found = Vec::new(alloc);
     for p in 0..design.processes.len() {
-        push_divisions(alloc, design, ProcId(p as u32), &mut found)?;
+        let process = ProcId(p as u32);
+        let all = process_nodes(alloc, design, process)?;
+        push_divisions(alloc, design, process, &all, &mut found)?;
     }
     Ok(found)
 }

@@ -5,7 +5,7 @@ ghost use Rattle.std.specs.List.{flat_map, list_any, slice_get};
 ghost use Rattle.rtl_flat.specs.Expression.{tree};
 ghost use Rattle.rtl_flat.specs.Process.{Task, doing, task};
 ghost use Rattle.rtl_rule.specs.Parts.{is_literal_with, is_x, nodes, parts, valued_trees};
-ghost use Rattle.check_xprop.specs.Lists.{is_exact, literal_found, nodes_found, tree_spots};
+ghost use Rattle.check_xprop.specs.Lists.{AreNodes, is_exact, literal_found, nodes_found, tree_spots};
 ghost use Rattle.check_xprop.specs.Unknowns.{AreCaseEquality, AreUnknownLiteral, all_nodes, is_case_equality};
 
 use crate::places::push_all;
@@ -22,13 +22,25 @@ use rtl_tree::text::Spot;
 use std::alloc::Global;
 
 /// All expressions of a process with their operands, labels too.
-pub(crate) fn all_nodes<'d>(alloc: Global, does: &'d Does) -> Result<Vec<&'d SizedExpr>, Memory>
+fn all_nodes<'d>(alloc: Global, does: &'d Does) -> Result<Vec<&'d SizedExpr>, Memory>
     ensures { IfOk result (λ all. map (λ e. tree e.now) all.items ≡ all_nodes (doing does.now)) }
 {
     let mut all = trees(alloc, does)?;
     let labels = labels(alloc, does)?;
     all.extend_from_slice(&labels)?;
     nodes(alloc, &all)
+}
+
+/// All expressions of a design's process with their operands, labels too.
+pub(crate) fn process_nodes<'d>(
+    alloc: Global,
+    design: &'d Design,
+    p: ProcId,
+) -> Result<Vec<&'d SizedExpr>, Memory>
+    requires { p.0 < length design.now.processes.items }
+    ensures { IfOk result (λ all. AreNodes (parts design.now) p.0 (map (λ e. tree e.now) all.items)) }
+{
+    all_nodes(alloc, &design.processes[p.0 as usize].does)
 }
 
 /// Whether an operator compares x and z as well.
@@ -51,21 +63,22 @@ fn is_case_equality(e: &SizedExpr) -> bool
     }
 }
 
-/// Adds the findings of `===` and `!==` in a process.
-fn push_equalities(
+/// Adds the findings of `===` and `!==` among all expressions of a process.
+pub(crate) fn push_equalities(
     alloc: Global,
     design: &Design,
     p: ProcId,
+    all: &[&SizedExpr],
     found: &mut Vec<Finding>,
 ) -> Result<(), Memory>
-    requires { p.0 < length design.now.processes.items }
+    requires there { p.0 < length design.now.processes.items }
+    requires all { AreNodes (parts design.now) p.0 (map (λ e. tree e.now) all.now) }
     ensures { OnOk result ((task : Task) → slice_get (parts design.now).tasks p.0 ≡ Some task
         → found.new.items ≡ found.old.items ++ nodes_found Rule.CaseEquality is_case_equality
         (parts design.now) task) }
 {
-    let all = all_nodes(alloc, &design.processes[p.0 as usize].does)?;
     let mut spots = Vec::new(alloc);
-    for e in &all {
+    for e in all {
         if is_case_equality(e) {
             spots.push(e.spot)?;
         }
@@ -81,7 +94,9 @@ pub fn case_equality(alloc: Global, design: &Design) -> Result<Vec<Finding>, Mem
 {
     let mut found = Vec::new(alloc);
     for p in 0..design.processes.len() {
-        push_equalities(alloc, design, ProcId(p as u32), &mut found)?;
+        let process = ProcId(p as u32);
+        let all = process_nodes(alloc, design, process)?;
+        push_equalities(alloc, design, process, &all, &mut found)?;
     }
     Ok(found)
 }
@@ -109,6 +124,18 @@ fn is_unknown_literal(e: &SizedExpr) -> bool
     }
 }
 
+/// Whether one of some expressions is a literal with an x bit.
+fn has_unknown_literal(all: &[&SizedExpr]) -> bool
+    ensures { result ≡ list_any (is_literal_with is_x) (map (λ e. tree e.now) all.now) }
+{
+    for e in all {
+        if is_unknown_literal(e) {
+            return true;
+        }
+    }
+    false
+}
+
 /// The places of literals with an x bit in a process, but for labels that are one.
 fn literal_spots(alloc: Global, process: &Process) -> Result<Vec<Spot>, Memory>
     ensures { IfOk result (λ spots. spots.items ≡ tree_spots
@@ -126,17 +153,23 @@ fn literal_spots(alloc: Global, process: &Process) -> Result<Vec<Spot>, Memory>
     Ok(spots)
 }
 
-/// Adds the finding of a process with such literals, at the first of them.
-fn push_literal(
+/// Adds the finding of a process with such literals, at the first of them, given all its expressions.
+pub(crate) fn push_literal(
     alloc: Global,
     design: &Design,
     p: ProcId,
+    all: &[&SizedExpr],
     found: &mut Vec<Finding>,
 ) -> Result<(), Memory>
-    requires { p.0 < length design.now.processes.items }
+    requires there { p.0 < length design.now.processes.items }
+    requires all { AreNodes (parts design.now) p.0 (map (λ e. tree e.now) all.now) }
     ensures { OnOk result ((task : Task) → slice_get (parts design.now).tasks p.0 ≡ Some task
         → found.new.items ≡ found.old.items ++ literal_found (parts design.now) p.0 task) }
 {
+    // Most processes have no x at all, and then need no list of the expressions whose literals count.
+    if !has_unknown_literal(all) {
+        return Ok(());
+    }
     let process = &design.processes[p.0 as usize];
     let spots = literal_spots(alloc, process)?;
     if spots.is_empty() {
@@ -154,7 +187,9 @@ pub fn unknown_literal(alloc: Global, design: &Design) -> Result<Vec<Finding>, M
 {
     let mut found = Vec::new(alloc);
     for p in 0..design.processes.len() {
-        push_literal(alloc, design, ProcId(p as u32), &mut found)?;
+        let process = ProcId(p as u32);
+        let all = process_nodes(alloc, design, process)?;
+        push_literal(alloc, design, process, &all, &mut found)?;
     }
     Ok(found)
 }

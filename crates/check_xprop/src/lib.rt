@@ -7,6 +7,7 @@ mod divisors;
 mod doubt;
 mod dropped;
 mod expressions;
+mod node_rules;
 mod places;
 mod selects;
 

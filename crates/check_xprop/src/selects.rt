@@ -7,10 +7,10 @@ ghost use Rattle.rtl_flat.specs.Expression.{tree};
 ghost use Rattle.rtl_flat.specs.Process.{Piece, Task, Watched, piece, selection, watched};
 ghost use Rattle.rtl_flat.specs.Signs.{width_in};
 ghost use Rattle.rtl_rule.specs.Parts.{parts, widths};
-ghost use Rattle.check_xprop.specs.Lists.{misses, misses_found};
+ghost use Rattle.check_xprop.specs.Lists.{AreNodes, misses, misses_found};
 ghost use Rattle.check_xprop.specs.Unknowns.{AreSelectRange, pick_in, pick_of, picks};
 
-use crate::expressions::all_nodes;
+use crate::expressions::process_nodes;
 use check_assign::check_parts::statements::{items, pieces};
 use check_assign::rtl_scan::selected;
 use rtl_flat::act::{EventItem, ProcId, TargetPart};
@@ -165,23 +165,24 @@ fn push_written(
     Ok(())
 }
 
-/// Adds the findings of a process.
-fn push_misses(
+/// Adds the findings of a process, given all its expressions.
+pub(crate) fn push_misses(
     alloc: Global,
     design: &Design,
     p: ProcId,
+    all: &[&SizedExpr],
     found: &mut Vec<Finding>,
 ) -> Result<(), Memory>
-    requires { p.0 < length design.now.processes.items }
+    requires there { p.0 < length design.now.processes.items }
+    requires all { AreNodes (parts design.now) p.0 (map (λ e. tree e.now) all.now) }
     ensures { OnOk result ((task : Task) → slice_get (parts design.now).tasks p.0 ≡ Some task
         → found.new.items ≡ found.old.items ++ misses_found (widths
         (parts design.now)) task.instance (picks task.does)) }
 {
     let process = &design.processes[p.0 as usize];
-    let all = all_nodes(alloc, &process.does)?;
     let targets = pieces(alloc, &process.does)?;
     push_listed(design, process.instance, items(&process.does), found)?;
-    push_reads(design, process.instance, &all, found)?;
+    push_reads(design, process.instance, all, found)?;
     push_written(design, process.instance, &targets, found)
 }
 
@@ -194,7 +195,9 @@ pub fn select_range(alloc: Global, design: &Design) -> Result<Vec<Finding>, Memo
 {
     let mut found = Vec::new(alloc);
     for p in 0..design.processes.len() {
-        push_misses(alloc, design, ProcId(p as u32), &mut found)?;
+        let process = ProcId(p as u32);
+        let all = process_nodes(alloc, design, process)?;
+        push_misses(alloc, design, process, &all, &mut found)?;
     }
     Ok(found)
 }

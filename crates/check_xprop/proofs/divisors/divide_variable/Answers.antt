@@ -8,8 +8,8 @@ use Rattle.check_xprop.proofs.Lists.{below_more}
 use Rattle.check_xprop.proofs.Processes.{nodes_all, slice_there}
 use Rattle.check_xprop.proofs.divisors.divide_variable.Goals as goal
 
-pub overflow_cast-p : goal.overflow_cast-p
-overflow_cast-p c =
+pub overflow_cast-process : goal.overflow_cast-process
+overflow_cast-process c =
     let processes = c.args.design.now.processes in
     let count = length-tasks processes.items in
     let limit = c.args.design.now.is_design.process_limit in

@@ -7,4 +7,4 @@ use Rattle.check_xprop.proofs.divisors.push_divisions.Given as goal
 
 abbrev pub invariant-loop-e : goal.invariant-loop-e
 invariant-loop-e l = (otherwise : Spot) →
-    l.spots.items ≡ tree_spots divides_by_other otherwise (map (λ e. tree e.now) (take l.e-index l.e-items))
+    l.spots.items ≡ tree_spots divides_by_other otherwise (map (λ e. tree e.now) (take l.e-index l.all))

@@ -1,23 +1,22 @@
 use Rattle.std.specs.Prelude.{Vec}
 use Rattle.std.specs.declared.alloc.Global.{Global}
-use Rattle.std.proofs.Common.{◌∙◌, ◌++◌, ap, sym}
+use Rattle.std.proofs.Common.{◌∙◌, ◌++◌, ap, refl, sym}
 use Rattle.std.proofs.lemmas.Result.{on_ok_weaker}
 use Rattle.rtl_tree.specs.declared.text.Spot.{Spot}
 use Rattle.rtl_flat.specs.Expression.{tree}
-use Rattle.rtl_flat.specs.Process.{Task}
 use Rattle.rtl_rule.specs.declared.rule.Rule.TheVariants as rule
 use Rattle.rtl_rule.specs.Parts.{parts, place_of}
 use Rattle.check_xprop.specs.Lists.{at_spots}
 use Rattle.check_xprop.specs.Unknowns.{all_nodes, is_case_equality}
 use Rattle.check_xprop.proofs.Lists.{spot_less, spot_more}
-use Rattle.check_xprop.proofs.Processes.{same_task, spots_end}
+use Rattle.check_xprop.proofs.Processes.{spots_end}
 use Rattle.check_xprop.proofs.expressions.push_equalities.Goals as goal
 use Rattle.check_xprop.proofs.expressions.push_equalities.Goals.{then-is_case_equality+in_ok-push, else-is_case_equality}
 
 pub loop-e-preserved : goal.loop-e-preserved
 loop-e-preserved c = λ otherwise.
     let inside = c.loop-e-test.true in
-    let items = c.deref-e-items.result.now in
+    let items = c.args.all.now in
     elim c.if-is_case_equality.branch [
       | then-is_case_equality+in_ok-push w ↦
           spot_more is_case_equality (λ e. tree e.now) (place_of otherwise) items c.loop-e.e-index c.e-item.result inside c.e-item.is c.loop-e.spots.items (c.loop-e.invariant otherwise) c.if-is_case_equality.spots.items
@@ -32,12 +31,9 @@ loop-e-preserved c = λ otherwise.
 pub returns : goal.returns
 returns c =
     let d = parts c.args.design.now in
-    let p = c.args.p.0 in
-    let one = c.index.result.now in
     let fs = c.args.found.now.items in
     on_ok_weaker c.push_all.result
     (λ h. λ other there.
-    let same = same_task c.args.design.now.processes.items p one c.requires c.index.ensures other there in
-    let spots = spots_end (λ e. tree e.now) is_case_equality other.spot c.loop-e.e-index c.deref-e-items.result.now c.in_ok-all.all.items (all_nodes other.does) c.loop-e.spots.items c.deref.result.now c.deref.ensures.value (c.loop-e.invariant other.spot) c.loop-e-test.false c.deref-e-items.ensures.value (c.in_ok-all.ensures ∙ ap (λ (t : Task). all_nodes t.does) same) in
+    let spots = spots_end (λ e. tree e.now) is_case_equality other.spot c.loop-e.e-index c.args.all.now c.args.all.now (all_nodes other.does) c.loop-e.spots.items c.deref.result.now c.deref.ensures.value (c.loop-e.invariant other.spot) c.loop-e-test.false refl (c.requires.all other there) in
     h other there ∙ ap (λ all. fs ++ at_spots rule.CaseEquality d all other) spots)
     c.push_all.ensures

@@ -7,4 +7,4 @@ use Rattle.check_xprop.proofs.expressions.push_equalities.Given as goal
 
 abbrev pub invariant-loop-e : goal.invariant-loop-e
 invariant-loop-e l = (otherwise : Spot) →
-    l.spots.items ≡ tree_spots is_case_equality otherwise (map (λ e. tree e.now) (take l.e-index l.e-items))
+    l.spots.items ≡ tree_spots is_case_equality otherwise (map (λ e. tree e.now) (take l.e-index l.all))

@@ -7,8 +7,8 @@ use Rattle.check_xprop.proofs.Picks.{misses_all}
 use Rattle.check_xprop.proofs.Processes.{slice_there}
 use Rattle.check_xprop.proofs.selects.select_range.Goals as goal
 
-pub overflow_cast-p : goal.overflow_cast-p
-overflow_cast-p c =
+pub overflow_cast-process : goal.overflow_cast-process
+overflow_cast-process c =
     let processes = c.args.design.now.processes in
     let count = length-tasks processes.items in
     let limit = c.args.design.now.is_design.process_limit in
