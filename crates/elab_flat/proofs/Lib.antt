@@ -1,4 +1,7 @@
+mod Children
 mod Examples
+mod Items
+mod Keeping
 pub mod Rows
 mod Taking
 -- passed on to the crates above

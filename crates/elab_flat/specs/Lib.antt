@@ -1,3 +1,4 @@
+pub mod Children
 pub mod Flats
 pub mod Held
 pub mod Views

@@ -5,6 +5,7 @@ ghost use Rattle.std.specs.List.{flat_map, slice_get};
 ghost use Rattle.elab_walk.specs.Placements.{instance_of, region, regions_at, signals_at};
 ghost use Rattle.elab_walk.specs.Trails.{AreDeclared, IsDeclared, placement};
 ghost use Rattle.elab_walk.specs.Visits.{library};
+ghost use Rattle.elab_flat.specs.Children.{HaveChildren};
 ghost use Rattle.elab_flat.specs.Flats.{flat_of};
 ghost use Rattle.elab_flat.specs.Views.{flat, works};
 ghost use Rattle.elab_flat.specs.Works.{no_works, with_placements};
@@ -118,6 +119,8 @@ impl Contents {
         requires inside { place < length placements.now }
         requires declared { IfSome (slice_get (map placement placements.now) place)
             (λ at. IsDeclared at.visit declared) }
+        requires others { AreDeclared placements.now }
+        requires held { HaveChildren (library all) (map placement placements.now) }
         ensures signals { let seen = map placement placements.now in OnOk result
             (self.new.signals.items ++ flat_map signals_at (drop (place + 1) seen)
             ≡ self.old.signals.items ++ flat_map signals_at (drop place seen)) }
@@ -139,7 +142,8 @@ fn contents_of(
     all: Library<'_>,
     placements: &mut [Placement<'_>],
 ) -> Result<Contents, Memory>
-    requires { AreDeclared placements.old }
+    requires declared { AreDeclared placements.old }
+    requires held { HaveChildren (library all) (map placement placements.old) }
     ensures signals { IfOk result (λ made. made.signals.items
         ≡ flat_map signals_at (map placement placements.old)) }
     ensures works { IfOk result (λ made. works made.works
@@ -199,13 +203,15 @@ fn regions_of(alloc: Global, placements: &[Placement<'_>]) -> Result<Vec<Dropped
     Ok(made)
 }
 
-/// The design of these instances. What they declare is taken from them.
+/// The design of these instances, where those right under each are the ones that its items place. What they declare is
+/// taken from them.
 pub fn flat_of(
     alloc: Global,
     all: Library<'_>,
     placements: &mut [Placement<'_>],
 ) -> Result<DesignParts, Memory>
-    requires { AreDeclared placements.old }
+    requires declared { AreDeclared placements.old }
+    requires held { HaveChildren (library all) (map placement placements.old) }
     ensures { IfOk result (λ made. flat made
         ≡ flat_of (library all.entry) (map placement placements.old)) }
 {

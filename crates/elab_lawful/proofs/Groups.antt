@@ -27,7 +27,7 @@ use Rattle.elab_flat.specs.elab_links.Connections.{instantiation_faults, instant
 use Rattle.elab_flat.specs.elab_links.Groups.{Group, found_group, group_at}
 use Rattle.elab_flat.specs.elab_links.Instances.{depth_faults, found_faults, known_child_faults, link_faults, loop_faults}
 use Rattle.elab_flat.specs.elab_links.Modules.{circuit_at}
-use Rattle.elab_flat.specs.elab_links.Parameters.{parameter_faults, settable, settings_by}
+use Rattle.elab_flat.specs.elab_links.Parameters.{parameter_faults, settable}
 use Rattle.elab_flat.specs.elab_links.Ports.{Sockets, sockets_of}
 use Rattle.elab_flat.specs.elab_parts.Items.{item_places, item_steps}
 use Rattle.elab_flat.specs.elab_parts.Tasks.{item_tasks}
@@ -41,7 +41,7 @@ use Rattle.elab_lawful.proofs.Links.{AreSides, links_lawful}
 use Rattle.elab_lawful.proofs.Parts.{item_lawful}
 use Rattle.elab_lawful.proofs.Scopes.{AreLinks}
 use Rattle.elab_lawful.proofs.Tasks.{AreTasks, more_tasks, no_tasks, tasks_weaker}
-use Rattle.elab_lawful.proofs.Trees.{visit_of}
+use Rattle.elab_lawful.proofs.Trees.{group_with, visit_of}
 
 abbrev pub base_of : Placement → ℕ
 base_of placement = placement.base
@@ -99,11 +99,6 @@ less_deep way child h =
       | inl yes' ↦ grind (arith, nat_tests)
       | inr no' ↦ absurd (no_cons (fault child.at TooLarge) [] (rw no' at h))
     ]
-
--- instances whose module is this
-abbrev group_with : Meanings → Place → Circuit → Association → List Instantiation → Group
-group_with scope place c parameters instantiations =
-    record { place = place; circuit = c; settings = settings_by (settable (declarations c)) scope parameters; instantiations = instantiations }
 
 at_lawful : (placement : Placement) (signals : List Signal) (count : ℕ) (kids : List Placement) (rest : List Visit) (holder : Holder) (child : Identifier) (place : Place) (c : Option Circuit) (parameters : Association) (instantiations : List Instantiation) → IsHolder placement signals count kids → (length placement.visit.way < 32 → map visit_of kids ≡ placed_children holder child.at (group_at (scope_in placement.visit) place c parameters instantiations) instantiations ++ rest) → known_child_faults placement.visit.way (scope_in placement.visit) child c parameters instantiations ≡ [] → AreTasks signals count (length (instantiation_places instantiations)) 0 (group_tasks placement (map base_of kids) (group_at (scope_in placement.visit) place c parameters instantiations))
 at_lawful placement signals count kids rest holder child place None parameters instantiations all are h =

@@ -1,14 +1,25 @@
 -- The instances of a design are a tree in preorder: those right under one are its children.
 use Rattle.std.specs.Prelude.{ℕ, zero, suc, ◌+◌, ◌≤◌, ◌<◌, ◌==◌, nat_lt, cond, Bool, true, false, List, [], ◌∷◌, ◌++◌, length, map, Option, None, Some}
 use Rattle.std.specs.List.{flat_map}
-use Rattle.std.proofs.Common.{◌≡◌, ◌∙◌, ap, refl, sym, subst, arith, append_assoc, append-nil, length-append}
+use Rattle.std.proofs.Common.{◌≡◌, ◌∙◌, ap, refl, sym, subst, arith, append_assoc, append-nil, inl, inr, length-append}
+use Rattle.std.proofs.lemmas.Bool.{cases_Bool}
 use Rattle.std.proofs.lemmas.Bool.Decides.{nat_tests}
-use Rattle.rtl_tree.specs.TreeItem.{ModuleItem, Ports, Nets, Variables, Integers, Parameters, Drives, Always, Instances, Instantiation}
+use Rattle.std.proofs.lemmas.List.{map-append}
+use Rattle.rtl_tree.specs.TreeItem.{Association, ModuleItem, Ports, Nets, Variables, Integers, Parameters, Drives, Always, Instances, Instantiation}
+use Rattle.rtl_tree.specs.TreeModule.{Circuit}
 use Rattle.rtl_flat.specs.WellFormed.{IsHierarchy, IsUnder}
-use Rattle.elab_flat.specs.elab_items.Scopes.{listings_of}
-use Rattle.elab_flat.specs.elab_links.Groups.{Group, group_of}
+use Rattle.elab_laws.specs.elab_scope.Names.{Meanings}
+use Rattle.elab_flat.specs.elab_items.Declarations.{declarations}
+use Rattle.elab_flat.specs.elab_items.Scopes.{listings_of, scope_of}
+use Rattle.elab_flat.specs.elab_links.declared.module_set.Lookup.{Lookup}
+use Rattle.elab_flat.specs.elab_links.declared.module_set.Lookup.TheVariants.{Missing, Found, Twice}
+use Rattle.elab_flat.specs.elab_links.declared.module_set.Place.{Place}
+use Rattle.elab_flat.specs.elab_links.Groups.{Group, found_group, group_at, group_of}
+use Rattle.elab_flat.specs.elab_links.Modules.{circuit_at}
+use Rattle.elab_flat.specs.elab_links.Parameters.{settable, settings_by}
 use Rattle.elab_flat.specs.elab_walk.Placements.{Placement, instance_of, placements}
-use Rattle.elab_flat.specs.elab_walk.Visits.{Holder, Library, Visit, child_of, children, holder_of, item_children, placed_children, visits}
+use Rattle.elab_flat.specs.elab_walk.Visits.{Holder, Library, Visit, all_visits, child_of, children, holder_of, item_children, placed_children, scope_in, visits}
+use Rattle.elab_flat.specs.Children.{HasChildren, HaveChildren, group_scopes, placed_scopes, scopes_of}
 use Rattle.elab_flat.specs.Held.{held_under}
 
 abbrev pub depth_in : Visit → ℕ
@@ -158,11 +169,21 @@ held_kids library zero d kids rest some h low = absurd (omega arith)
 held_kids library (suc k) d kids rest some h low =
     children_held library k d kids rest h ∙ (ap (λ vs. kids ++ vs) (low_ends d rest low) ∙ append-nil kids)
 
--- of each instance in a row those right under it are its children, where they may be there
+-- behind the deepest instance none is right under it
+none_held : (library : Library) (k d : ℕ) (kids rest : List Visit) → k ≡ 0 → IsLow d rest → held_visits d (flat_map (visits library k) kids ++ rest) ≡ []
+none_held library zero d [] rest is low = low_ends d rest low
+none_held library zero d (kid ∷ kids) rest is low = none_held library zero d kids rest is low
+none_held library (suc k) d kids rest is low = absurd (omega arith)
+
+-- those right under an instance are its children, where they may be there, and else none
+pub record HoldsChildren (library : Library) (v : Visit) (others : List Visit) : Type 0 where
+  pub held : depth_in v < 32 → held_visits (depth_in v) others ≡ children_of library v
+  pub none : 32 ≤ depth_in v → held_visits (depth_in v) others ≡ []
+
+-- so of each instance in a row
 abbrev pub AreHolders : Library → List Visit → Type 0
 AreHolders library [] = Unit {0}
-AreHolders library (v ∷ others) =
-    (depth_in v < 32 → held_visits (depth_in v) others ≡ children_of library v) × AreHolders library others
+AreHolders library (v ∷ others) = HoldsChildren library v others × AreHolders library others
 
 all_hold : (library : Library) (k d : ℕ) (one : (v : Visit) (rest : List Visit) → depth_in v ≡ d → IsLow d rest → AreHolders library rest → AreHolders library (visits library k v ++ rest)) (kids rest : List Visit) → AreAt d kids → IsLow d rest → AreHolders library rest → AreHolders library (flat_map (visits library k) kids ++ rest)
 all_hold library k d one [] rest at low h = h
@@ -179,13 +200,93 @@ one_holds library (suc k) d sum v rest at low h =
     let next : d + 1 + k ≡ 33 = omega arith in
     let kids_at : AreAt (d + 1) kids =
     subst (λ e. AreAt (e + 1) kids) at (children_at library (holder_of v) v.circuit.items) in (
-      λ less. held_kids library k (depth_in v) kids rest (omega arith) (children_at library (holder_of v) v.circuit.items) lower,
+      record {
+        held = λ less. held_kids library k (depth_in v) kids rest (omega arith) (children_at library (holder_of v) v.circuit.items) lower;
+        none = λ deepest. none_held library k (depth_in v) kids rest (omega arith) lower;
+      },
       all_hold library k (d + 1) (one_holds library k (d + 1) next) kids rest kids_at (low_more d rest low) h,
     )
 
 pub holders : (library : Library) (v : Visit) → depth_in v ≡ 1 → AreHolders library (visits library 32 v)
 holders library v at =
     subst (AreHolders library) (append-nil (visits library 32 v)) (one_holds library 32 1 (omega arith) v [] at tt tt)
+
+-- ---- what names stand for in children
+
+none_scopes : (holder : Holder) (at : ℕ) (instantiations : List Instantiation) → map scope_in (placed_children holder at None instantiations) ≡ []
+none_scopes holder at [] = refl
+none_scopes holder at (first ∷ others) = none_scopes holder at others
+
+all_scopes : (holder : Holder) (at : ℕ) (group : Group) (instantiations : List Instantiation) → map scope_in (placed_children holder at (Some group) instantiations) ≡ map (λ instantiation. scope_of group.settings group.circuit) instantiations
+all_scopes holder at group [] = refl
+all_scopes holder at group (first ∷ others) =
+    ap (λ scopes. scope_of group.settings group.circuit ∷ scopes) (all_scopes holder at group others)
+
+-- instances whose module is this
+abbrev pub group_with : Meanings → Place → Circuit → Association → List Instantiation → Group
+group_with scope place c parameters instantiations =
+    record { place = place; circuit = c; settings = settings_by (settable (declarations c)) scope parameters; instantiations = instantiations }
+
+at_scopes : (holder : Holder) (at : ℕ) (scope : Meanings) (place : Place) (c : Option Circuit) (parameters : Association) (instantiations : List Instantiation) → map scope_in (placed_children holder at (group_at scope place c parameters instantiations) instantiations) ≡ group_scopes (group_at scope place c parameters instantiations)
+at_scopes holder at scope place None parameters instantiations = none_scopes holder at instantiations
+at_scopes holder at scope place (Some c) parameters instantiations =
+    all_scopes holder at (group_with scope place c parameters instantiations) instantiations
+
+found_scopes : (holder : Holder) (at : ℕ) (files : List (List Circuit)) (scope : Meanings) (lookup : Lookup) (parameters : Association) (instantiations : List Instantiation) → map scope_in (placed_children holder at (found_group files scope lookup parameters instantiations) instantiations) ≡ group_scopes (found_group files scope lookup parameters instantiations)
+found_scopes holder at files scope Missing parameters instantiations = none_scopes holder at instantiations
+found_scopes holder at files scope Twice parameters instantiations = none_scopes holder at instantiations
+found_scopes holder at files scope (Found place) parameters instantiations =
+    at_scopes holder at scope place (circuit_at files place) parameters instantiations
+
+item_scopes : (library : Library) (holder : Holder) (item : ModuleItem) → map scope_in (item_children library holder item) ≡ group_scopes (group_of library.lookups library.files holder.scope item)
+item_scopes library holder (Ports head names) = refl
+item_scopes library holder (Nets at signed bounds nets) = refl
+item_scopes library holder (Variables at signed bounds variables) = refl
+item_scopes library holder (Integers at names) = refl
+item_scopes library holder (Parameters at kind bounds values) = refl
+item_scopes library holder (Drives at pause drives) = refl
+item_scopes library holder (Always at sensitivity body) = refl
+item_scopes library holder (Instances child parameters instantiations) =
+    found_scopes holder child.at library.files holder.scope (library.lookups child.text) parameters instantiations
+
+children_scopes : (library : Library) (holder : Holder) (items : List ModuleItem) → map scope_in (children library holder items) ≡ placed_scopes library holder.scope items
+children_scopes library holder [] = refl
+children_scopes library holder (first ∷ others) =
+    map-append scope_in (item_children library holder first) (children library holder others)
+    ∙ ap (λ scopes. scopes ++ map scope_in (children library holder others)) (item_scopes library holder first)
+    ∙ ap (λ scopes. group_scopes (group_of library.lookups library.files holder.scope first) ++ scopes) (children_scopes library holder others)
+
+held_scopes : (held : List Placement) → scopes_of held ≡ map scope_in (map visit_of held)
+held_scopes [] = refl
+held_scopes (first ∷ others) = ap (λ scopes. scope_in first.visit ∷ scopes) (held_scopes others)
+
+-- names stand in those right under an instance for what they do in the first that it places
+has_children : (library : Library) (number base : ℕ) (v : Visit) (others : List Visit) → HoldsChildren library v others → HasChildren library (record { visit = v; number = number; base = base }) (placements (number + 1) (behind_first v base) others)
+has_children library number base v others h =
+    let held : List Placement = held_under (depth_in v) (placements (number + 1) (behind_first v base) others) in
+    let placed : List Meanings = placed_scopes library (scope_in v) v.circuit.items in
+    let are : scopes_of held ≡ map scope_in (held_visits (depth_in v) others) =
+    held_scopes held ∙ ap (map scope_in) (held_are (depth_in v) (number + 1) (behind_first v base) others) in
+    elim (cases_Bool (nat_lt (depth_in v) 32)) [
+      | inl yes' ↦
+          let less : depth_in v < 32 = grind (arith, nat_tests) in
+          let all : scopes_of held ≡ placed =
+          are ∙ (ap (map scope_in) (h.held less) ∙ children_scopes library (holder_of v) v.circuit.items) in
+          ([], sym (append-nil (scopes_of held) ∙ all))
+      | inr no' ↦
+          let deep : 32 ≤ depth_in v = grind (arith, nat_tests) in
+          let none : scopes_of held ≡ [] = are ∙ ap (map scope_in) (h.none deep) in
+          (placed, sym (ap (λ scopes. scopes ++ placed) none))
+    ]
+
+have_children : (library : Library) (number base : ℕ) (vs : List Visit) → AreHolders library vs → HaveChildren library (placements number base vs)
+have_children library number base [] h = tt
+have_children library number base (v ∷ others) h =
+    (has_children library number base v others h.0, have_children library (number + 1) (behind_first v base) others h.1)
+
+pub all_have_children : (library : Library) (v : Visit) → depth_in v ≡ 1 → HaveChildren library (placements 0 0 (all_visits library v))
+unfolding all_visits
+all_have_children library v at = have_children library 0 0 (visits library 32 v) (holders library v at)
 
 -- ---- the hierarchy
 

@@ -204,6 +204,6 @@ placements_within library signals count n b room (v ∷ vs) works inside are fit
     let few = limit room.left.statements room.left.delays room.left.nodes (visit_steps library v) clean.0.steps in
     let placement : Placement = record { visit = v; number = n; base = b } in
     let next : Works = with_placement library works placement (placements (n + 1) (behind_first v b) vs) in
-    let more = placement_more library signals count n b v vs works (omega arith) are.0 fits few.0 w in
+    let more = placement_more library signals count n b v vs works (omega arith) are.0.held fits few.0 w in
     let less : n + 1 + length vs ≤ count = omega arith in
     placements_within library signals count (n + 1) (behind_first v b) (room_after library room v) vs next less are.1 fits.1 clean.1 (more_room library signals count room v works next clean.0 has more) more.lawful

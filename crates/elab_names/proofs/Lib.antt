@@ -4,6 +4,7 @@ pub mod Asking
 mod Example
 mod Extracting
 mod Finding
+mod Holding
 mod Making
 mod Mapping
 mod Moving

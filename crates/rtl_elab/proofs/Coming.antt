@@ -1,6 +1,6 @@
 -- Where nothing is told, the walk comes to all instances, and the design is made of them.
 use Rattle.std.specs.Prelude.{ℕ, ◌≡◌, List, Option, None, Some, Ok}
-use Rattle.std.proofs.Common.{◌∙◌, ap, refl, sym}
+use Rattle.std.proofs.Common.{◌∙◌, ap, refl, subst, sym}
 use Rattle.rtl_tree.specs.TreeModule.{Circuit}
 use Rattle.elab_lawful.specs.elab_scope.Faults.{Answer}
 use Rattle.elab_lawful.specs.elab_links.declared.module_set.Lookup.{Lookup}
@@ -12,7 +12,9 @@ use Rattle.elab_lawful.specs.elab_walk.Rooms.{whole_room}
 use Rattle.elab_lawful.specs.elab_walk.Placements.{placements}
 use Rattle.elab_lawful.specs.elab_walk.Visits.{Library, Visit, all_visits, top_visit}
 use Rattle.elab_lawful.proofs.elab_walk_proofs.Ending.{all_come_to}
+use Rattle.elab_lawful.specs.elab_flat.Children.{HaveChildren}
 use Rattle.elab_lawful.specs.elab_flat.Flats.{DesignParts, flat_of}
+use Rattle.elab_lawful.proofs.Trees.{all_have_children}
 use Rattle.rtl_elab.specs.Elaborated.{decided, elaborated, elaborated_at, elaborated_found, refused, visited, visited_found, visited_from}
 
 -- ---- what is told
@@ -45,3 +47,23 @@ found_made library top (Found place) is = at_made library top place (circuit_at 
 -- a top of which nothing is told has the design of the instances to which the walk comes
 pub elaborated_made : (library : Library) (top : List ℕ) → refused (elaborated library top) ≡ None → elaborated library top ≡ Ok (flat_of library (placements 0 0 (visited library top)))
 elaborated_made library top is = found_made library top (library.lookups top) is
+
+-- ---- the children of its instances
+
+at_held : (library : Library) (top : List ℕ) (place : Place) (circuit : Option Circuit) → refused (elaborated_at library top place circuit) ≡ None → HaveChildren library (placements 0 0 (visited_from library place circuit))
+at_held library top place None is = tt
+at_held library top place (Some circuit) is =
+    let v = top_visit place circuit in
+    let all = all_visits library v in
+    let nothing : refusal library whole_room all ≡ None
+    = sym (refused_decided (refusal library whole_room all) (flat_of library (placements 0 0 all))) ∙ is in
+    subst (λ (vs : List Visit). HaveChildren library (placements 0 0 vs)) (sym (all_come_to library whole_room all nothing)) (all_have_children library v refl)
+
+found_held : (library : Library) (top : List ℕ) (lookup : Lookup) → refused (elaborated_found library top lookup) ≡ None → HaveChildren library (placements 0 0 (visited_found library lookup))
+found_held library top Missing is = tt
+found_held library top Twice is = tt
+found_held library top (Found place) is = at_held library top place (circuit_at library.files place) is
+
+-- a top of which nothing is told has right under each instance its children
+pub elaborated_held : (library : Library) (top : List ℕ) → refused (elaborated library top) ≡ None → HaveChildren library (placements 0 0 (visited library top))
+elaborated_held library top is = found_held library top (library.lookups top) is

@@ -8,6 +8,7 @@ use Rattle.elab_walk.specs.elab_items.declared.roster.Roster.{Roster}
 use Rattle.elab_walk.specs.Placements.{Placement, signals_at}
 use Rattle.elab_walk.specs.Trails.{IsDeclared, placement}
 use Rattle.elab_walk.specs.Visits.{library, visit}
+use Rattle.elab_flat.specs.Children.{HaveChildren}
 use Rattle.elab_flat.specs.Views.{works}
 use Rattle.elab_flat.specs.Works.{with_placements}
 use Rattle.elab_flat.proofs.Taking.{to_read}
@@ -19,6 +20,16 @@ add-requires-clause-declared c =
     let inside : c.loop-place.place < length made = omega (arith, c.loop-place.auto.placements, c.loop-place-test.true) in
     let same = map-set_same placement made c.loop-place.place c.take_declared.new.at c.index-placements-place.result c.in_ok-declared.ensures.same in
     subst (λ (seen : List Placement). IfSome (slice_get seen c.loop-place.place) (λ at. IsDeclared at.visit c.in_ok-declared.declared)) (sym same) (to_read (λ at. IsDeclared at.visit c.in_ok-declared.declared) made c.loop-place.place c.index-placements-place.result inside c.in_ok-declared.ensures.declared)
+
+pub add-requires-clause-others : goal.add-requires-clause-others
+add-requires-clause-others c =
+    let none : IfSome c.take_declared.new.at.declared (IsDeclared (visit c.take_declared.new.at.visit)) = subst (λ (o : Option Roster). IfSome o (IsDeclared (visit c.take_declared.new.at.visit))) (sym c.in_ok-declared.ensures.taken) tt in
+    All-set (λ (made : Made). IfSome made.declared (IsDeclared (visit made.visit))) c.loop-place.placements c.loop-place.place c.take_declared.new.at none c.loop-place.invariant.declared
+
+pub add-requires-clause-held : goal.add-requires-clause-held
+add-requires-clause-held c =
+    let kept = map-set_same placement c.loop-place.placements c.loop-place.place c.take_declared.new.at c.index-placements-place.result c.in_ok-declared.ensures.same in
+    subst (HaveChildren (library c.args.all)) (sym (kept ∙ c.loop-place.invariant.same)) c.requires.held
 
 pub loop-place-preserved : goal.loop-place-preserved
 loop-place-preserved c =

@@ -18,17 +18,29 @@ use Rattle.elab_names.specs.Moves.{moved_answer, moved_look_up, moved_placement}
 use Rattle.elab_names.proofs.Extracting.{looked_up_same}
 use Rattle.elab_names.proofs.Finding.{all_found, all_look_ups, used_there}
 use Rattle.rtl_elab.proofs.Deciding.{elaborated_lawful}
+use Rattle.elab_names.proofs.Holding.{held_there}
 use Rattle.elab_names.proofs.Making.{made_there, moved_back, refused_there}
 use Rattle.elab_names.proofs.design.elaborate_in.Goals as goal
 use Rattle.elab_names.proofs.design.elaborate_in.Goals.{in-Some+in_ok-moved_fault-in-Some, in-None+in_ok-move_placements-in-None+in_ok-flat_of-in-None}
 
-pub flat_of-requires : goal.flat_of-requires
-flat_of-requires c =
+pub flat_of-requires-clause-declared : goal.flat_of-requires-clause-declared
+flat_of-requires-clause-declared c =
     let before = c.deref_mut-in-None.result.now in
     let new = c.move_placements.new.placements in
     let given : AreDeclared before = subst AreDeclared (sym c.deref_mut-in-None.ensures.value) c.in_ok-placements.ensures.declared in
     let shown = c.deref_mut-in-None-2.ensures.value ∙ take_at new (drop (length new) c.in_ok-placements.field-0.placements.items) c.in_ok-placements.field-0.placements.len (c.move_placements.auto.placements ∙ c.deref_mut-in-None.ensures.len) in
     subst AreDeclared (sym shown) (c.in_ok-move_placements-in-None.ensures.declared given)
+
+pub flat_of-requires-clause-held : goal.flat_of-requires-clause-held
+flat_of-requires-clause-held c =
+    let all = library c.args.all in
+    let top = c.args.top.now in
+    let numbers = c.in_ok-files.files.items in
+    let come : map placement c.deref.result.now ≡ placements 0 0 (visited all top) = cc (c.in_ok-placements.ensures.visited, c.deref.ensures.value) in
+    let nothing : None ≡ refused (elaborated all top) = sym (ap (option_map answer) c.in-None.is) ∙ c.in_ok-placements.ensures.told in
+    let new = c.move_placements.new.placements in
+    let moved = moved_back numbers c.deref-in-None.result.now c.deref.result.now c.deref_mut-in-None.result.now new c.deref_mut-in-None-2.result.now (drop (length new) c.in_ok-placements.field-0.placements.items) c.in_ok-placements.field-0.placements.len (c.deref_mut-in-None.ensures.value ∙ sym c.deref.ensures.value) c.deref-in-None.ensures.value c.in_ok-move_placements-in-None.ensures.moved (c.move_placements.auto.placements ∙ c.deref_mut-in-None.ensures.len) c.deref_mut-in-None-2.ensures.value in
+    held_there all top (place_in numbers) (map placement c.deref.result.now) (map placement c.deref_mut-in-None-2.result.now) nothing come moved
 
 pub design_of-requires : goal.design_of-requires
 design_of-requires c =
