@@ -18,6 +18,7 @@ use Rattle.rtl_flat.specs.Signs.{width_in}
 use Rattle.rtl_flat.specs.Value.{value}
 use Rattle.rtl_flat.specs.WellFormed.{AreBranches, IsAction, IsAssignment, IsBody, IsOtherwise}
 use Rattle.rtl_flat.proofs.Flows.{some_action}
+use Rattle.rtl_flat.proofs.Outside.{some_of}
 use Rattle.event_model.specs.Bodies.{Made, after_made, assigned, body_made, branches_made, made, other_made, some_matches}
 use Rattle.event_model.specs.Queue.{Flat, widths}
 use Rattle.event_model.specs.Traces.{body_trace, branches_trace, other_trace, trace}
@@ -48,11 +49,6 @@ abbrev pub set_made : (ℕ → ℕ) → Values → List Piece → Tree → Bool 
 set_made ws v target e delayed = assigned delayed (writes ws v target (value v e))
 
 -- ---- a test that passes on the steps of a run passes in the body
-
--- whether a test passes in a way that may be left out
-abbrev pub some_of : (Step → Bool) → Option Flow → Bool
-some_of f None = false
-some_of f (Some way) = some f way
 
 module _ (f : Step → Bool) (ws : ℕ → ℕ) where
   -- the way that takes no item is among the ways

@@ -12,8 +12,9 @@ use Rattle.rtl_flat.specs.Process.{Piece, Selection, Whole, BitAt, BitBy, Part, 
 use Rattle.rtl_flat.specs.Signs.{Has, width_in}
 use Rattle.rtl_flat.specs.WellFormed.{AreBranches, IsAction, IsAssignment, IsBody, IsOtherwise}
 use Rattle.rtl_flat.proofs.Flows.{some_action}
+use Rattle.rtl_flat.proofs.Outside.{some_of}
 use Rattle.rtl_flat.proofs.Paths.{decided}
-use Rattle.event_laws.proofs.Traced.{append_right, set_step, some_of}
+use Rattle.event_laws.proofs.Traced.{append_right, set_step}
 
 -- ---- bits that are read or written lie inside their signals
 

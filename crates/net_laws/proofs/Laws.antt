@@ -7,6 +7,7 @@ use Rattle.rtl_flat.specs.Flows.{body_flow}
 use Rattle.rtl_flat.specs.Paths.{may_write_delayed, reads_bit}
 use Rattle.rtl_flat.specs.Process.{Actions}
 use Rattle.rtl_flat.specs.WellFormed.{IsBody}
+use Rattle.rtl_flat.proofs.Outside.{read_or_written}
 use Rattle.rtl_flat.proofs.Paths.{decided}
 use Rattle.event_model.specs.Bodies.{after_made, body_made}
 use Rattle.event_model.specs.Queue.{Flat, widths}
@@ -37,7 +38,6 @@ use Rattle.net_laws.proofs.Numeric.{body_numeric, numeric_bit}
 use Rattle.net_laws.proofs.Parts.{Gives}
 use Rattle.net_laws.proofs.Alike.{last_alike}
 use Rattle.net_laws.proofs.Starts.{same_outside, same_own, start_wide}
-use Rattle.net_laws.proofs.Outside.{read_or_written}
 
 pub exact : (d : Flat) → AreExact d
 exact d f v e are lawful firm = exactly.exact d f v are e lawful.widths firm

@@ -15,7 +15,6 @@ pub mod Laws
 pub mod Literals
 pub mod Numbers
 pub mod Numeric
-pub mod Outside
 pub mod Parts
 pub mod Starts
 -- passed on to the crates above

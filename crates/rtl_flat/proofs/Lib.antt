@@ -6,4 +6,5 @@ pub mod Signed
 pub mod Stored
 pub mod Paths
 pub mod Flows
+pub mod Outside
 mod Examples

@@ -14,9 +14,10 @@ use Rattle.rtl_flat.specs.declared.signal.Kind.{Kind}
 use Rattle.rtl_flat.specs.declared.signal.Kind.TheVariants.{TopInput, Net, Var}
 use Rattle.rtl_flat.specs.Signs.{Has, width_in}
 use Rattle.rtl_flat.specs.Process.{Task, task}
-use Rattle.rtl_flat.specs.Paths.{BitSet, Flow, MayWriteLate, ReadsOutside, may_write, may_write_delayed, may_read, reads_outside}
+use Rattle.rtl_flat.specs.Paths.{BitSet, Flow, MayWriteLate, ReadsOutside, may_write, may_write_delayed, reads_bit, reads_outside, writes_now}
 use Rattle.rtl_flat.specs.Flows.{flow_of}
 use Rattle.rtl_flat.specs.PathSets.{Writes, Uses, listed, IsTemporary}
+use Rattle.rtl_flat.proofs.Outside.{first_some, read_or_written_by}
 use Rattle.rtl_flat.proofs.Paths.{decided}
 use Rattle.rtl_scan.specs.declared.bits.Row.{Row}
 use Rattle.rtl_scan.specs.declared.scan.Sets.{Sets}
@@ -165,7 +166,7 @@ row_more rows i d inside p found old mid one new others =
     (noted_then (λ s. s == (get_or rows i d).signal.0) (has_row_of (drop (i + 1) rows)) p found old mid new one others)
 
 -- what three lists of rows note of a process
-module _ (ws : ℕ → ℕ) (task : Task) (p : ℕ) (found : Sets) (written read watched : List Row) where
+module _ (ws : ℕ → ℕ) (task : Task) (p : ℕ) (found : Sets) (written outer watched : List Row) where
   abbrev flow : Flow
   flow = flow_of ws task.does
 
@@ -191,32 +192,36 @@ module _ (ws : ℕ → ℕ) (task : Task) (p : ℕ) (found : Sets) (written read
           ],
         )
 
-    module _ (in_order : IsInOrder written) (in_order' : IsInOrder read) (in_order'' : IsInOrder watched) (are_written : (s k : ℕ) → has_rows written s k ≡ may_write flow s k) (are_read : (s k : ℕ) → has_rows read s k ≡ may_read flow s k) (are_watched : (s k : ℕ) → has_rows watched s k ≡ listed ws task.does s k) where
-      used_is : (s : ℕ) → ((has_row_of written s || has_row_of read s) || has_row_of watched s) ≡ true ↔ Uses ws task s
+    module _ (in_order : IsInOrder written) (in_order' : IsInOrder outer) (in_order'' : IsInOrder watched) (are_written : (s k : ℕ) → has_rows written s k ≡ may_write flow s k) (are_outside : (s k : ℕ) → has_rows outer s k ≡ reads_outside flow s k) (are_watched : (s k : ℕ) → has_rows watched s k ≡ listed ws task.does s k) where
+      used_is : (s : ℕ) → ((has_row_of written s || has_row_of outer s) || has_row_of watched s) ≡ true ↔ Uses ws task s
       used_is s =
           let a = rows_are written (may_write flow) in_order are_written s in
-          let b = rows_are read (may_read flow) in_order' are_read s in
+          let b = rows_are outer (reads_outside flow) in_order' are_outside s in
           let c = rows_are watched (listed ws task.does) in_order'' are_watched s in (
-            λ h. elim (or_is (has_row_of written s || has_row_of read s) (has_row_of watched s) h) [
-              | inl front ↦ elim (or_is (has_row_of written s) (has_row_of read s) front) [
+            λ h. elim (or_is (has_row_of written s || has_row_of outer s) (has_row_of watched s) h) [
+              | inl front ↦ elim (or_is (has_row_of written s) (has_row_of outer s) front) [
                 | inl one ↦ let (k, bit) = a.0 one in record { bit = k; used = inl ((decided flow s k).writes.0 bit) }
-                | inr one ↦ let (k, bit) = b.0 one in record { bit = k; used = inr (inl ((decided flow s k).reads.0 bit)) }
+                | inr one ↦ let (k, bit) = b.0 one in record { bit = k; used = inr (inl ((decided flow s k).reads.0 (first_some (reads_bit s k) (writes_now s k) flow bit))) }
               ]
               | inr one ↦ let (k, bit) = c.0 one in record { bit = k; used = inr (inr bit) }
             ],
             λ h. elim h.used [
-              | inl one ↦ or_left (has_row_of written s || has_row_of read s) (has_row_of watched s) (or_left (has_row_of written s) (has_row_of read s) (a.1 (h.bit, (decided flow s h.bit).writes.1 one)))
-              | inr (inl one) ↦ or_left (has_row_of written s || has_row_of read s) (has_row_of watched s) (or_right (has_row_of written s) (has_row_of read s) (b.1 (h.bit, (decided flow s h.bit).reads.1 one)))
-              | inr (inr one) ↦ or_right (has_row_of written s || has_row_of read s) (has_row_of watched s) (c.1 (h.bit, one))
+              | inl one ↦ or_left (has_row_of written s || has_row_of outer s) (has_row_of watched s) (or_left (has_row_of written s) (has_row_of outer s) (a.1 (h.bit, (decided flow s h.bit).writes.1 one)))
+              | inr (inl one) ↦ or_left (has_row_of written s || has_row_of outer s) (has_row_of watched s)
+                  (elim (read_or_written_by ws s h.bit task.does ((decided flow s h.bit).reads.1 one)) [
+                    | inl outside ↦ or_right (has_row_of written s) (has_row_of outer s) (b.1 (h.bit, outside))
+                    | inr writes ↦ or_left (has_row_of written s) (has_row_of outer s) (a.1 (h.bit, writes))
+                  ])
+              | inr (inr one) ↦ or_right (has_row_of written s || has_row_of outer s) (has_row_of watched s) (c.1 (h.bit, one))
             ],
           )
 
-      pub noted_all : (u v x y : List Usage) → AreNoted (has_row_of written) p found u v → AreNoted (has_row_of read) p found v x → AreNoted (has_row_of watched) p found x y → IsNotedIn ws task p u y
+      pub noted_all : (u v x y : List Usage) → AreNoted (has_row_of written) p found u v → AreNoted (has_row_of outer) p found v x → AreNoted (has_row_of watched) p found x y → IsNotedIn ws task p u y
       noted_all u v x y one two three =
-          let all = noted_then (λ s. has_row_of written s || has_row_of read s) (has_row_of watched) p found u x y (noted_then (has_row_of written) (has_row_of read) p found u v x one two) three in record {
+          let all = noted_then (λ s. has_row_of written s || has_row_of outer s) (has_row_of watched) p found u x y (noted_then (has_row_of written) (has_row_of outer) p found u v x one two) three in record {
             same_length = all.same_length;
             each = λ s inside. record {
-              used = (has_row_of written s || has_row_of read s) || has_row_of watched s;
+              used = (has_row_of written s || has_row_of outer s) || has_row_of watched s;
               writes = has_some found.writes.masks s;
               keeps = has_some found.late.masks s || has_some found.reads.masks s;
               is = all.each s inside;

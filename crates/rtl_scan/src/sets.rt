@@ -76,7 +76,7 @@ pub(crate) fn list(alloc: Global, widths: Widths, does: &Does) -> Result<BitSet,
 }
 
 /// The bits that a process reads on some path.
-pub(crate) fn read_anywhere(alloc: Global, widths: Widths, does: &Does) -> Result<BitSet, Memory>
+fn read_anywhere(alloc: Global, widths: Widths, does: &Does) -> Result<BitSet, Memory>
     ensures { IfOk result (λ bits. (s k : ℕ) → has bits.masks s k ≡ may_read (flow_of (width_in widths.entry.signals.now) (doing does.now)) s k) }
 {
     let sets = scan(alloc, widths, does, Counted::Nothing)?;

@@ -3,19 +3,16 @@
 ghost use Rattle.std.specs.Prelude.{ℕ, ◌≡◌, ◌==◌, ◌&&◌, ◌||◌, ◌↔◌, true, map, length, Some, IfOk, OnOk};
 ghost use Rattle.std.specs.List.{slice_get};
 ghost use Rattle.rtl_flat.specs.Signs.{width_in};
-ghost use Rattle.rtl_flat.specs.Flows.{flow_of};
-ghost use Rattle.rtl_flat.specs.Paths.{may_read};
-ghost use Rattle.rtl_flat.specs.PathSets.{IsTemporary, listed};
-ghost use Rattle.rtl_flat.specs.Process.{doing, task};
+ghost use Rattle.rtl_flat.specs.PathSets.{IsTemporary};
+ghost use Rattle.rtl_flat.specs.Process.{task};
 ghost use Rattle.rtl_scan.specs.Accesses.{IsAccess};
-ghost use Rattle.rtl_scan.specs.Sets.{IsInOrder, has, has_rows};
 ghost use Rattle.rtl_scan.specs.Usage as spec;
 
 use crate::bits::{BitSet, Bits, Row};
 use crate::scan::{Counted, Sets};
-use crate::sets::{list, read_anywhere, scan, widths_of};
+use crate::sets::{list, scan, widths_of};
 use crate::spans::Widths;
-use rtl_flat::act::{Does, Listed, Process};
+use rtl_flat::act::Process;
 use rtl_flat::design::Design;
 use rtl_flat::expr::SigId;
 use rtl_flat::signal::{Kind, Signal};
@@ -123,25 +120,6 @@ fn note_rows(usages: &mut [Usage], rows: &[Row], process: usize, found: &Sets)
     }
 }
 
-/// The bits that a process lists, from those that it reads anywhere, which are what `@*` lists.
-fn listed(alloc: Global, widths: Widths, does: &Does, anywhere: &BitSet) -> Result<Bits, Memory>
-    requires { let ws = width_in widths.signals.now in
-        (s k : ℕ) → has anywhere.now.masks s k ≡ may_read (flow_of ws (doing does.now)) s k }
-    ensures bits { let ws = width_in widths.entry.signals.now in
-        IfOk result (λ bits. (s k : ℕ) → has_rows bits.rows.items s k ≡ listed ws (doing does.now) s k) }
-    ensures order { IfOk result (λ bits. IsInOrder bits.rows.items) }
-{
-    if let Does::Comb {
-        list: Listed::Star,
-        body: _,
-    } = does
-    {
-        return anywhere.to_bits(alloc);
-    }
-    let bits = list(alloc, widths, does)?;
-    bits.to_bits(alloc)
-}
-
 /// What a process externally reads, may write and lists.
 #[derive(Drop)]
 pub(crate) struct Access {
@@ -162,13 +140,13 @@ pub(crate) fn note(
     ensures access { IfOk result (IsAccess (width_in widths.entry.signals.now) (task process.now)) }
 {
     let found = scan(alloc, widths, &process.does, Counted::Blocking)?;
-    let anywhere = read_anywhere(alloc, widths, &process.does)?;
     let outside = found.reads.to_bits(alloc)?;
     let written = found.writes.to_bits(alloc)?;
-    let read = anywhere.to_bits(alloc)?;
-    let watched = listed(alloc, widths, &process.does, &anywhere)?;
+    let listed = list(alloc, widths, &process.does)?;
+    let watched = listed.to_bits(alloc)?;
     note_rows(usages, &written.rows, number, &found);
-    note_rows(usages, &read.rows, number, &found);
+    // What is read but not outside is written first, and so among what is written.
+    note_rows(usages, &outside.rows, number, &found);
     note_rows(usages, &watched.rows, number, &found);
     Ok(Access {
         reads: outside,

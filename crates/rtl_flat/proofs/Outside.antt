@@ -1,16 +1,20 @@
--- A bit that a body reads is read outside, or the body may write it.
+-- A bit that a process reads is read outside, or the process may write it.
 use Rattle.std.proofs.Common.{◌≡◌, ◌∙◌, ◌⊎◌, ℕ, Bool, true, false, not, ◌&&◌, ◌||◌, List, [], ◌∷◌, Option, None, Some, sym, inl, inr}
 use Rattle.std.proofs.lemmas.Bool.{and_from, and_parts, cases_Bool, false≢true, not_from_false, or_cases, or_left, or_right}
-use Rattle.rtl_flat.specs.Flows.{action_then, body_flow, is_complete, may_select, may_target, other_flow, selects, targets, way_past, ways}
-use Rattle.rtl_flat.specs.Paths.{Step, Flow, End, Do, Fork, Ways, Last, More, MayWrite, ReadsOutside, every, every_way, first, first_way, may_write_bit, reads_bit, some, some_way, writes_now}
-use Rattle.rtl_flat.specs.Process.{Piece, Selection, Whole, BitAt, BitBy, Part, Action, Set, If, Case, Block, Actions, Done, Then, Otherwise, Without, With, Branches, NoBranch, Branch}
+use Rattle.rtl_flat.specs.Flows.{action_then, body_flow, flow_of, is_complete, may_select, may_target, other_flow, reads, selects, targets, way_past, ways}
+use Rattle.rtl_flat.specs.Paths.{Step, Flow, End, Do, Fork, Ways, Last, More, MayWrite, ReadsOutside, every, every_way, first, first_way, may_read, may_write, may_write_bit, reads_bit, reads_outside, some, some_way, writes_now}
+use Rattle.rtl_flat.specs.Process.{Piece, Selection, Whole, BitAt, BitBy, Part, Action, Set, If, Case, Block, Actions, Done, Then, Otherwise, Without, With, Branches, NoBranch, Branch, Doing, Assign, Comb, Edge'}
 use Rattle.rtl_flat.proofs.Flows.{some_action}
 use Rattle.rtl_flat.proofs.Paths.{decided}
-use Rattle.event_laws.proofs.Traced.{some_of}
 
 or_map : (a b c e : Bool) → (a ≡ true → c ≡ true) → (b ≡ true → e ≡ true) → (a || b) ≡ true → (c || e) ≡ true
 or_map a b c e left right h =
     elim (or_cases a b h) [ inl here ↦ or_left c e (left here) | inr there ↦ or_right c e (right there) ]
+
+-- whether a test passes in a way that may be left out
+abbrev pub some_of : (Step → Bool) → Option Flow → Bool
+some_of f None = false
+some_of f (Some way) = some f way
 
 -- ---- flows
 
@@ -138,11 +142,49 @@ module _ (ws : ℕ → ℕ) (i k : ℕ) where
     items_may None inner (Branch labels body others) h =
         items_may (Some (body_flow ws body)) (body_may body) others h
 
+  outside_or_may :
+      (body : Actions) → may_read (body_flow ws body) i k ≡ true →
+      (reads_outside (body_flow ws body) i k ≡ true) ⊎ (may_write (body_flow ws body) i k ≡ true)
+  outside_or_may body h =
+      elim (first_or_other (reads_bit i k) (writes_now i k) (body_flow ws body) h) [
+        | inl outside ↦ inl outside
+        | inr written ↦ inr (body_may body written)
+      ]
+
   pub read_or_written :
-      (body : Actions) → some (reads_bit i k) (body_flow ws body) ≡ true →
+      (body : Actions) → may_read (body_flow ws body) i k ≡ true →
       ReadsOutside (body_flow ws body) i k ⊎ MayWrite (body_flow ws body) i k
   read_or_written body h =
-      elim (first_or_other (reads_bit i k) (writes_now i k) (body_flow ws body) h) [
+      elim (outside_or_may body h) [
         | inl outside ↦ inl ((decided (body_flow ws body) i k).outside.0 outside)
-        | inr written ↦ inr ((decided (body_flow ws body) i k).writes.0 (body_may body written))
+        | inr written ↦ inr ((decided (body_flow ws body) i k).writes.0 written)
       ]
+
+  -- the same of a process, as tests
+  pub read_or_written_by :
+      (does : Doing) → may_read (flow_of ws does) i k ≡ true →
+      (reads_outside (flow_of ws does) i k ≡ true) ⊎ (may_write (flow_of ws does) i k ≡ true)
+  read_or_written_by (Assign target value) h =
+      elim (or_cases (reads ws value i k) false h) [
+        | inl read ↦ inl (or_left (reads ws value i k) _ read)
+        | inr none ↦ absurd (false≢true none)
+      ]
+  read_or_written_by (Comb list body) h = outside_or_may body h
+  read_or_written_by (Edge' events body) h = outside_or_may body h
+
+-- a bit that is read outside is read
+module _ (f g : Step → Bool) where
+  mutual
+    pub first_some : (flow : Flow) → first f g flow ≡ true → some f flow ≡ true
+    first_some End h = h
+    first_some (Do step rest) h =
+        or_map (f step) (not (g step) && first f g rest) (f step) (some f rest) (λ is. is)
+        (λ later. first_some rest (and_parts (not (g step)) (first f g rest) later).1) h
+    first_some (Fork all rest) h =
+        or_map (first_way f g all) (not (every_way g all) && first f g rest) (some_way f all) (some f rest) (first_some_way all)
+        (λ later. first_some rest (and_parts (not (every_way g all)) (first f g rest) later).1) h
+
+    first_some_way : (all : Ways) → first_way f g all ≡ true → some_way f all ≡ true
+    first_some_way (Last flow) h = first_some flow h
+    first_some_way (More flow others) h =
+        or_map (first f g flow) (first_way f g others) (some f flow) (some_way f others) (first_some flow) (first_some_way others) h
