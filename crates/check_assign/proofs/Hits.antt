@@ -1,7 +1,6 @@
 -- Rows of bits as tests of signals.
 use Rattle.std.proofs.Common.{ℕ, ◌≡◌, ◌∙◌, ◌<◌, Bool, true, false, not, ◌&&◌, List, [], ◌∷◌, refl, sym, ap, subst, inl, inr}
 use Rattle.std.specs.Prelude.{◌==◌, bit_and, bit_xor}
-use Rattle.std.specs.BTreeMap.{BTreeMap}
 use Rattle.std.proofs.lemmas.Bool.{and_from, and_parts, and_right, eq-eqb, eqb-true, false≢true, not_from_false, not_from_true, or_cases, or_left, or_right}
 use Rattle.rtl_bits.specs.Bits.{is_one_at}
 use Rattle.rtl_bits.specs.Digits.{one_at_and}
@@ -11,7 +10,7 @@ use Rattle.rtl_flat.specs.Process.{Selection}
 use Rattle.rtl_flat.specs.Process as part
 use Rattle.rtl_rule.specs.Parts.{has_some}
 use Rattle.check_graph.specs.rtl_scan.declared.bits.Row.{Row}
-use Rattle.check_graph.specs.rtl_scan.Sets.{has, has_row, has_rows, mask_of}
+use Rattle.check_graph.specs.rtl_scan.Sets.{has_row, has_rows}
 use Rattle.check_graph.proofs.rtl_scan_proofs.Masks.{without_is}
 use Rattle.check_graph.proofs.rtl_scan_proofs.Users.{some_bit_is}
 use Rattle.check_graph.proofs.check_found_proofs.Inside.{IsInside}
@@ -102,32 +101,32 @@ module _ (mask : Row → ℕ) (inside : BitSet) (is : (row : Row) (k : ℕ) → 
       let (bit, within) = and_parts (bits s found.number) (inside s found.number) found.is in
       hit_any rows s found.number (same s found.number ∙ bit) within)
 
-pub shares_some : (masks : BTreeMap ℕ ℕ) (ws : ℕ → ℕ) (bits other : BitSet) (rows : List Row) → IsInside ws bits → ((s k : ℕ) → has_rows rows s k ≡ bits s k) → ((s k : ℕ) → has masks s k ≡ other s k) → (s : ℕ) → any_row (shares masks) rows s ≡ has_some ws (λ i k. bits i k && other i k) s
+pub shares_some : (masks : ℕ → ℕ) (ws : ℕ → ℕ) (bits other : BitSet) (rows : List Row) → IsInside ws bits → ((s k : ℕ) → has_rows rows s k ≡ bits s k) → ((s k : ℕ) → is_one_at (masks s) k ≡ other s k) → (s : ℕ) → any_row (shares masks) rows s ≡ has_some ws (λ i k. bits i k && other i k) s
 shares_some masks ws bits other rows below same others s =
-    any_hit_is (λ row. bit_and row.mask (mask_of masks row.signal.0)) (has masks) (λ row k. one_at_and row.mask (mask_of masks row.signal.0) k) ws bits rows below same s
-    ∙ below_same (ws s) (λ k. bits s k && has masks s k) (λ k. bits s k && other s k) (λ k. ap (λ b. bits s k && b) (others s k))
+    any_hit_is (λ row. bit_and row.mask (masks row.signal.0)) (λ i k. is_one_at (masks i) k) (λ row k. one_at_and row.mask (masks row.signal.0) k) ws bits rows below same s
+    ∙ below_same (ws s) (λ k. bits s k && is_one_at (masks s) k) (λ k. bits s k && other s k) (λ k. ap (λ b. bits s k && b) (others s k))
 
-pub leaves_some : (masks : BTreeMap ℕ ℕ) (ws : ℕ → ℕ) (bits other : BitSet) (rows : List Row) → IsInside ws bits → ((s k : ℕ) → has_rows rows s k ≡ bits s k) → ((s k : ℕ) → has masks s k ≡ other s k) → (s : ℕ) → any_row (leaves masks) rows s ≡ has_some ws (λ i k. bits i k && not (other i k)) s
+pub leaves_some : (masks : ℕ → ℕ) (ws : ℕ → ℕ) (bits other : BitSet) (rows : List Row) → IsInside ws bits → ((s k : ℕ) → has_rows rows s k ≡ bits s k) → ((s k : ℕ) → is_one_at (masks s) k ≡ other s k) → (s : ℕ) → any_row (leaves masks) rows s ≡ has_some ws (λ i k. bits i k && not (other i k)) s
 leaves_some masks ws bits other rows below same others s =
-    any_hit_is (λ row. bit_and row.mask (bit_xor row.mask (mask_of masks row.signal.0))) (λ i k. not (has masks i k)) (λ row k. without_is row.mask (mask_of masks row.signal.0) k) ws bits rows below same s
-    ∙ below_same (ws s) (λ k. bits s k && not (has masks s k)) (λ k. bits s k && not (other s k)) (λ k. ap (λ b. bits s k && not b) (others s k))
+    any_hit_is (λ row. bit_and row.mask (bit_xor row.mask (masks row.signal.0))) (λ i k. not (is_one_at (masks i) k)) (λ row k. without_is row.mask (masks row.signal.0) k) ws bits rows below same s
+    ∙ below_same (ws s) (λ k. bits s k && not (is_one_at (masks s) k)) (λ k. bits s k && not (other s k)) (λ k. ap (λ b. bits s k && not b) (others s k))
 
 -- a bit of a whole signal that isn't in a set
-pub whole_leaves : (masks : BTreeMap ℕ ℕ) (ws : ℕ → ℕ) (signal : ℕ) (row : Row) → ((s k : ℕ) → has_row row s k ≡ may_select ws signal part.Whole s k) → leaves masks row ≡ has_some ws (λ s k. not (has masks s k)) signal
-whole_leaves masks ws signal row are = same_truth (leaves masks row) (has_some ws (λ s k. not (has masks s k)) signal) to back
+pub whole_leaves : (masks : ℕ → ℕ) (ws : ℕ → ℕ) (signal : ℕ) (row : Row) → ((s k : ℕ) → has_row row s k ≡ may_select ws signal part.Whole s k) → leaves masks row ≡ has_some ws (λ s k. not (is_one_at (masks s) k)) signal
+whole_leaves masks ws signal row are = same_truth (leaves masks row) (has_some ws (λ s k. not (is_one_at (masks s) k)) signal) to back
   where
-    to : leaves masks row ≡ true → has_some ws (λ s k. not (has masks s k)) signal ≡ true
+    to : leaves masks row ≡ true → has_some ws (λ s k. not (is_one_at (masks s) k)) signal ≡ true
     to h =
-        let (k, one) = (some_bit_is (bit_and row.mask (bit_xor row.mask (mask_of masks row.signal.0)))).0 h in
-        let (bit, out) = and_parts (is_one_at row.mask k) (not (has masks row.signal.0 k)) (sym (without_is row.mask (mask_of masks row.signal.0) k) ∙ one) in
+        let (k, one) = (some_bit_is (bit_and row.mask (bit_xor row.mask (masks row.signal.0)))).0 h in
+        let (bit, out) = and_parts (is_one_at row.mask k) (not (is_one_at (masks row.signal.0) k)) (sym (without_is row.mask (masks row.signal.0) k) ∙ one) in
         let there : may_select ws signal part.Whole row.signal.0 k ≡ true = sym (are row.signal.0 k) ∙ and_from (row.signal.0 == row.signal.0) (is_one_at row.mask k) (eq-eqb row.signal.0 row.signal.0 refl) bit in
         let (its, below) = select_at ws signal part.Whole row.signal.0 k there in
-        some_at (ws signal) (λ j. not (has masks signal j)) k below (subst (λ i. not (has masks i k) ≡ true) its out)
+        some_at (ws signal) (λ j. not (is_one_at (masks signal) j)) k below (subst (λ i. not (is_one_at (masks i) k) ≡ true) its out)
 
-    back : has_some ws (λ s k. not (has masks s k)) signal ≡ true → leaves masks row ≡ true
+    back : has_some ws (λ s k. not (is_one_at (masks s) k)) signal ≡ true → leaves masks row ≡ true
     back h =
-        let found = some_found (ws signal) (λ j. not (has masks signal j)) h in
+        let found = some_found (ws signal) (λ j. not (is_one_at (masks signal) j)) h in
         let k = found.number in
         let (same, bit) = and_parts (signal == row.signal.0) (is_one_at row.mask k) (are signal k ∙ whole_at ws signal k found.below) in
-        let out = subst (λ i. not (has masks i k) ≡ true) (eqb-true signal row.signal.0 same) found.is in
-        (some_bit_is (bit_and row.mask (bit_xor row.mask (mask_of masks row.signal.0)))).1 (k, without_is row.mask (mask_of masks row.signal.0) k ∙ and_from (is_one_at row.mask k) (not (has masks row.signal.0 k)) bit out)
+        let out = subst (λ i. not (is_one_at (masks i) k) ≡ true) (eqb-true signal row.signal.0 same) found.is in
+        (some_bit_is (bit_and row.mask (bit_xor row.mask (masks row.signal.0)))).1 (k, without_is row.mask (masks row.signal.0) k ∙ and_from (is_one_at row.mask k) (not (is_one_at (masks row.signal.0) k)) bit out)

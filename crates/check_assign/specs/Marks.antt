@@ -5,7 +5,7 @@ use Rattle.std.specs.List.{filter, filter_map, list_any}
 use Rattle.std.specs.List.Sorted.{IsStrictlySortedBy}
 use Rattle.std.specs.Map.{lookup}
 use Rattle.std.specs.Ordering.{nat_cmp}
-use Rattle.std.specs.BTreeMap.{BTreeMap, get, is_at}
+use Rattle.std.specs.BTreeMap.{get, is_at}
 use Rattle.rtl_tree.specs.declared.text.Spot.{Spot}
 use Rattle.rtl_flat.specs.Expression.{Tree}
 use Rattle.rtl_flat.specs.Flows.{may_select, may_target}
@@ -14,7 +14,6 @@ use Rattle.rtl_rule.specs.declared.finding.Finding.{Finding}
 use Rattle.rtl_rule.specs.declared.rule.Rule.{Rule}
 use Rattle.rtl_rule.specs.Parts.{has_some, is_earlier, is_literal_with, is_z, number, place_of, spot_if}
 use Rattle.check_graph.specs.rtl_scan.declared.bits.Row.{Row}
-use Rattle.check_graph.specs.rtl_scan.Sets.{mask_of}
 use Rattle.check_assign.specs.declared.marks.Among.{Among}
 use Rattle.check_assign.specs.declared.marks.Among.TheVariants.{All, Kept, Marked}
 
@@ -76,13 +75,13 @@ pub record Shows (rule : Rule) (instance : ℕ) (marks : ℕ → Option Spot) (o
 
 -- ---- rows
 
--- whether a bit of a row is in a set
-abbrev pub shares : BTreeMap ℕ ℕ → Row → Bool
-shares masks row = not (bit_and row.mask (mask_of masks row.signal.0) == 0)
+-- whether a bit of a row is in a set, given by the mask of each signal
+abbrev pub shares : (ℕ → ℕ) → Row → Bool
+shares masks row = not (bit_and row.mask (masks row.signal.0) == 0)
 
 -- whether a bit of a row isn't
-abbrev pub leaves : BTreeMap ℕ ℕ → Row → Bool
-leaves masks row = not (bit_and row.mask (bit_xor row.mask (mask_of masks row.signal.0)) == 0)
+abbrev pub leaves : (ℕ → ℕ) → Row → Bool
+leaves masks row = not (bit_and row.mask (bit_xor row.mask (masks row.signal.0)) == 0)
 
 -- whether some row of a signal passes a test
 abbrev pub any_row : (Row → Bool) → List Row → ℕ → Bool

@@ -6,14 +6,14 @@ ghost use Rattle.std.specs.Ordering.{nat_cmp};
 ghost use Rattle.std.specs.BTreeMap.{get};
 ghost use Rattle.rtl_flat.specs.Process.{Task};
 ghost use Rattle.rtl_rule.specs.Parts.{has_some, parts, widths, written};
-ghost use Rattle.check_graph.specs.rtl_scan.Sets.{has};
+ghost use Rattle.check_graph.specs.check_found.Masks.{has_in, mask_in};
 ghost use Rattle.check_graph.specs.check_found.Scanned.{AreScans};
 ghost use Rattle.check_assign.specs.Assigned.{AreSeveralDrivers, AreUndriven, IsSeveralDrivers, IsUndriven, is_input, is_written, lower_writes, several_drivers_at, undriven_at};
-ghost use Rattle.check_assign.specs.Marks.{any_row, shares};
+ghost use Rattle.check_assign.specs.Marks.{any_row, leaves, shares};
 ghost use Rattle.check_graph.specs.check_found.Gathered.{Gets, signal_numbers, task_sites};
 
 use crate::marks::{Among, Marks};
-use crate::masks::Masks;
+use check_graph::check_found::masks::SignalMasks;
 use check_graph::check_found::scans::Scans;
 use check_graph::rtl_scan::bits::Row;
 use check_graph::rtl_scan::selected;
@@ -27,14 +27,33 @@ use rtl_tree::memory::Memory;
 use rtl_tree::text::Spot;
 use std::alloc::Global;
 
+/// Whether a bit of a row is in a set.
+fn shares(masks: &SignalMasks, row: Row) -> bool
+    ensures { result ≡ shares (mask_in masks.now) row }
+{
+    row.mask & masks.mask(row.signal) != 0
+}
+
+/// Whether a bit of a row isn't in a set.
+fn leaves(masks: &SignalMasks, row: Row) -> bool
+    ensures { result ≡ leaves (mask_in masks.now) row }
+{
+    row.mask & (row.mask ^ masks.mask(row.signal)) != 0
+}
+
 /// Marks the signals of rows that share a bit with a set.
-fn mark_shared(rows: &[Row], lower: &Masks, spot: Spot, marks: &mut Marks) -> Result<(), Memory>
+fn mark_shared(
+    rows: &[Row],
+    lower: &SignalMasks,
+    spot: Spot,
+    marks: &mut Marks,
+) -> Result<(), Memory>
     ensures { OnOk result ((s : ℕ) → get nat_cmp marks.new.spots s
-        ≡ cond (any_row (shares lower.now.masks) rows.now s) (Some spot)
+        ≡ cond (any_row (shares (mask_in lower.now)) rows.now s) (Some spot)
         (get nat_cmp marks.old.spots s)) }
 {
     for row in rows {
-        if lower.shares(*row) {
+        if shares(lower, *row) {
             marks.put(row.signal, spot)?;
         }
     }
@@ -47,20 +66,20 @@ fn push_shared(
     alloc: Global,
     scans: &Scans,
     p: ProcId,
-    lower: &mut Masks,
+    lower: &mut SignalMasks,
     found: &mut Vec<Finding>,
 ) -> Result<(), Memory>
     requires scans { AreScans scans.now }
     requires inside { p.0 < length scans.now.design.now.processes.items }
     requires lower { let d = parts scans.now.design.now in
-        (s k : ℕ) → has lower.old.masks s k ≡ lower_writes d p.0 s k }
+        (s k : ℕ) → has_in lower.old s k ≡ lower_writes d p.0 s k }
     ensures found { let d = parts scans.now.design.now in
         OnOk result ((task : Task) → slice_get d.tasks p.0 ≡ Some task →
         Gets (IsSeveralDrivers d) several_drivers_at (task_sites (signal_numbers d) p.0 task)
         found.old.items found.new.items) }
     ensures lower { let d = parts scans.now.design.now in
         OnOk result ((task : Task) → slice_get d.tasks p.0 ≡ Some task → (s k : ℕ) →
-        has lower.new.masks s k ≡ (has lower.old.masks s k || written d task.does s k)) }
+        has_in lower.new s k ≡ (has_in lower.old s k || written d task.does s k)) }
 {
     let process = &scans.design.processes[p.0 as usize];
     let written = scans.written(p);
@@ -74,7 +93,7 @@ fn push_shared(
 #[derive(Drop)]
 pub(crate) struct Drivers {
     pub(crate) several: Vec<Finding>,
-    pub(crate) driven: Masks,
+    pub(crate) driven: SignalMasks,
 }
 
 impl Drivers {
@@ -84,10 +103,10 @@ impl Drivers {
         ensures several { IfOk result (λ made.
             AreSeveralDrivers (parts scans.now.design.now) made.several.items) }
         ensures driven { IfOk result (λ made.
-            (s k : ℕ) → has made.driven.masks s k ≡ is_written (parts scans.now.design.now) s k) }
+            (s k : ℕ) → has_in made.driven s k ≡ is_written (parts scans.now.design.now) s k) }
     {
         let mut several = Vec::new(alloc);
-        let mut lower = Masks::new(alloc);
+        let mut lower = SignalMasks::new(alloc);
         for number in 0..scans.design.processes.len() {
             push_shared(
                 alloc,
@@ -104,16 +123,6 @@ impl Drivers {
     }
 }
 
-/// Signals with a bit that a process may write and one of a lower number, too.
-///
-/// Fails where memory runs out.
-pub fn several_drivers(alloc: Global, scans: &Scans) -> Result<Vec<Finding>, Memory>
-    requires { AreScans scans.now }
-    ensures { IfOk result (λ found. AreSeveralDrivers (parts scans.now.design.now) found.items) }
-{
-    Ok(Drivers::of(alloc, scans)?.several)
-}
-
 fn is_input(kind: Kind) -> bool
     ensures { result ≡ is_input kind }
 {
@@ -125,11 +134,11 @@ fn is_input(kind: Kind) -> bool
 }
 
 /// Whether a signal isn't a top input and has a bit that isn't in a set.
-fn is_undriven(design: &Design, signal: &Signal, number: SigId, driven: &Masks) -> bool
+fn is_undriven(design: &Design, signal: &Signal, number: SigId, driven: &SignalMasks) -> bool
     ensures { result ≡ (not (is_input signal.now.kind)
-        && has_some (widths (parts design.now)) (λ s k. not (has driven.now.masks s k)) number.0) }
+        && has_some (widths (parts design.now)) (λ s k. not (has_in driven.now s k)) number.0) }
 {
-    !is_input(signal.kind) && driven.leaves(selected(design, number, &Select::Whole))
+    !is_input(signal.kind) && leaves(driven, selected(design, number, &Select::Whole))
 }
 
 /// Adds the finding of a signal where it has one, from the bits that processes may write.
@@ -137,10 +146,10 @@ fn push_undriven(
     design: &Design,
     signal: &Signal,
     number: SigId,
-    driven: &Masks,
+    driven: &SignalMasks,
     found: &mut Vec<Finding>,
 ) -> Result<(), Memory>
-    requires { (s k : ℕ) → has driven.now.masks s k ≡ is_written (parts design.now) s k }
+    requires { (s k : ℕ) → has_in driven.now s k ≡ is_written (parts design.now) s k }
     ensures { OnOk result (Gets (IsUndriven (parts design.now)) undriven_at
         ((number.0, signal.now) ∷ []) found.old.items found.new.items) }
 {
@@ -160,9 +169,9 @@ fn push_undriven(
 pub(crate) fn undriven_beside(
     alloc: Global,
     design: &Design,
-    driven: &Masks,
+    driven: &SignalMasks,
 ) -> Result<Vec<Finding>, Memory>
-    requires { (s k : ℕ) → has driven.now.masks s k ≡ is_written (parts design.now) s k }
+    requires { (s k : ℕ) → has_in driven.now s k ≡ is_written (parts design.now) s k }
     ensures { IfOk result (λ found. AreUndriven (parts design.now) found.items) }
 {
     let mut found = Vec::new(alloc);
@@ -171,15 +180,4 @@ pub(crate) fn undriven_beside(
         push_undriven(design, signal, SigId(number as u32), driven, &mut found)?;
     }
     Ok(found)
-}
-
-/// Signals that aren't top inputs and have a bit that no process may write.
-///
-/// Fails where memory runs out.
-pub fn undriven(alloc: Global, scans: &Scans) -> Result<Vec<Finding>, Memory>
-    requires { AreScans scans.now }
-    ensures { IfOk result (λ found. AreUndriven (parts scans.now.design.now) found.items) }
-{
-    let drivers = Drivers::of(alloc, scans)?;
-    undriven_beside(alloc, scans.design, &drivers.driven)
 }

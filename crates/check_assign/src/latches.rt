@@ -8,7 +8,7 @@ ghost use Rattle.rtl_flat.specs.Flows.{flow_of};
 ghost use Rattle.rtl_flat.specs.Paths.{is_sure};
 ghost use Rattle.rtl_flat.specs.Process.{Task};
 ghost use Rattle.rtl_rule.specs.Parts.{parts, widths};
-ghost use Rattle.check_graph.specs.rtl_scan.Sets.{has};
+ghost use Rattle.check_graph.specs.rtl_scan.Sets.{has, mask_of};
 ghost use Rattle.check_graph.specs.check_found.Scanned.{AreScans};
 ghost use Rattle.check_assign.specs.Assigned.{AreLatchInferred, IsLatchInferred, latch_inferred_at};
 ghost use Rattle.check_assign.specs.Marks.{any_row, leaves};
@@ -31,7 +31,7 @@ use std::alloc::Global;
 /// Marks the signals of rows with a bit outside a set.
 fn mark_left(rows: &[Row], sure: &Masks, spot: Spot, marks: &mut Marks) -> Result<(), Memory>
     ensures { OnOk result ((s : ℕ) → get nat_cmp marks.new.spots s
-        ≡ cond (any_row (leaves sure.now.masks) rows.now s) (Some spot)
+        ≡ cond (any_row (leaves (mask_of sure.now.masks)) rows.now s) (Some spot)
         (get nat_cmp marks.old.spots s)) }
 {
     for row in rows {

@@ -11,7 +11,6 @@ mod marks;
 mod masks;
 mod targets;
 
-pub use drivers::{several_drivers, undriven};
 pub use kinds::{blocking_state, mixed_assign, nonblocking_comb};
 pub use latches::latch_inferred;
 pub use lists::check;

@@ -2,7 +2,7 @@
 
 ghost use Rattle.std.specs.Prelude.{ℕ, ◌≡◌, ◌||◌, [], OnOk};
 ghost use Rattle.check_graph.specs.rtl_scan.Sets.{has, has_row, has_rows, mask_of, put};
-ghost use Rattle.check_assign.specs.Marks.{leaves, shares};
+ghost use Rattle.check_assign.specs.Marks.{leaves};
 
 use check_graph::rtl_scan::bits::Row;
 use rtl_flat::expr::SigId;
@@ -57,16 +57,9 @@ impl Masks {
         Ok(())
     }
 
-    /// Whether a bit of a row is in the set.
-    pub(crate) fn shares(&self, row: Row) -> bool
-        ensures { result ≡ shares self.now.masks row }
-    {
-        row.mask & self.mask(row.signal) != 0
-    }
-
     /// Whether a bit of a row isn't in the set.
     pub(crate) fn leaves(&self, row: Row) -> bool
-        ensures { result ≡ leaves self.now.masks row }
+        ensures { result ≡ leaves (mask_of self.now.masks) row }
     {
         row.mask & (row.mask ^ self.mask(row.signal)) != 0
     }

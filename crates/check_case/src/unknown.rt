@@ -143,19 +143,6 @@ fn push_statement(
     push_labels(process, signal, kind_of(one), &labels, found)
 }
 
-/// The least signal that a process may write.
-fn first_signal(scans: &Scans, p: ProcId) -> Option<SigId>
-    requires scans { AreScans scans.now }
-    requires there { p.0 < length scans.now.design.now.processes.items }
-    ensures { let d = parts scans.now.design.now in
-        (task : Task) → slice_get d.tasks p.0 ≡ Some task → result ≡ first_of d (written d task.does) }
-{
-    match scans.written(p).rows.as_slice() {
-        [first, ..] => Some(first.signal),
-        [] => None,
-    }
-}
-
 fn push_unknown(
     alloc: Global,
     scans: &Scans,
@@ -171,7 +158,7 @@ fn push_unknown(
 {
     let process = &scans.design.processes[p.0 as usize];
     let all = statements(alloc, &process.does)?;
-    let signal = first_signal(scans, p);
+    let signal = scans.first_written(p);
     for one in &all {
         push_statement(alloc, process, signal, one, found)?;
     }

@@ -7,5 +7,6 @@ pub mod Ordered
 pub mod Merged
 pub mod Decided
 pub mod Kept
+pub mod Filled
 -- passed on to the crates above
 pub use Rattle.rtl_scan.proofs as rtl_scan_proofs

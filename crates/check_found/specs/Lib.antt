@@ -1,4 +1,5 @@
 pub mod Gathered
+pub mod Masks
 pub mod Scanned
 -- passed on to the crates above
 pub use Rattle.rtl_scan.specs as rtl_scan

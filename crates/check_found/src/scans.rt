@@ -6,12 +6,14 @@ ghost use Rattle.rtl_flat.specs.Flows.{flow_of};
 ghost use Rattle.rtl_flat.specs.PathSets.{IsTemporary, listed};
 ghost use Rattle.rtl_flat.specs.Paths.{reads_outside};
 ghost use Rattle.rtl_flat.specs.Process.{Task};
-ghost use Rattle.rtl_rule.specs.Parts.{parts, widths, written};
+ghost use Rattle.rtl_rule.specs.Parts.{first_of, parts, widths, written};
 ghost use Rattle.rtl_scan.specs.Sets.{IsInOrder, has_rows};
 ghost use Rattle.check_found.specs.Scanned.{AreScans};
 
+use crate::sets::first_signal;
 use rtl_flat::act::ProcId;
 use rtl_flat::design::Design;
+use rtl_flat::expr::SigId;
 use rtl_scan::accesses::Accesses;
 use rtl_scan::bits::Bits;
 use rtl_tree::memory::Memory;
@@ -53,6 +55,16 @@ impl<'d> Scans<'d> {
         ensures order { IsInOrder result.now.rows.items }
     {
         &self.written[p.0 as usize]
+    }
+
+    /// The least signal that a process may write.
+    pub fn first_written(&self, p: ProcId) -> Option<SigId>
+        requires scans { AreScans self.now }
+        requires there { p.0 < length self.now.design.now.processes.items }
+        ensures { let d = parts self.now.design.now in
+            (task : Task) → slice_get d.tasks p.0 ≡ Some task → result ≡ first_of d (written d task.does) }
+    {
+        first_signal(self.written(p))
     }
 
     /// The bits that a process reads before it has written them.

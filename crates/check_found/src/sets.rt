@@ -8,6 +8,7 @@ ghost use Rattle.rtl_flat.specs.Paths.{is_sure, reads_outside};
 ghost use Rattle.rtl_flat.specs.Process.{Task};
 ghost use Rattle.rtl_rule.specs.Parts.{first_of, parts, widths, written};
 ghost use Rattle.rtl_scan.specs.Sets.{IsInOrder, has_rows};
+ghost use Rattle.check_found.specs.Gathered.{first_signal};
 
 use rtl_flat::act::ProcId;
 use rtl_flat::design::Design;
@@ -68,8 +69,15 @@ pub fn first_written(alloc: Global, design: &Design, p: ProcId) -> Result<Option
         first ≡ first_of d (written d task.does)) }
 {
     let bits = written(alloc, design, p)?;
-    Ok(match bits.rows.as_slice() {
+    Ok(first_signal(&bits))
+}
+
+/// The signal of the first row, which is the least.
+pub(crate) fn first_signal(bits: &Bits) -> Option<SigId>
+    ensures { result ≡ first_signal bits.now.rows.items }
+{
+    match bits.rows.as_slice() {
         [first, ..] => Some(first.signal),
         [] => None,
-    })
+    }
 }

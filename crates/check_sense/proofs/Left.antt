@@ -24,17 +24,6 @@ use Rattle.check_sense.specs.Sense.{IsSenseMissing, misses, sense_missing_at}
 use Rattle.check_sense.specs.Telling.{has_items, lacking_in, lacks, left_of}
 use Rattle.check_sense.proofs.Findings.{none_of}
 
--- ---- rows of no bit
-
-not_both : (a : Bool) → (a && false) ≡ false
-not_both true = refl
-not_both false = refl
-
-pub no_row : (row : Row) → row.mask ≡ 0 → (s k : ℕ) → has_row row s k ≡ false
-no_row row empty s k =
-    ap (λ mask. (s == row.signal.0) && is_one_at mask k) empty ∙ ap (λ b. (s == row.signal.0) && b) (one_at-zero k)
-    ∙ not_both (s == row.signal.0)
-
 -- ---- the rows of what is left
 
 abbrev left_row : BTreeMap ℕ ℕ → Row → Row

@@ -16,6 +16,7 @@ use Rattle.check_found.specs.rtl_scan.declared.bits.Row.{Row}
 use Rattle.check_found.specs.rtl_scan.Sets.{has, has_row, has_rows, mask_of}
 use Rattle.check_found.proofs.rtl_scan_proofs.Users.{some_bit_is}
 use Rattle.check_found.specs.Gathered.{Gets, task_sites}
+use Rattle.check_found.specs.Masks.{has_in, mask_in}
 use Rattle.check_found.proofs.Gathering.{gets_nothing, gets_one, take_next}
 use Rattle.check_found.proofs.Inside.{listed_inside}
 use Rattle.check_found.proofs.Signals.{some_at, some_found}
@@ -82,8 +83,8 @@ writers_more d n task at bits are old new before gets =
     (record {
       once = λ s k. gets.once s k ∙ ap (λ b. b || bits s k) (before.once s k) ∙ ap (λ b. some_write d (take n d.tasks) s k || b) (are s k)
           ∙ sym (some_push d (take n d.tasks) task s k);
-      twice = λ s k. gets.twice s k ∙ ap (λ b. b || (bits s k && has old.once.masks s k)) (before.twice s k)
-          ∙ ap (λ b. two_write d (take n d.tasks) s k || (b && has old.once.masks s k)) (are s k)
+      twice = λ s k. gets.twice s k ∙ ap (λ b. b || (bits s k && has_in old.once s k)) (before.twice s k)
+          ∙ ap (λ b. two_write d (take n d.tasks) s k || (b && has_in old.once s k)) (are s k)
           ∙ ap (λ b. two_write d (take n d.tasks) s k || (written d task.does s k && b)) (before.once s k)
           ∙ sym (two_push d (take n d.tasks) task s k);
     })
@@ -194,10 +195,10 @@ module _ (d : Parts) (p : ℕ) (task : Task) (at : slice_get d.tasks p ≡ Some 
   masked_differ true b = refl
   masked_differ false b = refl
 
-  another_mask : (s k : ℕ) → is_one_at (bit_or (mask_of writers.twice.masks s) (bit_and (mask_of writers.once.masks s) (bit_xor (mask_of writers.once.masks s) (mask_of own.masks s)))) k ≡ another_writes d p s k
+  another_mask : (s k : ℕ) → is_one_at (bit_or (mask_in writers.twice s) (bit_and (mask_in writers.once s) (bit_xor (mask_in writers.once s) (mask_of own.masks s)))) k ≡ another_writes d p s k
   another_mask s k =
-      let once = mask_of writers.once.masks s in
-      let twice = mask_of writers.twice.masks s in
+      let once = mask_in writers.once s in
+      let twice = mask_in writers.twice s in
       let mine = mask_of own.masks s in
       one_at_or twice (bit_and once (bit_xor once mine)) k
       ∙ ap (λ b. is_one_at twice k || b) (one_at_and once (bit_xor once mine) k ∙ ap (λ b. is_one_at once k && b) (one_at_xor once mine k) ∙ masked_differ (is_one_at once k) (is_one_at mine k))
@@ -214,7 +215,7 @@ module _ (d : Parts) (p : ℕ) (task : Task) (at : slice_get d.tasks p ≡ Some 
       ]
     where
       others : ℕ
-      others = bit_or (mask_of writers.twice.masks row.signal.0) (bit_and (mask_of writers.once.masks row.signal.0) (bit_xor (mask_of writers.once.masks row.signal.0) (mask_of own.masks row.signal.0)))
+      others = bit_or (mask_in writers.twice row.signal.0) (bit_and (mask_in writers.once row.signal.0) (bit_xor (mask_in writers.once row.signal.0) (mask_of own.masks row.signal.0)))
 
       and_true : (a : Bool) → a ≡ (a && true)
       and_true true = refl

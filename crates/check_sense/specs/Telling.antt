@@ -10,7 +10,8 @@ use Rattle.rtl_flat.specs.WellFormed.{has_edge}
 use Rattle.rtl_rule.specs.declared.finding.Finding.{Finding}
 use Rattle.rtl_rule.specs.Parts.{Parts, within, written}
 use Rattle.check_found.specs.rtl_scan.declared.bits.Row.{Row}
-use Rattle.check_found.specs.rtl_scan.Sets.{has, mask_of}
+use Rattle.check_found.specs.rtl_scan.Sets.{mask_of}
+use Rattle.check_found.specs.Masks.{has_in, mask_in}
 use Rattle.check_sense.specs.declared.masks.Masks.{Masks}
 use Rattle.check_sense.specs.declared.waking.Writers.{Writers}
 use Rattle.check_sense.specs.Sense.{is_top, sense_missing_at}
@@ -54,15 +55,15 @@ top_at (signal ∷ signals) (suc i) = top_at signals i
 -- the bits of a row that are of a top input, or may be written by a process beside one that may write its own
 abbrev pub waking_of : List Signal → Writers → Masks → Row → ℕ
 waking_of signals writers own row =
-    cond (top_at signals row.signal.0) row.mask (bit_and row.mask (bit_or (mask_of writers.twice.masks row.signal.0) (bit_and (mask_of writers.once.masks row.signal.0) (bit_xor (mask_of writers.once.masks row.signal.0) (mask_of own.masks row.signal.0)))))
+    cond (top_at signals row.signal.0) row.mask (bit_and row.mask (bit_or (mask_in writers.twice row.signal.0) (bit_and (mask_in writers.once row.signal.0) (bit_xor (mask_in writers.once row.signal.0) (mask_of own.masks row.signal.0)))))
 
 abbrev pub row_wakes : List Signal → Writers → Masks → Row → Bool
 row_wakes signals writers own row = not (waking_of signals writers own row == 0)
 
 -- a process more that may write some bits
 pub record GetsWriter (bits : BitSet) (old new : Writers) : Type 0 where
-  pub once : (s k : ℕ) → has new.once.masks s k ≡ (has old.once.masks s k || bits s k)
-  pub twice : (s k : ℕ) → has new.twice.masks s k ≡ (has old.twice.masks s k || (bits s k && has old.once.masks s k))
+  pub once : (s k : ℕ) → has_in new.once s k ≡ (has_in old.once s k || bits s k)
+  pub twice : (s k : ℕ) → has_in new.twice s k ≡ (has_in old.twice s k || (bits s k && has_in old.once s k))
 
 -- whether some task may write a bit, and whether two of them may
 abbrev pub some_write : Parts → List Task → BitSet
@@ -75,8 +76,8 @@ two_write d (task ∷ others) s k =
 
 -- the bits that one of some tasks at least may write, and those that two may
 pub record AreWriters (d : Parts) (tasks : List Task) (writers : Writers) : Type 0 where
-  pub once : (s k : ℕ) → has writers.once.masks s k ≡ some_write d tasks s k
-  pub twice : (s k : ℕ) → has writers.twice.masks s k ≡ two_write d tasks s k
+  pub once : (s k : ℕ) → has_in writers.once s k ≡ some_write d tasks s k
+  pub twice : (s k : ℕ) → has_in writers.twice s k ≡ two_write d tasks s k
 
 -- ---- lists with an edge
 

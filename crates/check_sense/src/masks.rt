@@ -1,6 +1,6 @@
 // Sets of bits of signals that are asked by signal.
 
-ghost use Rattle.std.specs.Prelude.{ℕ, ◌≡◌, ◌||◌, ◌&&◌, false, OnOk, IfOk};
+ghost use Rattle.std.specs.Prelude.{ℕ, ◌≡◌, ◌||◌, false, OnOk, IfOk};
 ghost use Rattle.check_found.specs.rtl_scan.Sets.{has, has_rows, has_row, mask_of, put};
 ghost use Rattle.check_sense.specs.Telling.{lacks};
 
@@ -70,28 +70,6 @@ impl Masks {
             self.insert(*row)?;
         }
         Ok(())
-    }
-
-    /// Adds the bits of rows that another set has.
-    pub(crate) fn insert_shared(&mut self, rows: &[Row], other: &Masks) -> Result<(), Memory>
-        ensures { OnOk result ((s k : ℕ)
-            → has self.new.masks s k
-            ≡ (has self.old.masks s k || (has_rows rows.now s k && has other.now.masks s k))) }
-    {
-        for row in rows {
-            self.insert(other.shared(*row))?;
-        }
-        Ok(())
-    }
-
-    /// The bits of a row that the set has.
-    fn shared(&self, row: Row) -> Row
-        ensures { (s k : ℕ) → has_row result s k ≡ (has_row row s k && has self.now.masks s k) }
-    {
-        Row {
-            signal: row.signal,
-            mask: row.mask & self.mask(row.signal),
-        }
     }
 
     /// Whether the set lacks a bit of a row.

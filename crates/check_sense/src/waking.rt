@@ -11,9 +11,9 @@ ghost use Rattle.check_sense.specs.Sense.{AreNeverWakes, IsNeverWakes, can_wake,
 ghost use Rattle.check_sense.specs.Telling.{AreWriters, GetsWriter, has_level_list, itself, row_wakes, top_at};
 
 use crate::masks::Masks;
+use check_found::masks::SignalMasks;
 use check_found::rtl_scan::bits::{Bits, Row};
 use check_found::scans::Scans;
-use check_found::sets::first_written;
 use rtl_flat::act::{Does, ProcId};
 use rtl_flat::expr::SigId;
 use rtl_flat::signal::{Kind, Signal};
@@ -25,8 +25,8 @@ use std::alloc::Global;
 /// The bits that one process at least may write, and those that several may.
 #[derive(Drop)]
 struct Writers {
-    once: Masks,
-    twice: Masks,
+    once: SignalMasks,
+    twice: SignalMasks,
 }
 
 impl Writers {
@@ -45,8 +45,8 @@ impl Writers {
             IfOk result (λ writers. AreWriters d d.tasks writers) }
     {
         let mut writers = Writers {
-            once: Masks::new(alloc),
-            twice: Masks::new(alloc),
+            once: SignalMasks::new(alloc),
+            twice: SignalMasks::new(alloc),
         };
         for number in 0..scans.design.processes.len() {
             writers.add(scans.written(ProcId(number as u32)))?;
@@ -147,10 +147,9 @@ fn push_never(
     if wakes {
         return Ok(());
     }
-    let signal = first_written(alloc, scans.design, p)?;
     found.push(Finding {
         rule: Rule::NeverWakes,
-        signal,
+        signal: scans.first_written(p),
         instance: process.instance,
         spot: process.spot,
     })?;

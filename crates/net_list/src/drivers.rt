@@ -4,7 +4,7 @@ ghost use Rattle.std.specs.Prelude.{ℕ, ◌≡◌, ◌<◌, ◌+◌, ◌||◌, 
 ghost use Rattle.std.specs.List.{list_any};
 ghost use Rattle.rtl_rule.specs.declared.rule.Rule.TheVariants.{SeveralDrivers};
 ghost use Rattle.rtl_rule.specs.Parts.{parts};
-ghost use Rattle.check_assign.specs.rtl_scan.Sets.{has, has_rows};
+ghost use Rattle.check_assign.specs.rtl_scan.Sets.{has, has_rows, mask_of};
 ghost use Rattle.check_assign.specs.Marks.{shares};
 ghost use Rattle.net_list.specs.Drivers.{AreLower};
 ghost use Rattle.net_list.specs.Faults.{HasFault};
@@ -18,14 +18,14 @@ use std::alloc::Global;
 
 /// Whether a bit of a row is in a set.
 fn shares(bits: &BitSet, row: Row) -> bool
-    ensures { result ≡ shares bits.now.masks row }
+    ensures { result ≡ shares (mask_of bits.now.masks) row }
 {
     row.mask & bits.mask(row.signal) != 0
 }
 
 /// Whether a bit of some rows is.
 fn any_shares(bits: &BitSet, rows: &[Row]) -> bool
-    ensures { result ≡ list_any (shares bits.now.masks) rows.now }
+    ensures { result ≡ list_any (shares (mask_of bits.now.masks)) rows.now }
 {
     rows.iter().any(|row| shares(bits, *row))
 }

@@ -1,6 +1,6 @@
 use Rattle.std.proofs.Common.{◌≡◌, ◌∙◌, ◌&&◌, not, false, sym, ap}
 use Rattle.rtl_rule.specs.Parts.{has_some, parts, widths}
-use Rattle.check_graph.specs.rtl_scan.Sets.{has}
+use Rattle.check_graph.specs.check_found.Masks.{has_in, mask_in}
 use Rattle.check_assign.specs.Assigned.{is_input}
 use Rattle.check_assign.proofs.Hits.{whole_leaves}
 use Rattle.check_assign.proofs.drivers.is_undriven.Goals as goal
@@ -9,5 +9,5 @@ pub returns-then-not-is_input : goal.returns-then-not-is_input
 returns-then-not-is_input c =
     let ws = widths (parts c.args.design.now) in
     let other : is_input c.args.signal.now.kind ≡ false = cc in
-    c.leaves.ensures ∙ whole_leaves c.args.driven.now.masks ws c.args.number.0 c.selected.result c.selected.ensures
-    ∙ ap (λ b. not b && has_some ws (λ s k. not (has c.args.driven.now.masks s k)) c.args.number.0) (sym other)
+    c.leaves.ensures ∙ whole_leaves (mask_in c.args.driven.now) ws c.args.number.0 c.selected.result c.selected.ensures
+    ∙ ap (λ b. not b && has_some ws (λ s k. not (has_in c.args.driven.now s k)) c.args.number.0) (sym other)

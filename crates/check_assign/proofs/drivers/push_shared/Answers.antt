@@ -6,7 +6,8 @@ use Rattle.rtl_flat.specs.Process.{Task, task}
 use Rattle.rtl_rule.specs.declared.rule.Rule.TheVariants.{SeveralDrivers}
 use Rattle.rtl_rule.specs.Parts.{parts, widths, written}
 use Rattle.check_graph.specs.rtl_scan.declared.bits.Row.{Row}
-use Rattle.check_graph.specs.rtl_scan.Sets.{has, has_rows}
+use Rattle.check_graph.specs.rtl_scan.Sets.{has_rows}
+use Rattle.check_graph.specs.check_found.Masks.{has_in, mask_in}
 use Rattle.check_graph.specs.check_found.Gathered.{Gets, signal_numbers, task_sites}
 use Rattle.check_graph.proofs.check_found_proofs.Inside.{written_inside}
 use Rattle.check_graph.proofs.check_found_proofs.Sites.{task_at}
@@ -25,7 +26,7 @@ returns-clause-found c =
     let one = task process in
     let at = task_at c.args.scans.now.design.now p process c.requires.inside c.index-process.ensures in
     let rows = c.written-written.result.now.rows.items in
-    let masks = c.args.lower.now.masks in
+    let masks = mask_in c.args.lower.now in
     let gets : Gets (IsSeveralDrivers d) several_drivers_at (task_sites (signal_numbers d) p one) c.args.found.now.items c.push.new.found.items
     = gets_shown (IsSeveralDrivers d) several_drivers_at SeveralDrivers one.instance d p one (several_inside d p one) (λ s. get nat_cmp c.mark_shared.new.marks.spots s)
     (λ s. several_tells d p one s (any_row (shares masks) rows s) (shares_some masks (widths d) (written d one.does) (lower_writes d p) rows (written_inside (widths d) one.does) (c.written-written.ensures.bits one at) c.requires.lower s) (get nat_cmp c.mark_shared.new.marks.spots s)
@@ -38,8 +39,8 @@ returns-clause-found c =
 
 pub returns-clause-lower : goal.returns-clause-lower
 returns-clause-lower c =
-    let before = c.args.lower.now.masks in
+    let before = c.args.lower.now in
     on_ok_weaker c.insert_all.result (λ all one there s k.
-    all s k ∙ ap (λ (rs : List Row). has before s k || has_rows rs s k) c.deref-2.ensures.value
-    ∙ ap (λ b. has before s k || b) (c.written-written.ensures.bits one there s k))
+    all s k ∙ ap (λ (rs : List Row). has_in before s k || has_rows rs s k) c.deref-2.ensures.value
+    ∙ ap (λ b. has_in before s k || b) (c.written-written.ensures.bits one there s k))
     c.insert_all.ensures

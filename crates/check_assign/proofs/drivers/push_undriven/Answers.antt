@@ -2,7 +2,7 @@ use Rattle.std.proofs.Common.{◌≡◌, ◌∙◌, [], ◌∷◌, true, false, 
 use Rattle.std.proofs.lemmas.Bool.{both_ways}
 use Rattle.rtl_rule.specs.declared.finding.Finding.{Finding}
 use Rattle.rtl_rule.specs.Parts.{has_some, parts, widths}
-use Rattle.check_graph.specs.rtl_scan.Sets.{has}
+use Rattle.check_graph.specs.check_found.Masks.{has_in}
 use Rattle.check_graph.specs.check_found.Gathered.{Gets}
 use Rattle.check_graph.proofs.check_found_proofs.Gathering.{gets_nothing, gets_one}
 use Rattle.check_assign.specs.Assigned.{IsUndriven, is_input, is_written, undriven_at}
@@ -13,8 +13,8 @@ pub returns-then-not-is_undriven : goal.returns-then-not-is_undriven
 returns-then-not-is_undriven c =
     let d = parts c.args.design.now in
     let s = c.args.number.0 in
-    let test : (not (is_input c.args.signal.now.kind) && has_some (widths d) (λ i k. not (has c.args.driven.now.masks i k)) s) ≡ false = cc in
-    let same = below_same (widths d s) (λ k. not (has c.args.driven.now.masks s k)) (λ k. not (is_written d s k)) (λ k. ap not (c.requires s k)) in
+    let test : (not (is_input c.args.signal.now.kind) && has_some (widths d) (λ i k. not (has_in c.args.driven.now i k)) s) ≡ false = cc in
+    let same = below_same (widths d s) (λ k. not (has_in c.args.driven.now s k)) (λ k. not (is_written d s k)) (λ k. ap not (c.requires s k)) in
     gets_nothing (IsUndriven d) undriven_at c.args.found.now.items (s, c.args.signal.now)
     (λ broken. both_ways _ test (ap (λ b. not (is_input c.args.signal.now.kind) && b) same ∙ broken))
 
@@ -22,7 +22,7 @@ pub returns : goal.returns
 returns c =
     let d = parts c.args.design.now in
     let s = c.args.number.0 in
-    let test : (not (is_input c.args.signal.now.kind) && has_some (widths d) (λ i k. not (has c.args.driven.now.masks i k)) s) ≡ true = cc in
-    let same = below_same (widths d s) (λ k. not (has c.args.driven.now.masks s k)) (λ k. not (is_written d s k)) (λ k. ap not (c.requires s k)) in
+    let test : (not (is_input c.args.signal.now.kind) && has_some (widths d) (λ i k. not (has_in c.args.driven.now i k)) s) ≡ true = cc in
+    let same = below_same (widths d s) (λ k. not (has_in c.args.driven.now s k)) (λ k. not (is_written d s k)) (λ k. ap not (c.requires s k)) in
     subst (λ (fs : List Finding). Gets (IsUndriven d) undriven_at ((s, c.args.signal.now) ∷ []) c.args.found.now.items fs) (sym c.in_ok-push.ensures.items)
     (gets_one (IsUndriven d) undriven_at c.args.found.now.items (s, c.args.signal.now) (sym (ap (λ b. not (is_input c.args.signal.now.kind) && b) same) ∙ test))

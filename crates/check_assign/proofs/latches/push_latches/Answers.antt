@@ -10,6 +10,7 @@ use Rattle.rtl_flat.specs.Process.{Task, doing, task}
 use Rattle.rtl_rule.specs.declared.rule.Rule.TheVariants.{LatchInferred}
 use Rattle.rtl_rule.specs.Parts.{parts, widths, written}
 use Rattle.check_graph.specs.rtl_scan.declared.bits.Row.{Row}
+use Rattle.check_graph.specs.rtl_scan.Sets.{mask_of}
 use Rattle.check_graph.specs.check_found.Gathered.{Gets, signal_numbers, task_sites}
 use Rattle.check_graph.proofs.check_found_proofs.Inside.{written_inside}
 use Rattle.check_graph.proofs.check_found_proofs.Sites.{task_at}
@@ -40,7 +41,7 @@ returns c =
     let at = task_at c.args.scans.now.design.now p process c.requires.inside c.index-process.ensures in
     let comb : is_comb (doing process.does) ≡ true = cc in
     let rows = c.written.result.now.rows.items in
-    let masks = c.in_ok-sure.sure.masks in
+    let masks = mask_of c.in_ok-sure.sure.masks in
     let answers = c.temporaries.result.now in
     on_ok_weaker c.push.result (λ shows other there.
     let same : one ≡ other = cc (at, there) in

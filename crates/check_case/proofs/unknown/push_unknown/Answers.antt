@@ -14,7 +14,7 @@ pub loop-one-preserved : goal.loop-one-preserved
 loop-one-preserved c =
     let d = parts c.args.scans.now.design.now in
     let process = c.index-process.result.now in
-    let first = c.first_signal-signal.ensures (task process) (task_at c.args.scans.now.design.now c.args.p.0 process c.requires.there c.index-process.ensures) in
+    let first = c.first_written-signal.ensures (task process) (task_at c.args.scans.now.design.now c.args.p.0 process c.requires.there c.index-process.ensures) in
     gets_more IsUnknownItem (unknown_item_at d) (λ one. map (within (c.args.p.0, task process)) (own_kinds (action one.now))) c.deref-one-items.result.now c.loop-one.one-index c.one-item.result c.loop-one-test.true c.one-item.is c.args.found.now.items c.loop-one.found.items c.push_statement.new.found.items c.loop-one.invariant (c.in_ok-push_statement.ensures d c.args.p.0 first)
 
 pub returns : goal.returns

@@ -37,6 +37,6 @@ returns c = λ t at.
     let same = task_is c.args.scans.now.design.now p process c.requires.inside c.index-process.ensures t at in
     let level = sym (ap (λ (t : Task). has_level_list t.does) same) ∙ sym c.has_level_list.ensures ∙ c.if-not-has_level_list.false in
     let asleep = sym (c.in_ok-wakes.ensures t at) ∙ c.if-wakes.false in
-    let pushed = c.in_ok-push.ensures.items ∙ ap (λ (t : Task). old ++ found NeverWakes (within (p, t) t.does) c.in_ok-signal.signal ∷ []) same
-    ∙ ap (λ (signal : Option SigId). old ++ found NeverWakes (within (p, t) t.does) signal ∷ []) (c.in_ok-signal.ensures t at) in
+    let pushed = c.in_ok-push.ensures.items ∙ ap (λ (t : Task). old ++ found NeverWakes (within (p, t) t.does) c.first_written.result ∷ []) same
+    ∙ ap (λ (signal : Option SigId). old ++ found NeverWakes (within (p, t) t.does) signal ∷ []) (c.first_written.ensures t at) in
     subst (λ (new : List Finding). Gets (IsNeverWakes d) (never_wakes_at d) (task_sites itself p t) old new) (sym pushed) (gets_never d p t level asleep old)

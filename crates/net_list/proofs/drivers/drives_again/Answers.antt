@@ -4,7 +4,7 @@ use Rattle.std.specs.List.{list_any}
 use Rattle.rtl_rule.specs.declared.rule.Rule.TheVariants.{SeveralDrivers}
 use Rattle.rtl_rule.specs.Parts.{parts, written}
 use Rattle.check_assign.specs.rtl_scan.declared.bits.Row.{Row}
-use Rattle.check_assign.specs.rtl_scan.Sets.{has, has_rows}
+use Rattle.check_assign.specs.rtl_scan.Sets.{has, has_rows, mask_of}
 use Rattle.check_assign.specs.Marks.{shares}
 use Rattle.check_assign.proofs.Turns.{lower_next, task_of}
 use Rattle.net_list.specs.Faults.{HasFault}
@@ -16,7 +16,7 @@ returns-clause-again c =
     let d = parts c.args.design.now in
     let p = c.args.p.0 in
     let (one, there) = task_of c.args.design.now p c.requires.inside in
-    let masks = c.args.lower.now.masks in
+    let masks = mask_of c.args.lower.now.masks in
     let same : c.any_shares-again.result ≡ list_any (shares masks) c.in_ok-written.written.rows.items = c.any_shares-again.ensures ∙ ap (list_any (shares masks)) c.deref.ensures.value in
     subst (λ b. b ≡ true ↔ HasFault d p SeveralDrivers) (sym same)
     (meets_is d p one there masks c.in_ok-written.written.rows.items c.requires.lower (c.in_ok-written.ensures.bits one there))

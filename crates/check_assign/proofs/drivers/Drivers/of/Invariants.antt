@@ -1,11 +1,11 @@
 use Rattle.std.proofs.Common.{◌≡◌, ℕ}
 use Rattle.rtl_rule.specs.Parts.{parts}
 use Rattle.rtl_rule.specs.Sites.{AreFindings}
-use Rattle.check_graph.specs.rtl_scan.Sets.{has}
+use Rattle.check_graph.specs.check_found.Masks.{has_in}
 use Rattle.check_graph.specs.check_found.Gathered.{signal_numbers, sites_below}
 use Rattle.check_assign.specs.Assigned.{IsSeveralDrivers, lower_writes, several_drivers_at}
 use Rattle.check_assign.proofs.drivers.Drivers.of.Given as goal
 
 abbrev pub invariant-loop-number : goal.invariant-loop-number
 invariant-loop-number l =
-    AreFindings (IsSeveralDrivers (parts l.scans.design.now)) several_drivers_at (sites_below (signal_numbers (parts l.scans.design.now)) (parts l.scans.design.now) l.number) l.several.items × ((s k : ℕ) → has l.lower.masks s k ≡ lower_writes (parts l.scans.design.now) l.number s k)
+    AreFindings (IsSeveralDrivers (parts l.scans.design.now)) several_drivers_at (sites_below (signal_numbers (parts l.scans.design.now)) (parts l.scans.design.now) l.number) l.several.items × ((s k : ℕ) → has_in l.lower s k ≡ lower_writes (parts l.scans.design.now) l.number s k)

@@ -2,7 +2,7 @@ use Rattle.std.proofs.Common.{◌∙◌, ◌||◌, ap, sym}
 use Rattle.std.proofs.lemmas.Result.{on_ok_weaker}
 use Rattle.check_found.specs.rtl_scan.Sets.{has, mask_of}
 use Rattle.check_found.proofs.rtl_scan_proofs.Masks.{or_nothing, put_or}
-use Rattle.check_sense.proofs.Left.{no_row}
+use Rattle.check_found.proofs.Filled.{no_row}
 use Rattle.check_sense.proofs.masks.Masks.insert.Goals as goal
 
 pub returns-then-row-eq0 : goal.returns-then-row-eq0
