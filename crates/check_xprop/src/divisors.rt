@@ -9,9 +9,8 @@ ghost use Rattle.rtl_flat.specs.Process.{Task};
 ghost use Rattle.rtl_rule.specs.declared.rule.Rule.TheVariants.{DivideVariable};
 ghost use Rattle.rtl_rule.specs.Parts.{is_some_name, named, parts, reads_signal};
 ghost use Rattle.check_xprop.specs.Lists.{AreNodes, HasSizes, is_division, nodes_found};
-ghost use Rattle.check_xprop.specs.Unknowns.{AreDivideVariable, divides_by_other, has_one, is_power};
+ghost use Rattle.check_xprop.specs.Unknowns.{divides_by_other, has_one, is_power};
 
-use crate::expressions::process_nodes;
 use crate::places::push_all;
 use check_assign::check_parts::expressions::nodes;
 use check_assign::rtl_expr::eval;
@@ -137,19 +136,4 @@ pub(crate) fn push_divisions(
         }
     }
     push_all(alloc, design, p, Rule::DivideVariable, &spots, found)
-}
-
-/// The divisions and remainders whose divisor isn't a constant power of two.
-///
-/// Fails where memory runs out.
-pub fn divide_variable(alloc: Global, design: &Design) -> Result<Vec<Finding>, Memory>
-    ensures { IfOk result (λ found. AreDivideVariable (parts design.now) found.items) }
-{
-    let mut found = Vec::new(alloc);
-    for p in 0..design.processes.len() {
-        let process = ProcId(p as u32);
-        let all = process_nodes(alloc, design, process)?;
-        push_divisions(alloc, design, process, &all, &mut found)?;
-    }
-    Ok(found)
 }

@@ -6,7 +6,7 @@ ghost use Rattle.rtl_flat.specs.Expression.{tree};
 ghost use Rattle.rtl_flat.specs.Process.{Task, doing, task};
 ghost use Rattle.rtl_rule.specs.Parts.{is_literal_with, is_x, nodes, parts, valued_trees};
 ghost use Rattle.check_xprop.specs.Lists.{AreNodes, is_exact, literal_found, nodes_found, tree_spots};
-ghost use Rattle.check_xprop.specs.Unknowns.{AreCaseEquality, AreUnknownLiteral, all_nodes, is_case_equality};
+ghost use Rattle.check_xprop.specs.Unknowns.{all_nodes, is_case_equality};
 
 use crate::places::push_all;
 use check_assign::check_parts::expressions::{labels, nodes, trees, valued_trees};
@@ -86,21 +86,6 @@ pub(crate) fn push_equalities(
     push_all(alloc, design, p, Rule::CaseEquality, &spots, found)
 }
 
-/// The operators `===` and `!==`, which tell x from 0 and 1 in simulation alone.
-///
-/// Fails where memory runs out.
-pub fn case_equality(alloc: Global, design: &Design) -> Result<Vec<Finding>, Memory>
-    ensures { IfOk result (λ found. AreCaseEquality (parts design.now) found.items) }
-{
-    let mut found = Vec::new(alloc);
-    for p in 0..design.processes.len() {
-        let process = ProcId(p as u32);
-        let all = process_nodes(alloc, design, process)?;
-        push_equalities(alloc, design, process, &all, &mut found)?;
-    }
-    Ok(found)
-}
-
 /// Whether a vector has an x bit.
 fn has_x(bits: Vec4) -> bool
     ensures { result ≡ list_any is_x bits }
@@ -177,19 +162,4 @@ pub(crate) fn push_literal(
     }
     let first = least_place(process.spot, &spots);
     push_all(alloc, design, p, Rule::UnknownLiteral, &[first], found)
-}
-
-/// The processes with a literal that has an x bit, each at the first of them.
-///
-/// Fails where memory runs out.
-pub fn unknown_literal(alloc: Global, design: &Design) -> Result<Vec<Finding>, Memory>
-    ensures { IfOk result (λ found. AreUnknownLiteral (parts design.now) found.items) }
-{
-    let mut found = Vec::new(alloc);
-    for p in 0..design.processes.len() {
-        let process = ProcId(p as u32);
-        let all = process_nodes(alloc, design, process)?;
-        push_literal(alloc, design, process, &all, &mut found)?;
-    }
-    Ok(found)
 }

@@ -13,11 +13,8 @@ mod selects;
 
 pub use all::check;
 pub use choices::{wild_selector, x_optimism};
-pub use divisors::divide_variable;
 pub use doubt::doubtful;
 pub use dropped::{delay_ignored, initial_ignored, translate_off};
-pub use expressions::{case_equality, unknown_literal};
-pub use selects::select_range;
 
 // Passed on to the crates above.
 pub use check_assign;

@@ -8,9 +8,8 @@ ghost use Rattle.rtl_flat.specs.Process.{Piece, Task, Watched, piece, selection,
 ghost use Rattle.rtl_flat.specs.Signs.{width_in};
 ghost use Rattle.rtl_rule.specs.Parts.{parts, widths};
 ghost use Rattle.check_xprop.specs.Lists.{AreNodes, misses, misses_found};
-ghost use Rattle.check_xprop.specs.Unknowns.{AreSelectRange, pick_in, pick_of, picks};
+ghost use Rattle.check_xprop.specs.Unknowns.{pick_in, pick_of, picks};
 
-use crate::expressions::process_nodes;
 use check_assign::check_parts::statements::{items, pieces};
 use check_assign::rtl_scan::selected;
 use rtl_flat::act::{EventItem, ProcId, TargetPart};
@@ -165,7 +164,10 @@ fn push_written(
     Ok(())
 }
 
-/// Adds the findings of a process, given all its expressions.
+/// Adds the findings of a process's bit-selects that may lie outside their signals, in its list, its targets and, as given, all
+/// its expressions.
+///
+/// A computed index counts as inside where it is unsigned and has no value that isn't a place.
 pub(crate) fn push_misses(
     alloc: Global,
     design: &Design,
@@ -184,20 +186,4 @@ pub(crate) fn push_misses(
     push_listed(design, process.instance, items(&process.does), found)?;
     push_reads(design, process.instance, all, found)?;
     push_written(design, process.instance, &targets, found)
-}
-
-/// The bit-selects that may lie outside their signals, in lists, expressions and targets.
-///
-/// A computed index counts as inside where it is unsigned and has no value that isn't a place.
-/// Fails where memory runs out.
-pub fn select_range(alloc: Global, design: &Design) -> Result<Vec<Finding>, Memory>
-    ensures { IfOk result (λ found. AreSelectRange (parts design.now) found.items) }
-{
-    let mut found = Vec::new(alloc);
-    for p in 0..design.processes.len() {
-        let process = ProcId(p as u32);
-        let all = process_nodes(alloc, design, process)?;
-        push_misses(alloc, design, process, &all, &mut found)?;
-    }
-    Ok(found)
 }
