@@ -1,14 +1,11 @@
 -- What every path of a body writes at once.
 use Rattle.std.proofs.Common.{◌≡◌, ◌∙◌, ℕ, Bool, true, false, not, ◌&&◌, ◌||◌, List, [], ◌∷◌, Option, None, Some, sym, inl, inr}
-use Rattle.std.proofs.lemmas.Bool.{and_from, and_parts, or_cases, or_left, or_right}
+use Rattle.std.proofs.lemmas.Bool.{and_from, and_parts, or_left, or_right}
 use Rattle.rtl_flat.specs.Flows.{action_then, body_flow, is_complete, may_select, may_target, other_flow, selects, targets, way_past, ways}
 use Rattle.rtl_flat.specs.Paths.{Step, Flow, End, Ways, every, every_way, first, first_way, may_write_now, reads_bit, some, some_way, writes_now}
-use Rattle.rtl_flat.specs.Process.{Piece, Selection, Whole, BitAt, BitBy, Part, Action, Set, If, Case, Block, Actions, Done, Then, Otherwise, Without, With, Branches, NoBranch, Branch}
+use Rattle.rtl_flat.specs.Process.{Action, Set, If, Case, Block, Actions, Done, Then, Otherwise, Without, With, Branches, NoBranch, Branch}
 use Rattle.rtl_flat.proofs.Flows.{every_action, some_action}
-
-or_map : (a b c e : Bool) → (a ≡ true → c ≡ true) → (b ≡ true → e ≡ true) → (a || b) ≡ true → (c || e) ≡ true
-or_map a b c e left right h =
-    elim (or_cases a b h) [ inl here ↦ or_left c e (left here) | inr there ↦ or_right c e (right there) ]
+use Rattle.rtl_flat.proofs.Outside.{or_map, target_may}
 
 -- ---- the ways of a case
 
@@ -63,18 +60,6 @@ ways_read Q ws (Some way) (Branch labels body others) all =
 -- ---- it may be written at once
 
 module _ (ws : ℕ → ℕ) (i k : ℕ) where
-  part_may : (signal : ℕ) (selection : Selection) → selects ws signal selection i k ≡ true → may_select ws signal selection i k ≡ true
-  part_may signal Whole h = h
-  part_may signal (BitAt low index) h = h
-  part_may signal (BitBy low index) h = absurd (cc)
-  part_may signal (Part low width) h = h
-
-  target_may : (target : List Piece) → targets ws target i k ≡ true → may_target ws target i k ≡ true
-  target_may [] h = h
-  target_may (piece ∷ others) h =
-      or_map (selects ws piece.signal piece.selection i k) (targets ws others i k) (may_select ws piece.signal piece.selection i k) (may_target ws others i k)
-      (part_may piece.signal piece.selection) (target_may others) h
-
   abbrev sure : Step → Bool
   sure = writes_now i k
 
@@ -91,7 +76,7 @@ module _ (ws : ℕ → ℕ) (i k : ℕ) where
         or_map (not delayed && targets ws target i k) false (not delayed && may_target ws target i k) false
         (λ is.
         let parts = and_parts (not delayed) (targets ws target i k) is in
-        and_from (not delayed) (may_target ws target i k) parts.0 (target_may target parts.1)) (λ is. is) h
+        and_from (not delayed) (may_target ws target i k) parts.0 (target_may ws i k target parts.1)) (λ is. is) h
     action_sure (If test taken other spot) h =
         or_map (every sure (other_flow ws other) && every sure (body_flow ws taken)) false (some may (other_flow ws other) || some may (body_flow ws taken)) false
         (λ is.

@@ -3,7 +3,7 @@
 
 mod packed;
 
-ghost use Rattle.std.specs.Prelude.{◌≡◌, IsSome, OnErr, OnOk};
+ghost use Rattle.std.specs.Prelude.{◌≡◌, IfOk, IsSome, OnErr, OnOk};
 ghost use Rattle.name_map.specs.Values.{entered, no_values, values_of, with_value};
 
 use crate::packed::{is_short, packed};
@@ -46,18 +46,28 @@ impl<V: Copy> NameMap<V> {
         }
     }
 
+    /// Gives the name this value, and returns the one that it had. Where memory runs out, nothing has changed.
+    fn exchange(&mut self, name: &Text, value: V) -> Result<Option<V>, Memory>
+        ensures had { IfOk result (λ had. had ≡ values_of self.old name.now) }
+        ensures ok { OnOk result (values_of self.new ≡ with_value (values_of self.old) name.now value) }
+        ensures err { OnErr result (values_of self.new ≡ values_of self.old) }
+    {
+        let bytes = name.as_bytes();
+        let had = if is_short(bytes) {
+            self.short.insert(packed(bytes), value)?
+        } else {
+            let key = Vec::from_slice(self.alloc, bytes)?;
+            self.long.insert(key, value)?
+        };
+        Ok(had)
+    }
+
     /// Gives the name this value, in place of the one that it may have. Where memory runs out, nothing has changed.
     pub fn put(&mut self, name: &Text, value: V) -> Result<(), Memory>
         ensures ok { OnOk result (values_of self.new ≡ with_value (values_of self.old) name.now value) }
         ensures err { OnErr result (values_of self.new ≡ values_of self.old) }
     {
-        let bytes = name.as_bytes();
-        if is_short(bytes) {
-            self.short.insert(packed(bytes), value)?;
-        } else {
-            let key = Vec::from_slice(self.alloc, bytes)?;
-            self.long.insert(key, value)?;
-        }
+        self.exchange(name, value)?;
         Ok(())
     }
 
@@ -66,10 +76,11 @@ impl<V: Copy> NameMap<V> {
         ensures ok { OnOk result (values_of self.new ≡ entered (values_of self.old) name.now value) }
         ensures err { OnErr result (values_of self.new ≡ values_of self.old) }
     {
-        if self.find(name).is_some() {
-            return Ok(());
+        // Nearly all names are new: one search in place of two.
+        if let Some(first) = self.exchange(name, value)? {
+            self.replace(name, first);
         }
-        self.put(name, value)
+        Ok(())
     }
 
     /// Gives a name that has a value another one. It takes no memory.

@@ -7,7 +7,7 @@ use Rattle.rtl_flat.specs.Process.{Piece, Selection, Whole, BitAt, BitBy, Part, 
 use Rattle.rtl_flat.proofs.Flows.{some_action}
 use Rattle.rtl_flat.proofs.Paths.{decided}
 
-or_map : (a b c e : Bool) → (a ≡ true → c ≡ true) → (b ≡ true → e ≡ true) → (a || b) ≡ true → (c || e) ≡ true
+pub or_map : (a b c e : Bool) → (a ≡ true → c ≡ true) → (b ≡ true → e ≡ true) → (a || b) ≡ true → (c || e) ≡ true
 or_map a b c e left right h =
     elim (or_cases a b h) [ inl here ↦ or_left c e (left here) | inr there ↦ or_right c e (right there) ]
 
@@ -85,7 +85,7 @@ module _ (ws : ℕ → ℕ) (i k : ℕ) where
   part_may signal (BitBy low index) h = absurd (false≢true h)
   part_may signal (Part low width) h = h
 
-  target_may : (target : List Piece) → targets ws target i k ≡ true → may_target ws target i k ≡ true
+  pub target_may : (target : List Piece) → targets ws target i k ≡ true → may_target ws target i k ≡ true
   target_may [] h = h
   target_may (piece ∷ others) h =
       or_map (selects ws piece.signal piece.selection i k) (targets ws others i k) (may_select ws piece.signal piece.selection i k) (may_target ws others i k)
