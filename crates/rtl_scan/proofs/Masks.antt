@@ -39,6 +39,16 @@ put_or f g row m was is s k =
       | inr e ↦ rw (e) (or_nothing (is_one_at (f s) k))
     ]
 
+-- the mask of a row's signal has all its bits already
+pub covered : (f : ℕ → ℕ) (row : Row) (m : ℕ) → m ≡ f row.signal.0 → bit_or m row.mask ≡ m → (s k : ℕ) → is_one_at (f s) k ≡ (is_one_at (f s) k || has_row row s k)
+covered f row m was same s k =
+    put_or f f row m was
+    (λ s. elim (cases_Bool (s == row.signal.0)) as (λ _. f s ≡ cond (s == row.signal.0) (bit_or m row.mask) (f s)) [
+      | inl e ↦ rw (e) (ap f (eqb-true s row.signal.0 e) ∙ sym was ∙ sym same)
+      | inr e ↦ rw (e) (refl)
+    ])
+    s k
+
 -- a row's bits taken out of the mask of its signal
 pub put_without : (f g : ℕ → ℕ) (row : Row) (m : ℕ) → m ≡ f row.signal.0 → ((s : ℕ) → g s ≡ put f row.signal.0 (bit_and m (bit_xor m row.mask)) s) → (s k : ℕ) → is_one_at (g s) k ≡ (is_one_at (f s) k && not (has_row row s k))
 put_without f g row m was is s k =

@@ -37,6 +37,15 @@ impl BitSet {
         }
     }
 
+    /// The same bits as in rows.
+    pub fn of(alloc: Global, rows: &[Row]) -> Result<BitSet, Memory>
+        ensures { IfOk result (λ bits. (s k : ℕ) → has bits.masks s k ≡ has_rows rows.now s k) }
+    {
+        let mut bits = BitSet::new(alloc);
+        bits.insert_all(rows)?;
+        Ok(bits)
+    }
+
     /// The bits of a signal.
     pub fn mask(&self, signal: SigId) -> u128
         ensures { result ≡ mask_of self.now.masks signal.0 }
@@ -56,7 +65,22 @@ impl BitSet {
         ensures { OnOk result ((s k : ℕ) → has self.new.masks s k ≡ (has self.old.masks s k || has_row row s k)) }
     {
         let mask = self.mask(row.signal);
-        self.put(row.signal, mask | row.mask)
+        let more = mask | row.mask;
+        // Bits that are there already take no second search.
+        if more == mask {
+            return Ok(());
+        }
+        self.put(row.signal, more)
+    }
+
+    /// Adds the bits of rows.
+    fn insert_all(&mut self, rows: &[Row]) -> Result<(), Memory>
+        ensures { OnOk result ((s k : ℕ) → has self.new.masks s k ≡ (has self.old.masks s k || has_rows rows.now s k)) }
+    {
+        for row in rows {
+            self.insert(*row)?;
+        }
+        Ok(())
     }
 
     /// Takes the bits of a row out.
