@@ -53,12 +53,12 @@ impl<V: Copy> NameMap<V> {
         ensures err { OnErr result (values_of self.new ≡ values_of self.old) }
     {
         let bytes = name.as_bytes();
-        let had = if is_short(bytes) {
-            self.short.insert(packed(bytes), value)?
-        } else {
-            let key = Vec::from_slice(self.alloc, bytes)?;
-            self.long.insert(key, value)?
-        };
+        if is_short(bytes) {
+            let had = self.short.insert(packed(bytes), value)?;
+            return Ok(had);
+        }
+        let key = Vec::from_slice(self.alloc, bytes)?;
+        let had = self.long.insert(key, value)?;
         Ok(had)
     }
 
