@@ -34,6 +34,24 @@ impl<'a> Sources<'a> {
         Ok(Sources { alloc, files })
     }
 
+    /// The same files where few places of them are written: the lines are gone through anew for each, and not before.
+    pub fn seldom(
+        alloc: Global,
+        names: &'a [String],
+        texts: &'a [Vec<u8>],
+    ) -> Result<Sources<'a>, Memory>
+        requires as_many { length names.now ≡ length texts.now }
+        requires short { All (λ text. length text.items ≤ 1048576) texts.now }
+        ensures { IfOk result (λ made. sources_of made ≡ sources names.now texts.now) }
+    {
+        let mut files = Vec::new(alloc);
+        for number in 0..names.len() {
+            let name = names[number].as_bytes();
+            files.push(SourceFile::seldom(name, texts[number].as_slice()))?;
+        }
+        Ok(Sources { alloc, files })
+    }
+
     /// No file yet.
     pub fn empty(alloc: Global) -> Sources<'a>
         ensures { sources_of result ≡ [] }
