@@ -1,11 +1,11 @@
 //! What the declarations of a module make together, name by name.
 
-ghost use Rattle.std.specs.Prelude.{◌≡◌, IfOk, OnOk, map};
+ghost use Rattle.std.specs.Prelude.{◌≡◌, ◌++◌, IfOk, OnOk, map};
 ghost use Rattle.std.specs.Option.{option_map};
 ghost use Rattle.rtl_tree.specs.TreeExpr.{identifier};
 ghost use Rattle.elab_scope.specs.Faults.{after, refusal};
 ghost use Rattle.elab_scope.specs.Names.{meanings, numbers_in};
-ghost use Rattle.elab_items.specs.Claims.{all_claim_faults, all_claimed, all_direction_faults, claim_faults, claims_after, claims_in, direction_faults, directed_faults, line_of, no_course, plain_claim, reach_after, signal_claim, with_claim};
+ghost use Rattle.elab_items.specs.Claims.{all_claim_faults, all_claimed, all_direction_faults, claim_faults, claims_after, claims_in, direction_faults, directed_faults, listed_claim, listed_faults, no_course, outside_faults, plain_claim, plain_faults, reach_after, signal_claim, signal_faults, with_claim};
 ghost use Rattle.elab_items.specs.Declarations.{declaration};
 
 use crate::claims::{Claims, Line, Sense, judge_listed, judge_outside, judge_plain, judge_signal};
@@ -42,69 +42,75 @@ fn reach_after(entry: Entry<'_>, names: &Names, reach: Reach) -> Reach
     }
 }
 
-fn claim_signal(
-    name: &Name,
-    form: Form,
-    signed: bool,
-    reach: Reach,
+/// A name in the head.
+fn take_listed<'a>(
+    name: &'a Name,
     claims: &mut Claims,
-) -> Result<(), Memory>
-    ensures { OnOk result (claims_in claims.new ≡ with_claim (claims_in claims.old) name.now.text (signal_claim (claims_in claims.old name.now.text) form (line_of form signed name.now.at reach))) }
+    best: Option<Fault<'a>>,
+) -> Result<Option<Fault<'a>>, Memory>
+    ensures claims { OnOk result (claims_in claims.new ≡ with_claim (claims_in claims.old) name.now.text (listed_claim (claims_in claims.old name.now.text))) }
+    ensures told { IfOk result (λ told. option_map refusal told ≡ after (option_map refusal best.entry) (listed_faults (identifier name.now) (claims_in claims.old name.now.text).listed)) }
 {
-    let line = Line::new(form, signed, name.at, reach);
-    let claim = claims.find(&name.text).with_signal(form, line);
-    claims.put(&name.text, claim)
+    let old = claims.find(&name.text);
+    claims.put(&name.text, old.listed())?;
+    Ok(judge_listed(name, old.listed, best))
 }
 
-fn claim_plain(name: &Name, own: Sense, claims: &mut Claims) -> Result<(), Memory>
-    ensures { OnOk result (claims_in claims.new ≡ with_claim (claims_in claims.old) name.now.text (plain_claim own (claims_in claims.old name.now.text))) }
-{
-    let claim = claims.find(&name.text).with_plain(own);
-    claims.put(&name.text, claim)
-}
-
-/// What is claimed after a declaration.
-fn claim(entry: Entry<'_>, reach: Reach, claims: &mut Claims) -> Result<(), Memory>
-    ensures { OnOk result (claims_in claims.new ≡ claims_after (claims_in claims.old) reach (declaration entry.entry)) }
-{
-    match entry {
-        Entry::ParameterRange(_) | Entry::SignalRange(_) => {}
-        Entry::Listed(name) => {
-            let claim = claims.find(&name.text).listed();
-            claims.put(&name.text, claim)?;
-        }
-        Entry::Signal { form, signed, name } => claim_signal(name, form, signed, reach, claims)?,
-        Entry::Parameter(_, name, _) => claim_plain(name, Sense::Number, claims)?,
-        Entry::Integer(name) => claim_plain(name, Sense::Number, claims)?,
-        Entry::Instance(name) => claim_plain(name, Sense::Instance, claims)?,
-    }
-    Ok(())
-}
-
-/// The faults of a declaration behind others.
+/// A declaration of a signal.
 #[tactic(auto, using(elab_scope::proofs::Least::after_append))]
-fn judge_claim<'a>(
+fn take_signal<'a>(
+    name: &'a Name,
+    form: Form,
+    line: Line,
+    claims: &mut Claims,
+    best: Option<Fault<'a>>,
+) -> Result<Option<Fault<'a>>, Memory>
+    ensures claims { OnOk result (claims_in claims.new ≡ with_claim (claims_in claims.old) name.now.text (signal_claim (claims_in claims.old name.now.text) form line)) }
+    ensures told { IfOk result (λ told. option_map refusal told ≡ after (option_map refusal best.entry) (outside_faults (identifier name.now) form (claims_in claims.old name.now.text).listed ++ signal_faults (identifier name.now) (claims_in claims.old name.now.text).sense line)) }
+{
+    let old = claims.find(&name.text);
+    claims.put(&name.text, old.with_signal(form, line))?;
+    let best = judge_outside(name, form, old.listed, best);
+    Ok(judge_signal(name, old.sense, line, best))
+}
+
+/// A declaration of what is no signal.
+fn take_plain<'a>(
+    name: &'a Name,
+    own: Sense,
+    claims: &mut Claims,
+    best: Option<Fault<'a>>,
+) -> Result<Option<Fault<'a>>, Memory>
+    ensures claims { OnOk result (claims_in claims.new ≡ with_claim (claims_in claims.old) name.now.text (plain_claim own (claims_in claims.old name.now.text))) }
+    ensures told { IfOk result (λ told. option_map refusal told ≡ after (option_map refusal best.entry) (plain_faults (identifier name.now) (claims_in claims.old name.now.text).sense)) }
+{
+    let old = claims.find(&name.text);
+    claims.put(&name.text, old.with_plain(own))?;
+    Ok(judge_plain(name, old.sense, best))
+}
+
+/// A declaration behind others: what is claimed after it, and its faults.
+fn take_entry<'a>(
     entry: Entry<'a>,
     names: &Names,
-    claims: &Claims,
     reach: Reach,
+    claims: &mut Claims,
     best: Option<Fault<'a>>,
-) -> Option<Fault<'a>>
-    ensures { option_map refusal result ≡ after (option_map refusal best.entry) (claim_faults (numbers_in (meanings names.now)) (claims_in claims.now) reach (declaration entry.entry)) }
+) -> Result<Option<Fault<'a>>, Memory>
+    ensures claims { OnOk result (claims_in claims.new ≡ claims_after (claims_in claims.old) reach (declaration entry.entry)) }
+    ensures told { IfOk result (λ told. option_map refusal told ≡ after (option_map refusal best.entry) (claim_faults (numbers_in (meanings names.now)) (claims_in claims.old) reach (declaration entry.entry))) }
 {
     match entry {
-        Entry::ParameterRange(_) => best,
-        Entry::SignalRange(range) => judge_range(MOST, range, names, best),
-        Entry::Listed(name) => judge_listed(name, claims.find(&name.text).listed, best),
+        Entry::ParameterRange(_) => Ok(best),
+        Entry::SignalRange(range) => Ok(judge_range(MOST, range, names, best)),
+        Entry::Listed(name) => take_listed(name, claims, best),
         Entry::Signal { form, signed, name } => {
-            let claim = claims.find(&name.text);
-            let best = judge_outside(name, form, claim.listed, best);
             let line = Line::new(form, signed, name.at, reach);
-            judge_signal(name, claim.sense, line, best)
+            take_signal(name, form, line, claims, best)
         }
-        Entry::Parameter(_, name, _) | Entry::Integer(name) | Entry::Instance(name) => {
-            judge_plain(name, claims.find(&name.text).sense, best)
-        }
+        Entry::Parameter(_, name, _) => take_plain(name, Sense::Number, claims, best),
+        Entry::Integer(name) => take_plain(name, Sense::Number, claims, best),
+        Entry::Instance(name) => take_plain(name, Sense::Instance, claims, best),
     }
 }
 
@@ -122,8 +128,7 @@ pub fn join<'a>(
     let mut reach = Reach::Scalar;
     let mut best = best;
     for entry in entries {
-        best = judge_claim(*entry, names, &claims, reach, best);
-        claim(*entry, reach, &mut claims)?;
+        best = take_entry(*entry, names, reach, &mut claims, best)?;
         reach = reach_after(*entry, names, reach);
     }
     Ok(Joined { claims, best })
