@@ -1,6 +1,7 @@
 -- What can wake a process with a level list.
 use Rattle.std.proofs.Common.{◌≡◌, ◌∙◌, ℕ, zero, suc, ◌+◌, ◌<◌, ◌≤◌, ◌==◌, Bool, true, false, not, cond, ◌&&◌, ◌||◌, List, [], ◌∷◌, ◌++◌, length, take, get_or, Some, refl, sym, ap, subst, arith, inl, inr}
 use Rattle.std.specs.Prelude.{bit_and, bit_or, bit_xor}
+use Rattle.std.specs.BTreeMap.{BTreeMap}
 use Rattle.std.specs.List.{enumerate_from, list_any, slice_get}
 use Rattle.std.proofs.lemmas.Bool.{and_from, and_parts, cases_Bool, eq-eqb, eqb-true, false≢true, ne_eqb, or_cases, or_left, or_right}
 use Rattle.rtl_bits.specs.Bits.{is_one_at}
@@ -20,7 +21,6 @@ use Rattle.check_found.specs.Masks.{has_in, mask_in}
 use Rattle.check_found.proofs.Gathering.{gets_nothing, gets_one, take_next}
 use Rattle.check_found.proofs.Inside.{listed_inside}
 use Rattle.check_found.proofs.Signals.{some_at, some_found}
-use Rattle.check_sense.specs.declared.masks.Masks.{Masks}
 use Rattle.check_sense.specs.declared.waking.Writers.{Writers}
 use Rattle.check_sense.specs.Sense.{IsNeverWakes, another_writes, can_wake, is_top, never_wakes, never_wakes_at}
 use Rattle.check_sense.specs.Telling.{AreWriters, GetsWriter, has_level_list, itself, row_wakes, some_write, top_at, two_write, waking_of}
@@ -187,7 +187,7 @@ module _ (ws : ℕ → ℕ) (L B : BitSet) where
 
 -- ---- rows with a bit that wakes
 
-module _ (d : Parts) (p : ℕ) (task : Task) (at : slice_get d.tasks p ≡ Some task) (writers : Writers) (own : Masks) (are : AreWriters d d.tasks writers) (owns : (s k : ℕ) → has own.masks s k ≡ written d task.does s k) where
+module _ (d : Parts) (p : ℕ) (task : Task) (at : slice_get d.tasks p ≡ Some task) (writers : Writers) (own : BTreeMap ℕ ℕ) (are : AreWriters d d.tasks writers) (owns : (s k : ℕ) → has own s k ≡ written d task.does s k) where
   abbrev beside : BitSet
   beside s k = top_at d.signals s || another_writes d p s k
 
@@ -195,11 +195,11 @@ module _ (d : Parts) (p : ℕ) (task : Task) (at : slice_get d.tasks p ≡ Some 
   masked_differ true b = refl
   masked_differ false b = refl
 
-  another_mask : (s k : ℕ) → is_one_at (bit_or (mask_in writers.twice s) (bit_and (mask_in writers.once s) (bit_xor (mask_in writers.once s) (mask_of own.masks s)))) k ≡ another_writes d p s k
+  another_mask : (s k : ℕ) → is_one_at (bit_or (mask_in writers.twice s) (bit_and (mask_in writers.once s) (bit_xor (mask_in writers.once s) (mask_of own s)))) k ≡ another_writes d p s k
   another_mask s k =
       let once = mask_in writers.once s in
       let twice = mask_in writers.twice s in
-      let mine = mask_of own.masks s in
+      let mine = mask_of own s in
       one_at_or twice (bit_and once (bit_xor once mine)) k
       ∙ ap (λ b. is_one_at twice k || b) (one_at_and once (bit_xor once mine) k ∙ ap (λ b. is_one_at once k && b) (one_at_xor once mine k) ∙ masked_differ (is_one_at once k) (is_one_at mine k))
       ∙ ap (λ b. b || (is_one_at once k && not (is_one_at mine k))) (are.twice s k)
@@ -215,7 +215,7 @@ module _ (d : Parts) (p : ℕ) (task : Task) (at : slice_get d.tasks p ≡ Some 
       ]
     where
       others : ℕ
-      others = bit_or (mask_in writers.twice row.signal.0) (bit_and (mask_in writers.once row.signal.0) (bit_xor (mask_in writers.once row.signal.0) (mask_of own.masks row.signal.0)))
+      others = bit_or (mask_in writers.twice row.signal.0) (bit_and (mask_in writers.once row.signal.0) (bit_xor (mask_in writers.once row.signal.0) (mask_of own row.signal.0)))
 
       and_true : (a : Bool) → a ≡ (a && true)
       and_true true = refl

@@ -12,7 +12,6 @@ use Rattle.rtl_rule.specs.Parts.{Parts, within, written}
 use Rattle.check_found.specs.rtl_scan.declared.bits.Row.{Row}
 use Rattle.check_found.specs.rtl_scan.Sets.{mask_of}
 use Rattle.check_found.specs.Masks.{has_in, mask_in}
-use Rattle.check_sense.specs.declared.masks.Masks.{Masks}
 use Rattle.check_sense.specs.declared.waking.Writers.{Writers}
 use Rattle.check_sense.specs.Sense.{is_top, sense_missing_at}
 
@@ -53,11 +52,11 @@ top_at (signal ∷ signals) zero = is_top signal.kind
 top_at (signal ∷ signals) (suc i) = top_at signals i
 
 -- the bits of a row that are of a top input, or may be written by a process beside one that may write its own
-abbrev pub waking_of : List Signal → Writers → Masks → Row → ℕ
+abbrev pub waking_of : List Signal → Writers → BTreeMap ℕ ℕ → Row → ℕ
 waking_of signals writers own row =
-    cond (top_at signals row.signal.0) row.mask (bit_and row.mask (bit_or (mask_in writers.twice row.signal.0) (bit_and (mask_in writers.once row.signal.0) (bit_xor (mask_in writers.once row.signal.0) (mask_of own.masks row.signal.0)))))
+    cond (top_at signals row.signal.0) row.mask (bit_and row.mask (bit_or (mask_in writers.twice row.signal.0) (bit_and (mask_in writers.once row.signal.0) (bit_xor (mask_in writers.once row.signal.0) (mask_of own row.signal.0)))))
 
-abbrev pub row_wakes : List Signal → Writers → Masks → Row → Bool
+abbrev pub row_wakes : List Signal → Writers → BTreeMap ℕ ℕ → Row → Bool
 row_wakes signals writers own row = not (waking_of signals writers own row == 0)
 
 -- a process more that may write some bits

@@ -2,7 +2,6 @@
 #![tactic(auto)]
 
 mod edges;
-mod masks;
 mod missing;
 mod waking;
 

@@ -7,10 +7,9 @@ ghost use Rattle.rtl_rule.specs.Parts.{parts};
 ghost use Rattle.check_found.specs.Gathered.{Gets, signal_numbers, task_sites};
 ghost use Rattle.check_found.specs.Scanned.{AreScans};
 ghost use Rattle.check_sense.specs.Sense.{AreSenseMissing, IsSenseMissing, sense_missing_at};
-ghost use Rattle.check_sense.specs.Telling.{has_items, lacking_in};
+ghost use Rattle.check_sense.specs.Telling.{has_items, lacking_in, lacks};
 
-use crate::masks::Masks;
-use check_found::rtl_scan::bits::Row;
+use check_found::rtl_scan::bits::{BitSet, Row};
 use check_found::scans::Scans;
 use rtl_flat::act::{Does, Listed, ProcId, Process};
 use rtl_rule::finding::Finding;
@@ -35,19 +34,26 @@ fn has_items(does: &Does) -> bool
     }
 }
 
+/// Whether a set lacks a bit of a row.
+fn lacks(listed: &BitSet, row: Row) -> bool
+    ensures { result ≡ lacks listed.now.masks row }
+{
+    row.mask & (row.mask ^ listed.mask(row.signal)) != 0
+}
+
 /// Tells of each row with a bit that isn't listed.
 #[tactic(auto, using(std::proofs::lemmas::List::append_assoc))]
 fn push_lacking(
     process: &Process,
     read: &[Row],
-    listed: &Masks,
+    listed: &BitSet,
     found: &mut Vec<Finding>,
 ) -> Result<(), Memory>
     ensures { OnOk result (found.new.items
         ≡ found.old.items ++ lacking_in (task process.now) listed.now.masks read.now) }
 {
     for row in read {
-        if listed.lacks(*row) {
+        if lacks(listed, *row) {
             found.push(Finding {
                 rule: Rule::SenseMissing,
                 signal: Some(row.signal),
@@ -77,7 +83,7 @@ fn push_missing(
         return Ok(());
     }
     let read = scans.read_outside(p);
-    let masks = Masks::of(alloc, scans.listed(p))?;
+    let masks = BitSet::of(alloc, &scans.listed(p).rows)?;
     push_lacking(process, &read.rows, &masks, found)
 }
 

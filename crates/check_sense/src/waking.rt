@@ -10,9 +10,8 @@ ghost use Rattle.check_found.specs.Scanned.{AreScans};
 ghost use Rattle.check_sense.specs.Sense.{AreNeverWakes, IsNeverWakes, can_wake, is_top, never_wakes_at};
 ghost use Rattle.check_sense.specs.Telling.{AreWriters, GetsWriter, has_level_list, itself, row_wakes, top_at};
 
-use crate::masks::Masks;
 use check_found::masks::SignalMasks;
-use check_found::rtl_scan::bits::{Bits, Row};
+use check_found::rtl_scan::bits::{BitSet, Bits, Row};
 use check_found::scans::Scans;
 use rtl_flat::act::{Does, ProcId};
 use rtl_flat::expr::SigId;
@@ -56,8 +55,8 @@ impl Writers {
 
     /// Whether a bit of a row is of a top input, or may be written by a process other than one that
     /// may write some bits.
-    fn wake(&self, signals: &[Signal], own: &Masks, row: Row) -> bool
-        ensures { result ≡ row_wakes signals.now self.now own.now row }
+    fn wake(&self, signals: &[Signal], own: &BitSet, row: Row) -> bool
+        ensures { result ≡ row_wakes signals.now self.now own.now.masks row }
     {
         if is_top(signals, row.signal) {
             return row.mask != 0;
@@ -85,8 +84,8 @@ fn is_input(signal: &Signal) -> bool
     matches!(signal.kind, Kind::TopInput)
 }
 
-fn wake_some(signals: &[Signal], writers: &Writers, own: &Masks, rows: &[Row]) -> bool
-    ensures { result ≡ list_any (row_wakes signals.now writers.now own.now) rows.now }
+fn wake_some(signals: &[Signal], writers: &Writers, own: &BitSet, rows: &[Row]) -> bool
+    ensures { result ≡ list_any (row_wakes signals.now writers.now own.now.masks) rows.now }
 {
     for row in rows {
         if writers.wake(signals, own, *row) {
@@ -106,7 +105,7 @@ fn can_wake(alloc: Global, scans: &Scans, writers: &Writers, p: ProcId) -> Resul
         → wakes ≡ can_wake d p.0 task.does) }
 {
     let listed = scans.listed(p);
-    let own = Masks::of(alloc, scans.written(p))?;
+    let own = BitSet::of(alloc, &scans.written(p).rows)?;
     Ok(wake_some(&scans.design.signals, writers, &own, &listed.rows))
 }
 

@@ -3,6 +3,7 @@ use Rattle.std.proofs.lemmas.Result.{on_ok_weaker}
 use Rattle.rtl_flat.specs.Process.{Task, task}
 use Rattle.rtl_rule.specs.Parts.{parts}
 use Rattle.check_found.specs.rtl_scan.declared.bits.Row.{Row}
+use Rattle.check_found.specs.rtl_scan.Sets.{has_rows}
 use Rattle.check_sense.specs.Telling.{has_items, lacking_in}
 use Rattle.check_sense.proofs.Findings.{task_is}
 use Rattle.check_sense.proofs.Left.{gets_missing, gets_no_missing}
@@ -23,6 +24,6 @@ returns c =
     let masks = c.in_ok-masks.masks.masks in
     let same = task_is c.args.scans.now.design.now c.args.p.0 process c.requires.there c.index-process.ensures t at in
     gets_missing (parts c.args.scans.now.design.now) c.args.p.0 t read masks (sym (ap (λ (t : Task). has_items t.does) same) ∙ sym c.has_items.ensures ∙ c.if-not-has_items.false)
-    c.read_outside-read.ensures.order (c.read_outside-read.ensures.bits t at) (λ s k. c.in_ok-masks.ensures s k ∙ c.listed.ensures.bits t at s k) old c.push_lacking.new.found.items
-    (added ∙ ap (λ (rows : List Row). old ++ lacking_in (task process) masks rows) c.deref.ensures.value ∙ ap (λ (t : Task). old ++ lacking_in t masks read) same))
+    c.read_outside-read.ensures.order (c.read_outside-read.ensures.bits t at) (λ s k. c.in_ok-masks.ensures s k ∙ ap (λ (rows : List Row). has_rows rows s k) c.deref.ensures.value ∙ c.listed.ensures.bits t at s k) old c.push_lacking.new.found.items
+    (added ∙ ap (λ (rows : List Row). old ++ lacking_in (task process) masks rows) c.deref-2.ensures.value ∙ ap (λ (t : Task). old ++ lacking_in t masks read) same))
     c.push_lacking.ensures
