@@ -1,5 +1,5 @@
 -- The parts of arguments that hold vectors, as contracts see them, and those of the targets that they are.
-use Rattle.std.specs.Prelude.{ℕ, List, ◌++◌, map, Vec}
+use Rattle.std.specs.Prelude.{ℕ, ◌++◌, map, Vec}
 use Rattle.std.specs.declared.alloc.Global.{Global}
 use Rattle.std.proofs.Common.{◌≡◌, ◌∙◌, ap, refl}
 use Rattle.rtl_tree.specs.declared.tree.expr.Expr.{Expr}

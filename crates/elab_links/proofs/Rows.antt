@@ -1,5 +1,5 @@
 -- Arguments that hold vectors, as contracts see them.
-use Rattle.std.specs.Prelude.{ℕ, List, map, Vec}
+use Rattle.std.specs.Prelude.{ℕ, map, Vec}
 use Rattle.std.specs.declared.alloc.Global.{Global}
 use Rattle.std.proofs.Common.{◌≡◌, ◌∙◌, ap}
 use Rattle.rtl_tree.specs.declared.tree.expr.Expr.{Expr}

@@ -1,5 +1,5 @@
 -- Steps of loops over lists.
-use Rattle.std.specs.Prelude.{ℕ, suc, List, [], ◌∷◌, ◌++◌, map, Option}
+use Rattle.std.specs.Prelude.{ℕ, List, [], ◌∷◌, ◌++◌, map, Option}
 use Rattle.std.proofs.Common.{◌≡◌, ◌∙◌, ◌<◌, ◌+◌, ap, refl, sym, drop, length, get_or}
 use Rattle.std.proofs.lemmas.List.{append_assoc, drop_more}
 use Rattle.elab_items.specs.elab_scope.Faults.{Refusal, after}

@@ -4,7 +4,7 @@
 use Rattle.std.specs.Prelude.{ℕ, Bool, true, false, ◌&&◌, ◌||◌, not, List, [], ◌∷◌, ◌++◌, Option, None, Some, Ok, Err}
 use Rattle.std.specs.List.{list_any}
 use Rattle.rtl_const.specs.Constant.{Outcome, constant}
-use Rattle.rtl_tree.specs.TreeExpr.{Formula, Number, Read, ReadBit, ReadPart, Parens, Convert, Concat, Repeat, Unary, Binary, Choose, Formulas, no_formulas, more_formulas}
+use Rattle.rtl_tree.specs.TreeExpr.{Formula, Read, ReadBit, ReadPart, Concat, Formulas, no_formulas, more_formulas}
 use Rattle.rtl_flat.specs.Process.{Piece}
 use Rattle.rtl_flat.specs.Process as piece
 use Rattle.elab_items.specs.elab_scope.declared.covers.Cover.{Cover}

@@ -1,7 +1,6 @@
 -- The instances that an item places, with what they set their parameters to.
 -- Worked examples: crates/elab_flat/proofs/Examples.antt, crates/tests_elab/src/items.rt.
-use Rattle.std.specs.Prelude.{ℕ, List, [], ◌∷◌, Option, None, Some, map}
-use Rattle.rtl_tree.specs.TreeExpr.{Identifier, identifier}
+use Rattle.std.specs.Prelude.{List, Option, None, Some, map}
 use Rattle.rtl_tree.specs.TreeItem.{ModuleItem, Ports, Nets, Variables, Integers, Parameters, Drives, Always, Instances, Association, Instantiation, instantiation}
 use Rattle.rtl_tree.specs.TreeModule.{Circuit, circuit}
 use Rattle.elab_items.specs.elab_scope.Names.{Meanings}

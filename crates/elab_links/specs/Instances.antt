@@ -1,6 +1,6 @@
 -- What is wrong with an item that places instances, and which modules it places (IEEE 1364-2001 section 12.1).
 -- Worked examples: crates/elab_walk/proofs/Examples.antt.
-use Rattle.std.specs.Prelude.{ℕ, nat_lt, ◌+◌, Bool, if◌then◌else◌, List, [], ◌∷◌, ◌++◌, length, map, Option, None, Some}
+use Rattle.std.specs.Prelude.{ℕ, nat_lt, if◌then◌else◌, List, [], ◌∷◌, ◌++◌, length, Option, None, Some}
 use Rattle.std.specs.List.{list_any}
 use Rattle.std.specs.Str.{bytes_eq}
 use Rattle.rtl_tree.specs.TreeExpr.{Identifier}

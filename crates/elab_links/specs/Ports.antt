@@ -9,7 +9,7 @@ use Rattle.rtl_tree.specs.TreeModule as tree
 use Rattle.elab_items.specs.Claims.{direction_of}
 use Rattle.elab_items.specs.Declarations.{Declaration, ParameterRange, Parameter, SignalRange, Listed, Signal, Integer, Instance, declarations}
 use Rattle.elab_links.specs.declared.ports.Ports.{Ports as Kept}
-use Rattle.elab_links.specs.Marks.{Marks, marks_of, no_marks, with_marks}
+use Rattle.elab_links.specs.Marks.{Marks, no_marks, with_marks}
 
 abbrev pub port_name : HeaderPort → Identifier
 port_name port = port.name
@@ -66,6 +66,6 @@ abbrev pub sockets : Kept → Sockets
 sockets kept =
     record {
       order = map (λ name. identifier name.now) kept.order.items;
-      listed = marks_of kept.listed;
+      listed = with_marks no_marks (map (λ name. identifier name.now) kept.order.items);
       direction = values_of kept.directions;
     }

@@ -164,12 +164,13 @@ fn judge_named<'a>(
     ensures { IfOk result (λ told. option_map refusal told ≡ after (option_map refusal best.entry) (named_link_faults (sockets ports.now) (meanings names.now) no_marks (map associated arguments.now))) }
 {
     let mut best = best;
+    let listed = ports.listed(alloc)?;
     let mut taken = NameSet::new(alloc);
     for argument in arguments {
         let port = &argument.name.text;
         let at = argument.name.at;
         best = judge_name(
-            ports.has(port),
+            listed.has(port),
             taken.has(port),
             at,
             Cause::Port(port),

@@ -102,7 +102,6 @@ pub fn set_of(alloc: Global, names: &[&Name]) -> Result<NameSet, Memory>
 pub struct Ports<'a> {
     /// Their names, in the order of the head.
     pub order: Vec<&'a Name>,
-    listed: NameSet,
     directions: NameMap<Direction>,
 }
 
@@ -117,20 +116,15 @@ impl<'a> Ports<'a> {
         ensures { IfOk result (λ made. sockets made ≡ sockets_of (circuit written.now)) }
     {
         let order = port_names(alloc, &written.ports)?;
-        let listed = set_of(alloc, &order)?;
         let directions = directions_by(alloc, entries)?;
-        Ok(Ports {
-            order,
-            listed,
-            directions,
-        })
+        Ok(Ports { order, directions })
     }
 
-    /// Whether a port has the name.
-    pub fn has(&self, name: &Text) -> bool
-        ensures { result ≡ (sockets self.now).listed name.now }
+    /// The set of their names.
+    pub fn listed(&self, alloc: Global) -> Result<NameSet, Memory>
+        ensures { IfOk result (λ set. marks_of set ≡ (sockets self.now).listed) }
     {
-        self.listed.has(name)
+        set_of(alloc, &self.order)
     }
 
     /// The direction of the port, where it is known.
