@@ -126,8 +126,12 @@ fn push_mixed(
         Gets (IsMixedAssign d) (mixed_assign_at d) (task_sites (signal_numbers d) p (task process.now))
         found.old.items found.new.items) }
 {
-    let now = first_targets(alloc, design, &process.does, false)?;
     let late = first_targets(alloc, design, &process.does, true)?;
+    // Most processes assign in one way alone.
+    if late.is_empty() {
+        return Ok(());
+    }
+    let now = first_targets(alloc, design, &process.does, false)?;
     now.push(Rule::MixedAssign, process, Among::Marked(&late), found)
 }
 

@@ -16,10 +16,9 @@ ghost use Rattle.check_graph.specs.check_found.Gathered.{Gets, signal_numbers, t
 
 use crate::kinds::is_comb;
 use crate::marks::{Among, Marks};
-use crate::masks::Masks;
 use check_graph::check_found::scans::Scans;
 use check_graph::check_found::sets::sure;
-use check_graph::rtl_scan::bits::Row;
+use check_graph::rtl_scan::bits::{BitSet, Row};
 use rtl_flat::act::ProcId;
 use rtl_flat::design::Design;
 use rtl_rule::finding::Finding;
@@ -28,14 +27,21 @@ use rtl_tree::memory::Memory;
 use rtl_tree::text::Spot;
 use std::alloc::Global;
 
+/// Whether a bit of a row isn't in a set.
+fn leaves(sure: &BitSet, row: Row) -> bool
+    ensures { result ≡ leaves (mask_of sure.now.masks) row }
+{
+    row.mask & (row.mask ^ sure.mask(row.signal)) != 0
+}
+
 /// Marks the signals of rows with a bit outside a set.
-fn mark_left(rows: &[Row], sure: &Masks, spot: Spot, marks: &mut Marks) -> Result<(), Memory>
+fn mark_left(rows: &[Row], sure: &BitSet, spot: Spot, marks: &mut Marks) -> Result<(), Memory>
     ensures { OnOk result ((s : ℕ) → get nat_cmp marks.new.spots s
         ≡ cond (any_row (leaves (mask_of sure.now.masks)) rows.now s) (Some spot)
         (get nat_cmp marks.old.spots s)) }
 {
     for row in rows {
-        if sure.leaves(*row) {
+        if leaves(sure, *row) {
             marks.put(row.signal, spot)?;
         }
     }
@@ -43,16 +49,14 @@ fn mark_left(rows: &[Row], sure: &Masks, spot: Spot, marks: &mut Marks) -> Resul
 }
 
 /// The bits that every path of a process writes.
-fn sure_bits(alloc: Global, design: &Design, p: ProcId) -> Result<Masks, Memory>
+fn sure_bits(alloc: Global, design: &Design, p: ProcId) -> Result<BitSet, Memory>
     requires { p.0 < length design.now.processes.items }
     ensures { let d = parts design.now in
         IfOk result (λ bits. (task : Task) → slice_get d.tasks p.0 ≡ Some task → (s k : ℕ) →
         has bits.masks s k ≡ is_sure (flow_of (widths d) task.does) s k) }
 {
     let sure = sure(alloc, design, p)?;
-    let mut bits = Masks::new(alloc);
-    bits.insert_all(&sure.rows)?;
-    Ok(bits)
+    BitSet::of(alloc, &sure.rows)
 }
 
 fn push_latches(

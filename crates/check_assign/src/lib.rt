@@ -8,7 +8,6 @@ mod lists;
 mod literals;
 mod loops;
 mod marks;
-mod masks;
 mod targets;
 
 pub use kinds::{blocking_state, mixed_assign, nonblocking_comb};

@@ -1,6 +1,6 @@
 // Signals with places in the text, and their findings.
 
-ghost use Rattle.std.specs.Prelude.{ℕ, ◌≡◌, ◌==◌, None, Some, cond, false, slice_index_or, OnOk};
+ghost use Rattle.std.specs.Prelude.{ℕ, ◌≡◌, ◌==◌, None, Some, cond, false, slice_index_or, true, OnOk};
 ghost use Rattle.std.specs.Ordering.{nat_cmp};
 ghost use Rattle.std.specs.BTreeMap.{get};
 ghost use Rattle.check_assign.specs.Marks.{Shows, is_some_spot, joined, wants};
@@ -38,6 +38,12 @@ impl Marks {
         Marks {
             spots: BTreeMap::new(alloc),
         }
+    }
+
+    pub(crate) fn is_empty(&self) -> bool
+        ensures { result ≡ true → (s : ℕ) → get nat_cmp self.now.spots s ≡ None }
+    {
+        self.spots.is_empty()
     }
 
     /// Marks a signal at a place.

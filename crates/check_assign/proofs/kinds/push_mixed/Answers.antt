@@ -1,4 +1,4 @@
-use Rattle.std.proofs.Common.{ℕ, cond, None}
+use Rattle.std.proofs.Common.{◌∙◌, ℕ, false, cond, None, refl, sym}
 use Rattle.std.specs.Ordering.{nat_cmp}
 use Rattle.std.specs.BTreeMap.{get}
 use Rattle.std.proofs.lemmas.Result.{on_ok_weaker}
@@ -7,9 +7,17 @@ use Rattle.rtl_rule.specs.declared.rule.Rule.TheVariants.{MixedAssign}
 use Rattle.rtl_rule.specs.Parts.{parts}
 use Rattle.check_assign.specs.Assigned.{IsMixedAssign, mixed_assign_at}
 use Rattle.check_assign.specs.Marks.{is_some_spot}
-use Rattle.check_assign.proofs.Firsts.{mixed_inside, mixed_tells}
-use Rattle.check_assign.proofs.Shown.{gets_shown}
+use Rattle.check_assign.proofs.Firsts.{first_of, mixed_inside, mixed_tells}
+use Rattle.check_assign.proofs.Shown.{gets_no, gets_shown}
 use Rattle.check_assign.proofs.kinds.push_mixed.Goals as goal
+
+pub returns-then-is_empty : goal.returns-then-is_empty
+returns-then-is_empty c = λ p.
+    let d = parts c.args.design.now in
+    let one = task c.args.process.now in
+    gets_no (IsMixedAssign d) (mixed_assign_at d) d p one
+    (mixed_tells d p one (λ s. first_of d false one.does s) (λ s. None) (λ s. refl) (λ s. sym (c.is_empty.ensures c.if-is_empty.true s) ∙ c.in_ok-late.ensures s))
+    c.args.found.now.items
 
 pub returns : goal.returns
 returns c =

@@ -1,7 +1,0 @@
-use Rattle.std.proofs.Common.{◌≡◌, ℕ, ◌||◌, drop}
-use Rattle.check_graph.specs.rtl_scan.Sets.{has, has_rows}
-use Rattle.check_assign.proofs.masks.Masks.insert_all.Given as goal
-
-abbrev pub invariant-loop-row : goal.invariant-loop-row
-invariant-loop-row l =
-    (s k : ℕ) → (has l.self.masks s k || has_rows (drop l.row-index l.rows) s k) ≡ (has l.fn.self.masks s k || has_rows l.rows s k)
