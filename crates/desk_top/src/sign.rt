@@ -1,11 +1,11 @@
 // The command `sign TOP FILE..`.
 
-ghost use Rattle.std.specs.Prelude.{◌≡◌, ◌≢◌, ◌≤◌, if◌then◌else◌, map, length, true, vec_len};
+ghost use Rattle.std.specs.Prelude.{◌≡◌, ◌≢◌, ◌≤◌, IfOk, if◌then◌else◌, map, length, true, vec_len};
 ghost use Rattle.std.specs.List.{All};
 ghost use Rattle.desk_io.specs.Causes.{Rose};
 ghost use Rattle.desk_io.specs.declared.shelf.TheConstants.{MAX_FILE_BYTES};
 ghost use Rattle.desk_build.specs.rtl_elab.Designs.{flat_in};
-ghost use Rattle.desk_places.specs.Places.{sources_of};
+ghost use Rattle.desk_places.specs.Places.{sources, sources_of};
 ghost use Rattle.desk_top.specs.Answers.{OverWorld};
 ghost use Rattle.desk_top.specs.Delivery.{IsCalmWork, IsWork, status_of};
 ghost use Rattle.desk_top.specs.declared.deliver.TheConstants.{DONE, OPEN};
@@ -51,11 +51,30 @@ fn judge(alloc: Global, top: &str, files: &[String], made: &[Vec<u8>]) -> Result
     ensures work { IsWork (IsJudged top.now (named (texts files.now) (map (λ text. text.items) made.now)) (map (λ text. text.items) made.now)) result }
     ensures read { result ≢ Err Stop.Unread }
 {
-    let sources = Sources::new(alloc, files, made)?;
+    // A refusal has one place.
+    let sources = Sources::seldom(alloc, files, made)?;
     match build(alloc, top, &sources, made) {
-        Ok(Built::Designed(design)) => judge_design(alloc, top, &sources, &design),
+        Ok(Built::Designed(design)) => judge_design(alloc, top, files, made, &design),
         Ok(Built::Refused(line)) => refuse(line),
         Err(Memory) => Err(Stop::Memory),
+    }
+}
+
+// The files, whose places are written seldom where nothing is found.
+fn sources_for<'a>(
+    alloc: Global,
+    files: &'a [String],
+    made: &'a [Vec<u8>],
+    ruling: &Ruling,
+) -> Result<Sources<'a>, Memory>
+    requires count { length made.now ≡ length files.now }
+    requires short { All (λ text. vec_len text ≤ MAX_FILE_BYTES) made.now }
+    ensures { IfOk result (λ found. sources_of found ≡ sources files.now made.now) }
+{
+    if ruling.findings.is_empty() {
+        Sources::seldom(alloc, files, made)
+    } else {
+        Sources::new(alloc, files, made)
     }
 }
 
@@ -63,16 +82,20 @@ fn judge(alloc: Global, top: &str, files: &[String], made: &[Vec<u8>]) -> Result
 fn judge_design(
     alloc: Global,
     top: &str,
-    sources: &Sources<'_>,
+    files: &[String],
+    made: &[Vec<u8>],
     design: &Design,
 ) -> Result<Work, Stop>
-    ensures work { IsWork (IsRuled top.now (sources_of sources.now) (flat_in design.now)) result }
+    requires count { length made.now ≡ length files.now }
+    requires short { All (λ text. vec_len text ≤ MAX_FILE_BYTES) made.now }
+    ensures work { IsWork (IsRuled top.now (sources files.now made.now) (flat_in design.now)) result }
     ensures read { result ≢ Err Stop.Unread }
 {
     let said = Verdict::of(alloc, design)?;
+    let sources = sources_for(alloc, files, made, &said.ruling)?;
     let waivers = vec![in alloc; None; said.ruling.findings.len()]?;
     let top = top.as_bytes();
-    let bytes = report(alloc, top, sources, &said.ruling, &said.told, &waivers)?;
+    let bytes = report(alloc, top, &sources, &said.ruling, &said.told, &waivers)?;
     Ok(Work {
         ending: ending_of(&said.ruling),
         bytes,

@@ -1,5 +1,5 @@
-use Rattle.std.proofs.Common.{◌∙◌, map, subst}
-use Rattle.desk_places.specs.Places.{sources_of}
+use Rattle.std.proofs.Common.{◌∙◌, List, map, subst}
+use Rattle.desk_places.specs.Places.{Source, sources, sources_of}
 use Rattle.desk_build.specs.declared.front.Built.{Built as Made}
 use Rattle.desk_build.specs.rtl_elab.Designs.{flat_in}
 use Rattle.desk_build.specs.Building.{Designed, IsBuilt, Refused, built}
@@ -18,7 +18,8 @@ returns-in-Ok-Refused-clause-work c =
 
 pub returns-in-Ok-Designed-clause-work : goal.returns-in-Ok-Designed-clause-work
 returns-in-Ok-Designed-clause-work c =
-    judged_of c.args.top.now (sources_of c.in_ok-sources.sources) (named (texts c.args.files.now) (map (λ text. text.items) c.args.made.now)) (map (λ text. text.items) c.args.made.now) (Designed (flat_in c.in-Ok-Designed.design)) c.judge_design.result
-    (c.in_ok-sources.ensures ∙ named_of c.args.files.now c.args.made.now)
-    (subst (λ (m : Made). IsBuilt c.args.top.now (sources_of c.in_ok-sources.sources) (map (λ text. text.items) c.args.made.now) (built m)) c.in-Ok-Designed.field-0-is c.in-Ok-Designed.ensures)
+    judged_of c.args.top.now (sources c.args.files.now c.args.made.now) (named (texts c.args.files.now) (map (λ text. text.items) c.args.made.now)) (map (λ text. text.items) c.args.made.now) (Designed (flat_in c.in-Ok-Designed.design)) c.judge_design.result
+    (named_of c.args.files.now c.args.made.now)
+    (subst (λ (all : List Source). IsBuilt c.args.top.now all (map (λ text. text.items) c.args.made.now) (Designed (flat_in c.in-Ok-Designed.design))) c.in_ok-sources.ensures
+    (subst (λ (m : Made). IsBuilt c.args.top.now (sources_of c.in_ok-sources.sources) (map (λ text. text.items) c.args.made.now) (built m)) c.in-Ok-Designed.field-0-is c.in-Ok-Designed.ensures))
     c.judge_design.ensures.work
