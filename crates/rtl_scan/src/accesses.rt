@@ -27,8 +27,8 @@ pub struct Accesses {
 }
 
 impl Accesses {
-    /// Those of a design, as `reads`, `writes`, `lists` and `temporaries` give them, from two scans
-    /// of each process. Fails where memory runs out.
+    /// Those of a design, as `reads`, `writes`, `lists` and `temporaries` give them, from one scan of each process. Fails where
+    /// memory runs out.
     pub fn of(alloc: Global, d: &Design) -> Result<Accesses, Memory>
         ensures { IfOk result (AreAccesses d.now.signals.items (map task d.now.processes.items)) }
     {

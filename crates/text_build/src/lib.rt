@@ -1,4 +1,4 @@
-// Builds the trees of a text that is known to be spelled.
+// Builds the trees of a text, which has been surveyed or which is shown afterwards to spell what was read of it.
 #![tactic(auto)]
 
 mod attributes;

@@ -10,7 +10,8 @@ use rtl_tree::symbol::{Symbol, Terminal};
 /// and 200 levels more, so that it can be walked.
 pub const MOST_TOKENS: usize = 4096;
 
-/// Whether a text has no attributes, and a semicolon among each 4,096 tokens.
+/// Whether a text has no attributes, and ends or has a semicolon within each 4,096 tokens, as counted from its first and from
+/// each semicolon on.
 pub fn is_ordinary(tokens: &[Terminal]) -> bool
     ensures { result ≡ is_ordinary (map terminal tokens.now) }
 {
