@@ -1,10 +1,14 @@
 //! One row: words, files, and what is to fail.
 
+use crate::look::told;
 use desk_io::{MemoryShelf, MemorySink};
 use desk_top::top::desk;
 use std::alloc::Global;
 use std::io;
 use std::io::ErrorKind;
+
+/// A text that a call wrote is shown whole up to this many lines.
+const MOST_SHOWN: usize = 16;
 
 /// How many lines are shown at each end of a text that is longer.
 const SHOWN_LINES: usize = 4;
@@ -20,6 +24,8 @@ pub struct Row {
     alloc: Global,
     title: String,
     words: Vec<String>,
+    /// Whether the words are those of a look below the top call.
+    is_look: bool,
     shelf: MemoryShelf,
     sink: MemorySink,
     /// The file that is being read.
@@ -33,6 +39,7 @@ impl Row {
             alloc,
             title: String::from_str(alloc, title)?,
             words: Vec::new(alloc),
+            is_look: false,
             shelf: MemoryShelf::new(alloc),
             sink: MemorySink::new(alloc),
             name: String::new(alloc),
@@ -50,6 +57,9 @@ impl Row {
             self.end_file()?;
             Ok(self.name.push_str(name)?)
         } else if let Some(words) = line.strip_prefix("$") {
+            self.read_words(words)
+        } else if let Some(words) = line.strip_prefix(">") {
+            self.is_look = true;
             self.read_words(words)
         } else if let Some(more) = line.strip_prefix("*") {
             self.repeat(more)
@@ -108,11 +118,31 @@ impl Row {
         Ok(())
     }
 
-    /// Makes the call, and writes its status, how many reads and writes failed, and what it wrote.
+    /// Makes the call or takes the look, and writes what comes of it.
     fn run(&mut self, rt: &impl Print) -> io::Result<()> {
         self.end_file()?;
-        let status = desk(self.alloc, &self.words, &mut self.shelf, &mut self.sink);
         println!(rt; "== {}", self.title)?;
+        if self.is_look {
+            self.look(rt)
+        } else {
+            self.call(rt)
+        }
+    }
+
+    fn look(&mut self, rt: &impl Print) -> io::Result<()> {
+        match told(self.alloc, &self.words, &mut self.shelf) {
+            Ok(text) => show(
+                rt,
+                str::from_utf8(&text).map_err(|_| malformed())?,
+                usize::MAX,
+            ),
+            Err(stop) => println!(rt; "{stop}"),
+        }
+    }
+
+    /// Makes the call, and writes its status, how many reads and writes failed, and what it wrote.
+    fn call(&mut self, rt: &impl Print) -> io::Result<()> {
+        let status = desk(self.alloc, &self.words, &mut self.shelf, &mut self.sink);
         println!(rt; "status {status}")?;
         if self.shelf.faults() > 0 {
             println!(rt; "failed reads {}", self.shelf.faults())?;
@@ -123,6 +153,7 @@ impl Row {
         show(
             rt,
             str::from_utf8(self.sink.bytes()).map_err(|_| malformed())?,
+            MOST_SHOWN,
         )
     }
 }
@@ -135,11 +166,11 @@ pub fn end(rt: &impl Print, row: Option<Box<Row>>) -> io::Result<()> {
     }
 }
 
-/// Writes each line behind `|`, and one without its line feed behind `\`; of many lines the first and the last.
-fn show(rt: &impl Print, text: &str) -> io::Result<()> {
+/// Writes each line behind `|`, and one without its line feed behind `\`; of more than so many lines the first and the last.
+fn show(rt: &impl Print, text: &str, most: usize) -> io::Result<()> {
     let count = text.split_inclusive("\n").count();
     for (at, line) in text.split_inclusive("\n").enumerate() {
-        if at < SHOWN_LINES || count.saturating_sub(at) <= SHOWN_LINES || count <= 4 * SHOWN_LINES {
+        if count <= most || at < SHOWN_LINES || count.saturating_sub(at) <= SHOWN_LINES {
             match line.strip_suffix("\n") {
                 Some(line) => println!(rt; "|{line}")?,
                 None => println!(rt; "\\{line}")?,

@@ -1,8 +1,7 @@
-//! The lines of a demonstration's steps.
+//! The steps of a demonstration, for a look at it in a wave viewer: what the top inputs have after each, and for each output
+//! of the top, each register and latch and the demonstration's own signal the simulated and the synthesised value.
 
-ghost use Rattle.std.specs.Prelude.{◌≡◌};
-ghost use Rattle.demo_lines.specs.declared.moments.Stop.TheVariants as stop;
-
+use crate::look::Stop;
 use demo_replay::net_start::stored::{stored, top_inputs};
 use demo_replay::{ReplayFault, replay};
 use demo_told::{Demo, Shown};
@@ -12,89 +11,7 @@ use itoa::Buffer;
 use rtl_bits::Vec4;
 use rtl_flat::design::Design;
 use rtl_flat::expr::SigId;
-use rtl_tree::memory::Memory;
-use std::alloc::{AllocError, AllocFailed, Global};
-use std::io;
-use tests_designs::{NoDesign, designed};
-use thiserror::Error;
-
-/// Why there are no lines.
-#[derive(Debug, Error, Drop)]
-pub enum Stop {
-    #[error("{0}")]
-    NoDesign(NoDesign),
-    #[error("the demonstration isn't read")]
-    Malformed,
-    #[error("the demonstration can't be run again")]
-    NotShown,
-    #[error("out of memory")]
-    Memory,
-}
-
-impl From<AllocError> for Stop {
-    ghost from_gives = { λ _ e. e ≡ stop.Memory };
-
-    fn from(_error: AllocError) -> Stop {
-        Stop::Memory
-    }
-}
-
-impl From<Memory> for Stop {
-    ghost from_gives = { λ _ e. e ≡ stop.Memory };
-
-    fn from(_error: Memory) -> Stop {
-        Stop::Memory
-    }
-}
-
-impl<T: Drop> From<AllocFailed<T>> for Stop {
-    ghost from_gives = { λ _ e. e ≡ stop.Memory };
-
-    fn from(_error: AllocFailed<T>) -> Stop {
-        Stop::Memory
-    }
-}
-
-/// A module's name, a text, and the line of a demonstration.
-#[derive(Drop)]
-pub struct Input {
-    top: Vec<u8>,
-    text: Vec<u8>,
-    demonstration: Vec<u8>,
-    is_behind: bool,
-}
-
-impl Input {
-    pub fn new(alloc: Global) -> Input {
-        Input {
-            top: Vec::new(alloc),
-            text: Vec::new(alloc),
-            demonstration: Vec::new(alloc),
-            is_behind: false,
-        }
-    }
-
-    /// Names the module.
-    pub fn name(&mut self, top: &str) -> io::Result<()> {
-        Ok(self.top.extend_from_slice(top.as_bytes())?)
-    }
-
-    /// Reads a line.
-    pub fn read(&mut self, line: &str) -> io::Result<()> {
-        if line == "== demonstration" {
-            self.is_behind = true;
-            return Ok(());
-        }
-        let part = if self.is_behind {
-            &mut self.demonstration
-        } else {
-            &mut self.text
-        };
-        part.extend_from_slice(line.as_bytes())?;
-        part.push(b'\n')?;
-        Ok(())
-    }
-}
+use std::alloc::Global;
 
 /// What is there of a signal after a step; nothing of a temporary.
 fn shown(alloc: Global, design: &Design, demo: Demo) -> Result<Option<Shown>, Stop> {
@@ -202,14 +119,10 @@ fn steps(alloc: Global, design: &Design, demo: Demo) -> Result<Vec<u8>, Stop> {
     Ok(out)
 }
 
-/// The lines that show a demonstration, one for each step.
-pub fn lines(alloc: Global, input: &Input) -> Result<Vec<u8>, Stop> {
-    let design = match designed(alloc, &input.top, &input.text) {
-        Ok(design) => design,
-        Err(no) => return Err(Stop::NoDesign(no)),
-    };
-    match read_file(&design, &input.demonstration) {
-        Ok(demo) => steps(alloc, &design, demo),
-        Err(_) => Err(Stop::Malformed),
+/// The lines that show a demonstration, one for each step, in the form of `desk simulate`.
+pub fn lines(alloc: Global, design: &Design, line: &[u8]) -> Result<Vec<u8>, Stop> {
+    match read_file(design, line) {
+        Ok(demo) => steps(alloc, design, demo),
+        Err(_) => Err(Stop::NoDemonstration),
     }
 }

@@ -1,7 +1,7 @@
 use Rattle.std.proofs.Common.{◌≡◌}
 use Rattle.event_model.specs.Queue.{flat}
 use Rattle.tests_netlists.specs.netlist_eval.Sims.{flat_of}
-use Rattle.net_bench.proofs.run.stepped.Given as goal
+use Rattle.tests_rows.proofs.netlists.stepped.Given as goal
 
 abbrev pub invariant-loop-settings : goal.invariant-loop-settings
 invariant-loop-settings l = flat_of l.sim ≡ flat l.design
