@@ -1,9 +1,9 @@
 //! Texts that are cut.
 
 use crate::outside::new_outside;
-use crate::transmitter::TRANSMITTER;
 use std::alloc::Global;
 use std::test::Fail;
+use tests_designs::TRANSMITTER;
 
 // The status of signing the module in a front of its text, and whether a line tells a refusal.
 fn is_refused(alloc: Global, front: &str) -> Result<bool, Fail> {

@@ -7,10 +7,6 @@ mod commands;
 #[cfg(test)]
 mod cut;
 #[cfg(test)]
-mod elaboration;
-#[cfg(test)]
-mod events;
-#[cfg(test)]
 mod failures;
 #[cfg(test)]
 mod heads;
@@ -22,5 +18,3 @@ mod outside;
 mod review;
 #[cfg(test)]
 mod streams;
-#[cfg(test)]
-mod transmitter;

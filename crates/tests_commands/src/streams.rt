@@ -1,9 +1,9 @@
 //! Files and an output that fail, at each of their reads and writes.
 
 use crate::outside::{Outside, new_outside};
-use crate::transmitter::TRANSMITTER;
 use std::alloc::Global;
 use std::test::Fail;
+use tests_designs::TRANSMITTER;
 
 const SIGN: &str = "sign uart_tx a.v b.v c.v";
 

@@ -1,0 +1,1 @@
+pub use Rattle.desk_build.proofs as desk_build_proofs

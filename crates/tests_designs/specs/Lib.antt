@@ -1,0 +1,1 @@
+pub use Rattle.desk_build.specs as desk_build

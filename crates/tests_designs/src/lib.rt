@@ -1,22 +1,19 @@
 //! Designs of texts, for tests and benches.
 #![tactic(auto)]
 
-ghost use Rattle.std.specs.Prelude.{◌≡◌, ◌≤◌, ◌<◌, IfOk, length};
+ghost use Rattle.std.specs.Prelude.{◌≡◌, ◌≤◌, IfOk, length};
 ghost use Rattle.std.specs.List.{All};
 ghost use Rattle.tests_designs.specs.declared.NoDesign.TheVariants as no;
 
-use rtl_elab::elab_links::module_set::ModuleSet;
+mod transmitter;
+
+use desk_build::{design_of, modules_of};
 use rtl_elab::elab_scope::fault::ElabFault;
-use rtl_elab::whole::elaborate;
 use rtl_flat::design::Design;
-use rtl_front::{SourceFault, read_files};
 use rtl_tree::text::Text;
-use rtl_tree::tree::modules::Module;
 use std::alloc::{AllocError, Global};
-use std::marker::Brand;
-use std::sync::ledger::{Blank, Ledger};
-use steps::Steps;
 use thiserror::Error;
+pub use transmitter::TRANSMITTER;
 
 /// The most bytes that a text may have.
 const MOST_BYTES: usize = 1_048_576;
@@ -51,47 +48,31 @@ fn texts_of(alloc: Global, text: &[u8]) -> Result<Vec<Vec<u8>>, AllocError>
     Ok(texts)
 }
 
-fn read<L: Ledger>(
+/// What elaboration makes of a module of a text, where the text is read.
+pub fn elaborated(
     alloc: Global,
-    texts: &[Vec<u8>],
-    blank: Blank,
-) -> Result<Vec<Vec<Module>>, SourceFault>
-    requires short { All (λ text. length text.items ≤ 1048576) texts.now }
-    requires name { blank.name ≡ L.name }
-    requires parts { blank.parts ≡ L.parts }
-    requires some { 0 < L.parts }
-{
-    let mut steps = Steps::<L>::new(blank);
-    read_files(alloc, texts, &mut steps)
-}
-
-fn design<L: Ledger>(
-    alloc: Global,
-    modules: &[Vec<Module>],
-    top: &Text,
-    blank: Blank,
-) -> Result<Design, ElabFault>
-    requires name { blank.name ≡ L.name }
-    requires parts { blank.parts ≡ L.parts }
-    requires some { 0 < L.parts }
-{
-    let mut steps = Steps::<L>::new(blank);
-    let set = ModuleSet::new(alloc, modules)?;
-    elaborate(alloc, modules, &set, top, &mut steps)
-}
-
-/// The design of a module of a text, or why it has none.
-pub fn designed(alloc: Global, top: &[u8], text: &[u8]) -> Result<Design, NoDesign> {
+    top: &[u8],
+    text: &[u8],
+) -> Result<Result<Design, ElabFault>, NoDesign> {
     if text.len() > MOST_BYTES {
         return Err(NoDesign::TooLong);
     }
     let texts = texts_of(alloc, text)?;
-    let Ok(modules) = read::<Brand>(alloc, &texts, Blank::new(1)) else {
+    let Ok(modules) = modules_of(alloc, &texts) else {
         return Err(NoDesign::Unread);
     };
     let top = Text::from_bytes(alloc, top)?;
-    match design::<Brand>(alloc, &modules, &top, Blank::new(1)) {
-        Ok(design) => Ok(design),
-        Err(_) => Err(NoDesign::Refused),
+    Ok(design_of(alloc, &modules, &top))
+}
+
+/// The design of a module of a text, or why it has none.
+pub fn designed(alloc: Global, top: &[u8], text: &[u8]) -> Result<Design, NoDesign> {
+    match elaborated(alloc, top, text) {
+        Ok(Ok(design)) => Ok(design),
+        Ok(Err(_)) => Err(NoDesign::Refused),
+        Err(no) => Err(no),
     }
 }
+
+// Passed on to the crates above.
+pub use desk_build;

@@ -6,6 +6,7 @@ use rtl_flat::design::Design;
 use rtl_flat::signal::Signal;
 use std::alloc::{AllocError, Global};
 use std::test::Fail;
+use tests_designs::TRANSMITTER;
 
 fn signal(alloc: Global, signal: &Signal, out: &mut Vec<u8>) -> Result<(), AllocError> {
     out.extend_from_slice(signal.path.as_bytes())?;
@@ -119,5 +120,13 @@ fn items_are_elaborated(rt: HostRuntime) -> Result<(), Fail> {
         let out = shown(rt.alloc(), &design)?;
         agree(&rt, &out, row);
     }
+    Ok(())
+}
+
+#[test]
+fn a_design_has_the_instances_and_signals_of_its_modules(rt: HostRuntime) -> Result<(), Fail> {
+    let design = tests_designs::designed(rt.alloc(), b"uart_tx", TRANSMITTER.as_bytes())?;
+    assert_eq!(rt; design.instances.len(), 2);
+    assert!(rt; design.signal("uart_tx.u_baud.n").is_some());
     Ok(())
 }

@@ -3,7 +3,7 @@
 ghost use Rattle.std.specs.Prelude.{◌≡◌, ◌≤◌, ◌<◌, OnOk, length};
 ghost use Rattle.std.specs.List.{All};
 
-use crate::rows::{agree, read, say};
+use crate::rows::{agree, say};
 use elab_names::elab_links::module_set::{Lookup, ModuleSet};
 use elab_names::elab_scope::fault::ElabFault;
 use elab_names::{Elaborated, LookUp, elaborate, resolve};
@@ -15,6 +15,7 @@ use std::marker::Brand;
 use std::sync::ledger::{Blank, Ledger};
 use std::test::Fail;
 use steps::Steps;
+use tests_designs::desk_build::modules_of;
 
 /// Files, and what is told of the module `top`: the numbers of the files that it uses; the names that it looks up, each with
 /// what it means among these files; and its design, or why it has none.
@@ -85,7 +86,7 @@ fn told(alloc: Global, files: &[&[u8]]) -> Result<Vec<u8>, Fail> {
     for text in files {
         add(alloc, &mut texts, text)?;
     }
-    let Ok(modules) = read::<Brand>(alloc, &texts, Blank::new(1)) else {
+    let Ok(modules) = modules_of(alloc, &texts) else {
         return Err(Fail::new("not read"));
     };
     let top = Text::from_bytes(alloc, b"top")?;

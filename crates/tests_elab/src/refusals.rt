@@ -1,7 +1,8 @@
 // Why texts have no design, and where.
 
-use crate::rows::{Row, agree, elaborated};
+use crate::rows::{Row, agree};
 use std::test::Fail;
+use tests_designs::elaborated;
 
 const ROWS: [Row<'static>; 8] = [
     (
@@ -44,7 +45,7 @@ const ROWS: [Row<'static>; 8] = [
 #[test]
 fn faults_are_told(rt: HostRuntime) -> Result<(), Fail> {
     for row in &ROWS {
-        let out = match elaborated(rt.alloc(), row.0)? {
+        let out = match elaborated(rt.alloc(), b"top", row.0)? {
             Ok(_) => format!(in rt.alloc(); "elaborated")?,
             Err(fault) => format!(in rt.alloc(); "{fault:?}")?,
         };

@@ -2,9 +2,6 @@ use Rattle.std.proofs.Common.{◌≤◌, length}
 use Rattle.std.specs.List.{All}
 use Rattle.tests_elab.proofs.lookups.told.Given as goal
 
-abbrev pub ghosts-read : goal.ghosts-read
-ghosts-read a = record { name = a.blank.name; parts = a.blank.parts }
-
 abbrev pub ghosts-elaborated : goal.ghosts-elaborated
 ghosts-elaborated a = record { name = a.blank.name; parts = a.blank.parts }
 

@@ -2,34 +2,20 @@
 
 ghost use Rattle.std.specs.Prelude.{◌≡◌, IfOk};
 ghost use Rattle.event_model.specs.Queue.{flat};
-ghost use Rattle.desk_command.specs.event_queue.Sims.{flat_of};
+ghost use Rattle.event_queue.specs.Sims.{flat_of};
 
-use desk_command::desk_build::{design_of, modules_of};
-use desk_command::event_queue::sim::EventSim;
-use desk_command::event_queue::start::Start;
 use desk_steps::read_steps;
+use event_queue::sim::EventSim;
+use event_queue::start::Start;
 use rtl_flat::design::Design;
-use rtl_tree::text::Text;
 use std::alloc::Global;
 use std::test::Fail;
+use tests_designs::designed;
 
 /// A latch and two wires. Since no assignment is nonblocking each event costs 1, and a step may cost 15: 4 for each of
 /// three processes, and 1 for the input and for each of the two wires' assignments.
 const LATCH: &[u8] =
     b"module top(input s, output y, z);\nreg t;\nalways @* begin t = 1'b0; if (s) t = 1'b1; end\nassign y = t;\nassign z = ~t;\nendmodule\n";
-
-fn latch(alloc: Global) -> Result<Design, Fail> {
-    let mut texts = Vec::new(alloc);
-    texts.push(Vec::from_slice(alloc, LATCH)?)?;
-    let Ok(modules) = modules_of(alloc, &texts) else {
-        return Err(Fail::new("not read"));
-    };
-    let top = Text::from_bytes(alloc, b"top")?;
-    let Ok(design) = design_of(alloc, &modules, &top) else {
-        return Err(Fail::new("not elaborated"));
-    };
-    Ok(design)
-}
 
 /// A simulator from power-up, to which the settings of a line are offered.
 fn offered<'d>(alloc: Global, design: &'d Design, line: &[u8]) -> Result<EventSim<'d>, Fail>
@@ -76,7 +62,7 @@ fn shown(design: &Design, sim: &EventSim<'_>, path: &str) -> Option<u128>
 fn the_first_step_of_a_latch_and_two_wires_costs_ten_of_its_fifteen(
     rt: HostRuntime,
 ) -> Result<(), Fail> {
-    let design = latch(rt.alloc())?;
+    let design = designed(rt.alloc(), b"top", LATCH)?;
     let mut sim = offered(rt.alloc(), &design, b"set s=1'b1\n")?;
     assert_eq!(rt; take_last(&mut sim)?, 10);
     assert_eq!(rt; shown(&design, &sim, "top.y"), Some(1));
