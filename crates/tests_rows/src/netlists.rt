@@ -10,6 +10,7 @@ use net_model::fill::Fill;
 use rtl_flat::design::Design;
 use rtl_flat::expr::SigId;
 use std::alloc::Global;
+use tests_netlists::net_list::netlist::Netlist;
 use tests_netlists::netlist_eval::sim::NetSim;
 use tests_netlists::{netlist, simulator, take};
 
@@ -32,10 +33,16 @@ fn checksum(design: &Design, sim: &NetSim<'_>) -> u128
 }
 
 /// All numbers of a netlist before its first step.
+fn begun_over(alloc: Global, netlist: &Netlist<'_>) -> Result<Vec<u8>, Stop> {
+    let design = netlist.design;
+    let sim = simulator(alloc, netlist, &[], &[])?;
+    Ok(format!(in alloc; "checksum {:x}\n", checksum(design, &sim))?.into_bytes())
+}
+
+/// All numbers of a design's netlist before its first step.
 pub fn begun(alloc: Global, design: &Design) -> Result<Vec<u8>, Stop> {
     let netlist = netlist(alloc, design, Fill::Zero)?;
-    let sim = simulator(alloc, &netlist, &[], &[])?;
-    Ok(format!(in alloc; "checksum {:x}\n", checksum(design, &sim))?.into_bytes())
+    begun_over(alloc, &netlist)
 }
 
 /// Takes the steps of a file, and says how many they are and what all numbers are behind them.
@@ -62,8 +69,14 @@ fn stepped(
 }
 
 /// All numbers of a netlist behind the steps of a file.
+fn ran_over(alloc: Global, netlist: &Netlist<'_>, lines: &[u8]) -> Result<Vec<u8>, Stop> {
+    let design = netlist.design;
+    let mut sim = simulator(alloc, netlist, &[], &[])?;
+    stepped(alloc, design, &mut sim, lines)
+}
+
+/// All numbers of a design's netlist behind the steps of a file.
 pub fn ran(alloc: Global, design: &Design, lines: &[u8]) -> Result<Vec<u8>, Stop> {
     let netlist = netlist(alloc, design, Fill::Zero)?;
-    let mut sim = simulator(alloc, &netlist, &[], &[])?;
-    stepped(alloc, design, &mut sim, lines)
+    ran_over(alloc, &netlist, lines)
 }
