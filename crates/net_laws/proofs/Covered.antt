@@ -20,7 +20,7 @@ use Rattle.rtl_flat.specs.Sizes.{IsSized, width_of}
 use Rattle.rtl_flat.specs.Value.{value}
 use Rattle.rtl_flat.specs.WellFormed.{AreBranches}
 use Rattle.event_model.specs.Bodies.{some_matches}
-use Rattle.event_model.specs.Queue.{Flat, widths}
+use Rattle.rtl_flat.specs.Flats.{Flat, widths}
 use Rattle.event_model.specs.Writes.{Values}
 use Rattle.event_laws.proofs.Sizes.{value_size}
 use Rattle.net_model.specs.declared.fill.Fill.TheVariants as fill
@@ -126,8 +126,9 @@ cover_matches :
     cover kind own width signed all ≡ true → MatchesOf kind (extended width signed bits) all
 cover_matches kind own width signed all bits long same h =
     let (some, rest) = and_parts (nat_le 1 own) _ h in
-    let (inside, rest') = and_parts (nat_le own width) _ rest in
-    let (few, each) = and_parts (nat_le width 16) _ rest' in
+    let (few, rest') = and_parts (nat_le own 16) _ rest in
+    let (inside, rest'') = and_parts (nat_le own width) _ rest' in
+    let (most, each) = and_parts (nat_le width 128) _ rest'' in
     let test = λ (n : ℕ). list_any (literal_matches kind (extended width signed (bits_of own n))) all in
     let below : number bits < 2 ^ own = subst (λ n. number bits < 2 ^ n) long (number-lt bits) in
     let found : list_any (literal_matches kind (extended width signed (bits_of own (number bits)))) all ≡ true = each_at (2 ^ own) (number bits) test each below in

@@ -14,7 +14,7 @@ use Rattle.rtl_flat.specs.Sizes.{width_of}
 use Rattle.rtl_flat.specs.Labels.{label_matches}
 use Rattle.rtl_flat.specs.Process.{Selection, Piece, Action, Set, If, Case, Block, Actions, Done, Then, Otherwise, Without, With, Branches, NoBranch, Branch, Doing, Assign, Comb, Edge'}
 use Rattle.rtl_flat.specs.Process as part
-use Rattle.rtl_flat.specs.Paths.{BitSet, no_bit, either, Step, Read, Write, Flow, End, Do, Fork, Ways, Last, More}
+use Rattle.rtl_flat.specs.Paths.{BitSet, no_bit, either, Read, Write, Flow, End, Do, Fork, Ways, Last, More}
 
 -- ---- bits of signals
 
@@ -131,10 +131,12 @@ unfoldable pub each_below : ℕ → (ℕ → Bool) → Bool
 each_below zero test = true
 each_below (suc n) test = test n && each_below n test
 
--- whether some literal matches each value of `own` bits, extended to a width of at most 16
+-- whether some literal matches each value of `own` bits, of which there are at most 16, extended to the width of the
+-- widest label, which is that of some vector
 abbrev pub cover : CaseKind → ℕ → ℕ → Bool → List (List Bit) → Bool
 cover kind own width signed labels =
-    nat_le 1 own && (nat_le own width && (nat_le width 16 && each_below (2 ^ own) (λ n. list_any (literal_matches kind (extended width signed (bits_of own n))) labels)))
+    nat_le 1 own
+    && (nat_le own 16 && (nat_le own width && (nat_le width 128 && each_below (2 ^ own) (λ n. list_any (literal_matches kind (extended width signed (bits_of own n))) labels))))
 
 -- whether some literal matches each value over which a selector ranges. An operand of an operator
 -- that takes the width of its context ranges over that width; any other has its own bits, which the

@@ -66,11 +66,7 @@ cover_capped kind own width signed labels =
     ]
   where
     wide : (n : ℕ) → 16 < n → cover kind n width signed labels ≡ false
-    wide n h =
-        and_right (nat_le 1 n) _ (elim (cases_lt width n) as (λ _. (nat_le n width && (nat_le width 16 && each_below (2 ^ n) (λ i. list_any (literal_matches kind (extended width signed (bits_of n i))) labels))) ≡ false) [
-          | inl narrow ↦ and_left (nat_le n width) _ (lt-leb n width narrow)
-          | inr broad ↦ and_right (nat_le n width) _ (and_left (nat_le width 16) _ (lt-leb width 16 (omega arith)))
-        ])
+    wide n h = and_right (nat_le 1 n) _ (and_left (nat_le n 16) _ (lt-leb n 16 h))
 
 -- `1 << own`
 pub power_small : (own : ℕ) → own < 128 → 1 * 2 ^ own % 2 ^ 128 ≡ 2 ^ own

@@ -195,12 +195,13 @@ length-extended width signed a =
     let both : length (extended width signed a) ≡ length (take width a) + length fill = length-append (take width a) fill in
     omega arith
 
-pub covers_are : (k : CaseKind) (own width : ℕ) (signed : Bool) (labels : List (List Bit)) (sorted : Labels) → 1 ≤ own → own ≤ width → width ≤ 16 → AreSorted width labels sorted → each_below (2 ^ own) (λ n. matches_some k (extended width signed (bits_of own n)) sorted) ≡ cover k own width signed labels
-covers_are k own width signed labels sorted some fits few are =
+pub covers_are : (k : CaseKind) (own width : ℕ) (signed : Bool) (labels : List (List Bit)) (sorted : Labels) → 1 ≤ own → own ≤ 16 → own ≤ width → width ≤ 128 → AreSorted width labels sorted → each_below (2 ^ own) (λ n. matches_some k (extended width signed (bits_of own n)) sorted) ≡ cover k own width signed labels
+covers_are k own width signed labels sorted some few fits most are =
     ap (each_below (2 ^ own)) (λ i n. same n i)
-    ∙ ap (λ b. b && (true && (true && all))) (sym (le-leb 1 own some))
-    ∙ ap (λ b. nat_le 1 own && (b && (true && all))) (sym (le-leb own width fits))
-    ∙ ap (λ b. nat_le 1 own && (nat_le own width && (b && all))) (sym (le-leb width 16 few))
+    ∙ ap (λ b. b && (true && (true && (true && all)))) (sym (le-leb 1 own some))
+    ∙ ap (λ b. nat_le 1 own && (b && (true && (true && all)))) (sym (le-leb own 16 few))
+    ∙ ap (λ b. nat_le 1 own && (nat_le own 16 && (b && (true && all)))) (sym (le-leb own width fits))
+    ∙ ap (λ b. nat_le 1 own && (nat_le own 16 && (nat_le own width && (b && all)))) (sym (le-leb width 128 most))
   where
     all : Bool
     all = each_below (2 ^ own) (λ n. list_any (literal_matches k (extended width signed (bits_of own n))) labels)

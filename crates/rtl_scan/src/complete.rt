@@ -97,7 +97,7 @@ fn do_cover(
 ) -> Result<bool, Memory>
     ensures { IfOk result (λ complete. complete ≡ cover kind own width signed labels.now) }
 {
-    if own < 1 || own > width || width > 16 {
+    if own < 1 || own > 16 || own > width || width > 128 {
         return Ok(false);
     }
     let labels = Labels::sorted(alloc, width, labels)?;

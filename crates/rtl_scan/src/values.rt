@@ -87,7 +87,8 @@ impl Labels {
     pub(crate) fn match_all(&self, kind: CaseKind, own: u8, width: u8, signed: bool) -> bool
         requires some { 1 ≤ own }
         requires fits { own ≤ width }
-        requires few { width ≤ 16 }
+        requires few { own ≤ 16 }
+        requires at_most { width ≤ 128 }
         ensures { result ≡ each_below (2 ^ own)
             (λ n. matches_some kind (extended width signed (bits_of own n)) self.now) }
     {

@@ -4,4 +4,4 @@ use Rattle.rtl_scan.proofs.complete.do_cover.Goals as goal
 
 pub returns : goal.returns
 returns c =
-    c.match_all.ensures ∙ covers_are c.args.kind c.args.own c.args.width c.args.signed c.args.labels.now c.in_ok-labels.labels (omega arith) (omega arith) (omega arith) c.in_ok-labels.ensures
+    c.match_all.ensures ∙ covers_are c.args.kind c.args.own c.args.width c.args.signed c.args.labels.now c.in_ok-labels.labels (omega arith) (omega arith) (omega arith) (omega arith) c.in_ok-labels.ensures
