@@ -9,10 +9,11 @@ use Rattle.rtl_flat.specs.Process.{Watched, Actions, Edge'}
 use Rattle.rtl_flat.specs.Signs.{Has, width_in}
 use Rattle.rtl_flat.specs.WellFormed.{IsProcess, IsWatched, has_edge}
 use Rattle.net_model.specs.Cycle.{Chain, Guard, Tests}
-use Rattle.rtl_rule.specs.Parts.{Parts, agree, widths}
+use Rattle.rtl_rule.specs.Parts.{agree}
+use Rattle.rtl_flat.specs.Flats.{Flat, widths}
 use Rattle.check_sense.specs.Sense.{first_level, has_item}
 use Rattle.check_chains.specs.Chains.{chain_in, chain_of, goes_up, has_chain, is_more, is_shapeless, is_turned, tested}
-use Rattle.chain_laws.specs.Chained.{ChainsHold, HasChain, flat_of}
+use Rattle.chain_laws.specs.Chained.{ChainsHold, HasChain}
 use Rattle.chain_laws.proofs.Branches.{IsLawfulGuard, chain_lawful}
 use Rattle.chain_laws.proofs.Chains.{IsFound, IsTested, chain_found}
 use Rattle.chain_laws.proofs.Lists.{Each, all_pass, each_all, each_both, each_false, each_from, each_map}
@@ -37,7 +38,7 @@ record IsEdgeItem (ws : ℕ → ℕ) (item : Watched) : Type 0 where
   edged : IsTrue (has_edge item.edge)
   one_bit : ws item.signal ≡ 1
 
-module _ (d : Parts) (events : List Watched) (body : Actions) (lawful : IsProcess d.signals (Edge' events body)) (levels : has_item (first_level (Edge' events body)) ≡ true → ⊥) (shaped : is_shapeless d (Edge' events body) ≡ true → ⊥) (straight : has_chain (λ chain. list_any (λ (guard : Guard). is_turned guard.item.edge (tested d guard.test)) chain.resets) (chain_of d (Edge' events body)) ≡ true → ⊥) where
+module _ (d : Flat) (events : List Watched) (body : Actions) (lawful : IsProcess d.signals (Edge' events body)) (levels : has_item (first_level (Edge' events body)) ≡ true → ⊥) (shaped : is_shapeless d (Edge' events body) ≡ true → ⊥) (straight : has_chain (λ chain. list_any (λ (guard : Guard). is_turned guard.item.edge (tested d guard.test)) chain.resets) (chain_of d (Edge' events body)) ≡ true → ⊥) where
   edged : Each (λ item. IsTrue (has_edge item.edge)) events
   edged = all_edges events levels
 
@@ -94,16 +95,16 @@ module _ (d : Parts) (events : List Watched) (body : Actions) (lawful : IsProces
     abbrev IsItem : Guard → Type 0
     IsItem guard = IsEdgeItem (widths d) guard.item
 
-    tests_of : (guard : Guard) → IsItem guard × IsTested d guard → IsStraight guard × IsLawfulGuard d.signals guard → Tests (flat_of d) guard
+    tests_of : (guard : Guard) → IsItem guard × IsTested d guard → IsStraight guard × IsLawfulGuard d.signals guard → Tests d guard
     tests_of guard (item, test) (level, sized) =
         tests_level d guard test.test sized.0 test.is test.signal item.one_bit item.edged
         (true_from_ne_false (agree (goes_up guard.item.edge) test.test.level)
         (λ isnt. level (ap (is_turned guard.item.edge) test.is ∙ not_from_false _ isnt)))
 
-    all_tests : Each (Tests (flat_of d)) chain.resets
+    all_tests : Each (Tests d) chain.resets
     all_tests =
         let gs = chain.resets in
-        each_both (λ guard. IsItem guard × IsTested d guard) (λ guard. IsStraight guard × IsLawfulGuard d.signals guard) (Tests (flat_of d)) tests_of gs
+        each_both (λ guard. IsItem guard × IsTested d guard) (λ guard. IsStraight guard × IsLawfulGuard d.signals guard) (Tests d) tests_of gs
         (each_both IsItem (IsTested d) (λ guard. IsItem guard × IsTested d guard) (λ g a b. (a, b)) gs (of_items (IsEdgeItem (widths d)) items) found.tests)
         (each_both IsStraight (IsLawfulGuard d.signals) (λ guard. IsStraight guard × IsLawfulGuard d.signals guard) (λ g a b. (a, b)) gs are_straight lawful_parts)
 
@@ -116,10 +117,10 @@ module _ (d : Parts) (events : List Watched) (body : Actions) (lawful : IsProces
         chained = record {
           chained = (found chain is).chained;
           items = (found chain is).items;
-          tests = each_all (Tests (flat_of d)) chain.resets (all_tests chain is);
+          tests = each_all (Tests d) chain.resets (all_tests chain is);
         };
       }
 
-pub chains_hold : (d : Parts) → ChainsHold d
+pub chains_hold : (d : Flat) → ChainsHold d
 chains_hold d events body lawful levels shaped straight =
     by_chain d events body lawful levels shaped straight (chain_of d (Edge' events body)) refl

@@ -8,7 +8,7 @@ use Rattle.rtl_tree.specs.declared.text.Spot.{Spot}
 use Rattle.rtl_flat.specs.Expression.{Tree}
 use Rattle.rtl_flat.specs.Process.{Watched, If, Actions, Done, Then, With}
 use Rattle.net_model.specs.Cycle.{Guard, Chain, IsChained, opened}
-use Rattle.rtl_rule.specs.Parts.{Parts}
+use Rattle.rtl_flat.specs.Flats.{Flat}
 use Rattle.check_chains.specs.Chains.{Test, beside, chain_in, guarded, headed, taken_out, tested, with_item, with_test}
 use Rattle.chain_laws.proofs.Lists.{Each}
 
@@ -60,18 +60,18 @@ taken r (first ∷ events) item others e =
 -- ---- chains
 
 -- a reset with its test
-pub record IsTested (d : Parts) (guard : Guard) : Type 0 where
+pub record IsTested (d : Flat) (guard : Guard) : Type 0 where
   pub test : Test
   pub is : tested d guard.test ≡ Some test
   pub signal : guard.item.signal ≡ test.signal
 
 -- what a chain is
-pub record IsFound (d : Parts) (events : List Watched) (body : Actions) (chain : Chain) : Type 0 where
+pub record IsFound (d : Flat) (events : List Watched) (body : Actions) (chain : Chain) : Type 0 where
   pub chained : IsChained chain.resets chain.part body
   pub items : IsPermutation events (chain.clock ∷ map (λ guard. guard.item) chain.resets)
   pub tests : Each (IsTested d) chain.resets
 
-module _ (d : Parts) where
+module _ (d : Flat) where
   -- a search that finds chains
   abbrev Finds : (List Watched → Actions → Option Chain) → Type 0
   Finds go =

@@ -23,9 +23,9 @@ use Rattle.net_model.specs.declared.fill.Fill.{Fill}
 use Rattle.net_model.specs.Cycle.{Guard, Tests, level}
 use Rattle.net_model.specs.Numbers.{AreNumbers, bit, digits, filled}
 use Rattle.net_laws.proofs.Literals.{extended_whole}
-use Rattle.rtl_rule.specs.Parts.{Parts, agree, widths}
+use Rattle.rtl_rule.specs.Parts.{agree}
+use Rattle.rtl_flat.specs.Flats.{Flat, widths}
 use Rattle.check_chains.specs.Chains.{Test, compared, goes_up, test_of, tested}
-use Rattle.chain_laws.specs.Chained.{flat_of}
 
 -- ---- bits
 
@@ -168,7 +168,7 @@ signed_there [] i h = absurd h
 signed_there (s ∷ signals) zero h = h
 signed_there (s ∷ signals) (suc i) h = signed_there signals i h
 
-module _ (d : Parts) where
+module _ (d : Flat) where
   -- what a comparison with a literal tests
   record IsCompared (signed : Bool) (r : ℕ) (bits : List Bit) (one : Test) : Type 0 where
     signal : r ≡ one.signal
@@ -215,7 +215,7 @@ module _ (d : Parts) where
           let (known, narrow) = or_parts (list_any is_unknown bits) (signed && not (length bits == 1)) isnt in
           by_one (number_where is_one bits == 1) refl known (narrow_of signed narrow) e'
 
-  module _ (f : Fill) (n : Values) (are : AreNumbers (flat_of d) n) where
+  module _ (f : Fill) (n : Values) (are : AreNumbers d n) where
     -- an expression is true just where a signal has a level
     abbrev IsTrueAt : Tree → Test → Type 0
     IsTrueAt e one = is_one (truth_bit (digits f n e)) ≡ same_bit (bit n one.signal 0) (as_bit one.level)
@@ -304,7 +304,7 @@ module _ (d : Parts) where
   active Neg true b edged same = absurd (false≢true same)
   active Neg false b edged same = refl
 
-  pub tests_level : (guard : Guard) (one : Test) → IsExpression d.signals guard.test → tested d guard.test ≡ Some one → guard.item.signal ≡ one.signal → widths d guard.item.signal ≡ 1 → IsTrue (has_edge guard.item.edge) → agree (goes_up guard.item.edge) one.level ≡ true → Tests (flat_of d) guard
+  pub tests_level : (guard : Guard) (one : Test) → IsExpression d.signals guard.test → tested d guard.test ≡ Some one → guard.item.signal ≡ one.signal → widths d guard.item.signal ≡ 1 → IsTrue (has_edge guard.item.edge) → agree (goes_up guard.item.edge) one.level ≡ true → Tests d guard
   tests_level guard one sized is signal wide edged same f n are =
       truth f n are guard.test sized one is (ap (widths d) (sym signal) ∙ wide)
       ∙ ap (λ i. same_bit (bit n i 0) (as_bit one.level)) (sym signal)

@@ -4,24 +4,19 @@ use Rattle.std.specs.Prelude.{◌≡◌, true, List, Some}
 use Rattle.std.specs.List.{list_any}
 use Rattle.rtl_flat.specs.Process.{Watched, Actions, Edge'}
 use Rattle.rtl_flat.specs.WellFormed.{IsProcess}
-use Rattle.event_model.specs.Queue.{Flat}
+use Rattle.rtl_flat.specs.Flats.{Flat}
 use Rattle.net_model.specs.Cycle.{Chain, Guard, IsChain}
-use Rattle.rtl_rule.specs.Parts.{Parts}
 use Rattle.check_sense.specs.Sense.{first_level, has_item}
 use Rattle.check_chains.specs.Chains.{chain_of, has_chain, is_shapeless, is_turned, tested}
 
--- the signals and the processes of a design
-abbrev pub flat_of : Parts → Flat
-flat_of d = record { signals = d.signals; tasks = d.tasks }
-
 -- a process that has a chain
-pub record HasChain (d : Parts) (events : List Watched) (body : Actions) : Type 0 where
+pub record HasChain (d : Flat) (events : List Watched) (body : Actions) : Type 0 where
   pub chain : Chain
   pub is_chain : chain_of d (Edge' events body) ≡ Some chain
-  pub chained : IsChain (flat_of d) events body chain
+  pub chained : IsChain d events body chain
 
 -- where each item has an edge, the body has the shape, and tests are at the levels of edges, there is a chain
-abbrev pub ChainsHold : Parts → Type 0
+abbrev pub ChainsHold : Flat → Type 0
 ChainsHold d =
     (events : List Watched) (body : Actions) → IsProcess d.signals (Edge' events body) →
     (has_item (first_level (Edge' events body)) ≡ true → ⊥) →

@@ -1,20 +1,15 @@
 -- All findings of a design, over all rules.
 use Rattle.std.specs.Prelude.{◌≡◌, Bool, false, List, ◌++◌}
 use Rattle.std.specs.List.{list_any}
-use Rattle.event_model.specs.Queue.{Flat}
+use Rattle.rtl_flat.specs.Flats.{Parts}
 use Rattle.net_model.specs.Control.{InCone}
 use Rattle.rtl_rule.specs.declared.finding.Finding.{Finding}
 use Rattle.rtl_rule.specs.Order.{ranked}
-use Rattle.rtl_rule.specs.Parts.{Parts}
 use Rattle.rtl_rule.specs.Rows.{row_of}
 use Rattle.check_sense.specs.Sense.{AreSenseFindings}
 use Rattle.check_xprop.specs.check_assign.Findings.{AreAssignFindings}
 use Rattle.check_case.specs.Cases.{AreCaseFindings}
 use Rattle.check_xprop.specs.Unknowns.{AreUnknownFindings}
-
--- the signals and the processes of a design, as the event queue runs them
-abbrev pub queue_of : Parts → Flat
-queue_of d = record { signals = d.signals; tasks = d.tasks }
 
 -- whether these are all findings of a design, in their order
 pub record AreAllFindings (d : Parts) (findings : List Finding) : Type 0 where
@@ -22,9 +17,9 @@ pub record AreAllFindings (d : Parts) (findings : List Finding) : Type 0 where
   pub assigned : List Finding
   pub cases : List Finding
   pub unknown : List Finding
-  pub are_sense : AreSenseFindings d sense
-  pub are_assigned : AreAssignFindings (InCone (queue_of d)) d assigned
-  pub are_cases : AreCaseFindings d cases
+  pub are_sense : AreSenseFindings d.flat sense
+  pub are_assigned : AreAssignFindings (InCone d.flat) d.flat assigned
+  pub are_cases : AreCaseFindings d.flat cases
   pub are_unknown : AreUnknownFindings d unknown
   pub in_order : findings ≡ ranked (sense ++ assigned ++ cases ++ unknown)
 

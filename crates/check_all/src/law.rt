@@ -2,7 +2,7 @@
 
 ghost use Rattle.std.specs.Prelude.{◌≡◌, List};
 ghost use Rattle.rtl_rule.specs.declared.finding.Finding.{Finding};
-ghost use Rattle.rtl_rule.specs.Parts.{Parts};
+ghost use Rattle.rtl_flat.specs.Flats.{Parts};
 ghost use Rattle.check_all.specs.Findings.{AreAllFindings};
 
 /// A design has one list of all findings.

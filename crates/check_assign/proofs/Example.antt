@@ -12,10 +12,11 @@ use Rattle.rtl_flat.specs.declared.signal.Signal.{Signal}
 use Rattle.rtl_flat.specs.Expression as sized
 use Rattle.rtl_flat.specs.Process.{Piece, Watched, Actions, Doing, Task}
 use Rattle.rtl_flat.specs.Process as part
-use Rattle.rtl_rule.specs.Parts.{Parts, At}
+use Rattle.rtl_rule.specs.Parts.{At}
+use Rattle.rtl_flat.specs.Flats.{Flat, widths}
 use Rattle.check_assign.specs.Assigned.{IsSeveralDrivers, IsUndriven, IsTristate, first_target, now}
 use Rattle.check_clocks.specs.check_chains.Chains.{IsAsyncPair, IsResetPolarity, IsResetShape}
-use Rattle.rtl_rule.specs.Parts.{has_some, widths}
+use Rattle.rtl_rule.specs.Parts.{has_some}
 
 abbrev spot_at : ℕ → Spot
 spot_at at = record { file = 0; at = at }
@@ -33,7 +34,7 @@ piece i at = record { signal = i; selection = part.Whole; spot = spot_at at } �
 abbrev task_of : Doing → Task
 task_of does = record { does = does; instance = 0; spot = spot_at 38 }
 
-abbrev parts : List Signal → List Doing → Parts
+abbrev parts : List Signal → List Doing → Flat
 parts signals does =
     record { signals = signals; tasks = map task_of does; delays = []; dropped = [] }
 
@@ -67,7 +68,7 @@ abbrev two_resets : Doing
 two_resets =
     part.Edge' (item Pos 2 ∷ item Neg 0 ∷ item Neg 1 ∷ []) (when (low 0) (set 4 (literal (Zero ∷ [])) true) (when (low 1) (set 4 (literal (One ∷ [])) true) (set 4 (read 3) true)))
 
-abbrev pair : Parts
+abbrev pair : Flat
 pair = parts ports (two_resets ∷ [])
 
 two_resets_found : IsAsyncPair pair (at two_resets)
@@ -92,7 +93,7 @@ shapeless_found = refl
 abbrev blocking : Doing
 blocking = part.Edge' (item Pos 2 ∷ []) (set 4 (read 3) false)
 
-abbrev stored : Parts
+abbrev stored : Flat
 stored = parts ports (blocking ∷ [])
 
 abbrev at_q : At ℕ

@@ -10,7 +10,8 @@ use Rattle.rtl_flat.specs.Flows.{may_select, may_target}
 use Rattle.rtl_flat.specs.PathSets.{IsTemporary}
 use Rattle.rtl_flat.specs.Process.{Piece, Action, Set, If, Case, Block, Doing, Assign, Comb, Edge', Task}
 use Rattle.rtl_rule.specs.declared.rule.Rule.TheVariants.{BlockingState, NonblockingComb, MixedAssign}
-use Rattle.rtl_rule.specs.Parts.{Parts, agree, all_of, found_at, has_some, number, some_below, spot_if, statements, widths, within}
+use Rattle.rtl_rule.specs.Parts.{agree, all_of, found_at, has_some, number, some_below, spot_if, statements, within}
+use Rattle.rtl_flat.specs.Flats.{Flat, widths}
 use Rattle.check_assign.specs.Assigned.{IsBlockingState, IsMixedAssign, IsNonblockingComb, blocking_state_at, is_clocked, is_comb, late, mixed_assign_at, nonblocking_comb_at, now, own_targets}
 use Rattle.check_assign.specs.Kept.{AreTemporaries}
 use Rattle.check_assign.specs.Marks.{is_some_spot, least_of, own_writes, spot_of}
@@ -77,17 +78,17 @@ acts_marked ws delayed s acts =
 
 -- ---- processes
 
-abbrev pub first_of : Parts → Bool → Doing → ℕ → Option Spot
+abbrev pub first_of : Flat → Bool → Doing → ℕ → Option Spot
 first_of d delayed does s = least_of (flat_map (own_targets (widths d) delayed s) (statements does))
 
-pub now_marked : (d : Parts) (does : Doing) (s : ℕ) → has_some (widths d) (now d does) s ≡ is_some_spot (first_of d false does s)
+pub now_marked : (d : Flat) (does : Doing) (s : ℕ) → has_some (widths d) (now d does) s ≡ is_some_spot (first_of d false does s)
 now_marked d (Assign target value) s = below_none (widths d s)
 now_marked d (Comb list body) s =
     below_same (widths d s) _ (λ k. list_any (own_writes (agree false) (widths d) s k) (all_of body)) (λ k. now_is (widths d) s k body) ∙ acts_marked (widths d) false s (all_of body)
 now_marked d (Edge' events body) s =
     below_same (widths d s) _ (λ k. list_any (own_writes (agree false) (widths d) s k) (all_of body)) (λ k. now_is (widths d) s k body) ∙ acts_marked (widths d) false s (all_of body)
 
-pub late_marked : (d : Parts) (does : Doing) (s : ℕ) → has_some (widths d) (late d does) s ≡ is_some_spot (first_of d true does s)
+pub late_marked : (d : Flat) (does : Doing) (s : ℕ) → has_some (widths d) (late d does) s ≡ is_some_spot (first_of d true does s)
 late_marked d (Assign target value) s = below_none (widths d s)
 late_marked d (Comb list body) s =
     below_same (widths d s) _ (λ k. list_any (own_writes (agree true) (widths d) s k) (all_of body)) (λ k. late_is (widths d) s k body) ∙ acts_marked (widths d) true s (all_of body)
@@ -106,16 +107,16 @@ true_index [] s h = absurd (cc)
 true_index (x ∷ answers) zero h = cc
 true_index (x ∷ answers) (suc s) h = true_index answers s h
 
-pub is_kept : (d : Parts) (answers : List Bool) → AreTemporaries d answers → (s : ℕ) → slice_index_or answers s false ≡ false → IsTemporary d.signals d.tasks s → ⊥
+pub is_kept : (d : Flat) (answers : List Bool) → AreTemporaries d answers → (s : ℕ) → slice_index_or answers s false ≡ false → IsTemporary d.signals d.tasks s → ⊥
 is_kept d answers are s none h =
     both_ways (slice_index_or answers s false) none (true_index answers s ((are.each s).1 h))
 
-pub is_temporary : (d : Parts) (answers : List Bool) → AreTemporaries d answers → (s : ℕ) → slice_index_or answers s false ≡ true → IsTemporary d.signals d.tasks s
+pub is_temporary : (d : Flat) (answers : List Bool) → AreTemporaries d answers → (s : ℕ) → slice_index_or answers s false ≡ true → IsTemporary d.signals d.tasks s
 is_temporary d answers are s h = (are.each s).0 (index_true answers s h)
 
 -- ---- what the places say
 
-module _ (d : Parts) (p : ℕ) (task : Task) where
+module _ (d : Flat) (p : ℕ) (task : Task) where
   abbrev targets_of : Bool → ℕ → List Spot
   targets_of delayed s = flat_map (own_targets (widths d) delayed s) (statements task.does)
 

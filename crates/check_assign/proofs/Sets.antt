@@ -7,14 +7,15 @@ use Rattle.rtl_flat.specs.Flows.{flow_of}
 use Rattle.rtl_flat.specs.Paths.{is_sure}
 use Rattle.rtl_flat.specs.Process.{Task}
 use Rattle.rtl_rule.specs.declared.rule.Rule.TheVariants.{LatchInferred, SeveralDrivers}
-use Rattle.rtl_rule.specs.Parts.{Parts, has_some, widths, within, written}
+use Rattle.rtl_rule.specs.Parts.{has_some, within, written}
+use Rattle.rtl_flat.specs.Flats.{Flat, widths}
 use Rattle.check_assign.specs.Assigned.{IsLatchInferred, IsSeveralDrivers, is_comb, latch_inferred_at, lower_writes, several_drivers_at}
 use Rattle.check_assign.specs.Kept.{AreTemporaries}
 use Rattle.check_assign.proofs.Below.{signal_there}
 use Rattle.check_assign.proofs.Firsts.{is_kept, is_temporary}
 use Rattle.check_assign.proofs.Shown.{Tells}
 
-module _ (d : Parts) (p : ℕ) (task : Task) where
+module _ (d : Flat) (p : ℕ) (task : Task) where
   pub several_tells : (s : ℕ) (b : Bool) → b ≡ has_some (widths d) (λ i k. written d task.does i k && lower_writes d p i k) s → (o : Option Spot) → o ≡ cond b (Some task.spot) None → Tells (IsSeveralDrivers d) several_drivers_at SeveralDrivers task.instance (p, task) s o
   several_tells s b is o marks =
       subst (Tells (IsSeveralDrivers d) several_drivers_at SeveralDrivers task.instance (p, task) s) (sym marks) (by_test b is)

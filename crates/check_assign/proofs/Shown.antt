@@ -15,7 +15,8 @@ use Rattle.rtl_flat.specs.Process.{Task}
 use Rattle.rtl_rule.specs.declared.finding.Finding.{Finding}
 use Rattle.rtl_rule.specs.declared.rule.Rule.{Rule}
 use Rattle.rtl_rule.specs.declared.rule.Rule.TheVariants.{BlockingState}
-use Rattle.rtl_rule.specs.Parts.{Parts, At, within}
+use Rattle.rtl_rule.specs.Parts.{At, within}
+use Rattle.rtl_flat.specs.Flats.{Flat}
 use Rattle.rtl_rule.specs.Sites.{AreFindings}
 use Rattle.check_graph.specs.check_found.Gathered.{Gets, signal_numbers, task_sites}
 use Rattle.check_assign.specs.Marks.{Shows, passing, shown}
@@ -107,7 +108,7 @@ module _ (P : At ℕ → Type 0) (finding_at : At ℕ → Finding) (rule : Rule)
     signals_in signals = map (within one) (map (λ (x : ℕ × Signal). x.0) (enumerate_from 0 signals))
 
 -- what is shown of signals is what a rule finds of them
-pub gets_shown : (P : At ℕ → Type 0) (finding_at : At ℕ → Finding) (rule : Rule) (instance : ℕ) (d : Parts) (n : ℕ) (task : Task) → ((s : ℕ) → P (within (n, task) s) → s < length d.signals) → (marks : ℕ → Option Spot) → ((s : ℕ) → Tells P finding_at rule instance (n, task) s (marks s)) → (old new : List Finding) → Shows rule instance marks old new → Gets P finding_at (task_sites (signal_numbers d) n task) old new
+pub gets_shown : (P : At ℕ → Type 0) (finding_at : At ℕ → Finding) (rule : Rule) (instance : ℕ) (d : Flat) (n : ℕ) (task : Task) → ((s : ℕ) → P (within (n, task) s) → s < length d.signals) → (marks : ℕ → Option Spot) → ((s : ℕ) → Tells P finding_at rule instance (n, task) s (marks s)) → (old new : List Finding) → Shows rule instance marks old new → Gets P finding_at (task_sites (signal_numbers d) n task) old new
 gets_shown P finding_at rule instance d n task bound marks tells old new shows =
     record {
       more = map (shown rule instance) shows.entries;
@@ -150,7 +151,7 @@ key_at s k h =
     ]
 
 -- a process whose signals don't break a rule
-pub gets_no : (P : At ℕ → Type 0) (finding_at : At ℕ → Finding) (d : Parts) (n : ℕ) (task : Task) → ((s : ℕ) → P (within (n, task) s) → ⊥) → (old : List Finding) → Gets P finding_at (task_sites (signal_numbers d) n task) old old
+pub gets_no : (P : At ℕ → Type 0) (finding_at : At ℕ → Finding) (d : Flat) (n : ℕ) (task : Task) → ((s : ℕ) → P (within (n, task) s) → ⊥) → (old : List Finding) → Gets P finding_at (task_sites (signal_numbers d) n task) old old
 unfolding IsStrictlySortedBy
 gets_no P finding_at d n task never old =
     gets_shown P finding_at BlockingState 0 d n task (λ s breaks. absurd (never s breaks)) (λ s. None) never old old

@@ -2,7 +2,7 @@
 use Rattle.std.proofs.Common.{ℕ, ◌≡◌, ◌∙◌, List, ◌++◌, append_assoc, ap}
 use Rattle.rtl_rule.specs.declared.finding.Finding.{Finding}
 use Rattle.rtl_rule.specs.Order.{ranked}
-use Rattle.rtl_rule.specs.Parts.{Parts}
+use Rattle.rtl_flat.specs.Flats.{Flat}
 use Rattle.check_assign.specs.Findings.{AreAssignFindings}
 use Rattle.check_assign.specs.Lists.{AreAssigned, AreClocked, AreDriven, AreHeld, AreReset, Both}
 
@@ -14,7 +14,7 @@ in_a_row : (a b c d e f g h i j k l m n ab abc de def first gh early ij kl klm k
 in_a_row a b c d e f g h i j k l m n ab abc de def first gh early ij kl klm klmn all e1 e2 e3 e4 e5 e6 e7 e8 e9 e10 e11 e12 =
     e12 ∙ simp (e7, e5, e2, e1, e4, e3, e6, e8, e11, e10, e9, append_assoc)
 
-pub together : (InCone : ℕ → Type 0) (d : Parts) (first held reset all found : List Finding) → Both (Both (AreAssigned d) (AreDriven d)) (AreClocked InCone d) first → AreHeld d held → AreReset d reset → all ≡ (first ++ held) ++ reset → found ≡ ranked all → AreAssignFindings InCone d found
+pub together : (InCone : ℕ → Type 0) (d : Flat) (first held reset all found : List Finding) → Both (Both (AreAssigned d) (AreDriven d)) (AreClocked InCone d) first → AreHeld d held → AreReset d reset → all ≡ (first ++ held) ++ reset → found ≡ ranked all → AreAssignFindings InCone d found
 together InCone d first held reset all found early are_held are_reset row is =
     let assigned = early.are_first.are_first in
     let driven = early.are_first.are_second in

@@ -3,13 +3,13 @@
 use Rattle.std.specs.Prelude.{ℕ, ◌≡◌, List, ◌++◌}
 use Rattle.rtl_rule.specs.declared.finding.Finding.{Finding}
 use Rattle.rtl_rule.specs.Order.{ranked}
-use Rattle.rtl_rule.specs.Parts.{Parts}
+use Rattle.rtl_flat.specs.Flats.{Flat}
 use Rattle.check_clocks.specs.check_chains.Chains.{AreAsyncPair, AreResetPolarity, AreResetShape, AreResetValue}
 use Rattle.check_clocks.specs.Clocks.{AreClockAsData, AreDerivedClock}
 use Rattle.check_assign.specs.Assigned.{AreBlockingState, AreNonblockingComb, AreMixedAssign, AreSeveralDrivers, AreUndriven, AreCombLoop, AreLatchInferred, AreTristate}
 
 -- whether these are all of them, in their order; the cone is what clocks and resets reach through input ports
-pub record AreAssignFindings (InCone : ℕ → Type 0) (d : Parts) (findings : List Finding) : Type 0 where
+pub record AreAssignFindings (InCone : ℕ → Type 0) (d : Flat) (findings : List Finding) : Type 0 where
   pub blocking : List Finding
   pub nonblocking : List Finding
   pub mixed : List Finding

@@ -2,7 +2,7 @@
 -- Lists of findings, one behind another.
 use Rattle.std.specs.Prelude.{ℕ, ◌≡◌, List, ◌++◌}
 use Rattle.rtl_rule.specs.declared.finding.Finding.{Finding}
-use Rattle.rtl_rule.specs.Parts.{Parts}
+use Rattle.rtl_flat.specs.Flats.{Flat}
 use Rattle.check_clocks.specs.check_chains.Chains.{AreAsyncPair, AreResetPolarity, AreResetShape, AreResetValue}
 use Rattle.check_clocks.specs.Clocks.{AreClockAsData, AreDerivedClock}
 use Rattle.check_assign.specs.Assigned.{AreBlockingState, AreNonblockingComb, AreMixedAssign, AreSeveralDrivers, AreUndriven, AreCombLoop, AreLatchInferred, AreTristate}
@@ -15,18 +15,18 @@ pub record Both (First Second : List Finding → Type 0) (found : List Finding) 
   pub are_first : First first
   pub are_second : Second second
 
-abbrev pub AreAssigned : Parts → List Finding → Type 0
+abbrev pub AreAssigned : Flat → List Finding → Type 0
 AreAssigned d = Both (Both (AreBlockingState d) (AreNonblockingComb d)) (AreMixedAssign d)
 
-abbrev pub AreDriven : Parts → List Finding → Type 0
+abbrev pub AreDriven : Flat → List Finding → Type 0
 AreDriven d = Both (Both (AreSeveralDrivers d) (AreUndriven d)) (AreCombLoop d)
 
-abbrev pub AreClocked : (ℕ → Type 0) → Parts → List Finding → Type 0
+abbrev pub AreClocked : (ℕ → Type 0) → Flat → List Finding → Type 0
 AreClocked InCone d = Both (AreDerivedClock d) (AreClockAsData InCone d)
 
-abbrev pub AreHeld : Parts → List Finding → Type 0
+abbrev pub AreHeld : Flat → List Finding → Type 0
 AreHeld d = Both (AreLatchInferred d) (AreTristate d)
 
-abbrev pub AreReset : Parts → List Finding → Type 0
+abbrev pub AreReset : Flat → List Finding → Type 0
 AreReset d =
     Both (Both (Both (AreResetShape d) (AreResetPolarity d)) (AreAsyncPair d)) (AreResetValue d)

@@ -5,7 +5,8 @@ ghost use Rattle.std.specs.List.{slice_get};
 ghost use Rattle.std.specs.Ordering.{nat_cmp};
 ghost use Rattle.std.specs.BTreeMap.{get};
 ghost use Rattle.rtl_flat.specs.Process.{Task};
-ghost use Rattle.rtl_rule.specs.Parts.{has_some, parts, widths, written};
+ghost use Rattle.rtl_rule.specs.Parts.{has_some, written};
+ghost use Rattle.rtl_flat.specs.Flats.{flat, widths};
 ghost use Rattle.check_graph.specs.check_found.Masks.{has_in, mask_in};
 ghost use Rattle.check_graph.specs.check_found.Scanned.{AreScans};
 ghost use Rattle.check_assign.specs.Assigned.{AreSeveralDrivers, AreUndriven, IsSeveralDrivers, IsUndriven, is_input, is_written, lower_writes, several_drivers_at, undriven_at};
@@ -71,13 +72,13 @@ fn push_shared(
 ) -> Result<(), Memory>
     requires scans { AreScans scans.now }
     requires inside { p.0 < length scans.now.design.now.processes.items }
-    requires lower { let d = parts scans.now.design.now in
+    requires lower { let d = flat scans.now.design.now in
         (s k : ℕ) → has_in lower.old s k ≡ lower_writes d p.0 s k }
-    ensures found { let d = parts scans.now.design.now in
+    ensures found { let d = flat scans.now.design.now in
         OnOk result ((task : Task) → slice_get d.tasks p.0 ≡ Some task →
         Gets (IsSeveralDrivers d) several_drivers_at (task_sites (signal_numbers d) p.0 task)
         found.old.items found.new.items) }
-    ensures lower { let d = parts scans.now.design.now in
+    ensures lower { let d = flat scans.now.design.now in
         OnOk result ((task : Task) → slice_get d.tasks p.0 ≡ Some task → (s k : ℕ) →
         has_in lower.new s k ≡ (has_in lower.old s k || written d task.does s k)) }
 {
@@ -101,9 +102,9 @@ impl Drivers {
     pub(crate) fn of(alloc: Global, scans: &Scans) -> Result<Drivers, Memory>
         requires { AreScans scans.now }
         ensures several { IfOk result (λ made.
-            AreSeveralDrivers (parts scans.now.design.now) made.several.items) }
+            AreSeveralDrivers (flat scans.now.design.now) made.several.items) }
         ensures driven { IfOk result (λ made.
-            (s k : ℕ) → has_in made.driven s k ≡ is_written (parts scans.now.design.now) s k) }
+            (s k : ℕ) → has_in made.driven s k ≡ is_written (flat scans.now.design.now) s k) }
     {
         let mut several = Vec::new(alloc);
         let mut lower = SignalMasks::new(alloc);
@@ -136,7 +137,7 @@ fn is_input(kind: Kind) -> bool
 /// Whether a signal isn't a top input and has a bit that isn't in a set.
 fn is_undriven(design: &Design, signal: &Signal, number: SigId, driven: &SignalMasks) -> bool
     ensures { result ≡ (not (is_input signal.now.kind)
-        && has_some (widths (parts design.now)) (λ s k. not (has_in driven.now s k)) number.0) }
+        && has_some (widths (flat design.now)) (λ s k. not (has_in driven.now s k)) number.0) }
 {
     !is_input(signal.kind) && leaves(driven, selected(design, number, &Select::Whole))
 }
@@ -149,8 +150,8 @@ fn push_undriven(
     driven: &SignalMasks,
     found: &mut Vec<Finding>,
 ) -> Result<(), Memory>
-    requires { (s k : ℕ) → has_in driven.now s k ≡ is_written (parts design.now) s k }
-    ensures { OnOk result (Gets (IsUndriven (parts design.now)) undriven_at
+    requires { (s k : ℕ) → has_in driven.now s k ≡ is_written (flat design.now) s k }
+    ensures { OnOk result (Gets (IsUndriven (flat design.now)) undriven_at
         ((number.0, signal.now) ∷ []) found.old.items found.new.items) }
 {
     if !is_undriven(design, signal, number, driven) {
@@ -171,8 +172,8 @@ pub(crate) fn undriven_beside(
     design: &Design,
     driven: &SignalMasks,
 ) -> Result<Vec<Finding>, Memory>
-    requires { (s k : ℕ) → has_in driven.now s k ≡ is_written (parts design.now) s k }
-    ensures { IfOk result (λ found. AreUndriven (parts design.now) found.items) }
+    requires { (s k : ℕ) → has_in driven.now s k ≡ is_written (flat design.now) s k }
+    ensures { IfOk result (λ found. AreUndriven (flat design.now) found.items) }
 {
     let mut found = Vec::new(alloc);
     for number in 0..design.signals.len() {

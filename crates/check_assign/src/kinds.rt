@@ -3,7 +3,7 @@
 
 ghost use Rattle.std.specs.Prelude.{ℕ, ◌≡◌, IfOk, OnOk};
 ghost use Rattle.rtl_flat.specs.Process.{doing, task};
-ghost use Rattle.rtl_rule.specs.Parts.{parts};
+ghost use Rattle.rtl_flat.specs.Flats.{flat};
 ghost use Rattle.check_graph.specs.check_found.Scanned.{AreScans};
 ghost use Rattle.check_assign.specs.Assigned.{AreBlockingState, AreMixedAssign, AreNonblockingComb, IsBlockingState, IsMixedAssign, IsNonblockingComb, blocking_state_at, is_clocked, is_comb, mixed_assign_at, nonblocking_comb_at};
 ghost use Rattle.check_graph.specs.check_found.Gathered.{Gets, signal_numbers, task_sites};
@@ -54,8 +54,8 @@ fn push_blocking(
     process: &Process,
     found: &mut Vec<Finding>,
 ) -> Result<(), Memory>
-    requires { AreTemporaries (parts design.now) temporaries.now }
-    ensures { let d = parts design.now in OnOk result ((p : ℕ) →
+    requires { AreTemporaries (flat design.now) temporaries.now }
+    ensures { let d = flat design.now in OnOk result ((p : ℕ) →
         Gets (IsBlockingState d) (blocking_state_at d) (task_sites (signal_numbers d) p (task process.now))
         found.old.items found.new.items) }
 {
@@ -76,7 +76,7 @@ fn push_blocking(
 /// Fails where memory runs out.
 pub fn blocking_state(alloc: Global, scans: &Scans) -> Result<Vec<Finding>, Memory>
     requires { AreScans scans.now }
-    ensures { IfOk result (λ found. AreBlockingState (parts scans.now.design.now) found.items) }
+    ensures { IfOk result (λ found. AreBlockingState (flat scans.now.design.now) found.items) }
 {
     let temporaries = scans.temporaries();
     let mut found = Vec::new(alloc);
@@ -92,7 +92,7 @@ fn push_nonblocking(
     process: &Process,
     found: &mut Vec<Finding>,
 ) -> Result<(), Memory>
-    ensures { let d = parts design.now in OnOk result ((p : ℕ) →
+    ensures { let d = flat design.now in OnOk result ((p : ℕ) →
         Gets (IsNonblockingComb d) (nonblocking_comb_at d) (task_sites (signal_numbers d) p (task process.now))
         found.old.items found.new.items) }
 {
@@ -107,7 +107,7 @@ fn push_nonblocking(
 ///
 /// Fails where memory runs out.
 pub fn nonblocking_comb(alloc: Global, design: &Design) -> Result<Vec<Finding>, Memory>
-    ensures { IfOk result (λ found. AreNonblockingComb (parts design.now) found.items) }
+    ensures { IfOk result (λ found. AreNonblockingComb (flat design.now) found.items) }
 {
     let mut found = Vec::new(alloc);
     for process in &design.processes {
@@ -122,7 +122,7 @@ fn push_mixed(
     process: &Process,
     found: &mut Vec<Finding>,
 ) -> Result<(), Memory>
-    ensures { let d = parts design.now in OnOk result ((p : ℕ) →
+    ensures { let d = flat design.now in OnOk result ((p : ℕ) →
         Gets (IsMixedAssign d) (mixed_assign_at d) (task_sites (signal_numbers d) p (task process.now))
         found.old.items found.new.items) }
 {
@@ -139,7 +139,7 @@ fn push_mixed(
 ///
 /// Fails where memory runs out.
 pub fn mixed_assign(alloc: Global, design: &Design) -> Result<Vec<Finding>, Memory>
-    ensures { IfOk result (λ found. AreMixedAssign (parts design.now) found.items) }
+    ensures { IfOk result (λ found. AreMixedAssign (flat design.now) found.items) }
 {
     let mut found = Vec::new(alloc);
     for process in &design.processes {

@@ -7,7 +7,7 @@ ghost use Rattle.std.specs.BTreeMap.{get};
 ghost use Rattle.rtl_flat.specs.Flows.{flow_of};
 ghost use Rattle.rtl_flat.specs.Paths.{is_sure};
 ghost use Rattle.rtl_flat.specs.Process.{Task};
-ghost use Rattle.rtl_rule.specs.Parts.{parts, widths};
+ghost use Rattle.rtl_flat.specs.Flats.{flat, widths};
 ghost use Rattle.check_graph.specs.rtl_scan.Sets.{has, mask_of};
 ghost use Rattle.check_graph.specs.check_found.Scanned.{AreScans};
 ghost use Rattle.check_assign.specs.Assigned.{AreLatchInferred, IsLatchInferred, latch_inferred_at};
@@ -51,7 +51,7 @@ fn mark_left(rows: &[Row], sure: &BitSet, spot: Spot, marks: &mut Marks) -> Resu
 /// The bits that every path of a process writes.
 fn sure_bits(alloc: Global, design: &Design, p: ProcId) -> Result<BitSet, Memory>
     requires { p.0 < length design.now.processes.items }
-    ensures { let d = parts design.now in
+    ensures { let d = flat design.now in
         IfOk result (λ bits. (task : Task) → slice_get d.tasks p.0 ≡ Some task → (s k : ℕ) →
         has bits.masks s k ≡ is_sure (flow_of (widths d) task.does) s k) }
 {
@@ -67,7 +67,7 @@ fn push_latches(
 ) -> Result<(), Memory>
     requires scans { AreScans scans.now }
     requires inside { p.0 < length scans.now.design.now.processes.items }
-    ensures { let d = parts scans.now.design.now in
+    ensures { let d = flat scans.now.design.now in
         OnOk result ((task : Task) → slice_get d.tasks p.0 ≡ Some task →
         Gets (IsLatchInferred d) latch_inferred_at (task_sites (signal_numbers d) p.0 task)
         found.old.items found.new.items) }
@@ -93,7 +93,7 @@ fn push_latches(
 /// Fails where memory runs out.
 pub fn latch_inferred(alloc: Global, scans: &Scans) -> Result<Vec<Finding>, Memory>
     requires { AreScans scans.now }
-    ensures { IfOk result (λ found. AreLatchInferred (parts scans.now.design.now) found.items) }
+    ensures { IfOk result (λ found. AreLatchInferred (flat scans.now.design.now) found.items) }
 {
     let mut found = Vec::new(alloc);
     for number in 0..scans.design.processes.len() {

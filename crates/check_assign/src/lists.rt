@@ -1,9 +1,8 @@
 // The lists of findings of all rules, put together.
 
 ghost use Rattle.std.specs.Prelude.{◌≡◌, ◌++◌, IfOk};
-ghost use Rattle.event_model.specs.Queue.{flat};
+ghost use Rattle.rtl_flat.specs.Flats.{flat};
 ghost use Rattle.net_model.specs.Control.{InCone};
-ghost use Rattle.rtl_rule.specs.Parts.{parts};
 ghost use Rattle.check_clocks.specs.check_chains.Chains.{AreAsyncPair, AreResetPolarity, AreResetShape, AreResetValue};
 ghost use Rattle.check_clocks.specs.Clocks.{AreClockAsData, AreDerivedClock};
 ghost use Rattle.check_graph.specs.check_found.Scanned.{AreScans};
@@ -33,7 +32,7 @@ fn joined(mut found: Vec<Finding>, more: Vec<Finding>) -> Result<Vec<Finding>, M
 /// Which kinds of assignments there are.
 fn assigned(alloc: Global, scans: &Scans) -> Result<Vec<Finding>, Memory>
     requires { AreScans scans.now }
-    ensures { IfOk result (λ found. AreAssigned (parts scans.now.design.now) found.items) }
+    ensures { IfOk result (λ found. AreAssigned (flat scans.now.design.now) found.items) }
 {
     let blocking = blocking_state(alloc, scans)?;
     let nonblocking = nonblocking_comb(alloc, scans.design)?;
@@ -45,7 +44,7 @@ fn assigned(alloc: Global, scans: &Scans) -> Result<Vec<Finding>, Memory>
 /// What drives signals.
 fn driven(alloc: Global, scans: &Scans) -> Result<Vec<Finding>, Memory>
     requires { AreScans scans.now }
-    ensures { IfOk result (λ found. AreDriven (parts scans.now.design.now) found.items) }
+    ensures { IfOk result (λ found. AreDriven (flat scans.now.design.now) found.items) }
 {
     let Drivers { several, driven } = Drivers::of(alloc, scans)?;
     let none = undriven_beside(alloc, scans.design, &driven)?;
@@ -58,7 +57,7 @@ fn driven(alloc: Global, scans: &Scans) -> Result<Vec<Finding>, Memory>
 fn clocked(alloc: Global, scans: &Scans) -> Result<Vec<Finding>, Memory>
     requires { AreScans scans.now }
     ensures { IfOk result (λ found.
-        AreClocked (InCone (flat scans.now.design.now)) (parts scans.now.design.now) found.items) }
+        AreClocked (InCone (flat scans.now.design.now)) (flat scans.now.design.now) found.items) }
 {
     let derived = derived_clock(alloc, scans.design)?;
     let data = clock_as_data(alloc, scans)?;
@@ -68,7 +67,7 @@ fn clocked(alloc: Global, scans: &Scans) -> Result<Vec<Finding>, Memory>
 /// What keeps its value without a clock, or lets go of it.
 fn held(alloc: Global, scans: &Scans) -> Result<Vec<Finding>, Memory>
     requires { AreScans scans.now }
-    ensures { IfOk result (λ found. AreHeld (parts scans.now.design.now) found.items) }
+    ensures { IfOk result (λ found. AreHeld (flat scans.now.design.now) found.items) }
 {
     let latches = latch_inferred(alloc, scans)?;
     let literals = tristate(alloc, scans.design)?;
@@ -78,7 +77,7 @@ fn held(alloc: Global, scans: &Scans) -> Result<Vec<Finding>, Memory>
 /// How clocked processes are reset.
 fn reset(alloc: Global, scans: &Scans) -> Result<Vec<Finding>, Memory>
     requires { AreScans scans.now }
-    ensures { IfOk result (λ found. AreReset (parts scans.now.design.now) found.items) }
+    ensures { IfOk result (λ found. AreReset (flat scans.now.design.now) found.items) }
 {
     let shape = reset_shape(alloc, scans.design)?;
     let polarity = reset_polarity(alloc, scans.design)?;
@@ -92,7 +91,7 @@ fn reset(alloc: Global, scans: &Scans) -> Result<Vec<Finding>, Memory>
 /// All but those of what is held and how it is reset.
 fn first_part(alloc: Global, scans: &Scans) -> Result<Vec<Finding>, Memory>
     requires { AreScans scans.now }
-    ensures { let d = parts scans.now.design.now in
+    ensures { let d = flat scans.now.design.now in
         IfOk result (λ found.
         Both (Both (AreAssigned d) (AreDriven d))
         (AreClocked (InCone (flat scans.now.design.now)) d)
@@ -110,7 +109,7 @@ fn first_part(alloc: Global, scans: &Scans) -> Result<Vec<Finding>, Memory>
 /// Fails where memory runs out.
 pub fn check(alloc: Global, scans: &Scans) -> Result<Vec<Finding>, Memory>
     requires { AreScans scans.now }
-    ensures { let d = parts scans.now.design.now in
+    ensures { let d = flat scans.now.design.now in
         IfOk result (λ found.
         AreAssignFindings (InCone (flat scans.now.design.now)) d found.items) }
 {

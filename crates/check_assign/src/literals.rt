@@ -5,7 +5,8 @@ ghost use Rattle.std.specs.List.{flat_map, list_any, slice_get};
 ghost use Rattle.rtl_tree.specs.declared.text.Spot.{Spot};
 ghost use Rattle.rtl_flat.specs.Expression.{tree};
 ghost use Rattle.rtl_flat.specs.Process.{Task, doing};
-ghost use Rattle.rtl_rule.specs.Parts.{is_literal_with, is_z, nodes, parts, valued_trees};
+ghost use Rattle.rtl_rule.specs.Parts.{is_literal_with, is_z, nodes, valued_trees};
+ghost use Rattle.rtl_flat.specs.Flats.{flat};
 ghost use Rattle.check_graph.specs.check_found.Gathered.{Gets, task_sites};
 ghost use Rattle.check_assign.specs.Assigned.{AreTristate, IsTristate, tristate_at};
 ghost use Rattle.check_assign.specs.Marks.{z_spots};
@@ -84,7 +85,7 @@ fn push_tristate(
     found: &mut Vec<Finding>,
 ) -> Result<(), Memory>
     requires { p.0 < length design.now.processes.items }
-    ensures { let d = parts design.now in
+    ensures { let d = flat design.now in
         OnOk result ((task : Task) → slice_get d.tasks p.0 ≡ Some task →
         Gets IsTristate (tristate_at d) (task_sites (λ does. does ∷ []) p.0 task)
         found.old.items found.new.items) }
@@ -108,7 +109,7 @@ fn push_tristate(
 ///
 /// Fails where memory runs out.
 pub fn tristate(alloc: Global, design: &Design) -> Result<Vec<Finding>, Memory>
-    ensures { IfOk result (λ found. AreTristate (parts design.now) found.items) }
+    ensures { IfOk result (λ found. AreTristate (flat design.now) found.items) }
 {
     let mut found = Vec::new(alloc);
     for number in 0..design.processes.len() {

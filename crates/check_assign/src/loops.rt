@@ -3,7 +3,7 @@
 ghost use Rattle.std.specs.Prelude.{◌≡◌, ◌<◌, ◌↔◌, [], ◌∷◌, true, length, Some, IfOk, OnOk};
 ghost use Rattle.std.specs.List.{slice_get};
 ghost use Rattle.rtl_flat.specs.Process.{Task};
-ghost use Rattle.rtl_rule.specs.Parts.{parts};
+ghost use Rattle.rtl_flat.specs.Flats.{flat};
 ghost use Rattle.check_graph.specs.check_found.Gathered.{Gets, task_sites};
 ghost use Rattle.check_graph.specs.Loops.{IsOnLevelCycle};
 ghost use Rattle.check_graph.specs.check_found.Scanned.{AreScans};
@@ -28,9 +28,9 @@ fn push_loop(
     found: &mut Vec<Finding>,
 ) -> Result<(), Memory>
     requires inside { p.0 < length design.now.processes.items }
-    requires on_cycle { let d = parts design.now in
+    requires on_cycle { let d = flat design.now in
         on_cycle ≡ true ↔ IsOnLevelCycle d.signals d.tasks p.0 }
-    ensures { let d = parts design.now in
+    ensures { let d = flat design.now in
         OnOk result ((task : Task) → slice_get d.tasks p.0 ≡ Some task →
         Gets (IsCombLoop d) (comb_loop_at d) (task_sites (λ does. does ∷ []) p.0 task)
         found.old.items found.new.items) }
@@ -54,7 +54,7 @@ fn push_loop(
 /// Fails where memory runs out.
 pub fn comb_loop(alloc: Global, scans: &Scans) -> Result<Vec<Finding>, Memory>
     requires { AreScans scans.now }
-    ensures { IfOk result (λ found. AreCombLoop (parts scans.now.design.now) found.items) }
+    ensures { IfOk result (λ found. AreCombLoop (flat scans.now.design.now) found.items) }
 {
     let on_cycle = loops(alloc, scans)?;
     let mut found = Vec::new(alloc);

@@ -5,7 +5,8 @@ ghost use Rattle.std.specs.List.{filter_map, flat_map};
 ghost use Rattle.std.specs.Ordering.{nat_cmp};
 ghost use Rattle.std.specs.BTreeMap.{get};
 ghost use Rattle.rtl_flat.specs.Process.{action, doing, piece};
-ghost use Rattle.rtl_rule.specs.Parts.{parts, statements, widths};
+ghost use Rattle.rtl_rule.specs.Parts.{statements};
+ghost use Rattle.rtl_flat.specs.Flats.{flat, widths};
 ghost use Rattle.check_assign.specs.Assigned.{own_targets};
 ghost use Rattle.check_assign.specs.Marks.{joined, least_of, spot_of};
 
@@ -21,7 +22,7 @@ use std::alloc::Global;
 fn note_part(design: &Design, part: &TargetPart, marks: &mut Marks) -> Result<(), Memory>
     ensures { OnOk result ((s : ℕ) → get nat_cmp marks.new.spots s
         ≡ joined (get nat_cmp marks.old.spots s)
-        (spot_of (widths (parts design.now)) s (piece part.now))) }
+        (spot_of (widths (flat design.now)) s (piece part.now))) }
 {
     let row = selected(design, part.signal, &part.select);
     if row.mask == 0 {
@@ -33,7 +34,7 @@ fn note_part(design: &Design, part: &TargetPart, marks: &mut Marks) -> Result<()
 fn note_parts(design: &Design, all: &[TargetPart], marks: &mut Marks) -> Result<(), Memory>
     ensures { OnOk result ((s : ℕ) → get nat_cmp marks.new.spots s
         ≡ joined (get nat_cmp marks.old.spots s)
-        (least_of (filter_map (spot_of (widths (parts design.now)) s) (map piece all.now)))) }
+        (least_of (filter_map (spot_of (widths (flat design.now)) s) (map piece all.now)))) }
 {
     for part in all {
         note_part(design, part, marks)?;
@@ -45,7 +46,7 @@ fn note_parts(design: &Design, all: &[TargetPart], marks: &mut Marks) -> Result<
 fn note_act(design: &Design, one: &Act, delayed: bool, marks: &mut Marks) -> Result<(), Memory>
     ensures { OnOk result ((s : ℕ) → get nat_cmp marks.new.spots s
         ≡ joined (get nat_cmp marks.old.spots s)
-        (least_of (own_targets (widths (parts design.now)) delayed s (action one.now)))) }
+        (least_of (own_targets (widths (flat design.now)) delayed s (action one.now)))) }
 {
     match one {
         Act::Set {
@@ -85,7 +86,7 @@ pub(crate) fn first_targets(
     does: &Does,
     delayed: bool,
 ) -> Result<Marks, Memory>
-    ensures { let ws = widths (parts design.now) in
+    ensures { let ws = widths (flat design.now) in
         IfOk result (λ marks. (s : ℕ) → get nat_cmp marks.spots s
         ≡ least_of (flat_map (own_targets ws delayed s) (statements (doing does.now)))) }
 {

@@ -8,7 +8,7 @@ use Rattle.rtl_flat.specs.declared.design.Design.{Design}
 use Rattle.rtl_flat.specs.Expression.{Tree}
 use Rattle.rtl_flat.specs.Process.{Piece, Set, If, Block, Actions, Otherwise, Task, task}
 use Rattle.rtl_rule.specs.declared.finding.Finding.{Finding}
-use Rattle.rtl_rule.specs.Parts.{Parts, parts}
+use Rattle.rtl_flat.specs.Flats.{Flat, flat}
 use Rattle.check_found.specs.Gathered.{Gets}
 use Rattle.check_found.proofs.Gathering.{gets_both, take_next}
 use Rattle.check_found.proofs.Sites.{read_at, task_at, task_count}
@@ -23,12 +23,12 @@ there [] n below = absurd (omega (arith, below))
 there (x ∷ xs) ℕ.zero below = (x, refl)
 there (x ∷ xs) (suc n) below = there xs n (omega (arith, below))
 
-pub process_there : (design : Design) (n : ℕ) → n < length design.processes.items → (task : Task) × (slice_get (parts design).tasks n ≡ Some task)
+pub process_there : (design : Design) (n : ℕ) → n < length design.processes.items → (task : Task) × (slice_get (flat design).tasks n ≡ Some task)
 process_there design n below =
-    there (parts design).tasks n (omega (arith, below, task_count design))
+    there (flat design).tasks n (omega (arith, below, task_count design))
 
 -- the plain form of the process with a number
-pub task_is : (design : Design) (p : ℕ) (process : Process) → p < length design.processes.items → process ≡ get_or design.processes.items p process → (t : Task) → slice_get (parts design).tasks p ≡ Some t → task process ≡ t
+pub task_is : (design : Design) (p : ℕ) (process : Process) → p < length design.processes.items → process ≡ get_or design.processes.items p process → (t : Task) → slice_get (flat design).tasks p ≡ Some t → task process ≡ t
 task_is design p process below is t at =
     let here = task_at design p process below is in cc (here, at)
 
@@ -58,15 +58,15 @@ flat_maps f h g (x ∷ xs) =
 
 -- ---- statements that claim nothing
 
-pub set_says : (d : Parts) (claim : Claim) (target : List Piece) (value : Tree) (delayed : Bool) (spot : _) → claims_falsely d claim (Set target value delayed spot) ≡ false
+pub set_says : (d : Flat) (claim : Claim) (target : List Piece) (value : Tree) (delayed : Bool) (spot : _) → claims_falsely d claim (Set target value delayed spot) ≡ false
 set_says d Full target value delayed spot = refl
 set_says d Parallel target value delayed spot = refl
 
-pub if_says : (d : Parts) (claim : Claim) (test : Tree) (taken : Actions) (other : Otherwise) (spot : _) → claims_falsely d claim (If test taken other spot) ≡ false
+pub if_says : (d : Flat) (claim : Claim) (test : Tree) (taken : Actions) (other : Otherwise) (spot : _) → claims_falsely d claim (If test taken other spot) ≡ false
 if_says d Full test taken other spot = refl
 if_says d Parallel test taken other spot = refl
 
-pub block_says : (d : Parts) (claim : Claim) (body : Actions) → claims_falsely d claim (Block body) ≡ false
+pub block_says : (d : Flat) (claim : Claim) (body : Actions) → claims_falsely d claim (Block body) ≡ false
 block_says d Full body = refl
 block_says d Parallel body = refl
 

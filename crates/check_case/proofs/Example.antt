@@ -11,7 +11,8 @@ use Rattle.rtl_flat.specs.declared.signal.Signal.{Signal}
 use Rattle.rtl_flat.specs.Expression as sized
 use Rattle.rtl_flat.specs.Process.{Piece, Watched, Actions, Doing, Task}
 use Rattle.rtl_flat.specs.Process as part
-use Rattle.rtl_rule.specs.Parts.{Parts, At}
+use Rattle.rtl_rule.specs.Parts.{At}
+use Rattle.rtl_flat.specs.Flats.{Flat}
 use Rattle.check_case.specs.Cases.{IsParallelCase, IsUnknownItem, full_case_at, label_in}
 use Rattle.rtl_rule.specs.Parts.{number}
 
@@ -31,7 +32,7 @@ piece i at = record { signal = i; selection = part.Whole; spot = spot_at at } �
 abbrev task_of : Doing → Task
 task_of does = record { does = does; instance = 0; spot = spot_at 38 }
 
-abbrev parts : List Signal → List Doing → Parts
+abbrev parts : List Signal → List Doing → Flat
 parts signals does =
     record { signals = signals; tasks = map task_of does; delays = []; dropped = [] }
 
@@ -56,7 +57,7 @@ abbrev half : Action
 half =
     part.Case Plain true false (sized.Sized 2 false (spot_at 0) (sized.Whole 0)) (part.Branch (literal (Zero ∷ Zero ∷ []) ∷ []) (set 3 (read 1)) (part.Branch (literal (One ∷ Zero ∷ []) ∷ []) (set 3 (read 2)) part.NoBranch)) part.Without (spot_at 40)
 
-abbrev full : Parts
+abbrev full : Flat
 full = parts ports (part.Comb None (part.Then half part.Done) ∷ [])
 
 y_is_found : (full_case_at full (at half half)).signal ≡ number 3

@@ -10,7 +10,8 @@ use Rattle.rtl_flat.specs.Flows.{action_then, actions_then, body_flow, is_comple
 use Rattle.rtl_flat.specs.Paths.{BitSet, either, Step, Flow, End, some, some_way, may_write, may_write_bit}
 use Rattle.rtl_flat.specs.Process.{Piece, Action, Set, If, Case, Actions, Then, Otherwise, Without, With, Branches, NoBranch, Branch}
 use Rattle.rtl_flat.proofs.Flows.{some_action}
-use Rattle.rtl_rule.specs.Parts.{Parts, first_below, first_of, has_some, number, some_below, widths}
+use Rattle.rtl_rule.specs.Parts.{first_below, first_of, has_some, number, some_below}
+use Rattle.rtl_flat.specs.Flats.{Flat, widths}
 use Rattle.check_parts.specs.rtl_scan.declared.bits.Row.{Row}
 use Rattle.check_parts.specs.rtl_scan.Scan.{some_item}
 use Rattle.check_parts.specs.rtl_scan.Sets.{has_row}
@@ -149,17 +150,17 @@ some_either (suc n) f g =
     swap false true c d = sym (right_true c true refl)
     swap false false c d = refl
 
-pub first_either : (d : Parts) (a b : BitSet) → first_of d (either a b) ≡ lesser (first_of d a) (first_of d b)
+pub first_either : (d : Flat) (a b : BitSet) → first_of d (either a b) ≡ lesser (first_of d a) (first_of d b)
 first_either d a b =
     ap (first_below (length d.signals)) (λ i s. some_either (widths d s) (a s) (b s) i)
     ∙ first_below_either (length d.signals) (has_some (widths d) a) (has_some (widths d) b)
 
-pub first_same : (d : Parts) (a b : BitSet) → ((s k : ℕ) → a s k ≡ b s k) → first_of d a ≡ first_of d b
+pub first_same : (d : Flat) (a b : BitSet) → ((s k : ℕ) → a s k ≡ b s k) → first_of d a ≡ first_of d b
 first_same d a b same = ap (first_of d) (λ i s k. same s k i)
 
 -- ---- targets
 
-pub pieces_none : (d : Parts) → first_of_pieces d [] ≡ None
+pub pieces_none : (d : Flat) → first_of_pieces d [] ≡ None
 pieces_none d =
     first_none (length d.signals) (has_some (widths d) (may_target (widths d) [])) (λ s below. nothing (widths d s))
   where
@@ -167,12 +168,12 @@ pieces_none d =
     nothing zero = refl
     nothing (suc n) = ap (λ b. b || false) (nothing n)
 
-pub pieces_next : (d : Parts) (piece : Piece) (others : List Piece) → first_of_pieces d (piece ∷ others) ≡ lesser (first_of_pieces d (piece ∷ [])) (first_of_pieces d others)
+pub pieces_next : (d : Flat) (piece : Piece) (others : List Piece) → first_of_pieces d (piece ∷ others) ≡ lesser (first_of_pieces d (piece ∷ [])) (first_of_pieces d others)
 pieces_next d piece others =
     first_either d (may_select (widths d) piece.signal piece.selection) (may_target (widths d) others)
     ∙ ap (λ x. lesser x (first_of_pieces d others)) (first_same d (may_select (widths d) piece.signal piece.selection) (may_target (widths d) (piece ∷ [])) (λ s k. sym (or_false (may_select (widths d) piece.signal piece.selection s k))))
 
-module _ (d : Parts) (piece : Piece) (row : Row) (are : (s k : ℕ) → has_row row s k ≡ may_select (widths d) piece.signal piece.selection s k) where
+module _ (d : Flat) (piece : Piece) (row : Row) (are : (s k : ℕ) → has_row row s k ≡ may_select (widths d) piece.signal piece.selection s k) where
   pub piece_none : (row.mask == 0) ≡ true → None ≡ first_of_pieces d (piece ∷ [])
   piece_none empty =
       sym (first_same d (may_target (widths d) (piece ∷ [])) (may_target (widths d) []) (λ s k. or_false (may_select (widths d) piece.signal piece.selection s k) ∙ sym (are s k) ∙ nothing (s == row.signal.0) (is_one_at row.mask k) (ap (λ m. is_one_at m k) (eqb-true row.mask 0 empty) ∙ one_at-zero k))
@@ -195,11 +196,11 @@ module _ (d : Parts) (piece : Piece) (row : Row) (are : (s k : ℕ) → has_row 
 
 -- ---- statements
 
-pub set_first : (d : Parts) (target : List Piece) (value : Tree) (delayed : Bool) (spot : _) → first_in d (Set target value delayed spot) ≡ first_of_pieces d target
+pub set_first : (d : Flat) (target : List Piece) (value : Tree) (delayed : Bool) (spot : _) → first_in d (Set target value delayed spot) ≡ first_of_pieces d target
 set_first d target value delayed spot =
     first_same d (may_write (action_then (widths d) (Set target value delayed spot) End)) (may_target (widths d) target) (λ s k. or_false (may_target (widths d) target s k))
 
-pub if_first : (d : Parts) (test : Tree) (taken : Actions) (other : Otherwise) (spot : _) → first_in d (If test taken other spot) ≡ lesser (first_of_other d other) (first_of_all d taken)
+pub if_first : (d : Flat) (test : Tree) (taken : Actions) (other : Otherwise) (spot : _) → first_in d (If test taken other spot) ≡ lesser (first_of_other d other) (first_of_all d taken)
 if_first d test taken other spot =
     first_same d (may_write (action_then (widths d) (If test taken other spot) End)) (either (may_write (other_flow (widths d) other)) (may_write (actions_then (widths d) taken End)))
     (λ s k. or_false (some (may_write_bit s k) (other_flow (widths d) other) || some (may_write_bit s k) (actions_then (widths d) taken End)))
@@ -220,7 +221,7 @@ module _ (f : Step → Bool) (ws : ℕ → ℕ) where
   case_ways true Without NoBranch = refl
   case_ways true Without (Branch labels body others) = some_ways (body_flow ws body) others
 
-pub case_first : (d : Parts) (kind : _) (full parallel : Bool) (selector : Tree) (items : Branches) (fallback : Otherwise) (spot : _) → first_in d (Case kind full parallel selector items fallback spot) ≡ lesser (first_of_other d fallback) (first_of_items d items)
+pub case_first : (d : Flat) (kind : _) (full parallel : Bool) (selector : Tree) (items : Branches) (fallback : Otherwise) (spot : _) → first_in d (Case kind full parallel selector items fallback spot) ≡ lesser (first_of_other d fallback) (first_of_items d items)
 case_first d kind full parallel selector items fallback spot =
     let ws = widths d in
     let complete = is_complete ws kind full selector items in
@@ -228,13 +229,13 @@ case_first d kind full parallel selector items fallback spot =
     (λ s k. or_false (some_way (may_write_bit s k) (ways ws (way_past ws complete fallback) items)) ∙ case_ways (may_write_bit s k) ws complete fallback items)
     ∙ first_either d (may_write (other_flow ws fallback)) (λ s k. some_item (may_write_bit s k) ws items)
 
-pub all_next : (d : Parts) (one : Action) (others : Actions) → first_of_all d (Then one others) ≡ lesser (first_in d one) (first_of_all d others)
+pub all_next : (d : Flat) (one : Action) (others : Actions) → first_of_all d (Then one others) ≡ lesser (first_in d one) (first_of_all d others)
 all_next d one others =
     let ws = widths d in
     first_same d (may_write (actions_then ws (Then one others) End)) (either (may_write (action_then ws one End)) (may_write (actions_then ws others End)))
     (λ s k. some_action (may_write_bit s k) ws one (actions_then ws others End))
     ∙ first_either d (may_write (action_then ws one End)) (may_write (actions_then ws others End))
 
-pub items_next : (d : Parts) (labels : List Tree) (body : Actions) (others : Branches) → first_of_items d (Branch labels body others) ≡ lesser (first_of_all d body) (first_of_items d others)
+pub items_next : (d : Flat) (labels : List Tree) (body : Actions) (others : Branches) → first_of_items d (Branch labels body others) ≡ lesser (first_of_all d body) (first_of_items d others)
 items_next d labels body others =
     first_either d (may_write (actions_then (widths d) body End)) (λ s k. some_item (may_write_bit s k) (widths d) others)

@@ -16,11 +16,12 @@ use Rattle.rtl_flat.specs.Process.{Action, Set, If, Case, Block, Without, Branch
 use Rattle.rtl_rule.specs.declared.finding.Finding.{Finding}
 use Rattle.rtl_rule.specs.declared.rule.Rule.TheVariants.{FullCase, ParallelCase, UnknownItem}
 use Rattle.rtl_rule.specs.Order.{ranked}
-use Rattle.rtl_rule.specs.Parts.{Parts, At, sites, widths, first_of, first_written, found_at, place_of, statements, is_x, is_literal_with}
+use Rattle.rtl_rule.specs.Parts.{At, sites, first_of, first_written, found_at, place_of, statements, is_x, is_literal_with}
+use Rattle.rtl_flat.specs.Flats.{Flat, widths}
 use Rattle.rtl_rule.specs.Sites.{AreFindings}
 
 -- each statement of each process
-abbrev pub statement_sites : Parts → List (At Action)
+abbrev pub statement_sites : Flat → List (At Action)
 statement_sites d = sites statements d
 
 -- where a statement stands: a case at its word
@@ -31,7 +32,7 @@ spot_of otherwise (Case kind full parallel selector branches fallback spot) = sp
 spot_of otherwise (Block body) = otherwise
 
 -- the least signal that a statement may write
-abbrev pub first_in : Parts → Action → Option SigId
+abbrev pub first_in : Flat → Action → Option SigId
 first_in d one = first_of d (may_write (action_then (widths d) one End))
 
 -- ---- C1
@@ -42,14 +43,14 @@ is_false_full ws (Case kind full parallel selector branches Without spot) =
     full && not (complete_by_labels ws kind selector branches)
 is_false_full ws _ = false
 
-abbrev pub IsFullCase : Parts → At Action → Type 0
+abbrev pub IsFullCase : Flat → At Action → Type 0
 IsFullCase d site = is_false_full (widths d) site.it ≡ true
 
-abbrev pub full_case_at : Parts → At Action → Finding
+abbrev pub full_case_at : Flat → At Action → Finding
 full_case_at d site =
     found_at FullCase site (first_in d site.it) (spot_of site.task.spot site.it)
 
-abbrev pub AreFullCase : Parts → List Finding → Type 0
+abbrev pub AreFullCase : Flat → List Finding → Type 0
 AreFullCase d = AreFindings (IsFullCase d) (full_case_at d) (statement_sites d)
 
 -- ---- C2
@@ -86,11 +87,11 @@ is_false_parallel _ = false
 abbrev pub IsParallelCase : At Action → Type 0
 IsParallelCase site = is_false_parallel site.it ≡ true
 
-abbrev pub parallel_case_at : Parts → At Action → Finding
+abbrev pub parallel_case_at : Flat → At Action → Finding
 parallel_case_at d site =
     found_at ParallelCase site (first_in d site.it) (spot_of site.task.spot site.it)
 
-abbrev pub AreParallelCase : Parts → List Finding → Type 0
+abbrev pub AreParallelCase : Flat → List Finding → Type 0
 AreParallelCase d = AreFindings IsParallelCase (parallel_case_at d) (statement_sites d)
 
 -- ---- C3
@@ -118,18 +119,18 @@ never_matches X b = false
 abbrev pub IsUnknownItem : At Label → Type 0
 IsUnknownItem site = is_literal_with (never_matches site.it.kind) site.it.label ≡ true
 
-abbrev pub unknown_item_at : Parts → At Label → Finding
+abbrev pub unknown_item_at : Flat → At Label → Finding
 unknown_item_at d site =
     found_at UnknownItem site (first_written d site) (place_of site.task.spot site.it.label)
 
-abbrev pub AreUnknownItem : Parts → List Finding → Type 0
+abbrev pub AreUnknownItem : Flat → List Finding → Type 0
 AreUnknownItem d =
     AreFindings IsUnknownItem (unknown_item_at d) (sites (λ does. flat_map own_kinds (statements does)) d)
 
 -- ---- all of them
 
 -- whether these are all findings about case statements, in their order
-pub record AreCaseFindings (d : Parts) (findings : List Finding) : Type 0 where
+pub record AreCaseFindings (d : Flat) (findings : List Finding) : Type 0 where
   pub full : List Finding
   pub parallel : List Finding
   pub unknown : List Finding

@@ -5,7 +5,8 @@ use Rattle.rtl_flat.specs.declared.expr.SigId.{SigId}
 use Rattle.rtl_flat.specs.Flows.{actions_then, may_target, other_flow}
 use Rattle.rtl_flat.specs.Paths.{End, may_write, may_write_bit}
 use Rattle.rtl_flat.specs.Process.{Piece, Actions, Otherwise, Branches}
-use Rattle.rtl_rule.specs.Parts.{Parts, first_of, widths}
+use Rattle.rtl_rule.specs.Parts.{first_of}
+use Rattle.rtl_flat.specs.Flats.{Flat, widths}
 use Rattle.check_parts.specs.rtl_scan.Scan.{some_item}
 
 -- the lesser of two signals, where there are any
@@ -14,14 +15,14 @@ lesser None other = other
 lesser (Some a) None = Some a
 lesser (Some a) (Some b) = cond (nat_lt b.0 a.0) (Some b) (Some a)
 
-abbrev pub first_of_pieces : Parts → List Piece → Option SigId
+abbrev pub first_of_pieces : Flat → List Piece → Option SigId
 first_of_pieces d target = first_of d (may_target (widths d) target)
 
-abbrev pub first_of_all : Parts → Actions → Option SigId
+abbrev pub first_of_all : Flat → Actions → Option SigId
 first_of_all d body = first_of d (may_write (actions_then (widths d) body End))
 
-abbrev pub first_of_other : Parts → Otherwise → Option SigId
+abbrev pub first_of_other : Flat → Otherwise → Option SigId
 first_of_other d other = first_of d (may_write (other_flow (widths d) other))
 
-abbrev pub first_of_items : Parts → Branches → Option SigId
+abbrev pub first_of_items : Flat → Branches → Option SigId
 first_of_items d items = first_of d (λ s k. some_item (may_write_bit s k) (widths d) items)

@@ -4,7 +4,8 @@ ghost use Rattle.std.specs.Prelude.{ℕ, Bool, ◌≡◌, ◌&&◌, not, [], ◌
 ghost use Rattle.rtl_tree.specs.declared.text.Spot.{Spot};
 ghost use Rattle.rtl_flat.specs.Expression.{tree};
 ghost use Rattle.rtl_flat.specs.Process.{Case, action, task};
-ghost use Rattle.rtl_rule.specs.Parts.{parts, statements, widths, within};
+ghost use Rattle.rtl_rule.specs.Parts.{statements, within};
+ghost use Rattle.rtl_flat.specs.Flats.{flat, widths};
 ghost use Rattle.check_parts.specs.rtl_scan.Bodies.{branches_of, other_of};
 ghost use Rattle.check_found.specs.Gathered.{task_sites};
 ghost use Rattle.check_case.specs.Cases.{AreFullCase, AreParallelCase, all_disjoint, is_false_full, spot_of};
@@ -56,7 +57,7 @@ fn is_false_full(
 ) -> Result<bool, Memory>
     ensures { IfOk result (λ wrong. (parallel : Bool) (spot : Spot)
         → let items = branches_of items.now in
-        wrong ≡ is_false_full (widths (parts design.now))
+        wrong ≡ is_false_full (widths (flat design.now))
         (Case kind full parallel (tree selector.now) items (other_of fallback.now) spot)) }
 {
     match fallback {
@@ -91,7 +92,7 @@ fn is_false_parallel(
 /// Whether a statement makes a claim that isn't so.
 fn is_false(alloc: Global, design: &Design, claim: Claim, one: &Act) -> Result<bool, Memory>
     ensures { IfOk result (λ wrong.
-        wrong ≡ claims_falsely (parts design.now) claim (action one.now)) }
+        wrong ≡ claims_falsely (flat design.now) claim (action one.now)) }
 {
     match one {
         Act::Set {
@@ -160,7 +161,7 @@ fn push_claim(
     one: &Act,
     found: &mut Vec<Finding>,
 ) -> Result<(), Memory>
-    ensures { OnOk result ((p : ℕ) → GetsClaims (parts design.now) claim
+    ensures { OnOk result ((p : ℕ) → GetsClaims (flat design.now) claim
         (within (p, task process.now) (action one.now) ∷ []) found.old.items found.new.items) }
 {
     let wrong = is_false(alloc, design, claim, one)?;
@@ -183,7 +184,7 @@ fn push_claims(
     process: &Process,
     found: &mut Vec<Finding>,
 ) -> Result<(), Memory>
-    ensures { OnOk result ((p : ℕ) → GetsClaims (parts design.now) claim
+    ensures { OnOk result ((p : ℕ) → GetsClaims (flat design.now) claim
         (task_sites statements p (task process.now)) found.old.items found.new.items) }
 {
     let all = statements(alloc, &process.does)?;
@@ -194,7 +195,7 @@ fn push_claims(
 }
 
 fn false_claims(alloc: Global, design: &Design, claim: Claim) -> Result<Vec<Finding>, Memory>
-    ensures { IfOk result (λ found. AreClaims (parts design.now) claim found.items) }
+    ensures { IfOk result (λ found. AreClaims (flat design.now) claim found.items) }
 {
     let mut found = Vec::new(alloc);
     for process in &design.processes {
@@ -205,14 +206,14 @@ fn false_claims(alloc: Global, design: &Design, claim: Claim) -> Result<Vec<Find
 
 /// Cases that say `full_case`, have no `default` and aren't complete by their labels.
 pub fn full_case(alloc: Global, design: &Design) -> Result<Vec<Finding>, Memory>
-    ensures { IfOk result (λ found. AreFullCase (parts design.now) found.items) }
+    ensures { IfOk result (λ found. AreFullCase (flat design.now) found.items) }
 {
     false_claims(alloc, design, Claim::Full)
 }
 
 /// Cases that say `parallel_case`, of which two items aren't shown disjoint.
 pub fn parallel_case(alloc: Global, design: &Design) -> Result<Vec<Finding>, Memory>
-    ensures { IfOk result (λ found. AreParallelCase (parts design.now) found.items) }
+    ensures { IfOk result (λ found. AreParallelCase (flat design.now) found.items) }
 {
     false_claims(alloc, design, Claim::Parallel)
 }

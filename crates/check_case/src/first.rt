@@ -2,7 +2,7 @@
 
 ghost use Rattle.std.specs.Prelude.{◌≡◌, [], ◌∷◌, map};
 ghost use Rattle.rtl_flat.specs.Process.{action, body_of, piece};
-ghost use Rattle.rtl_rule.specs.Parts.{parts};
+ghost use Rattle.rtl_flat.specs.Flats.{flat};
 ghost use Rattle.check_parts.specs.rtl_scan.Bodies.{branches_of, other_of};
 ghost use Rattle.check_case.specs.Cases.{first_in};
 ghost use Rattle.check_case.specs.Least.{first_of_all, first_of_items, first_of_other, first_of_pieces, lesser};
@@ -27,7 +27,7 @@ fn lesser(one: Option<SigId>, other: Option<SigId>) -> Option<SigId>
 
 /// The signal of a target, if it means a bit of it.
 fn first_of_part(design: &Design, part: &TargetPart) -> Option<SigId>
-    ensures { result ≡ first_of_pieces (parts design.now) (piece part.now ∷ []) }
+    ensures { result ≡ first_of_pieces (flat design.now) (piece part.now ∷ []) }
 {
     let row = selected(design, part.signal, &part.select);
     if row.mask == 0 {
@@ -37,7 +37,7 @@ fn first_of_part(design: &Design, part: &TargetPart) -> Option<SigId>
 }
 
 fn first_of_target(design: &Design, target: &[TargetPart]) -> Option<SigId>
-    ensures { result ≡ first_of_pieces (parts design.now) (map piece target.now) }
+    ensures { result ≡ first_of_pieces (flat design.now) (map piece target.now) }
 {
     let mut first = None;
     for part in target {
@@ -49,7 +49,7 @@ fn first_of_target(design: &Design, target: &[TargetPart]) -> Option<SigId>
 /// The least signal that a statement may write.
 #[cycle(least)]
 pub(crate) fn first_in(design: &Design, one: &Act) -> Option<SigId>
-    ensures { result ≡ first_in (parts design.now) (action one.now) }
+    ensures { result ≡ first_in (flat design.now) (action one.now) }
 {
     match one {
         Act::Set {
@@ -82,7 +82,7 @@ pub(crate) fn first_in(design: &Design, one: &Act) -> Option<SigId>
 
 #[cycle(least)]
 fn first_of_all(design: &Design, body: &[Act]) -> Option<SigId>
-    ensures { result ≡ first_of_all (parts design.now) (body_of (map action body.now)) }
+    ensures { result ≡ first_of_all (flat design.now) (body_of (map action body.now)) }
 {
     let mut first = None;
     for one in body {
@@ -93,7 +93,7 @@ fn first_of_all(design: &Design, body: &[Act]) -> Option<SigId>
 
 #[cycle(least)]
 fn first_of_other(design: &Design, other: &Option<Vec<Act>>) -> Option<SigId>
-    ensures { result ≡ first_of_other (parts design.now) (other_of other.now) }
+    ensures { result ≡ first_of_other (flat design.now) (other_of other.now) }
 {
     match other {
         None => None,
@@ -103,7 +103,7 @@ fn first_of_other(design: &Design, other: &Option<Vec<Act>>) -> Option<SigId>
 
 #[cycle(least)]
 fn first_of_items(design: &Design, items: &[CaseItem]) -> Option<SigId>
-    ensures { result ≡ first_of_items (parts design.now) (branches_of items.now) }
+    ensures { result ≡ first_of_items (flat design.now) (branches_of items.now) }
 {
     let mut first = None;
     for item in items {

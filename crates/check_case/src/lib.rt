@@ -9,7 +9,7 @@ mod labels;
 mod unknown;
 
 ghost use Rattle.std.specs.Prelude.{IfOk};
-ghost use Rattle.rtl_rule.specs.Parts.{parts};
+ghost use Rattle.rtl_flat.specs.Flats.{flat};
 ghost use Rattle.check_found.specs.Scanned.{AreScans};
 ghost use Rattle.check_case.specs.Cases.{AreCaseFindings};
 
@@ -26,7 +26,7 @@ pub use unknown::unknown_item;
 /// Fails where memory runs out.
 pub fn check(alloc: Global, scans: &Scans) -> Result<Vec<Finding>, Memory>
     requires { AreScans scans.now }
-    ensures { IfOk result (λ found. AreCaseFindings (parts scans.now.design.now) found.items) }
+    ensures { IfOk result (λ found. AreCaseFindings (flat scans.now.design.now) found.items) }
 {
     let mut found = full_case(alloc, scans.design)?;
     let parallel = parallel_case(alloc, scans.design)?;

@@ -4,7 +4,8 @@ ghost use Rattle.std.specs.Prelude.{ℕ, ◌≡◌, ◌<◌, [], ◌∷◌, Some
 ghost use Rattle.std.specs.List.{list_any, slice_get};
 ghost use Rattle.rtl_flat.specs.Expression.{tree};
 ghost use Rattle.rtl_flat.specs.Process.{Task, action, task};
-ghost use Rattle.rtl_rule.specs.Parts.{Parts, first_of, is_literal_with, parts, within, written};
+ghost use Rattle.rtl_rule.specs.Parts.{first_of, is_literal_with, within, written};
+ghost use Rattle.rtl_flat.specs.Flats.{Flat, flat};
 ghost use Rattle.check_found.specs.Gathered.{task_sites};
 ghost use Rattle.check_found.specs.Scanned.{AreScans};
 ghost use Rattle.check_case.specs.Cases.{AreUnknownItem, label_in, never_matches, own_kinds};
@@ -61,7 +62,7 @@ fn push_label(
     label: &SizedExpr,
     found: &mut Vec<Finding>,
 ) -> Result<(), Memory>
-    ensures { OnOk result ((d : Parts) (p : ℕ)
+    ensures { OnOk result ((d : Flat) (p : ℕ)
         → signal ≡ first_of d (written d (task process.now).does)
         → GetsUnknown d (within (p, task process.now) (label_in kind (tree label.now)) ∷ [])
         found.old.items found.new.items) }
@@ -85,7 +86,7 @@ fn push_labels(
     labels: &[&SizedExpr],
     found: &mut Vec<Finding>,
 ) -> Result<(), Memory>
-    ensures { OnOk result ((d : Parts) (p : ℕ)
+    ensures { OnOk result ((d : Flat) (p : ℕ)
         → signal ≡ first_of d (written d (task process.now).does)
         → let labels = map (label_in kind) (map (λ e. tree e.now) labels.now) in
         GetsUnknown d (map (within (p, task process.now)) labels)
@@ -134,7 +135,7 @@ fn push_statement(
     one: &Act,
     found: &mut Vec<Finding>,
 ) -> Result<(), Memory>
-    ensures { OnOk result ((d : Parts) (p : ℕ)
+    ensures { OnOk result ((d : Flat) (p : ℕ)
         → signal ≡ first_of d (written d (task process.now).does)
         → GetsUnknown d (map (within (p, task process.now)) (own_kinds (action one.now)))
         found.old.items found.new.items) }
@@ -151,7 +152,7 @@ fn push_unknown(
 ) -> Result<(), Memory>
     requires scans { AreScans scans.now }
     requires there { p.0 < length scans.now.design.now.processes.items }
-    ensures { let d = parts scans.now.design.now in
+    ensures { let d = flat scans.now.design.now in
         OnOk result ((task : Task) → slice_get d.tasks p.0 ≡ Some task
         → GetsUnknown d (task_sites kinds_in p.0 task)
         found.old.items found.new.items) }
@@ -168,7 +169,7 @@ fn push_unknown(
 /// Labels that are a literal with a bit which matches nothing.
 pub fn unknown_item(alloc: Global, scans: &Scans) -> Result<Vec<Finding>, Memory>
     requires { AreScans scans.now }
-    ensures { IfOk result (λ found. AreUnknownItem (parts scans.now.design.now) found.items) }
+    ensures { IfOk result (λ found. AreUnknownItem (flat scans.now.design.now) found.items) }
 {
     let mut found = Vec::new(alloc);
     for number in 0..scans.design.processes.len() {

@@ -12,7 +12,8 @@ use Rattle.rtl_flat.specs.declared.design.Design.{Design}
 use Rattle.rtl_flat.specs.Process.{Action, Doing, Task, action, doing, task}
 use Rattle.rtl_flat.specs.WellFormed.{IsBody, IsProcess}
 use Rattle.net_model.specs.Cycle as cycle
-use Rattle.rtl_rule.specs.Parts.{Parts, all_of, parts, within}
+use Rattle.rtl_rule.specs.Parts.{all_of, within}
+use Rattle.rtl_flat.specs.Flats.{Flat, flat}
 use Rattle.check_found.proofs.Sites.{task_at}
 use Rattle.check_chains.specs.Branches.{HasBad}
 use Rattle.check_chains.specs.Chains.{IsResetBranch, IsResetValue, chain_of}
@@ -42,7 +43,7 @@ was_new false b is h = refl
 
 -- ---- the resets of a chain
 
-module _ (d : Parts) (resets : List cycle.Guard) (does : Doing) where
+module _ (d : Flat) (resets : List cycle.Guard) (does : Doing) where
   abbrev Good_below : ℕ → Type 0
   Good_below n = (k : ℕ) (guard : cycle.Guard) → k < n → slice_get resets k ≡ Some guard → IsResetBranch d does (all_of guard.branch)
 
@@ -70,8 +71,8 @@ module _ (d : Parts) (resets : List cycle.Guard) (does : Doing) where
 -- ---- processes
 
 module _ (design : Design) (p : ℕ) (x : Process) (below : p < length design.processes.items) (is : x ≡ get_or design.processes.items p x) where
-  abbrev D : Parts
-  D = parts design
+  abbrev D : Flat
+  D = flat design
 
   only_task : (t : Task) → slice_get D.tasks p ≡ Some t → task x ≡ t
   only_task t there = let here = task_at design p x below is in cc

@@ -15,7 +15,7 @@ use Rattle.rtl_flat.specs.WellFormed.{statements_of}
 use Rattle.rtl_flat.proofs.ActViews.{block_is, if_else_is}
 use Rattle.net_model.specs.Cycle.{opened}
 use Rattle.net_model.specs.Cycle as cycle
-use Rattle.rtl_rule.specs.Parts.{Parts}
+use Rattle.rtl_flat.specs.Flats.{Flat}
 use Rattle.rtl_flat.specs.Process.{Watched}
 use Rattle.check_chains.specs.Chains.{headed}
 
@@ -67,7 +67,7 @@ module _ (body : List Act) (one : Act) (is_one : body ≡ one ∷ []) where
 
 -- ---- the `if` that a body is
 
-module _ (d : Parts) (go : List Watched → Actions → Option cycle.Chain) (events : List Watched) where
+module _ (d : Flat) (go : List Watched → Actions → Option cycle.Chain) (events : List Watched) where
   two_unheaded : (a b : Action) (others : Actions) → headed d go events (Then a (Then b others)) ≡ None
   two_unheaded (Set target e delayed spot) b others = refl
   two_unheaded (If test taken Without spot) b others = refl

@@ -7,7 +7,8 @@ use Rattle.rtl_flat.specs.Expression.{Tree}
 use Rattle.rtl_flat.specs.Process.{Watched, Action, Set, If, Case, Block, Actions, Done, Then, Otherwise, Without, With, Branches, NoBranch, Branch, Doing, Assign, Comb, Edge'}
 use Rattle.rtl_flat.specs.WellFormed.{AreBranches, IsAction, IsBody, IsOtherwise, IsProcess, has_edge}
 use Rattle.net_model.specs.Cycle.{Chain, Guard, opened}
-use Rattle.rtl_rule.specs.Parts.{Parts, all_branches, all_in, all_of, all_other}
+use Rattle.rtl_rule.specs.Parts.{all_branches, all_in, all_of, all_other}
+use Rattle.rtl_flat.specs.Flats.{Flat}
 use Rattle.check_chains.specs.Chains.{Test, chain_in, chain_of, guarded, headed, taken_out, tested, with_item, with_test}
 
 abbrev Each : {A : Type 0} → (A → Type 0) → List A → Type 0
@@ -72,7 +73,7 @@ module _ (signals : List Signal) where
       let same : guard ∷ inner.resets ≡ chain.resets = cc in
       subst (Each IsGuard) same (first, others inner refl)
 
-  module _ (d : Parts) (go : List Watched → Actions → Option Chain) (of_rest : (events : List Watched) (body : Actions) (chain : Chain) → IsBody signals body → go events body ≡ Some chain → Each IsGuard chain.resets) where
+  module _ (d : Flat) (go : List Watched → Actions → Option Chain) (of_rest : (events : List Watched) (body : Actions) (chain : Chain) → IsBody signals body → go events body ≡ Some chain → Each IsGuard chain.resets) where
     item_formed : (test : Tree) (branch other : Actions) (taken : Option (Watched × List Watched)) → IsBody signals branch → IsBody signals other → (chain : Chain) → with_item go test branch other taken ≡ Some chain → Each IsGuard chain.resets
     item_formed test branch other None first rest chain is = absurd (cc)
     item_formed test branch other (Some (item, events)) first rest chain is =
@@ -89,7 +90,7 @@ module _ (signals : List Signal) where
         test_formed events test branch other (tested d test) h.0.1 h.0.2 chain is
     headed_formed events _ h chain is = absurd (cc)
 
-  in_chain_formed : (d : Parts) (n : ℕ) (events : List Watched) (body : Actions) (chain : Chain) → IsBody signals body → chain_in d n events body ≡ Some chain → Each IsGuard chain.resets
+  in_chain_formed : (d : Flat) (n : ℕ) (events : List Watched) (body : Actions) (chain : Chain) → IsBody signals body → chain_in d n events body ≡ Some chain → Each IsGuard chain.resets
   in_chain_formed d zero [] body chain h is = absurd (cc)
   in_chain_formed d zero (clock ∷ []) body chain h is =
       let same : [] ≡ chain.resets = cc in subst (Each IsGuard) same tt
@@ -97,7 +98,7 @@ module _ (signals : List Signal) where
   in_chain_formed d (suc n) events body chain h is =
       headed_formed d (chain_in d n) (λ events body chain h is. in_chain_formed d n events body chain h is) events (opened body) (opened_formed body h) chain is
 
-  chain_formed : (d : Parts) (does : Doing) (chain : Chain) → IsProcess signals does → chain_of d does ≡ Some chain → Each IsGuard chain.resets
+  chain_formed : (d : Flat) (does : Doing) (chain : Chain) → IsProcess signals does → chain_of d does ≡ Some chain → Each IsGuard chain.resets
   chain_formed d (Assign target value) chain h is = absurd (cc)
   chain_formed d (Comb list body) chain h is = absurd (cc)
   chain_formed d (Edge' [] body) chain h is = absurd (cc)
@@ -108,6 +109,6 @@ module _ (signals : List Signal) where
       ]
 
   -- a reset of a chain
-  pub guard_formed : (d : Parts) (does : Doing) (chain : Chain) → IsProcess signals does → chain_of d does ≡ Some chain → (k : ℕ) (guard : Guard) → slice_get chain.resets k ≡ Some guard → IsBody signals guard.branch
+  pub guard_formed : (d : Flat) (does : Doing) (chain : Chain) → IsProcess signals does → chain_of d does ≡ Some chain → (k : ℕ) (guard : Guard) → slice_get chain.resets k ≡ Some guard → IsBody signals guard.branch
   guard_formed d does chain h is k guard there =
       each_at IsGuard chain.resets k guard (chain_formed d does chain h is) there

@@ -7,7 +7,7 @@ use Rattle.std.specs.Ordering.{nat_cmp}
 use Rattle.std.specs.BTreeSet.{BTreeSet, contains}
 use Rattle.std.proofs.lemmas.Bool.{cases_Bool, cases_eq, eq-eqb, eqb-true, false≢true}
 use Rattle.rtl_flat.specs.Process.{Piece, Action, Set, If, Case, Block, Doing}
-use Rattle.rtl_rule.specs.Parts.{Parts}
+use Rattle.rtl_flat.specs.Flats.{Flat}
 use Rattle.check_chains.specs.Branches.{AreGiven, AreRegisters, GivesAt}
 use Rattle.check_chains.specs.Chains.{IsResetBranch, resets_to}
 
@@ -109,7 +109,7 @@ module _ (statements : List Action) where
               let before = so_far.to_seen q k below g' in
               false≢true (sym new ∙ ap (contains nat_cmp seen) (sym is_s) ∙ before)
 
-      module _ (d : Parts) (does : Doing) (are : AreRegisters d does registers) where
+      module _ (d : Flat) (does : Doing) (are : AreRegisters d does registers) where
         -- a statement that gives no signal
         pub gives_none : ((s : ℕ) → resets_to s one → ⊥) → IsResetBranch d does statements → ⊥
         gives_none none h = let (s, is, resets) = h.each n one there in none s resets
@@ -129,7 +129,7 @@ module _ (statements : List Action) where
             omega (arith, below, same)
 
     -- after the last statement
-    pub all_given : (n : ℕ) (seen : BTreeSet ℕ) → length statements ≤ n → AreGiven statements n registers seen → (b : Bool) → IsTrue b ↔ ((q : ℕ) → IsTrue (contains nat_cmp registers q) → IsTrue (contains nat_cmp seen q)) → (d : Parts) (does : Doing) → AreRegisters d does registers → b ≡ true ↔ IsResetBranch d does statements
+    pub all_given : (n : ℕ) (seen : BTreeSet ℕ) → length statements ≤ n → AreGiven statements n registers seen → (b : Bool) → IsTrue b ↔ ((q : ℕ) → IsTrue (contains nat_cmp registers q) → IsTrue (contains nat_cmp seen q)) → (d : Flat) (does : Doing) → AreRegisters d does registers → b ≡ true ↔ IsResetBranch d does statements
     all_given n seen past so_far b decides d does are =
         (λ h. forward (decides.0 h), λ h. decides.1 (backward h))
       where

@@ -7,7 +7,8 @@ use Rattle.std.specs.BTreeSet.{BTreeSet, contains}
 use Rattle.std.proofs.lemmas.Bool.{and_from, and_parts, eqb-true, false≢true}
 use Rattle.rtl_flat.specs.PathSets.{IsTemporary}
 use Rattle.rtl_flat.specs.Process.{Doing}
-use Rattle.rtl_rule.specs.Parts.{Parts, widths, written}
+use Rattle.rtl_rule.specs.Parts.{written}
+use Rattle.rtl_flat.specs.Flats.{Flat, widths}
 use Rattle.check_parts.specs.rtl_scan.declared.bits.Row.{Row}
 use Rattle.check_parts.specs.rtl_scan.Sets.{IsInOrder, has_rows}
 use Rattle.check_parts.specs.rtl_scan.Usage.{has_row_of}
@@ -54,7 +55,7 @@ kept_is marks (row ∷ rows) s =
     ∙ by_bools (is_marked marks s) (is_marked marks row.signal.0) (s == row.signal.0) (has_row_of rows s)
     (λ h. ap (is_marked marks) (sym (eqb-true s row.signal.0 h)))
 
-module _ (d : Parts) (does : Doing) (rows : List Row) (same : (s k : ℕ) → has_rows rows s k ≡ written d does s k) (order : IsInOrder rows) (marks : List Bool) (temporaries : (s : ℕ) → slice_get marks s ≡ Some true ↔ IsTemporary d.signals d.tasks s) where
+module _ (d : Flat) (does : Doing) (rows : List Row) (same : (s k : ℕ) → has_rows rows s k ≡ written d does s k) (order : IsInOrder rows) (marks : List Bool) (temporaries : (s : ℕ) → slice_get marks s ≡ Some true ↔ IsTemporary d.signals d.tasks s) where
   rows_are : AreRows (widths d) (written d does) rows
   rows_are =
       record { order = order; same = same; inside = written_inside (widths d) does }

@@ -8,7 +8,7 @@ use Rattle.rtl_flat.specs.Process.{Actions, Edge', Watched, action, body_of, wat
 use Rattle.rtl_flat.specs.WellFormed.{has_edge}
 use Rattle.net_model.specs.Cycle as cycle
 use Rattle.net_model.specs.Cycle.{opened}
-use Rattle.rtl_rule.specs.Parts.{Parts}
+use Rattle.rtl_flat.specs.Flats.{Flat}
 use Rattle.check_chains.specs.Chains.{chain_in, chain_of, guarded, headed}
 use Rattle.check_chains.specs.Inner.{IsStep, events_view, prefixed}
 use Rattle.check_chains.specs.Views.{guard_view}
@@ -29,7 +29,7 @@ prefixed_some (x ∷ gs) clock part = ap (guarded x) (prefixed_some gs clock par
 
 -- ---- the events of a process
 
-module _ (d : Parts) (events : List Watched) (body : Actions) where
+module _ (d : Flat) (events : List Watched) (body : Actions) where
   pub begins : list_all (λ item. has_edge item.edge) events ≡ true → chain_in d (length events - 1) events body ≡ chain_of d (Edge' events body)
   begins all = by_events events all
     where
@@ -48,10 +48,10 @@ module _ (d : Parts) (events : List Watched) (body : Actions) where
 
 -- ---- one reset more
 
-headed_at : (d : Parts) (n m : ℕ) (events : List Watched) (body : Actions) → n ≡ suc m → chain_in d n events body ≡ headed d (chain_in d m) events (opened body)
+headed_at : (d : Flat) (n m : ℕ) (events : List Watched) (body : Actions) → n ≡ suc m → chain_in d n events body ≡ headed d (chain_in d m) events (opened body)
 headed_at d n m events body same = ap (λ k. chain_in d k events body) same
 
-module _ (d : Parts) (resets : List Guard) (left : List (Bor EventItem)) (n : ℕ) (body : Actions) (more : 1 < n) where
+module _ (d : Flat) (resets : List Guard) (left : List (Bor EventItem)) (n : ℕ) (body : Actions) (more : 1 < n) where
   -- the number of events that are left, less the clock
   count : n - 1 ≡ suc (n - 2)
   count = omega arith
@@ -73,7 +73,7 @@ module _ (d : Parts) (resets : List Guard) (left : List (Bor EventItem)) (n : �
 
 -- ---- the clock
 
-module _ (d : Parts) (resets : List Guard) (left : List (Bor EventItem)) (n : ℕ) (body : Actions) (few : n ≤ 1) where
+module _ (d : Flat) (resets : List Guard) (left : List (Bor EventItem)) (n : ℕ) (body : Actions) (few : n ≤ 1) where
   abbrev At_end : Option cycle.Chain
   At_end = prefixed (map guard_view resets) (chain_in d (n - 1) (events_view left) body)
 

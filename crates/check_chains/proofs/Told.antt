@@ -9,14 +9,15 @@ use Rattle.rtl_flat.specs.declared.design.Design.{Design}
 use Rattle.rtl_flat.specs.Process.{Doing, Task, doing, task}
 use Rattle.rtl_rule.specs.declared.finding.Finding.{Finding}
 use Rattle.rtl_rule.specs.declared.rule.Rule.{Rule}
-use Rattle.rtl_rule.specs.Parts.{Parts, At, first_written, found, parts, within}
+use Rattle.rtl_rule.specs.Parts.{At, first_written, found, within}
+use Rattle.rtl_flat.specs.Flats.{Flat, flat}
 use Rattle.rtl_rule.specs.Sites.{AreFindings}
 use Rattle.check_found.specs.Gathered.{Gets, sites_below, task_sites}
 use Rattle.check_found.proofs.Gathering.{gets_nothing, gets_one}
 use Rattle.check_found.proofs.Sites.{next_below, task_at, task_count}
 use Rattle.check_chains.specs.Inner.{finding_of, itself}
 
-module _ (d : Parts) (P : At Doing → Type 0) (rule : Rule) where
+module _ (d : Flat) (P : At Doing → Type 0) (rule : Rule) where
   abbrev pub finding_at : At Doing → Finding
   finding_at site = found rule site (first_written d site)
 
@@ -29,9 +30,9 @@ module _ (d : Parts) (P : At Doing → Type 0) (rule : Rule) where
       (gets_nothing P finding_at old (within (n, t) t.does) (λ holds. false≢true (decides.1 holds)))
 
 -- the findings of one process more
-pub next_told : (design : Design) (P : At Doing → Type 0) (rule : Rule) (n : ℕ) (x : Process) → n < length design.processes.items → x ≡ get_or design.processes.items n x → (broken : Bool) → broken ≡ true ↔ P (within (n, task x) (doing x.does)) → (old new : List Finding) → ((t : Task) → slice_get (parts design).tasks n ≡ Some t → new ≡ old ++ (if broken then finding_of (parts design) rule n t ∷ [] else [])) → AreFindings P (finding_at (parts design) P rule) (sites_below itself (parts design) n) old → AreFindings P (finding_at (parts design) P rule) (sites_below itself (parts design) (n + 1)) new
+pub next_told : (design : Design) (P : At Doing → Type 0) (rule : Rule) (n : ℕ) (x : Process) → n < length design.processes.items → x ≡ get_or design.processes.items n x → (broken : Bool) → broken ≡ true ↔ P (within (n, task x) (doing x.does)) → (old new : List Finding) → ((t : Task) → slice_get (flat design).tasks n ≡ Some t → new ≡ old ++ (if broken then finding_of (flat design) rule n t ∷ [] else [])) → AreFindings P (finding_at (flat design) P rule) (sites_below itself (flat design) n) old → AreFindings P (finding_at (flat design) P rule) (sites_below itself (flat design) (n + 1)) new
 next_told design P rule n x below is broken decides old new added h =
-    let d = parts design in
+    let d = flat design in
     let there = task_at design n x below is in
     next_below P (finding_at d P rule) itself d n (task x) old new there h
     (told d P rule n (task x) broken decides old new (added (task x) there))
@@ -45,9 +46,9 @@ there (x ∷ xs) zero below = (x, refl)
 there (x ∷ xs) (suc n) below = there xs n (omega (arith, below))
 
 -- the same where the process isn't looked at
-pub next_there : (design : Design) (P : At Doing → Type 0) (rule : Rule) (n : ℕ) → n < length design.processes.items → (broken : Bool) → ((t : Task) → slice_get (parts design).tasks n ≡ Some t → broken ≡ true ↔ P (within (n, t) t.does)) → (old new : List Finding) → ((t : Task) → slice_get (parts design).tasks n ≡ Some t → new ≡ old ++ (if broken then finding_of (parts design) rule n t ∷ [] else [])) → AreFindings P (finding_at (parts design) P rule) (sites_below itself (parts design) n) old → AreFindings P (finding_at (parts design) P rule) (sites_below itself (parts design) (n + 1)) new
+pub next_there : (design : Design) (P : At Doing → Type 0) (rule : Rule) (n : ℕ) → n < length design.processes.items → (broken : Bool) → ((t : Task) → slice_get (flat design).tasks n ≡ Some t → broken ≡ true ↔ P (within (n, t) t.does)) → (old new : List Finding) → ((t : Task) → slice_get (flat design).tasks n ≡ Some t → new ≡ old ++ (if broken then finding_of (flat design) rule n t ∷ [] else [])) → AreFindings P (finding_at (flat design) P rule) (sites_below itself (flat design) n) old → AreFindings P (finding_at (flat design) P rule) (sites_below itself (flat design) (n + 1)) new
 next_there design P rule n below broken decides old new added h =
-    let d = parts design in
+    let d = flat design in
     let (t, is) = there d.tasks n (omega (arith, below, task_count design)) in
     next_below P (finding_at d P rule) itself d n t old new is h
     (told d P rule n t broken (decides t is) old new (added t is))

@@ -8,7 +8,8 @@ use Rattle.std.specs.BTreeSet.{BTreeSet, contains}
 use Rattle.rtl_flat.specs.Process.{Action, Doing}
 use Rattle.check_parts.specs.rtl_scan.declared.bits.Row.{Row}
 use Rattle.net_model.specs.Cycle as cycle
-use Rattle.rtl_rule.specs.Parts.{Parts, all_of}
+use Rattle.rtl_rule.specs.Parts.{all_of}
+use Rattle.rtl_flat.specs.Flats.{Flat}
 use Rattle.check_chains.specs.Chains.{IsRegisterOf, IsResetBranch, resets_to}
 
 -- ---- registers
@@ -24,7 +25,7 @@ has_kept marks (row ∷ others) s =
     (not (is_marked marks row.signal.0) && (s == row.signal.0)) || has_kept marks others s
 
 -- the registers of a process
-abbrev pub AreRegisters : Parts → Doing → BTreeSet ℕ → Type 0
+abbrev pub AreRegisters : Flat → Doing → BTreeSet ℕ → Type 0
 AreRegisters d does registers =
     (s : ℕ) → contains nat_cmp registers s ≡ true ↔ IsRegisterOf d does s
 
@@ -41,6 +42,6 @@ pub record AreGiven (statements : List Action) (n : ℕ) (registers seen : BTree
   pub once : (s j k : ℕ) → j < n → k < n → GivesAt statements j s → GivesAt statements k s → j ≡ k
 
 -- some reset has a branch that isn't one
-abbrev pub HasBad : Parts → Doing → List cycle.Guard → Type 0
+abbrev pub HasBad : Flat → Doing → List cycle.Guard → Type 0
 HasBad d does resets =
     (k : ℕ) × (guard : cycle.Guard) × (slice_get resets k ≡ Some guard) × (IsResetBranch d does (all_of guard.branch) → ⊥)

@@ -23,7 +23,8 @@ use Rattle.rtl_flat.specs.WellFormed.{has_edge}
 use Rattle.net_model.specs.Cycle.{Guard, Chain, opened}
 use Rattle.rtl_rule.specs.declared.finding.Finding.{Finding}
 use Rattle.rtl_rule.specs.declared.rule.Rule.TheVariants.{ResetShape, ResetPolarity, AsyncPair, ResetValue}
-use Rattle.rtl_rule.specs.Parts.{Parts, At, process_sites, widths, has_some, first_written, written, found, reads_signal, all_of, agree}
+use Rattle.rtl_rule.specs.Parts.{At, process_sites, has_some, first_written, written, found, reads_signal, all_of, agree}
+use Rattle.rtl_flat.specs.Flats.{Flat, widths}
 use Rattle.rtl_rule.specs.Sites.{AreFindings}
 
 -- ---- the chain of resets
@@ -44,7 +45,7 @@ compared signed signal bits =
     else if number_where is_one bits == 0 then test_of signal false else None
 
 -- the forms of a test: `r`, `!r`, `~r` of one bit, `r == 1'b1` and `r == 1'b0`
-abbrev pub tested : Parts → Tree → Option Test
+abbrev pub tested : Flat → Tree → Option Test
 tested d (Sized w s at (Whole r)) = test_of r true
 tested d (Sized w s at (Folded fold.Negation (Sized w' s' at' (Whole r)))) = test_of r false
 tested d (Sized w s at (Turned turn.Complement (Sized w' s' at' (Whole r)))) =
@@ -78,20 +79,20 @@ with_test go events test branch other None = None
 with_test go events test branch other (Some one) =
     with_item go test branch other (taken_out one.signal events)
 
-abbrev pub headed : Parts → (List Watched → Actions → Option Chain) → List Watched → Actions → Option Chain
+abbrev pub headed : Flat → (List Watched → Actions → Option Chain) → List Watched → Actions → Option Chain
 headed d go events (Then (If test branch (With other) spot) Done) =
     with_test go events test branch other (tested d test)
 headed d go events _ = None
 
 -- a body as an `if` for each event but one, whatever the edges and the branches are
-abbrev pub chain_in : Parts → ℕ → List Watched → Actions → Option Chain
+abbrev pub chain_in : Flat → ℕ → List Watched → Actions → Option Chain
 chain_in d zero (clock ∷ []) body =
     Some (record { resets = []; clock = clock; part = body })
 chain_in d zero _ body = None
 chain_in d (suc n) events body = headed d (chain_in d n) events (opened body)
 
 -- the chain of a process whose items all have edges
-abbrev pub chain_of : Parts → Doing → Option Chain
+abbrev pub chain_of : Flat → Doing → Option Chain
 chain_of d (Edge' [] body) = None
 chain_of d (Edge' (first ∷ others) body) =
     if list_all (λ item. has_edge item.edge) (first ∷ others) then chain_in d (length others) (first ∷ others) body else None
@@ -108,18 +109,18 @@ abbrev pub is_more : List Watched → Bool
 is_more events = nat_lt 1 (length events)
 
 -- several events, each with an edge, and no chain
-abbrev pub is_shapeless : Parts → Doing → Bool
+abbrev pub is_shapeless : Flat → Doing → Bool
 is_shapeless d (Edge' events body) =
     is_more events && list_all (λ item. has_edge item.edge) events && not (has_chain (λ chain. true) (chain_of d (Edge' events body)))
 is_shapeless d _ = false
 
-abbrev pub IsResetShape : Parts → At Doing → Type 0
+abbrev pub IsResetShape : Flat → At Doing → Type 0
 IsResetShape d site = is_shapeless d site.it ≡ true
 
-abbrev pub reset_shape_at : Parts → At Doing → Finding
+abbrev pub reset_shape_at : Flat → At Doing → Finding
 reset_shape_at d site = found ResetShape site (first_written d site)
 
-abbrev pub AreResetShape : Parts → List Finding → Type 0
+abbrev pub AreResetShape : Flat → List Finding → Type 0
 AreResetShape d = AreFindings (IsResetShape d) (reset_shape_at d) (process_sites d)
 
 -- the level that an edge goes to
@@ -133,26 +134,26 @@ is_turned edge None = false
 is_turned edge (Some test) = not (agree (goes_up edge) test.level)
 
 -- a reset is tested at the level that its edge leaves
-abbrev pub IsResetPolarity : Parts → At Doing → Type 0
+abbrev pub IsResetPolarity : Flat → At Doing → Type 0
 IsResetPolarity d site =
     has_chain (λ chain. list_any (λ (guard : Guard). is_turned guard.item.edge (tested d guard.test)) chain.resets) (chain_of d site.it) ≡ true
 
-abbrev pub reset_polarity_at : Parts → At Doing → Finding
+abbrev pub reset_polarity_at : Flat → At Doing → Finding
 reset_polarity_at d site = found ResetPolarity site (first_written d site)
 
-abbrev pub AreResetPolarity : Parts → List Finding → Type 0
+abbrev pub AreResetPolarity : Flat → List Finding → Type 0
 AreResetPolarity d =
     AreFindings (IsResetPolarity d) (reset_polarity_at d) (process_sites d)
 
 -- two resets or more
-abbrev pub IsAsyncPair : Parts → At Doing → Type 0
+abbrev pub IsAsyncPair : Flat → At Doing → Type 0
 IsAsyncPair d site =
     has_chain (λ chain. nat_lt 1 (length chain.resets)) (chain_of d site.it) ≡ true
 
-abbrev pub async_pair_at : Parts → At Doing → Finding
+abbrev pub async_pair_at : Flat → At Doing → Finding
 async_pair_at d site = found AsyncPair site (first_written d site)
 
-abbrev pub AreAsyncPair : Parts → List Finding → Type 0
+abbrev pub AreAsyncPair : Flat → List Finding → Type 0
 AreAsyncPair d = AreFindings (IsAsyncPair d) (async_pair_at d) (process_sites d)
 
 -- a value that reads no signal and is known
@@ -166,19 +167,19 @@ resets_to s (Set target e delayed spot) =
 resets_to s _ = ⊥
 
 -- a register of a process: it may write it, and it is no temporary
-pub record IsRegisterOf (d : Parts) (does : Doing) (s : ℕ) : Type 0 where
+pub record IsRegisterOf (d : Flat) (does : Doing) (s : ℕ) : Type 0 where
   pub inside : s < length d.signals
   pub writes : has_some (widths d) (written d does) s ≡ true
   pub kept : IsTemporary d.signals d.tasks s → ⊥
 
 -- statements that give each register one constant, and do nothing else
-pub record IsResetBranch (d : Parts) (does : Doing) (body : List Action) : Type 0 where
+pub record IsResetBranch (d : Flat) (does : Doing) (body : List Action) : Type 0 where
   pub each : (n : ℕ) (one : Action) → slice_get body n ≡ Some one → (s : ℕ) × IsRegisterOf d does s × resets_to s one
   pub all : (s : ℕ) → IsRegisterOf d does s → (n : ℕ) × IsSomeAnd (slice_get body n) (resets_to s)
   pub once : (s m n : ℕ) → IsSomeAnd (slice_get body m) (resets_to s) → IsSomeAnd (slice_get body n) (resets_to s) → m ≡ n
 
 -- a reset whose branch does otherwise
-pub record IsResetValue (d : Parts) (site : At Doing) : Type 0 where
+pub record IsResetValue (d : Flat) (site : At Doing) : Type 0 where
   pub chain : Chain
   pub is_chain : chain_of d site.it ≡ Some chain
   pub place : ℕ
@@ -186,8 +187,8 @@ pub record IsResetValue (d : Parts) (site : At Doing) : Type 0 where
   pub is_guard : slice_get chain.resets place ≡ Some guard
   pub other : IsResetBranch d site.it (all_of guard.branch) → ⊥
 
-abbrev pub reset_value_at : Parts → At Doing → Finding
+abbrev pub reset_value_at : Flat → At Doing → Finding
 reset_value_at d site = found ResetValue site (first_written d site)
 
-abbrev pub AreResetValue : Parts → List Finding → Type 0
+abbrev pub AreResetValue : Flat → List Finding → Type 0
 AreResetValue d = AreFindings (IsResetValue d) (reset_value_at d) (process_sites d)

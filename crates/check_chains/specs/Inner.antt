@@ -14,7 +14,8 @@ use Rattle.net_model.specs.Cycle as cycle
 use Rattle.net_model.specs.Cycle.{opened}
 use Rattle.rtl_rule.specs.declared.finding.Finding.{Finding}
 use Rattle.rtl_rule.specs.declared.rule.Rule.{Rule}
-use Rattle.rtl_rule.specs.Parts.{Parts, first_written, found, within}
+use Rattle.rtl_rule.specs.Parts.{first_written, found, within}
+use Rattle.rtl_flat.specs.Flats.{Flat}
 use Rattle.check_chains.specs.Chains as spec
 use Rattle.check_chains.specs.Chains.{chain_of, compared, guarded, has_chain, headed, is_turned, test_of, tested}
 use Rattle.check_chains.specs.Views.{guard_view}
@@ -42,15 +43,15 @@ abbrev pub complement_test : ℕ → Option ℕ → Option spec.Test
 complement_test width signal = if width == 1 then level_test false signal else None
 
 -- a test by `==`
-abbrev pub literal_test : Parts → ℕ → Tree → Option spec.Test
+abbrev pub literal_test : Flat → ℕ → Tree → Option spec.Test
 literal_test d r (Sized w s at (Literal bits)) = compared (signed_in d.signals r) r bits
 literal_test d r _ = None
 
-abbrev pub signal_test : Parts → Option ℕ → Tree → Option spec.Test
+abbrev pub signal_test : Flat → Option ℕ → Tree → Option spec.Test
 signal_test d None e = None
 signal_test d (Some r) e = literal_test d r e
 
-abbrev pub compared_with : Parts → Tree → Tree → Option spec.Test
+abbrev pub compared_with : Flat → Tree → Tree → Option spec.Test
 compared_with d e other = signal_test d (whole_of e) other
 
 -- ---- bodies
@@ -72,7 +73,7 @@ prefixed [] chain = chain
 prefixed (guard ∷ others) chain = guarded guard (prefixed others chain)
 
 -- a reset leads a body, and its event is taken out
-abbrev pub IsStep : Parts → List (Bor EventItem) → Actions → Step → List (Bor EventItem) → Type 0
+abbrev pub IsStep : Flat → List (Bor EventItem) → Actions → Step → List (Bor EventItem) → Type 0
 IsStep d events body step left =
     (go : List Watched → Actions → Option cycle.Chain) →
     headed d go (events_view events) (opened body) ≡ guarded (guard_view step.guard) (go (events_view left) (body_of (map action step.rest.now)))
@@ -84,19 +85,19 @@ abbrev pub itself : Doing → List Doing
 itself does = does ∷ []
 
 -- the finding of a rule at a process
-abbrev pub finding_of : Parts → Rule → ℕ → Task → Finding
+abbrev pub finding_of : Flat → Rule → ℕ → Task → Finding
 finding_of d rule number task =
     found rule (within (number, task) task.does) (first_written d (within (number, task) task.does))
 
 -- a reset that is tested at the level that its edge leaves
-abbrev pub is_turned_guard : Parts → cycle.Guard → Bool
+abbrev pub is_turned_guard : Flat → cycle.Guard → Bool
 is_turned_guard d guard = is_turned guard.item.edge (tested d guard.test)
 
-abbrev pub has_turned : Parts → Doing → Bool
+abbrev pub has_turned : Flat → Doing → Bool
 has_turned d does =
     has_chain (λ chain. list_any (is_turned_guard d) chain.resets) (chain_of d does)
 
-abbrev pub has_pair : Parts → Doing → Bool
+abbrev pub has_pair : Flat → Doing → Bool
 has_pair d does = has_chain (λ chain. nat_lt 1 (length chain.resets)) (chain_of d does)
 
 -- ---- constants

@@ -8,7 +8,8 @@ ghost use Rattle.rtl_flat.specs.PathSets.{IsTemporary};
 ghost use Rattle.rtl_flat.specs.Process.{Doing, Task, action, body_of};
 ghost use Rattle.rtl_flat.specs.WellFormed.{IsBody};
 ghost use Rattle.net_model.specs.Cycle as cycle;
-ghost use Rattle.rtl_rule.specs.Parts.{all_of, parts, within};
+ghost use Rattle.rtl_rule.specs.Parts.{all_of, within};
+ghost use Rattle.rtl_flat.specs.Flats.{flat};
 ghost use Rattle.check_found.specs.Scanned.{AreScans};
 ghost use Rattle.check_chains.specs.Chains as spec;
 ghost use Rattle.check_chains.specs.Branches.{AreRegisters, HasBad, has_kept, is_marked};
@@ -76,8 +77,8 @@ fn registers(
     p: ProcId,
 ) -> Result<BTreeSet<u32>, Memory>
     requires there { p.0 < length design.now.processes.items }
-    requires marked { (s : ℕ) → slice_get temporaries.now s ≡ Some true ↔ IsTemporary (parts design.now).signals (parts design.now).tasks s }
-    ensures { IfOk result (λ found. (task : Task) → slice_get (parts design.now).tasks p.0 ≡ Some task → AreRegisters (parts design.now) task.does found) }
+    requires marked { (s : ℕ) → slice_get temporaries.now s ≡ Some true ↔ IsTemporary (flat design.now).signals (flat design.now).tasks s }
+    ensures { IfOk result (λ found. (task : Task) → slice_get (flat design.now).tasks p.0 ≡ Some task → AreRegisters (flat design.now) task.does found) }
 {
     let bits = written(alloc, design, p)?;
     kept(alloc, &bits.rows, temporaries)
@@ -91,8 +92,8 @@ fn is_reset_branch(
     branch: &[Act],
 ) -> Result<bool, Memory>
     requires { IsBody design.now.signals.items (body_of (map action branch.now)) }
-    ensures { IfOk result (λ good. (does : Doing) → AreRegisters (parts design.now) does registers.now
-        → good ≡ true ↔ spec.IsResetBranch (parts design.now) does (all_of (body_of (map action branch.now)))) }
+    ensures { IfOk result (λ good. (does : Doing) → AreRegisters (flat design.now) does registers.now
+        → good ≡ true ↔ spec.IsResetBranch (flat design.now) does (all_of (body_of (map action branch.now)))) }
 {
     let statements = statements_of(alloc, branch)?;
     let mut seen = BTreeSet::new(alloc);
@@ -118,8 +119,8 @@ fn has_bad(
     resets: &[Guard],
 ) -> Result<bool, Memory>
     requires { (k : ℕ) (guard : cycle.Guard) → slice_get (map guard_view resets.now) k ≡ Some guard → IsBody design.now.signals.items guard.branch }
-    ensures { IfOk result (λ bad. (does : Doing) → AreRegisters (parts design.now) does registers.now
-        → bad ≡ true ↔ HasBad (parts design.now) does (map guard_view resets.now)) }
+    ensures { IfOk result (λ bad. (does : Doing) → AreRegisters (flat design.now) does registers.now
+        → bad ≡ true ↔ HasBad (flat design.now) does (map guard_view resets.now)) }
 {
     for guard in resets {
         if !is_reset_branch(alloc, design, registers, guard.branch)? {
@@ -137,9 +138,9 @@ pub fn has_bad_reset(
     p: ProcId,
 ) -> Result<bool, Memory>
     requires there { p.0 < length design.now.processes.items }
-    requires marked { (s : ℕ) → slice_get temporaries.now s ≡ Some true ↔ IsTemporary (parts design.now).signals (parts design.now).tasks s }
-    ensures { IfOk result (λ bad. (task : Task) → slice_get (parts design.now).tasks p.0 ≡ Some task
-        → bad ≡ true ↔ spec.IsResetValue (parts design.now) (within (p.0, task) task.does)) }
+    requires marked { (s : ℕ) → slice_get temporaries.now s ≡ Some true ↔ IsTemporary (flat design.now).signals (flat design.now).tasks s }
+    ensures { IfOk result (λ bad. (task : Task) → slice_get (flat design.now).tasks p.0 ≡ Some task
+        → bad ≡ true ↔ spec.IsResetValue (flat design.now) (within (p.0, task) task.does)) }
 {
     let does = &design.processes[p.0 as usize].does;
     match chain_of(alloc, design, does)? {
@@ -154,7 +155,7 @@ pub fn has_bad_reset(
 /// Processes with a reset that doesn't give each register one constant, or does something else.
 pub fn reset_value(alloc: Global, scans: &Scans) -> Result<Vec<Finding>, Memory>
     requires { AreScans scans.now }
-    ensures { IfOk result (λ found. spec.AreResetValue (parts scans.now.design.now) found.items) }
+    ensures { IfOk result (λ found. spec.AreResetValue (flat scans.now.design.now) found.items) }
 {
     let mut found = Vec::new(alloc);
     for number in 0..scans.design.processes.len() {

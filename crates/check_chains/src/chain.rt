@@ -6,7 +6,7 @@ ghost use Rattle.std.specs.Option.{option_map};
 ghost use Rattle.net_model.specs.Cycle as cycle;
 ghost use Rattle.rtl_flat.specs.Process.{Actions, Edge', Watched, action, body_of, doing, watched};
 ghost use Rattle.rtl_flat.specs.WellFormed.{has_edge};
-ghost use Rattle.rtl_rule.specs.Parts.{parts};
+ghost use Rattle.rtl_flat.specs.Flats.{flat};
 ghost use Rattle.check_chains.specs.Chains as spec;
 ghost use Rattle.check_chains.specs.Inner.{IsStep, events_view};
 ghost use Rattle.check_chains.specs.Views.{chain_view};
@@ -87,9 +87,9 @@ fn step_of<'d>(
 ) -> Option<Step<'d>>
     ensures { MatchOption result
         ((go : List Watched → Actions → Option cycle.Chain) →
-        spec.headed (parts design.now) go (events_view events.old.items) (cycle.opened (body_of (map action body.now))) ≡ None)
+        spec.headed (flat design.now) go (events_view events.old.items) (cycle.opened (body_of (map action body.now))) ≡ None)
         (λ step. (vec_len events.new + 1 ≡ vec_len events.old)
-        × IsStep (parts design.now) events.old.items (body_of (map action body.now)) step events.new.items) }
+        × IsStep (flat design.now) events.old.items (body_of (map action body.now)) step events.new.items) }
 {
     let choice = choice_of(body)?;
     let test = tested(design, choice.test)?;
@@ -111,7 +111,7 @@ pub fn chain_of<'d>(
     does: &'d Does,
 ) -> Result<Option<Chain<'d>>, Memory>
     ensures { IfOk result (λ found.
-        option_map chain_view found ≡ spec.chain_of (parts design.now) (doing does.now)) }
+        option_map chain_view found ≡ spec.chain_of (flat design.now) (doing does.now)) }
 {
     match does {
         Does::Assign { .. } => Ok(None),
@@ -139,7 +139,7 @@ fn edge_chain<'d>(
     body: &'d [Act],
 ) -> Result<Option<Chain<'d>>, Memory>
     ensures { IfOk result (λ found. option_map chain_view found
-        ≡ spec.chain_of (parts design.now) (Edge' (map watched events.now) (body_of (map action body.now)))) }
+        ≡ spec.chain_of (flat design.now) (Edge' (map watched events.now) (body_of (map action body.now)))) }
 {
     if !all_edges(events) {
         return Ok(None);

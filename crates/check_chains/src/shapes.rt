@@ -4,7 +4,8 @@ ghost use Rattle.std.specs.Prelude.{◌≡◌, ◌&&◌, map, IfOk};
 ghost use Rattle.std.specs.List.{list_all, list_any};
 ghost use Rattle.rtl_flat.specs.Process.{doing, watched};
 ghost use Rattle.rtl_flat.specs.WellFormed.{has_edge};
-ghost use Rattle.rtl_rule.specs.Parts.{agree, parts};
+ghost use Rattle.rtl_rule.specs.Parts.{agree};
+ghost use Rattle.rtl_flat.specs.Flats.{flat};
 ghost use Rattle.check_chains.specs.Chains as spec;
 ghost use Rattle.check_chains.specs.Inner.{has_pair, has_turned, is_turned_guard};
 ghost use Rattle.check_chains.specs.Views.{guard_view};
@@ -30,7 +31,7 @@ fn are_edges(events: &[EventItem]) -> bool
 
 /// Whether a process waits for several edges, and its body is no chain of resets.
 pub fn is_shapeless(alloc: Global, design: &Design, does: &Does) -> Result<bool, Memory>
-    ensures { IfOk result (λ shapeless. shapeless ≡ spec.is_shapeless (parts design.now) (doing does.now)) }
+    ensures { IfOk result (λ shapeless. shapeless ≡ spec.is_shapeless (flat design.now) (doing does.now)) }
 {
     match does {
         Does::Assign { .. } => Ok(false),
@@ -49,7 +50,7 @@ pub fn is_shapeless(alloc: Global, design: &Design, does: &Does) -> Result<bool,
 
 /// Processes that wait for several edges, and whose body is no chain of resets.
 pub fn reset_shape(alloc: Global, design: &Design) -> Result<Vec<Finding>, Memory>
-    ensures { IfOk result (λ found. spec.AreResetShape (parts design.now) found.items) }
+    ensures { IfOk result (λ found. spec.AreResetShape (flat design.now) found.items) }
 {
     let mut found = Vec::new(alloc);
     for number in 0..design.processes.len() {
@@ -73,7 +74,7 @@ fn goes_to(edge: Edge, level: bool) -> bool
 
 /// Whether a reset is tested at the level that its edge leaves.
 fn is_turned(design: &Design, guard: &Guard) -> bool
-    ensures { result ≡ is_turned_guard (parts design.now) (guard_view guard.now) }
+    ensures { result ≡ is_turned_guard (flat design.now) (guard_view guard.now) }
 {
     match tested(design, guard.test) {
         None => false,
@@ -82,7 +83,7 @@ fn is_turned(design: &Design, guard: &Guard) -> bool
 }
 
 fn any_turned(design: &Design, guards: &[Guard]) -> bool
-    ensures { result ≡ list_any (is_turned_guard (parts design.now)) (map guard_view guards.now) }
+    ensures { result ≡ list_any (is_turned_guard (flat design.now)) (map guard_view guards.now) }
 {
     for guard in guards {
         if is_turned(design, guard) {
@@ -94,7 +95,7 @@ fn any_turned(design: &Design, guards: &[Guard]) -> bool
 
 /// Whether a process has a chain with such a reset.
 pub fn has_turned(alloc: Global, design: &Design, does: &Does) -> Result<bool, Memory>
-    ensures { IfOk result (λ turned. turned ≡ has_turned (parts design.now) (doing does.now)) }
+    ensures { IfOk result (λ turned. turned ≡ has_turned (flat design.now) (doing does.now)) }
 {
     match chain_of(alloc, design, does)? {
         None => Ok(false),
@@ -104,7 +105,7 @@ pub fn has_turned(alloc: Global, design: &Design, does: &Does) -> Result<bool, M
 
 /// Processes with a reset that is tested at the level that its edge leaves.
 pub fn reset_polarity(alloc: Global, design: &Design) -> Result<Vec<Finding>, Memory>
-    ensures { IfOk result (λ found. spec.AreResetPolarity (parts design.now) found.items) }
+    ensures { IfOk result (λ found. spec.AreResetPolarity (flat design.now) found.items) }
 {
     let mut found = Vec::new(alloc);
     for number in 0..design.processes.len() {
@@ -117,7 +118,7 @@ pub fn reset_polarity(alloc: Global, design: &Design) -> Result<Vec<Finding>, Me
 
 /// Whether a process has a chain of several resets.
 fn has_pair(alloc: Global, design: &Design, does: &Does) -> Result<bool, Memory>
-    ensures { IfOk result (λ several. several ≡ has_pair (parts design.now) (doing does.now)) }
+    ensures { IfOk result (λ several. several ≡ has_pair (flat design.now) (doing does.now)) }
 {
     match chain_of(alloc, design, does)? {
         None => Ok(false),
@@ -127,7 +128,7 @@ fn has_pair(alloc: Global, design: &Design, does: &Does) -> Result<bool, Memory>
 
 /// Processes with two asynchronous resets or more.
 pub fn async_pair(alloc: Global, design: &Design) -> Result<Vec<Finding>, Memory>
-    ensures { IfOk result (λ found. spec.AreAsyncPair (parts design.now) found.items) }
+    ensures { IfOk result (λ found. spec.AreAsyncPair (flat design.now) found.items) }
 {
     let mut found = Vec::new(alloc);
     for number in 0..design.processes.len() {

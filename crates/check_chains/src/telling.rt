@@ -3,7 +3,7 @@
 ghost use Rattle.std.specs.Prelude.{◌≡◌, ◌<◌, ◌++◌, ◌∷◌, [], Some, if◌then◌else◌, length, IfOk, OnOk};
 ghost use Rattle.std.specs.List.{slice_get};
 ghost use Rattle.rtl_flat.specs.Process.{Task};
-ghost use Rattle.rtl_rule.specs.Parts.{parts};
+ghost use Rattle.rtl_flat.specs.Flats.{flat};
 ghost use Rattle.check_chains.specs.Inner.{finding_of};
 
 use check_found::sets::first_written;
@@ -17,8 +17,8 @@ use std::alloc::Global;
 /// The finding of a rule at a process, with the first signal that the process may write.
 fn finding_of(alloc: Global, design: &Design, rule: Rule, p: ProcId) -> Result<Finding, Memory>
     requires { p.0 < length design.now.processes.items }
-    ensures { IfOk result (λ finding. (task : Task) → slice_get (parts design.now).tasks p.0 ≡ Some task
-        → finding ≡ finding_of (parts design.now) rule p.0 task) }
+    ensures { IfOk result (λ finding. (task : Task) → slice_get (flat design.now).tasks p.0 ≡ Some task
+        → finding ≡ finding_of (flat design.now) rule p.0 task) }
 {
     let process = &design.processes[p.0 as usize];
     let signal = first_written(alloc, design, p)?;
@@ -40,9 +40,9 @@ pub(crate) fn push_if(
     found: &mut Vec<Finding>,
 ) -> Result<(), Memory>
     requires { p.0 < length design.now.processes.items }
-    ensures { OnOk result ((task : Task) → slice_get (parts design.now).tasks p.0 ≡ Some task
+    ensures { OnOk result ((task : Task) → slice_get (flat design.now).tasks p.0 ≡ Some task
         → found.new.items ≡ found.old.items
-        ++ (if broken then finding_of (parts design.now) rule p.0 task ∷ [] else [])) }
+        ++ (if broken then finding_of (flat design.now) rule p.0 task ∷ [] else [])) }
 {
     if !broken {
         return Ok(());

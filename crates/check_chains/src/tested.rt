@@ -4,7 +4,7 @@ ghost use Rattle.std.specs.Prelude.{◌≡◌, ◌==◌};
 ghost use Rattle.std.specs.Option.{option_map};
 ghost use Rattle.rtl_flat.specs.Expression.{tree};
 ghost use Rattle.rtl_flat.specs.Sizing.{signed_in};
-ghost use Rattle.rtl_rule.specs.Parts.{parts};
+ghost use Rattle.rtl_flat.specs.Flats.{flat};
 ghost use Rattle.check_chains.specs.Chains as spec;
 ghost use Rattle.check_chains.specs.Inner.{compared_with, complement_test, level_test, test_view, whole_of};
 
@@ -65,7 +65,7 @@ fn compared(signed: bool, signal: SigId, bits: Vec4) -> Option<Test>
 
 /// The test of an expression by `==` with another.
 fn compared_with(design: &Design, e: &SizedExpr, other: &SizedExpr) -> Option<Test>
-    ensures { option_map test_view result ≡ compared_with (parts design.now) (tree e.now) (tree other.now) }
+    ensures { option_map test_view result ≡ compared_with (flat design.now) (tree e.now) (tree other.now) }
 {
     let signal = whole_of(e)?;
     match &other.node {
@@ -93,7 +93,7 @@ fn complemented(a: &SizedExpr) -> Option<Test>
 
 /// What an expression tests: `r`, `!r`, `~r`, `r == 1'b1` or `r == 1'b0`.
 pub fn tested(design: &Design, e: &SizedExpr) -> Option<Test>
-    ensures { option_map test_view result ≡ spec.tested (parts design.now) (tree e.now) }
+    ensures { option_map test_view result ≡ spec.tested (flat design.now) (tree e.now) }
 {
     match &e.node {
         Node::Read(_, _) => test_of(e, true),

@@ -23,8 +23,7 @@ use Rattle.net_model.specs.declared.fill.Fill.TheVariants as fill
 use Rattle.net_model.specs.Cycle.{Chain, Guard, IsChain, IsChained, Tests, is_active, level}
 use Rattle.net_model.specs.Numbers.{AreNumbers, bit, digits}
 use Rattle.sign_cycles.specs.Formed.{IsConstant, IsFormed, TestsAlone}
-use Rattle.rtl_rule.specs.Parts.{Parts, widths}
-use Rattle.check_laws.specs.Designs.{flat_of}
+use Rattle.rtl_flat.specs.Flats.{Flat, widths}
 use Rattle.check_laws.proofs.Sites.{Each, each_from}
 use Rattle.check_clean.proofs.Formed.{IsEdgeItem}
 
@@ -57,7 +56,7 @@ zeros_known m = by_size m
     by_size zero = refl
     by_size (suc m) = by_size m
 
-module _ (d : Parts) (a b : ℕ) (x y : Bit) where
+module _ (d : Flat) (a b : ℕ) (x y : Bit) where
   store : Values
   store i = cond (i == a) (x ∷ []) (cond (i == b) (y ∷ []) (replicate (widths d i) Zero))
 
@@ -86,7 +85,7 @@ module _ (d : Parts) (a b : ℕ) (x y : Bit) where
         by_first true = or_from (is_unknown x) false known refl
         by_first false = by_second (i == b)
 
-    numbers : AreNumbers (flat_of d) store
+    numbers : AreNumbers d store
     numbers = record { wide = store_wide; known = store_known }
 
   first_bit : bit store a 0 ≡ x
@@ -101,7 +100,7 @@ module _ (d : Parts) (a b : ℕ) (x y : Bit) where
       ∙ ap (λ t. slice_index_or (cond t (y ∷ []) (replicate (widths d b) Zero)) 0 X) (eq-eqb b b refl)
 
 -- two resets with one test have one signal
-same_signal : (d : Parts) (one other : Guard) → one.test ≡ other.test → IsEdgeItem (widths d) one.item → IsEdgeItem (widths d) other.item → Tests (flat_of d) one → Tests (flat_of d) other → one.item.signal ≡ other.item.signal
+same_signal : (d : Flat) (one other : Guard) → one.test ≡ other.test → IsEdgeItem (widths d) one.item → IsEdgeItem (widths d) other.item → Tests d one → Tests d other → one.item.signal ≡ other.item.signal
 same_signal d one other same item item' tests tests' =
     elim (cases_eq one.item.signal other.item.signal) [
       | inl e ↦ e
@@ -120,13 +119,13 @@ same_signal d one other same item item' tests tests' =
 -- ---- chains of one body
 
 -- what a test reads
-abbrev reads_of : Parts → Tree → ℕ → ℕ → Type 0
+abbrev reads_of : Flat → Tree → ℕ → ℕ → Type 0
 reads_of d test i k = reads (widths d) test i k ≡ true
 
 -- what is done at the clock's edge reads no clock and no reset
-abbrev IsApart : Parts → Actions → Type 0
+abbrev IsApart : Flat → Actions → Type 0
 IsApart d part =
-    (i k : ℕ) → ReadsOutside (body_flow (widths d) part) i k → InCone (flat_of d) i → ⊥
+    (i k : ℕ) → ReadsOutside (body_flow (widths d) part) i k → InCone d i → ⊥
 
 -- both are one `if`
 record AreAlike (one other : Guard) (part part' : Actions) : Type 0 where
@@ -140,16 +139,16 @@ alike one other part part' body (otherwise, spot, is, last) (otherwise', spot', 
     let rest : otherwise ≡ otherwise' = cc (same) in
     record { test = cc (same); branch = cc (same); rest = sym last ∙ rest ∙ last' }
 
-module _ (d : Parts) (events : List Watched) (body : Actions) (wide : All (IsEdgeItem (widths d)) events) where
+module _ (d : Flat) (events : List Watched) (body : Actions) (wide : All (IsEdgeItem (widths d)) events) where
   -- a chain and one by which the body is formed
-  by_resets : (own other : Chain) → IsFormed (flat_of d) events body own → IsChain (flat_of d) events body other → (resets resets' : List Guard) → own.resets ≡ resets → other.resets ≡ resets' → length resets ≡ length resets' → IsFormed (flat_of d) events body other
+  by_resets : (own other : Chain) → IsFormed d events body own → IsChain d events body other → (resets resets' : List Guard) → own.resets ≡ resets → other.resets ≡ resets' → length resets ≡ length resets' → IsFormed d events body other
   by_resets own other is chain [] [] e e' same =
       let part : own.part ≡ other.part = sym (subst (λ gs. IsChained gs own.part body) e is.chained.chained) ∙ subst (λ gs. IsChained gs other.part body) e' chain.chained in
       record {
         chained = chain;
         one_reset = subst (λ (gs : List Guard). length gs ≤ 1) (sym e') (omega arith);
-        alone = subst (All (TestsAlone (flat_of d))) (sym e') (All-nil (TestsAlone (flat_of d)));
-        constants = subst (All (λ (guard : Guard). IsConstant (flat_of d) body guard.branch)) (sym e') (All-nil (λ (guard : Guard). IsConstant (flat_of d) body guard.branch));
+        alone = subst (All (TestsAlone d)) (sym e') (All-nil (TestsAlone d));
+        constants = subst (All (λ (guard : Guard). IsConstant d body guard.branch)) (sym e') (All-nil (λ (guard : Guard). IsConstant d body guard.branch));
         apart = subst (IsApart d) part is.apart;
         tame = is.tame;
         split = is.split;
@@ -158,23 +157,23 @@ module _ (d : Parts) (events : List Watched) (body : Actions) (wide : All (IsEdg
       let like = alike one guard own.part other.part body (subst (λ gs. IsChained gs own.part body) e is.chained.chained) (subst (λ gs. IsChained gs other.part body) e' chain.chained) in
       let item = item_of own is.chained one [] e in
       let item' = item_of other chain guard [] e' in
-      let test = All-head (Tests (flat_of d)) one [] (subst (All (Tests (flat_of d))) e is.chained.tests) in
-      let test' = All-head (Tests (flat_of d)) guard [] (subst (All (Tests (flat_of d))) e' chain.tests) in
+      let test = All-head (Tests d) one [] (subst (All (Tests d)) e is.chained.tests) in
+      let test' = All-head (Tests d) guard [] (subst (All (Tests d)) e' chain.tests) in
       let signal = same_signal d one guard like.test item item' test test' in
-      let alone = All-head (TestsAlone (flat_of d)) one [] (subst (All (TestsAlone (flat_of d))) e is.alone) in
-      let constant = All-head (λ (g : Guard). IsConstant (flat_of d) body g.branch) one [] (subst (All (λ (g : Guard). IsConstant (flat_of d) body g.branch)) e is.constants) in
-      let alone' : TestsAlone (flat_of d) guard = λ i k read. alone i k (subst (λ t. reads_of d t i k) (sym like.test) read) ∙ signal in
+      let alone = All-head (TestsAlone d) one [] (subst (All (TestsAlone d)) e is.alone) in
+      let constant = All-head (λ (g : Guard). IsConstant d body g.branch) one [] (subst (All (λ (g : Guard). IsConstant d body g.branch)) e is.constants) in
+      let alone' : TestsAlone d guard = λ i k read. alone i k (subst (λ t. reads_of d t i k) (sym like.test) read) ∙ signal in
       record {
         chained = chain;
         one_reset = subst (λ (gs : List Guard). length gs ≤ 1) (sym e') (omega arith);
-        alone = subst (All (TestsAlone (flat_of d))) (sym e') (All-cons (TestsAlone (flat_of d)) guard [] alone' (All-nil (TestsAlone (flat_of d))));
-        constants = subst (All (λ (g : Guard). IsConstant (flat_of d) body g.branch)) (sym e') (All-cons (λ (g : Guard). IsConstant (flat_of d) body g.branch) guard [] (subst (IsConstant (flat_of d) body) like.branch constant) (All-nil (λ (g : Guard). IsConstant (flat_of d) body g.branch)));
+        alone = subst (All (TestsAlone d)) (sym e') (All-cons (TestsAlone d) guard [] alone' (All-nil (TestsAlone d)));
+        constants = subst (All (λ (g : Guard). IsConstant d body g.branch)) (sym e') (All-cons (λ (g : Guard). IsConstant d body g.branch) guard [] (subst (IsConstant d body) like.branch constant) (All-nil (λ (g : Guard). IsConstant d body g.branch)));
         apart = subst (IsApart d) like.rest is.apart;
         tame = is.tame;
         split = is.split;
       }
     where
-      item_of : (any : Chain) → IsChain (flat_of d) events body any → (g : Guard) (gs : List Guard) → any.resets ≡ g ∷ gs → IsEdgeItem (widths d) g.item
+      item_of : (any : Chain) → IsChain d events body any → (g : Guard) (gs : List Guard) → any.resets ≡ g ∷ gs → IsEdgeItem (widths d) g.item
       item_of any is_any g gs e'' =
           let all = each_from (IsEdgeItem (widths d)) (any.clock ∷ map (λ (h : Guard). h.item) any.resets) (All-permutation (IsEdgeItem (widths d)) events (any.clock ∷ map (λ (h : Guard). h.item) any.resets) is_any.items wide) in
           (subst (λ (hs : List Guard). Each (IsEdgeItem (widths d)) (map (λ (h : Guard). h.item) hs)) e'' all.1).0
@@ -185,13 +184,13 @@ module _ (d : Parts) (events : List Watched) (body : Actions) (wide : All (IsEdg
   by_resets own other is chain (one ∷ []) (guard ∷ next ∷ others) e e' same =
       absurd (omega (arith, same))
 
-  reset_count : (any : Chain) → IsChain (flat_of d) events body any → suc (length any.resets) ≡ length events
+  reset_count : (any : Chain) → IsChain d events body any → suc (length any.resets) ≡ length events
   reset_count any is_any =
       let long = length_permutation events (any.clock ∷ map (λ (h : Guard). h.item) any.resets) is_any.items in
       let same = length-map any.resets (λ (h : Guard). h.item) in
       omega (arith, long, same)
 
-  pub formed_too : (own other : Chain) → IsFormed (flat_of d) events body own → IsChain (flat_of d) events body other → IsFormed (flat_of d) events body other
+  pub formed_too : (own other : Chain) → IsFormed d events body own → IsChain d events body other → IsFormed d events body other
   formed_too own other is chain =
       let count = reset_count own is.chained in
       let count' = reset_count other chain in

@@ -27,9 +27,9 @@ use Rattle.net_model.specs.Solution.{IsLasting, IsRegisterBit}
 use Rattle.sign_cycles.specs.net_rest.Rest.{IsComputed, IsGate, IsSolvable}
 use Rattle.sign_cycles.specs.Formed.{IsFormed}
 use Rattle.sign_cycles.specs.sign_rounds.BringUp.{CanAllWake}
-use Rattle.rtl_rule.specs.Parts.{Parts, widths}
+use Rattle.rtl_flat.specs.Flats.{Flat, Parts, widths}
 use Rattle.check_laws.specs.Cases.{Does, IsBodyOf}
-use Rattle.check_laws.specs.Designs.{IsEdge, flat_of}
+use Rattle.check_laws.specs.Designs.{IsEdge}
 use Rattle.check_laws.specs.Expressions.{AreMarked, HasNoDoubt}
 use Rattle.check_laws.proofs.Bodies.{exclusive_bodies, firm_assigns, tame_bodies}
 use Rattle.check_laws.proofs.Clocks.{derived_clock, derived_clock_once, each_place}
@@ -45,7 +45,7 @@ use Rattle.check_clean.proofs.Levels.{ascends, level_of}
 use Rattle.check_clean.proofs.Merged.{no_finding}
 use Rattle.check_clean.proofs.Sources.{sources_decided}
 
-module _ (d : Parts) (lawful : AreLawful (flat_of d)) (marked : AreMarked d) (none : HasNoFinding d) where
+module _ (d : Flat) (lawful : AreLawful d) (marked : AreMarked d) (none : HasNoFinding d) where
   no_doubt : HasNoDoubt d
   no_doubt =
       record { x1 = none.x1; z1 = none.z1; x2 = none.x2; x3 = none.x3; c1 = none.c1; c2 = none.c2 }
@@ -53,7 +53,7 @@ module _ (d : Parts) (lawful : AreLawful (flat_of d)) (marked : AreMarked d) (no
   -- ---- what computes
 
   -- no other process may write a bit that one may
-  sole : (p : ℕ) (does : Doing) → doing_at (flat_of d) p ≡ Some does → (i k : ℕ) → MayWrite (flow_of (widths d) does) i k → IsSole (flat_of d) p i k
+  sole : (p : ℕ) (does : Doing) → doing_at d p ≡ Some does → (i k : ℕ) → MayWrite (flow_of (widths d) does) i k → IsSole d p i k
   sole p does is i k may q other there = by_task (slice_get d.tasks q) refl there
     where
       by_task : (o : Option Task) → slice_get d.tasks q ≡ o → IsSomeAnd o (λ task. MayWrite (flow_of (width_in d.signals) task.does) i k) → ⊥
@@ -72,9 +72,9 @@ module _ (d : Parts) (lawful : AreLawful (flat_of d)) (marked : AreMarked d) (no
   does_comb : (does : Doing) (list : Option (List Watched)) (body : Actions) → does ≡ Comb list body → Does does body
   does_comb does list body is = subst (λ x. Does x body) (sym is) refl
 
-  gate : (p : ℕ) (list : Option (List Watched)) (body : Actions) → doing_at (flat_of d) p ≡ Some (Comb list body) → IsGate (flat_of d) p list body
+  gate : (p : ℕ) (list : Option (List Watched)) (body : Actions) → doing_at d p ≡ Some (Comb list body) → IsGate d p list body
   gate p list body is =
-      let at = task_of (flat_of d) p (Comb list body) is in
+      let at = task_of d p (Comb list body) is in
       let of_body : IsBodyOf d p body = record { task = at.task; there = at.there; does = does_comb at.task.does list body at.is } in
       record {
         plain = record {
@@ -88,7 +88,7 @@ module _ (d : Parts) (lawful : AreLawful (flat_of d)) (marked : AreMarked d) (no
         sure = latch_inferred d lawful none.l1 p list body is;
       }
 
-  sourced : (i k : ℕ) → k < widths d i → IsLasting (flat_of d) i → IsTrue (is_input (flat_of d) i) ⊎ (IsRegisterBit (flat_of d) i k ⊎ IsComputed (flat_of d) i k)
+  sourced : (i k : ℕ) → k < widths d i → IsLasting d i → IsTrue (is_input d i) ⊎ (IsRegisterBit d i k ⊎ IsComputed d i k)
   sourced i k below lasts =
       elim (undriven d none.a5 i k below lasts) [
         | inl input ↦ inl input
@@ -96,7 +96,7 @@ module _ (d : Parts) (lawful : AreLawful (flat_of d)) (marked : AreMarked d) (no
         | inr (inr computed) ↦ inr (inr (record { process = computed.process; node = computed.node; may = computed.may }))
       ]
 
-  solvable : IsSolvable (flat_of d) (level_of d lawful)
+  solvable : IsSolvable d (level_of d lawful)
   solvable =
       record {
         lawful = lawful;
@@ -109,14 +109,14 @@ module _ (d : Parts) (lawful : AreLawful (flat_of d)) (marked : AreMarked d) (no
 
   -- ---- clocks and resets
 
-  item_of : (P : Watched → Type 0) (p : ℕ) (events : List Watched) (body : Actions) (item : Watched) → IsItem (flat_of d) p events body item → All P events → P item
+  item_of : (P : Watched → Type 0) (p : ℕ) (events : List Watched) (body : Actions) (item : Watched) → IsItem d p events body item → All P events → P item
   item_of P p events body item is all = each_place P events (each_from P events all) is.place item is.there
 
-  edge_of : (p : ℕ) (events : List Watched) (body : Actions) (item : Watched) → IsItem (flat_of d) p events body item → IsTrue (has_edge item.edge)
+  edge_of : (p : ℕ) (events : List Watched) (body : Actions) (item : Watched) → IsItem d p events body item → IsTrue (has_edge item.edge)
   edge_of p events body item is =
       item_of (λ one. IsTrue (has_edge one.edge)) p events body item is (mixed_edges d none.s3 p events body is.does)
 
-  top_input : (c : ℕ) → IsTrue (is_input (flat_of d) c) → Has (λ signal. signal.kind ≡ TopInput) d.signals c
+  top_input : (c : ℕ) → IsTrue (is_input d c) → Has (λ signal. signal.kind ≡ TopInput) d.signals c
   top_input c input = by_signal (slice_get d.signals c) input
     where
       by_kind : (kind : Kind) → is_input_kind kind ≡ true → kind ≡ TopInput
@@ -128,9 +128,9 @@ module _ (d : Parts) (lawful : AreLawful (flat_of d)) (marked : AreMarked d) (no
       by_signal None h = absurd (false≢true h)
       by_signal (Some signal) h = by_kind signal.kind h
 
-  once : (p : ℕ) (events : List Watched) (body : Actions) (a b : Watched) → IsItem (flat_of d) p events body a → IsItem (flat_of d) p events body b → (c : ℕ) → IsTrue (is_input (flat_of d) c) → IsReached (flat_of d) c a.signal → IsReached (flat_of d) c b.signal → a.signal ≡ b.signal
+  once : (p : ℕ) (events : List Watched) (body : Actions) (a b : Watched) → IsItem d p events body a → IsItem d p events body b → (c : ℕ) → IsTrue (is_input d c) → IsReached d c a.signal → IsReached d c b.signal → a.signal ≡ b.signal
   once p events body a b first second c input reached reached' =
-      let control : IsControl (flat_of d) c = record {
+      let control : IsControl d c = record {
         input = input;
         signal = a.signal;
         reached = reached;
@@ -149,7 +149,7 @@ module _ (d : Parts) (lawful : AreLawful (flat_of d)) (marked : AreMarked d) (no
       some_same : (x y : Watched) → Some x ≡ Some y → x ≡ y
       some_same x y e = cc
 
-  synchronous : IsSynchronous (flat_of d)
+  synchronous : IsSynchronous d
   synchronous =
       record {
         lawful = lawful;
@@ -157,13 +157,13 @@ module _ (d : Parts) (lawful : AreLawful (flat_of d)) (marked : AreMarked d) (no
         no_late = nonblocking_comb d lawful none.a2;
         alone = several_drivers d lawful none.a4;
         edges = edge_of;
-        clocks = λ p events body item is. item_of (λ one. IsFromTop (flat_of d) one.signal) p events body item is (derived_clock d (sources_decided d) none.a7 p events body is.does);
+        clocks = λ p events body item is. item_of (λ one. IsFromTop d one.signal) p events body item is (derived_clock d (sources_decided d) none.a7 p events body is.does);
         once = once;
         heard = heard d lawful marked none.a8;
         tests = λ p events body is. tests d lawful marked none p events body is;
       }
 
-  wakes : CanAllWake (flat_of d)
+  wakes : CanAllWake d
   wakes p list body is =
       let waking = never_wakes d none.s2 p list body is in
       record {
@@ -197,19 +197,19 @@ module _ (d : Parts) (lawful : AreLawful (flat_of d)) (marked : AreMarked d) (no
   chain_at (Some does) = chain_of d does
 
   chains : ℕ → Chain
-  chains p = or_none (chain_at (doing_at (flat_of d) p))
+  chains p = or_none (chain_at (doing_at d p))
 
   chains_are : (p : ℕ) (events : List Watched) (body : Actions) → (is : IsEdge d p events body) → chains p ≡ chain d lawful marked none p events body is
   unfolding chains
   chains_are p events body is =
       ap (λ o. or_none (chain_at o)) is ∙ ap or_none (is_chain d lawful marked none p events body is)
 
-  chained : AreChains (flat_of d) chains
+  chained : AreChains d chains
   chained p events body is =
-      subst (IsChain (flat_of d) events body) (sym (chains_are p events body is)) (has_chained d lawful marked none p events body is)
+      subst (IsChain d events body) (sym (chains_are p events body is)) (has_chained d lawful marked none p events body is)
 
   -- whichever chains are taken
-  all_formed : (choice : ℕ → Chain) → AreChains (flat_of d) choice → (p : ℕ) (events : List Watched) (body : Actions) → doing_at (flat_of d) p ≡ Some (Edge' events body) → IsFormed (flat_of d) events body (choice p)
+  all_formed : (choice : ℕ → Chain) → AreChains d choice → (p : ℕ) (events : List Watched) (body : Actions) → doing_at d p ≡ Some (Edge' events body) → IsFormed d events body (choice p)
   all_formed choice are p events body is =
       formed_too d events body (each_all (IsEdgeItem (widths d)) events (items d lawful marked none p events body is)) (chain d lawful marked none p events body is) (choice p) (formed d lawful marked none p events body is) (are p events body is)
 
@@ -225,4 +225,4 @@ module _ (d : Parts) (lawful : AreLawful (flat_of d)) (marked : AreMarked d) (no
 
 pub clean : (d : Parts) → CleanByRules d
 clean d lawful marked findings are is =
-    clean_design d lawful marked (no_finding d findings are is)
+    clean_design d.flat lawful marked (no_finding d findings are is)

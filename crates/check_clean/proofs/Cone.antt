@@ -20,11 +20,11 @@ use Rattle.event_model.specs.Queue.{doing_at}
 use Rattle.event_ending.specs.event_laws.Steady.{AreLawful}
 use Rattle.sign_cycles.specs.event_edges.Synchronous.{IsPort, MayHear, sensitive}
 use Rattle.net_model.specs.Control.{InCone, IsControl, IsReached, Itself, Through}
-use Rattle.rtl_rule.specs.Parts.{Parts, all_of, body_trees, index_of, is_named, items_of, labels, named, nodes, own_labels, own_trees, place_of, spot_if, trees, widths, within}
+use Rattle.rtl_rule.specs.Parts.{all_of, body_trees, index_of, is_named, items_of, labels, named, nodes, own_labels, own_trees, place_of, spot_if, trees, within}
+use Rattle.rtl_flat.specs.Flats.{Flat, widths}
 use Rattle.check_laws.specs.check_chains.Chains.{chain_of}
 use Rattle.check_laws.specs.check_clocks.Clocks.{AreClockAsData, GoesTo, IsClockAsData, IsPlainConnection, but_tests, clock_as_data_at, data_places, data_reads, data_trees, in_instance, is_passing, is_some_place, is_whole, level_items, passes, statement_trees}
 use Rattle.check_laws.specs.check_clocks.Clocks as clocks
-use Rattle.check_laws.specs.Designs.{flat_of}
 use Rattle.check_laws.specs.Expressions.{AreMarked, IsMarked}
 use Rattle.check_laws.proofs.Clocks.{reads_alone}
 use Rattle.check_laws.proofs.Sites.{Each, each_both, each_flat, each_from, each_join, each_left, each_right, signal_refuted, signal_there, task_of}
@@ -59,7 +59,7 @@ place_right (x ∷ xs) ys h = refl
 -- ---- connections of ports
 
 -- an assignment that passes a signal of one bit to a port of one bit
-record IsPassing (d : Parts) (instance : ℕ) (target : List Piece) (e : Tree) : Type 0 where
+record IsPassing (d : Flat) (instance : ℕ) (target : List Piece) (e : Tree) : Type 0 where
   signal : ℕ
   port : ℕ
   signed : Bool
@@ -71,7 +71,7 @@ record IsPassing (d : Parts) (instance : ℕ) (target : List Piece) (e : Tree) :
   port_bit : widths d port ≡ 1
   outside : in_instance instance (slice_get d.signals port) ≡ false
 
-passing : (d : Parts) (instance : ℕ) (target : List Piece) (e : Tree) → passes d instance (Assign target e) ≡ true → IsPassing d instance target e
+passing : (d : Flat) (instance : ℕ) (target : List Piece) (e : Tree) → passes d instance (Assign target e) ≡ true → IsPassing d instance target e
 passing d instance [] e h = absurd (false≢true h)
 passing d instance (piece ∷ []) (Sized w s at (tree.Whole i)) h =
     let (most, outside) = and_parts _ (not (in_instance instance (slice_get d.signals piece.signal))) h in
@@ -142,13 +142,13 @@ unread_all ws i es marked h k =
 
 -- ---- no finding
 
-module _ (d : Parts) (lawful : AreLawful (flat_of d)) (marked : AreMarked d) (none : AreClockAsData (InCone (flat_of d)) d []) where
+module _ (d : Flat) (lawful : AreLawful d) (marked : AreMarked d) (none : AreClockAsData (InCone d) d []) where
   -- a signal of the cone is there
-  not_data : (p : ℕ) (task : Task) → slice_get d.tasks p ≡ Some task → (i : ℕ) → InCone (flat_of d) i → i < length d.signals → is_some_place (data_places d (within (p, task) i)) ≡ true → ⊥
+  not_data : (p : ℕ) (task : Task) → slice_get d.tasks p ≡ Some task → (i : ℕ) → InCone d i → i < length d.signals → is_some_place (data_places d (within (p, task) i)) ≡ true → ⊥
   not_data p task there i cone below places =
-      signal_refuted (IsClockAsData (InCone (flat_of d)) d) (clock_as_data_at d) d none p task there i below (record { in_cone = cone; as_data = places })
+      signal_refuted (IsClockAsData (InCone d) d) (clock_as_data_at d) d none p task there i below (record { in_cone = cone; as_data = places })
 
-  module _ (p : ℕ) (task : Task) (there : slice_get d.tasks p ≡ Some task) (i : ℕ) (cone : InCone (flat_of d) i) (below : i < length d.signals) where
+  module _ (p : ℕ) (task : Task) (there : slice_get d.tasks p ≡ Some task) (i : ℕ) (cone : InCone d i) (below : i < length d.signals) where
     pub no_level : Each (λ (item : Watched). (not (has_edge item.edge) && (item.signal == i)) ≡ true → ⊥) (items_of task.does)
     no_level =
         none_placed (λ (item : Watched). not (has_edge item.edge) && (item.signal == i)) (λ item. item.spot) (items_of task.does)
@@ -186,7 +186,7 @@ module _ (d : Parts) (lawful : AreLawful (flat_of d)) (marked : AreMarked d) (no
       there_some (x ∷ xs) (suc n) inside e = there_some xs n (omega (arith, inside)) e
 
   -- an assignment that reads a bit of the cone passes its signal to a port
-  passing_at : (p : ℕ) (task : Task) → slice_get d.tasks p ≡ Some task → (target : List Piece) (e : Tree) → task.does ≡ Assign target e → (i k : ℕ) → InCone (flat_of d) i → reads (widths d) e i k ≡ true → (passed : IsPassing d task.instance target e) × (passed.signal ≡ i)
+  passing_at : (p : ℕ) (task : Task) → slice_get d.tasks p ≡ Some task → (target : List Piece) (e : Tree) → task.does ≡ Assign target e → (i k : ℕ) → InCone d i → reads (widths d) e i k ≡ true → (passed : IsPassing d task.instance target e) × (passed.signal ≡ i)
   passing_at p task there target e does i k cone read =
       by_passing (is_passing d task) refl
     where
@@ -222,12 +222,12 @@ module _ (d : Parts) (lawful : AreLawful (flat_of d)) (marked : AreMarked d) (no
   items_other (item ∷ items) i h k =
       or_from _ _ (other_select (widths d) i item.signal item.selection h.0 k) (items_other items i h.1 k)
 
-  pub heard : (p : ℕ) (does : Doing) → doing_at (flat_of d) p ≡ Some does → (i k : ℕ) → InCone (flat_of d) i → sensitive (widths d) does i k ≡ true → MayHear (flat_of d) does i
+  pub heard : (p : ℕ) (does : Doing) → doing_at d p ≡ Some does → (i k : ℕ) → InCone d i → sensitive (widths d) does i k ≡ true → MayHear d does i
   heard p (Assign target e) is i k cone read =
-      let at = task_of (flat_of d) p (Assign target e) is in
+      let at = task_of d p (Assign target e) is in
       let (passed, same) = passing_at p at.task at.there target e at.is i k cone read in
       let plain = link_of p at.task at.there target e at.is passed in
-      subst (IsPort (flat_of d) target e) same (record {
+      subst (IsPort d target e) same (record {
         port = passed.port;
         link = record {
           signed = passed.signed;
@@ -249,16 +249,16 @@ module _ (d : Parts) (lawful : AreLawful (flat_of d)) (marked : AreMarked d) (no
       })
   heard p (Comb list body) is i k cone lists = by_list list is lists
     where
-      by_list : (list : Option (List Watched)) → doing_at (flat_of d) p ≡ Some (Comb list body) → listed (widths d) (Comb list body) i k ≡ true → ⊥
+      by_list : (list : Option (List Watched)) → doing_at d p ≡ Some (Comb list body) → listed (widths d) (Comb list body) i k ≡ true → ⊥
       by_list None is reads' =
-          let at = task_of (flat_of d) p (Comb None body) is in
+          let at = task_of d p (Comb None body) is in
           let below = signal_there d.signals i k (lists_within d lawful p (Comb None body) is i k reads') in
           let all = plain_unread p at.task at.there i cone below (ap (passes d at.task.instance) at.is) (ap (chain_of d) at.is) k in
           let own = subst (λ (one : Doing). Each (Unread (widths d) i k) (trees one ++ labels one)) at.is all in
           let quiet = quiet_body (widths d) i k body (comb_statements (Unread (widths d) i k) None body (each_left (Unread (widths d) i k) (trees (Comb None body)) (labels (Comb None body)) own) (each_right (Unread (widths d) i k) (trees (Comb None body)) (labels (Comb None body)) own)) in
           true≢false (sym reads' ∙ quiet)
       by_list (Some items) is lists' =
-          let at = task_of (flat_of d) p (Comb (Some items) body) is in
+          let at = task_of d p (Comb (Some items) body) is in
           let below = signal_there d.signals i k (lists_within d lawful p (Comb (Some items) body) is i k lists') in
           let levels = subst (λ (one : Doing). Each (λ (item : Watched). (not (has_edge item.edge) && (item.signal == i)) ≡ true → ⊥) (items_of one)) at.is (no_level p at.task at.there i cone below) in
           let edgeless = each_from (λ (item : Watched). has_edge item.edge ≡ false) items (lawful p (Comb (Some items) body) is).0.1 in
@@ -268,11 +268,11 @@ module _ (d : Parts) (lawful : AreLawful (flat_of d)) (marked : AreMarked d) (no
 
   -- ---- what is reached from a clock or a reset goes to it by plain connections
 
-  pub goes : (c : ℕ) → IsControl (flat_of d) c → (i : ℕ) → IsReached (flat_of d) c i → GoesTo d c i
+  pub goes : (c : ℕ) → IsControl d c → (i : ℕ) → IsReached d c i → GoesTo d c i
   goes c control i Itself = clocks.Itself
   goes c control i (Through j k reached on) =
       let connection = on.connection in
-      let cone : InCone (flat_of d) j = record { control = c; is_control = control; reached = reached } in
+      let cone : InCone d j = record { control = c; is_control = control; reached = reached } in
       let (passed, same) = passing_at on.process connection.task connection.there (record { signal = k; selection = part.Whole; spot = connection.spot } ∷ []) on.value connection.does j on.alone.bit cone on.alone.read in
       let plain = link_of on.process connection.task connection.there (record { signal = k; selection = part.Whole; spot = connection.spot } ∷ []) on.value connection.does passed in
       let port : passed.port ≡ k = sym (same_port k passed.port connection.spot passed.at passed.whole) in

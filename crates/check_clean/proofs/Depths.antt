@@ -5,14 +5,13 @@ use Rattle.std.proofs.lemmas.Bool.{cases_eq}
 use Rattle.rtl_flat.specs.Levels.{Chain, HasNoEdge, IsArrow, IsDepth, IsLevel, IsNode}
 use Rattle.rtl_flat.specs.Levels as level
 use Rattle.event_ending.specs.event_laws.Steady.{AreLawful}
-use Rattle.rtl_rule.specs.Parts.{Parts}
+use Rattle.rtl_flat.specs.Flats.{Flat}
 use Rattle.check_all.specs.check_assign.Assigned.{AreCombLoop}
-use Rattle.check_laws.specs.Designs.{flat_of}
 use Rattle.check_laws.proofs.Decisions.{Decided, both, some_of, there_decided}
 use Rattle.check_laws.proofs.Designs.{comb_loop}
 use Rattle.check_clean.proofs.Levels.{arrow_decided, ascends, level_of, node_below, node_decided}
 
-module _ (d : Parts) (lawful : AreLawful (flat_of d)) (none : AreCombLoop d []) where
+module _ (d : Flat) (lawful : AreLawful d) (none : AreCombLoop d []) where
   abbrev Arrow : ℕ → ℕ → Type 0
   Arrow = IsArrow d.signals d.tasks
 

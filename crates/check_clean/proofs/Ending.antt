@@ -6,19 +6,18 @@ use Rattle.rtl_bits.specs.declared.Bit.{Bit}
 use Rattle.net_model.specs.Cycle.{Data, Setting, Step, Turn, settings}
 use Rattle.net_model.specs.Lawful.{AreLawfulSteps, IsLawfulStep, IsSetting, SetsData}
 use Rattle.net_model.specs.Cycle.{given_after}
-use Rattle.event_model.specs.Queue.{Flat, State, offer, power_up, run, widths}
+use Rattle.event_model.specs.Queue.{State, offer, power_up, run}
+use Rattle.rtl_flat.specs.Flats.{Flat, Parts, widths}
 use Rattle.event_model.specs.Writes.{Values}
 use Rattle.event_ending.specs.event_settling.Settling.{Fits}
 use Rattle.event_ending.specs.Ending.{AllEnd, Held, IsReached, PowerUp, Stepped}
 use Rattle.sign_cycles.specs.Agree.{offered}
 use Rattle.sign_cycles.specs.BringUp.{SetsInput}
-use Rattle.rtl_rule.specs.Parts.{Parts}
-use Rattle.check_laws.specs.Designs.{flat_of}
 use Rattle.check_clean.specs.Ending.{FulfilledByRules, HasRuns, HasRunsByRules, SettledAreReached}
 use Rattle.check_clean.proofs.Promise.{promised}
 use Rattle.check_clean.proofs.Runs.{ends}
 
-pub settled_reached : (d : Parts) → SettledAreReached d
+pub settled_reached : (d : Flat) → SettledAreReached d
 settled_reached d chains fill s n settled =
     Held s (record { rest = settled.rest; wide = settled.wide; drivers = settled.drivers })
 
@@ -73,7 +72,7 @@ module _ (d : Flat) where
       (inputs_set steps (All-tail (All (SetsInput d)) step steps set))
 
 pub states_follow : (d : Parts) → HasRunsByRules d
-states_follow d lawful findings are is = has_runs (flat_of d) (ends d lawful findings are is)
+states_follow d lawful findings are is = has_runs d.flat (ends d lawful findings are is)
 
 pub fulfilled : (d : Parts) → FulfilledByRules d
 fulfilled d lawful marked findings are is chains chained fill =
@@ -81,14 +80,14 @@ fulfilled d lawful marked findings are is chains chained fill =
     let follow = states_follow d lawful findings are is in
     record {
       shown = λ s n settled steps lawful'.
-          let it = follow s (settled_reached d chains fill s n settled) (map settings steps) (steps_set (flat_of d) n steps lawful') in
+          let it = follow s (settled_reached d.flat chains fill s n settled) (map settings steps) (steps_set d.flat n steps lawful') in
           record {
             states = it.0;
             runs = it.1;
             followed = (whole.agrees chains chained fill).agrees s n settled steps lawful' it.0 it.1;
           };
       brought_up = λ resets steps up.
-          let it = follow (power_up (flat_of d)) PowerUp steps (inputs_set (flat_of d) steps up.settings) in
+          let it = follow (power_up d.flat) PowerUp steps (inputs_set d.flat steps up.settings) in
           let settled = (whole.brought_up chains chained resets fill).settles steps up it.0 it.1 in
           record { states = it.0; runs = it.1; numbers = settled.0; settled = settled.1 };
     }

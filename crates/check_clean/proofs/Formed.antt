@@ -20,11 +20,12 @@ use Rattle.net_model.specs.Control.{InCone}
 use Rattle.net_model.specs.Cycle.{Chain, Guard, IsChain, IsChained, Tests, opened}
 use Rattle.net_model.specs.Solution.{IsLasting}
 use Rattle.sign_cycles.specs.Formed.{IsConstant, IsFormed, TestsAlone}
-use Rattle.rtl_rule.specs.Parts.{Parts, agree, all_of, labels, nodes, trees, widths, within}
+use Rattle.rtl_rule.specs.Parts.{agree, all_of, labels, nodes, trees, within}
+use Rattle.rtl_flat.specs.Flats.{Flat, widths}
 use Rattle.check_laws.specs.check_chains.Chains.{IsRegisterOf, IsResetBranch, IsResetPolarity, IsResetShape, IsResetValue, chain_in, chain_of, goes_up, has_chain, is_more, is_turned, reset_polarity_at, reset_shape_at, reset_value_at, tested}
 use Rattle.check_laws.specs.check_clocks.Clocks.{but_tests, chain_trees, data_trees, passes, statement_trees}
 use Rattle.check_laws.specs.Cases.{Does, IsBodyOf}
-use Rattle.check_laws.specs.Designs.{IsEdge, flat_of}
+use Rattle.check_laws.specs.Designs.{IsEdge}
 use Rattle.check_laws.specs.Expressions.{AreMarked, HasNoDoubt, IsMarked}
 use Rattle.check_laws.proofs.Bodies.{exclusive_bodies, tame_bodies}
 use Rattle.check_laws.proofs.Clocks.{async_pair}
@@ -103,16 +104,16 @@ module _ (ws : ℕ → ℕ) (i k : ℕ) where
 -- ---- a process that waits for edges
 
 -- its expressions that are data
-abbrev chosen_trees : Parts → ℕ → Doing → Option Chain → List Tree
+abbrev chosen_trees : Flat → ℕ → Doing → Option Chain → List Tree
 chosen_trees d instance does o =
     if passes d instance does then [] else but_tests o (trees does ++ labels does)
 
 does_of : (does : Doing) (events : List Watched) (body : Actions) → does ≡ Edge' events body → Does does body
 does_of does events body is = subst (λ x. Does x body) (sym is) refl
 
-module _ (d : Parts) (lawful : AreLawful (flat_of d)) (marked : AreMarked d) (none : HasNoFinding d) (p : ℕ) (events : List Watched) (body : Actions) (is : IsEdge d p events body) where
-  at : IsTask (flat_of d) p (Edge' events body)
-  at = task_of (flat_of d) p (Edge' events body) is
+module _ (d : Flat) (lawful : AreLawful d) (marked : AreMarked d) (none : HasNoFinding d) (p : ℕ) (events : List Watched) (body : Actions) (is : IsEdge d p events body) where
+  at : IsTask d p (Edge' events body)
+  at = task_of d p (Edge' events body) is
 
   edged : Each (λ item. IsTrue (has_edge item.edge)) events
   edged = each_from (λ item. IsTrue (has_edge item.edge)) events (mixed_edges d none.s3 p events body is)
@@ -210,20 +211,20 @@ module _ (d : Parts) (lawful : AreLawful (flat_of d)) (marked : AreMarked d) (no
       true_from_ne_false (agree (goes_up guard.item.edge) reset.test.test.level)
       (λ isnt. reset.level (ap (is_turned guard.item.edge) reset.test.is ∙ not_from_false _ isnt))
 
-  tests_of : (guard : Guard) → IsReset guard → Tests (flat_of d) guard
+  tests_of : (guard : Guard) → IsReset guard → Tests d guard
   tests_of guard reset =
       tests_level d guard reset.test.test reset.sized.0 reset.test.is reset.test.signal reset.item.one_bit reset.item.edged (agrees guard reset)
 
-  alone_of : (guard : Guard) → IsReset guard → TestsAlone (flat_of d) guard
+  alone_of : (guard : Guard) → IsReset guard → TestsAlone d guard
   alone_of guard reset i k read =
       reads_signal_alone d guard.test reset.test.test reset.test.is i k read ∙ sym reset.test.signal
 
-  pub has_chained : IsChain (flat_of d) events body chain
+  pub has_chained : IsChain d events body chain
   has_chained =
       record {
         chained = found.chained;
         items = found.items;
-        tests = each_all (Tests (flat_of d)) chain.resets (each_more IsReset (Tests (flat_of d)) tests_of chain.resets resets);
+        tests = each_all (Tests d) chain.resets (each_more IsReset (Tests d) tests_of chain.resets resets);
       }
 
   -- ---- R4
@@ -240,7 +241,7 @@ module _ (d : Parts) (lawful : AreLawful (flat_of d)) (marked : AreMarked d) (no
   pub inside : (i k : ℕ) → MayWrite (body_flow (widths d) body) i k → k < widths d i
   inside i k may = write_inside d.signals body (edge_body d lawful p events body is) i k may
 
-  register : (i k : ℕ) → k < widths d i → MayWrite (body_flow (widths d) body) i k → IsLasting (flat_of d) i → IsRegisterOf d (Edge' events body) i
+  register : (i k : ℕ) → k < widths d i → MayWrite (body_flow (widths d) body) i k → IsLasting d i → IsRegisterOf d (Edge' events body) i
   register i k below may lasts =
       record {
         inside = signal_there d.signals i k below;
@@ -260,14 +261,14 @@ module _ (d : Parts) (lawful : AreLawful (flat_of d)) (marked : AreMarked d) (no
         other = λ branch. refutes (subst (λ does. IsResetBranch d does (all_of guard.branch)) at.is branch);
       }))
 
-  constants : Each (λ (guard : Guard). IsConstant (flat_of d) body guard.branch) chain.resets
+  constants : Each (λ (guard : Guard). IsConstant d body guard.branch) chain.resets
   constants =
-      each_both (OfGuard (OfStatement IsMarked) IsMarked (λ test taken other spot m. m.0)) (λ (guard : Guard). (IsResetBranch d (Edge' events body) (all_of guard.branch) → ⊥) → ⊥) (λ guard. IsConstant (flat_of d) body guard.branch)
+      each_both (OfGuard (OfStatement IsMarked) IsMarked (λ test taken other spot m. m.0)) (λ (guard : Guard). (IsResetBranch d (Edge' events body) (all_of guard.branch) → ⊥) → ⊥) (λ guard. IsConstant d body guard.branch)
       (λ guard m unless. constant d (Edge' events body) body guard.branch m.1 inside register unless) chain.resets marked_chain.0 unrefuted
 
   -- ---- A8
 
-  module _ (i : ℕ) (cone : InCone (flat_of d) i) (below : i < length d.signals) where
+  module _ (i : ℕ) (cone : InCone d i) (below : i < length d.signals) where
     abbrev IsUnnamedTree : Tree → Type 0
     IsUnnamedTree e = Each (IsUnnamed (widths d) i) (nodes e)
 
@@ -319,12 +320,12 @@ module _ (d : Parts) (lawful : AreLawful (flat_of d)) (marked : AreMarked d) (no
             each_both IsReset (λ (guard : Guard). some (reads_bit i k) (body_flow (widths d) guard.branch) ≡ false) (λ guard. Unread (widths d) i k guard.test × (some (reads_bit i k) (body_flow (widths d) guard.branch) ≡ false))
             (λ guard reset quiet. (test_unread missing guard reset, quiet)) chain.resets resets (branches_unread k)
 
-  pub tests : (i k : ℕ) → InCone (flat_of d) i → ReadsOutside (body_flow (widths d) body) i k → items_list (widths d) events i k ≡ true
+  pub tests : (i k : ℕ) → InCone d i → ReadsOutside (body_flow (widths d) body) i k → items_list (widths d) events i k ≡ true
   tests i k cone outside =
       let within = outside_inside d.signals body (edge_body d lawful p events body is) i k outside in
       among_events i cone (signal_there d.signals i k within) k within ((decided (body_flow (widths d) body) i k).reads.1 (may_read_outside (body_flow (widths d) body) i k outside))
 
-  apart : (i k : ℕ) → ReadsOutside (body_flow (widths d) chain.part) i k → InCone (flat_of d) i → ⊥
+  apart : (i k : ℕ) → ReadsOutside (body_flow (widths d) chain.part) i k → InCone d i → ⊥
   apart i k outside cone =
       let lawful_part = (chain_lawful d.signals chain.resets chain.part body found.chained (edge_body d lawful p events body is)).1 in
       let within = outside_inside d.signals chain.part lawful_part i k outside in
@@ -339,13 +340,13 @@ module _ (d : Parts) (lawful : AreLawful (flat_of d)) (marked : AreMarked d) (no
   body_at : IsBodyOf d p body
   body_at = record { task = at.task; there = at.there; does = does_of at.task.does events body at.is }
 
-  pub formed : IsFormed (flat_of d) events body chain
+  pub formed : IsFormed d events body chain
   formed =
       record {
         chained = has_chained;
         one_reset = async_pair d none.r3 p at.task at.there chain task_chain;
-        alone = each_all (TestsAlone (flat_of d)) chain.resets (each_more IsReset (TestsAlone (flat_of d)) alone_of chain.resets resets);
-        constants = each_all (λ (guard : Guard). IsConstant (flat_of d) body guard.branch) chain.resets constants;
+        alone = each_all (TestsAlone d) chain.resets (each_more IsReset (TestsAlone d) alone_of chain.resets resets);
+        constants = each_all (λ (guard : Guard). IsConstant d body guard.branch) chain.resets constants;
         apart = apart;
         tame = tame_bodies d lawful marked no_doubt p body body_at;
         split = record {

@@ -14,15 +14,14 @@ use Rattle.rtl_flat.specs.Signs.{width_in}
 use Rattle.rtl_flat.proofs.Paths.{decided}
 use Rattle.event_model.specs.Queue.{doing_of}
 use Rattle.event_ending.specs.event_laws.Steady.{AreLawful}
-use Rattle.rtl_rule.specs.Parts.{Parts, widths}
+use Rattle.rtl_flat.specs.Flats.{Flat, widths}
 use Rattle.check_all.specs.check_assign.Assigned.{AreCombLoop}
-use Rattle.check_laws.specs.Designs.{flat_of}
 use Rattle.check_laws.proofs.Decisions.{Decided, both, by_test, either_of, neither, some_of, told, told_from, told_not, told_true}
 use Rattle.check_laws.proofs.Designs.{comb_loop, process_inside}
 use Rattle.check_laws.proofs.Sites.{signal_there}
 use Rattle.check_clean.proofs.Closure.{Joins, at_once, count, count_less, joined, joins_decided, joins_in}
 
-module _ (d : Parts) (lawful : AreLawful (flat_of d)) where
+module _ (d : Flat) (lawful : AreLawful d) where
   abbrev Arrow : ℕ → ℕ → Type 0
   Arrow = IsArrow d.signals d.tasks
 

@@ -6,7 +6,7 @@ use Rattle.std.proofs.lemmas.Bool.{or_from, or_parts, true≢false}
 use Rattle.net_model.specs.Control.{InCone}
 use Rattle.rtl_rule.specs.declared.finding.Finding.{Finding}
 use Rattle.rtl_rule.specs.Order.{comes_before, placed, ranked}
-use Rattle.rtl_rule.specs.Parts.{Parts}
+use Rattle.rtl_flat.specs.Flats.{Flat, Parts}
 use Rattle.rtl_rule.specs.Rows.{row_of}
 use Rattle.rtl_rule.specs.Sites.{AreFindings}
 use Rattle.check_all.specs.check_sense.Sense.{AreSenseFindings}
@@ -22,7 +22,6 @@ use Rattle.check_all.specs.check_xprop.Unknowns as unknowns
 use Rattle.rtl_rule.specs.declared.rule.Rule.{Rule}
 use Rattle.rtl_rule.specs.declared.rule.Rule.TheVariants as rule
 use Rattle.check_all.specs.Findings.{AreAllFindings, IsClean}
-use Rattle.check_laws.specs.Designs.{flat_of}
 use Rattle.check_clean.specs.Needed.{is_needed}
 use Rattle.check_clean.specs.Rules.{HasNoFinding}
 
@@ -57,13 +56,13 @@ module _ (test : Finding → Bool) where
 -- ---- all rules
 
 -- no finding about lists
-record IsSenseFree (d : Parts) : Type 0 where
+record IsSenseFree (d : Flat) : Type 0 where
   s1 : sense.AreSenseMissing d []
   s2 : sense.AreNeverWakes d []
   s3 : sense.AreMixedEdges d []
 
 -- none about assignments, drivers, clocks and resets
-record IsAssignFree (d : Parts) : Type 0 where
+record IsAssignFree (d : Flat) : Type 0 where
   a1 : assigned.AreBlockingState d []
   a2 : assigned.AreNonblockingComb d []
   a3 : assigned.AreMixedAssign d []
@@ -71,7 +70,7 @@ record IsAssignFree (d : Parts) : Type 0 where
   a5 : assigned.AreUndriven d []
   a6 : assigned.AreCombLoop d []
   a7 : clocks.AreDerivedClock d []
-  a8 : clocks.AreClockAsData (InCone (flat_of d)) d []
+  a8 : clocks.AreClockAsData (InCone d) d []
   l1 : assigned.AreLatchInferred d []
   z1 : assigned.AreTristate d []
   r1 : chains.AreResetShape d []
@@ -80,12 +79,12 @@ record IsAssignFree (d : Parts) : Type 0 where
   r4 : chains.AreResetValue d []
 
 -- none about cases
-record IsCaseFree (d : Parts) : Type 0 where
+record IsCaseFree (d : Flat) : Type 0 where
   c1 : cases.AreFullCase d []
   c2 : cases.AreParallelCase d []
 
 -- none about x and z
-record IsKnownFree (d : Parts) : Type 0 where
+record IsKnownFree (d : Flat) : Type 0 where
   x1 : unknowns.AreUnknownLiteral d []
   x2 : unknowns.AreSelectRange d []
   x3 : unknowns.AreDivideVariable d []
@@ -110,7 +109,10 @@ module _ (among : Rule → Bool) (needed : (one : Rule) → is_needed one ≡ tr
       by_list : (all : List Finding) → (list_any is_first all ≡ false → all ≡ []) → AreFindings P finding_at sites all → list_any is_first all ≡ false → AreFindings P finding_at sites []
       by_list all empty are' none = subst (AreFindings P finding_at sites) (empty none) are'
 
-  module _ (d : Parts) where
+  module _ (whole : Parts) where
+    abbrev d : Flat
+    d = whole.flat
+
     of_sense : (findings : List Finding) → AreSenseFindings d findings → list_any is_first findings ≡ false → IsSenseFree d
     of_sense findings are h =
         let all = unranked findings (are.missing ++ are.never ++ are.mixed) are.in_order h in
@@ -122,7 +124,7 @@ module _ (among : Rule → Bool) (needed : (one : Rule) → is_needed one ≡ tr
           s3 = none_of (sense.IsMixedEdges) (sense.mixed_edges_at) _ are.mixed (λ site. needed rule.MixedEdges refl) are.are_mixed h_mixed;
         }
 
-    of_assign : (findings : List Finding) → AreAssignFindings (InCone (flat_of d)) d findings → list_any is_first findings ≡ false → IsAssignFree d
+    of_assign : (findings : List Finding) → AreAssignFindings (InCone d) d findings → list_any is_first findings ≡ false → IsAssignFree d
     of_assign findings are h =
         let all = unranked findings (are.blocking ++ are.nonblocking ++ are.mixed ++ are.several ++ are.undriven ++ are.loop ++ are.derived ++ are.as_data ++ are.latch ++ are.tristate ++ are.shape ++ are.polarity ++ are.pair ++ are.reset) are.in_order h in
         let (front13, h_reset) = any_parts is_first (are.blocking ++ are.nonblocking ++ are.mixed ++ are.several ++ are.undriven ++ are.loop ++ are.derived ++ are.as_data ++ are.latch ++ are.tristate ++ are.shape ++ are.polarity ++ are.pair) are.reset all in
@@ -146,7 +148,7 @@ module _ (among : Rule → Bool) (needed : (one : Rule) → is_needed one ≡ tr
           a5 = none_of (assigned.IsUndriven d) (assigned.undriven_at) _ are.undriven (λ site. needed rule.Undriven refl) are.are_undriven h_undriven;
           a6 = none_of (assigned.IsCombLoop d) (assigned.comb_loop_at d) _ are.loop (λ site. needed rule.CombLoop refl) are.are_loop h_loop;
           a7 = none_of (clocks.IsDerivedClock d) (clocks.derived_clock_at) _ are.derived (λ site. needed rule.DerivedClock refl) are.are_derived h_derived;
-          a8 = none_of (clocks.IsClockAsData (InCone (flat_of d)) d) (clocks.clock_as_data_at d) _ are.as_data (λ site. needed rule.ClockAsData refl) are.are_data h_as_data;
+          a8 = none_of (clocks.IsClockAsData (InCone d) d) (clocks.clock_as_data_at d) _ are.as_data (λ site. needed rule.ClockAsData refl) are.are_data h_as_data;
           l1 = none_of (assigned.IsLatchInferred d) (assigned.latch_inferred_at) _ are.latch (λ site. needed rule.LatchInferred refl) are.are_latch h_latch;
           z1 = none_of (assigned.IsTristate) (assigned.tristate_at d) _ are.tristate (λ site. needed rule.Tristate refl) are.are_tristate h_tristate;
           r1 = none_of (chains.IsResetShape d) (chains.reset_shape_at d) _ are.shape (λ site. needed rule.ResetShape refl) are.are_shape h_shape;
@@ -165,7 +167,7 @@ module _ (among : Rule → Bool) (needed : (one : Rule) → is_needed one ≡ tr
           c2 = none_of (cases.IsParallelCase) (cases.parallel_case_at d) _ are.parallel (λ site. needed rule.ParallelCase refl) are.are_parallel h_parallel;
         }
 
-    of_unknown : (findings : List Finding) → AreUnknownFindings d findings → list_any is_first findings ≡ false → IsKnownFree d
+    of_unknown : (findings : List Finding) → AreUnknownFindings whole findings → list_any is_first findings ≡ false → IsKnownFree d
     of_unknown findings are h =
         let all = unranked findings (are.literal ++ are.range ++ are.divide ++ are.equality ++ are.delay ++ are.initial ++ are.region ++ are.optimism ++ are.wild) are.in_order h in
         let (front8, h_wild) = any_parts is_first (are.literal ++ are.range ++ are.divide ++ are.equality ++ are.delay ++ are.initial ++ are.region ++ are.optimism) are.wild all in
@@ -182,7 +184,7 @@ module _ (among : Rule → Bool) (needed : (one : Rule) → is_needed one ≡ tr
           x3 = none_of (unknowns.IsDivideVariable) (unknowns.at_node rule.DivideVariable d) _ are.divide (λ site. needed rule.DivideVariable refl) are.are_divide h_divide;
         }
 
-    pub none_needed : (findings : List Finding) → AreAllFindings d findings → list_any is_first findings ≡ false → HasNoFinding d
+    pub none_needed : (findings : List Finding) → AreAllFindings whole findings → list_any is_first findings ≡ false → HasNoFinding d
     none_needed findings are clean =
         let all = unranked findings (are.sense ++ are.assigned ++ are.cases ++ are.unknown) are.in_order clean in
         let (three, h_unknown) = any_parts is_first (are.sense ++ are.assigned ++ are.cases) are.unknown all in
@@ -250,6 +252,6 @@ first_needed rule.TranslateOff is = refl
 first_needed rule.XOptimism is = is
 first_needed rule.WildSelector is = is
 
-pub no_finding : (d : Parts) (findings : List Finding) → AreAllFindings d findings → IsClean findings → HasNoFinding d
+pub no_finding : (d : Parts) (findings : List Finding) → AreAllFindings d findings → IsClean findings → HasNoFinding d.flat
 no_finding d findings are clean =
     none_needed (λ one. (row_of one).first_grade) first_needed d findings are clean

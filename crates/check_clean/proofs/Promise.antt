@@ -1,8 +1,7 @@
 -- A design without findings of the first grade keeps its promise.
 use Rattle.sign_cycles.proofs.BringUp.{brings_up}
 use Rattle.sign_cycles.proofs.Steps.{agreement}
-use Rattle.rtl_rule.specs.Parts.{Parts}
-use Rattle.check_laws.specs.Designs.{flat_of}
+use Rattle.rtl_flat.specs.Flats.{Parts}
 use Rattle.check_clean.specs.Promise.{PromisedByRules}
 use Rattle.check_clean.proofs.Clean.{clean}
 use Rattle.check_clean.proofs.Runs.{ends}
@@ -13,7 +12,7 @@ promised d lawful marked findings are is =
     record {
       chains = design.chains;
       chained = design.chained;
-      agrees = λ choice chained fill. agreement (flat_of d) choice design.level (design.clean choice chained) fill;
+      agrees = λ choice chained fill. agreement d.flat choice design.level (design.clean choice chained) fill;
       ends = ends d lawful findings are is;
-      brought_up = λ choice chained resets fill. brings_up (flat_of d) choice design.level (design.clean choice chained) design.wakes resets fill;
+      brought_up = λ choice chained resets fill. brings_up d.flat choice design.level (design.clean choice chained) design.wakes resets fill;
     }

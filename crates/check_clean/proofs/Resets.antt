@@ -15,9 +15,9 @@ use Rattle.rtl_flat.proofs.Paths.{decided}
 use Rattle.event_ending.proofs.event_laws_proofs.Within.{may_read_outside}
 use Rattle.net_model.specs.Solution.{IsLasting}
 use Rattle.sign_cycles.specs.Formed.{IsConstant}
-use Rattle.rtl_rule.specs.Parts.{Parts, all_in, all_of, indices, is_named, is_some_name, named, nodes, reads_signal, widths}
+use Rattle.rtl_rule.specs.Parts.{all_in, all_of, indices, is_named, is_some_name, named, nodes, reads_signal}
+use Rattle.rtl_flat.specs.Flats.{Flat, widths}
 use Rattle.check_laws.specs.check_chains.Chains.{IsRegisterOf, IsResetBranch, is_constant, resets_to}
-use Rattle.check_laws.specs.Designs.{flat_of}
 use Rattle.check_laws.specs.Expressions.{IsMarked}
 use Rattle.check_laws.proofs.Sites.{Each, each_both, each_left, each_right}
 use Rattle.check_clean.proofs.Cone.{OfStatement, quiet_statements}
@@ -129,7 +129,7 @@ module _ (ws : ℕ → ℕ) (i k : ℕ) where
 
 -- ---- constants
 
-module _ (d : Parts) (does : Doing) (body branch : Actions) (marked : Each (OfStatement IsMarked) (all_of branch)) (within : (i k : ℕ) → MayWrite (body_flow (widths d) body) i k → k < widths d i) (some_bit : (i k : ℕ) → k < widths d i → MayWrite (body_flow (widths d) body) i k → IsLasting (flat_of d) i → IsRegisterOf d does i) where
+module _ (d : Flat) (does : Doing) (body branch : Actions) (marked : Each (OfStatement IsMarked) (all_of branch)) (within : (i k : ℕ) → MayWrite (body_flow (widths d) body) i k → k < widths d i) (some_bit : (i k : ℕ) → k < widths d i → MayWrite (body_flow (widths d) body) i k → IsLasting d i → IsRegisterOf d does i) where
   settings : IsResetBranch d does (all_of branch) → Each IsSetting (all_of branch)
   settings is = each_by_place IsSetting (all_of branch) (λ n one e. let found = is.each n one e in (found.0, found.2))
 
@@ -144,14 +144,14 @@ module _ (d : Parts) (does : Doing) (body branch : Actions) (marked : Each (OfSt
       let flow = body_flow (widths d) branch in
       true≢false (sym ((decided flow i k).now.1 writes) ∙ none_of (widths d) (may_write_now i k) (λ bits. refl) (λ may sure. refl) branch (settings is))
 
-  always : IsResetBranch d does (all_of branch) → (i k : ℕ) → MayWrite (body_flow (widths d) body) i k → IsLasting (flat_of d) i → every (writes_bit i k) (body_flow (widths d) branch) ≡ true
+  always : IsResetBranch d does (all_of branch) → (i k : ℕ) → MayWrite (body_flow (widths d) body) i k → IsLasting d i → every (writes_bit i k) (body_flow (widths d) branch) ≡ true
   always is i k may lasts =
       let inside = within i k may in
       let found = is.all i (some_bit i k inside may lasts) in
       sure_of (widths d) i k inside branch (settings is) (any_by_place (resets_to i) (all_of branch) found.0 found.1)
 
   -- where it isn't refuted that a branch is so
-  pub constant : ((IsResetBranch d does (all_of branch) → ⊥) → ⊥) → IsConstant (flat_of d) body branch
+  pub constant : ((IsResetBranch d does (all_of branch) → ⊥) → ⊥) → IsConstant d body branch
   constant none =
       record {
         reads_nothing = λ i k outside. none (λ is. no_reads is i k outside);

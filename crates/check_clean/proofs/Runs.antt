@@ -7,10 +7,9 @@ use Rattle.event_ending.specs.event_settling.Conditions.{AllSelectIn}
 use Rattle.event_ending.proofs.event_settling_proofs.Conditions.{rules_settle}
 use Rattle.event_ending.proofs.Ends as every
 use Rattle.net_model.specs.Control.{InCone}
-use Rattle.rtl_rule.specs.Parts.{Parts, widths}
+use Rattle.rtl_flat.specs.Flats.{Parts, widths}
 use Rattle.check_all.specs.check_xprop.Unknowns.{AreSelectRange}
 use Rattle.check_laws.specs.Cases.{Does, IsBodyOf}
-use Rattle.check_laws.specs.Designs.{flat_of}
 use Rattle.check_laws.proofs.Clocks.{derived_clock}
 use Rattle.check_laws.proofs.Designs.{comb_loop, mixed_edges, nonblocking_comb, several_drivers}
 use Rattle.check_laws.proofs.Sites.{task_of}
@@ -27,25 +26,25 @@ settles d lawful findings are is level levels =
     let none = no_finding d findings are is in
     record {
       levels = levels;
-      no_cycle = comb_loop d none.a6;
-      temporaries = blocking_state d lawful none.a1;
-      no_late = nonblocking_comb d lawful none.a2;
+      no_cycle = comb_loop d.flat none.a6;
+      temporaries = blocking_state d.flat lawful none.a1;
+      no_late = nonblocking_comb d.flat lawful none.a2;
       select = select none.x2;
-      alone = several_drivers d lawful none.a4;
-      edges = mixed_edges d none.s3;
-      clocks = derived_clock d (sources_decided d) none.a7;
+      alone = several_drivers d.flat lawful none.a4;
+      edges = mixed_edges d.flat none.s3;
+      clocks = derived_clock d.flat (sources_decided d.flat) none.a7;
     }
   where
-    select : AreSelectRange d [] → (p : ℕ) (list : Option (List Watched)) (body : Actions) → doing_at (flat_of d) p ≡ Some (Comb list body) → AllSelectIn (widths d) body
+    select : AreSelectRange d.flat [] → (p : ℕ) (list : Option (List Watched)) (body : Actions) → doing_at d.flat p ≡ Some (Comb list body) → AllSelectIn (widths d.flat) body
     select none p list body is' =
-        let at = task_of (flat_of d) p (Comb list body) is' in
-        let of_body : IsBodyOf d p body = record { task = at.task; there = at.there; does = subst (λ x. Does x body) (sym at.is) refl } in
-        select_targets d lawful none p body of_body
+        let at = task_of d.flat p (Comb list body) is' in
+        let of_body : IsBodyOf d.flat p body = record { task = at.task; there = at.there; does = subst (λ x. Does x body) (sym at.is) refl } in
+        select_targets d.flat lawful none p body of_body
 
 pub ends : (d : Parts) → EndsByRules d
 ends d lawful findings are is s step reached fits =
     let loops = (no_finding d findings are is).a6 in
-    let level = levels d lawful loops in
-    let kept = settles d lawful findings are is level (are_levels d lawful loops) in
-    every.ends (flat_of d) lawful level (InCone (flat_of d)) (rules_settle (flat_of d) lawful level kept) (offer s step)
-    (every.steps_start (flat_of d) lawful s step reached fits)
+    let level = levels d.flat lawful loops in
+    let kept = settles d lawful findings are is level (are_levels d.flat lawful loops) in
+    every.ends d.flat lawful level (InCone d.flat) (rules_settle d.flat lawful level kept) (offer s step)
+    (every.steps_start d.flat lawful s step reached fits)

@@ -12,14 +12,14 @@ use Rattle.rtl_flat.specs.Expression as tree
 use Rattle.rtl_flat.specs.Process.{Selection, Piece, Doing, Assign, Comb, Edge', Task}
 use Rattle.rtl_flat.specs.Process as part
 use Rattle.rtl_flat.specs.Signs.{Has}
-use Rattle.rtl_rule.specs.Parts.{Parts, widths}
+use Rattle.rtl_flat.specs.Flats.{Flat, widths}
 use Rattle.check_laws.specs.check_clocks.Clocks.{ComesFrom, GoesTo, IsPlainConnection, Itself, Through}
 use Rattle.check_laws.specs.Clocks.{AreSourcesDecided}
 use Rattle.check_laws.proofs.Decisions.{Decided, both, either_of, neither, some_of, there_decided}
 use Rattle.check_laws.proofs.Sites.{signal_there}
 use Rattle.check_clean.proofs.Closure.{Joins, at_once, joined, joins_decided, joins_in}
 
-module _ (d : Parts) where
+module _ (d : Flat) where
   -- ---- one connection
 
   record IsStep (i j : ℕ) : Type 0 where

@@ -5,22 +5,21 @@ use Rattle.net_model.specs.Cycle.{AreChains, Chain}
 use Rattle.sign_cycles.specs.Formed.{IsCleanClocked}
 use Rattle.sign_cycles.specs.sign_rounds.BringUp.{CanAllWake}
 use Rattle.rtl_rule.specs.declared.finding.Finding.{Finding}
-use Rattle.rtl_rule.specs.Parts.{Parts}
+use Rattle.rtl_flat.specs.Flats.{Flat, Parts}
 use Rattle.check_all.specs.Findings.{AreAllFindings, IsClean}
-use Rattle.check_laws.specs.Designs.{flat_of}
 use Rattle.check_laws.specs.Expressions.{AreMarked}
 
 -- its blocks that wait for edges are registers with a clock and resets, which is so whichever of their tests are taken for
 -- those of resets; all else computes on levels, and each block can be woken
-pub record IsCleanDesign (d : Parts) : Type 0 where
+pub record IsCleanDesign (d : Flat) : Type 0 where
   pub chains : ℕ → Chain
-  pub chained : AreChains (flat_of d) chains
+  pub chained : AreChains d chains
   pub level : ℕ → ℕ
-  pub clean : (choice : ℕ → Chain) → AreChains (flat_of d) choice → IsCleanClocked (flat_of d) choice level
-  pub wakes : CanAllWake (flat_of d)
+  pub clean : (choice : ℕ → Chain) → AreChains d choice → IsCleanClocked d choice level
+  pub wakes : CanAllWake d
 
 -- where all findings of a lawful design are known, and none of them is of the first grade, it is so
 abbrev pub CleanByRules : Parts → Type 0
 CleanByRules d =
-    AreLawful (flat_of d) → AreMarked d →
-    (findings : List Finding) → AreAllFindings d findings → IsClean findings → IsCleanDesign d
+    AreLawful d.flat → AreMarked d.flat →
+    (findings : List Finding) → AreAllFindings d findings → IsClean findings → IsCleanDesign d.flat

@@ -2,7 +2,8 @@
 -- of which agreement speaks.
 use Rattle.std.specs.Prelude.{ℕ, List, map}
 use Rattle.std.specs.List.{All}
-use Rattle.event_model.specs.Queue.{Flat, State, power_up}
+use Rattle.event_model.specs.Queue.{State, power_up}
+use Rattle.rtl_flat.specs.Flats.{Flat, Parts}
 use Rattle.event_model.specs.Writes.{Values}
 use Rattle.event_ending.specs.event_laws.Steady.{AreLawful}
 use Rattle.event_ending.specs.Ending.{IsReached, RunsEnd}
@@ -12,23 +13,21 @@ use Rattle.net_model.specs.Lawful.{AreLawfulSteps, IsSetting}
 use Rattle.sign_cycles.specs.Agree.{AreFollowed, AreRuns, IsSettledKnown}
 use Rattle.sign_cycles.specs.BringUp.{HaveResets, IsBringUp, last}
 use Rattle.rtl_rule.specs.declared.finding.Finding.{Finding}
-use Rattle.rtl_rule.specs.Parts.{Parts}
 use Rattle.check_all.specs.Findings.{AreAllFindings, IsClean}
-use Rattle.check_laws.specs.Designs.{flat_of}
 use Rattle.check_laws.specs.Expressions.{AreMarked}
 
 -- where none of all findings of a lawful design is of the first grade, every run of every step comes to rest, from power-up,
 -- from settled states, and from where the run of an earlier step came to rest
 abbrev pub EndsByRules : Parts → Type 0
 EndsByRules d =
-    AreLawful (flat_of d) →
-    (findings : List Finding) → AreAllFindings d findings → IsClean findings → RunsEnd (flat_of d)
+    AreLawful d.flat →
+    (findings : List Finding) → AreAllFindings d findings → IsClean findings → RunsEnd d.flat
 
 -- the states of which agreement speaks are among those that steps start from
-abbrev pub SettledAreReached : Parts → Type 0
+abbrev pub SettledAreReached : Flat → Type 0
 SettledAreReached d =
-    (chains : ℕ → Chain) (fill : Fill) (s : State) (n : Values) → IsSettledKnown (flat_of d) chains fill s n →
-    IsReached (flat_of d) s
+    (chains : ℕ → Chain) (fill : Fill) (s : State) (n : Values) → IsSettledKnown d chains fill s n →
+    IsReached d s
 
 -- ---- states follow
 
@@ -40,8 +39,8 @@ HasRuns d =
 
 abbrev pub HasRunsByRules : Parts → Type 0
 HasRunsByRules d =
-    AreLawful (flat_of d) →
-    (findings : List Finding) → AreAllFindings d findings → IsClean findings → HasRuns (flat_of d)
+    AreLawful d.flat →
+    (findings : List Finding) → AreAllFindings d findings → IsClean findings → HasRuns d.flat
 
 -- states to which steps lead, that show the numbers which follow
 pub record IsShown (d : Flat) (chains : ℕ → Chain) (f : Fill) (s : State) (n : Values) (steps : List Step) : Type 0 where
@@ -67,6 +66,6 @@ pub record IsFulfilled (d : Flat) (chains : ℕ → Chain) (f : Fill) : Type 0 w
 
 abbrev pub FulfilledByRules : Parts → Type 0
 FulfilledByRules d =
-    AreLawful (flat_of d) → AreMarked d →
+    AreLawful d.flat → AreMarked d.flat →
     (findings : List Finding) → AreAllFindings d findings → IsClean findings →
-    (chains : ℕ → Chain) → AreChains (flat_of d) chains → (fill : Fill) → IsFulfilled (flat_of d) chains fill
+    (chains : ℕ → Chain) → AreChains d.flat chains → (fill : Fill) → IsFulfilled d.flat chains fill

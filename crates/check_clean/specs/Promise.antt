@@ -2,7 +2,7 @@
 -- Worked examples: crates/tests_rows/stdin.
 use Rattle.std.specs.Prelude.{◌<◌, ℕ, List, length, Option}
 use Rattle.rtl_flat.specs.Levels.{IsLevel}
-use Rattle.event_model.specs.Queue.{Flat}
+use Rattle.rtl_flat.specs.Flats.{Flat, Parts}
 use Rattle.event_ending.specs.event_laws.Steady.{AreLawful}
 use Rattle.event_ending.specs.event_settling.Conditions.{AreRulesKept}
 use Rattle.event_ending.specs.Ending.{RunsEnd}
@@ -11,9 +11,7 @@ use Rattle.net_model.specs.Cycle.{AreChains, Chain}
 use Rattle.sign_cycles.specs.Agree.{Agree}
 use Rattle.sign_cycles.specs.BringUp.{BringsUp, HaveResets}
 use Rattle.rtl_rule.specs.declared.finding.Finding.{Finding}
-use Rattle.rtl_rule.specs.Parts.{Parts}
 use Rattle.check_all.specs.Findings.{AreAllFindings, IsClean}
-use Rattle.check_laws.specs.Designs.{flat_of}
 use Rattle.check_laws.specs.Expressions.{AreMarked}
 
 -- blocks that wait for edges have clocks and resets. Whichever are taken for them, simulation agrees with synthesis in every
@@ -29,13 +27,13 @@ pub record IsPromised (d : Flat) : Type 0 where
 -- so it is where none of all findings of a lawful design is of the first grade
 abbrev pub PromisedByRules : Parts → Type 0
 PromisedByRules d =
-    AreLawful (flat_of d) → AreMarked d →
-    (findings : List Finding) → AreAllFindings d findings → IsClean findings → IsPromised (flat_of d)
+    AreLawful d.flat → AreMarked d.flat →
+    (findings : List Finding) → AreAllFindings d findings → IsClean findings → IsPromised d.flat
 
 -- and it settles by the levels of its processes
 abbrev pub SettlesByRules : Parts → Type 0
 SettlesByRules d =
-    AreLawful (flat_of d) →
+    AreLawful d.flat →
     (findings : List Finding) → AreAllFindings d findings → IsClean findings →
-    (level : ℕ → Option ℕ) → ((p : ℕ) → p < length d.tasks → IsLevel d.signals d.tasks p (level p)) →
-    AreRulesKept (flat_of d) level
+    (level : ℕ → Option ℕ) → ((p : ℕ) → p < length d.flat.tasks → IsLevel d.flat.signals d.flat.tasks p (level p)) →
+    AreRulesKept d.flat level

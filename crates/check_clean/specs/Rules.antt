@@ -2,17 +2,16 @@
 -- Designs in which no rule of the first grade that the theorem stands on has a finding.
 use Rattle.std.specs.Prelude.{[]}
 use Rattle.net_model.specs.Control.{InCone}
-use Rattle.rtl_rule.specs.Parts.{Parts}
+use Rattle.rtl_flat.specs.Flats.{Flat}
 use Rattle.check_all.specs.check_sense.Sense.{AreMixedEdges, AreNeverWakes, AreSenseMissing}
 use Rattle.check_all.specs.check_assign.Assigned.{AreBlockingState, AreCombLoop, AreLatchInferred, AreMixedAssign, AreNonblockingComb, AreSeveralDrivers, AreTristate, AreUndriven}
 use Rattle.check_laws.specs.check_chains.Chains.{AreAsyncPair, AreResetPolarity, AreResetShape, AreResetValue}
 use Rattle.check_laws.specs.check_clocks.Clocks.{AreClockAsData, AreDerivedClock}
 use Rattle.check_all.specs.check_case.Cases.{AreFullCase, AreParallelCase}
 use Rattle.check_all.specs.check_xprop.Unknowns.{AreDivideVariable, AreSelectRange, AreUnknownLiteral}
-use Rattle.check_laws.specs.Designs.{flat_of}
 
 -- no finding of each of them
-pub record HasNoFinding (d : Parts) : Type 0 where
+pub record HasNoFinding (d : Flat) : Type 0 where
   pub s1 : AreSenseMissing d []
   pub s2 : AreNeverWakes d []
   pub s3 : AreMixedEdges d []
@@ -23,7 +22,7 @@ pub record HasNoFinding (d : Parts) : Type 0 where
   pub a5 : AreUndriven d []
   pub a6 : AreCombLoop d []
   pub a7 : AreDerivedClock d []
-  pub a8 : AreClockAsData (InCone (flat_of d)) d []
+  pub a8 : AreClockAsData (InCone d) d []
   pub l1 : AreLatchInferred d []
   pub z1 : AreTristate d []
   pub r1 : AreResetShape d []

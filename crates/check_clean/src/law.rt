@@ -1,6 +1,6 @@
 //! What a design without findings of the first grade is.
 
-ghost use Rattle.rtl_rule.specs.Parts.{Parts};
+ghost use Rattle.rtl_flat.specs.Flats.{Flat, Parts};
 ghost use Rattle.check_clean.specs.Clean.{CleanByRules};
 ghost use Rattle.check_clean.specs.Ending.{EndsByRules, FulfilledByRules, HasRunsByRules, SettledAreReached};
 ghost use Rattle.check_clean.specs.Promise.{PromisedByRules, SettlesByRules};
@@ -28,7 +28,7 @@ pub fn ends()
 
 /// States that are settled are among those that steps start from.
 pub fn settled_reached()
-    ensures { (d : Parts) → SettledAreReached d }
+    ensures { (d : Flat) → SettledAreReached d }
 {}
 
 /// So states follow from every list of steps.

@@ -6,7 +6,8 @@ use Rattle.std.proofs.lemmas.Bool.{both_ways, cases_Bool}
 use Rattle.rtl_tree.specs.declared.text.Spot.{Spot}
 use Rattle.rtl_flat.specs.Process.{Task}
 use Rattle.rtl_rule.specs.declared.finding.Finding.{Finding}
-use Rattle.rtl_rule.specs.Parts.{At, Parts, within}
+use Rattle.rtl_rule.specs.Parts.{At, within}
+use Rattle.rtl_flat.specs.Flats.{Flat}
 use Rattle.check_chains.specs.check_found.Gathered.{Gets, signal_numbers, task_sites}
 use Rattle.check_clocks.specs.Clocks.{IsClockAsData, clock_as_data_at, data_places, is_some_place}
 use Rattle.check_clocks.specs.Firsts.{Shows, is_among, joined, least_of, shown}
@@ -36,7 +37,7 @@ marked_below (b ∷ marks) (suc s) h =
 
 -- ---- one process
 
-module _ (InCone : ℕ → Type 0) (d : Parts) (marks : List Bool) (are : (s : ℕ) → slice_get marks s ≡ Some true ↔ InCone s) where
+module _ (InCone : ℕ → Type 0) (d : Flat) (marks : List Bool) (are : (s : ℕ) → slice_get marks s ≡ Some true ↔ InCone s) where
   inside : length marks ≡ length d.signals → (site : At ℕ) → IsClockAsData InCone d site → site.it < length d.signals
   inside size site breaks =
       let below = marked_below marks site.it ((are site.it).1 breaks.in_cone) in

@@ -18,12 +18,12 @@ use Rattle.rtl_flat.specs.Process.{Watched, Doing, Assign, Comb, Edge', Task, do
 use Rattle.rtl_flat.specs.WellFormed.{has_edge}
 use Rattle.event_model.specs.Queue.{doing_at, doing_of, is_input_kind, is_input_of}
 use Rattle.net_model.specs.Control.{InCone, IsControl, IsEdgeSignal, IsPassedOn, IsReached, Itself, Through, waits_for}
-use Rattle.rtl_rule.specs.Parts.{Parts, parts}
+use Rattle.rtl_flat.specs.Flats.{Flat, flat}
 use Rattle.check_chains.proofs.check_found_proofs.Sites.{task_count}
 use Rattle.check_chains.specs.rtl_scan.Arrows.{Among}
 use Rattle.check_chains.specs.rtl_scan.Graph.{row}
 use Rattle.check_clocks.specs.declared.reach.Link.{Link}
-use Rattle.check_clocks.specs.Cone.{AreConed, AreEdgeMarks, ArePassing, GetsPassing, IsConed, IsSpread, ReachesMarked, flat_of, waited, waited_by}
+use Rattle.check_clocks.specs.Cone.{AreConed, AreEdgeMarks, ArePassing, GetsPassing, IsConed, IsSpread, ReachesMarked, waited, waited_by}
 use Rattle.check_clocks.specs.Links.{AreRows}
 use Rattle.check_clocks.specs.Passed.{IsPassing, IsPassingLink}
 use Rattle.check_clocks.specs.Reach.{HasLink, Here, Onward, Reaches}
@@ -34,7 +34,7 @@ use Rattle.check_clocks.proofs.Topped.{marked_more}
 
 -- ---- links
 
-pub gets_none : (d : Parts) (task : Task) (link : Option Link) (links : List Link) → IsPassingLink d task link → link ≡ None → GetsPassing d task links links
+pub gets_none : (d : Flat) (task : Task) (link : Option Link) (links : List Link) → IsPassingLink d task link → link ≡ None → GetsPassing d task links links
 gets_none d task link links is none =
     record { each = λ i j. (λ h. inl h, from i j) }
   where
@@ -42,7 +42,7 @@ gets_none d task link links is none =
     from i j (inl h) = h
     from i j (inr h) = absurd (none-some _ (sym none ∙ (is.each i j).1 h))
 
-pub gets_one : (d : Parts) (task : Task) (link : Option Link) (one : Link) (links new : List Link) → IsPassingLink d task link → link ≡ Some one → new ≡ links ++ one ∷ [] → GetsPassing d task links new
+pub gets_one : (d : Flat) (task : Task) (link : Option Link) (one : Link) (links new : List Link) → IsPassingLink d task link → link ≡ Some one → new ≡ links ++ one ∷ [] → GetsPassing d task links new
 gets_one d task link one links new is some more =
     record { each = λ i j. (λ h. to i j (links_cases links (one ∷ []) i j (subst (λ l. HasLink l i j) more h)), λ h. subst (λ l. HasLink l i j) (sym more) (from i j h)) }
   where
@@ -57,11 +57,11 @@ gets_one d task link one links new is some more =
         let same : one ≡ record { source = i; target = j } = same_Some _ _ (sym some ∙ (is.each i j).1 h) in
         links_right links (one ∷ []) i j (inl (sym (ap (λ (l : Link). l.source) same), sym (ap (λ (l : Link). l.target) same)))
 
-pub passing_none : (d : Parts) → ArePassing d 0 []
+pub passing_none : (d : Flat) → ArePassing d 0 []
 passing_none d =
     record { each = λ i j. (λ h. absurd h, λ h. absurd (omega (arith, h.1))) }
 
-pub passing_next : (d : Parts) (n : ℕ) (task : Task) (old new : List Link) → slice_get d.tasks n ≡ Some task → ArePassing d n old → GetsPassing d task old new → ArePassing d (n + 1) new
+pub passing_next : (d : Flat) (n : ℕ) (task : Task) (old new : List Link) → slice_get d.tasks n ≡ Some task → ArePassing d n old → GetsPassing d task old new → ArePassing d (n + 1) new
 passing_next d n task old new there are gets =
     record { each = λ i j. (λ h. to i j ((gets.each i j).0 h), λ h. (gets.each i j).1 (from i j h)) }
   where
@@ -87,8 +87,8 @@ there_below [] p x h = absurd (none-some _ h)
 there_below (y ∷ xs) zero x h = omega arith
 there_below (y ∷ xs) (suc p) x h = let below = there_below xs p x h in omega (arith, below)
 
-module _ (d : Parts) (links : List Link) (rows : List (Vec ℕ Global)) (are : AreRows (length d.signals) links rows) (all : ArePassing d (length d.tasks) links) where
-  passed_from : (i j : ℕ) → Among (row rows i) j → IsPassedOn (flat_of d) i j
+module _ (d : Flat) (links : List Link) (rows : List (Vec ℕ Global)) (are : AreRows (length d.signals) links rows) (all : ArePassing d (length d.tasks) links) where
+  passed_from : (i j : ℕ) → Among (row rows i) j → IsPassedOn d i j
   passed_from i j among =
       let (p, below, is) = (all.each i j).0 ((are.each i j).0 among).1 in
       let (task, there, it) = some_there d.tasks p (λ task. IsPassing d task i j) is in
@@ -101,7 +101,7 @@ module _ (d : Parts) (links : List Link) (rows : List (Vec ℕ Global)) (are : A
         port_bit = it.port_bit;
       }
 
-  passed_to : (i j : ℕ) → IsPassedOn (flat_of d) i j → Among (row rows i) j
+  passed_to : (i j : ℕ) → IsPassedOn d i j → Among (row rows i) j
   passed_to i j is =
       let of_task : IsPassing d is.connection.task i j =
       record { spot = is.connection.spot; value = is.value; does = is.connection.does; alone = is.alone; one_bit = is.one_bit; port_bit = is.port_bit; outside = is.connection.outside } in
@@ -110,11 +110,11 @@ module _ (d : Parts) (links : List Link) (rows : List (Vec ℕ Global)) (are : A
         (all.each i j).1 (is.process, there_below d.tasks is.process is.connection.task is.connection.there, subst (λ o. IsSomeAnd o (λ task. IsPassing d task i j)) (sym is.connection.there) of_task),
       )
 
-  pub reached_from : (c k : ℕ) → Reaches rows c k → IsReached (flat_of d) c k
+  pub reached_from : (c k : ℕ) → Reaches rows c k → IsReached d c k
   reached_from c k Here = Itself
   reached_from c k (Onward i j from among below) = Through i j (reached_from c i from) (passed_from i j among)
 
-  pub reached_to : (c k : ℕ) → IsReached (flat_of d) c k → Reaches rows c k
+  pub reached_to : (c k : ℕ) → IsReached d c k → Reaches rows c k
   reached_to c k Itself = Here
   reached_to c k (Through i j from is) =
       let size = are.size in
@@ -157,7 +157,7 @@ among_waits (item ∷ events) s h = elim (or_cases (waits_for s item) (list_any 
 ]
 
 -- the signals that some processes wait for edges of
-module _ (d : Parts) where
+module _ (d : Flat) where
   edge_of : (tasks : List Task) (s : ℕ) → Among (flat_map (λ (task : Task). waited task.does) tasks) s → (p : ℕ) × (task : Task) × (slice_get tasks p ≡ Some task) × Among (waited task.does) s
   edge_of [] s h = absurd h
   edge_of (task ∷ tasks) s h = elim (among_cases (waited task.does) (flat_map (λ (one : Task). waited one.does) tasks) s h) [
@@ -173,17 +173,17 @@ module _ (d : Parts) where
   edge_in (one ∷ tasks) s (suc p) task there is =
       among_right (waited one.does) (flat_map (λ (one : Task). waited one.does) tasks) s (edge_in tasks s p task there is)
 
-  waits_in : (does : Doing) (s p : ℕ) → doing_at (flat_of d) p ≡ Some does → Among (waited does) s → IsEdgeSignal (flat_of d) s
+  waits_in : (does : Doing) (s p : ℕ) → doing_at d p ≡ Some does → Among (waited does) s → IsEdgeSignal d s
   waits_in (Assign target value) s p is h = absurd h
   waits_in (Comb list body) s p is h = absurd h
   waits_in (Edge' events body) s p is h =
       record { process = p; events = events; body = body; does = is; waits = waits_among events s h }
 
-  pub edge_signal : (s : ℕ) → Among (flat_map (λ (task : Task). waited task.does) d.tasks) s → IsEdgeSignal (flat_of d) s
+  pub edge_signal : (s : ℕ) → Among (flat_map (λ (task : Task). waited task.does) d.tasks) s → IsEdgeSignal d s
   edge_signal s h =
       let (p, task, there, is) = edge_of d.tasks s h in waits_in task.does s p (ap doing_of there) is
 
-  pub signal_edge : (s : ℕ) → IsEdgeSignal (flat_of d) s → Among (flat_map (λ (task : Task). waited task.does) d.tasks) s
+  pub signal_edge : (s : ℕ) → IsEdgeSignal d s → Among (flat_map (λ (task : Task). waited task.does) d.tasks) s
   signal_edge s is =
       let (task, there, same) = by_task (slice_get d.tasks is.process) refl is.does in
       edge_in d.tasks s is.process task there (subst (λ does. Among (waited does) s) (sym same) (among_waits is.events s is.waits))
@@ -251,16 +251,16 @@ input_of (Some signal) = by_kind signal.kind
     by_kind Net = refl
     by_kind Var = refl
 
-module _ (d : Parts) where
+module _ (d : Flat) where
   pub edge_marks : (old marks : List Bool) → old ≡ replicate (length d.signals) false → length old ≡ length d.signals → AreMarkedAlso (flat_map (λ (task : Task). waited task.does) d.tasks) old marks → AreEdgeMarks d marks
   edge_marks old marks none size marked =
       record { size = marked.size ∙ size; each = λ s. (λ h. to s ((marked.each s).0 h), from s) }
     where
-      to : (s : ℕ) → (get_or old s false ≡ true) ⊎ ((s < length old) × Among (flat_map (λ (task : Task). waited task.does) d.tasks) s) → (s < length d.signals) × IsEdgeSignal (flat_of d) s
+      to : (s : ℕ) → (get_or old s false ≡ true) ⊎ ((s < length old) × Among (flat_map (λ (task : Task). waited task.does) d.tasks) s) → (s < length d.signals) × IsEdgeSignal d s
       to s (inl h) = absurd (both_ways (get_or old s false) (ap (λ l. get_or l s false) none ∙ none_marked (length d.signals) s) h)
       to s (inr h) = (subst (λ n. s < n) size h.0, edge_signal d s h.1)
 
-      from : (s : ℕ) → (s < length d.signals) × IsEdgeSignal (flat_of d) s → get_or marks s false ≡ true
+      from : (s : ℕ) → (s < length d.signals) × IsEdgeSignal d s → get_or marks s false ≡ true
       from s h = (marked.each s).1 (inr (subst (λ n. s < n) (sym size) h.0, signal_edge d s h.1))
 
   pub coned_none : (marks : List Bool) → marks ≡ replicate (length d.signals) false → length marks ≡ length d.signals → AreConed d 0 marks
@@ -277,7 +277,7 @@ module _ (d : Parts) where
       let under = is.below in
       record { control = is.control; below = omega (arith, under); is_control = is.is_control; reached = is.reached }
 
-  reached_below : (c s : ℕ) → c < length d.signals → IsReached (flat_of d) c s → s < length d.signals
+  reached_below : (c s : ℕ) → c < length d.signals → IsReached d c s → s < length d.signals
   reached_below c s inside Itself = inside
   reached_below c s inside (Through i j from is) = bit_inside d.signals j is.port_bit
 
@@ -296,7 +296,7 @@ module _ (d : Parts) where
     coned_next n old new before top spread =
         record { size = spread.size ∙ before.size; each = λ s. (λ h. to s ((spread.each s).0 h), λ h. (spread.each s).1 (from s h)) }
       where
-        control : ReachesMarked rows edges n → IsControl (flat_of d) n
+        control : ReachesMarked rows edges n → IsControl d n
         control it =
             record {
               input = sym (input_of (slice_get d.signals n)) ∙ top;
@@ -312,12 +312,12 @@ module _ (d : Parts) where
           record { control = n; below = omega arith; is_control = control h.2; reached = reached_from d links rows are all n s h.1 },
         )
 
-        reaches : (c : ℕ) → c ≡ n → IsControl (flat_of d) c → ReachesMarked rows edges n
+        reaches : (c : ℕ) → c ≡ n → IsControl d c → ReachesMarked rows edges n
         reaches c same is =
             let inside = input_below d.signals c is.input in
             record {
               signal = is.signal;
-              reached = reached_to d links rows are all n is.signal (subst (λ m. IsReached (flat_of d) m is.signal) same is.reached);
+              reached = reached_to d links rows are all n is.signal (subst (λ m. IsReached d m is.signal) same is.reached);
               marked = (marked.each is.signal).1 (reached_below c is.signal inside is.reached, is.edges);
             }
 
@@ -325,7 +325,7 @@ module _ (d : Parts) where
         from s h = elim (cases_eq h.1.control n) [
           | inl same ↦ inr (
             subst (λ m. s < m) (sym before.size) h.0,
-            reached_to d links rows are all n s (subst (λ m. IsReached (flat_of d) m s) same h.1.reached),
+            reached_to d links rows are all n s (subst (λ m. IsReached d m s) same h.1.reached),
             reaches h.1.control same h.1.is_control,
           )
           | inr apart ↦ inl ((before.each s).1 (h.0, (let under = h.1.below in record { control = h.1.control; below = omega (arith, under, apart); is_control = h.1.is_control; reached = h.1.reached })))
@@ -341,15 +341,15 @@ module _ (d : Parts) where
   marked_there (mark ∷ marks) zero h = ap Some h
   marked_there (mark ∷ marks) (suc s) h = marked_there marks s h
 
-  pub cone_each : (marks : List Bool) → AreConed d (length d.signals) marks → (s : ℕ) → slice_get marks s ≡ Some true ↔ InCone (flat_of d) s
+  pub cone_each : (marks : List Bool) → AreConed d (length d.signals) marks → (s : ℕ) → slice_get marks s ≡ Some true ↔ InCone d s
   cone_each marks are s = (to, from)
     where
-      to : slice_get marks s ≡ Some true → InCone (flat_of d) s
+      to : slice_get marks s ≡ Some true → InCone d s
       to h =
           let is = ((are.each s).0 (got marks s h)).1 in
           record { control = is.control; is_control = is.is_control; reached = is.reached }
 
-      from : InCone (flat_of d) s → slice_get marks s ≡ Some true
+      from : InCone d s → slice_get marks s ≡ Some true
       from is =
           let inside = input_below d.signals is.control is.is_control.input in
           marked_there marks s ((are.each s).1 (
@@ -359,8 +359,8 @@ module _ (d : Parts) where
 
 -- ---- what loops keep
 
-pub task_there : (design : Design) (n : ℕ) → n < length design.processes.items → (task : Task) × (slice_get (parts design).tasks n ≡ Some task)
-task_there design n below = there (parts design).tasks n (omega (arith, below, task_count design))
+pub task_there : (design : Design) (n : ℕ) → n < length design.processes.items → (task : Task) × (slice_get (flat design).tasks n ≡ Some task)
+task_there design n below = there (flat design).tasks n (omega (arith, below, task_count design))
   where
     there : (tasks : List Task) (n : ℕ) → n < length tasks → (task : Task) × (slice_get tasks n ≡ Some task)
     there [] n below = absurd (omega (arith, below))

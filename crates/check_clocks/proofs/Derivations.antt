@@ -8,7 +8,8 @@ use Rattle.std.proofs.lemmas.Bool.{and_from, and_parts, cases_Bool, eq-eqb, eqb-
 use Rattle.std.proofs.lemmas.List.Sums.{sum_by-cons}
 use Rattle.rtl_flat.specs.Process.{Watched, Task}
 use Rattle.rtl_rule.specs.declared.finding.Finding.{Finding}
-use Rattle.rtl_rule.specs.Parts.{Parts, At, items_of, within}
+use Rattle.rtl_rule.specs.Parts.{At, items_of, within}
+use Rattle.rtl_flat.specs.Flats.{Flat}
 use Rattle.check_chains.specs.rtl_scan.Arrows.{Among}
 use Rattle.check_chains.specs.rtl_scan.Graph.{row}
 use Rattle.check_chains.specs.check_found.Gathered.{Gets, task_sites}
@@ -103,7 +104,7 @@ some_and (Some x) P Q from h = from x h
 
 -- ---- the rule
 
-module _ (d : Parts) (tops : List (Vec ℕ Global)) (are : AreTops d (length d.signals) tops) (clocks resets : List Bool) (roles : AreRoles d (length d.tasks) clocks resets) where
+module _ (d : Flat) (tops : List (Vec ℕ Global)) (are : AreTops d (length d.signals) tops) (clocks resets : List Bool) (roles : AreRoles d (length d.tasks) clocks resets) where
   has_top_is : (top i : ℕ) → has_top tops top i ≡ true ↔ ComesFrom d top i
   has_top_is top i = (to, from)
     where

@@ -14,7 +14,7 @@ use Rattle.rtl_flat.specs.Expression.{Tree, Sized, Whole}
 use Rattle.rtl_flat.specs.Process.{Selection, Piece, Doing, Assign, Comb, Edge', Task}
 use Rattle.rtl_flat.specs.Process as part
 use Rattle.rtl_flat.specs.Signs.{Has, width_in}
-use Rattle.rtl_rule.specs.Parts.{Parts, widths}
+use Rattle.rtl_flat.specs.Flats.{Flat, widths}
 use Rattle.check_chains.specs.rtl_scan.Arrows.{Among}
 use Rattle.check_chains.specs.rtl_scan.Graph.{row}
 use Rattle.check_chains.specs.Inner.{whole_of}
@@ -212,12 +212,12 @@ is_elsewhere_from instance None h = absurd h
 is_elsewhere_from instance (Some signal) h = not_from_false (signal.instance == instance) (ne_eqb signal.instance instance h)
 
 -- what the ends of a link are
-pub record AreEnds (d : Parts) (instance i j : ℕ) : Type 0 where
+pub record AreEnds (d : Flat) (instance i j : ℕ) : Type 0 where
   pub one_bit : widths d i ≡ 1
   pub port_bit : widths d j ≡ 1
   pub outside : Has (λ signal. signal.instance ≢ instance) d.signals j
 
-pub ends_of : (d : Parts) (instance i j : ℕ) → is_link d instance i j ≡ true → AreEnds d instance i j
+pub ends_of : (d : Flat) (instance i j : ℕ) → is_link d instance i j ≡ true → AreEnds d instance i j
 ends_of d instance i j h =
     let (bits, third) = and_parts ((widths d i == 1) && (widths d j == 1)) (is_elsewhere instance (slice_get d.signals j)) h in
     let (first, second) = and_parts (widths d i == 1) (widths d j == 1) bits in
@@ -227,7 +227,7 @@ ends_of d instance i j h =
       outside = elsewhere_is instance (slice_get d.signals j) third;
     }
 
-pub link_from : (d : Parts) (instance i j : ℕ) → AreEnds d instance i j → is_link d instance i j ≡ true
+pub link_from : (d : Flat) (instance i j : ℕ) → AreEnds d instance i j → is_link d instance i j ≡ true
 link_from d instance i j are =
     and_from ((widths d i == 1) && (widths d j == 1)) (is_elsewhere instance (slice_get d.signals j))
     (and_from (widths d i == 1) (widths d j == 1) (eq-eqb (widths d i) 1 are.one_bit) (eq-eqb (widths d j) 1 are.port_bit))
@@ -239,7 +239,7 @@ link_if_is true i j m n h =
     (refl, ap (λ (link : Link). link.source) same, ap (λ (link : Link). link.target) same)
 link_if_is false i j m n h = absurd (none-some _ h)
 
-pub linked_is : (d : Parts) (instance : ℕ) (source target : Option ℕ) (i j : ℕ) → linked d instance source target ≡ Some (record { source = i; target = j }) → (source ≡ Some i) × (target ≡ Some j) × AreEnds d instance i j
+pub linked_is : (d : Flat) (instance : ℕ) (source target : Option ℕ) (i j : ℕ) → linked d instance source target ≡ Some (record { source = i; target = j }) → (source ≡ Some i) × (target ≡ Some j) × AreEnds d instance i j
 linked_is d instance None target i j h = absurd (none-some _ h)
 linked_is d instance (Some m) None i j h = absurd (none-some _ h)
 linked_is d instance (Some m) (Some n) i j h =
@@ -247,7 +247,7 @@ linked_is d instance (Some m) (Some n) i j h =
     let ends = ends_of d instance m n is in
     (ap Some first, ap Some second, subst (λ b. AreEnds d instance i b) second (subst (λ a. AreEnds d instance a n) first ends))
 
-module _ (d : Parts) (task : Task) (i j : ℕ) where
+module _ (d : Flat) (task : Task) (i j : ℕ) where
   pub plain_to : IsPlainConnection d task i j → plain_of d task ≡ Some (record { source = i; target = j })
   plain_to is =
       ap (plain_in d task.instance) is.does
@@ -315,16 +315,16 @@ bit_inside (s ∷ signals) zero h = omega arith
 bit_inside (s ∷ signals) (suc i) h = let inside = bit_inside signals i h in omega (arith, inside)
 
 -- the rows of all plain connections
-pub record ArePlain (d : Parts) (rows : List (Vec ℕ Global)) : Type 0 where
+pub record ArePlain (d : Flat) (rows : List (Vec ℕ Global)) : Type 0 where
   pub are : AreRows (length d.signals) (filter_map (plain_of d) d.tasks) rows
 
-pub goes_from : (d : Parts) (rows : List (Vec ℕ Global)) (start k : ℕ) → ArePlain d rows → Reaches rows start k → GoesTo d start k
+pub goes_from : (d : Flat) (rows : List (Vec ℕ Global)) (start k : ℕ) → ArePlain d rows → Reaches rows start k → GoesTo d start k
 goes_from d rows start k plain Here = Itself
 goes_from d rows start k plain (Onward i j from among below) =
     let found = link_of (plain_of d) d.tasks i j ((plain.are.each i j).0 among).1 in
     Through i j found.process found.task (goes_from d rows start i plain from) found.there (plain_from d found.task i j found.is)
 
-pub reaches_from : (d : Parts) (rows : List (Vec ℕ Global)) (start k : ℕ) → ArePlain d rows → GoesTo d start k → Reaches rows start k
+pub reaches_from : (d : Flat) (rows : List (Vec ℕ Global)) (start k : ℕ) → ArePlain d rows → GoesTo d start k → Reaches rows start k
 reaches_from d rows start k plain Itself = Here
 reaches_from d rows start k plain (Through i j p task from there is) =
     let size = plain.are.size in

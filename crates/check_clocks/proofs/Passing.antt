@@ -10,7 +10,7 @@ use Rattle.rtl_flat.specs.Process.{Piece, Doing, Assign, Comb, Edge', Task}
 use Rattle.rtl_flat.specs.Process as part
 use Rattle.net_model.specs.Control.{ReadsAlone}
 use Rattle.rtl_bits.specs.Bits.{is_one_at}
-use Rattle.rtl_rule.specs.Parts.{Parts, widths}
+use Rattle.rtl_flat.specs.Flats.{Flat, widths}
 use Rattle.check_chains.specs.rtl_scan.declared.bits.Row.{Row}
 use Rattle.check_chains.specs.rtl_scan.Sets.{IsInOrder, has_row, has_rows}
 use Rattle.check_chains.proofs.check_found_proofs.Signals.{row_bit}
@@ -60,7 +60,7 @@ module _ (ws : ℕ → ℕ) (value : Tree) where
       let second = h.alone other.signal.0 n (sym (same other.signal.0 n) ∙ bit) in
       absurd (omega (arith, first, second, order.1.0))
 
-module _ (d : Parts) (task : Task) (target : List Piece) (value : Tree) (does : task.does ≡ Assign target value) (rows : List Row) (order : IsInOrder rows) (same : (s k : ℕ) → has_rows rows s k ≡ reads (widths d) value s k) (i j : ℕ) where
+module _ (d : Flat) (task : Task) (target : List Piece) (value : Tree) (does : task.does ≡ Assign target value) (rows : List Row) (order : IsInOrder rows) (same : (s k : ℕ) → has_rows rows s k ≡ reads (widths d) value s k) (i j : ℕ) where
   pub passing_to : linked d task.instance (single rows) (whole_target target) ≡ Some (record { source = i; target = j }) → IsPassing d task i j
   passing_to h =
       let (first, second, ends) = linked_is d task.instance (single rows) (whole_target target) i j h in
@@ -102,12 +102,12 @@ assign_reads ws target value s k = by_test (reads ws value s k) (targets ws targ
     by_test false false = refl
 
 -- a process that is no connection
-pub no_link : (d : Parts) (task : Task) (link : Option Link) → link ≡ None → ((target : List Piece) (value : Tree) → task.does ≡ Assign target value → ⊥) → IsPassingLink d task link
+pub no_link : (d : Flat) (task : Task) (link : Option Link) → link ≡ None → ((target : List Piece) (value : Tree) → task.does ≡ Assign target value → ⊥) → IsPassingLink d task link
 no_link d task link none other =
     record { each = λ i j. (λ h. absurd (none-some _ (sym none ∙ h)), λ h. absurd (other _ h.value h.does)) }
 
 -- one that is
-pub assign_link : (d : Parts) (task : Task) (target : List Piece) (value : Tree) → task.does ≡ Assign target value → (rows : List Row) → IsInOrder rows → ((s k : ℕ) → has_rows rows s k ≡ reads_outside (flow_of (widths d) task.does) s k) → (link : Option Link) → link ≡ linked d task.instance (single rows) (whole_target target) → IsPassingLink d task link
+pub assign_link : (d : Flat) (task : Task) (target : List Piece) (value : Tree) → task.does ≡ Assign target value → (rows : List Row) → IsInOrder rows → ((s k : ℕ) → has_rows rows s k ≡ reads_outside (flow_of (widths d) task.does) s k) → (link : Option Link) → link ≡ linked d task.instance (single rows) (whole_target target) → IsPassingLink d task link
 assign_link d task target value does rows order are link is =
     let same : (s k : ℕ) → has_rows rows s k ≡ reads (widths d) value s k =
     λ s k. are s k ∙ ap (λ one. reads_outside (flow_of (widths d) one) s k) does ∙ assign_reads (widths d) target value s k in

@@ -13,7 +13,8 @@ use Rattle.rtl_tree.specs.declared.text.Spot.{Spot}
 use Rattle.rtl_flat.specs.declared.signal.Signal.{Signal}
 use Rattle.rtl_flat.specs.Process.{Task}
 use Rattle.rtl_rule.specs.declared.finding.Finding.{Finding}
-use Rattle.rtl_rule.specs.Parts.{Parts, At, within}
+use Rattle.rtl_rule.specs.Parts.{At, within}
+use Rattle.rtl_flat.specs.Flats.{Flat}
 use Rattle.rtl_rule.specs.Sites.{AreFindings}
 use Rattle.check_chains.specs.check_found.Gathered.{Gets, signal_numbers, task_sites}
 use Rattle.check_clocks.specs.Firsts.{Shows, passing, shown}
@@ -105,7 +106,7 @@ module _ (P : At ℕ → Type 0) (finding_at : At ℕ → Finding) (instance : �
     signals_in signals = map (within one) (map (λ (x : ℕ × Signal). x.0) (enumerate_from 0 signals))
 
 -- what is shown of signals is what a rule finds of them
-pub gets_shown : (P : At ℕ → Type 0) (finding_at : At ℕ → Finding) (instance : ℕ) (d : Parts) (n : ℕ) (task : Task) → ((s : ℕ) → P (within (n, task) s) → s < length d.signals) → (spots : ℕ → Option Spot) → ((s : ℕ) → Tells P finding_at instance (n, task) s (spots s)) → (old new : List Finding) → Shows instance spots old new → Gets P finding_at (task_sites (signal_numbers d) n task) old new
+pub gets_shown : (P : At ℕ → Type 0) (finding_at : At ℕ → Finding) (instance : ℕ) (d : Flat) (n : ℕ) (task : Task) → ((s : ℕ) → P (within (n, task) s) → s < length d.signals) → (spots : ℕ → Option Spot) → ((s : ℕ) → Tells P finding_at instance (n, task) s (spots s)) → (old new : List Finding) → Shows instance spots old new → Gets P finding_at (task_sites (signal_numbers d) n task) old new
 gets_shown P finding_at instance d n task bound spots tells old new shows =
     record {
       more = map (shown instance) shows.entries;

@@ -14,7 +14,7 @@ use Rattle.rtl_flat.specs.declared.signal.Signal.{Signal}
 use Rattle.rtl_flat.specs.Process.{Task}
 use Rattle.rtl_flat.specs.Signs.{Has}
 use Rattle.net_model.specs.Cycle.{Chain, Guard}
-use Rattle.rtl_rule.specs.Parts.{Parts}
+use Rattle.rtl_flat.specs.Flats.{Flat}
 use Rattle.check_chains.specs.rtl_scan.Arrows.{Among}
 use Rattle.check_chains.specs.rtl_scan.Graph.{row}
 use Rattle.check_chains.specs.Chains.{chain_of}
@@ -93,11 +93,11 @@ is_top_from : (o : Option Signal) → IsSomeAnd o (λ signal. signal.kind ≡ To
 is_top_from None h = absurd h
 is_top_from (Some signal) h = ap is_top_kind h
 
-pub tops_none : (d : Parts) (rows : List (Vec ℕ Global)) → AreRows (length d.signals) [] rows → AreTops d 0 rows
+pub tops_none : (d : Flat) (rows : List (Vec ℕ Global)) → AreRows (length d.signals) [] rows → AreTops d 0 rows
 tops_none d rows are =
     record { size = are.size; each = λ i t. (λ h. absurd ((are.each i t).0 h).1, λ h. absurd (omega (arith, h.0))) }
 
-module _ (d : Parts) (rows : List (Vec ℕ Global)) (plain : ArePlain d rows) (n : ℕ) where
+module _ (d : Flat) (rows : List (Vec ℕ Global)) (plain : ArePlain d rows) (n : ℕ) where
   pub tops_next : (old new : List (Vec ℕ Global)) → AreTops d n old → is_top (slice_get d.signals n) ≡ true → IsNoted rows n old new → AreTops d (n + 1) new
   tops_next old new are top noted =
       record { size = noted.size ∙ are.size; each = λ i t. (λ h. to i t ((noted.each i t).0 h), λ h. (noted.each i t).1 (from i t h)) }
@@ -205,7 +205,7 @@ found_inside rows top size found is inside same = all found (λ k among. subst (
 
 -- ---- roles
 
-module _ (d : Parts) (tops : List (Vec ℕ Global)) (are : AreTops d (length d.signals) tops) where
+module _ (d : Flat) (tops : List (Vec ℕ Global)) (are : AreTops d (length d.signals) tops) where
   top_below : (t i : ℕ) → ComesFrom d t i → t < length d.signals
   top_below t i comes = there d.signals t comes.input
     where

@@ -14,14 +14,15 @@ use Rattle.rtl_flat.specs.WellFormed.{has_edge}
 use Rattle.net_model.specs.Cycle.{Guard, Chain}
 use Rattle.rtl_rule.specs.declared.finding.Finding.{Finding}
 use Rattle.rtl_rule.specs.declared.rule.Rule.TheVariants.{DerivedClock, ClockAsData}
-use Rattle.rtl_rule.specs.Parts.{Parts, At, sites, signal_sites, widths, number, found, found_at, least_place, nodes, named, is_named, place_of, all_of, own_trees, own_labels, trees, labels, items_of, spot_if}
+use Rattle.rtl_rule.specs.Parts.{At, sites, signal_sites, number, found, found_at, least_place, nodes, named, is_named, place_of, all_of, own_trees, own_labels, trees, labels, items_of, spot_if}
+use Rattle.rtl_flat.specs.Flats.{Flat, widths}
 use Rattle.rtl_rule.specs.Sites.{AreFindings}
 use Rattle.check_chains.specs.Chains.{chain_of}
 
 -- ---- A7
 
 -- a connection of an input port: a signal of one bit, as it is, goes to a signal of one bit of another instance
-pub record IsPlainConnection (d : Parts) (task : Task) (i j : ℕ) : Type 0 where
+pub record IsPlainConnection (d : Flat) (task : Task) (i j : ℕ) : Type 0 where
   pub signed : Bool
   pub spot : Spot
   pub at : Spot
@@ -31,17 +32,17 @@ pub record IsPlainConnection (d : Parts) (task : Task) (i j : ℕ) : Type 0 wher
   pub port_bit : widths d j ≡ 1
 
 -- what a signal goes to by such connections, itself among it
-pub data GoesTo (d : Parts) (start : ℕ) : ℕ → Type 0 where
+pub data GoesTo (d : Flat) (start : ℕ) : ℕ → Type 0 where
   Itself : GoesTo d start start
   Through : (i j p : ℕ) (task : Task) → GoesTo d start i → slice_get d.tasks p ≡ Some task → IsPlainConnection d task i j → GoesTo d start j
 
 -- whether a signal comes from a top input
-pub record ComesFrom (d : Parts) (top i : ℕ) : Type 0 where
+pub record ComesFrom (d : Flat) (top i : ℕ) : Type 0 where
   pub input : Has (λ signal. signal.kind ≡ TopInput) d.signals top
   pub goes : GoesTo d top i
 
 -- whether two items of a list come from a top input
-pub record IsTwice (d : Parts) (events : List Watched) (top : ℕ) : Type 0 where
+pub record IsTwice (d : Flat) (events : List Watched) (top : ℕ) : Type 0 where
   pub first : ℕ
   pub second : ℕ
   pub apart : first ≢ second
@@ -49,27 +50,27 @@ pub record IsTwice (d : Parts) (events : List Watched) (top : ℕ) : Type 0 wher
   pub other : IsSomeAnd (slice_get events second) (λ item. ComesFrom d top item.signal)
 
 -- a top input is the clock of a process that has the chain
-pub record IsClockOf (d : Parts) (top p : ℕ) : Type 0 where
+pub record IsClockOf (d : Flat) (top p : ℕ) : Type 0 where
   pub chain : Chain
   pub has : IsSomeAnd (slice_get d.tasks p) (λ task. chain_of d task.does ≡ Some chain)
   pub comes : ComesFrom d top chain.clock.signal
 
 -- it is a reset of such a process
-pub record IsResetOf (d : Parts) (top p : ℕ) : Type 0 where
+pub record IsResetOf (d : Flat) (top p : ℕ) : Type 0 where
   pub chain : Chain
   pub place : ℕ
   pub has : IsSomeAnd (slice_get d.tasks p) (λ task. chain_of d task.does ≡ Some chain)
   pub comes : IsSomeAnd (slice_get chain.resets place) (λ guard. ComesFrom d top guard.item.signal)
 
 -- it is a clock and a reset
-pub record HasTwoRoles (d : Parts) (top : ℕ) : Type 0 where
+pub record HasTwoRoles (d : Flat) (top : ℕ) : Type 0 where
   pub clocked : ℕ
   pub reset : ℕ
   pub clock_of : IsClockOf d top clocked
   pub reset_of : IsResetOf d top reset
 
 -- an item's signal comes from no top input, or from one that is in the list twice or has two roles
-abbrev pub IsDerivedClock : Parts → At Watched → Type 0
+abbrev pub IsDerivedClock : Flat → At Watched → Type 0
 IsDerivedClock d site =
     ((top : ℕ) → ComesFrom d top site.it.signal → ⊥)
     ⊎ ((top : ℕ) × ComesFrom d top site.it.signal × (IsTwice d (items_of site.task.does) top ⊎ HasTwoRoles d top))
@@ -82,7 +83,7 @@ abbrev pub events_of : Doing → List Watched
 events_of (Edge' events body) = events
 events_of _ = []
 
-abbrev pub AreDerivedClock : Parts → List Finding → Type 0
+abbrev pub AreDerivedClock : Flat → List Finding → Type 0
 AreDerivedClock d = AreFindings (IsDerivedClock d) derived_clock_at (sites events_of d)
 
 -- ---- A8
@@ -109,7 +110,7 @@ abbrev pub in_instance : ℕ → Option Signal → Bool
 in_instance n None = false
 in_instance n (Some signal) = signal.instance == n
 
-abbrev pub passes : Parts → ℕ → Doing → Bool
+abbrev pub passes : Flat → ℕ → Doing → Bool
 passes d n (Assign (piece ∷ []) (Sized w s at (Whole i))) =
     (w == 1) && (widths d i == 1) && (widths d piece.signal == 1) && is_whole piece.selection && not (in_instance n (slice_get d.signals piece.signal))
 passes d n _ = false
@@ -119,16 +120,16 @@ but_tests None all = all
 but_tests (Some chain) all = chain_trees chain
 
 -- whether an assignment of a plain name of one bit connects an input port of one bit
-abbrev pub is_passing : Parts → Task → Bool
+abbrev pub is_passing : Flat → Task → Bool
 is_passing d task = passes d task.instance task.does
 
 -- the expressions of a process that are neither tests of its chain nor a connection by which a signal goes on
-abbrev pub data_trees : Parts → Task → List Tree
+abbrev pub data_trees : Flat → Task → List Tree
 data_trees d task =
     if is_passing d task then [] else but_tests (chain_of d task.does) (trees task.does ++ labels task.does)
 
 -- where they read a signal
-abbrev pub data_reads : Parts → ℕ → Task → List Spot
+abbrev pub data_reads : Flat → ℕ → Task → List Spot
 data_reads d s task =
     filter_map (λ node. spot_if (is_named (named node) s) (place_of task.spot node)) (flat_map nodes (data_trees d task))
 
@@ -136,20 +137,20 @@ abbrev pub is_some_place : List Spot → Bool
 is_some_place [] = false
 is_some_place (one ∷ others) = true
 
-abbrev pub data_places : Parts → At ℕ → List Spot
+abbrev pub data_places : Flat → At ℕ → List Spot
 data_places d site =
     level_items site.it site.task.does ++ data_reads d site.it site.task
 
 -- a process lists a signal of the control cone without an edge, or reads it as data; the cone is what clocks and resets of
 -- the design reach through input ports
-pub record IsClockAsData (InCone : ℕ → Type 0) (d : Parts) (site : At ℕ) : Type 0 where
+pub record IsClockAsData (InCone : ℕ → Type 0) (d : Flat) (site : At ℕ) : Type 0 where
   pub in_cone : InCone site.it
   pub as_data : is_some_place (data_places d site) ≡ true
 
-abbrev pub clock_as_data_at : Parts → At ℕ → Finding
+abbrev pub clock_as_data_at : Flat → At ℕ → Finding
 clock_as_data_at d site =
     found_at ClockAsData site (number site.it) (least_place site.task.spot (data_places d site))
 
-abbrev pub AreClockAsData : (ℕ → Type 0) → Parts → List Finding → Type 0
+abbrev pub AreClockAsData : (ℕ → Type 0) → Flat → List Finding → Type 0
 AreClockAsData InCone d =
     AreFindings (IsClockAsData InCone d) (clock_as_data_at d) (signal_sites d)

@@ -7,25 +7,20 @@ use Rattle.std.specs.Option.{IsSomeAnd}
 use Rattle.std.specs.declared.alloc.Global.{Global}
 use Rattle.rtl_flat.specs.Process.{Watched, Doing, Assign, Comb, Edge', Task}
 use Rattle.rtl_flat.specs.WellFormed.{has_edge}
-use Rattle.event_model.specs.Queue.{Flat}
+use Rattle.rtl_flat.specs.Flats.{Flat}
 use Rattle.net_model.specs.Control.{IsControl, IsEdgeSignal, IsReached}
-use Rattle.rtl_rule.specs.Parts.{Parts}
 use Rattle.check_clocks.specs.declared.reach.Link.{Link}
 use Rattle.check_clocks.specs.Passed.{IsPassing}
 use Rattle.check_clocks.specs.Reach.{HasLink, Reaches}
 
--- the signals and the processes of a design, as the event queue runs them
-abbrev pub flat_of : Parts → Flat
-flat_of d = record { signals = d.signals; tasks = d.tasks }
-
 -- ---- links
 
 -- the links of some processes, and of one more
-pub record GetsPassing (d : Parts) (task : Task) (old new : List Link) : Type 0 where
+pub record GetsPassing (d : Flat) (task : Task) (old new : List Link) : Type 0 where
   pub each : (i j : ℕ) → HasLink new i j ↔ (HasLink old i j ⊎ IsPassing d task i j)
 
 -- those of the processes below a number
-pub record ArePassing (d : Parts) (n : ℕ) (links : List Link) : Type 0 where
+pub record ArePassing (d : Flat) (n : ℕ) (links : List Link) : Type 0 where
   pub each :
       (i j : ℕ) → HasLink links i j ↔ ((p : ℕ) × (p < n) × IsSomeAnd (slice_get d.tasks p) (λ task. IsPassing d task i j))
 
@@ -57,18 +52,18 @@ pub record IsSpread (rows : List (Vec ℕ Global)) (edges : List Bool) (top : �
       ↔ ((slice_index_or old k false ≡ true) ⊎ ((k < length old) × Reaches rows top k × ReachesMarked rows edges top))
 
 -- a signal that is reached from a control input below a number
-pub record IsConed (d : Parts) (n s : ℕ) : Type 0 where
+pub record IsConed (d : Flat) (n s : ℕ) : Type 0 where
   pub control : ℕ
   pub below : control < n
-  pub is_control : IsControl (flat_of d) control
-  pub reached : IsReached (flat_of d) control s
+  pub is_control : IsControl d control
+  pub reached : IsReached d control s
 
 -- those are marked
-pub record AreConed (d : Parts) (n : ℕ) (marks : List Bool) : Type 0 where
+pub record AreConed (d : Flat) (n : ℕ) (marks : List Bool) : Type 0 where
   pub size : length marks ≡ length d.signals
   pub each : (s : ℕ) → slice_index_or marks s false ≡ true ↔ ((s < length d.signals) × IsConed d n s)
 
 -- the signals whose edges are waited for are marked
-pub record AreEdgeMarks (d : Parts) (marks : List Bool) : Type 0 where
+pub record AreEdgeMarks (d : Flat) (marks : List Bool) : Type 0 where
   pub size : length marks ≡ length d.signals
-  pub each : (s : ℕ) → slice_index_or marks s false ≡ true ↔ ((s < length d.signals) × IsEdgeSignal (flat_of d) s)
+  pub each : (s : ℕ) → slice_index_or marks s false ≡ true ↔ ((s < length d.signals) × IsEdgeSignal d s)

@@ -8,7 +8,7 @@ use Rattle.rtl_flat.specs.declared.signal.Signal.{Signal}
 use Rattle.rtl_flat.specs.Expression.{Tree, Sized}
 use Rattle.rtl_flat.specs.Process.{Selection, Piece, Doing, Assign, Task}
 use Rattle.rtl_flat.specs.Process as part
-use Rattle.rtl_rule.specs.Parts.{Parts, widths}
+use Rattle.rtl_flat.specs.Flats.{Flat, widths}
 use Rattle.check_chains.specs.rtl_scan.Arrows.{Among}
 use Rattle.check_chains.specs.rtl_scan.Graph.{row}
 use Rattle.check_chains.specs.Inner.{whole_of}
@@ -36,7 +36,7 @@ is_elsewhere instance None = false
 is_elsewhere instance (Some signal) = not (signal.instance == instance)
 
 -- whether a connection goes from a signal of one bit to one of another instance
-abbrev pub is_link : Parts → ℕ → ℕ → ℕ → Bool
+abbrev pub is_link : Flat → ℕ → ℕ → ℕ → Bool
 is_link d instance i j =
     (widths d i == 1) && (widths d j == 1) && is_elsewhere instance (slice_get d.signals j)
 
@@ -44,16 +44,16 @@ abbrev pub link_if : Bool → ℕ → ℕ → Option Link
 link_if true i j = Some (record { source = i; target = j })
 link_if false i j = None
 
-abbrev pub linked : Parts → ℕ → Option ℕ → Option ℕ → Option Link
+abbrev pub linked : Flat → ℕ → Option ℕ → Option ℕ → Option Link
 linked d instance (Some i) (Some j) = link_if (is_link d instance i j) i j
 linked d instance _ _ = None
 
 -- the plain connection that a process is
-abbrev pub plain_in : Parts → ℕ → Doing → Option Link
+abbrev pub plain_in : Flat → ℕ → Doing → Option Link
 plain_in d instance (Assign target value) = linked d instance (bit_named value) (whole_target target)
 plain_in d instance _ = None
 
-abbrev pub plain_of : Parts → Task → Option Link
+abbrev pub plain_of : Flat → Task → Option Link
 plain_of d task = plain_in d task.instance task.does
 
 -- the rows of some links

@@ -9,12 +9,12 @@ use Rattle.rtl_flat.specs.Process.{Assign, Task}
 use Rattle.rtl_flat.specs.Process as part
 use Rattle.rtl_flat.specs.Signs.{Has}
 use Rattle.net_model.specs.Control.{ReadsAlone}
-use Rattle.rtl_rule.specs.Parts.{Parts, widths}
+use Rattle.rtl_flat.specs.Flats.{Flat, widths}
 use Rattle.check_chains.specs.rtl_scan.declared.bits.Row.{Row}
 use Rattle.check_clocks.specs.declared.reach.Link.{Link}
 
 -- a connection whose expression reads one signal alone, both of one bit
-pub record IsPassing (d : Parts) (task : Task) (i j : ℕ) : Type 0 where
+pub record IsPassing (d : Flat) (task : Task) (i j : ℕ) : Type 0 where
   pub spot : Spot
   pub value : Tree
   pub does : task.does ≡ Assign (record { signal = j; selection = part.Whole; spot = spot } ∷ []) value
@@ -29,5 +29,5 @@ only_signal (row ∷ []) = Some row.signal
 only_signal _ = None
 
 -- the link of a process, if it is such a connection
-pub record IsPassingLink (d : Parts) (task : Task) (link : Option Link) : Type 0 where
+pub record IsPassingLink (d : Flat) (task : Task) (link : Option Link) : Type 0 where
   pub each : (i j : ℕ) → link ≡ Some (record { source = i; target = j }) ↔ IsPassing d task i j

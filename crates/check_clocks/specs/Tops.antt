@@ -11,7 +11,8 @@ use Rattle.rtl_flat.specs.Process.{Watched, Task}
 use Rattle.net_model.specs.Cycle.{Chain, Guard}
 use Rattle.rtl_rule.specs.declared.finding.Finding.{Finding}
 use Rattle.rtl_rule.specs.declared.rule.Rule.TheVariants.{DerivedClock}
-use Rattle.rtl_rule.specs.Parts.{Parts, number}
+use Rattle.rtl_rule.specs.Parts.{number}
+use Rattle.rtl_flat.specs.Flats.{Flat}
 use Rattle.check_chains.specs.rtl_scan.Arrows.{Among}
 use Rattle.check_chains.specs.rtl_scan.Graph.{row}
 use Rattle.check_clocks.specs.declared.tops.Roles.{Roles}
@@ -39,7 +40,7 @@ pub record IsNotedFor (signals : List ℕ) (top : ℕ) (old new : List (Vec ℕ 
   pub each : (i t : ℕ) → Among (row new i) t ↔ (Among (row old i) t ⊎ ((t ≡ top) × Among signals i))
 
 -- the rows of the top inputs below a number that signals come from
-pub record AreTops (d : Parts) (n : ℕ) (tops : List (Vec ℕ Global)) : Type 0 where
+pub record AreTops (d : Flat) (n : ℕ) (tops : List (Vec ℕ Global)) : Type 0 where
   pub size : length tops ≡ length d.signals
   pub each : (i t : ℕ) → Among (row tops i) t ↔ ((t < n) × ComesFrom d t i)
 
@@ -51,7 +52,7 @@ pub record AreMarkedAlso (places : List ℕ) (old new : List Bool) : Type 0 wher
   pub each : (k : ℕ) → slice_index_or new k false ≡ true ↔ ((slice_index_or old k false ≡ true) ⊎ ((k < length old) × Among places k))
 
 -- the clocks and resets of the processes below a number
-pub record AreRoles (d : Parts) (n : ℕ) (clocks resets : List Bool) : Type 0 where
+pub record AreRoles (d : Flat) (n : ℕ) (clocks resets : List Bool) : Type 0 where
   pub size : length clocks ≡ length d.signals
   pub size_of_resets : length resets ≡ length d.signals
   pub clock : (top : ℕ) → slice_index_or clocks top false ≡ true ↔ ((p : ℕ) × (p < n) × IsClockOf d top p)

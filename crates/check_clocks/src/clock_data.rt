@@ -2,10 +2,9 @@
 
 ghost use Rattle.std.specs.Prelude.{ℕ, ◌≡◌, ◌↔◌, Some, true, length, IfOk, OnOk};
 ghost use Rattle.std.specs.List.{slice_get};
-ghost use Rattle.event_model.specs.Queue.{flat};
+ghost use Rattle.rtl_flat.specs.Flats.{flat};
 ghost use Rattle.net_model.specs.Control.{InCone};
 ghost use Rattle.rtl_flat.specs.Process.{task};
-ghost use Rattle.rtl_rule.specs.Parts.{parts};
 ghost use Rattle.check_chains.specs.check_found.Gathered.{Gets, signal_numbers, task_sites};
 ghost use Rattle.check_chains.specs.check_found.Scanned.{AreScans};
 ghost use Rattle.check_clocks.specs.Clocks.{AreClockAsData, IsClockAsData, clock_as_data_at};
@@ -30,7 +29,7 @@ fn push_process(
 ) -> Result<(), Memory>
     requires size { length in_cone.now ≡ length design.now.signals.items }
     requires marks { (s : ℕ) → slice_get in_cone.now s ≡ Some true ↔ InCone (flat design.now) s }
-    ensures { let d = parts design.now in
+    ensures { let d = flat design.now in
         let breaks = IsClockAsData (InCone (flat design.now)) d in
         OnOk result ((p : ℕ) →
         Gets breaks (clock_as_data_at d) (task_sites (signal_numbers d) p (task process.now))
@@ -49,7 +48,7 @@ pub(crate) fn findings(
 ) -> Result<Vec<Finding>, Memory>
     requires size { length in_cone.now ≡ length design.now.signals.items }
     requires marks { (s : ℕ) → slice_get in_cone.now s ≡ Some true ↔ InCone (flat design.now) s }
-    ensures { let d = parts design.now in
+    ensures { let d = flat design.now in
         IfOk result (λ found. AreClockAsData (InCone (flat design.now)) d found.items) }
 {
     let mut found = Vec::new(alloc);
@@ -65,7 +64,7 @@ pub(crate) fn findings(
 /// Fails where memory runs out.
 pub fn clock_as_data(alloc: Global, scans: &Scans) -> Result<Vec<Finding>, Memory>
     requires { AreScans scans.now }
-    ensures { let d = parts scans.now.design.now in
+    ensures { let d = flat scans.now.design.now in
         IfOk result (λ found. AreClockAsData (InCone (flat scans.now.design.now)) d found.items) }
 {
     let in_cone = cone(alloc, scans)?;

@@ -3,9 +3,8 @@
 ghost use Rattle.std.specs.Prelude.{ℕ, ◌≡◌, ◌<◌, ◌↔◌, true, false, Some, length, map, slice_index_or, IfOk, OnOk};
 ghost use Rattle.std.specs.List.{flat_map, list_any, slice_get};
 ghost use Rattle.rtl_flat.specs.Process.{doing, task, watched};
-ghost use Rattle.event_model.specs.Queue.{flat};
+ghost use Rattle.rtl_flat.specs.Flats.{flat};
 ghost use Rattle.net_model.specs.Control.{InCone};
-ghost use Rattle.rtl_rule.specs.Parts.{parts};
 ghost use Rattle.check_chains.specs.check_found.Scanned.{AreScans};
 ghost use Rattle.check_clocks.specs.Cone.{AreConed, IsSpread, waited, waited_by};
 ghost use Rattle.check_clocks.specs.Tops.{AreMarkedAlso};
@@ -105,7 +104,7 @@ pub fn cone(alloc: Global, scans: &Scans) -> Result<Vec<bool>, Memory>
 
 fn coned(alloc: Global, scans: &Scans) -> Result<Vec<bool>, Memory>
     requires { AreScans scans.now }
-    ensures { let d = parts scans.now.design.now in
+    ensures { let d = flat scans.now.design.now in
         IfOk result (λ marks. AreConed d (length d.signals) marks.items) }
 {
     let count = scans.design.signals.len();

@@ -3,7 +3,8 @@
 ghost use Rattle.std.specs.Prelude.{ℕ, ◌≡◌, ◌++◌, map, IfOk, OnOk};
 ghost use Rattle.std.specs.List.{flat_map, slice_get};
 ghost use Rattle.rtl_flat.specs.Process.{action, body_of, doing, piece, selection, task};
-ghost use Rattle.rtl_rule.specs.Parts.{all_of, parts, within};
+ghost use Rattle.rtl_rule.specs.Parts.{all_of, within};
+ghost use Rattle.rtl_flat.specs.Flats.{flat};
 ghost use Rattle.check_chains.specs.check_parts.Kept.{expressions};
 ghost use Rattle.check_chains.specs.Views.{chain_view};
 ghost use Rattle.check_clocks.specs.Clocks as spec;
@@ -82,7 +83,7 @@ fn but_tests<'d>(
     does: &'d Does,
 ) -> Result<Vec<&'d SizedExpr>, Memory>
     ensures { IfOk result (λ all. expressions all.items
-        ≡ but_tests_of (parts design.now) (doing does.now)) }
+        ≡ but_tests_of (flat design.now) (doing does.now)) }
 {
     match chain_of(alloc, design, does)? {
         Some(chain) => chain_trees(alloc, &chain),
@@ -120,7 +121,7 @@ fn is_inside(design: &Design, instance: u32, signal: SigId) -> bool
 
 /// Whether a signal of one bit goes to one part, a signal of one bit that isn't in the instance.
 fn passes_to(design: &Design, instance: u32, source: SigId, part: &TargetPart) -> bool
-    ensures { result ≡ passes_to (parts design.now) instance source.0 (piece part.now) }
+    ensures { result ≡ passes_to (flat design.now) instance source.0 (piece part.now) }
 {
     is_bit(design, source)
         && is_bit(design, part.signal)
@@ -130,7 +131,7 @@ fn passes_to(design: &Design, instance: u32, source: SigId, part: &TargetPart) -
 
 /// Whether a process assigns a plain name of one bit to an input port of one bit.
 fn is_passing(design: &Design, process: &Process) -> bool
-    ensures { result ≡ spec.is_passing (parts design.now) (task process.now) }
+    ensures { result ≡ spec.is_passing (flat design.now) (task process.now) }
 {
     let Does::Assign { target, value } = &process.does else {
         return false;
@@ -151,7 +152,7 @@ fn data_trees<'d>(
     design: &'d Design,
     process: &'d Process,
 ) -> Result<Vec<&'d SizedExpr>, Memory>
-    ensures { IfOk result (λ all. expressions all.items ≡ spec.data_trees (parts design.now) (task process.now)) }
+    ensures { IfOk result (λ all. expressions all.items ≡ spec.data_trees (flat design.now) (task process.now)) }
 {
     if is_passing(design, process) {
         return Ok(Vec::new(alloc));
@@ -161,7 +162,7 @@ fn data_trees<'d>(
 
 /// Where a process lists signals without an edge or reads them as data.
 pub(crate) fn uses_of(alloc: Global, design: &Design, process: &Process) -> Result<Vec<Use>, Memory>
-    ensures { IfOk result (λ uses. (p s : ℕ) → places_of s uses.items ≡ spec.data_places (parts design.now) (within (p, task process.now) s)) }
+    ensures { IfOk result (λ uses. (p s : ℕ) → places_of s uses.items ≡ spec.data_places (flat design.now) (within (p, task process.now) s)) }
 {
     let mut found = Vec::new(alloc);
     push_levels(items(&process.does), &mut found)?;

@@ -3,7 +3,8 @@
 ghost use Rattle.std.specs.Prelude.{◌≡◌, ◌++◌, length, map, IfOk, OnOk};
 ghost use Rattle.std.specs.List.{filter_map};
 ghost use Rattle.rtl_flat.specs.Process.{doing, task, watched};
-ghost use Rattle.rtl_rule.specs.Parts.{items_of, parts};
+ghost use Rattle.rtl_rule.specs.Parts.{items_of};
+ghost use Rattle.rtl_flat.specs.Flats.{flat};
 ghost use Rattle.check_clocks.specs.Clocks.{AreDerivedClock, events_of};
 ghost use Rattle.check_clocks.specs.Tops.{AreRoles, AreTops, derived_in, has_top, have_roles, is_derived, is_twice};
 
@@ -117,7 +118,7 @@ fn findings(
     tops: &[Vec<u32>],
     roles: &Roles,
 ) -> Result<Vec<Finding>, Memory>
-    ensures { let d = parts design.now in
+    ensures { let d = flat design.now in
         let count = length design.now.processes.items in
         let are_roles = AreRoles d count roles.now.clocks.items roles.now.resets.items in
         IfOk result (λ found. AreTops d (length d.signals) tops.now → are_roles →
@@ -133,7 +134,7 @@ fn findings(
 /// The edges of signals that come from no top input, or from one that is in the list twice or has
 /// two roles.
 pub fn derived_clock(alloc: Global, design: &Design) -> Result<Vec<Finding>, Memory>
-    ensures { IfOk result (λ found. AreDerivedClock (parts design.now) found.items) }
+    ensures { IfOk result (λ found. AreDerivedClock (flat design.now) found.items) }
 {
     let tops = tops_of(alloc, design)?;
     let roles = roles_of(alloc, design, &tops)?;

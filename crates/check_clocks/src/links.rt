@@ -5,7 +5,7 @@ ghost use Rattle.std.specs.List.{filter_map, slice_get};
 ghost use Rattle.std.specs.Option.{option_map};
 ghost use Rattle.rtl_flat.specs.Expression.{tree};
 ghost use Rattle.rtl_flat.specs.Process.{doing, piece};
-ghost use Rattle.rtl_rule.specs.Parts.{parts, widths};
+ghost use Rattle.rtl_flat.specs.Flats.{flat, widths};
 ghost use Rattle.check_chains.specs.Inner.{whole_of};
 ghost use Rattle.check_clocks.specs.Links.{AreRows, IsPut, bit_named, is_elsewhere, is_link, link_if, plain_in, plain_of, whole_target};
 
@@ -53,7 +53,7 @@ pub fn whole_target(target: &Target) -> Option<SigId>
 
 /// Whether a signal is there with one bit.
 pub fn is_bit(design: &Design, signal: SigId) -> bool
-    ensures { result ≡ (widths (parts design.now) signal.0 == 1) }
+    ensures { result ≡ (widths (flat design.now) signal.0 == 1) }
 {
     match design.signals.get(signal.0 as usize) {
         Some(signal) => signal.width == 1,
@@ -73,7 +73,7 @@ pub fn is_elsewhere(design: &Design, instance: u32, signal: SigId) -> bool
 
 /// The link of a connection, if it goes from a signal of one bit to one of another instance.
 pub fn link_if(design: &Design, instance: u32, source: SigId, target: SigId) -> Option<Link>
-    ensures { let holds = is_link (parts design.now) instance source.0 target.0 in
+    ensures { let holds = is_link (flat design.now) instance source.0 target.0 in
         result ≡ link_if holds source.0 target.0 }
 {
     if is_bit(design, source) && is_bit(design, target) && is_elsewhere(design, instance, target) {
@@ -87,7 +87,7 @@ pub fn link_if(design: &Design, instance: u32, source: SigId, target: SigId) -> 
 
 /// The plain connection that a process is.
 fn plain_link(design: &Design, process: &Process) -> Option<Link>
-    ensures { result ≡ plain_in (parts design.now) process.now.instance (doing process.now.does) }
+    ensures { result ≡ plain_in (flat design.now) process.now.instance (doing process.now.does) }
 {
     match &process.does {
         Does::Assign { target, value } => {
@@ -103,7 +103,7 @@ fn plain_link(design: &Design, process: &Process) -> Option<Link>
 /// All plain connections.
 pub fn plain_links(alloc: Global, design: &Design) -> Result<Vec<Link>, Memory>
     ensures { IfOk result (λ links.
-        links.items ≡ filter_map (plain_of (parts design.now)) (parts design.now).tasks) }
+        links.items ≡ filter_map (plain_of (flat design.now)) (flat design.now).tasks) }
 {
     let mut links = Vec::new(alloc);
     for process in &design.processes {

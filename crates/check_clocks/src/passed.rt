@@ -4,7 +4,7 @@ ghost use Rattle.std.specs.Prelude.{◌≡◌, ◌<◌, Some, length, map, IfOk,
 ghost use Rattle.std.specs.List.{slice_get};
 ghost use Rattle.std.specs.Option.{option_map};
 ghost use Rattle.rtl_flat.specs.Process.{Task, piece};
-ghost use Rattle.rtl_rule.specs.Parts.{parts};
+ghost use Rattle.rtl_flat.specs.Flats.{flat};
 ghost use Rattle.check_chains.specs.check_found.Scanned.{AreScans};
 ghost use Rattle.check_clocks.specs.Cone.{ArePassing, GetsPassing};
 ghost use Rattle.check_clocks.specs.Links.{linked, whole_target};
@@ -34,7 +34,7 @@ fn only_signal(rows: &[Row]) -> Option<SigId>
 fn connection(design: &Design, instance: u32, reads: &[Row], target: &Target) -> Option<Link>
     ensures { let source = option_map (λ signal. signal.0) (only_signal reads.now) in
         let target = whole_target (map piece target.now.parts.items) in
-        result ≡ linked (parts design.now) instance source target }
+        result ≡ linked (flat design.now) instance source target }
 {
     let source = only_signal(reads)?;
     let target = whole_target(target)?;
@@ -45,7 +45,7 @@ fn connection(design: &Design, instance: u32, reads: &[Row], target: &Target) ->
 pub fn passing_link(scans: &Scans, p: ProcId) -> Option<Link>
     requires scans { AreScans scans.now }
     requires there { p.0 < length scans.now.design.now.processes.items }
-    ensures { let d = parts scans.now.design.now in
+    ensures { let d = flat scans.now.design.now in
         (task : Task) → slice_get d.tasks p.0 ≡ Some task → IsPassingLink d task result }
 {
     let process = &scans.design.processes[p.0 as usize];
@@ -62,7 +62,7 @@ pub fn passing_link(scans: &Scans, p: ProcId) -> Option<Link>
 fn push_passing(scans: &Scans, p: ProcId, links: &mut Vec<Link>) -> Result<(), Memory>
     requires scans { AreScans scans.now }
     requires there { p.0 < length scans.now.design.now.processes.items }
-    ensures { let d = parts scans.now.design.now in
+    ensures { let d = flat scans.now.design.now in
         OnOk result ((task : Task) → slice_get d.tasks p.0 ≡ Some task →
         GetsPassing d task links.old.items links.new.items) }
 {
@@ -75,7 +75,7 @@ fn push_passing(scans: &Scans, p: ProcId, links: &mut Vec<Link>) -> Result<(), M
 /// All such links.
 pub fn passing_links(alloc: Global, scans: &Scans) -> Result<Vec<Link>, Memory>
     requires { AreScans scans.now }
-    ensures { let d = parts scans.now.design.now in
+    ensures { let d = flat scans.now.design.now in
         IfOk result (λ links. ArePassing d (length d.tasks) links.items) }
 {
     let mut links = Vec::new(alloc);

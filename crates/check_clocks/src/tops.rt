@@ -3,7 +3,7 @@
 ghost use Rattle.std.specs.Prelude.{◌≡◌, ◌<◌, ◌∷◌, [], false, length, slice_index_or, IfOk, OnOk};
 ghost use Rattle.std.specs.List.{All, flat_map, slice_get};
 ghost use Rattle.rtl_flat.specs.Process.{doing};
-ghost use Rattle.rtl_rule.specs.Parts.{parts};
+ghost use Rattle.rtl_flat.specs.Flats.{flat};
 ghost use Rattle.check_chains.specs.rtl_scan.Graph.{row};
 ghost use Rattle.check_chains.specs.Chains.{chain_of};
 ghost use Rattle.check_clocks.specs.Tops.{AreMarkedAlso, AreRoles, AreTops, IsNoted, IsNotedFor, NotesChain, has_both, is_top};
@@ -61,7 +61,7 @@ fn note_top(
 /// The top inputs from which each signal comes through plain connections.
 pub fn tops_of(alloc: Global, design: &Design) -> Result<Vec<Vec<u32>>, Memory>
     ensures { IfOk result (λ tops.
-        AreTops (parts design.now) (length design.now.signals.items) tops.items) }
+        AreTops (flat design.now) (length design.now.signals.items) tops.items) }
 {
     let count = design.signals.len();
     let links = plain_links(alloc, design)?;
@@ -125,7 +125,7 @@ impl Roles {
         tops: &[Vec<u32>],
         does: &Does,
     ) -> Result<(), Memory>
-        ensures { let chain = chain_of (parts design.now) (doing does.now) in
+        ensures { let chain = chain_of (flat design.now) (doing does.now) in
             OnOk result (NotesChain tops.now chain self.old self.new) }
     {
         match chain_of(alloc, design, does)? {
@@ -151,7 +151,7 @@ fn mark_resets(marks: &mut [bool], tops: &[Vec<u32>], resets: &[Guard<'_>])
 
 /// The roles of all top inputs.
 pub fn roles_of(alloc: Global, design: &Design, tops: &[Vec<u32>]) -> Result<Roles, Memory>
-    ensures { let d = parts design.now in
+    ensures { let d = flat design.now in
         let count = length design.now.processes.items in
         IfOk result (λ roles. AreTops d (length d.signals) tops.now →
         AreRoles d count roles.clocks.items roles.resets.items) }

@@ -10,7 +10,7 @@ use Rattle.rtl_flat.specs.Paths.{BitSet, Flow}
 use Rattle.rtl_flat.specs.PathSets.{Lists, OfProcess, listed}
 use Rattle.rtl_flat.specs.Process.{Task, task}
 use Rattle.rtl_flat.specs.Signs.{width_in}
-use Rattle.rtl_rule.specs.Parts.{parts, widths}
+use Rattle.rtl_flat.specs.Flats.{flat, widths}
 
 -- two tests that mean one thing
 pub same_test : (a b : Bool) (P : Type 0) → a ≡ true ↔ P → b ≡ true ↔ P → a ≡ b
@@ -24,7 +24,7 @@ same_test a b P of_a of_b =
 pub as_set :
     (P : Flow → ℕ → ℕ → Type 0) (bits : Flow → BitSet) → ((flow : Flow) (s k : ℕ) → bits flow s k ≡ true ↔ P flow s k) → (design : Design) (p : ℕ) (found : BitSet) →
     ((s k : ℕ) → found s k ≡ true ↔ OfProcess P design.signals.items (map task design.processes.items) p s k) →
-    (one : Task) → slice_get (parts design).tasks p ≡ Some one → (s k : ℕ) → found s k ≡ bits (flow_of (widths (parts design)) one.does) s k
+    (one : Task) → slice_get (flat design).tasks p ≡ Some one → (s k : ℕ) → found s k ≡ bits (flow_of (widths (flat design)) one.does) s k
 as_set P bits decides design p found is one there s k =
     let signals = design.signals.items in
     let holds = λ (task : Task). P (flow_of (width_in signals) task.does) s k in
@@ -35,7 +35,7 @@ as_set P bits decides design p found is one there s k =
 -- what a process lists
 pub as_list :
     (design : Design) (p : ℕ) (found : BitSet) → ((s k : ℕ) → found s k ≡ true ↔ Lists design.signals.items (map task design.processes.items) p s k) →
-    (one : Task) → slice_get (parts design).tasks p ≡ Some one → (s k : ℕ) → found s k ≡ listed (widths (parts design)) one.does s k
+    (one : Task) → slice_get (flat design).tasks p ≡ Some one → (s k : ℕ) → found s k ≡ listed (widths (flat design)) one.does s k
 as_list design p found is one there s k =
     let signals = design.signals.items in
     let holds = λ (task : Task). listed (width_in signals) task.does s k ≡ true in

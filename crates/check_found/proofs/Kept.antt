@@ -7,7 +7,7 @@ use Rattle.rtl_flat.specs.PathSets.{Lists, OfProcess}
 use Rattle.rtl_flat.specs.Paths.{BitSet, MayWrite, ReadsOutside, may_write, reads_outside}
 use Rattle.rtl_flat.specs.Process.{Task, task}
 use Rattle.rtl_flat.proofs.Paths.{decided}
-use Rattle.rtl_rule.specs.Parts.{parts}
+use Rattle.rtl_flat.specs.Flats.{flat}
 use Rattle.rtl_scan.specs.declared.accesses.Accesses.{Accesses}
 use Rattle.rtl_scan.specs.declared.bits.Bits.{Bits}
 use Rattle.rtl_scan.specs.Accesses.{AreAccesses, AreOfEach}
@@ -19,10 +19,10 @@ use Rattle.check_found.proofs.Decided.{as_list, as_set}
 module _ (design : Design) (accesses : Accesses) (are : AreAccesses design.signals.items (map task design.processes.items) accesses) where
   -- where a condition decides what is asked
   kept : (asked : Asked) (P : ℕ → ℕ → ℕ → Type 0) (sets : List Bits) →
-      ((p : ℕ) (found : BitSet) → ((s k : ℕ) → found s k ≡ true ↔ P p s k) → (one : Task) → slice_get (parts design).tasks p ≡ Some one → (s k : ℕ) → found s k ≡ set_of (parts design) asked one s k) →
-      AreOfEach P (length (map task design.processes.items)) sets → AreSets (parts design) asked (length design.processes.items) sets
+      ((p : ℕ) (found : BitSet) → ((s k : ℕ) → found s k ≡ true ↔ P p s k) → (one : Task) → slice_get (flat design).tasks p ≡ Some one → (s k : ℕ) → found s k ≡ set_of (flat design) asked one s k) →
+      AreOfEach P (length (map task design.processes.items)) sets → AreSets (flat design) asked (length design.processes.items) sets
   kept asked P sets means each =
-      subst (λ n. AreSets (parts design) asked n sets) (sym (length-tasks design.processes.items))
+      subst (λ n. AreSets (flat design) asked n sets) (sym (length-tasks design.processes.items))
       (record {
         many = each.many;
         each = λ p found there. record {
@@ -31,16 +31,16 @@ module _ (design : Design) (accesses : Accesses) (are : AreAccesses design.signa
         };
       })
 
-  pub written_kept : AreSets (parts design) Written (length design.processes.items) accesses.writes.items
+  pub written_kept : AreSets (flat design) Written (length design.processes.items) accesses.writes.items
   written_kept =
       kept Written (OfProcess MayWrite design.signals.items (map task design.processes.items)) accesses.writes.items
       (as_set MayWrite may_write (λ flow s k. (decided flow s k).writes) design) are.writes
 
-  pub outside_kept : AreSets (parts design) Outside (length design.processes.items) accesses.reads.items
+  pub outside_kept : AreSets (flat design) Outside (length design.processes.items) accesses.reads.items
   outside_kept =
       kept Outside (OfProcess ReadsOutside design.signals.items (map task design.processes.items)) accesses.reads.items
       (as_set ReadsOutside reads_outside (λ flow s k. (decided flow s k).outside) design) are.reads
 
-  pub listed_kept : AreSets (parts design) Listed (length design.processes.items) accesses.lists.items
+  pub listed_kept : AreSets (flat design) Listed (length design.processes.items) accesses.lists.items
   listed_kept =
       kept Listed (Lists design.signals.items (map task design.processes.items)) accesses.lists.items (as_list design) are.lists

@@ -8,7 +8,8 @@ use Rattle.rtl_flat.specs.Paths.{BitSet}
 use Rattle.rtl_flat.specs.Process.{Task}
 use Rattle.rtl_flat.specs.Signs.{width_in}
 use Rattle.rtl_rule.specs.declared.finding.Finding.{Finding}
-use Rattle.rtl_rule.specs.Parts.{Parts, At, first_below, first_of, has_some, number, some_below, widths, within}
+use Rattle.rtl_rule.specs.Parts.{At, first_below, first_of, has_some, number, some_below, within}
+use Rattle.rtl_flat.specs.Flats.{Flat, widths}
 use Rattle.rtl_rule.specs.Sites.{AreFindings, AreThose}
 use Rattle.rtl_scan.specs.declared.bits.Row.{Row}
 use Rattle.rtl_scan.specs.Sets.{IsInOrder, has_row, has_rows}
@@ -182,7 +183,7 @@ earlier row others order s before =
     ap (λ b. b || has_row_of others s) (ne_eqb s row.signal.0 (λ same. absurd (omega (arith, before, same))))
     ∙ none_before others row.signal.0 s order.1 (omega (arith, before))
 
-module _ (d : Parts) (bits : BitSet) (rows : List Row) (are : AreRows (widths d) bits rows) where
+module _ (d : Flat) (bits : BitSet) (rows : List Row) (are : AreRows (widths d) bits rows) where
   -- a row's signal is one of the design
   pub row_below : (s : ℕ) → has_row_of rows s ≡ true → s < length d.signals
   row_below s h =
@@ -225,7 +226,7 @@ module _ (d : Parts) (bits : BitSet) (rows : List Row) (are : AreRows (widths d)
           (λ s before. sym (rows_have_some (widths d) bits (row ∷ others) is s) ∙ earlier row others is.order s before)
 
 -- a rule over each process with each signal that breaks at signals of rows alone: it is enough to go over the rows
-module _ (P : At ℕ → Type 0) (finding_at : At ℕ → Finding) (d : Parts) (bits : BitSet) (rows : List Row) (are : AreRows (widths d) bits rows) (n : ℕ) (task : Task) (from : (site : At ℕ) → P site → has_some (widths d) bits site.it ≡ true) where
+module _ (P : At ℕ → Type 0) (finding_at : At ℕ → Finding) (d : Flat) (bits : BitSet) (rows : List Row) (are : AreRows (widths d) bits rows) (n : ℕ) (task : Task) (from : (site : At ℕ) → P site → has_some (widths d) bits site.it ≡ true) where
   pub findings_by_rows : (found : List Finding) → AreFindings P finding_at (row_sites n task rows) found → AreFindings P finding_at (task_sites (signal_numbers d) n task) found
   findings_by_rows found h =
       narrow_findings P finding_at (λ site. has_some (widths d) bits site.it ≡ true) from (task_sites (signal_numbers d) n task) (row_sites n task rows) found (rows_those d bits rows are n task) h

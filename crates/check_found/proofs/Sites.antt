@@ -9,7 +9,8 @@ use Rattle.rtl_flat.specs.declared.act.Process.{Process}
 use Rattle.rtl_flat.specs.declared.design.Design.{Design}
 use Rattle.rtl_flat.specs.Process.{Doing, Task, task}
 use Rattle.rtl_rule.specs.declared.finding.Finding.{Finding}
-use Rattle.rtl_rule.specs.Parts.{Parts, At, parts, sites, within}
+use Rattle.rtl_rule.specs.Parts.{At, sites, within}
+use Rattle.rtl_flat.specs.Flats.{Flat, flat}
 use Rattle.rtl_rule.specs.Sites.{AreFindings}
 use Rattle.check_found.specs.Gathered.{Gets, task_sites, sites_from, sites_below}
 use Rattle.check_found.proofs.Gathering.{take_next, findings_more, no_findings}
@@ -44,11 +45,11 @@ pub read_at : {X : Type 0} (xs : List X) (k : ℕ) (x : X) → k < length xs →
 read_at xs k x below is = slice_get-get_or xs k x below ∙ ap Some (sym is)
 
 -- the plain form of a process
-pub task_at : (design : Design) (k : ℕ) (x : Process) → k < length design.processes.items → x ≡ get_or design.processes.items k x → slice_get (parts design).tasks k ≡ Some (task x)
+pub task_at : (design : Design) (k : ℕ) (x : Process) → k < length design.processes.items → x ≡ get_or design.processes.items k x → slice_get (flat design).tasks k ≡ Some (task x)
 task_at design k x below is =
     slice_get-map task design.processes.items k ∙ ap (option_map task) (read_at design.processes.items k x below is)
 
-pub task_count : (design : Design) → length (parts design).tasks ≡ length design.processes.items
+pub task_count : (design : Design) → length (flat design).tasks ≡ length design.processes.items
 task_count design = length-map design.processes.items task
 
 -- ---- processes
@@ -62,7 +63,7 @@ module _ {A : Type 0} (list : Doing → List A) where
       ∙ ap (λ l. sites_from list n tasks ++ l) (append-nil (task_sites list (n + length tasks) task))
 
   -- those of one process more
-  pub sites_next : (d : Parts) (n : ℕ) (task : Task) → slice_get d.tasks n ≡ Some task → sites_below list d (n + 1) ≡ sites_below list d n ++ task_sites list n task
+  pub sites_next : (d : Flat) (n : ℕ) (task : Task) → slice_get d.tasks n ≡ Some task → sites_below list d (n + 1) ≡ sites_below list d n ++ task_sites list n task
   sites_next d n task there =
       let count : 0 + length (take n d.tasks) ≡ n = number d.tasks n there in
       ap (sites_from list 0) (take_next d.tasks n task there)
@@ -76,10 +77,10 @@ module _ {A : Type 0} (list : Doing → List A) where
           let before = number tasks n there in omega (arith, before)
 
   -- those of all
-  pub sites_all : (d : Parts) (n : ℕ) → length d.tasks ≤ n → sites_below list d n ≡ sites list d
+  pub sites_all : (d : Flat) (n : ℕ) → length d.tasks ≤ n → sites_below list d n ≡ sites list d
   sites_all d n past = ap (sites_from list 0) (take_all n d.tasks past)
 
-module _ {A : Type 0} (P : At A → Type 0) (finding_at : At A → Finding) (list : Doing → List A) (d : Parts) where
+module _ {A : Type 0} (P : At A → Type 0) (finding_at : At A → Finding) (list : Doing → List A) (d : Flat) where
   -- before the first process
   pub none_below : AreFindings P finding_at (sites_below list d 0) []
   none_below = no_findings P finding_at

@@ -6,7 +6,8 @@ use Rattle.rtl_flat.specs.declared.expr.SigId.{SigId}
 use Rattle.rtl_flat.specs.declared.signal.Signal.{Signal}
 use Rattle.rtl_flat.specs.Process.{Doing, Task}
 use Rattle.rtl_rule.specs.declared.finding.Finding.{Finding}
-use Rattle.rtl_rule.specs.Parts.{Parts, At, within}
+use Rattle.rtl_rule.specs.Parts.{At, within}
+use Rattle.rtl_flat.specs.Flats.{Flat}
 use Rattle.rtl_rule.specs.Sites.{AreFindings}
 use Rattle.rtl_scan.specs.declared.bits.Row.{Row}
 
@@ -20,11 +21,11 @@ sites_from list number tasks =
     flat_map (λ (one : ℕ × Task). map (within one) (list one.1.does)) (enumerate_from number tasks)
 
 -- the sites of the processes below a number
-abbrev pub sites_below : {A : Type 0} → (Doing → List A) → Parts → ℕ → List (At A)
+abbrev pub sites_below : {A : Type 0} → (Doing → List A) → Flat → ℕ → List (At A)
 sites_below list d n = sites_from list 0 (take n d.tasks)
 
 -- the numbers of all signals
-abbrev pub signal_numbers : Parts → Doing → List ℕ
+abbrev pub signal_numbers : Flat → Doing → List ℕ
 signal_numbers d does = map (λ (one : ℕ × Signal). one.0) (enumerate_from 0 d.signals)
 
 -- one process with the signals of some rows

@@ -6,7 +6,8 @@ ghost use Rattle.rtl_flat.specs.Flows.{flow_of};
 ghost use Rattle.rtl_flat.specs.PathSets.{IsTemporary, listed};
 ghost use Rattle.rtl_flat.specs.Paths.{reads_outside};
 ghost use Rattle.rtl_flat.specs.Process.{Task};
-ghost use Rattle.rtl_rule.specs.Parts.{first_of, parts, widths, written};
+ghost use Rattle.rtl_rule.specs.Parts.{first_of, written};
+ghost use Rattle.rtl_flat.specs.Flats.{flat, widths};
 ghost use Rattle.rtl_scan.specs.Sets.{IsInOrder, has_rows};
 ghost use Rattle.check_found.specs.Scanned.{AreScans};
 
@@ -49,7 +50,7 @@ impl<'d> Scans<'d> {
     pub fn written(&self, p: ProcId) -> &Bits
         requires scans { AreScans self.now }
         requires there { p.0 < length self.now.design.now.processes.items }
-        ensures bits { let d = parts self.now.design.now in
+        ensures bits { let d = flat self.now.design.now in
             (task : Task) → slice_get d.tasks p.0 ≡ Some task → (s k : ℕ) →
             has_rows result.now.rows.items s k ≡ written d task.does s k }
         ensures order { IsInOrder result.now.rows.items }
@@ -61,7 +62,7 @@ impl<'d> Scans<'d> {
     pub fn first_written(&self, p: ProcId) -> Option<SigId>
         requires scans { AreScans self.now }
         requires there { p.0 < length self.now.design.now.processes.items }
-        ensures { let d = parts self.now.design.now in
+        ensures { let d = flat self.now.design.now in
             (task : Task) → slice_get d.tasks p.0 ≡ Some task → result ≡ first_of d (written d task.does) }
     {
         first_signal(self.written(p))
@@ -71,7 +72,7 @@ impl<'d> Scans<'d> {
     pub fn read_outside(&self, p: ProcId) -> &Bits
         requires scans { AreScans self.now }
         requires there { p.0 < length self.now.design.now.processes.items }
-        ensures bits { let d = parts self.now.design.now in
+        ensures bits { let d = flat self.now.design.now in
             (task : Task) → slice_get d.tasks p.0 ≡ Some task → (s k : ℕ) →
             has_rows result.now.rows.items s k ≡ reads_outside (flow_of (widths d) task.does) s k }
         ensures order { IsInOrder result.now.rows.items }
@@ -83,7 +84,7 @@ impl<'d> Scans<'d> {
     pub fn listed(&self, p: ProcId) -> &Bits
         requires scans { AreScans self.now }
         requires there { p.0 < length self.now.design.now.processes.items }
-        ensures bits { let d = parts self.now.design.now in
+        ensures bits { let d = flat self.now.design.now in
             (task : Task) → slice_get d.tasks p.0 ≡ Some task → (s k : ℕ) →
             has_rows result.now.rows.items s k ≡ listed (widths d) task.does s k }
         ensures order { IsInOrder result.now.rows.items }
@@ -94,7 +95,7 @@ impl<'d> Scans<'d> {
     /// Whether each signal is a temporary.
     pub fn temporaries(&self) -> &[bool]
         requires { AreScans self.now }
-        ensures { let d = parts self.now.design.now in
+        ensures { let d = flat self.now.design.now in
             (s : ℕ) → slice_get result.now s ≡ Some true ↔ IsTemporary d.signals d.tasks s }
     {
         &self.temporaries

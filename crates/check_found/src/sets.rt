@@ -6,7 +6,8 @@ ghost use Rattle.rtl_flat.specs.Flows.{flow_of};
 ghost use Rattle.rtl_flat.specs.PathSets.{listed};
 ghost use Rattle.rtl_flat.specs.Paths.{is_sure, reads_outside};
 ghost use Rattle.rtl_flat.specs.Process.{Task};
-ghost use Rattle.rtl_rule.specs.Parts.{first_of, parts, widths, written};
+ghost use Rattle.rtl_rule.specs.Parts.{first_of, written};
+ghost use Rattle.rtl_flat.specs.Flats.{flat, widths};
 ghost use Rattle.rtl_scan.specs.Sets.{IsInOrder, has_rows};
 ghost use Rattle.check_found.specs.Gathered.{first_signal};
 
@@ -20,7 +21,7 @@ use std::alloc::Global;
 /// The bits that a process may write.
 pub fn written(alloc: Global, design: &Design, p: ProcId) -> Result<Bits, Memory>
     requires { p.0 < length design.now.processes.items }
-    ensures bits { let d = parts design.now in
+    ensures bits { let d = flat design.now in
         IfOk result (λ bits. (task : Task) → slice_get d.tasks p.0 ≡ Some task → (s k : ℕ) →
         has_rows bits.rows.items s k ≡ written d task.does s k) }
     ensures order { IfOk result (λ bits. IsInOrder bits.rows.items) }
@@ -31,7 +32,7 @@ pub fn written(alloc: Global, design: &Design, p: ProcId) -> Result<Bits, Memory
 /// The bits that a process reads before it has written them.
 pub fn read_outside(alloc: Global, design: &Design, p: ProcId) -> Result<Bits, Memory>
     requires { p.0 < length design.now.processes.items }
-    ensures bits { let d = parts design.now in
+    ensures bits { let d = flat design.now in
         IfOk result (λ bits. (task : Task) → slice_get d.tasks p.0 ≡ Some task → (s k : ℕ) →
         has_rows bits.rows.items s k ≡ reads_outside (flow_of (widths d) task.does) s k) }
     ensures order { IfOk result (λ bits. IsInOrder bits.rows.items) }
@@ -42,7 +43,7 @@ pub fn read_outside(alloc: Global, design: &Design, p: ProcId) -> Result<Bits, M
 /// The bits that a process lists.
 pub fn listed(alloc: Global, design: &Design, p: ProcId) -> Result<Bits, Memory>
     requires { p.0 < length design.now.processes.items }
-    ensures bits { let d = parts design.now in
+    ensures bits { let d = flat design.now in
         IfOk result (λ bits. (task : Task) → slice_get d.tasks p.0 ≡ Some task → (s k : ℕ) →
         has_rows bits.rows.items s k ≡ listed (widths d) task.does s k) }
     ensures order { IfOk result (λ bits. IsInOrder bits.rows.items) }
@@ -53,7 +54,7 @@ pub fn listed(alloc: Global, design: &Design, p: ProcId) -> Result<Bits, Memory>
 /// The bits that a process writes on every path.
 pub fn sure(alloc: Global, design: &Design, p: ProcId) -> Result<Bits, Memory>
     requires { p.0 < length design.now.processes.items }
-    ensures bits { let d = parts design.now in
+    ensures bits { let d = flat design.now in
         IfOk result (λ bits. (task : Task) → slice_get d.tasks p.0 ≡ Some task → (s k : ℕ) →
         has_rows bits.rows.items s k ≡ is_sure (flow_of (widths d) task.does) s k) }
     ensures order { IfOk result (λ bits. IsInOrder bits.rows.items) }
@@ -64,7 +65,7 @@ pub fn sure(alloc: Global, design: &Design, p: ProcId) -> Result<Bits, Memory>
 /// The least signal that a process may write.
 pub fn first_written(alloc: Global, design: &Design, p: ProcId) -> Result<Option<SigId>, Memory>
     requires { p.0 < length design.now.processes.items }
-    ensures { let d = parts design.now in
+    ensures { let d = flat design.now in
         IfOk result (λ first. (task : Task) → slice_get d.tasks p.0 ≡ Some task →
         first ≡ first_of d (written d task.does)) }
 {

@@ -3,7 +3,7 @@ use Rattle.std.specs.List.{slice_get}
 use Rattle.std.proofs.Common.{ℕ, zero, suc, ◌≡◌, ◌<◌, arith, List, [], ◌∷◌, length, Some, refl}
 use Rattle.rtl_flat.specs.declared.design.Design.{Design}
 use Rattle.rtl_flat.specs.Process.{Task}
-use Rattle.rtl_rule.specs.Parts.{parts}
+use Rattle.rtl_flat.specs.Flats.{flat}
 use Rattle.check_found.proofs.Sites.{task_count}
 
 there_is : {A : Type 0} (xs : List A) (k : ℕ) → k < length xs → (x : A) × (slice_get xs k ≡ Some x)
@@ -11,7 +11,7 @@ there_is [] k below = absurd (omega arith)
 there_is (x ∷ xs) zero below = (x, refl)
 there_is (x ∷ xs) (suc k) below = there_is xs k (omega arith)
 
-pub task_of : (design : Design) (k : ℕ) → k < length design.processes.items → (one : Task) × (slice_get (parts design).tasks k ≡ Some one)
+pub task_of : (design : Design) (k : ℕ) → k < length design.processes.items → (one : Task) × (slice_get (flat design).tasks k ≡ Some one)
 task_of design k below =
     let count = task_count design in
-    there_is (parts design).tasks k (omega arith)
+    there_is (flat design).tasks k (omega arith)

@@ -3,7 +3,7 @@
 ghost use Rattle.std.specs.Prelude.{◌≡◌, ◌<◌, length, true, Some, IfOk, OnOk};
 ghost use Rattle.std.specs.List.{slice_get};
 ghost use Rattle.rtl_flat.specs.Process.{Task};
-ghost use Rattle.rtl_rule.specs.Parts.{parts, widths};
+ghost use Rattle.rtl_flat.specs.Flats.{flat, widths};
 ghost use Rattle.check_loops.specs.rtl_scan.Arrows.{AreArrows};
 ghost use Rattle.check_found.specs.Scanned.{AreScans};
 ghost use Rattle.check_graph.specs.Feeds.{AreFeeders, FromRow, FromRows, FromWriters, Joins, comes, is_from};
@@ -96,7 +96,7 @@ fn feeders(
 ) -> Result<Vec<u32>, Memory>
     requires scans { AreScans scans.now }
     requires there { q.0 < length scans.now.design.now.processes.items }
-    ensures { let d = parts scans.now.design.now in IfOk result (λ found.
+    ensures { let d = flat scans.now.design.now in IfOk result (λ found.
         (task : Task) → slice_get d.tasks q.0 ≡ Some task →
         AreFeeders (widths d) table.now task q.0 found.items) }
 {
@@ -122,7 +122,7 @@ fn feeders(
 /// The level graph: a row has the processes that feed its process.
 pub(crate) fn arrows(alloc: Global, scans: &Scans) -> Result<Vec<Vec<u32>>, Memory>
     requires { AreScans scans.now }
-    ensures { let d = parts scans.now.design.now in
+    ensures { let d = flat scans.now.design.now in
         IfOk result (λ rows. AreArrows d.signals d.tasks rows.items) }
 {
     let table = writers(alloc, scans)?;

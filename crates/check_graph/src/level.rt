@@ -1,7 +1,7 @@
 // Cycles of the level graph.
 
 ghost use Rattle.std.specs.Prelude.{IfOk};
-ghost use Rattle.rtl_rule.specs.Parts.{parts};
+ghost use Rattle.rtl_flat.specs.Flats.{flat};
 ghost use Rattle.check_found.specs.Scanned.{AreScans};
 ghost use Rattle.check_graph.specs.Loops.{AreLevelLoops};
 
@@ -15,7 +15,7 @@ use std::alloc::Global;
 /// next reads before it has written it, or lists.
 pub fn loops(alloc: Global, scans: &Scans) -> Result<Vec<bool>, Memory>
     requires { AreScans scans.now }
-    ensures { let d = parts scans.now.design.now in
+    ensures { let d = flat scans.now.design.now in
         IfOk result (λ answers. AreLevelLoops d.signals d.tasks answers.items) }
 {
     let rows = arrows(alloc, scans)?;

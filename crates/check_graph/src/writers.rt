@@ -3,7 +3,7 @@
 ghost use Rattle.std.specs.Prelude.{ℕ, ◌≡◌, ◌<◌, length, Some, IfOk, OnOk};
 ghost use Rattle.std.specs.List.{slice_get};
 ghost use Rattle.rtl_flat.specs.Process.{Task, doing};
-ghost use Rattle.rtl_rule.specs.Parts.{parts, widths};
+ghost use Rattle.rtl_flat.specs.Flats.{flat, widths};
 ghost use Rattle.check_loops.specs.rtl_scan.Arrows.{is_node};
 ghost use Rattle.check_found.specs.Scanned.{AreScans};
 ghost use Rattle.check_graph.specs.Feeds.{AreWriters, Notes, Puts, WritesMore, bucket};
@@ -88,7 +88,7 @@ fn note_writes(
 ) -> Result<(), Memory>
     requires scans { AreScans scans.now }
     requires there { p.0 < length scans.now.design.now.processes.items }
-    ensures { let d = parts scans.now.design.now in
+    ensures { let d = flat scans.now.design.now in
         OnOk result ((task : Task) → slice_get d.tasks p.0 ≡ Some task →
         WritesMore (widths d) task p.0 table.old.items table.new.items) }
 {
@@ -101,7 +101,7 @@ fn note_writes(
 /// The processes that write bits of each signal.
 pub(crate) fn writers(alloc: Global, scans: &Scans) -> Result<Vec<Vec<Writer>>, Memory>
     requires { AreScans scans.now }
-    ensures { let d = parts scans.now.design.now in
+    ensures { let d = flat scans.now.design.now in
         IfOk result (λ table. AreWriters (widths d) d.tasks (length d.tasks) table.items) }
 {
     let mut table = Vec::new(alloc);

@@ -15,9 +15,9 @@ use Rattle.net_laws.specs.Rules.{EachOf, EachPart, DividesByPower, HasNone, IsCl
 use Rattle.net_laws.proofs.Apart as apart
 use Rattle.net_laws.proofs.Firm as firm
 use Rattle.rtl_bits.specs.declared.Bit.TheVariants.{X, Z}
-use Rattle.rtl_rule.specs.Parts.{Parts, all_of, index_of, indices, is_one_literal, items_of, labels, own_labels, own_trees, trees, valued_trees}
+use Rattle.rtl_rule.specs.Parts.{all_of, index_of, indices, is_one_literal, items_of, labels, own_labels, own_trees, trees, valued_trees}
+use Rattle.rtl_flat.specs.Flats.{Flat}
 use Rattle.check_laws.specs.Cases.{Does, IsBodyOf}
-use Rattle.check_laws.specs.Designs.{flat_of}
 use Rattle.check_laws.specs.Expressions.{AreMarked, ExclusiveBodies, FirmAssigns, HasNoDoubt, TameBodies}
 use Rattle.check_laws.proofs.Cases.{full_case, parallel_case}
 use Rattle.check_laws.proofs.Expressions.{divide_variable, select_range, tristate, unknown_literal}
@@ -105,15 +105,15 @@ one_literal (Beside a b) = refl
 one_literal (Repeated n a) = refl
 one_literal (Recast a) = refl
 
-module _ (d : Parts) (marked : AreMarked d) (none : HasNoDoubt d) (p : ℕ) (task : Task) (there : slice_get d.tasks p ≡ Some task) where
+module _ (d : Flat) (marked : AreMarked d) (none : HasNoDoubt d) (p : ℕ) (task : Task) (there : slice_get d.tasks p ≡ Some task) where
   abbrev IsClearHere : Tree → Type 0
-  IsClearHere = IsClear (flat_of d)
+  IsClearHere = IsClear d
 
   abbrev IsKnown : Tree → Type 0
   IsKnown e = EachPart (HasNone X) e × EachPart (HasNone Z) e
 
   abbrev IsInside : Tree → Type 0
-  IsInside e = EachPart (SelectsInside (flat_of d)) e × EachPart DividesByPower e
+  IsInside e = EachPart (SelectsInside d) e × EachPart DividesByPower e
 
   known : Each IsKnown (valued_trees task.does)
   known =
@@ -122,10 +122,10 @@ module _ (d : Parts) (marked : AreMarked d) (none : HasNoDoubt d) (p : ℕ) (tas
       (each_from (EachPart (HasNone X)) es (unknown_literal d marked none.x1 p task there))
       (each_from (EachPart (HasNone Z)) es (tristate d marked none.z1 p task there))
 
-  inside_in : (es : List Tree) → All (EachPart (SelectsInside (flat_of d))) es → All (EachPart DividesByPower) es → Each IsInside es
+  inside_in : (es : List Tree) → All (EachPart (SelectsInside d)) es → All (EachPart DividesByPower) es → Each IsInside es
   inside_in es x2 x3 =
-      each_both (EachPart (SelectsInside (flat_of d))) (EachPart DividesByPower) IsInside (λ e a b. (a, b)) es
-      (each_from (EachPart (SelectsInside (flat_of d))) es x2) (each_from (EachPart DividesByPower) es x3)
+      each_both (EachPart (SelectsInside d)) (EachPart DividesByPower) IsInside (λ e a b. (a, b)) es
+      (each_from (EachPart (SelectsInside d)) es x2) (each_from (EachPart DividesByPower) es x3)
 
   clear_trees : Each IsClearHere (trees task.does)
   clear_trees =
@@ -144,7 +144,7 @@ module _ (d : Parts) (marked : AreMarked d) (none : HasNoDoubt d) (p : ℕ) (tas
       (inside_in es (select_range d marked none.x2 p task there).1 (divide_variable d marked none.x3 p task there).1)
 
 -- the body of a lawful process
-pub lawful_body : (d : Parts) → AreLawful (flat_of d) → (p : ℕ) (body : Actions) → IsBodyOf d p body → IsBody d.signals body
+pub lawful_body : (d : Flat) → AreLawful d → (p : ℕ) (body : Actions) → IsBodyOf d p body → IsBody d.signals body
 lawful_body d lawful p body is = by_does is.task.does is.does (lawful p is.task.does (ap doing_of is.there))
   where
     by_does : (does : Doing) → Does does body → IsProcess d.signals does → IsBody d.signals body
@@ -152,17 +152,17 @@ lawful_body d lawful p body is = by_does is.task.does is.does (lawful p is.task.
     by_does (Comb list own) same h = subst (IsBody d.signals) same h.1
     by_does (Edge' events own) same h = subst (IsBody d.signals) same h.2
 
-pub firm_assigns : (d : Parts) → FirmAssigns d
+pub firm_assigns : (d : Flat) → FirmAssigns d
 firm_assigns d lawful marked none p target value is =
-    let at = task_of (flat_of d) p (Assign target value) is in
-    let clear = subst (λ does. Each (IsClear (flat_of d)) (trees does)) at.is (clear_trees d marked none p at.task at.there) in
-    firm.firm (flat_of d) value (lawful p (Assign target value) is).0.sized clear.0
+    let at = task_of d p (Assign target value) is in
+    let clear = subst (λ does. Each (IsClear d) (trees does)) at.is (clear_trees d marked none p at.task at.there) in
+    firm.firm d value (lawful p (Assign target value) is).0.sized clear.0
 
-pub tame_bodies : (d : Parts) → TameBodies d
+pub tame_bodies : (d : Flat) → TameBodies d
 tame_bodies d lawful marked none p body is =
-    let clear = of_process (IsClear (flat_of d)) is.task.does body is.does (clear_trees d marked none p is.task is.there) (clear_labels d marked none p is.task is.there) in
-    firm.tame (flat_of d) body (lawful_body d lawful p body is) clear (full_case d none.c1 p body is)
+    let clear = of_process (IsClear d) is.task.does body is.does (clear_trees d marked none p is.task is.there) (clear_labels d marked none p is.task is.there) in
+    firm.tame d body (lawful_body d lawful p body is) clear (full_case d none.c1 p body is)
 
-pub exclusive_bodies : (d : Parts) → ExclusiveBodies d
+pub exclusive_bodies : (d : Flat) → ExclusiveBodies d
 exclusive_bodies d lawful marked none p body is =
-    apart.exclusive (flat_of d) body (lawful_body d lawful p body is) (tame_bodies d lawful marked none p body is) (parallel_case d none.c2 p body is)
+    apart.exclusive d body (lawful_body d lawful p body is) (tame_bodies d lawful marked none p body is) (parallel_case d none.c2 p body is)

@@ -10,10 +10,10 @@ use Rattle.rtl_flat.specs.Flows.{complete_by_labels, labels_of, literal}
 use Rattle.rtl_flat.specs.Process.{Action, Set, If, Case, Block, Actions, Otherwise, Without, With, Branches, NoBranch, Branch, Doing, Assign, Comb, Edge'}
 use Rattle.net_laws.specs.Rules.{AreApart, AreDisjoint, HasDisjoint, IsFull}
 use Rattle.net_laws.proofs.Literals.{form_of}
-use Rattle.rtl_rule.specs.Parts.{Parts, all_of, statements, widths}
+use Rattle.rtl_rule.specs.Parts.{all_of, statements}
+use Rattle.rtl_flat.specs.Flats.{Flat, widths}
 use Rattle.check_case.specs.Cases.{IsFullCase, IsParallelCase, all_disjoint, are_disjoint, disjoint_from, full_case_at, is_false_full, is_false_parallel, items_disjoint, parallel_case_at, some_differ}
 use Rattle.check_laws.specs.Cases.{Does, FullCase, ParallelCase}
-use Rattle.check_laws.specs.Designs.{flat_of}
 use Rattle.check_laws.proofs.Sites.{Each, each_all, refuted_in}
 use Rattle.check_laws.proofs.Statements.{each_of}
 
@@ -25,17 +25,17 @@ of_body P (Edge' events own) body is h = subst (λ b. Each P (all_of b)) is h
 
 -- ---- C1
 
-pub full_case : (d : Parts) → FullCase d
+pub full_case : (d : Flat) → FullCase d
 full_case d none p body is =
-    each_of (IsFull (flat_of d)) (λ a. is_false_full (widths d) a ≡ true → ⊥) (λ b. tt) of_one body
+    each_of (IsFull d) (λ a. is_false_full (widths d) a ≡ true → ⊥) (λ b. tt) of_one body
     (of_body (λ a. is_false_full (widths d) a ≡ true → ⊥) is.task.does body is.does (refuted_in (IsFullCase d) (full_case_at d) statements d none p is.task is.there))
   where
-    of_case : (kind : CaseKind) (full parallel : Bool) (selector : Tree) (branches : Branches) (fallback : Otherwise) (spot : _) → (is_false_full (widths d) (Case kind full parallel selector branches fallback spot) ≡ true → ⊥) → IsFull (flat_of d) (Case kind full parallel selector branches fallback spot)
+    of_case : (kind : CaseKind) (full parallel : Bool) (selector : Tree) (branches : Branches) (fallback : Otherwise) (spot : _) → (is_false_full (widths d) (Case kind full parallel selector branches fallback spot) ≡ true → ⊥) → IsFull d (Case kind full parallel selector branches fallback spot)
     of_case kind full parallel selector branches (With other) spot refutes = tt
     of_case kind full parallel selector branches Without spot refutes = λ says.
         true_from_ne_false (complete_by_labels (widths d) kind selector branches) (λ missing. refutes (and_from full _ says (not_from_false _ missing)))
 
-    of_one : (a : Action) → (is_false_full (widths d) a ≡ true → ⊥) → IsFull (flat_of d) a
+    of_one : (a : Action) → (is_false_full (widths d) a ≡ true → ⊥) → IsFull d a
     of_one (Set target value delayed spot) refutes = tt
     of_one (If test taken other spot) refutes = tt
     of_one (Case kind full parallel selector branches fallback spot) refutes =
@@ -88,7 +88,7 @@ disjoint (Branch labels body others) h =
     let (here, there) = and_parts (disjoint_from labels others) (all_disjoint others) h in
     (each_all (λ a. All (AreApart a) (labels_of others)) labels (from_apart labels others here), disjoint others there)
 
-pub parallel_case : (d : Parts) → ParallelCase d
+pub parallel_case : (d : Flat) → ParallelCase d
 parallel_case d none p body is =
     each_of HasDisjoint (λ a. is_false_parallel a ≡ true → ⊥) (λ b. tt) of_one body
     (of_body (λ a. is_false_parallel a ≡ true → ⊥) is.task.does body is.does (refuted_in IsParallelCase (parallel_case_at d) statements d none p is.task is.there))

@@ -17,27 +17,28 @@ use Rattle.rtl_flat.specs.Process.{Watched, Actions, Doing, Assign, Comb, Edge',
 use Rattle.rtl_flat.specs.Signs.{width_in}
 use Rattle.rtl_flat.specs.WellFormed.{IsBody, has_edge}
 use Rattle.rtl_flat.proofs.Paths.{decided}
-use Rattle.event_model.specs.Queue.{Flat, doing_at, doing_of}
+use Rattle.event_model.specs.Queue.{doing_at, doing_of}
+use Rattle.rtl_flat.specs.Flats.{Flat, widths}
 use Rattle.event_model.specs.Queue as queue
 use Rattle.net_laws.specs.event_laws.Steady.{AreLawful}
 use Rattle.net_laws.proofs.event_laws_proofs.Within.{may_read_outside, outside_inside, target_inside, write_inside}
 use Rattle.net_model.specs.Solution.{IsRegisterBit}
-use Rattle.rtl_rule.specs.Parts.{Parts, has_some, widths, written}
+use Rattle.rtl_rule.specs.Parts.{has_some, written}
 use Rattle.check_sense.specs.Sense.{AreMixedEdges, AreNeverWakes, AreSenseMissing, IsMixedEdges, IsNeverWakes, IsSenseMissing, another_writes, can_wake, first_level, has_item, is_top, misses, mixed_edges_at, never_wakes_at, sense_missing_at}
 use Rattle.check_sense.specs.Sense as sense
 use Rattle.check_xprop.specs.check_assign.Assigned.{AreCombLoop, AreSeveralDrivers, IsBlockingState, IsCombLoop, IsLatchInferred, IsMixedAssign, IsNonblockingComb, IsSeveralDrivers, IsUndriven, blocking_state_at, comb_loop_at, is_clocked, is_comb, is_input, is_written, late, latch_inferred_at, lower_writes, mixed_assign_at, nonblocking_comb_at, now, several_drivers_at, undriven_at}
-use Rattle.check_laws.specs.Designs.{AreTemporariesDecided, BlockingState, CombLoop, CombLoopAlone, IsComb, IsComputedBit, IsEdge, LatchInferred, MixedAssign, MixedEdges, NeverWakes, NonblockingComb, SenseMissing, SeveralDrivers, Undriven, flat_of}
+use Rattle.check_laws.specs.Designs.{AreTemporariesDecided, BlockingState, CombLoop, CombLoopAlone, IsComb, IsComputedBit, IsEdge, LatchInferred, MixedAssign, MixedEdges, NeverWakes, NonblockingComb, SenseMissing, SeveralDrivers, Undriven}
 use Rattle.check_laws.proofs.Sites.{any_found, each_numbered, numbered_found, process_refuted, refuted, signal_refuted, signal_there, slice_there, some_at, some_found, task_of}
 
 -- ---- S1
 
-pub comb_body : (d : Parts) → AreLawful (flat_of d) → (p : ℕ) (list : Option (List Watched)) (body : Actions) → IsComb d p list body → IsBody d.signals body
+pub comb_body : (d : Flat) → AreLawful d → (p : ℕ) (list : Option (List Watched)) (body : Actions) → IsComb d p list body → IsBody d.signals body
 comb_body d lawful p list body is = (lawful p (Comb list body) is).1
 
-pub edge_body : (d : Parts) → AreLawful (flat_of d) → (p : ℕ) (events : List Watched) (body : Actions) → IsEdge d p events body → IsBody d.signals body
+pub edge_body : (d : Flat) → AreLawful d → (p : ℕ) (events : List Watched) (body : Actions) → IsEdge d p events body → IsBody d.signals body
 edge_body d lawful p events body is = (lawful p (Edge' events body) is).2
 
-pub sense_missing : (d : Parts) → SenseMissing d
+pub sense_missing : (d : Flat) → SenseMissing d
 sense_missing d lawful none p list body is i k read = by_list list is
   where
     by_list : (l : Option (List Watched)) → IsComb d p l body → listed (widths d) (Comb l body) i k ≡ true
@@ -45,7 +46,7 @@ sense_missing d lawful none p list body is i k read = by_list list is
     by_list (Some items) is =
         true_from_ne_false (items_list (widths d) items i k) (λ missing.
         let inside = outside_inside d.signals body (comb_body d lawful p (Some items) body is) i k read in
-        let at = task_of (flat_of d) p (Comb (Some items) body) is in
+        let at = task_of d p (Comb (Some items) body) is in
         let missed : misses d (Comb (Some items) body) i ≡ true =
         some_at (widths d i) (λ n. reads_outside (body_flow (widths d) body) i n && not (items_list (widths d) items i n)) k inside (and_from _ _ ((decided (body_flow (widths d) body) i k).outside.1 read) (not_from_false _ missing)) in
         signal_refuted (IsSenseMissing d) sense_missing_at d none p at.task at.there i (signal_there d.signals i k inside) (subst (λ does. misses d does i ≡ true) (sym at.is) missed))
@@ -84,20 +85,20 @@ now_may flow i k at_once =
     of_step (Read bits) h = h
     of_step (Write delayed may sure) h = (and_parts (not delayed) (may i k) h).1
 
-pub nonblocking_comb : (d : Parts) → NonblockingComb d
+pub nonblocking_comb : (d : Flat) → NonblockingComb d
 nonblocking_comb d lawful none p list body is i k written =
     let flow = body_flow (widths d) body in
     let inside = write_inside d.signals body (comb_body d lawful p list body is) i k (late_may flow i k written) in
-    let at = task_of (flat_of d) p (Comb list body) is in
+    let at = task_of d p (Comb list body) is in
     let found : has_some (widths d) (late d (Comb list body)) i ≡ true =
     some_at (widths d i) (may_write_delayed flow i) k inside ((decided flow i k).late.1 written) in
     signal_refuted (IsNonblockingComb d) (nonblocking_comb_at d) d none p at.task at.there i (signal_there d.signals i k inside) (subst (λ does. (is_comb does && has_some (widths d) (late d does) i) ≡ true) (sym at.is) found)
 
-pub mixed_assign : (d : Parts) → MixedAssign d
+pub mixed_assign : (d : Flat) → MixedAssign d
 mixed_assign d lawful none p events body is i k at_once later =
     let flow = body_flow (widths d) body in
     let inside = write_inside d.signals body (edge_body d lawful p events body is) i k (late_may flow i k later) in
-    let at = task_of (flat_of d) p (Edge' events body) is in
+    let at = task_of d p (Edge' events body) is in
     let found : has_some (widths d) (now d (Edge' events body)) i ≡ true =
     some_at (widths d i) (may_write_blocking flow i) k inside ((decided flow i k).now.1 at_once) in
     let found' : has_some (widths d) (late d (Edge' events body)) i ≡ true =
@@ -106,12 +107,12 @@ mixed_assign d lawful none p events body is i k at_once later =
 
 -- ---- L1
 
-pub latch_inferred : (d : Parts) → LatchInferred d
+pub latch_inferred : (d : Flat) → LatchInferred d
 latch_inferred d lawful none p list body is i k may lasting =
     let flow = body_flow (widths d) body in
     (decided flow i k).sure.0 (true_from_ne_false (is_sure flow i k) (λ missing.
     let inside = write_inside d.signals body (comb_body d lawful p list body is) i k may in
-    let at = task_of (flat_of d) p (Comb list body) is in
+    let at = task_of d p (Comb list body) is in
     let found : has_some (widths d) (λ s n. written d (Comb list body) s n && not (is_sure flow s n)) i ≡ true =
     some_at (widths d i) (λ n. may_write flow i n && not (is_sure flow i n)) k inside (and_from _ _ ((decided flow i k).writes.1 may) (not_from_false _ missing)) in
     signal_refuted (IsLatchInferred d) latch_inferred_at d none p at.task at.there i (signal_there d.signals i k inside) (record {
@@ -122,10 +123,10 @@ latch_inferred d lawful none p list body is i k may lasting =
 
 -- ---- A6
 
-arrow_node : (d : Parts) (n p q : ℕ) → Chain (IsArrow d.signals d.tasks) (suc n) p q → IsNode d.tasks q
+arrow_node : (d : Flat) (n p q : ℕ) → Chain (IsArrow d.signals d.tasks) (suc n) p q → IsNode d.tasks q
 arrow_node d n p q (level.Then m p' r q' before arrow) = arrow.to
 
-loop_refuted : (d : Parts) → AreCombLoop d [] → (n p : ℕ) → Chain (IsArrow d.signals d.tasks) (suc n) p p → ⊥
+loop_refuted : (d : Flat) → AreCombLoop d [] → (n p : ℕ) → Chain (IsArrow d.signals d.tasks) (suc n) p p → ⊥
 loop_refuted d none n p cycle = by_task (slice_get d.tasks p) refl (arrow_node d n p p cycle)
   where
     by_task : (o : Option Task) → slice_get d.tasks p ≡ o → IsSomeAnd o (λ task. level.HasNoEdge task.does) → ⊥
@@ -133,15 +134,15 @@ loop_refuted d none n p cycle = by_task (slice_get d.tasks p) refl (arrow_node d
     by_task (Some task) e node =
         process_refuted (IsCombLoop d) (comb_loop_at d) d none p task e (n, cycle)
 
-pub comb_loop : (d : Parts) → CombLoop d
+pub comb_loop : (d : Flat) → CombLoop d
 comb_loop d none p behind = loop_refuted d none behind.round behind.node behind.cycle
 
-arrow_loop : (d : Parts) (p : ℕ) → IsArrow d.signals d.tasks p p → Chain (IsArrow d.signals d.tasks) 1 p p
+arrow_loop : (d : Flat) (p : ℕ) → IsArrow d.signals d.tasks p p → Chain (IsArrow d.signals d.tasks) 1 p p
 arrow_loop d p arrow = level.Then 0 p p p (level.Here p) arrow
 
-pub comb_loop_alone : (d : Parts) → CombLoopAlone d
+pub comb_loop_alone : (d : Flat) → CombLoopAlone d
 comb_loop_alone d none p list body is i k reads writes =
-    let at = task_of (flat_of d) p (Comb list body) is in
+    let at = task_of d p (Comb list body) is in
     let of_p : (P : Task → Type 0) → P at.task → IsSomeAnd (slice_get d.tasks p) P =
     λ P h. subst (λ o. IsSomeAnd o P) (sym at.there) h in
     loop_refuted d none 0 p (arrow_loop d p (record {
@@ -165,7 +166,7 @@ any_numbered test n (y ∷ xs) zero m x there e is =
 any_numbered test n (y ∷ xs) (suc k) m x there e is =
     or_right (test (n, y)) _ (any_numbered test (n + 1) xs k m x there (omega (arith, e)) is)
 
-pub process_inside : (d : Parts) → AreLawful (flat_of d) → (p : ℕ) (does : Doing) → doing_at (flat_of d) p ≡ Some does → (i k : ℕ) → MayWrite (flow_of (widths d) does) i k → k < widths d i
+pub process_inside : (d : Flat) → AreLawful d → (p : ℕ) (does : Doing) → doing_at d p ≡ Some does → (i k : ℕ) → MayWrite (flow_of (widths d) does) i k → k < widths d i
 process_inside d lawful p (Assign target value) is i k writes =
     let flow = flow_of (widths d) (Assign target value) in
     elim (or_cases (may_target (widths d) target i k) false ((decided flow i k).writes.1 writes)) [
@@ -177,11 +178,11 @@ process_inside d lawful p (Comb list body) is i k writes =
 process_inside d lawful p (Edge' events body) is i k writes =
     write_inside d.signals body (edge_body d lawful p events body is) i k writes
 
-not_lower : (d : Parts) → AreLawful (flat_of d) → AreSeveralDrivers d [] → (p q : ℕ) (does other : Doing) → doing_at (flat_of d) p ≡ Some does → doing_at (flat_of d) q ≡ Some other → (i k : ℕ) → MayWrite (flow_of (widths d) does) i k → MayWrite (flow_of (widths d) other) i k → q < p → ⊥
+not_lower : (d : Flat) → AreLawful d → AreSeveralDrivers d [] → (p q : ℕ) (does other : Doing) → doing_at d p ≡ Some does → doing_at d q ≡ Some other → (i k : ℕ) → MayWrite (flow_of (widths d) does) i k → MayWrite (flow_of (widths d) other) i k → q < p → ⊥
 not_lower d lawful none p q does other is is' i k writes writes' below =
     let inside = process_inside d lawful p does is i k writes in
-    let at = task_of (flat_of d) p does is in
-    let from = task_of (flat_of d) q other is' in
+    let at = task_of d p does is in
+    let from = task_of d q other is' in
     let here : written d at.task.does i k ≡ true =
     subst (λ one. written d one i k ≡ true) (sym at.is) ((decided (flow_of (widths d) does) i k).writes.1 writes) in
     let there : written d from.task.does i k ≡ true =
@@ -191,7 +192,7 @@ not_lower d lawful none p q does other is is' i k writes writes' below =
     signal_refuted (IsSeveralDrivers d) several_drivers_at d none p at.task at.there i (signal_there d.signals i k inside)
     (some_at (widths d i) (λ n. written d at.task.does i n && lower_writes d p i n) k inside (and_from _ _ here lower))
 
-pub several_drivers : (d : Parts) → SeveralDrivers d
+pub several_drivers : (d : Flat) → SeveralDrivers d
 several_drivers d lawful none p q does other is is' i k writes writes' =
     elim (cases_order p q) [
       | inl same ↦ same
@@ -202,19 +203,19 @@ several_drivers d lawful none p q does other is is' i k writes writes' =
 -- ---- A1
 
 -- a temporary that a process may write is its own
-pub own_temporary : (d : Parts) (p : ℕ) (task : Task) → slice_get d.tasks p ≡ Some task → (i k : ℕ) → IsTemporary d.signals d.tasks i → MayWrite (flow_of (widths d) task.does) i k → IsTemporaryOf d.signals d.tasks p i
+pub own_temporary : (d : Flat) (p : ℕ) (task : Task) → slice_get d.tasks p ≡ Some task → (i k : ℕ) → IsTemporary d.signals d.tasks i → MayWrite (flow_of (widths d) task.does) i k → IsTemporaryOf d.signals d.tasks p i
 own_temporary d p task there i k temporary may =
     elim (cases_eq p temporary.process) [
       | inl same ↦ subst (λ q. IsTemporaryOf d.signals d.tasks q i) (sym same) temporary.of_process
       | inr other ↦ absurd (temporary.of_process.alone p other (subst (λ o. IsSomeAnd o (λ one. Uses (width_in d.signals) one i)) (sym there) (record { bit = k; used = inl may })))
     ]
 
-pub blocking_decided : (d : Parts) → AreTemporariesDecided d → BlockingState d
+pub blocking_decided : (d : Flat) → AreTemporariesDecided d → BlockingState d
 blocking_decided d decides lawful none p events body is i k writes =
     let flow = body_flow (widths d) body in
     let may = now_may flow i k writes in
     let inside = write_inside d.signals body (edge_body d lawful p events body is) i k may in
-    let at = task_of (flat_of d) p (Edge' events body) is in
+    let at = task_of d p (Edge' events body) is in
     let found : has_some (widths d) (now d (Edge' events body)) i ≡ true =
     some_at (widths d i) (may_write_blocking flow i) k inside ((decided flow i k).now.1 writes) in
     elim (decides i) [
@@ -228,13 +229,13 @@ blocking_decided d decides lawful none p events body is i k writes =
 
 -- ---- A5
 
-pub undriven : (d : Parts) → Undriven d
+pub undriven : (d : Flat) → Undriven d
 undriven d none i k inside lasting =
     let (signal, there) = slice_there d.signals i (signal_there d.signals i k inside) in
     let refutes = each_numbered (λ one. IsUndriven d one → ⊥) 0 d.signals (refuted (IsUndriven d) undriven_at (enumerate_from 0 d.signals) none) i i signal there (omega arith) in
     by_kind signal there refutes (is_input signal.kind) refl
   where
-    by_process : (q : ℕ) (task : Task) → slice_get d.tasks q ≡ Some task → (does : Doing) → task.does ≡ does → MayWrite (flow_of (widths d) task.does) i k → IsRegisterBit (flat_of d) i k ⊎ IsComputedBit d i k
+    by_process : (q : ℕ) (task : Task) → slice_get d.tasks q ≡ Some task → (does : Doing) → task.does ≡ does → MayWrite (flow_of (widths d) task.does) i k → IsRegisterBit d i k ⊎ IsComputedBit d i k
     by_process q task there (Assign target value) is may =
         inr (record {
           process = q;
@@ -257,7 +258,7 @@ undriven d none i k inside lasting =
           lasting = lasting;
         })
 
-    by_kind : (signal : Signal) → slice_get d.signals i ≡ Some signal → (IsUndriven d (i, signal) → ⊥) → (b : Bool) → is_input signal.kind ≡ b → IsTrue (queue.is_input (flat_of d) i) ⊎ (IsRegisterBit (flat_of d) i k ⊎ IsComputedBit d i k)
+    by_kind : (signal : Signal) → slice_get d.signals i ≡ Some signal → (IsUndriven d (i, signal) → ⊥) → (b : Bool) → is_input signal.kind ≡ b → IsTrue (queue.is_input d i) ⊎ (IsRegisterBit d i k ⊎ IsComputedBit d i k)
     by_kind signal there refutes true e = inl (ap queue.is_input_of there ∙ same_kind signal.kind ∙ e)
       where
         same_kind : (kind : Kind) → queue.is_input_kind kind ≡ is_input kind
@@ -272,9 +273,9 @@ undriven d none i k inside lasting =
 
 -- ---- S2
 
-pub never_wakes : (d : Parts) → NeverWakes d
+pub never_wakes : (d : Flat) → NeverWakes d
 never_wakes d none p list body is =
-    let at = task_of (flat_of d) p (Comb list body) is in
+    let at = task_of d p (Comb list body) is in
     let wakes : can_wake d p (Comb list body) ≡ true =
     true_from_ne_false (can_wake d p (Comb list body)) (λ missing. process_refuted (IsNeverWakes d) (never_wakes_at d) d none p at.task at.there (subst (λ does. sense.never_wakes d p does ≡ true) (sym at.is) (not_from_false _ missing))) in
     let found = numbered_found (λ (one : ℕ × Signal). has_some (widths d) (λ s k. listed (widths d) (Comb list body) s k && (is_top one.1.kind || another_writes d p s k)) one.0) d.signals wakes in
@@ -305,9 +306,9 @@ never_wakes d none p list body is =
 
 -- ---- S3
 
-pub mixed_edges : (d : Parts) → MixedEdges d
+pub mixed_edges : (d : Flat) → MixedEdges d
 mixed_edges d none p events body is =
-    let at = task_of (flat_of d) p (Edge' events body) is in
+    let at = task_of d p (Edge' events body) is in
     all_edges events (λ found. process_refuted IsMixedEdges mixed_edges_at d none p at.task at.there (subst (λ does. has_item (first_level does) ≡ true) (sym at.is) found))
   where
     by_edge : (item : Watched) (items : List Watched) → ((has_item (find (λ (one : Watched). not (has_edge one.edge)) items) ≡ true → ⊥) → All (λ one. IsTrue (has_edge one.edge)) items) → (b : Bool) → has_edge item.edge ≡ b → (has_item (cond (not b) (Some item) (find (λ (one : Watched). not (has_edge one.edge)) items)) ≡ true → ⊥) → All (λ one. IsTrue (has_edge one.edge)) (item ∷ items)

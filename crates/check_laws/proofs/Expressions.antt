@@ -18,11 +18,11 @@ use Rattle.rtl_flat.specs.Value.{value}
 use Rattle.net_laws.proofs.event_laws_proofs.Targets.{place_of}
 use Rattle.net_laws.specs.Rules.{DividesBy, DividesByPower, EachPart, HasNone, IsNoSignal, IsPower, SelectsInside}
 use Rattle.net_laws.specs.Tame.{IsPlace}
-use Rattle.rtl_rule.specs.Parts.{Parts, is_literal_with, is_one_literal, is_some_name, is_x, is_z, items_of, labels, named, nodes, pieces, reads_signal, some_below, trees, valued_trees, widths}
+use Rattle.rtl_rule.specs.Parts.{is_literal_with, is_one_literal, is_some_name, is_x, is_z, items_of, labels, named, nodes, pieces, reads_signal, some_below, trees, valued_trees}
+use Rattle.rtl_flat.specs.Flats.{Flat, widths}
 use Rattle.check_xprop.specs.check_assign.Assigned.{IsTristate, tristate_at}
 use Rattle.check_xprop.specs.Unknowns.{IsDivideVariable, IsSelectRange, IsUnknownLiteral, Pick, all_nodes, at_node, divides_by_other, has_one, is_power, is_zero, may_miss, pick_in, pick_of, picks, select_range_at, unknown_literal_at}
 use Rattle.rtl_rule.specs.declared.rule.Rule.TheVariants as rule
-use Rattle.check_laws.specs.Designs.{flat_of}
 use Rattle.check_laws.specs.Expressions.{AreMarked, DivideVariable, IsForm, IsMarked, SelectRange, Tristate, UnknownLiteral}
 use Rattle.check_laws.proofs.Sites.{Each, each_all, each_both, each_flat, each_from, each_join, each_kept, each_left, each_right, process_refuted, refuted_in, some_found}
 use Rattle.check_laws.proofs.Operands.{each_part}
@@ -103,19 +103,19 @@ z_tells : (bits : List Bit) → list_any (same_bit Z) bits ≡ true → list_any
 z_tells bits is = sym (any_same (same_bit Z) is_z z_same bits) ∙ is
 
 -- the expressions of a process that stand for numbers are marked
-valued_marked : (d : Parts) → AreMarked d → (p : ℕ) (task : Task) → slice_get d.tasks p ≡ Some task → Each IsMarked (valued_trees task.does)
+valued_marked : (d : Flat) → AreMarked d → (p : ℕ) (task : Task) → slice_get d.tasks p ≡ Some task → Each IsMarked (valued_trees task.does)
 valued_marked d marked p task there =
     let of_labels = each_from IsMarked (labels task.does) (marked p task there).1 in
     each_join IsMarked (trees task.does) (filter (λ label. not (is_one_literal label)) (labels task.does))
     (each_from IsMarked (trees task.does) (marked p task there).0)
     (each_kept IsMarked (λ label. not (is_one_literal label)) (labels task.does) of_labels)
 
-pub unknown_literal : (d : Parts) → UnknownLiteral d
+pub unknown_literal : (d : Flat) → UnknownLiteral d
 unknown_literal d marked none p task there =
     let es = valued_trees task.does in
     each_all (EachPart (HasNone X)) es (all_have_none X is_x x_tells es (valued_marked d marked p task there) (each_false (is_literal_with is_x) (flat_map nodes es) (process_refuted IsUnknownLiteral (unknown_literal_at d) d none p task there)))
 
-pub tristate : (d : Parts) → Tristate d
+pub tristate : (d : Flat) → Tristate d
 tristate d marked none p task there =
     let es = valued_trees task.does in
     each_all (EachPart (HasNone Z)) es (all_have_none Z is_z z_tells es (valued_marked d marked p task there) (each_false (is_literal_with is_z) (flat_map nodes es) (process_refuted IsTristate (tristate_at d) d none p task there)))
@@ -123,7 +123,7 @@ tristate d marked none p task there =
 -- ---- X2
 
 -- what is selected is inside
-module _ (d : Parts) where
+module _ (d : Flat) where
   abbrev Inside : Tree → Type 0
   Inside node = (one : Pick) → pick_in node ≡ Some one → may_miss (widths d) one one.index ≡ true → ⊥
 
@@ -132,7 +132,7 @@ module _ (d : Parts) where
       let found = some_found (widths d i) (is_place low index) h in
       subst (λ place. IsPlace place (widths d i)) (sym (place_of low found.number index found.is)) found.below
 
-  inside : (w : ℕ) (s : Bool) (at : Spot) (e : Tree) → IsForm e → Inside (Sized w s at e) → SelectsInside (flat_of d) e
+  inside : (w : ℕ) (s : Bool) (at : Spot) (e : Tree) → IsForm e → Inside (Sized w s at e) → SelectsInside d e
   inside w s at (Sized w' s' at' e) marked q = absurd marked
   inside w s at (Literal bits) marked q = tt
   inside w s at (Whole i) marked q = tt
@@ -155,14 +155,14 @@ module _ (d : Parts) where
   inside w s at (Repeated times a) marked q = tt
   inside w s at (Recast a) marked q = tt
 
-  selects : (e : Tree) → IsMarked e → Each Inside (nodes e) → EachPart (SelectsInside (flat_of d)) e
-  selects = each_part (SelectsInside (flat_of d)) Inside (λ w s at e. tt) tt (λ a others. tt) inside
+  selects : (e : Tree) → IsMarked e → Each Inside (nodes e) → EachPart (SelectsInside d) e
+  selects = each_part (SelectsInside d) Inside (λ w s at e. tt) tt (λ a others. tt) inside
 
-  all_select : (es : List Tree) → Each IsMarked es → Each (λ e. Each Inside (nodes e)) es → All (EachPart (SelectsInside (flat_of d))) es
+  all_select : (es : List Tree) → Each IsMarked es → Each (λ e. Each Inside (nodes e)) es → All (EachPart (SelectsInside d)) es
   all_select es marked h =
-      each_all (EachPart (SelectsInside (flat_of d))) es (each_both IsMarked (λ e. Each Inside (nodes e)) (EachPart (SelectsInside (flat_of d))) selects es marked h)
+      each_all (EachPart (SelectsInside d)) es (each_both IsMarked (λ e. Each Inside (nodes e)) (EachPart (SelectsInside d)) selects es marked h)
 
-pub select_range : (d : Parts) → SelectRange d
+pub select_range : (d : Flat) → SelectRange d
 select_range d marked none p task there =
     let does = task.does in
     let lawful = λ (one : Pick). may_miss (widths d) one one.index ≡ true → ⊥ in
@@ -270,7 +270,7 @@ all_divide : (es : List Tree) → Each IsMarked es → Each (λ e. Each (λ node
 all_divide es marked h =
     each_all (EachPart DividesByPower) es (each_both IsMarked (λ e. Each (λ node. divides_by_other node ≡ true → ⊥) (nodes e)) (EachPart DividesByPower) (each_part DividesByPower (λ node. divides_by_other node ≡ true → ⊥) (λ w s at f. tt) tt (λ a others. tt) divisor) es marked h)
 
-pub divide_variable : (d : Parts) → DivideVariable d
+pub divide_variable : (d : Flat) → DivideVariable d
 divide_variable d marked none p task there =
     let does = task.does in
     let all = refuted_in IsDivideVariable (at_node rule.DivideVariable d) all_nodes d none p task there in

@@ -6,9 +6,10 @@ use Rattle.std.proofs.lemmas.List.Elements.{All-cons, All-head, All-nil, All-tai
 use Rattle.rtl_flat.specs.declared.signal.Signal.{Signal}
 use Rattle.rtl_flat.specs.Process.{Doing, Task}
 use Rattle.rtl_flat.specs.Signs.{width_in}
-use Rattle.event_model.specs.Queue.{Flat, doing_at, doing_of}
+use Rattle.event_model.specs.Queue.{doing_at, doing_of}
+use Rattle.rtl_flat.specs.Flats.{Flat}
 use Rattle.rtl_rule.specs.declared.finding.Finding.{Finding}
-use Rattle.rtl_rule.specs.Parts.{Parts, At, process_sites, signal_sites, sites, some_below, within}
+use Rattle.rtl_rule.specs.Parts.{At, process_sites, signal_sites, sites, some_below, within}
 use Rattle.rtl_rule.specs.Sites.{AreFindings, AreThose}
 
 -- ---- each element of a list
@@ -94,7 +95,7 @@ refuted P finding_at all h = by_broken h.broken h.shown h.those
     by_broken (x ∷ xs) e those = absurd (cc)
 
 -- what a function lists of a process
-pub refuted_in : {A : Type 0} (P : At A → Type 0) (finding_at : At A → Finding) (list : Doing → List A) (d : Parts) → AreFindings P finding_at (sites list d) [] → (p : ℕ) (task : Task) → slice_get d.tasks p ≡ Some task → Each (λ it. P (within (p, task) it) → ⊥) (list task.does)
+pub refuted_in : {A : Type 0} (P : At A → Type 0) (finding_at : At A → Finding) (list : Doing → List A) (d : Flat) → AreFindings P finding_at (sites list d) [] → (p : ℕ) (task : Task) → slice_get d.tasks p ≡ Some task → Each (λ it. P (within (p, task) it) → ⊥) (list task.does)
 refuted_in P finding_at list d h p task there =
     let all = refuted P finding_at (sites list d) h in
     let of_tasks = each_flat (λ site. P site → ⊥) (λ (one : ℕ × Task). map (within one) (list one.1.does)) (enumerate_from 0 d.tasks) all in
@@ -102,7 +103,7 @@ refuted_in P finding_at list d h p task there =
     each_map (λ site. P site → ⊥) (within (p, task)) (list task.does) of_task
 
 -- a process
-pub process_refuted : (P : At Doing → Type 0) (finding_at : At Doing → Finding) (d : Parts) → AreFindings P finding_at (process_sites d) [] → (p : ℕ) (task : Task) → slice_get d.tasks p ≡ Some task → P (within (p, task) task.does) → ⊥
+pub process_refuted : (P : At Doing → Type 0) (finding_at : At Doing → Finding) (d : Flat) → AreFindings P finding_at (process_sites d) [] → (p : ℕ) (task : Task) → slice_get d.tasks p ≡ Some task → P (within (p, task) task.does) → ⊥
 process_refuted P finding_at d h p task there =
     (refuted_in P finding_at (λ does. does ∷ []) d h p task there).0
 
@@ -112,7 +113,7 @@ slice_there (x ∷ xs) zero below = (x, refl)
 slice_there (x ∷ xs) (suc s) below = slice_there xs s (omega (arith, below))
 
 -- a process with a signal
-pub signal_refuted : (P : At ℕ → Type 0) (finding_at : At ℕ → Finding) (d : Parts) → AreFindings P finding_at (signal_sites d) [] → (p : ℕ) (task : Task) → slice_get d.tasks p ≡ Some task → (s : ℕ) → s < length d.signals → P (within (p, task) s) → ⊥
+pub signal_refuted : (P : At ℕ → Type 0) (finding_at : At ℕ → Finding) (d : Flat) → AreFindings P finding_at (signal_sites d) [] → (p : ℕ) (task : Task) → slice_get d.tasks p ≡ Some task → (s : ℕ) → s < length d.signals → P (within (p, task) s) → ⊥
 signal_refuted P finding_at d h p task there s below =
     let all = refuted_in P finding_at (λ does. map (λ (one : ℕ × Signal). one.0) (enumerate_from 0 d.signals)) d h p task there in
     let numbered = each_map (λ (it : ℕ). P (within (p, task) it) → ⊥) (λ (one : ℕ × Signal). one.0) (enumerate_from 0 d.signals) all in

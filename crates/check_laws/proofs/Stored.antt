@@ -20,7 +20,8 @@ use Rattle.rtl_flat.specs.declared.expr.SizedExpr.{SizedExpr}
 use Rattle.rtl_flat.specs.Expression.{bit, form, read, row, tree}
 use Rattle.rtl_flat.specs.Flows.{labels_of}
 use Rattle.rtl_flat.specs.Process.{Action, Actions, Comb, Task, Watched, action, actions, body_of, branches, doing, listing, otherwise, piece, selection, task, watched}
-use Rattle.rtl_rule.specs.Parts.{Parts, all_branches, all_in, all_of, all_other, index_of, indices, items_of, labels, own_labels, own_trees, trees}
+use Rattle.rtl_rule.specs.Parts.{all_branches, all_in, all_of, all_other, index_of, indices, items_of, labels, own_labels, own_trees, trees}
+use Rattle.rtl_flat.specs.Flats.{Flat}
 use Rattle.check_laws.specs.Expressions.{IsForm, IsMarked, IsRow, StoredAreMarked}
 use Rattle.check_laws.proofs.Sites.{Each, each_all, each_join}
 
@@ -161,7 +162,7 @@ stored_task (process ∷ processes) zero one there =
     subst (λ (t : Task). Each IsMarked (trees t.does) × Each IsMarked (labels t.does)) same (does_trees process.does, does_labels process.does)
 stored_task (process ∷ processes) (suc p) one there = stored_task processes p one there
 
-pub stored : (d : Parts) → StoredAreMarked d
+pub stored : (d : Flat) → StoredAreMarked d
 stored d processes is p one there =
     let marked = stored_task processes p one (subst (λ tasks. slice_get tasks p ≡ Some one) is there) in
     (each_all IsMarked (trees one.does) marked.0, each_all IsMarked (labels one.does) marked.1)

@@ -15,7 +15,8 @@ use Rattle.rtl_flat.specs.Signs.{Has, sign_of, width_in}
 use Rattle.rtl_flat.specs.Sizes.{width_of}
 use Rattle.rtl_flat.specs.WellFormed.{AreBranches, IsAction, IsBody, IsOtherwise, IsSelection, selection_width, target_width}
 use Rattle.event_settling.specs.Conditions.{AllSelect, AllSelectBranches, AllSelectIn, AllSelectOther, SelectsSome}
-use Rattle.rtl_rule.specs.Parts.{Parts, all_branches, all_in, all_of, all_other, items_of, own_pieces, pieces, widths}
+use Rattle.rtl_rule.specs.Parts.{all_branches, all_in, all_of, all_other, items_of, own_pieces, pieces}
+use Rattle.rtl_flat.specs.Flats.{Flat, widths}
 use Rattle.check_xprop.specs.Unknowns.{IsSelectRange, Pick, all_nodes, may_miss, pick_in, pick_of, picks, select_range_at}
 use Rattle.check_laws.specs.Cases.{Does}
 use Rattle.check_laws.specs.Targets.{SelectTargets}
@@ -30,7 +31,7 @@ width_has n [] i h = absurd h
 width_has n (s ∷ signals) zero h = h
 width_has n (s ∷ signals) (suc i) h = width_has n signals i h
 
-module _ (d : Parts) where
+module _ (d : Flat) where
   -- a part of a target that is no finding
   abbrev IsPicked : Piece → Type 0
   IsPicked piece =
@@ -129,7 +130,7 @@ module _ (d : Parts) where
   body_picked (Edge' events own) body is h =
       subst (λ b. Each AreOwnPicked (all_of b)) is (each_flat IsPicked own_pieces (all_of own) h)
 
-pub select_targets : (d : Parts) → SelectTargets d
+pub select_targets : (d : Flat) → SelectTargets d
 select_targets d lawful none p body is =
     let does = is.task.does in
     let inside = λ (one : Pick). may_miss (widths d) one one.index ≡ true → ⊥ in

@@ -15,15 +15,15 @@ use Rattle.rtl_flat.proofs.Paths.{decided}
 use Rattle.event_model.specs.Queue.{doing_at, doing_of}
 use Rattle.net_laws.specs.event_laws.Steady.{AreLawful}
 use Rattle.net_laws.proofs.event_laws_proofs.Within.{may_read_outside, read_inside, reads_inside, target_inside}
-use Rattle.rtl_rule.specs.Parts.{Parts, widths}
-use Rattle.check_laws.specs.Designs.{BlockingState, TemporariesDecided, flat_of}
+use Rattle.rtl_flat.specs.Flats.{Flat, widths}
+use Rattle.check_laws.specs.Designs.{BlockingState, TemporariesDecided}
 use Rattle.check_laws.proofs.Designs.{blocking_decided, late_may, process_inside}
 use Rattle.check_laws.proofs.Decisions.{Decided, both, equal_kind, is_false, neither, some_number, some_of, there_decided}
 
 -- ---- the bits that a process uses
 
-module _ (d : Parts) (lawful : AreLawful (flat_of d)) where
-  pub reads_within : (p : ℕ) (does : Doing) → doing_at (flat_of d) p ≡ Some does → (i k : ℕ) → MayRead (flow_of (widths d) does) i k → k < widths d i
+module _ (d : Flat) (lawful : AreLawful d) where
+  pub reads_within : (p : ℕ) (does : Doing) → doing_at d p ≡ Some does → (i k : ℕ) → MayRead (flow_of (widths d) does) i k → k < widths d i
   reads_within p (Assign target value) is i k read =
       elim (or_cases (reads (widths d) value i k) false ((decided (flow_of (widths d) (Assign target value)) i k).reads.1 read)) [
         | inl here ↦ reads_inside (widths d) value i k here
@@ -43,7 +43,7 @@ module _ (d : Parts) (lawful : AreLawful (flat_of d)) where
         | inr there ↦ items_within items i k there
       ]
 
-  pub lists_within : (p : ℕ) (does : Doing) → doing_at (flat_of d) p ≡ Some does → (i k : ℕ) → listed (widths d) does i k ≡ true → k < widths d i
+  pub lists_within : (p : ℕ) (does : Doing) → doing_at d p ≡ Some does → (i k : ℕ) → listed (widths d) does i k ≡ true → k < widths d i
   lists_within p (Assign target value) is i k h = absurd (false≢true h)
   lists_within p (Comb None body) is i k h =
       reads_within p (Comb None body) is i k ((decided (body_flow (widths d) body) i k).reads.0 h)
@@ -156,7 +156,7 @@ module _ (d : Parts) (lawful : AreLawful (flat_of d)) where
         by_parts (inl a) (inl b) (inl c) (inl e) (inr f) g = inr (λ h. f h.inside)
         by_parts (inl a) (inl b) (inl c) (inl e) (inl f) (inr g) = inr (λ h. g h.alone)
 
-pub temporaries_decided : (d : Parts) → TemporariesDecided d
+pub temporaries_decided : (d : Flat) → TemporariesDecided d
 temporaries_decided d lawful s =
     by_process (some_of (λ p. IsTemporaryOf d.signals d.tasks p s) (of_process_decided d lawful s) (length d.tasks) (λ p h. task_below d lawful s p (λ task. Writes (width_in d.signals) task s) p h.writes))
   where
@@ -165,5 +165,5 @@ temporaries_decided d lawful s =
     by_process (inr refutes) = inr (λ h. refutes (h.process, h.of_process))
 
 -- A1
-pub blocking_state : (d : Parts) → BlockingState d
+pub blocking_state : (d : Flat) → BlockingState d
 blocking_state d lawful = blocking_decided d (temporaries_decided d lawful) lawful

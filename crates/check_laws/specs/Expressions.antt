@@ -10,12 +10,12 @@ use Rattle.event_model.specs.Queue.{doing_at}
 use Rattle.net_laws.specs.event_laws.Steady.{AreLawful}
 use Rattle.net_laws.specs.Rules.{DividesByPower, EachPart, HasNone, SelectsInside}
 use Rattle.net_laws.specs.Tame.{AreExclusive, AreTame, IsFirm}
-use Rattle.rtl_rule.specs.Parts.{Parts, labels, trees, valued_trees}
+use Rattle.rtl_rule.specs.Parts.{labels, trees, valued_trees}
+use Rattle.rtl_flat.specs.Flats.{Flat}
 use Rattle.check_case.specs.Cases.{AreFullCase, AreParallelCase}
 use Rattle.check_xprop.specs.check_assign.Assigned.{AreTristate}
 use Rattle.check_xprop.specs.Unknowns.{AreDivideVariable, AreSelectRange, AreUnknownLiteral}
 use Rattle.check_laws.specs.Cases.{IsBodyOf}
-use Rattle.check_laws.specs.Designs.{flat_of}
 
 -- ---- the form of stored expressions
 
@@ -52,33 +52,33 @@ abbrev mutual
   IsRow _ = ⊥
 
 -- whether all expressions of the processes are so, as those of each stored design are
-abbrev pub AreMarked : Parts → Type 0
+abbrev pub AreMarked : Flat → Type 0
 AreMarked d =
     (p : ℕ) (task : Task) → slice_get d.tasks p ≡ Some task → All IsMarked (trees task.does) × All IsMarked (labels task.does)
 
 -- ---- rules on expressions
 
 -- X1: no literal has an x, but for labels that are one
-abbrev pub UnknownLiteral : Parts → Type 0
+abbrev pub UnknownLiteral : Flat → Type 0
 UnknownLiteral d =
     AreMarked d → AreUnknownLiteral d [] →
     (p : ℕ) (task : Task) → slice_get d.tasks p ≡ Some task → All (EachPart (HasNone X)) (valued_trees task.does)
 
 -- Z1: none has a z
-abbrev pub Tristate : Parts → Type 0
+abbrev pub Tristate : Flat → Type 0
 Tristate d =
     AreMarked d → AreTristate d [] →
     (p : ℕ) (task : Task) → slice_get d.tasks p ≡ Some task → All (EachPart (HasNone Z)) (valued_trees task.does)
 
 -- X2: each bit-select of an expression has its bit whatever the index is
-abbrev pub SelectRange : Parts → Type 0
+abbrev pub SelectRange : Flat → Type 0
 SelectRange d =
     AreMarked d → AreSelectRange d [] →
     (p : ℕ) (task : Task) → slice_get d.tasks p ≡ Some task →
-    All (EachPart (SelectsInside (flat_of d))) (trees task.does) × All (EachPart (SelectsInside (flat_of d))) (labels task.does)
+    All (EachPart (SelectsInside d)) (trees task.does) × All (EachPart (SelectsInside d)) (labels task.does)
 
 -- X3: each divisor is a power of two
-abbrev pub DivideVariable : Parts → Type 0
+abbrev pub DivideVariable : Flat → Type 0
 DivideVariable d =
     AreMarked d → AreDivideVariable d [] →
     (p : ℕ) (task : Task) → slice_get d.tasks p ≡ Some task →
@@ -87,7 +87,7 @@ DivideVariable d =
 -- ---- bodies and assignments
 
 -- no finding of the rules on expressions and on words of cases
-pub record HasNoDoubt (d : Parts) : Type 0 where
+pub record HasNoDoubt (d : Flat) : Type 0 where
   pub x1 : AreUnknownLiteral d []
   pub z1 : AreTristate d []
   pub x2 : AreSelectRange d []
@@ -96,24 +96,24 @@ pub record HasNoDoubt (d : Parts) : Type 0 where
   pub c2 : AreParallelCase d []
 
 -- what is assigned continuously is then known where signals are
-abbrev pub FirmAssigns : Parts → Type 0
+abbrev pub FirmAssigns : Flat → Type 0
 FirmAssigns d =
-    AreLawful (flat_of d) → AreMarked d → HasNoDoubt d →
-    (p : ℕ) (target : List Piece) (value : Tree) → doing_at (flat_of d) p ≡ Some (Assign target value) →
-    IsFirm (flat_of d) value
+    AreLawful d → AreMarked d → HasNoDoubt d →
+    (p : ℕ) (target : List Piece) (value : Tree) → doing_at d p ≡ Some (Assign target value) →
+    IsFirm d value
 
 -- from known values each body makes what synthesis makes of it
-abbrev pub TameBodies : Parts → Type 0
+abbrev pub TameBodies : Flat → Type 0
 TameBodies d =
-    AreLawful (flat_of d) → AreMarked d → HasNoDoubt d →
-    (p : ℕ) (body : Actions) → IsBodyOf d p body → AreTame (flat_of d) body
+    AreLawful d → AreMarked d → HasNoDoubt d →
+    (p : ℕ) (body : Actions) → IsBodyOf d p body → AreTame d body
 
 -- and of a case with `parallel_case` one item matches at most
-abbrev pub ExclusiveBodies : Parts → Type 0
+abbrev pub ExclusiveBodies : Flat → Type 0
 ExclusiveBodies d =
-    AreLawful (flat_of d) → AreMarked d → HasNoDoubt d →
-    (p : ℕ) (body : Actions) → IsBodyOf d p body → AreExclusive (flat_of d) body
+    AreLawful d → AreMarked d → HasNoDoubt d →
+    (p : ℕ) (body : Actions) → IsBodyOf d p body → AreExclusive d body
 
 -- the processes of a stored design have marked expressions
-abbrev pub StoredAreMarked : Parts → Type 0
+abbrev pub StoredAreMarked : Flat → Type 0
 StoredAreMarked d = (processes : List Process) → d.tasks ≡ map task processes → AreMarked d

@@ -3,13 +3,12 @@ use Rattle.std.specs.Prelude.{ℕ, []}
 use Rattle.rtl_flat.specs.Process.{Actions}
 use Rattle.net_laws.specs.event_laws.Steady.{AreLawful}
 use Rattle.event_settling.specs.Conditions.{AllSelectIn}
-use Rattle.rtl_rule.specs.Parts.{Parts, widths}
+use Rattle.rtl_flat.specs.Flats.{Flat, widths}
 use Rattle.check_xprop.specs.Unknowns.{AreSelectRange}
 use Rattle.check_laws.specs.Cases.{IsBodyOf}
-use Rattle.check_laws.specs.Designs.{flat_of}
 
 -- X2: each nonblocking assignment of a body may write some bit
-abbrev pub SelectTargets : Parts → Type 0
+abbrev pub SelectTargets : Flat → Type 0
 SelectTargets d =
-    AreLawful (flat_of d) → AreSelectRange d [] →
+    AreLawful d → AreSelectRange d [] →
     (p : ℕ) (body : Actions) → IsBodyOf d p body → AllSelectIn (widths d) body

@@ -9,7 +9,8 @@ use Rattle.rtl_flat.specs.declared.signal.Signal.{Signal}
 use Rattle.rtl_flat.specs.Expression as sized
 use Rattle.rtl_flat.specs.Process.{Watched, Actions, Doing, Task}
 use Rattle.rtl_flat.specs.Process as part
-use Rattle.rtl_rule.specs.Parts.{Parts, At, number}
+use Rattle.rtl_rule.specs.Parts.{At, number}
+use Rattle.rtl_flat.specs.Flats.{Flat}
 use Rattle.check_sense.specs.Sense.{misses, never_wakes, never_wakes_at}
 
 abbrev spot_at : ℕ → Spot
@@ -40,7 +41,7 @@ abbrev gate : Doing
 gate =
     part.Comb (Some (item 0 ∷ [])) (set 2 (sized.Sized 1 false (spot_at 0) (sized.Joined join.And false (read 0) (read 1))))
 
-abbrev listed_a : Parts
+abbrev listed_a : Flat
 listed_a =
     record { signals = ports; tasks = task_of gate ∷ []; delays = []; dropped = [] }
 
@@ -60,7 +61,7 @@ a_wakes = refl
 abbrev constant : Doing
 constant = part.Comb None (set 2 (sized.Sized 1 false (spot_at 0) (sized.Literal [])))
 
-abbrev nothing_listed : Parts
+abbrev nothing_listed : Flat
 nothing_listed =
     record { signals = ports; tasks = task_of constant ∷ []; delays = []; dropped = [] }
 

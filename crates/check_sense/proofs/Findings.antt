@@ -5,7 +5,7 @@ use Rattle.rtl_flat.specs.declared.expr.SigId.{SigId}
 use Rattle.rtl_flat.specs.declared.design.Design.{Design}
 use Rattle.rtl_flat.specs.declared.act.Process.{Process}
 use Rattle.rtl_flat.specs.Process.{Watched, Task, task}
-use Rattle.rtl_rule.specs.Parts.{parts}
+use Rattle.rtl_flat.specs.Flats.{flat}
 use Rattle.rtl_rule.specs.Sites.{AreThose}
 use Rattle.check_found.proofs.Sites.{task_at, task_count}
 use Rattle.check_sense.specs.Sense.{has_item, signal_of}
@@ -20,12 +20,12 @@ there [] n below = absurd (omega (arith, below))
 there (x ∷ xs) zero below = (x, refl)
 there (x ∷ xs) (suc n) below = there xs n (omega (arith, below))
 
-pub process_there : (design : Design) (n : ℕ) → n < length design.processes.items → (task : Task) × (slice_get (parts design).tasks n ≡ Some task)
+pub process_there : (design : Design) (n : ℕ) → n < length design.processes.items → (task : Task) × (slice_get (flat design).tasks n ≡ Some task)
 process_there design n below =
-    there (parts design).tasks n (omega (arith, below, task_count design))
+    there (flat design).tasks n (omega (arith, below, task_count design))
 
 -- the plain form of the process with a number
-pub task_is : (design : Design) (p : ℕ) (process : Process) → p < length design.processes.items → process ≡ get_or design.processes.items p process → (t : Task) → slice_get (parts design).tasks p ≡ Some t → task process ≡ t
+pub task_is : (design : Design) (p : ℕ) (process : Process) → p < length design.processes.items → process ≡ get_or design.processes.items p process → (t : Task) → slice_get (flat design).tasks p ≡ Some t → task process ≡ t
 task_is design p process below is t at =
     let here = task_at design p process below is in cc (here, at)
 

@@ -10,7 +10,8 @@ use Rattle.rtl_flat.specs.PathSets.{listed}
 use Rattle.rtl_flat.specs.Paths.{BitSet, reads_outside}
 use Rattle.rtl_flat.specs.Process.{Doing, Assign, Comb, Edge', Task}
 use Rattle.rtl_rule.specs.declared.finding.Finding.{Finding}
-use Rattle.rtl_rule.specs.Parts.{Parts, has_some, widths, within}
+use Rattle.rtl_rule.specs.Parts.{has_some, within}
+use Rattle.rtl_flat.specs.Flats.{Flat, widths}
 use Rattle.check_found.specs.rtl_scan.declared.bits.Row.{Row}
 use Rattle.check_found.specs.rtl_scan.Sets.{IsInOrder, has, has_row, has_rows, mask_of}
 use Rattle.check_found.proofs.rtl_scan_proofs.Masks.{row_without}
@@ -103,17 +104,17 @@ left_told p task masks (row ∷ rows) =
 
 -- ---- a process
 
-abbrev missing_bits : Parts → Doing → BitSet
+abbrev missing_bits : Flat → Doing → BitSet
 missing_bits d does s k =
     reads_outside (flow_of (widths d) does) s k && not (listed (widths d) does s k)
 
-misses_is : (d : Parts) (does : Doing) (s : ℕ) → misses d does s ≡ (has_items does && has_some (widths d) (missing_bits d does) s)
+misses_is : (d : Flat) (does : Doing) (s : ℕ) → misses d does s ≡ (has_items does && has_some (widths d) (missing_bits d does) s)
 misses_is d (Assign target value) s = refl
 misses_is d (Comb None body) s = refl
 misses_is d (Comb (Some items) body) s = refl
 misses_is d (Edge' events body) s = refl
 
-module _ (d : Parts) (p : ℕ) (task : Task) where
+module _ (d : Flat) (p : ℕ) (task : Task) where
   abbrev numbers : List ℕ
   numbers = signal_numbers d task.does
 

@@ -12,7 +12,8 @@ use Rattle.rtl_flat.specs.PathSets.{listed}
 use Rattle.rtl_flat.specs.Paths.{BitSet}
 use Rattle.rtl_flat.specs.Process.{Doing, Assign, Comb, Edge', Task}
 use Rattle.rtl_rule.specs.declared.finding.Finding.{Finding}
-use Rattle.rtl_rule.specs.Parts.{Parts, has_some, widths, within, written}
+use Rattle.rtl_rule.specs.Parts.{has_some, within, written}
+use Rattle.rtl_flat.specs.Flats.{Flat, widths}
 use Rattle.check_found.specs.rtl_scan.declared.bits.Row.{Row}
 use Rattle.check_found.specs.rtl_scan.Sets.{has, has_row, has_rows, mask_of}
 use Rattle.check_found.proofs.rtl_scan_proofs.Users.{some_bit_is}
@@ -45,7 +46,7 @@ or_false false = refl
 
 -- ---- processes that write
 
-some_push : (d : Parts) (tasks : List Task) (task : Task) (s k : ℕ) → some_write d (tasks ++ task ∷ []) s k ≡ (some_write d tasks s k || written d task.does s k)
+some_push : (d : Flat) (tasks : List Task) (task : Task) (s k : ℕ) → some_write d (tasks ++ task ∷ []) s k ≡ (some_write d tasks s k || written d task.does s k)
 some_push d [] task s k = or_false (written d task.does s k)
 some_push d (x ∷ tasks) task s k =
     ap (λ b. written d x.does s k || b) (some_push d tasks task s k)
@@ -55,7 +56,7 @@ some_push d (x ∷ tasks) task s k =
     assoc true b c = refl
     assoc false b c = refl
 
-two_push : (d : Parts) (tasks : List Task) (task : Task) (s k : ℕ) → two_write d (tasks ++ task ∷ []) s k ≡ (two_write d tasks s k || (written d task.does s k && some_write d tasks s k))
+two_push : (d : Flat) (tasks : List Task) (task : Task) (s k : ℕ) → two_write d (tasks ++ task ∷ []) s k ≡ (two_write d tasks s k || (written d task.does s k && some_write d tasks s k))
 two_push d [] task s k = by (written d task.does s k)
   where
     by : (w : Bool) → ((w && false) || false) ≡ (false || (w && false))
@@ -77,7 +78,7 @@ two_push d (x ∷ tasks) task s k =
     by true false false false = refl
     by false some two w = refl
 
-pub writers_more : (d : Parts) (n : ℕ) (task : Task) → slice_get d.tasks n ≡ Some task → (bits : BitSet) → ((s k : ℕ) → bits s k ≡ written d task.does s k) → (old new : Writers) → AreWriters d (take n d.tasks) old → GetsWriter bits old new → AreWriters d (take (n + 1) d.tasks) new
+pub writers_more : (d : Flat) (n : ℕ) (task : Task) → slice_get d.tasks n ≡ Some task → (bits : BitSet) → ((s k : ℕ) → bits s k ≡ written d task.does s k) → (old new : Writers) → AreWriters d (take n d.tasks) old → GetsWriter bits old new → AreWriters d (take (n + 1) d.tasks) new
 writers_more d n task at bits are old new before gets =
     subst (λ (tasks : List Task). AreWriters d tasks new) (sym (take_next d.tasks n task at))
     (record {
@@ -91,7 +92,7 @@ writers_more d n task at bits are old new before gets =
 
 -- ---- a process other than one
 
-module _ (d : Parts) (p s k : ℕ) where
+module _ (d : Flat) (p s k : ℕ) where
   abbrev another : ℕ × Task → Bool
   another one = not (one.0 == p) && written d one.1.does s k
 
@@ -187,7 +188,7 @@ module _ (ws : ℕ → ℕ) (L B : BitSet) where
 
 -- ---- rows with a bit that wakes
 
-module _ (d : Parts) (p : ℕ) (task : Task) (at : slice_get d.tasks p ≡ Some task) (writers : Writers) (own : BTreeMap ℕ ℕ) (are : AreWriters d d.tasks writers) (owns : (s k : ℕ) → has own s k ≡ written d task.does s k) where
+module _ (d : Flat) (p : ℕ) (task : Task) (at : slice_get d.tasks p ≡ Some task) (writers : Writers) (own : BTreeMap ℕ ℕ) (are : AreWriters d d.tasks writers) (owns : (s k : ℕ) → has own s k ≡ written d task.does s k) where
   abbrev beside : BitSet
   beside s k = top_at d.signals s || another_writes d p s k
 
@@ -266,12 +267,12 @@ module _ (d : Parts) (p : ℕ) (task : Task) (at : slice_get d.tasks p ≡ Some 
 
 -- ---- the finding of a process
 
-never_is : (d : Parts) (p : ℕ) (does : Doing) → never_wakes d p does ≡ (has_level_list does && not (can_wake d p does))
+never_is : (d : Flat) (p : ℕ) (does : Doing) → never_wakes d p does ≡ (has_level_list does && not (can_wake d p does))
 never_is d p (Assign target value) = refl
 never_is d p (Comb list body) = refl
 never_is d p (Edge' events body) = refl
 
-module _ (d : Parts) (p : ℕ) (task : Task) where
+module _ (d : Flat) (p : ℕ) (task : Task) where
   pub gets_never : has_level_list task.does ≡ true → can_wake d p task.does ≡ false → (old : List Finding) → Gets (IsNeverWakes d) (never_wakes_at d) (task_sites itself p task) old (old ++ never_wakes_at d (within (p, task) task.does) ∷ [])
   gets_never level asleep old =
       gets_one (IsNeverWakes d) (never_wakes_at d) old (within (p, task) task.does)

@@ -8,7 +8,8 @@ use Rattle.rtl_flat.specs.Paths.{BitSet}
 use Rattle.rtl_flat.specs.Process.{Watched, Doing, Comb, Task}
 use Rattle.rtl_flat.specs.WellFormed.{has_edge}
 use Rattle.rtl_rule.specs.declared.finding.Finding.{Finding}
-use Rattle.rtl_rule.specs.Parts.{Parts, within, written}
+use Rattle.rtl_rule.specs.Parts.{within, written}
+use Rattle.rtl_flat.specs.Flats.{Flat}
 use Rattle.check_found.specs.rtl_scan.declared.bits.Row.{Row}
 use Rattle.check_found.specs.rtl_scan.Sets.{mask_of}
 use Rattle.check_found.specs.Masks.{has_in, mask_in}
@@ -65,16 +66,16 @@ pub record GetsWriter (bits : BitSet) (old new : Writers) : Type 0 where
   pub twice : (s k : ℕ) → has_in new.twice s k ≡ (has_in old.twice s k || (bits s k && has_in old.once s k))
 
 -- whether some task may write a bit, and whether two of them may
-abbrev pub some_write : Parts → List Task → BitSet
+abbrev pub some_write : Flat → List Task → BitSet
 some_write d tasks s k = list_any (λ task. written d task.does s k) tasks
 
-abbrev pub two_write : Parts → List Task → BitSet
+abbrev pub two_write : Flat → List Task → BitSet
 two_write d [] s k = false
 two_write d (task ∷ others) s k =
     (written d task.does s k && some_write d others s k) || two_write d others s k
 
 -- the bits that one of some tasks at least may write, and those that two may
-pub record AreWriters (d : Parts) (tasks : List Task) (writers : Writers) : Type 0 where
+pub record AreWriters (d : Flat) (tasks : List Task) (writers : Writers) : Type 0 where
   pub once : (s k : ℕ) → has_in writers.once s k ≡ some_write d tasks s k
   pub twice : (s k : ℕ) → has_in writers.twice s k ≡ two_write d tasks s k
 

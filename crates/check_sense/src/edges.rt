@@ -2,7 +2,7 @@
 
 ghost use Rattle.std.specs.Prelude.{ℕ, ◌≡◌, not, map, IfOk, OnOk};
 ghost use Rattle.rtl_flat.specs.Process.{doing, task, watched};
-ghost use Rattle.rtl_rule.specs.Parts.{parts};
+ghost use Rattle.rtl_flat.specs.Flats.{flat};
 ghost use Rattle.rtl_flat.specs.WellFormed.{has_edge};
 ghost use Rattle.check_found.specs.Gathered.{Gets, task_sites};
 ghost use Rattle.check_sense.specs.Sense.{AreMixedEdges, IsMixedEdges, first_level, mixed_edges_at, signal_of};
@@ -67,7 +67,7 @@ fn push_mixed(process: &Process, found: &mut Vec<Finding>) -> Result<(), Memory>
 
 /// Processes with an edge in their list, and an item without one.
 pub fn mixed_edges(alloc: Global, design: &Design) -> Result<Vec<Finding>, Memory>
-    ensures { IfOk result (λ found. AreMixedEdges (parts design.now) found.items) }
+    ensures { IfOk result (λ found. AreMixedEdges (flat design.now) found.items) }
 {
     let mut found = Vec::new(alloc);
     for process in &design.processes {

@@ -6,7 +6,7 @@ mod missing;
 mod waking;
 
 ghost use Rattle.std.specs.Prelude.{IfOk};
-ghost use Rattle.rtl_rule.specs.Parts.{parts};
+ghost use Rattle.rtl_flat.specs.Flats.{flat};
 ghost use Rattle.check_found.specs.Scanned.{AreScans};
 ghost use Rattle.check_sense.specs.Sense.{AreSenseFindings};
 
@@ -22,7 +22,7 @@ pub use waking::never_wakes;
 /// All findings about sensitivity lists, in their order.
 pub fn check(alloc: Global, scans: &Scans) -> Result<Vec<Finding>, Memory>
     requires { AreScans scans.now }
-    ensures { IfOk result (λ found. AreSenseFindings (parts scans.now.design.now) found.items) }
+    ensures { IfOk result (λ found. AreSenseFindings (flat scans.now.design.now) found.items) }
 {
     let mut found = sense_missing(alloc, scans)?;
     let never = never_wakes(alloc, scans)?;

@@ -3,7 +3,7 @@
 ghost use Rattle.std.specs.Prelude.{◌≡◌, ◌<◌, ◌++◌, Some, length, IfOk, OnOk};
 ghost use Rattle.std.specs.List.{slice_get};
 ghost use Rattle.rtl_flat.specs.Process.{doing, Task, task};
-ghost use Rattle.rtl_rule.specs.Parts.{parts};
+ghost use Rattle.rtl_flat.specs.Flats.{flat};
 ghost use Rattle.check_found.specs.Gathered.{Gets, signal_numbers, task_sites};
 ghost use Rattle.check_found.specs.Scanned.{AreScans};
 ghost use Rattle.check_sense.specs.Sense.{AreSenseMissing, IsSenseMissing, sense_missing_at};
@@ -73,7 +73,7 @@ fn push_missing(
 ) -> Result<(), Memory>
     requires scans { AreScans scans.now }
     requires there { p.0 < length scans.now.design.now.processes.items }
-    ensures { let d = parts scans.now.design.now in
+    ensures { let d = flat scans.now.design.now in
         OnOk result ((task : Task) → slice_get d.tasks p.0 ≡ Some task
         → Gets (IsSenseMissing d) sense_missing_at
         (task_sites (signal_numbers d) p.0 task) found.old.items found.new.items) }
@@ -91,7 +91,7 @@ fn push_missing(
 /// it: a finding for each signal.
 pub fn sense_missing(alloc: Global, scans: &Scans) -> Result<Vec<Finding>, Memory>
     requires { AreScans scans.now }
-    ensures { IfOk result (λ found. AreSenseMissing (parts scans.now.design.now) found.items) }
+    ensures { IfOk result (λ found. AreSenseMissing (flat scans.now.design.now) found.items) }
 {
     let mut found = Vec::new(alloc);
     for number in 0..scans.design.processes.len() {

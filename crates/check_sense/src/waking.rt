@@ -3,7 +3,7 @@
 ghost use Rattle.std.specs.Prelude.{◌≡◌, ◌<◌, Some, length, IfOk, OnOk};
 ghost use Rattle.std.specs.List.{list_any, slice_get};
 ghost use Rattle.rtl_flat.specs.Process.{doing, Task};
-ghost use Rattle.rtl_rule.specs.Parts.{parts};
+ghost use Rattle.rtl_flat.specs.Flats.{flat};
 ghost use Rattle.check_found.specs.rtl_scan.Sets.{has_rows};
 ghost use Rattle.check_found.specs.Gathered.{Gets, task_sites};
 ghost use Rattle.check_found.specs.Scanned.{AreScans};
@@ -40,7 +40,7 @@ impl Writers {
     /// Those of a design.
     fn of(alloc: Global, scans: &Scans) -> Result<Writers, Memory>
         requires { AreScans scans.now }
-        ensures { let d = parts scans.now.design.now in
+        ensures { let d = flat scans.now.design.now in
             IfOk result (λ writers. AreWriters d d.tasks writers) }
     {
         let mut writers = Writers {
@@ -99,8 +99,8 @@ fn wake_some(signals: &[Signal], writers: &Writers, own: &BitSet, rows: &[Row]) 
 fn can_wake(alloc: Global, scans: &Scans, writers: &Writers, p: ProcId) -> Result<bool, Memory>
     requires scans { AreScans scans.now }
     requires inside { p.0 < length scans.now.design.now.processes.items }
-    requires writers { let d = parts scans.now.design.now in AreWriters d d.tasks writers.now }
-    ensures { let d = parts scans.now.design.now in
+    requires writers { let d = flat scans.now.design.now in AreWriters d d.tasks writers.now }
+    ensures { let d = flat scans.now.design.now in
         IfOk result (λ wakes. (task : Task) → slice_get d.tasks p.0 ≡ Some task
         → wakes ≡ can_wake d p.0 task.does) }
 {
@@ -132,8 +132,8 @@ fn push_never(
 ) -> Result<(), Memory>
     requires scans { AreScans scans.now }
     requires inside { p.0 < length scans.now.design.now.processes.items }
-    requires writers { let d = parts scans.now.design.now in AreWriters d d.tasks writers.now }
-    ensures { let d = parts scans.now.design.now in
+    requires writers { let d = flat scans.now.design.now in AreWriters d d.tasks writers.now }
+    ensures { let d = flat scans.now.design.now in
         OnOk result ((task : Task) → slice_get d.tasks p.0 ≡ Some task
         → Gets (IsNeverWakes d) (never_wakes_at d)
         (task_sites itself p.0 task) found.old.items found.new.items) }
@@ -159,7 +159,7 @@ fn push_never(
 /// another process.
 pub fn never_wakes(alloc: Global, scans: &Scans) -> Result<Vec<Finding>, Memory>
     requires { AreScans scans.now }
-    ensures { IfOk result (λ found. AreNeverWakes (parts scans.now.design.now) found.items) }
+    ensures { IfOk result (λ found. AreNeverWakes (flat scans.now.design.now) found.items) }
 {
     let writers = Writers::of(alloc, scans)?;
     let mut found = Vec::new(alloc);

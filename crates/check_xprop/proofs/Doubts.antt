@@ -23,7 +23,8 @@ use Rattle.rtl_flat.specs.declared.act.CaseKind.TheVariants as case
 use Rattle.rtl_flat.specs.Process.{Selection, Piece, Action, Set, If, Case, Block, Actions, Otherwise, Branches, Doing, Task, selection}
 use Rattle.rtl_flat.specs.Process as part
 use Rattle.rtl_rule.specs.declared.finding.Finding.{Finding}
-use Rattle.rtl_rule.specs.Parts.{Parts, first_of, has_some, nodes, own_labels, own_trees, statements, widths, written}
+use Rattle.rtl_rule.specs.Parts.{first_of, has_some, nodes, own_labels, own_trees, statements, written}
+use Rattle.rtl_flat.specs.Flats.{Flat, widths}
 use Rattle.check_assign.specs.rtl_scan.declared.bits.Row.{Row}
 use Rattle.check_assign.specs.rtl_scan.Sets.{has_row}
 use Rattle.check_assign.proofs.rtl_scan_proofs.Labels.{left_at}
@@ -361,7 +362,7 @@ no_block_choices Wild a body is = ap wild_choices_in is
 
 -- ---- all processes
 
-pub choices_all : (sought : Sought) (d : Parts) (marks : List Bool) → ((s : ℕ) → slice_get marks s ≡ Some true ↔ IsDoubtful d s) → (n : ℕ) → n ≡ length d.tasks → (found : List Finding) → found ≡ below (λ p one. choices_found (rule_of sought) (choices_of sought) d marks one) 0 d.tasks n → AreSought sought d found
+pub choices_all : (sought : Sought) (d : Flat) (marks : List Bool) → ((s : ℕ) → slice_get marks s ≡ Some true ↔ IsDoubtful d s) → (n : ℕ) → n ≡ length d.tasks → (found : List Finding) → found ≡ below (λ p one. choices_found (rule_of sought) (choices_of sought) d marks one) 0 d.tasks n → AreSought sought d found
 choices_all sought d marks each n all found is =
     let ws = widths d in
     let list = λ (does : Doing). flat_map (choices_of sought) (statements does) in

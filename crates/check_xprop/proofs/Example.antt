@@ -11,7 +11,8 @@ use Rattle.rtl_flat.specs.declared.signal.Signal.{Signal}
 use Rattle.rtl_flat.specs.Expression as sized
 use Rattle.rtl_flat.specs.Process.{Piece, Watched, Actions, Doing, Task}
 use Rattle.rtl_flat.specs.Process as part
-use Rattle.rtl_rule.specs.Parts.{Parts, At}
+use Rattle.rtl_rule.specs.Parts.{At}
+use Rattle.rtl_flat.specs.Flats.{Flat}
 use Rattle.check_xprop.specs.Unknowns.{IsUnknownLiteral, IsDivideVariable, IsCaseEquality, Computed, Pick, picks}
 
 abbrev spot_at : ℕ → Spot
@@ -30,7 +31,7 @@ piece i at = record { signal = i; selection = part.Whole; spot = spot_at at } �
 abbrev task_of : Doing → Task
 task_of does = record { does = does; instance = 0; spot = spot_at 38 }
 
-abbrev parts : List Signal → List Doing → Parts
+abbrev parts : List Signal → List Doing → Flat
 parts signals does =
     record { signals = signals; tasks = map task_of does; delays = []; dropped = [] }
 

@@ -10,7 +10,8 @@ use Rattle.std.proofs.lemmas.List.Elements.{filter-append}
 use Rattle.rtl_tree.specs.declared.text.Spot.{Spot}
 use Rattle.rtl_flat.specs.Process.{Doing, Task}
 use Rattle.rtl_rule.specs.declared.finding.Finding.{Finding}
-use Rattle.rtl_rule.specs.Parts.{Parts, At, sites, spot_if, within}
+use Rattle.rtl_rule.specs.Parts.{At, sites, spot_if, within}
+use Rattle.rtl_flat.specs.Flats.{Flat}
 use Rattle.rtl_rule.specs.Sites.{AreFindings, AreThose}
 use Rattle.check_xprop.specs.Lists.{below, picked}
 
@@ -64,7 +65,7 @@ picked_all at test f (x ∷ xs) =
 
 module _ {A : Type 0} (P : At A → Type 0) (test : At A → Bool) (by : (x : At A) → (test x ≡ true) ↔ P x) where
   -- what all processes have together
-  pub found_of : (at : At A → Finding) (list : Doing → List A) (d : Parts) (of : ℕ → Task → List Finding) → ((p : ℕ) (task : Task) → of p task ≡ picked list test at p task) → (n : ℕ) → n ≡ length d.tasks → (found : List Finding) → found ≡ below of 0 d.tasks n → AreFindings P at (sites list d) found
+  pub found_of : (at : At A → Finding) (list : Doing → List A) (d : Flat) (of : ℕ → Task → List Finding) → ((p : ℕ) (task : Task) → of p task ≡ picked list test at p task) → (n : ℕ) → n ≡ length d.tasks → (found : List Finding) → found ≡ below of 0 d.tasks n → AreFindings P at (sites list d) found
   found_of at list d of same n all found is =
       let whole : found ≡ map at (filter test (sites list d))
       = is ∙ ap (below of 0 d.tasks) all ∙ below_all of 0 d.tasks ∙ flat_same (λ (one : ℕ × Task). of one.0 one.1) (λ (one : ℕ × Task). picked list test at one.0 one.1) (λ (one : ℕ × Task). same one.0 one.1) (enumerate_from 0 d.tasks) ∙ sym (picked_all at test (λ (one : ℕ × Task). map (within one) (list one.1.does)) (enumerate_from 0 d.tasks)) in

@@ -16,7 +16,8 @@ use Rattle.rtl_flat.specs.Expression.{Sized, read}
 use Rattle.rtl_flat.specs.Flows.{bit_at, is_place, may_select}
 use Rattle.rtl_flat.specs.Process.{Selection, BitAt, Task, selection}
 use Rattle.rtl_rule.specs.declared.finding.Finding.{Finding}
-use Rattle.rtl_rule.specs.Parts.{Parts, At, some_below, widths, within}
+use Rattle.rtl_rule.specs.Parts.{At, some_below, within}
+use Rattle.rtl_flat.specs.Flats.{Flat, widths}
 use Rattle.check_assign.specs.rtl_scan.declared.bits.Row.{Row}
 use Rattle.check_assign.specs.rtl_scan.Sets.{has_row}
 use Rattle.check_assign.proofs.rtl_scan_proofs.Users.{some_bit_is}
@@ -150,7 +151,7 @@ sites_picked test at f one same [] = refl
 sites_picked test at f one same (x ∷ xs) =
     cond_sites at f one x (same x) (test x) (filter (λ site. test site.it) (map (within one) xs)) (filter test xs) (sites_picked test at f one same xs)
 
-pub misses_all : (d : Parts) (n : ℕ) → n ≡ length d.tasks → (found : List Finding) → found ≡ below (λ p one. misses_found (widths d) one.instance (picks one.does)) 0 d.tasks n → AreSelectRange d found
+pub misses_all : (d : Flat) (n : ℕ) → n ≡ length d.tasks → (found : List Finding) → found ≡ below (λ p one. misses_found (widths d) one.instance (picks one.does)) 0 d.tasks n → AreSelectRange d found
 misses_all d n all found is =
     found_of (IsSelectRange d) (λ site. may_miss (widths d) site.it site.it.index) (λ site. (λ h. h, λ h. h)) select_range_at picks d (λ p one. misses_found (widths d) one.instance (picks one.does))
     (λ p one. sites_picked (λ (pick : Pick). may_miss (widths d) pick pick.index) select_range_at (miss_at one.instance) (p, one) (λ x. refl) (picks one.does))

@@ -9,7 +9,8 @@ use Rattle.rtl_flat.specs.Process.{Task, task}
 use Rattle.rtl_rule.specs.declared.finding.Finding.{Finding}
 use Rattle.rtl_rule.specs.declared.rule.Rule.{Rule}
 use Rattle.rtl_rule.specs.declared.rule.Rule.TheVariants as rule
-use Rattle.rtl_rule.specs.Parts.{Parts, At, first_of, has_literal, is_literal_with, is_one_literal, is_x, labels, least_place, literal_places, nodes, place_of, trees, valued_trees, within, written}
+use Rattle.rtl_rule.specs.Parts.{At, first_of, has_literal, is_literal_with, is_one_literal, is_x, labels, least_place, literal_places, nodes, place_of, trees, valued_trees, within, written}
+use Rattle.rtl_flat.specs.Flats.{Flat}
 use Rattle.rtl_rule.specs.Sites.{AreFindings}
 use Rattle.check_assign.proofs.rtl_scan_proofs.Processes.{task_at}
 use Rattle.check_xprop.specs.Lists.{at_spot, at_spots, below, literal_found, nodes_found, tree_spots}
@@ -36,7 +37,7 @@ spots_end view test otherwise n items all found spots seen same before past whol
 
 -- ---- rules on expressions
 
-pub nodes_all : (name : Rule) (test : Tree → Bool) (d : Parts) (n : ℕ) → n ≡ length d.tasks → (found : List Finding) → found ≡ below (λ p one. nodes_found name test d one) 0 d.tasks n → AreFindings (λ (site : At Tree). test site.it ≡ true) (at_node name d) (node_sites d) found
+pub nodes_all : (name : Rule) (test : Tree → Bool) (d : Flat) (n : ℕ) → n ≡ length d.tasks → (found : List Finding) → found ≡ below (λ p one. nodes_found name test d one) 0 d.tasks n → AreFindings (λ (site : At Tree). test site.it ≡ true) (at_node name d) (node_sites d) found
 nodes_all name test d n all found is =
     found_of (λ (site : At Tree). test site.it ≡ true) (λ site. test site.it) (λ site. (λ h. h, λ h. h)) (at_node name d) all_nodes d (λ p one. nodes_found name test d one)
     (λ p one. spots_picked test (place_of one.spot) (at_spot name (first_of d (written d one.does)) one.instance) (at_node name d) (p, one) (λ x. refl) (all_nodes one.does))
@@ -44,11 +45,11 @@ nodes_all name test d n all found is =
 
 -- ---- literals
 
-pub literals_all : (d : Parts) (n : ℕ) → n ≡ length d.tasks → (found : List Finding) → found ≡ below (literal_found d) 0 d.tasks n → AreUnknownLiteral d found
+pub literals_all : (d : Flat) (n : ℕ) → n ≡ length d.tasks → (found : List Finding) → found ≡ below (literal_found d) 0 d.tasks n → AreUnknownLiteral d found
 literals_all d n all found is =
     found_of IsUnknownLiteral (λ site. has_literal is_x site.it) (λ site. (λ h. h, λ h. h)) (unknown_literal_at d) (λ does. does ∷ []) d (literal_found d) (λ p one. refl) n all found is
 
-module _ (d : Parts) (p : ℕ) (one : Task) where
+module _ (d : Flat) (p : ℕ) (one : Task) where
   abbrev spots_of : List Spot
   spots_of =
       tree_spots (is_literal_with is_x) one.spot (flat_map nodes (valued_trees one.does))

@@ -10,7 +10,8 @@ use Rattle.check_assign.specs.rtl_scan.Usage.{has_row_of}
 use Rattle.rtl_flat.specs.declared.signal.Signal.{Signal}
 use Rattle.rtl_flat.specs.Process.{Task}
 use Rattle.rtl_flat.specs.Signs.{width_in}
-use Rattle.rtl_rule.specs.Parts.{Parts, widths, written}
+use Rattle.rtl_rule.specs.Parts.{written}
+use Rattle.rtl_flat.specs.Flats.{Flat, widths}
 use Rattle.check_assign.proofs.check_found_proofs.Inside.{written_inside}
 use Rattle.check_assign.proofs.check_found_proofs.Signals.{rows_have_some}
 use Rattle.check_xprop.specs.declared.doubt.Spread.{Spread}
@@ -144,7 +145,7 @@ width_there (one ∷ signals) (suc s) h =
     omega (arith, below)
 
 -- a process that reads what may be x was looked at
-pub visited : (d : Parts) (p : ℕ) (seen : List Bool) (old new : Spread) → IsReader d p → p < length seen → ((task : Task) → slice_get d.tasks p ≡ Some task → Marks (writes d task) old new) → Visits d p seen old (set seen p true) new
+pub visited : (d : Flat) (p : ℕ) (seen : List Bool) (old new : Spread) → IsReader d p → p < length seen → ((task : Task) → slice_get d.tasks p ≡ Some task → Marks (writes d task) old new) → Visits d p seen old (set seen p true) new
 visited d p seen old new reader inside marks =
     let task = reader.task in
     let m = marks task reader.there in
@@ -196,7 +197,7 @@ visited d p seen old new reader inside marks =
           | inr apart ↦ get_or-set_other seen p q true false apart ∙ was
         ]
 
-pub writes_are : (d : Parts) (task : Task) (rows : List Row) → ((s k : ℕ) → has_rows rows s k ≡ written d task.does s k) → IsInOrder rows → (s : ℕ) → writes d task s ≡ has_row_of rows s
+pub writes_are : (d : Flat) (task : Task) (rows : List Row) → ((s k : ℕ) → has_rows rows s k ≡ written d task.does s k) → IsInOrder rows → (s : ℕ) → writes d task s ≡ has_row_of rows s
 writes_are d task rows are order s =
     sym (rows_have_some (widths d) (written d task.does) rows (record { order = order; same = are; inside = written_inside (widths d) task.does }) s)
 

@@ -15,7 +15,8 @@ use Rattle.rtl_flat.specs.Paths.{BitSet, reads_outside}
 use Rattle.rtl_flat.specs.PathSets.{IsTemporary}
 use Rattle.rtl_flat.specs.Process.{Task, task}
 use Rattle.rtl_flat.specs.Signs.{width_in}
-use Rattle.rtl_rule.specs.Parts.{Parts, has_some, parts, widths, written}
+use Rattle.rtl_rule.specs.Parts.{has_some, written}
+use Rattle.rtl_flat.specs.Flats.{Flat, flat, widths}
 use Rattle.check_assign.specs.Assigned.{is_clocked}
 use Rattle.check_assign.specs.check_chains.Chains.{chain_of, has_chain}
 use Rattle.check_assign.proofs.check_found_proofs.Inside.{outside_inside}
@@ -34,7 +35,7 @@ there_below (y ∷ xs) zero x h = omega arith
 there_below (y ∷ xs) (suc n) x h = let below = there_below xs n x h in omega (arith, below)
 
 -- a reader is a process of the design
-pub reader_there : (design : Design) (p : ℕ) → IsReader (parts design) p → p < length design.processes.items
+pub reader_there : (design : Design) (p : ℕ) → IsReader (flat design) p → p < length design.processes.items
 reader_there design p one =
     let below = there_below (map task design.processes.items) p one.task one.there in
     let count = length-tasks design.processes.items in
@@ -66,7 +67,7 @@ not_both true h = absurd (h refl)
 not_both false h = refl
 
 -- a set has bits only of signals that are there
-some_there : (d : Parts) (bits : BitSet) (s : ℕ) → has_some (widths d) bits s ≡ true → s < length d.signals
+some_there : (d : Flat) (bits : BitSet) (s : ℕ) → has_some (widths d) bits s ≡ true → s < length d.signals
 some_there d bits s h =
     let (k, below, bit) = some_found (widths d s) (bits s) h in
     let wide : 0 < width_in d.signals s = omega (arith, below) in
@@ -74,7 +75,7 @@ some_there d bits s h =
 
 -- ---- where it starts
 
-pub starting_none : (d : Parts) (spread : Spread) (n : ℕ) → n ≡ length d.signals → spread.marked.items ≡ replicate n false → spread.waiting.items ≡ [] → IsStarting d 0 spread
+pub starting_none : (d : Flat) (spread : Spread) (n : ℕ) → n ≡ length d.signals → spread.marked.items ≡ replicate n false → spread.waiting.items ≡ [] → IsStarting d 0 spread
 starting_none d spread n same marked waiting =
     record {
       same_length = ap length marked ∙ length-replicate n false ∙ same;
@@ -84,7 +85,7 @@ starting_none d spread n same marked waiting =
       waits = λ s h. absurd (none_marked spread.marked.items n s marked h);
     }
 
-module _ (d : Parts) (temporaries : List Bool) (each : (s : ℕ) → slice_get temporaries s ≡ Some true ↔ IsTemporary d.signals d.tasks s) (p : ℕ) (task : Task) (there : slice_get d.tasks p ≡ Some task) where
+module _ (d : Flat) (temporaries : List Bool) (each : (s : ℕ) → slice_get temporaries s ≡ Some true ↔ IsTemporary d.signals d.tasks s) (p : ℕ) (task : Task) (there : slice_get d.tasks p ≡ Some task) where
   abbrev resets : Task → Bool
   resets one = has_chain (λ chain. nat_lt 0 (length chain.resets)) (chain_of d one.does)
 
@@ -218,11 +219,11 @@ notes_as P Q p old new is h =
       to = λ s there m. h.to s there (sym (is s) ∙ m);
     }
 
-pub reads_are : (d : Parts) (task : Task) (rows : List Row) → ((s k : ℕ) → has_rows rows s k ≡ reads_outside (flow_of (widths d) task.does) s k) → IsInOrder rows → (s : ℕ) → reads d task s ≡ has_row_of rows s
+pub reads_are : (d : Flat) (task : Task) (rows : List Row) → ((s k : ℕ) → has_rows rows s k ≡ reads_outside (flow_of (widths d) task.does) s k) → IsInOrder rows → (s : ℕ) → reads d task s ≡ has_row_of rows s
 reads_are d task rows are order s =
     sym (rows_have_some (widths d) (reads_outside (flow_of (widths d) task.does)) rows (record { order = order; same = are; inside = outside_inside (widths d) task.does }) s)
 
-pub readers_none : (d : Parts) (table : List (Vec ℕ Global)) → length table ≡ length d.signals → ((s : ℕ) → bucket table s ≡ []) → AreReaders d 0 table
+pub readers_none : (d : Flat) (table : List (Vec ℕ Global)) → length table ≡ length d.signals → ((s : ℕ) → bucket table s ≡ []) → AreReaders d 0 table
 readers_none d table same none =
     record {
       same_length = same;
@@ -230,7 +231,7 @@ readers_none d table same none =
       all = λ s p task below there r. absurd (omega (arith, below));
     }
 
-pub readers_more : (d : Parts) (p : ℕ) (task : Task) → slice_get d.tasks p ≡ Some task → (old new : List (Vec ℕ Global)) → Notes (reads d task) p old new → AreReaders d p old → AreReaders d (p + 1) new
+pub readers_more : (d : Flat) (p : ℕ) (task : Task) → slice_get d.tasks p ≡ Some task → (old new : List (Vec ℕ Global)) → Notes (reads d task) p old new → AreReaders d p old → AreReaders d (p + 1) new
 readers_more d p task there old new n h =
     record {
       same_length = n.same_length ∙ h.same_length;
@@ -251,11 +252,11 @@ readers_more d p task there old new n h =
 
 -- ---- the readers of one signal
 
-pub reaches_none : (d : Parts) (seen : List Bool) (spread : Spread) → Reaches d [] seen spread seen spread
+pub reaches_none : (d : Flat) (seen : List Bool) (spread : Spread) → Reaches d [] seen spread seen spread
 reaches_none d seen spread =
     record { same_length = refl; now = λ p h. absurd h; stay = λ q h. h; count = refl; spreads = λ current h. h }
 
-pub reaches_more : (d : Parts) (row : List ℕ) (i default : ℕ) → i < length row → (first : List Bool) (from : Spread) (seen : List Bool) (old : Spread) (seen' : List Bool) (new : Spread) → Reaches d (take i row) first from seen old → Visits d (get_or row i default) seen old seen' new → Reaches d (take (i + 1) row) first from seen' new
+pub reaches_more : (d : Flat) (row : List ℕ) (i default : ℕ) → i < length row → (first : List Bool) (from : Spread) (seen : List Bool) (old : Spread) (seen' : List Bool) (new : Spread) → Reaches d (take i row) first from seen old → Visits d (get_or row i default) seen old seen' new → Reaches d (take (i + 1) row) first from seen' new
 reaches_more d row i default inside first from seen old seen' new h v =
     record {
       same_length = v.same_length ∙ h.same_length;
@@ -271,7 +272,7 @@ reaches_more d row i default inside first from seen old seen' new h v =
 -- ---- one signal after another
 
 -- before the first
-pub spreading_first : (d : Parts) (spread : Spread) (n m : ℕ) → n ≡ length d.tasks → (seen : List Bool) → seen ≡ replicate m false → IsStarting d n spread → IsSpreading d (length d.signals) seen spread
+pub spreading_first : (d : Flat) (spread : Spread) (n m : ℕ) → n ≡ length d.tasks → (seen : List Bool) → seen ≡ replicate m false → IsStarting d n spread → IsSpreading d (length d.signals) seen spread
 spreading_first d spread n m count seen unseen h =
     record {
       same_length = h.same_length;
@@ -283,7 +284,7 @@ spreading_first d spread n m count seen unseen h =
     }
 
 -- the last that waits is taken
-pub popped : (d : Parts) (seen : List Bool) (old new : Spread) (signal : ℕ) → new.marked.items ≡ old.marked.items → old.waiting.items ≡ new.waiting.items ++ signal ∷ [] → IsSpreading d (length d.signals) seen old → IsSpreading d signal seen new
+pub popped : (d : Flat) (seen : List Bool) (old new : Spread) (signal : ℕ) → new.marked.items ≡ old.marked.items → old.waiting.items ≡ new.waiting.items ++ signal ∷ [] → IsSpreading d (length d.signals) seen old → IsSpreading d signal seen new
 popped d seen old new signal marks waits h =
     record {
       same_length = ap length marks ∙ h.same_length;
@@ -313,20 +314,20 @@ popped d seen old new signal marks waits h =
     now s m = ap (λ (ms : List Bool). get_or ms s false) marks ∙ m
 
 -- what waits is a signal of the design that may be x
-pub waits_marked : (d : Parts) (seen : List Bool) (old : Spread) (signal : ℕ) (before : List ℕ) → old.waiting.items ≡ before ++ signal ∷ [] → IsSpreading d (length d.signals) seen old → (signal < length d.signals) × IsDoubtful d signal
+pub waits_marked : (d : Flat) (seen : List Bool) (old : Spread) (signal : ℕ) (before : List ℕ) → old.waiting.items ≡ before ++ signal ∷ [] → IsSpreading d (length d.signals) seen old → (signal < length d.signals) × IsDoubtful d signal
 waits_marked d seen old signal before waits h =
     let marked = h.waiting signal (subst (λ (xs : List ℕ). Among xs signal) (sym waits) (among_last before signal)) in
     let inside = marked_in old.marked.items signal marked in
     let same = h.same_length in
     (omega (arith, inside, same), h.sound signal marked)
 
-pub is_reader : (d : Parts) (n : ℕ) (table : List (Vec ℕ Global)) → AreReaders d n table → (signal : ℕ) → IsDoubtful d signal → (p : ℕ) → Among (bucket table signal) p → IsReader d p
+pub is_reader : (d : Flat) (n : ℕ) (table : List (Vec ℕ Global)) → AreReaders d n table → (signal : ℕ) → IsDoubtful d signal → (p : ℕ) → Among (bucket table signal) p → IsReader d p
 is_reader d n table readers signal doubtful p h =
     let one = readers.sound signal p h in
     record { signal = signal; task = one.task; there = one.there; doubtful = doubtful; reads = one.reads }
 
 -- all its readers were looked at
-pub reached : (d : Parts) (n : ℕ) (table : List (Vec ℕ Global)) → n ≡ length d.tasks → AreReaders d n table → (signal : ℕ) (seen : List Bool) (old : Spread) (seen' : List Bool) (new : Spread) → Reaches d (bucket table signal) seen old seen' new → IsSpreading d signal seen old → IsSpreading d (length d.signals) seen' new
+pub reached : (d : Flat) (n : ℕ) (table : List (Vec ℕ Global)) → n ≡ length d.tasks → AreReaders d n table → (signal : ℕ) (seen : List Bool) (old : Spread) (seen' : List Bool) (new : Spread) → Reaches d (bucket table signal) seen old seen' new → IsSpreading d signal seen old → IsSpreading d (length d.signals) seen' new
 reached d n table count readers signal seen old seen' new r h =
     let all = r.spreads signal h in
     record {
@@ -344,7 +345,7 @@ reached d n table count readers signal seen old seen' new r h =
     }
 
 -- nothing waits any more
-complete : (d : Parts) (seen : List Bool) (spread : Spread) → IsSpreading d (length d.signals) seen spread → spread.waiting.items ≡ [] → (s : ℕ) → IsDoubtful d s → is_marked spread s ≡ true
+complete : (d : Flat) (seen : List Bool) (spread : Spread) → IsSpreading d (length d.signals) seen spread → spread.waiting.items ≡ [] → (s : ℕ) → IsDoubtful d s → is_marked spread s ≡ true
 complete d seen spread h none _ (Unreset s is) = h.began s is
 complete d seen spread h none _ (Behind p s t task there doubtful reads' writes') =
     let marked = complete d seen spread h none t doubtful in
@@ -359,6 +360,6 @@ complete d seen spread h none _ (Behind p s t task there doubtful reads' writes'
       ]
     ]
 
-pub spread_all : (d : Parts) (seen : List Bool) (spread : Spread) → IsSpreading d (length d.signals) seen spread → spread.waiting.items ≡ [] → (s : ℕ) → slice_get spread.marked.items s ≡ Some true ↔ IsDoubtful d s
+pub spread_all : (d : Flat) (seen : List Bool) (spread : Spread) → IsSpreading d (length d.signals) seen spread → spread.waiting.items ≡ [] → (s : ℕ) → slice_get spread.marked.items s ≡ Some true ↔ IsDoubtful d s
 spread_all d seen spread h none s =
     (λ is. h.sound s (got_back spread.marked.items s is), λ is. got spread.marked.items s (complete d seen spread h none s is))

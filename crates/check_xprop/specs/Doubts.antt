@@ -13,7 +13,8 @@ use Rattle.rtl_flat.specs.Process.{Action, Task}
 use Rattle.rtl_rule.specs.declared.finding.Finding.{Finding}
 use Rattle.rtl_rule.specs.declared.rule.Rule.{Rule}
 use Rattle.rtl_rule.specs.declared.rule.Rule.TheVariants as rule
-use Rattle.rtl_rule.specs.Parts.{Parts, has_some, sites, some_below, statements, widths}
+use Rattle.rtl_rule.specs.Parts.{has_some, sites, some_below, statements}
+use Rattle.rtl_flat.specs.Flats.{Flat, widths}
 use Rattle.rtl_rule.specs.Sites.{AreFindings}
 use Rattle.check_xprop.specs.declared.choices.Sought.{Sought}
 use Rattle.check_xprop.specs.declared.choices.Sought.TheVariants.{Plain, Wild}
@@ -42,7 +43,7 @@ abbrev pub choice_spots : (ℕ → ℕ) → List Bool → List Choice → List S
 choice_spots ws marks all =
     map (λ (one : Choice). one.spot) (filter (λ (one : Choice). any_meets ws marks one.trees) all)
 
-abbrev pub choices_found : Rule → (Action → List Choice) → Parts → List Bool → Task → List Finding
+abbrev pub choices_found : Rule → (Action → List Choice) → Flat → List Bool → Task → List Finding
 choices_found rule list d marks task =
     at_spots rule d (choice_spots (widths d) marks (flat_map list (statements task.does))) task
 
@@ -68,6 +69,6 @@ seeks Wild case.Plain = false
 seeks Wild case.Z = true
 seeks Wild case.X = true
 
-abbrev pub AreSought : Sought → Parts → List Finding → Type 0
+abbrev pub AreSought : Sought → Flat → List Finding → Type 0
 AreSought sought d =
     AreFindings (IsDoubtfulChoice d) (at_choice (rule_of sought) d) (sites (λ does. flat_map (choices_of sought) (statements does)) d)

@@ -18,7 +18,8 @@ use Rattle.rtl_flat.specs.Sizes.{IsSized}
 use Rattle.rtl_rule.specs.declared.finding.Finding.{Finding}
 use Rattle.rtl_rule.specs.declared.rule.Rule.{Rule}
 use Rattle.rtl_rule.specs.declared.rule.Rule.TheVariants as rule
-use Rattle.rtl_rule.specs.Parts.{Parts, At, first_of, has_literal, is_x, number, place_of, within, written}
+use Rattle.rtl_rule.specs.Parts.{At, first_of, has_literal, is_x, number, place_of, within, written}
+use Rattle.rtl_flat.specs.Flats.{Flat}
 use Rattle.check_xprop.specs.Unknowns.{Pick, all_nodes, at_region, delay_ignored_at, in_task, may_miss, unknown_literal_at}
 
 -- ---- process by process
@@ -34,7 +35,7 @@ abbrev pub picked : {A : Type 0} → (Doing → List A) → (At A → Bool) → 
 picked list test at p task = map at (filter test (map (within (p, task)) (list task.does)))
 
 -- these are all expressions of a process
-abbrev pub AreNodes : Parts → ℕ → List Tree → Type 0
+abbrev pub AreNodes : Flat → ℕ → List Tree → Type 0
 AreNodes d p all = (task : Task) → slice_get d.tasks p ≡ Some task → all ≡ all_nodes task.does
 
 -- ---- at places in a process
@@ -44,7 +45,7 @@ at_spot rule signal instance spot =
     record { rule = rule; signal = signal; instance = instance; spot = spot }
 
 -- findings about the least signal that a process may write
-abbrev pub at_spots : Rule → Parts → List Spot → Task → List Finding
+abbrev pub at_spots : Rule → Flat → List Spot → Task → List Finding
 at_spots rule d spots task =
     map (at_spot rule (first_of d (written d task.does)) task.instance) spots
 
@@ -53,7 +54,7 @@ abbrev pub tree_spots : (Tree → Bool) → Spot → List Tree → List Spot
 tree_spots test otherwise all = map (place_of otherwise) (filter test all)
 
 -- the findings of a rule on expressions
-abbrev pub nodes_found : Rule → (Tree → Bool) → Parts → Task → List Finding
+abbrev pub nodes_found : Rule → (Tree → Bool) → Flat → Task → List Finding
 nodes_found rule test d task =
     at_spots rule d (tree_spots test task.spot (all_nodes task.does)) task
 
@@ -64,7 +65,7 @@ is_exact compare.CaseNotEqual = true
 is_exact _ = false
 
 -- the first place of a literal with an x bit
-abbrev pub literal_found : Parts → ℕ → Task → List Finding
+abbrev pub literal_found : Flat → ℕ → Task → List Finding
 literal_found d =
     picked (λ does. does ∷ []) (λ site. has_literal is_x site.it) (unknown_literal_at d)
 
@@ -81,12 +82,12 @@ regions rule kind dropped =
 
 -- ---- delays
 
-abbrev pub delays_found : Parts → List Delay → List Finding
+abbrev pub delays_found : Flat → List Delay → List Finding
 delays_found d delays =
     map (delay_ignored_at d) (filter_map (λ (delay : Delay). in_task delay (slice_get d.tasks delay.process.0)) delays)
 
 -- the least signal that each process may write
-pub record AreFirsts (d : Parts) (n : ℕ) (firsts : List (Option SigId)) : Type 0 where
+pub record AreFirsts (d : Flat) (n : ℕ) (firsts : List (Option SigId)) : Type 0 where
   pub each : (p : ℕ) (task : Task) → p < n → slice_get d.tasks p ≡ Some task → slice_get firsts p ≡ Some (first_of d (written d task.does))
   pub same_length : length firsts ≡ n
 

@@ -6,7 +6,8 @@ use Rattle.std.specs.declared.alloc.Global.{Global}
 use Rattle.rtl_flat.specs.Flows.{flow_of}
 use Rattle.rtl_flat.specs.Paths.{reads_outside}
 use Rattle.rtl_flat.specs.Process.{Task}
-use Rattle.rtl_rule.specs.Parts.{Parts, has_some, widths, written}
+use Rattle.rtl_rule.specs.Parts.{has_some, written}
+use Rattle.rtl_flat.specs.Flats.{Flat, widths}
 use Rattle.check_assign.specs.Assigned.{is_clocked}
 use Rattle.check_assign.specs.check_chains.Chains.{chain_of, has_chain}
 use Rattle.check_xprop.specs.declared.doubt.Spread.{Spread}
@@ -36,20 +37,20 @@ pub record Marks (P : ℕ → Bool) (old new : Spread) : Type 0 where
   pub count : left new.marked.items + length new.waiting.items ≡ left old.marked.items + length old.waiting.items
 
 -- a process writes a signal, or reads it before it has written it
-abbrev pub writes : Parts → Task → ℕ → Bool
+abbrev pub writes : Flat → Task → ℕ → Bool
 writes d task s = has_some (widths d) (written d task.does) s
 
-abbrev pub reads : Parts → Task → ℕ → Bool
+abbrev pub reads : Flat → Task → ℕ → Bool
 reads d task s = has_some (widths d) (reads_outside (flow_of (widths d) task.does)) s
 
 -- what a process marks before anything spreads
-abbrev pub starts : Parts → List Bool → Task → ℕ → Bool
+abbrev pub starts : Flat → List Bool → Task → ℕ → Bool
 starts d temporaries task s =
     (is_clocked task.does && not (has_chain (λ chain. nat_lt 0 (length chain.resets)) (chain_of d task.does)))
     && (writes d task s && not (slice_index_or temporaries s false))
 
 -- a process reads a signal that may be x
-pub record IsReader (d : Parts) (p : ℕ) : Type 0 where
+pub record IsReader (d : Flat) (p : ℕ) : Type 0 where
   pub signal : ℕ
   pub task : Task
   pub there : slice_get d.tasks p ≡ Some task
@@ -62,7 +63,7 @@ is_seen seen p = slice_index_or seen p false
 -- what holds between the steps: what is marked may be x; registers without a reset are
 -- marked; what waits is marked; what a process writes that was looked at is
 -- marked; and a process that reads what is marked was looked at, unless that waits or is the signal at hand
-pub record IsSpreading (d : Parts) (current : ℕ) (seen : List Bool) (spread : Spread) : Type 0 where
+pub record IsSpreading (d : Flat) (current : ℕ) (seen : List Bool) (spread : Spread) : Type 0 where
   pub same_length : length spread.marked.items ≡ length d.signals
   pub sound : (s : ℕ) → is_marked spread s ≡ true → IsDoubtful d s
   pub began : (s : ℕ) → IsUnreset d s → is_marked spread s ≡ true
@@ -71,7 +72,7 @@ pub record IsSpreading (d : Parts) (current : ℕ) (seen : List Bool) (spread : 
   pub closed : (s p : ℕ) (task : Task) → is_marked spread s ≡ true → slice_get d.tasks p ≡ Some task → reads d task s ≡ true → (s ≡ current) ⊎ (Among spread.waiting.items s ⊎ (is_seen seen p ≡ true))
 
 -- one process was looked at
-pub record Visits (d : Parts) (p : ℕ) (seen : List Bool) (spread : Spread) (seen' : List Bool) (spread' : Spread) : Type 0 where
+pub record Visits (d : Flat) (p : ℕ) (seen : List Bool) (spread : Spread) (seen' : List Bool) (spread' : Spread) : Type 0 where
   pub same_length : length seen' ≡ length seen
   pub now : is_seen seen' p ≡ true
   pub stay : (q : ℕ) → is_seen seen q ≡ true → is_seen seen' q ≡ true
@@ -80,7 +81,7 @@ pub record Visits (d : Parts) (p : ℕ) (seen : List Bool) (spread : Spread) (se
   pub spreads : (current : ℕ) → IsSpreading d current seen spread → IsSpreading d current seen' spread'
 
 -- some processes were looked at
-pub record Reaches (d : Parts) (row : List ℕ) (seen : List Bool) (spread : Spread) (seen' : List Bool) (spread' : Spread) : Type 0 where
+pub record Reaches (d : Flat) (row : List ℕ) (seen : List Bool) (spread : Spread) (seen' : List Bool) (spread' : Spread) : Type 0 where
   pub same_length : length seen' ≡ length seen
   pub now : (p : ℕ) → Among row p → is_seen seen' p ≡ true
   pub stay : (q : ℕ) → is_seen seen q ≡ true → is_seen seen' q ≡ true
@@ -90,7 +91,7 @@ pub record Reaches (d : Parts) (row : List ℕ) (seen : List Bool) (spread : Spr
 -- ---- where it starts
 
 -- the registers without a reset of the processes below a number are marked, and all that is marked waits
-pub record IsStarting (d : Parts) (n : ℕ) (spread : Spread) : Type 0 where
+pub record IsStarting (d : Flat) (n : ℕ) (spread : Spread) : Type 0 where
   pub same_length : length spread.marked.items ≡ length d.signals
   pub sound : (s : ℕ) → is_marked spread s ≡ true → IsDoubtful d s
   pub began : (s : ℕ) (is : IsUnreset d s) → is.process < n → is_marked spread s ≡ true
@@ -113,13 +114,13 @@ pub record Notes (P : ℕ → Bool) (p : ℕ) (old new : List (Vec ℕ Global)) 
   pub to : (s : ℕ) → s < length old → P s ≡ true → Among (bucket new s) p
 
 -- a process reads a signal before it has written it
-pub record Reads (d : Parts) (s p : ℕ) : Type 0 where
+pub record Reads (d : Flat) (s p : ℕ) : Type 0 where
   pub task : Task
   pub there : slice_get d.tasks p ≡ Some task
   pub reads : reads d task s ≡ true
 
 -- the rows of signals have the processes below a number that read them, and no others
-pub record AreReaders (d : Parts) (n : ℕ) (table : List (Vec ℕ Global)) : Type 0 where
+pub record AreReaders (d : Flat) (n : ℕ) (table : List (Vec ℕ Global)) : Type 0 where
   pub same_length : length table ≡ length d.signals
   pub sound : (s p : ℕ) → Among (bucket table s) p → Reads d s p
   pub all : (s p : ℕ) (task : Task) → p < n → slice_get d.tasks p ≡ Some task → reads d task s ≡ true → Among (bucket table s) p

@@ -28,7 +28,8 @@ use Rattle.rtl_rule.specs.declared.finding.Finding.{Finding}
 use Rattle.rtl_rule.specs.declared.rule.Rule.{Rule}
 use Rattle.rtl_rule.specs.declared.rule.Rule.TheVariants as rule
 use Rattle.rtl_rule.specs.Order.{ranked}
-use Rattle.rtl_rule.specs.Parts.{Parts, At, sites, process_sites, widths, has_some, some_below, first_written, written, number, found_at, least_place, nodes, place_of, reads_signal, statements, pieces, items_of, trees, labels, is_x, has_literal, literal_places}
+use Rattle.rtl_rule.specs.Parts.{At, sites, process_sites, has_some, some_below, first_written, written, number, found_at, least_place, nodes, place_of, reads_signal, statements, pieces, items_of, trees, labels, is_x, has_literal, literal_places}
+use Rattle.rtl_flat.specs.Flats.{Flat, Parts, widths}
 use Rattle.rtl_rule.specs.Sites.{AreFindings}
 use Rattle.check_assign.specs.Assigned.{is_clocked}
 use Rattle.check_assign.specs.check_chains.Chains.{chain_of, has_chain}
@@ -37,7 +38,7 @@ use Rattle.check_assign.specs.check_chains.Chains.{chain_of, has_chain}
 abbrev pub all_nodes : Doing → List Tree
 all_nodes does = flat_map nodes (trees does ++ labels does)
 
-abbrev pub node_sites : Parts → List (At Tree)
+abbrev pub node_sites : Flat → List (At Tree)
 node_sites d = sites all_nodes d
 
 -- ---- X1
@@ -46,11 +47,11 @@ node_sites d = sites all_nodes d
 abbrev pub IsUnknownLiteral : At Doing → Type 0
 IsUnknownLiteral site = has_literal is_x site.it ≡ true
 
-abbrev pub unknown_literal_at : Parts → At Doing → Finding
+abbrev pub unknown_literal_at : Flat → At Doing → Finding
 unknown_literal_at d site =
     found_at rule.UnknownLiteral site (first_written d site) (least_place site.task.spot (literal_places is_x site))
 
-abbrev pub AreUnknownLiteral : Parts → List Finding → Type 0
+abbrev pub AreUnknownLiteral : Flat → List Finding → Type 0
 AreUnknownLiteral d = AreFindings IsUnknownLiteral (unknown_literal_at d) (process_sites d)
 
 -- ---- X2
@@ -96,13 +97,13 @@ may_miss ws one (Fixed index) = not (some_below (ws one.signal) (is_place one.lo
 may_miss ws one (Computed index) =
     sign_of index || (nat_lt 0 one.low || nat_lt (ws one.signal) (2 ^ width_of ws index))
 
-abbrev pub IsSelectRange : Parts → At Pick → Type 0
+abbrev pub IsSelectRange : Flat → At Pick → Type 0
 IsSelectRange d site = may_miss (widths d) site.it site.it.index ≡ true
 
 abbrev pub select_range_at : At Pick → Finding
 select_range_at site = found_at rule.SelectRange site (number site.it.signal) site.it.spot
 
-abbrev pub AreSelectRange : Parts → List Finding → Type 0
+abbrev pub AreSelectRange : Flat → List Finding → Type 0
 AreSelectRange d = AreFindings (IsSelectRange d) select_range_at (sites picks d)
 
 -- ---- X3
@@ -132,11 +133,11 @@ abbrev pub IsDivideVariable : At Tree → Type 0
 IsDivideVariable site = divides_by_other site.it ≡ true
 
 -- at the operator
-abbrev pub at_node : Rule → Parts → At Tree → Finding
+abbrev pub at_node : Rule → Flat → At Tree → Finding
 at_node name d site =
     found_at name site (first_written d site) (place_of site.task.spot site.it)
 
-abbrev pub AreDivideVariable : Parts → List Finding → Type 0
+abbrev pub AreDivideVariable : Flat → List Finding → Type 0
 AreDivideVariable d =
     AreFindings IsDivideVariable (at_node rule.DivideVariable d) (node_sites d)
 
@@ -150,7 +151,7 @@ is_case_equality _ = false
 abbrev pub IsCaseEquality : At Tree → Type 0
 IsCaseEquality site = is_case_equality site.it ≡ true
 
-abbrev pub AreCaseEquality : Parts → List Finding → Type 0
+abbrev pub AreCaseEquality : Flat → List Finding → Type 0
 AreCaseEquality d = AreFindings IsCaseEquality (at_node rule.CaseEquality d) (node_sites d)
 
 -- ---- D1
@@ -163,18 +164,18 @@ in_task delay (Some task) =
 -- each delay in its process
 abbrev pub delay_sites : Parts → List (At Delay)
 delay_sites d =
-    filter_map (λ (delay : Delay). in_task delay (slice_get d.tasks delay.process.0)) d.delays
+    filter_map (λ (delay : Delay). in_task delay (slice_get d.flat.tasks delay.process.0)) d.delays
 
 -- every delay is one
 abbrev pub IsDelayIgnored : At Delay → Type 0
 IsDelayIgnored site = Unit {0}
 
-abbrev pub delay_ignored_at : Parts → At Delay → Finding
+abbrev pub delay_ignored_at : Flat → At Delay → Finding
 delay_ignored_at d site =
     found_at rule.DelayIgnored site (first_written d site) site.it.spot
 
 abbrev pub AreDelayIgnored : Parts → List Finding → Type 0
-AreDelayIgnored d = AreFindings IsDelayIgnored (delay_ignored_at d) (delay_sites d)
+AreDelayIgnored d = AreFindings IsDelayIgnored (delay_ignored_at d.flat) (delay_sites d)
 
 -- ---- D2 and D3
 
@@ -199,7 +200,7 @@ AreTranslateOff d = AreFindings IsTranslateOff (at_region rule.TranslateOff) d.d
 -- ---- what may be x after power-up
 
 -- a register that a clocked process without an asynchronous reset may write
-pub record IsUnreset (d : Parts) (s : ℕ) : Type 0 where
+pub record IsUnreset (d : Flat) (s : ℕ) : Type 0 where
   pub process : ℕ
   pub task : Task
   pub there : slice_get d.tasks process ≡ Some task
@@ -210,7 +211,7 @@ pub record IsUnreset (d : Parts) (s : ℕ) : Type 0 where
 
 -- a signal is doubtful where it is such a register, or is written by a process that reads a doubtful signal before it has
 -- written it
-pub data IsDoubtful (d : Parts) : ℕ → Type 0 where
+pub data IsDoubtful (d : Flat) : ℕ → Type 0 where
   Unreset : (s : ℕ) → IsUnreset d s → IsDoubtful d s
   Behind : (p s t : ℕ) (task : Task) → slice_get d.tasks p ≡ Some task → IsDoubtful d t → has_some (widths d) (reads_outside (flow_of (widths d) task.does)) t ≡ true → has_some (widths d) (written d task.does) s ≡ true → IsDoubtful d s
 
@@ -248,19 +249,19 @@ wild_choices_in (Case X full parallel selector branches fallback spot) =
 wild_choices_in _ = []
 
 -- a choice that reads a doubtful signal
-pub record IsDoubtfulChoice (d : Parts) (site : At Choice) : Type 0 where
+pub record IsDoubtfulChoice (d : Flat) (site : At Choice) : Type 0 where
   pub signal : ℕ
   pub doubtful : IsDoubtful d signal
   pub reads : list_any (λ e. has_some (widths d) (reads (widths d) e) signal) site.it.trees ≡ true
 
-abbrev pub at_choice : Rule → Parts → At Choice → Finding
+abbrev pub at_choice : Rule → Flat → At Choice → Finding
 at_choice name d site = found_at name site (first_written d site) site.it.spot
 
-abbrev pub AreXOptimism : Parts → List Finding → Type 0
+abbrev pub AreXOptimism : Flat → List Finding → Type 0
 AreXOptimism d =
     AreFindings (IsDoubtfulChoice d) (at_choice rule.XOptimism d) (sites (λ does. flat_map choices_in (statements does)) d)
 
-abbrev pub AreWildSelector : Parts → List Finding → Type 0
+abbrev pub AreWildSelector : Flat → List Finding → Type 0
 AreWildSelector d =
     AreFindings (IsDoubtfulChoice d) (at_choice rule.WildSelector d) (sites (λ does. flat_map wild_choices_in (statements does)) d)
 
@@ -277,13 +278,13 @@ pub record AreUnknownFindings (d : Parts) (findings : List Finding) : Type 0 whe
   pub region : List Finding
   pub optimism : List Finding
   pub wild : List Finding
-  pub are_literal : AreUnknownLiteral d literal
-  pub are_range : AreSelectRange d range
-  pub are_divide : AreDivideVariable d divide
-  pub are_equality : AreCaseEquality d equality
+  pub are_literal : AreUnknownLiteral d.flat literal
+  pub are_range : AreSelectRange d.flat range
+  pub are_divide : AreDivideVariable d.flat divide
+  pub are_equality : AreCaseEquality d.flat equality
   pub are_delay : AreDelayIgnored d delay
   pub are_initial : AreInitialIgnored d initial
   pub are_region : AreTranslateOff d region
-  pub are_optimism : AreXOptimism d optimism
-  pub are_wild : AreWildSelector d wild
+  pub are_optimism : AreXOptimism d.flat optimism
+  pub are_wild : AreWildSelector d.flat wild
   pub in_order : findings ≡ ranked (literal ++ range ++ divide ++ equality ++ delay ++ initial ++ region ++ optimism ++ wild)

@@ -1,7 +1,7 @@
 // All findings about x, z and what synthesis ignores.
 
 ghost use Rattle.std.specs.Prelude.{◌≡◌, IfOk, OnOk};
-ghost use Rattle.rtl_rule.specs.Parts.{parts};
+ghost use Rattle.rtl_flat.specs.Flats.{flat, parts};
 ghost use Rattle.check_assign.specs.check_found.Scanned.{AreScans};
 ghost use Rattle.check_xprop.specs.Parts.{AreOfChoices, AreOfDropped, AreOfExpressions};
 ghost use Rattle.check_xprop.specs.Unknowns.{AreUnknownFindings};
@@ -19,7 +19,7 @@ use std::alloc::Global;
 
 /// The findings of literals, selects and operators.
 fn of_expressions(alloc: Global, design: &Design) -> Result<Vec<Finding>, Memory>
-    ensures { IfOk result (λ found. AreOfExpressions (parts design.now) found.items) }
+    ensures { IfOk result (λ found. AreOfExpressions (flat design.now) found.items) }
 {
     let all = node_findings(alloc, design)?;
     let mut found = all.literals;
@@ -45,7 +45,7 @@ fn push_dropped(alloc: Global, design: &Design, found: &mut Vec<Finding>) -> Res
 /// Adds the findings of what may be x.
 fn push_choices(alloc: Global, scans: &Scans, found: &mut Vec<Finding>) -> Result<(), Memory>
     requires { AreScans scans.now }
-    ensures { let d = parts scans.now.design.now in
+    ensures { let d = flat scans.now.design.now in
         OnOk result (AreOfChoices d found.old.items found.new.items) }
 {
     let marks = doubtful(alloc, scans)?;

@@ -4,7 +4,8 @@ ghost use Rattle.std.specs.Prelude.{ℕ, ◌≡◌, ◌<◌, ◌↔◌, ◌++◌
 ghost use Rattle.std.specs.List.{flat_map, slice_get};
 ghost use Rattle.rtl_flat.specs.Expression.{tree};
 ghost use Rattle.rtl_flat.specs.Process.{Task, action, piece};
-ghost use Rattle.rtl_rule.specs.Parts.{own_labels, own_trees, parts, widths};
+ghost use Rattle.rtl_rule.specs.Parts.{own_labels, own_trees};
+ghost use Rattle.rtl_flat.specs.Flats.{flat, widths};
 ghost use Rattle.check_xprop.specs.Doubts.{AreSought, any_meets, choice_spots, choices_found, choices_of, is_plain, meets, own_reads, rule_of, seeks};
 ghost use Rattle.check_xprop.specs.Unknowns.{AreWildSelector, AreXOptimism, IsDoubtful, choice, index_choice};
 
@@ -33,8 +34,8 @@ pub(crate) fn is_marked(marks: &[bool], signal: SigId) -> bool
 
 /// Whether an expression without its operands reads a signal that is marked.
 fn reads_mark(design: &Design, marks: &[bool], e: &SizedExpr) -> bool
-    ensures { result ≡ meets (widths (parts design.now)) marks.now (own_reads (widths
-        (parts design.now)) (tree e.now)) }
+    ensures { result ≡ meets (widths (flat design.now)) marks.now (own_reads (widths
+        (flat design.now)) (tree e.now)) }
 {
     match &e.node {
         Node::Read(signal, select) => {
@@ -51,7 +52,7 @@ fn any_mark(
     marks: &[bool],
     all: &[&SizedExpr],
 ) -> Result<bool, Memory>
-    ensures { IfOk result (λ reads. reads ≡ any_meets (widths (parts design.now)) marks.now (map
+    ensures { IfOk result (λ reads. reads ≡ any_meets (widths (flat design.now)) marks.now (map
         (λ e. tree e.now) all.now)) }
 {
     let all = nodes(alloc, all)?;
@@ -73,7 +74,7 @@ fn push_if(
     spots: &mut Vec<Spot>,
 ) -> Result<(), Memory>
     ensures { OnOk result (spots.new.items ≡ spots.old.items ++ choice_spots (widths
-        (parts design.now)) marks.now (choice spot (map (λ e. tree e.now) all.now))) }
+        (flat design.now)) marks.now (choice spot (map (λ e. tree e.now) all.now))) }
 {
     if any_mark(alloc, design, marks, all)? {
         spots.push(spot)?;
@@ -90,7 +91,7 @@ fn push_index(
     spots: &mut Vec<Spot>,
 ) -> Result<(), Memory>
     ensures { OnOk result (spots.new.items ≡ spots.old.items ++ choice_spots (widths
-        (parts design.now)) marks.now (index_choice (piece part.now))) }
+        (flat design.now)) marks.now (index_choice (piece part.now))) }
 {
     match &part.select {
         Select::Whole => Ok(()),
@@ -114,7 +115,7 @@ fn push_indices(
     spots: &mut Vec<Spot>,
 ) -> Result<(), Memory>
     ensures { OnOk result (spots.new.items ≡ spots.old.items ++ choice_spots (widths
-        (parts design.now)) marks.now (flat_map index_choice (map piece target.now))) }
+        (flat design.now)) marks.now (flat_map index_choice (map piece target.now))) }
 {
     for part in target {
         push_index(alloc, design, marks, part, spots)?;
@@ -132,7 +133,7 @@ fn push_own(
     spots: &mut Vec<Spot>,
 ) -> Result<(), Memory>
     ensures { OnOk result (spots.new.items ≡ spots.old.items ++ choice_spots (widths
-        (parts design.now)) marks.now (choice spot (own_trees (action one.now) ++ own_labels
+        (flat design.now)) marks.now (choice spot (own_trees (action one.now) ++ own_labels
         (action one.now)))) }
 {
     let mut all = own_trees(alloc, one)?;
@@ -198,7 +199,7 @@ impl Sought {
         spots: &mut Vec<Spot>,
     ) -> Result<(), Memory>
         ensures { OnOk result (spots.new.items ≡ spots.old.items ++ choice_spots (widths
-            (parts design.now)) marks.now (choices_of self (action one.now))) }
+            (flat design.now)) marks.now (choices_of self (action one.now))) }
     {
         match one {
             Act::Set {
@@ -254,9 +255,9 @@ impl Sought {
         found: &mut Vec<Finding>,
     ) -> Result<(), Memory>
         requires { p.0 < length design.now.processes.items }
-        ensures { OnOk result ((task : Task) → slice_get (parts design.now).tasks p.0 ≡ Some task
+        ensures { OnOk result ((task : Task) → slice_get (flat design.now).tasks p.0 ≡ Some task
             → found.new.items ≡ found.old.items ++ choices_found (rule_of self) (choices_of self)
-            (parts design.now) marks.now task) }
+            (flat design.now) marks.now task) }
     {
         let all = statements(alloc, &design.processes[p.0 as usize].does)?;
         let mut spots = Vec::new(alloc);
@@ -273,8 +274,8 @@ impl Sought {
         design: &Design,
         marks: &[bool],
     ) -> Result<Vec<Finding>, Memory>
-        requires { (s : ℕ) → slice_get marks.now s ≡ Some true ↔ IsDoubtful (parts design.now) s }
-        ensures { IfOk result (λ found. AreSought self (parts design.now) found.items) }
+        requires { (s : ℕ) → slice_get marks.now s ≡ Some true ↔ IsDoubtful (flat design.now) s }
+        ensures { IfOk result (λ found. AreSought self (flat design.now) found.items) }
     {
         let mut found = Vec::new(alloc);
         for p in 0..design.processes.len() {
@@ -289,8 +290,8 @@ impl Sought {
 ///
 /// Fails where memory runs out.
 pub fn x_optimism(alloc: Global, design: &Design, marks: &[bool]) -> Result<Vec<Finding>, Memory>
-    requires { (s : ℕ) → slice_get marks.now s ≡ Some true ↔ IsDoubtful (parts design.now) s }
-    ensures { IfOk result (λ found. AreXOptimism (parts design.now) found.items) }
+    requires { (s : ℕ) → slice_get marks.now s ≡ Some true ↔ IsDoubtful (flat design.now) s }
+    ensures { IfOk result (λ found. AreXOptimism (flat design.now) found.items) }
 {
     Sought::Plain.findings(alloc, design, marks)
 }
@@ -300,8 +301,8 @@ pub fn x_optimism(alloc: Global, design: &Design, marks: &[bool]) -> Result<Vec<
 ///
 /// Fails where memory runs out.
 pub fn wild_selector(alloc: Global, design: &Design, marks: &[bool]) -> Result<Vec<Finding>, Memory>
-    requires { (s : ℕ) → slice_get marks.now s ≡ Some true ↔ IsDoubtful (parts design.now) s }
-    ensures { IfOk result (λ found. AreWildSelector (parts design.now) found.items) }
+    requires { (s : ℕ) → slice_get marks.now s ≡ Some true ↔ IsDoubtful (flat design.now) s }
+    ensures { IfOk result (λ found. AreWildSelector (flat design.now) found.items) }
 {
     Sought::Wild.findings(alloc, design, marks)
 }

@@ -7,7 +7,8 @@ ghost use Rattle.rtl_bits.specs.Bits.{top_bit};
 ghost use Rattle.rtl_flat.specs.Expression.{tree};
 ghost use Rattle.rtl_flat.specs.Process.{Task};
 ghost use Rattle.rtl_rule.specs.declared.rule.Rule.TheVariants.{DivideVariable};
-ghost use Rattle.rtl_rule.specs.Parts.{is_some_name, named, parts, reads_signal};
+ghost use Rattle.rtl_rule.specs.Parts.{is_some_name, named, reads_signal};
+ghost use Rattle.rtl_flat.specs.Flats.{flat};
 ghost use Rattle.check_xprop.specs.Lists.{AreNodes, HasSizes, is_division, nodes_found};
 ghost use Rattle.check_xprop.specs.Unknowns.{divides_by_other, has_one, is_power};
 
@@ -124,10 +125,10 @@ pub(crate) fn push_divisions(
     found: &mut Vec<Finding>,
 ) -> Result<(), Memory>
     requires there { p.0 < length design.now.processes.items }
-    requires all { AreNodes (parts design.now) p.0 (map (λ e. tree e.now) all.now) }
-    ensures { OnOk result ((task : Task) → slice_get (parts design.now).tasks p.0 ≡ Some task
+    requires all { AreNodes (flat design.now) p.0 (map (λ e. tree e.now) all.now) }
+    ensures { OnOk result ((task : Task) → slice_get (flat design.now).tasks p.0 ≡ Some task
         → found.new.items ≡ found.old.items ++ nodes_found DivideVariable divides_by_other
-        (parts design.now) task) }
+        (flat design.now) task) }
 {
     let mut spots = Vec::new(alloc);
     for e in all {

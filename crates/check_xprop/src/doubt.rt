@@ -4,7 +4,7 @@ ghost use Rattle.std.specs.Prelude.{ℕ, [], ◌≡◌, ◌↔◌, ◌<◌, ◌=
 ghost use Rattle.std.specs.List.{slice_get};
 ghost use Rattle.rtl_flat.specs.Process.{Task, doing};
 ghost use Rattle.check_assign.specs.Assigned.{is_clocked};
-ghost use Rattle.rtl_rule.specs.Parts.{parts};
+ghost use Rattle.rtl_flat.specs.Flats.{flat};
 ghost use Rattle.check_assign.specs.rtl_scan.Usage.{has_row_of};
 ghost use Rattle.check_assign.specs.check_chains.Chains.{chain_of, has_chain};
 ghost use Rattle.check_assign.specs.check_found.Scanned.{AreScans};
@@ -78,7 +78,7 @@ impl Spread {
 
 /// Whether a clocked process has a chain with an asynchronous reset.
 fn has_reset(alloc: Global, design: &Design, does: &Does) -> Result<bool, Memory>
-    ensures { let chain = chain_of (parts design.now) (doing does.now) in
+    ensures { let chain = chain_of (flat design.now) (doing does.now) in
         IfOk result (λ has. has ≡ has_chain (λ one. nat_lt 0 (length one.resets)) chain) }
 {
     match chain_of(alloc, design, does)? {
@@ -111,7 +111,7 @@ fn start(
 ) -> Result<(), Memory>
     requires scans { AreScans scans.now }
     requires there { p.0 < length scans.now.design.now.processes.items }
-    ensures { let d = parts scans.now.design.now in
+    ensures { let d = flat scans.now.design.now in
         OnOk result ((task : Task) → slice_get d.tasks p.0 ≡ Some task
         → Marks (starts d temporaries.now task) spread.old spread.new) }
 {
@@ -130,8 +130,8 @@ fn visit(scans: &Scans, p: ProcId, seen: &mut [bool], spread: &mut Spread) -> Re
     requires scans { AreScans scans.now }
     requires there { p.0 < length scans.now.design.now.processes.items }
     requires seen { length seen.old ≡ length scans.now.design.now.processes.items }
-    requires reader { IsReader (parts scans.now.design.now) p.0 }
-    ensures { let d = parts scans.now.design.now in
+    requires reader { IsReader (flat scans.now.design.now) p.0 }
+    ensures { let d = flat scans.now.design.now in
         OnOk result (Visits d p.0 seen.old spread.old seen.new spread.new) }
 {
     let place = p.0 as usize;
@@ -146,7 +146,7 @@ fn visit(scans: &Scans, p: ProcId, seen: &mut [bool], spread: &mut Spread) -> Re
 fn started(alloc: Global, scans: &Scans) -> Result<Spread, Memory>
     requires { AreScans scans.now }
     ensures { let count = length scans.now.design.now.processes.items in
-        IfOk result (λ spread. IsStarting (parts scans.now.design.now) count spread) }
+        IfOk result (λ spread. IsStarting (flat scans.now.design.now) count spread) }
 {
     let temporaries = scans.temporaries();
     let mut spread = Spread {
@@ -197,7 +197,7 @@ fn note_rows(table: &mut Vec<Vec<u32>>, rows: &[Row], p: ProcId) -> Result<(), M
 fn note_process(scans: &Scans, p: ProcId, table: &mut Vec<Vec<u32>>) -> Result<(), Memory>
     requires scans { AreScans scans.now }
     requires there { p.0 < length scans.now.design.now.processes.items }
-    ensures { let d = parts scans.now.design.now in
+    ensures { let d = flat scans.now.design.now in
         OnOk result ((task : Task) → slice_get d.tasks p.0 ≡ Some task
         → Notes (reads d task) p.0 table.old.items table.new.items) }
 {
@@ -208,7 +208,7 @@ fn note_process(scans: &Scans, p: ProcId, table: &mut Vec<Vec<u32>>) -> Result<(
 fn readers(alloc: Global, scans: &Scans) -> Result<Vec<Vec<u32>>, Memory>
     requires { AreScans scans.now }
     ensures { let count = length scans.now.design.now.processes.items in
-        IfOk result (λ table. AreReaders (parts scans.now.design.now) count table.items) }
+        IfOk result (λ table. AreReaders (flat scans.now.design.now) count table.items) }
 {
     let mut table = no_readers(alloc, scans.design.signals.len())?;
     for p in 0..scans.design.processes.len() {
@@ -226,9 +226,9 @@ fn visit_all(
 ) -> Result<(), Memory>
     requires scans { AreScans scans.now }
     requires seen { length seen.old ≡ length scans.now.design.now.processes.items }
-    requires readers { let d = parts scans.now.design.now in
+    requires readers { let d = flat scans.now.design.now in
         (p : ℕ) → Among readers.now p → IsReader d p }
-    ensures { let d = parts scans.now.design.now in
+    ensures { let d = flat scans.now.design.now in
         OnOk result (Reaches d readers.now seen.old spread.old seen.new spread.new) }
 {
     for p in readers {
@@ -246,7 +246,7 @@ pub fn doubtful(alloc: Global, scans: &Scans) -> Result<Vec<bool>, Memory>
     ensures length { IfOk result (λ answers. length answers.items
         ≡ length scans.now.design.now.signals.items) }
     ensures each { IfOk result (λ answers. (s : ℕ) → slice_get answers.items s
-        ≡ Some true ↔ IsDoubtful (parts scans.now.design.now) s) }
+        ≡ Some true ↔ IsDoubtful (flat scans.now.design.now) s) }
 {
     let readers = readers(alloc, scans)?;
     let mut seen = vec![in alloc; false; scans.design.processes.len()]?;

@@ -1,7 +1,7 @@
 // What synthesis ignores: delays, `initial`, and what pragmas hide.
 
 ghost use Rattle.std.specs.Prelude.{◌≡◌, ◌<◌, ◌++◌, ◌∷◌, [], length, IfOk, OnOk};
-ghost use Rattle.rtl_rule.specs.Parts.{parts};
+ghost use Rattle.rtl_flat.specs.Flats.{flat, parts};
 ghost use Rattle.check_xprop.specs.Lists.{AreFirsts, delays_found, is_kind, regions};
 ghost use Rattle.check_xprop.specs.Unknowns.{AreDelayIgnored, AreInitialIgnored, AreTranslateOff};
 
@@ -80,7 +80,7 @@ pub fn translate_off(alloc: Global, design: &Design) -> Result<Vec<Finding>, Mem
 
 /// The least signal that each process may write.
 fn firsts(alloc: Global, design: &Design) -> Result<Vec<Option<SigId>>, Memory>
-    ensures { IfOk result (λ firsts. AreFirsts (parts design.now)
+    ensures { IfOk result (λ firsts. AreFirsts (flat design.now)
         (length design.now.processes.items) firsts.items) }
 {
     let mut firsts = Vec::new(alloc);
@@ -97,8 +97,8 @@ fn push_delay(
     delay: &Delay,
     found: &mut Vec<Finding>,
 ) -> Result<(), Memory>
-    requires { AreFirsts (parts design.now) (length design.now.processes.items) firsts.now }
-    ensures { OnOk result (found.new.items ≡ found.old.items ++ delays_found (parts design.now)
+    requires { AreFirsts (flat design.now) (length design.now.processes.items) firsts.now }
+    ensures { OnOk result (found.new.items ≡ found.old.items ++ delays_found (flat design.now)
         (delay.now ∷ [])) }
 {
     let p = delay.process.0 as usize;

@@ -4,7 +4,8 @@ ghost use Rattle.std.specs.Prelude.{◌≡◌, ◌<◌, ◌++◌, map, length, S
 ghost use Rattle.std.specs.List.{flat_map, list_any, slice_get};
 ghost use Rattle.rtl_flat.specs.Expression.{tree};
 ghost use Rattle.rtl_flat.specs.Process.{Task, doing, task};
-ghost use Rattle.rtl_rule.specs.Parts.{is_literal_with, is_x, nodes, parts, valued_trees};
+ghost use Rattle.rtl_rule.specs.Parts.{is_literal_with, is_x, nodes, valued_trees};
+ghost use Rattle.rtl_flat.specs.Flats.{flat};
 ghost use Rattle.check_xprop.specs.Lists.{AreNodes, is_exact, literal_found, nodes_found, tree_spots};
 ghost use Rattle.check_xprop.specs.Unknowns.{all_nodes, is_case_equality};
 
@@ -38,7 +39,7 @@ pub(crate) fn process_nodes<'d>(
     p: ProcId,
 ) -> Result<Vec<&'d SizedExpr>, Memory>
     requires { p.0 < length design.now.processes.items }
-    ensures { IfOk result (λ all. AreNodes (parts design.now) p.0 (map (λ e. tree e.now) all.items)) }
+    ensures { IfOk result (λ all. AreNodes (flat design.now) p.0 (map (λ e. tree e.now) all.items)) }
 {
     all_nodes(alloc, &design.processes[p.0 as usize].does)
 }
@@ -72,10 +73,10 @@ pub(crate) fn push_equalities(
     found: &mut Vec<Finding>,
 ) -> Result<(), Memory>
     requires there { p.0 < length design.now.processes.items }
-    requires all { AreNodes (parts design.now) p.0 (map (λ e. tree e.now) all.now) }
-    ensures { OnOk result ((task : Task) → slice_get (parts design.now).tasks p.0 ≡ Some task
+    requires all { AreNodes (flat design.now) p.0 (map (λ e. tree e.now) all.now) }
+    ensures { OnOk result ((task : Task) → slice_get (flat design.now).tasks p.0 ≡ Some task
         → found.new.items ≡ found.old.items ++ nodes_found Rule.CaseEquality is_case_equality
-        (parts design.now) task) }
+        (flat design.now) task) }
 {
     let mut spots = Vec::new(alloc);
     for e in all {
@@ -147,9 +148,9 @@ pub(crate) fn push_literal(
     found: &mut Vec<Finding>,
 ) -> Result<(), Memory>
     requires there { p.0 < length design.now.processes.items }
-    requires all { AreNodes (parts design.now) p.0 (map (λ e. tree e.now) all.now) }
-    ensures { OnOk result ((task : Task) → slice_get (parts design.now).tasks p.0 ≡ Some task
-        → found.new.items ≡ found.old.items ++ literal_found (parts design.now) p.0 task) }
+    requires all { AreNodes (flat design.now) p.0 (map (λ e. tree e.now) all.now) }
+    ensures { OnOk result ((task : Task) → slice_get (flat design.now).tasks p.0 ≡ Some task
+        → found.new.items ≡ found.old.items ++ literal_found (flat design.now) p.0 task) }
 {
     // Most processes have no x at all, and then need no list of the expressions whose literals count.
     if !has_unknown_literal(all) {

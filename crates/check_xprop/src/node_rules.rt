@@ -3,7 +3,7 @@
 ghost use Rattle.std.specs.Prelude.{◌≡◌, ◌<◌, length, Some, IfOk, OnOk};
 ghost use Rattle.std.specs.List.{slice_get};
 ghost use Rattle.rtl_flat.specs.Process.{Task};
-ghost use Rattle.rtl_rule.specs.Parts.{parts};
+ghost use Rattle.rtl_flat.specs.Flats.{flat};
 ghost use Rattle.check_xprop.specs.Parts.{AddsProcess, AreNodeFindings};
 
 use crate::divisors::push_divisions;
@@ -28,7 +28,7 @@ impl NodeFindings {
     /// Adds those of a process, whose expressions are listed once for all rules.
     fn add(&mut self, alloc: Global, design: &Design, p: ProcId) -> Result<(), Memory>
         requires { p.0 < length design.now.processes.items }
-        ensures { let d = parts design.now in
+        ensures { let d = flat design.now in
             OnOk result ((task : Task) → slice_get d.tasks p.0 ≡ Some task
             → AddsProcess d p.0 task self.old self.new) }
     {
@@ -44,7 +44,7 @@ impl NodeFindings {
 ///
 /// Fails where memory runs out.
 pub(crate) fn node_findings(alloc: Global, design: &Design) -> Result<NodeFindings, Memory>
-    ensures { IfOk result (λ found. AreNodeFindings (parts design.now) found) }
+    ensures { IfOk result (λ found. AreNodeFindings (flat design.now) found) }
 {
     let mut found = NodeFindings {
         literals: Vec::new(alloc),

@@ -3,7 +3,7 @@
 ghost use Rattle.std.specs.Prelude.{◌≡◌, ◌<◌, ◌++◌, map, length, Some, OnOk};
 ghost use Rattle.std.specs.List.{slice_get};
 ghost use Rattle.rtl_flat.specs.Process.{Task};
-ghost use Rattle.rtl_rule.specs.Parts.{parts};
+ghost use Rattle.rtl_flat.specs.Flats.{flat};
 ghost use Rattle.check_xprop.specs.Lists.{at_spot, at_spots};
 
 use check_assign::check_found::sets::first_written;
@@ -48,8 +48,8 @@ pub(crate) fn push_all(
     found: &mut Vec<Finding>,
 ) -> Result<(), Memory>
     requires { p.0 < length design.now.processes.items }
-    ensures { OnOk result ((task : Task) → slice_get (parts design.now).tasks p.0 ≡ Some task
-        → found.new.items ≡ found.old.items ++ at_spots rule (parts design.now) spots.now task) }
+    ensures { OnOk result ((task : Task) → slice_get (flat design.now).tasks p.0 ≡ Some task
+        → found.new.items ≡ found.old.items ++ at_spots rule (flat design.now) spots.now task) }
 {
     if spots.is_empty() {
         return Ok(());

@@ -6,7 +6,7 @@ ghost use Rattle.rtl_tree.specs.declared.text.Spot.{Spot};
 ghost use Rattle.rtl_flat.specs.Expression.{tree};
 ghost use Rattle.rtl_flat.specs.Process.{Piece, Task, Watched, piece, selection, watched};
 ghost use Rattle.rtl_flat.specs.Signs.{width_in};
-ghost use Rattle.rtl_rule.specs.Parts.{parts, widths};
+ghost use Rattle.rtl_flat.specs.Flats.{flat, widths};
 ghost use Rattle.check_xprop.specs.Lists.{AreNodes, misses, misses_found};
 ghost use Rattle.check_xprop.specs.Unknowns.{pick_in, pick_of, picks};
 
@@ -41,7 +41,7 @@ fn exceeds(bits: u8, width: u8) -> bool
 
 /// Whether a select is one bit that may lie outside its signal.
 fn may_miss(design: &Design, signal: SigId, select: &Select) -> bool
-    ensures { (spot : Spot) → result ≡ misses (widths (parts design.now)) (pick_of signal.0 spot
+    ensures { (spot : Spot) → result ≡ misses (widths (flat design.now)) (pick_of signal.0 spot
         (selection select.now)) }
 {
     match select {
@@ -66,7 +66,7 @@ fn push_miss(
     found: &mut Vec<Finding>,
 ) -> Result<(), Memory>
     ensures { OnOk result (found.new.items ≡ found.old.items ++ misses_found (widths
-        (parts design.now)) instance (cons_option (pick_of signal.0 spot
+        (flat design.now)) instance (cons_option (pick_of signal.0 spot
         (selection select.now)) [])) }
 {
     if may_miss(design, signal, select) {
@@ -88,7 +88,7 @@ fn push_listed(
     found: &mut Vec<Finding>,
 ) -> Result<(), Memory>
     ensures { OnOk result (found.new.items ≡ found.old.items ++ misses_found (widths
-        (parts design.now)) instance (filter_map (λ
+        (flat design.now)) instance (filter_map (λ
         (item : Watched). pick_of item.signal item.spot item.selection)
         (map watched items.now))) }
 {
@@ -113,7 +113,7 @@ fn push_read(
     found: &mut Vec<Finding>,
 ) -> Result<(), Memory>
     ensures { OnOk result (found.new.items ≡ found.old.items ++ misses_found (widths
-        (parts design.now)) instance (cons_option (pick_in (tree e.now)) [])) }
+        (flat design.now)) instance (cons_option (pick_in (tree e.now)) [])) }
 {
     match &e.node {
         Node::Read(signal, select) => {
@@ -131,7 +131,7 @@ fn push_reads(
     found: &mut Vec<Finding>,
 ) -> Result<(), Memory>
     ensures { OnOk result (found.new.items ≡ found.old.items ++ misses_found (widths
-        (parts design.now)) instance (filter_map pick_in (map (λ e. tree e.now) all.now))) }
+        (flat design.now)) instance (filter_map pick_in (map (λ e. tree e.now) all.now))) }
 {
     for e in all {
         push_read(design, instance, e, found)?;
@@ -147,7 +147,7 @@ fn push_written(
     found: &mut Vec<Finding>,
 ) -> Result<(), Memory>
     ensures { OnOk result (found.new.items ≡ found.old.items ++ misses_found (widths
-        (parts design.now)) instance (filter_map (λ
+        (flat design.now)) instance (filter_map (λ
         (one : Piece). pick_of one.signal one.spot one.selection) (map
         (λ one. piece one.now) targets.now))) }
 {
@@ -176,10 +176,10 @@ pub(crate) fn push_misses(
     found: &mut Vec<Finding>,
 ) -> Result<(), Memory>
     requires there { p.0 < length design.now.processes.items }
-    requires all { AreNodes (parts design.now) p.0 (map (λ e. tree e.now) all.now) }
-    ensures { OnOk result ((task : Task) → slice_get (parts design.now).tasks p.0 ≡ Some task
+    requires all { AreNodes (flat design.now) p.0 (map (λ e. tree e.now) all.now) }
+    ensures { OnOk result ((task : Task) → slice_get (flat design.now).tasks p.0 ≡ Some task
         → found.new.items ≡ found.old.items ++ misses_found (widths
-        (parts design.now)) task.instance (picks task.does)) }
+        (flat design.now)) task.instance (picks task.does)) }
 {
     let process = &design.processes[p.0 as usize];
     let targets = pieces(alloc, &process.does)?;

@@ -6,7 +6,8 @@ use Rattle.rtl_flat.specs.Flows.{body_flow}
 use Rattle.rtl_flat.specs.Paths.{MayWrite}
 use Rattle.rtl_flat.specs.PathSets.{IsTemporary}
 use Rattle.rtl_flat.specs.Process.{Actions, Edge', Watched}
-use Rattle.event_model.specs.Queue.{Flat, IsAtRest, State, doing_at, drive_now, settled_at, widths}
+use Rattle.event_model.specs.Queue.{IsAtRest, State, doing_at, drive_now, settled_at}
+use Rattle.rtl_flat.specs.Flats.{Flat, widths}
 use Rattle.event_model.specs.Writes.{Values}
 use Rattle.check_clean.proofs.net_laws_proofs.Known.{known_at}
 use Rattle.net_model.specs.declared.fill.Fill.{Fill}

@@ -7,15 +7,14 @@ use Rattle.rtl_flat.specs.WellFormed.{IsProcess}
 use Rattle.net_model.specs.Cycle.{AreChains, IsChain}
 use Rattle.rtl_rule.specs.declared.rule.Rule.{Rule}
 use Rattle.rtl_rule.specs.declared.rule.Rule.TheVariants.{MixedEdges, ResetPolarity, ResetShape}
-use Rattle.rtl_rule.specs.Parts.{Parts}
+use Rattle.rtl_flat.specs.Flats.{Flat}
 use Rattle.check_clean.specs.check_assign.Assigned.{is_clocked}
 use Rattle.check_clean.specs.check_chains.Chains.{chain_of}
 use Rattle.demo_replay.specs.net_list.Chosen.{chain_in, chains_of, no_chain}
 use Rattle.demo_replay.specs.net_list.Faults.{AreFormed, IsFault}
 use Rattle.demo_replay.proofs.net_list_proofs.Formed.{chain_at, lawful_at, task_of}
-use Rattle.demo_replay.specs.Setups.{flat_of}
 
-pub are_chains : (d : Parts) → All (λ task. IsProcess d.signals task.does) d.tasks → AreFormed d → AreChains (flat_of d) (chains_of d)
+pub are_chains : (d : Flat) → All (λ task. IsProcess d.signals task.does) d.tasks → AreFormed d → AreChains d (chains_of d)
 are_chains d lawful formed p events body is =
     let (task, there, does) = task_of d.tasks p (Edge' events body) is in
     let waits : is_clocked task.does ≡ true = ap is_clocked does in
@@ -27,4 +26,4 @@ are_chains d lawful formed p events body is =
     let found = chain_at d p task events body does (lawful_at d.signals d.tasks p task lawful there) (free MixedEdges) (free ResetShape) (free ResetPolarity) in
     let same : chains_of d p ≡ found.chain =
     ap (λ o. unwrap_or (chain_in d o) no_chain) there ∙ ap (λ x. unwrap_or (chain_of d x) no_chain) does ∙ ap (λ o. unwrap_or o no_chain) found.is_chain in
-    subst (IsChain (flat_of d) events body) (sym same) found.chained
+    subst (IsChain d events body) (sym same) found.chained

@@ -4,7 +4,8 @@ use Rattle.std.proofs.lemmas.List.{ext_get_or}
 use Rattle.rtl_bits.specs.declared.Bit.{Bit}
 use Rattle.rtl_bits.specs.declared.Bit.TheVariants.{Zero, One, X, Z}
 use Rattle.rtl_bits.specs.Bits.{same_bit}
-use Rattle.event_model.specs.Queue.{Flat, State}
+use Rattle.event_model.specs.Queue.{State}
+use Rattle.rtl_flat.specs.Flats.{Flat}
 use Rattle.event_model.specs.Writes.{Values}
 use Rattle.net_model.specs.declared.fill.Fill.{Fill}
 use Rattle.net_model.specs.Cycle.{Chain}

@@ -11,10 +11,10 @@ use Rattle.rtl_flat.specs.declared.instance.Instance.{Instance}
 use Rattle.rtl_flat.specs.declared.signal.Signal.{Signal}
 use Rattle.rtl_flat.specs.Signs.{width_in}
 use Rattle.rtl_flat.specs.WellFormed.{IsSignal}
-use Rattle.rtl_rule.specs.Parts.{parts}
+use Rattle.rtl_flat.specs.Flats.{flat, Flat, widths}
 use Rattle.demo_replay.specs.rtl_scan.Arrows.{Among}
 use Rattle.event_model.specs.declared.setting.Setting.{Setting}
-use Rattle.event_model.specs.Queue.{flat, Flat, is_input, widths}
+use Rattle.event_model.specs.Queue.{is_input}
 use Rattle.event_model.specs.Writes.{Values}
 use Rattle.event_model.proofs.Active.{signal_there}
 use Rattle.demo_replay.specs.event_queue.Offers.{set_of}
@@ -57,33 +57,33 @@ module _ (design : Design) (g : Setup) (n : Values) (numbers : AreNumbers (flat 
   abbrev Fits : Input → Type 0
   Fits one = fits (flat design) one.signal.0 (length one.value) ≡ true
 
-  known_inputs : (tops : List ℕ) → All IsKnown (map (input_of (parts design) g n) tops)
+  known_inputs : (tops : List ℕ) → All IsKnown (map (input_of (flat design) g n) tops)
   known_inputs [] = All-nil IsKnown
   known_inputs (i ∷ tops) =
-      All-cons IsKnown (input_of (parts design) g n i) (map (input_of (parts design) g n) tops) (numbers.known i) (known_inputs tops)
+      All-cons IsKnown (input_of (flat design) g n i) (map (input_of (flat design) g n) tops) (numbers.known i) (known_inputs tops)
 
-  fitting_inputs : (tops : List ℕ) → ((i : ℕ) → Among tops i → IsTrue (is_input (flat design) i)) → All Fits (map (input_of (parts design) g n) tops)
+  fitting_inputs : (tops : List ℕ) → ((i : ℕ) → Among tops i → IsTrue (is_input (flat design) i)) → All Fits (map (input_of (flat design) g n) tops)
   fitting_inputs [] inputs = All-nil Fits
   fitting_inputs (i ∷ tops) inputs =
-      All-cons Fits (input_of (parts design) g n i) (map (input_of (parts design) g n) tops)
+      All-cons Fits (input_of (flat design) g n i) (map (input_of (flat design) g n) tops)
       (and_from (is_input (flat design) i) (length (n i) == widths (flat design) i) (inputs i (inl refl)) (eq-eqb (length (n i)) (widths (flat design) i) (numbers.wide i)))
       (fitting_inputs tops (λ j later. inputs j (inr later)))
 
-  module _ (is : IsSetup (parts design) g) where
+  module _ (is : IsSetup (flat design) g) where
     are_inputs : (i : ℕ) → Among g.tops i → IsTrue (is_input (flat design) i)
     are_inputs i among = (is.are_tops.each i).0 among
 
-    fit : (trial step : ℕ) → SettingsMeet (fits (flat design)) (step_of trial step (map (input_of (parts design) g n) g.tops))
+    fit : (trial step : ℕ) → SettingsMeet (fits (flat design)) (step_of trial step (map (input_of (flat design) g n) g.tops))
     fit trial step =
-        step_meets trial step (map (input_of (parts design) g n) g.tops) (fits (flat design)) (fitting_inputs g.tops are_inputs)
+        step_meets trial step (map (input_of (flat design) g n) g.tops) (fits (flat design)) (fitting_inputs g.tops are_inputs)
 
-    known : (trial step : ℕ) → AreSettingsKnown (step_of trial step (map (input_of (parts design) g n) g.tops))
+    known : (trial step : ℕ) → AreSettingsKnown (step_of trial step (map (input_of (flat design) g n) g.tops))
     known trial step =
-        step_known trial step (map (input_of (parts design) g n) g.tops) (λ _. known_inputs g.tops)
+        step_known trial step (map (input_of (flat design) g n) g.tops) (λ _. known_inputs g.tops)
 
-    pub turns_lawfully : (trial step : ℕ) → trial < 32 → TurnsLawfully (flat design) n (step_of trial step (map (input_of (parts design) g n) g.tops))
+    pub turns_lawfully : (trial step : ℕ) → trial < 32 → TurnsLawfully (flat design) n (step_of trial step (map (input_of (flat design) g n) g.tops))
     turns_lawfully trial step early =
-        lawful (flat design) n trial step (map (input_of (parts design) g n) g.tops) early
+        lawful (flat design) n trial step (map (input_of (flat design) g n) g.tops) early
         (inputs_have design g n g.tops numbers (λ i among. input_wide design i (are_inputs i among)))
         (inputs_tell design g n g.tops is)
         (fit trial step) (known trial step)

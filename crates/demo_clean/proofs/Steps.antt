@@ -6,7 +6,8 @@ use Rattle.rtl_bits.specs.declared.Bit.{Bit}
 use Rattle.rtl_bits.specs.declared.Bit.TheVariants.{X}
 use Rattle.event_model.specs.declared.policy.Policy.{Policy}
 use Rattle.event_model.specs.Policies.{IsDone, PolicyRun}
-use Rattle.event_model.specs.Queue.{Flat, IsAtRest, State, is_input, offer}
+use Rattle.event_model.specs.Queue.{IsAtRest, State, is_input, offer}
+use Rattle.rtl_flat.specs.Flats.{Flat}
 use Rattle.event_model.specs.Writes.{Values, put}
 use Rattle.event_model.proofs.Runs.{policy_reaches, policy_ready, policy_rests}
 use Rattle.net_model.specs.declared.fill.Fill.{Fill}

@@ -6,10 +6,11 @@ use Rattle.std.proofs.lemmas.Option.{none-some}
 use Rattle.rtl_bits.specs.declared.Bit.{Bit}
 use Rattle.rtl_flat.specs.declared.design.Design.{Design}
 use Rattle.rtl_flat.specs.declared.expr.SigId.{SigId}
-use Rattle.rtl_rule.specs.Parts.{first_below, number, parts, some_below}
+use Rattle.rtl_rule.specs.Parts.{first_below, number, some_below}
+use Rattle.rtl_flat.specs.Flats.{flat, Flat}
 use Rattle.event_model.specs.declared.setting.Setting.{Setting}
 use Rattle.event_model.specs.Policies.{PolicyRun}
-use Rattle.event_model.specs.Queue.{Flat, State, flat, offer}
+use Rattle.event_model.specs.Queue.{State, offer}
 use Rattle.event_model.specs.Writes.{Values}
 use Rattle.net_model.specs.declared.fill.Fill.{Fill}
 use Rattle.net_model.specs.Cycle as cycle
@@ -76,16 +77,16 @@ first_state : (d : Flat) (b : Bool) (n : Values) (s : State) → b ≡ false →
 first_state d true n s e is = absurd (cc)
 first_state d false n s e is = is
 
-go_on : (design : Design) (b : Bool) (trial : ℕ) (settings : List Setting) (n m : Values) → b ≡ false → GoOn (parts design) b trial settings n m → Cycles (flat design) (chains_of (parts design)) (fill_of trial) settings n m
+go_on : (design : Design) (b : Bool) (trial : ℕ) (settings : List Setting) (n m : Values) → b ≡ false → GoOn (flat design) b trial settings n m → Cycles (flat design) (chains_of (flat design)) (fill_of trial) settings n m
 go_on design true trial settings n m e is = absurd (cc)
 go_on design false trial settings n m e is = is
 
-module _ (design : Design) (level : ℕ → ℕ) (clean : IsCleanClocked (flat design) (chains_of (parts design)) level) (decided : AreTemporariesDecided (parts design)) (setup : Setup) (is_setup : IsSetup (parts design) setup) (trial : ℕ) (early : trial < 32) (late : (trial == 32) ≡ false) where
+module _ (design : Design) (level : ℕ → ℕ) (clean : IsCleanClocked (flat design) (chains_of (flat design)) level) (decided : AreTemporariesDecided (flat design)) (setup : Setup) (is_setup : IsSetup (flat design) setup) (trial : ℕ) (early : trial < 32) (late : (trial == 32) ≡ false) where
   abbrev d : Flat
   d = flat design
 
   abbrev chains : ℕ → Chain
-  chains = chains_of (parts design)
+  chains = chains_of (flat design)
 
   abbrev f : Fill
   f = fill_of trial
@@ -94,7 +95,7 @@ module _ (design : Design) (level : ℕ → ℕ) (clean : IsCleanClocked (flat d
     showing : IsShowing d chains f s n
     alike : AllAlike d moments
 
-  begun : (s : State) (n : Values) → AreFirst (parts design) setup trial n → IsFirstState d false n s → IsKept [] s n
+  begun : (s : State) (n : Values) → AreFirst (flat design) setup trial n → IsFirstState d false n s → IsKept [] s n
   begun s n first (v, taken, same) =
       let numbers = first.starts.solution.numbers in
       let wide = taken_wide d decided n v numbers taken.lasting taken.temporaries in
@@ -118,18 +119,18 @@ module _ (design : Design) (level : ℕ → ℕ) (clean : IsCleanClocked (flat d
         alike = push d moments (record { simulated = t.value; synthesised = m }) kept.alike (λ i lasts. shows_same d chains f t m showing i lasts);
       }
 
-  after : (order : ℕ → Option ℕ) (moments : List Moment) (s : State) (n : Values) → IsAfter (parts design) setup order trial moments s n → ∥ IsKept moments s n ∥₁
+  after : (order : ℕ → Option ℕ) (moments : List Moment) (s : State) (n : Values) → IsAfter (flat design) setup order trial moments s n → ∥ IsKept moments s n ∥₁
   after order moments s n (Begun s' n' first state) =
       ∣ begun s n first (first_state d (trial == 32) n s late state) ∣₁
   after order moments t m (Stepped before s t' n m' earlier more rests go) =
       let step = length before + 1 in
-      let settings = settings_of (parts design) setup trial step n in
+      let settings = settings_of (flat design) setup trial step n in
       let cycles = go_on design (trial == 32) trial settings n m late go in
       ∥∥₁_elim (after order before s n earlier) (hlevel props) (λ kept.
       ∥∥₁_map (turns_lawfully design setup n kept.showing.are is_setup trial step early cycles.step cycles.is_step) (λ lawful.
       stepped before s t n m order settings kept rests cycles lawful))
 
-  course : (moments : List Moment) → IsCourse (parts design) setup trial moments → ∥ AllAlike d moments ∥₁
+  course : (moments : List Moment) → IsCourse (flat design) setup trial moments → ∥ AllAlike d moments ∥₁
   course moments (Ended s n reaches all) =
       ∥∥₁_map (after reaches.level moments s n reaches.after) (λ kept. kept.alike)
   course moments (Stopped stuck) =
@@ -137,12 +138,12 @@ module _ (design : Design) (level : ℕ → ℕ) (clean : IsCleanClocked (flat d
 
   pub shows_nothing :
       (compared : ℕ → Bool) → ((s : ℕ) → compared s ≡ true → IsLasting d s) → (place : Place) →
-      Shows (parts design) setup compared trial (Some place) → ⊥
+      Shows (flat design) setup compared trial (Some place) → ⊥
   shows_nothing compared lasting place shows =
       ∥∥₁_elim (course shows.moments shows.course) (hlevel props) (λ all.
-      none-some place (sym (nowhere d compared lasting (length (parts design).signals) 1 shows.moments all) ∙ shows.first))
+      none-some place (sym (nowhere d compared lasting (length (flat design).signals) 1 shows.moments all) ∙ shows.first))
 
 -- a trial that shows something is one of a design that has a netlist
-pub course_netlist : (design : Design) (setup : Setup) (trial : ℕ) (moments : List Moment) → IsCourse (parts design) setup trial moments → HasNetlist (parts design)
+pub course_netlist : (design : Design) (setup : Setup) (trial : ℕ) (moments : List Moment) → IsCourse (flat design) setup trial moments → HasNetlist (flat design)
 course_netlist design setup trial moments (Ended s n reaches all) = reaches.netlist
 course_netlist design setup trial moments (Stopped stuck) = stuck.netlist

@@ -5,8 +5,7 @@ use Rattle.std.proofs.lemmas.Bool.{cases_Bool, eqb-true}
 use Rattle.rtl_flat.specs.declared.design.Design.{Design}
 use Rattle.rtl_rule.specs.declared.rule.Rule.{Rule}
 use Rattle.rtl_rule.specs.declared.rule.Rule.TheVariants.{NeverWakes}
-use Rattle.rtl_rule.specs.Parts.{parts}
-use Rattle.event_model.specs.Queue.{flat}
+use Rattle.rtl_flat.specs.Flats.{flat, parts}
 use Rattle.check_clean.specs.event_laws.Steady.{AreLawful}
 use Rattle.check_clean.proofs.event_laws_proofs.Steady.{lawful_processes}
 use Rattle.demo_replay.specs.net_list.Chosen.{chains_of}
@@ -46,11 +45,11 @@ no_last trial below =
 pub none_shown : (design : Design) → NoneShown design
 none_shown design findings are none finding other =
     Never (λ setup compared trial place is_setup compares of shows.
-    let d = parts design in
+    let d = flat design in
     let processes = design.is_design.each_process in
     let lawful : AreLawful (flat design) = lawful_processes (flat design) processes in
     let marked = stored d design.processes.items refl in
-    let clean : IsCleanDesign d = clean_design d lawful marked (none_needed is_needed (λ one needed. needed) d findings are none) in
+    let clean : IsCleanDesign d = clean_design d lawful marked (none_needed is_needed (λ one needed. needed) (parts design) findings are none) in
     let formed = (course_netlist design setup trial shows.moments shows.course).formed in
     let below = early finding.rule trial other of in
     shows_nothing design clean.level (clean.clean (chains_of d) (are_chains d processes formed)) (temporaries_decided d lawful) setup is_setup trial below (no_last trial below)

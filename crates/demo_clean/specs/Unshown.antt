@@ -3,7 +3,7 @@
 use Rattle.std.specs.Prelude.{◌≡◌, false, List, None}
 use Rattle.rtl_flat.specs.declared.design.Design.{Design}
 use Rattle.rtl_rule.specs.declared.finding.Finding.{Finding}
-use Rattle.rtl_rule.specs.Parts.{parts}
+use Rattle.rtl_flat.specs.Flats.{flat, parts}
 use Rattle.check_clean.specs.check_all.Findings.{AreAllFindings}
 use Rattle.check_clean.specs.Needed.{has_needed, is_needed}
 use Rattle.demo_replay.specs.Firsts.{IsFirst}
@@ -12,4 +12,4 @@ use Rattle.demo_replay.specs.Firsts.{IsFirst}
 abbrev pub NoneShown : Design → Type 0
 NoneShown design =
     (findings : List Finding) → AreAllFindings (parts design) findings → has_needed findings ≡ false →
-    (finding : Finding) → is_needed finding.rule ≡ false → IsFirst (parts design) finding None
+    (finding : Finding) → is_needed finding.rule ≡ false → IsFirst (flat design) finding None

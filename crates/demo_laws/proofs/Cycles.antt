@@ -17,7 +17,8 @@ use Rattle.rtl_flat.specs.Flows.{body_flow}
 use Rattle.rtl_flat.specs.Process.{Actions, Edge', Watched}
 use Rattle.rtl_flat.specs.WellFormed.{IsBody}
 use Rattle.rtl_flat.proofs.Paths.{decided}
-use Rattle.event_model.specs.Queue.{Flat, doing_at, happens, is_input, is_input_kind, is_input_of, widths}
+use Rattle.event_model.specs.Queue.{doing_at, happens, is_input, is_input_kind, is_input_of}
+use Rattle.rtl_flat.specs.Flats.{Flat, widths}
 use Rattle.event_model.specs.Writes.{Values, put}
 use Rattle.net_model.specs.declared.fill.Fill.{Fill}
 use Rattle.net_model.specs.Block.{block_bit}
@@ -25,7 +26,7 @@ use Rattle.net_model.specs.Cycle.{Chain, Guard, IsCycle, Setting, Step, Data, Tu
 use Rattle.net_model.specs.Numbers.{AreNumbers, bit}
 use Rattle.net_model.specs.Solution.{IsLasting, IsSolution}
 use Rattle.rtl_rule.specs.declared.rule.Rule.TheVariants.{DerivedClock}
-use Rattle.rtl_rule.specs.Parts.{Parts, within}
+use Rattle.rtl_rule.specs.Parts.{within}
 use Rattle.demo_clean.specs.rtl_scan.Arrows.{Among}
 use Rattle.demo_clean.specs.check_assign.Assigned.{is_clocked}
 use Rattle.demo_clean.specs.check_clocks.Clocks.{IsDerivedClock, events_of}
@@ -47,7 +48,6 @@ use Rattle.demo_laws.proofs.Branches.{IsSafe, chain_safe}
 use Rattle.demo_laws.proofs.Held.{late_lasts, same_solutions}
 use Rattle.demo_laws.proofs.Live.{same_bit as body_bit}
 use Rattle.demo_laws.proofs.Stable.{bit_stable}
-use Rattle.demo_clean.specs.demo_replay.Setups.{flat_of}
 use Rattle.demo_clean.proofs.Chains.{are_chains}
 use Rattle.demo_laws.specs.Laws.{AreProcesses}
 use Rattle.demo_laws.proofs.Lawful.{behind, is_top, lawful_flat}
@@ -99,9 +99,9 @@ place_of (x ∷ xs) s (inr later) = let (j, below, is) = place_of xs s later in 
 
 -- ---- a design that has a netlist
 
-module _ (design : Parts) (lawful : AreProcesses design) (formed : AreFormed design) (no_cycle : HasNoCycle (flat_of design)) where
+module _ (design : Flat) (lawful : AreProcesses design) (formed : AreFormed design) (no_cycle : HasNoCycle design) where
   abbrev d : Flat
-  d = flat_of design
+  d = design
 
   abbrev chains : ℕ → Chain
   chains = chains_of design

@@ -6,17 +6,18 @@ use Rattle.std.proofs.lemmas.Bool.{and_parts, cases_order}
 use Rattle.std.proofs.lemmas.Option.{none-some, same_Some}
 use Rattle.rtl_bits.specs.declared.Bit.{Bit}
 use Rattle.rtl_flat.specs.declared.expr.SigId.{SigId}
-use Rattle.event_model.specs.Queue.{Flat, is_input}
+use Rattle.event_model.specs.Queue.{is_input}
+use Rattle.rtl_flat.specs.Flats.{Flat}
 use Rattle.net_model.specs.Solution.{IsLasting}
 use Rattle.demo_clean.specs.net_start.Stored.{IsStored}
 use Rattle.demo_clean.proofs.net_start_proofs.Listed.{all_same}
 use Rattle.rtl_rule.specs.declared.finding.Finding.{Finding}
-use Rattle.rtl_rule.specs.Parts.{Parts, first_below, number, some_below}
+use Rattle.rtl_rule.specs.Parts.{first_below, number, some_below}
 use Rattle.demo_told.specs.Same.{are_same}
 use Rattle.demo_clean.specs.demo_replay.Compared.{AreCompared, is_trial_of}
 use Rattle.demo_clean.specs.demo_replay.Firsts.{Here, IsFirst, Never, NoNetlist, Nothing, Place, Shows, Told, differs, first_place, first_signal, place_or}
 use Rattle.demo_clean.specs.demo_replay.Runs.{Ended, IsCourse, IsStuck, Moment, Stopped}
-use Rattle.demo_clean.specs.demo_replay.Setups.{Contended, Cyclic, HasNetlist, IsSetup, LacksNetlist, Setup, Shapeless, flat_of}
+use Rattle.demo_clean.specs.demo_replay.Setups.{Contended, Cyclic, HasNetlist, IsSetup, LacksNetlist, Setup, Shapeless}
 use Rattle.demo_laws.proofs.Trials.{AllAlike, IsAlike, not_behind, reach_once, stuck_reaches}
 use Rattle.demo_laws.specs.Laws.{AreProcesses}
 
@@ -25,13 +26,13 @@ bool_same true b to back = sym (to refl)
 bool_same false true to back = back refl
 bool_same false false to back = refl
 
-pub setup_once : (d : Parts) (one other : Setup) → IsSetup d one → IsSetup d other → one ≡ other
+pub setup_once : (d : Flat) (one other : Setup) → IsSetup d one → IsSetup d other → one ≡ other
 setup_once d one other is is' =
-    ap (λ (xs : List ℕ). record one { stored = xs }) (all_same (IsStored (flat_of d)) one.stored other.stored is.are_stored is'.are_stored)
-    ∙ ap (λ (xs : List ℕ). record one { stored = other.stored; tops = xs }) (all_same (λ s. IsTrue (is_input (flat_of d) s)) one.tops other.tops is.are_tops is'.are_tops)
+    ap (λ (xs : List ℕ). record one { stored = xs }) (all_same (IsStored d) one.stored other.stored is.are_stored is'.are_stored)
+    ∙ ap (λ (xs : List ℕ). record one { stored = other.stored; tops = xs }) (all_same (λ s. IsTrue (is_input d s)) one.tops other.tops is.are_tops is'.are_tops)
     ∙ ap (λ (test : ℕ → Bool). record other { is_control = test }) (fun_ext (λ i. bool_same (one.is_control i) (other.is_control i) (λ h. (is'.are_controls i).1 ((is.are_controls i).0 h)) (λ h. (is.are_controls i).1 ((is'.are_controls i).0 h))))
 
-pub lacks_none : (d : Parts) → LacksNetlist d → HasNetlist d → ⊥
+pub lacks_none : (d : Flat) → LacksNetlist d → HasNetlist d → ⊥
 lacks_none d (Shapeless p fault) has = has.formed p fault
 lacks_none d (Contended p fault) has = has.alone p fault
 lacks_none d (Cyclic s fault) has = has.no_cycle s fault
@@ -80,7 +81,7 @@ module _ (d : Flat) (compared : ℕ → Bool) (lasting : (s : ℕ) → compared 
 
 -- ---- trials
 
-module _ (design : Parts) (lawful : AreProcesses design) (setup : Setup) (is_setup : IsSetup design setup) (trial : ℕ) where
+module _ (design : Flat) (lawful : AreProcesses design) (setup : Setup) (is_setup : IsSetup design setup) (trial : ℕ) where
   pub stuck_once :
       (xs ys : List Moment) → IsStuck design setup trial xs → IsStuck design setup trial ys → length xs ≡ length ys
   stuck_once xs ys one other =
@@ -93,7 +94,7 @@ module _ (design : Parts) (lawful : AreProcesses design) (setup : Setup) (is_set
       by (inr (inr more)) =
           absurd (not_behind design lawful setup is_setup one.netlist trial xs ys one.state one.numbers (stuck_reaches design lawful setup is_setup one.netlist trial xs one) other more)
 
-  course_once : (xs ys : List Moment) → IsCourse design setup trial xs → IsCourse design setup trial ys → AllAlike (flat_of design) xs ys
+  course_once : (xs ys : List Moment) → IsCourse design setup trial xs → IsCourse design setup trial ys → AllAlike design xs ys
   course_once xs ys (Ended s n reaches all) (Ended t m reaches' all') =
       (reach_once design lawful setup is_setup reaches.netlist trial xs ys s t n m reaches reaches' (all ∙ sym all')).shown
   course_once xs ys (Ended s n reaches all) (Stopped stuck) =
@@ -107,24 +108,24 @@ module _ (design : Parts) (lawful : AreProcesses design) (setup : Setup) (is_set
       (stuck_reaches design lawful setup is_setup one.netlist trial xs one) (stuck_reaches design lawful setup is_setup one.netlist trial ys other) (stuck_once xs ys one other)).shown
 
   pub shows_once :
-      (compared : ℕ → Bool) → ((s : ℕ) → compared s ≡ true → IsLasting (flat_of design) s) → (found found' : Option Place) →
+      (compared : ℕ → Bool) → ((s : ℕ) → compared s ≡ true → IsLasting design s) → (found found' : Option Place) →
       Shows design setup compared trial found → Shows design setup compared trial found' → found ≡ found'
   shows_once compared lasting found found' one other =
       sym one.first
-      ∙ first_same (flat_of design) compared lasting (length design.signals) 1 one.moments other.moments (course_once one.moments other.moments one.course other.course)
+      ∙ first_same design compared lasting (length design.signals) 1 one.moments other.moments (course_once one.moments other.moments one.course other.course)
       ∙ other.first
 
-course_netlist : (d : Parts) (setup : Setup) (trial : ℕ) (xs : List Moment) → IsCourse d setup trial xs → HasNetlist d
+course_netlist : (d : Flat) (setup : Setup) (trial : ℕ) (xs : List Moment) → IsCourse d setup trial xs → HasNetlist d
 course_netlist d setup trial xs (Ended s n reaches all) = reaches.netlist
 course_netlist d setup trial xs (Stopped stuck) = stuck.netlist
 
 -- ---- all trials
 
-module _ (design : Parts) (lawful : AreProcesses design) (finding : Finding) where
-  abbrev d : Parts
+module _ (design : Flat) (lawful : AreProcesses design) (finding : Finding) where
+  abbrev d : Flat
   d = design
 
-  lasts : (compared : ℕ → Bool) → AreCompared d finding compared → (s : ℕ) → compared s ≡ true → IsLasting (flat_of design) s
+  lasts : (compared : ℕ → Bool) → AreCompared d finding compared → (s : ℕ) → compared s ≡ true → IsLasting design s
   lasts compared are s is = ((are s).0 is).lasting
 
   -- what another setup and another test show

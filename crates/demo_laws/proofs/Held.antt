@@ -11,7 +11,8 @@ use Rattle.rtl_flat.specs.Paths as step
 use Rattle.rtl_flat.specs.PathSets.{Uses}
 use Rattle.rtl_flat.specs.Process.{Actions, Comb, Doing, Task}
 use Rattle.rtl_flat.specs.Signs.{width_in}
-use Rattle.event_model.specs.Queue.{Flat, doing_at, doing_of, widths}
+use Rattle.event_model.specs.Queue.{doing_at, doing_of}
+use Rattle.rtl_flat.specs.Flats.{Flat, widths}
 use Rattle.event_model.specs.Writes.{Values}
 use Rattle.demo_clean.specs.event_laws.Steady.{AreLawful}
 use Rattle.net_model.specs.declared.fill.Fill.{Fill}

@@ -13,13 +13,12 @@ use Rattle.rtl_flat.specs.WellFormed.{IsProcess}
 use Rattle.event_model.specs.Queue.{doing_of, is_input, is_input_kind, is_input_of}
 use Rattle.demo_clean.specs.event_laws.Steady.{AreLawful}
 use Rattle.net_model.specs.Control.{Here, IsBehind, Next, whole_of}
-use Rattle.rtl_rule.specs.Parts.{Parts}
+use Rattle.rtl_flat.specs.Flats.{Flat}
 use Rattle.demo_clean.specs.check_clocks.Clocks.{ComesFrom, GoesTo, Itself, Through}
 use Rattle.demo_clean.proofs.net_list_proofs.Formed.{lawful_at}
-use Rattle.demo_clean.specs.demo_replay.Setups.{flat_of}
 use Rattle.demo_laws.specs.Laws.{AreProcesses}
 
-pub lawful_flat : (d : Parts) → AreProcesses d → AreLawful (flat_of d)
+pub lawful_flat : (d : Flat) → AreProcesses d → AreLawful d
 lawful_flat d lawful p does here = by (slice_get d.tasks p) refl here
   where
     by : (o : Option Task) → slice_get d.tasks p ≡ o → doing_of o ≡ Some does → IsProcess d.signals does
@@ -28,18 +27,18 @@ lawful_flat d lawful p does here = by (slice_get d.tasks p) refl here
         let does_is : one.does ≡ does = cc in
         subst (λ x. IsProcess d.signals x) does_is (lawful_at d.signals d.tasks p one lawful there)
 
-goes_behind : (d : Parts) (top i : ℕ) → GoesTo d top i → IsBehind (flat_of d) top i
+goes_behind : (d : Flat) (top i : ℕ) → GoesTo d top i → IsBehind d top i
 goes_behind d top i (Itself) = Here
 goes_behind d top i (Through j i' p task goes there plain) =
     Next j i p (whole_of i plain.at) (Sized 1 plain.signed plain.spot (tree.Whole j)) (goes_behind d top j goes)
     (ap doing_of there ∙ ap Some plain.does)
     (record { signed = plain.signed; spot = plain.spot; target_spot = plain.at; whole = refl; copy = refl; one_bit = plain.one_bit; target_bit = plain.port_bit })
 
-pub behind : (d : Parts) (top i : ℕ) → ComesFrom d top i → IsBehind (flat_of d) top i
+pub behind : (d : Flat) (top i : ℕ) → ComesFrom d top i → IsBehind d top i
 behind d top i comes = goes_behind d top i comes.goes
 
 -- a signal that is a top input
-pub is_top : (d : Parts) (top : ℕ) → Has (λ signal. signal.kind ≡ TopInput) d.signals top → IsTrue (is_input (flat_of d) top)
+pub is_top : (d : Flat) (top : ℕ) → Has (λ signal. signal.kind ≡ TopInput) d.signals top → IsTrue (is_input d top)
 is_top d top h = by_signal (slice_get d.signals top) h
   where
     by_signal : (o : Option Signal) → IsSomeAnd o (λ signal. signal.kind ≡ TopInput) → is_input_of o ≡ true

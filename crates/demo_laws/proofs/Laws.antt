@@ -1,7 +1,7 @@
 -- The laws of temporaries, as they are stated.
 use Rattle.rtl_flat.specs.Flows.{body_flow}
 use Rattle.rtl_flat.proofs.Paths.{decided}
-use Rattle.event_model.specs.Queue.{Flat, widths}
+use Rattle.rtl_flat.specs.Flats.{Flat, widths}
 use Rattle.net_model.specs.Solution.{IsLasting}
 use Rattle.demo_laws.specs.Lasting.{LastingDepends}
 use Rattle.demo_laws.proofs.Live.{same_bit}

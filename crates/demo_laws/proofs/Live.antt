@@ -17,7 +17,7 @@ use Rattle.rtl_flat.specs.Paths.{BitSet, Flow, End, either, every, every_way, fi
 use Rattle.rtl_flat.specs.Process.{Action, Set, If, Case, Block, Actions, Done, Then, Otherwise, Without, With, Branches, NoBranch, Branch}
 use Rattle.rtl_flat.specs.WellFormed.{AreBranches, IsAction, IsBody, IsOtherwise}
 use Rattle.rtl_flat.proofs.Flows.{every_action, first_action}
-use Rattle.event_model.specs.Queue.{Flat, widths}
+use Rattle.rtl_flat.specs.Flats.{Flat, widths}
 use Rattle.event_model.specs.Traces.{Same, covers}
 use Rattle.event_model.specs.Writes.{Values, Write, written}
 use Rattle.demo_clean.specs.event_laws.Steady.{HaveWidths, IsWithin}

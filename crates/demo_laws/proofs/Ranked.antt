@@ -6,7 +6,7 @@ use Rattle.std.proofs.lemmas.Bool.{cases_Bool, cases_eq, cond-false, cond-true}
 use Rattle.std.proofs.lemmas.Option.{slice_get_within}
 use Rattle.rtl_flat.specs.Levels.{Chain, HasNoEdge, Here, IsNode, Then}
 use Rattle.rtl_flat.specs.Process.{Task}
-use Rattle.event_model.specs.Queue.{Flat}
+use Rattle.rtl_flat.specs.Flats.{Flat}
 use Rattle.event_model.specs.Writes.{put}
 use Rattle.demo_clean.proofs.event_laws_proofs.Lengths.{put_at, put_other}
 use Rattle.demo_clean.specs.net_order.Order.{IsCyclic}

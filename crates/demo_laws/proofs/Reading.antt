@@ -15,7 +15,7 @@ use Rattle.rtl_flat.specs.Process.{Piece, Selection, Whole, BitAt, BitBy, Part, 
 use Rattle.rtl_flat.specs.Signs.{IsExpression, sign_of}
 use Rattle.rtl_flat.specs.Value.{index_number, value}
 use Rattle.rtl_flat.specs.WellFormed.{AreBranches, IsSelection}
-use Rattle.event_model.specs.Queue.{Flat, widths}
+use Rattle.rtl_flat.specs.Flats.{Flat, widths}
 use Rattle.event_model.specs.Traces.{covers}
 use Rattle.event_model.specs.Writes.{Values, bit_inside, count_of, counts, write_at}
 use Rattle.demo_clean.specs.event_laws.Steady.{HaveWidths, IsWithin}

@@ -4,7 +4,7 @@ use Rattle.std.proofs.Common.{◌≡◌, ◌∙◌, ◌⊎◌, ◌<◌, ℕ, Lis
 use Rattle.rtl_bits.specs.declared.Bit.{Bit}
 use Rattle.event_model.specs.Queue.{is_input}
 use Rattle.demo_clean.proofs.net_start_proofs.Listed.{all_same}
-use Rattle.rtl_rule.specs.Parts.{Parts}
+use Rattle.rtl_flat.specs.Flats.{Flat}
 use Rattle.demo_trials.specs.Trials.{step_count}
 use Rattle.demo_told.specs.declared.demo.Demo.{Demo}
 use Rattle.demo_told.specs.declared.demo.Shown.{Shown}
@@ -14,24 +14,24 @@ use Rattle.demo_clean.specs.demo_replay.declared.fault.ReplayFault.{ReplayFault}
 use Rattle.demo_clean.specs.demo_replay.declared.fault.ReplayFault.TheVariants.{Illegal, NoNetlist, Unsettled, Same, Memory}
 use Rattle.demo_clean.specs.demo_replay.Replays.{Gives, IsIllegal, IsLegal, IsNoStep, IsReplayFault, IsReplayed, IsStep, IsUnsettled}
 use Rattle.demo_clean.specs.demo_replay.Runs.{IsStuck, Reaches}
-use Rattle.demo_clean.specs.demo_replay.Setups.{Setup, flat_of}
+use Rattle.demo_clean.specs.demo_replay.Setups.{Setup}
 use Rattle.demo_laws.proofs.Firsts.{lacks_none, setup_once, stuck_once}
 use Rattle.demo_laws.proofs.Trials.{not_behind, reach_once}
 use Rattle.demo_laws.specs.Laws.{AreProcesses}
 
 -- ---- what a demonstration names
 
-no_step : (d : Parts) (trial step : ℕ) → IsStep d trial step → IsNoStep d trial step → ⊥
+no_step : (d : Flat) (trial step : ℕ) → IsStep d trial step → IsNoStep d trial step → ⊥
 no_step d trial step is isnt =
     let first = is.first in
     let last = is.last in
-    let same : isnt.tops ≡ is.tops = all_same (λ s. IsTrue (is_input (flat_of d) s)) isnt.tops is.tops isnt.are_tops is.are_tops in
+    let same : isnt.tops ≡ is.tops = all_same (λ s. IsTrue (is_input d s)) isnt.tops is.tops isnt.are_tops is.are_tops in
     elim isnt.outside as (λ _. ⊥) [
       | inl none ↦ absurd (omega (arith, first, none))
       | inr past ↦ let past' : step_count trial (length is.tops) < step = subst (λ (xs : List ℕ). step_count trial (length xs) < step) same past in absurd (omega (arith, last, past'))
     ]
 
-not_legal : (d : Parts) (demo : Demo) (it : Part) → IsIllegal d demo it → IsLegal d demo → ⊥
+not_legal : (d : Flat) (demo : Demo) (it : Part) → IsIllegal d demo it → IsLegal d demo → ⊥
 not_legal d demo part.Trial is legal = let small = legal.trial in absurd (omega (arith, is, small))
 not_legal d demo part.Step is legal = no_step d demo.trial demo.step legal.step is.1
 not_legal d demo part.Signal is legal =
@@ -41,7 +41,7 @@ not_legal d demo part.Signal is legal =
       | inr temporary ↦ legal.lasting temporary
     ]
 
-part_once : (d : Parts) (demo : Demo) (one other : Part) → IsIllegal d demo one → IsIllegal d demo other → one ≡ other
+part_once : (d : Flat) (demo : Demo) (one other : Part) → IsIllegal d demo one → IsIllegal d demo other → one ≡ other
 part_once d demo part.Trial part.Trial is is' = refl
 part_once d demo part.Trial part.Step is is' = let small = is'.0 in absurd (omega (arith, is, small))
 part_once d demo part.Trial part.Signal is is' = let small = is'.0 in absurd (omega (arith, is, small))
@@ -54,8 +54,8 @@ part_once d demo part.Signal part.Signal is is' = refl
 
 -- ---- what it shows
 
-module _ (design : Parts) (lawful : AreProcesses design) (demo : Demo) where
-  abbrev d : Parts
+module _ (design : Flat) (lawful : AreProcesses design) (demo : Demo) where
+  abbrev d : Flat
   d = design
 
   gives_once :

@@ -9,7 +9,8 @@ use Rattle.rtl_bits.specs.declared.Bit.{Bit}
 use Rattle.rtl_flat.specs.Levels.{IsLevel}
 use Rattle.event_model.specs.declared.setting.Setting.{Setting}
 use Rattle.event_model.specs.Policies.{PolicyRun}
-use Rattle.event_model.specs.Queue.{Flat, State, offer, settled_at}
+use Rattle.event_model.specs.Queue.{State, offer, settled_at}
+use Rattle.rtl_flat.specs.Flats.{Flat}
 use Rattle.event_model.specs.Writes.{Values}
 use Rattle.event_once.specs.Laws.{AgreeBelow}
 use Rattle.event_once.proofs.Laws.{end_or_stop, one_end, one_level}
@@ -22,7 +23,6 @@ use Rattle.demo_clean.specs.net_settle.Settle.{IsSolved, setting_view}
 use Rattle.demo_clean.specs.netlist_eval.declared.step.Step.{Step}
 use Rattle.demo_clean.specs.netlist_eval.declared.step.Step.TheVariants.{Data, Turn}
 use Rattle.demo_clean.specs.netlist_eval.Steps.{IsStepOf, step_view}
-use Rattle.rtl_rule.specs.Parts.{Parts}
 use Rattle.demo_clean.specs.rtl_scan.Arrows.{Among}
 use Rattle.demo_trials.specs.Steps.{Input, step_of}
 use Rattle.demo_trials.specs.Trials.{fill_of, policy_of}
@@ -30,7 +30,6 @@ use Rattle.demo_clean.specs.demo_replay.Setups.{HasNetlist, IsSetup, Setup, firs
 use Rattle.demo_clean.specs.demo_replay.Runs.{AreTaken, Begun, GoOn, IsAfter, IsFirstState, IsStuck, Moment, Reaches, Rests, Stepped, Stops, input_of, settings_of}
 use Rattle.demo_laws.proofs.Cycles.{alike_list, begun_once, cycle_once, input_lasts}
 use Rattle.demo_laws.proofs.Stable.{list_stable}
-use Rattle.demo_clean.specs.demo_replay.Setups.{flat_of}
 use Rattle.demo_laws.specs.Laws.{AreProcesses}
 
 -- ---- steps of a netlist
@@ -73,9 +72,9 @@ pushed xs x = length-append xs (x ∷ [])
 
 -- ---- a trial of a design
 
-module _ (design : Parts) (lawful : AreProcesses design) (setup : Setup) (is_setup : IsSetup design setup) (netlist : HasNetlist design) (trial : ℕ) where
+module _ (design : Flat) (lawful : AreProcesses design) (setup : Setup) (is_setup : IsSetup design setup) (netlist : HasNetlist design) (trial : ℕ) where
   abbrev d : Flat
-  d = flat_of design
+  d = design
 
   -- what was reached after some steps, by levels of the design
   abbrev After : (ℕ → Option ℕ) → List Moment → State → Values → Type 0

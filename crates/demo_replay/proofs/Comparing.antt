@@ -6,10 +6,9 @@ use Rattle.std.proofs.lemmas.Bool.{and_from, and_parts, eq-eqb, eqb-true, false�
 use Rattle.std.proofs.lemmas.Option.{slice_get_within}
 use Rattle.rtl_flat.specs.declared.expr.SigId.{SigId}
 use Rattle.rtl_flat.specs.declared.signal.Signal.{Signal}
-use Rattle.event_model.specs.Queue.{flat}
+use Rattle.rtl_flat.specs.Flats.{flat}
 use Rattle.net_model.specs.Solution.{IsLasting}
 use Rattle.rtl_rule.specs.declared.finding.Finding.{Finding}
-use Rattle.rtl_rule.specs.Parts.{parts}
 use Rattle.demo_replay.specs.declared.setup.Setup.{Setup as Kept}
 use Rattle.demo_replay.specs.Compared.{AreCompared, IsCompared, IsOutput, IsRegister, IsWatched, is_unwoken}
 use Rattle.demo_replay.specs.Tables.{AreClocked, IsOf, compared, compared_at, is_marked, is_own, is_watched}
@@ -38,7 +37,7 @@ missing [] i none below = omega (arith, below)
 missing (x ∷ xs) zero none below = cc
 missing (x ∷ xs) (suc i) none below = missing xs i none (omega (arith, below))
 
-module _ (kept : Kept) (is : IsOf kept.design.now kept) (clocked : List Bool) (are : AreClocked (parts kept.design.now) clocked) (finding : Finding) where
+module _ (kept : Kept) (is : IsOf kept.design.now kept) (clocked : List Bool) (are : AreClocked (flat kept.design.now) clocked) (finding : Finding) where
   -- a signal that isn't marked is no temporary
   pub lasts : (s : ℕ) → not (is_marked kept.temporaries.items s) ≡ true → IsLasting (flat kept.design.now) s
   lasts s free temporary =
@@ -48,7 +47,7 @@ module _ (kept : Kept) (is : IsOf kept.design.now kept) (clocked : List Bool) (a
   free_of s lasting =
       true_from (is_marked kept.temporaries.items s) (λ m. lasting ((is.temporaries.each s).0 ((marked kept.temporaries.items s).1 m)))
 
-  register_from : (s : ℕ) → s < length kept.design.now.signals.items → IsLasting (flat kept.design.now) s → is_marked clocked s ≡ true → IsRegister (parts kept.design.now) s
+  register_from : (s : ℕ) → s < length kept.design.now.signals.items → IsLasting (flat kept.design.now) s → is_marked clocked s ≡ true → IsRegister (flat kept.design.now) s
   register_from s inside lasting h =
       let writes = (are.each s).0 h in
       record {
@@ -59,18 +58,18 @@ module _ (kept : Kept) (is : IsOf kept.design.now kept) (clocked : List Bool) (a
         register = record { inside = inside; writes = writes.writes; kept = lasting };
       }
 
-  register_to : (s : ℕ) → IsRegister (parts kept.design.now) s → is_marked clocked s ≡ true
+  register_to : (s : ℕ) → IsRegister (flat kept.design.now) s → is_marked clocked s ≡ true
   register_to s h =
       (are.each s).1 (record {
         process = h.process;
-        below = slice_get_within (parts kept.design.now).tasks h.process h.task h.there;
+        below = slice_get_within (flat kept.design.now).tasks h.process h.task h.there;
         task = h.task;
         there = h.there;
         waits = h.waits;
         writes = h.register.writes;
       })
 
-  watched_from : (b t : Bool) (s : ℕ) → (t ≡ true → IsOutput (parts kept.design.now) s) → (is_marked clocked s ≡ true → IsRegister (parts kept.design.now) s) → (if b then is_own finding.signal s else (t || is_marked clocked s) || is_own finding.signal s) ≡ true → IsWatched b (parts kept.design.now) finding s
+  watched_from : (b t : Bool) (s : ℕ) → (t ≡ true → IsOutput (flat kept.design.now) s) → (is_marked clocked s ≡ true → IsRegister (flat kept.design.now) s) → (if b then is_own finding.signal s else (t || is_marked clocked s) || is_own finding.signal s) ≡ true → IsWatched b (flat kept.design.now) finding s
   watched_from true t s output register h = own_from finding.signal s h
   watched_from false t s output register h =
       elim (or_cases (t || is_marked clocked s) (is_own finding.signal s) h) [
@@ -82,7 +81,7 @@ module _ (kept : Kept) (is : IsOf kept.design.now kept) (clocked : List Bool) (a
         | inr own ↦ inr (inr (own_from finding.signal s own))
       ]
 
-  watched_to : (b t : Bool) (s : ℕ) → (IsOutput (parts kept.design.now) s → t ≡ true) → IsWatched b (parts kept.design.now) finding s → (if b then is_own finding.signal s else (t || is_marked clocked s) || is_own finding.signal s) ≡ true
+  watched_to : (b t : Bool) (s : ℕ) → (IsOutput (flat kept.design.now) s → t ≡ true) → IsWatched b (flat kept.design.now) finding s → (if b then is_own finding.signal s else (t || is_marked clocked s) || is_own finding.signal s) ≡ true
   watched_to true t s output h = own_to finding.signal s h
   watched_to false t s output h =
       elim h [
@@ -96,7 +95,7 @@ module _ (kept : Kept) (is : IsOf kept.design.now kept) (clocked : List Bool) (a
             ]
       ]
 
-  compared_from : (s : ℕ) (o : Option Signal) → slice_get kept.design.now.signals.items s ≡ o → compared_at kept clocked finding s o ≡ true → IsCompared (parts kept.design.now) finding s
+  compared_from : (s : ℕ) (o : Option Signal) → slice_get kept.design.now.signals.items s ≡ o → compared_at kept clocked finding s o ≡ true → IsCompared (flat kept.design.now) finding s
   compared_from s None there h = absurd (false≢true h)
   compared_from s (Some signal) there h =
       let (free, looked) = and_parts (not (is_marked kept.temporaries.items s)) (is_watched clocked finding s signal) h in
@@ -107,14 +106,14 @@ module _ (kept : Kept) (is : IsOf kept.design.now kept) (clocked : List Bool) (a
         lasting = lasts s free;
       }
     where
-      output : signal.top_output ≡ true → IsOutput (parts kept.design.now) s
+      output : signal.top_output ≡ true → IsOutput (flat kept.design.now) s
       output top = has (slice_get kept.design.now.signals.items s) there
         where
           has : (o : Option Signal) → o ≡ Some signal → IsSomeAnd o (λ one. one.top_output ≡ true)
           has None e = absurd (cc)
           has (Some one) e = let same : one ≡ signal = cc in ap (λ (x : Signal). x.top_output) same ∙ top
 
-  compared_to : (s : ℕ) (o : Option Signal) → slice_get kept.design.now.signals.items s ≡ o → IsCompared (parts kept.design.now) finding s → compared_at kept clocked finding s o ≡ true
+  compared_to : (s : ℕ) (o : Option Signal) → slice_get kept.design.now.signals.items s ≡ o → IsCompared (flat kept.design.now) finding s → compared_at kept clocked finding s o ≡ true
   compared_to s None there h = absurd (missing kept.design.now.signals.items s there h.inside)
   compared_to s (Some signal) there h =
       and_from (not (is_marked kept.temporaries.items s)) (is_watched clocked finding s signal) (free_of s h.lasting)
@@ -124,6 +123,6 @@ module _ (kept : Kept) (is : IsOf kept.design.now kept) (clocked : List Bool) (a
       shows None e top = absurd (cc)
       shows (Some one) e top = let same : one ≡ signal = cc in ap (λ (x : Signal). x.top_output) (sym same) ∙ top
 
-  pub are_compared : AreCompared (parts kept.design.now) finding (compared kept clocked finding)
+  pub are_compared : AreCompared (flat kept.design.now) finding (compared kept clocked finding)
   are_compared s =
       (compared_from s (slice_get kept.design.now.signals.items s) refl, compared_to s (slice_get kept.design.now.signals.items s) refl)

@@ -4,10 +4,10 @@ use Rattle.std.specs.Prelude.{Option}
 use Rattle.std.proofs.lemmas.List.{length-append, length-map}
 use Rattle.rtl_flat.specs.declared.expr.SigId.{SigId}
 use Rattle.rtl_flat.specs.Levels.{IsLevel}
-use Rattle.rtl_rule.specs.Parts.{Parts, parts}
+use Rattle.rtl_flat.specs.Flats.{Flat, flat}
 use Rattle.event_model.specs.declared.setting.Setting.{Setting}
 use Rattle.event_model.specs.Policies.{IsDone, IsTooDear, budget}
-use Rattle.event_model.specs.Queue.{Flat, IsAtRest, State, flat, offer}
+use Rattle.event_model.specs.Queue.{IsAtRest, State, offer}
 use Rattle.event_model.specs.Writes.{Values}
 use Rattle.event_queue.specs.declared.sim.EventSim.{EventSim}
 use Rattle.event_queue.specs.Offers.{set_of}
@@ -55,7 +55,7 @@ begun kept trial first s net is begins first_is made =
 -- ---- counts
 
 -- no more steps are taken than there are
-pub within_count : (d : Parts) (setup : Setup) (level : ℕ → Option ℕ) (trial : ℕ) (moments : List Moment) (s : State) (n : Values) → IsAfter d setup level trial moments s n → length moments ≤ step_count trial (length setup.tops)
+pub within_count : (d : Flat) (setup : Setup) (level : ℕ → Option ℕ) (trial : ℕ) (moments : List Moment) (s : State) (n : Values) → IsAfter d setup level trial moments s n → length moments ≤ step_count trial (length setup.tops)
 within_count d setup level trial moments s n (Begun u m first state) = omega arith
 within_count d setup level trial moments s n (Stepped before u t m l after more rests goes) =
     let one : Moment = record { simulated = t.value; synthesised = l } in
@@ -66,7 +66,7 @@ within_count d setup level trial moments s n (Stepped before u t m l after more 
 pub some_left : (kept : Kept) (trial taken count : ℕ) (s : EventSim) (n : NetSim) (moments : List Moment) → IsAfterSteps kept trial s n taken moments → count ≡ length kept.basis.tops.items → (taken ≡ step_count trial count → ⊥) → taken < step_count trial (length (plain kept).tops)
 some_left kept trial taken count s n moments at is other =
     let same : count ≡ length (plain kept).tops = is ∙ sym (length-map kept.basis.tops.items (λ (one : SigId). one.0)) in
-    let within = within_count (parts kept.design.now) (plain kept) (level_of s) trial moments (state_of s) (shown n) at.after in
+    let within = within_count (flat kept.design.now) (plain kept) (level_of s) trial moments (state_of s) (shown n) at.after in
     let size = at.count in
     let other' = subst (λ (k : ℕ). taken ≡ step_count trial k → ⊥) same other in
     omega (arith, within, size, other')
@@ -79,30 +79,30 @@ few_left kept trial taken left =
 -- ---- a step
 
 module _ (kept : Kept) (trial taken : ℕ) (s : EventSim) (n : NetSim) (moments : List Moment) (at : IsAfterSteps kept trial s n taken moments) where
-  pub netlist_there : HasNetlist (parts kept.design.now)
+  pub netlist_there : HasNetlist (flat kept.design.now)
   netlist_there =
       record { formed = at.is_of.formed; alone = at.is_of.alone; no_cycle = at.no_cycle }
 
-  pub reached : Reaches (parts kept.design.now) (plain kept) trial moments (state_of s) (shown n)
+  pub reached : Reaches (flat kept.design.now) (plain kept) trial moments (state_of s) (shown n)
   reached =
       record { netlist = netlist_there; level = level_of s; levels = at.resting.levels; after = at.after }
 
-  module _ (settings : List Setting) (left : taken < step_count trial (length (plain kept).tops)) (are : settings ≡ settings_of (parts kept.design.now) (plain kept) trial (taken + 1) (shown n)) where
-    set : settings ≡ settings_of (parts kept.design.now) (plain kept) trial (length moments + 1) (shown n)
+  module _ (settings : List Setting) (left : taken < step_count trial (length (plain kept).tops)) (are : settings ≡ settings_of (flat kept.design.now) (plain kept) trial (taken + 1) (shown n)) where
+    set : settings ≡ settings_of (flat kept.design.now) (plain kept) trial (length moments + 1) (shown n)
     set =
-        are ∙ ap (λ (k : ℕ). settings_of (parts kept.design.now) (plain kept) trial (k + 1) (shown n)) (sym at.count)
+        are ∙ ap (λ (k : ℕ). settings_of (flat kept.design.now) (plain kept) trial (k + 1) (shown n)) (sym at.count)
 
     more : length moments < step_count trial (length (plain kept).tops)
     more = subst (λ (k : ℕ). k < step_count trial (length (plain kept).tops)) (sym at.count) left
 
     -- it comes to rest
-    pub went : (t : EventSim) (m : NetSim) → IsSame s t → Runs (policy_of trial) (level_of s) (flat_of s) (offer (state_of s) (map set_of settings)) (budget (flat_of s)) (state_of t) (left_of t) → IsDone (policy_of trial) (level_of s) (flat_of s) (state_of t) → IsAtRest (flat_of s) (state_of t) → is_stuck t ≡ false → netlist_of m ≡ netlist_of n → GoOn (parts kept.design.now) (trial == 32) trial settings (shown n) (shown m) → IsAfterSteps kept trial t m (taken + 1) (moments ++ moment_of t m ∷ [])
+    pub went : (t : EventSim) (m : NetSim) → IsSame s t → Runs (policy_of trial) (level_of s) (flat_of s) (offer (state_of s) (map set_of settings)) (budget (flat_of s)) (state_of t) (left_of t) → IsDone (policy_of trial) (level_of s) (flat_of s) (state_of t) → IsAtRest (flat_of s) (state_of t) → is_stuck t ≡ false → netlist_of m ≡ netlist_of n → GoOn (flat kept.design.now) (trial == 32) trial settings (shown n) (shown m) → IsAfterSteps kept trial t m (taken + 1) (moments ++ moment_of t m ∷ [])
     went t m same runs done rest free net goes =
         let design = kept.design.now in
         let d = flat design in
         let level = same_level s t same in
         let rested = subst (λ (l : List Setting). Rests d (level_of s) trial l (state_of s) (state_of t)) set (rests d trial settings s t at.resting.of_design runs done) in
-        let gone = subst (λ (l : List Setting). GoOn (parts design) (trial == 32) trial l (shown n) (shown m)) set goes in
+        let gone = subst (λ (l : List Setting). GoOn (flat design) (trial == 32) trial l (shown n) (shown m)) set goes in
         record {
           is_of = at.is_of;
           no_cycle = at.no_cycle;
@@ -116,12 +116,12 @@ module _ (kept : Kept) (trial taken : ℕ) (s : EventSim) (n : NetSim) (moments 
           netlist = subst (IsNetlistOf design (fill_of trial)) (sym net) at.netlist;
           numbers = numbers_after design (trial == 32) trial settings (shown n) (shown m) at.numbers goes;
           count = length-append moments (moment_of t m ∷ []) ∙ ap (λ (k : ℕ). k + 1) at.count;
-          after = subst (λ (l : ℕ → Option ℕ). IsAfter (parts design) (plain kept) l trial (moments ++ moment_of t m ∷ []) (state_of t) (shown m)) (sym level)
+          after = subst (λ (l : ℕ → Option ℕ). IsAfter (flat design) (plain kept) l trial (moments ++ moment_of t m ∷ []) (state_of t) (shown m)) (sym level)
               (Stepped moments (state_of s) (state_of t) (shown n) (shown m) at.after more rested gone);
         }
 
     -- it doesn't settle
-    pub stuck : (t : EventSim) → Runs (policy_of trial) (level_of s) (flat_of s) (offer (state_of s) (map set_of settings)) (budget (flat_of s)) (state_of t) (left_of t) → IsTooDear (policy_of trial) (level_of s) (flat_of s) (state_of t) (left_of t) → IsStuck (parts kept.design.now) (plain kept) trial moments
+    pub stuck : (t : EventSim) → Runs (policy_of trial) (level_of s) (flat_of s) (offer (state_of s) (map set_of settings)) (budget (flat_of s)) (state_of t) (left_of t) → IsTooDear (policy_of trial) (level_of s) (flat_of s) (state_of t) (left_of t) → IsStuck (flat kept.design.now) (plain kept) trial moments
     stuck t runs dear =
         let d = flat kept.design.now in
         record {

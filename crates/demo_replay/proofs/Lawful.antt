@@ -10,9 +10,9 @@ use Rattle.rtl_bits.specs.declared.Bit.TheVariants.{Zero, One, X, Z}
 use Rattle.rtl_bits.specs.Bit.{not_bit}
 use Rattle.rtl_bits.specs.Bits.{has_unknown}
 use Rattle.rtl_flat.specs.declared.design.Design.{Design}
-use Rattle.rtl_rule.specs.Parts.{parts}
+use Rattle.rtl_flat.specs.Flats.{flat, Flat, widths}
 use Rattle.event_model.specs.declared.setting.Setting.{Setting}
-use Rattle.event_model.specs.Queue.{Flat, flat, is_input, widths}
+use Rattle.event_model.specs.Queue.{is_input}
 use Rattle.event_model.specs.Writes.{Values}
 use Rattle.event_queue.specs.Offers.{AreAllowed}
 use Rattle.net_model.specs.Control.{IsControl}
@@ -167,18 +167,18 @@ module _ (d : Flat) (n : Values) (trial step : ℕ) (inputs : List Input) (early
 
 -- ---- inputs as they are made of numbers
 
-pub inputs_have : (design : Design) (g : Setup) (n : Values) (tops : List ℕ) → AreNumbers (flat design) n → ((i : ℕ) → Among tops i → 0 < widths (flat design) i) → All (Has (flat design) n) (map (input_of (parts design) g n) tops)
+pub inputs_have : (design : Design) (g : Setup) (n : Values) (tops : List ℕ) → AreNumbers (flat design) n → ((i : ℕ) → Among tops i → 0 < widths (flat design) i) → All (Has (flat design) n) (map (input_of (flat design) g n) tops)
 inputs_have design g n [] numbers some = All-nil (Has (flat design) n)
 inputs_have design g n (i ∷ tops) numbers some =
-    All-cons (Has (flat design) n) (input_of (parts design) g n i) (map (input_of (parts design) g n) tops)
+    All-cons (Has (flat design) n) (input_of (flat design) g n i) (map (input_of (flat design) g n) tops)
     (record { number = refl; known = numbers.known i; some = subst (λ w. 0 < w) (sym (numbers.wide i)) (some i (inl refl)) })
     (inputs_have design g n tops numbers (λ j later. some j (inr later)))
 
-pub inputs_tell : (design : Design) (g : Setup) (n : Values) (tops : List ℕ) → IsSetup (parts design) g → All (λ (one : Input). IsControl (flat design) one.signal.0 → one.is_control ≡ true) (map (input_of (parts design) g n) tops)
+pub inputs_tell : (design : Design) (g : Setup) (n : Values) (tops : List ℕ) → IsSetup (flat design) g → All (λ (one : Input). IsControl (flat design) one.signal.0 → one.is_control ≡ true) (map (input_of (flat design) g n) tops)
 inputs_tell design g n [] is =
     All-nil (λ (one : Input). IsControl (flat design) one.signal.0 → one.is_control ≡ true)
 inputs_tell design g n (i ∷ tops) is =
-    All-cons (λ (one : Input). IsControl (flat design) one.signal.0 → one.is_control ≡ true) (input_of (parts design) g n i) (map (input_of (parts design) g n) tops)
+    All-cons (λ (one : Input). IsControl (flat design) one.signal.0 → one.is_control ≡ true) (input_of (flat design) g n i) (map (input_of (flat design) g n) tops)
     (λ control. (is.are_controls i).1 control)
     (inputs_tell design g n tops is)
 
@@ -189,20 +189,20 @@ unmap P f [] are = All-nil (λ y. P (f y))
 unmap P f (y ∷ ys) are =
     All-cons (λ y. P (f y)) y ys (All-head P (f y) (map f ys) are) (unmap P f ys (All-tail P (f y) (map f ys) are))
 
-known_inputs : (design : Design) (g : Setup) (n : Values) (tops : List ℕ) → AreNumbers (flat design) n → All (λ (one : Input). has_unknown one.value ≡ false) (map (input_of (parts design) g n) tops)
+known_inputs : (design : Design) (g : Setup) (n : Values) (tops : List ℕ) → AreNumbers (flat design) n → All (λ (one : Input). has_unknown one.value ≡ false) (map (input_of (flat design) g n) tops)
 known_inputs design g n [] numbers = All-nil (λ (one : Input). has_unknown one.value ≡ false)
 known_inputs design g n (i ∷ tops) numbers =
-    All-cons (λ (one : Input). has_unknown one.value ≡ false) (input_of (parts design) g n i) (map (input_of (parts design) g n) tops) (numbers.known i) (known_inputs design g n tops numbers)
+    All-cons (λ (one : Input). has_unknown one.value ≡ false) (input_of (flat design) g n i) (map (input_of (flat design) g n) tops) (numbers.known i) (known_inputs design g n tops numbers)
 
-fitting_inputs : (design : Design) (g : Setup) (n : Values) (tops : List ℕ) → AreNumbers (flat design) n → ((i : ℕ) → Among tops i → IsTrue (is_input (flat design) i)) → All (λ (one : Input). fits (flat design) one.signal.0 (length one.value) ≡ true) (map (input_of (parts design) g n) tops)
+fitting_inputs : (design : Design) (g : Setup) (n : Values) (tops : List ℕ) → AreNumbers (flat design) n → ((i : ℕ) → Among tops i → IsTrue (is_input (flat design) i)) → All (λ (one : Input). fits (flat design) one.signal.0 (length one.value) ≡ true) (map (input_of (flat design) g n) tops)
 fitting_inputs design g n [] numbers inputs =
     All-nil (λ (one : Input). fits (flat design) one.signal.0 (length one.value) ≡ true)
 fitting_inputs design g n (i ∷ tops) numbers inputs =
-    All-cons (λ (one : Input). fits (flat design) one.signal.0 (length one.value) ≡ true) (input_of (parts design) g n i) (map (input_of (parts design) g n) tops)
+    All-cons (λ (one : Input). fits (flat design) one.signal.0 (length one.value) ≡ true) (input_of (flat design) g n i) (map (input_of (flat design) g n) tops)
     (and_from (is_input (flat design) i) (length (n i) == widths (flat design) i) (inputs i (inl refl)) (eq-eqb (length (n i)) (widths (flat design) i) (numbers.wide i)))
     (fitting_inputs design g n tops numbers (λ j later. inputs j (inr later)))
 
-module _ (design : Design) (g : Setup) (is : IsSetup (parts design) g) (n : Values) (numbers : AreNumbers (flat design) n) (made : List Made) (are : map input made ≡ map (input_of (parts design) g n) g.tops) where
+module _ (design : Design) (g : Setup) (is : IsSetup (flat design) g) (n : Values) (numbers : AreNumbers (flat design) n) (made : List Made) (are : map input made ≡ map (input_of (flat design) g n) g.tops) where
   pub made_known : AreInputsKnown made
   made_known =
       unmap (λ (one : Input). has_unknown one.value ≡ false) input made (subst (All (λ (one : Input). has_unknown one.value ≡ false)) (sym are) (known_inputs design g n g.tops numbers))

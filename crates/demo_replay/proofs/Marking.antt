@@ -5,7 +5,8 @@ use Rattle.std.specs.List.{slice_get}
 use Rattle.std.proofs.lemmas.Bool.{cases_eq, eq-eqb, eqb-true, false≢true, or_cases, or_left, or_right}
 use Rattle.std.proofs.lemmas.List.{length-replicate}
 use Rattle.rtl_flat.specs.Process.{Task}
-use Rattle.rtl_rule.specs.Parts.{Parts, has_some, widths, written}
+use Rattle.rtl_rule.specs.Parts.{has_some, written}
+use Rattle.rtl_flat.specs.Flats.{Flat, widths}
 use Rattle.event_queue.specs.rtl_scan.declared.bits.Row.{Row}
 use Rattle.event_queue.specs.rtl_scan.Arrows.{Among}
 use Rattle.event_queue.specs.rtl_scan.Sets.{IsInOrder, has_rows}
@@ -45,7 +46,7 @@ among_rows (row ∷ rows) s = (
       ],
 )
 
-pub marks_written : (d : Parts) (p : ℕ) (rows : List Row) (old new : List Bool) → ((task : Task) → slice_get d.tasks p ≡ Some task → (s k : ℕ) → has_rows rows s k ≡ written d task.does s k) → IsInOrder rows → length old ≡ length d.signals → AreMarkedAlso (map (λ (row : Row). row.signal.0) rows) old new → MarksWritten d p old new
+pub marks_written : (d : Flat) (p : ℕ) (rows : List Row) (old new : List Bool) → ((task : Task) → slice_get d.tasks p ≡ Some task → (s k : ℕ) → has_rows rows s k ≡ written d task.does s k) → IsInOrder rows → length old ≡ length d.signals → AreMarkedAlso (map (λ (row : Row). row.signal.0) rows) old new → MarksWritten d p old new
 marks_written d p rows old new same order count also =
     record {
       count = also.size;
@@ -67,14 +68,14 @@ marks_written d p rows old new same order count also =
           );
     }
 
-pub none_clocked : (d : Parts) → AreClockedBelow d 0 (replicate (length d.signals) false)
+pub none_clocked : (d : Flat) → AreClockedBelow d 0 (replicate (length d.signals) false)
 none_clocked d =
     record {
       count = length-replicate (length d.signals) false;
       each = λ s. (λ h. absurd (false≢true (sym (unmarked (length d.signals) s) ∙ h)), λ h. absurd (omega (arith, h.below)));
     }
 
-more_below : (d : Parts) (n s : ℕ) → WritesBelow d n s → WritesBelow d (n + 1) s
+more_below : (d : Flat) (n s : ℕ) → WritesBelow d n s → WritesBelow d (n + 1) s
 more_below d n s h =
     record {
       process = h.process;
@@ -86,7 +87,7 @@ more_below d n s h =
     }
 
 -- the process with a number waits for edges
-pub clocked_next : (d : Parts) (n : ℕ) (task : Task) (old new : List Bool) → slice_get d.tasks n ≡ Some task → is_clocked task.does ≡ true → AreClockedBelow d n old → MarksWritten d n old new → AreClockedBelow d (n + 1) new
+pub clocked_next : (d : Flat) (n : ℕ) (task : Task) (old new : List Bool) → slice_get d.tasks n ≡ Some task → is_clocked task.does ≡ true → AreClockedBelow d n old → MarksWritten d n old new → AreClockedBelow d (n + 1) new
 clocked_next d n task old new is waits before marks =
     record {
       count = marks.count ∙ before.count;
@@ -114,7 +115,7 @@ clocked_next d n task old new is waits before marks =
         of_some e = cc
 
 -- it doesn't
-pub unclocked_next : (d : Parts) (n : ℕ) (task : Task) (marks : List Bool) → slice_get d.tasks n ≡ Some task → is_clocked task.does ≡ false → AreClockedBelow d n marks → AreClockedBelow d (n + 1) marks
+pub unclocked_next : (d : Flat) (n : ℕ) (task : Task) (marks : List Bool) → slice_get d.tasks n ≡ Some task → is_clocked task.does ≡ false → AreClockedBelow d n marks → AreClockedBelow d (n + 1) marks
 unclocked_next d n task marks is waits before =
     record {
       count = before.count;

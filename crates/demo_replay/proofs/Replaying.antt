@@ -2,8 +2,8 @@
 use Rattle.std.proofs.Common.{◌≡◌, ◌≤◌, ℕ, List, length, subst, sym}
 use Rattle.std.specs.Prelude.{Err, IfErr, IsTrue, Ok, Result}
 use Rattle.std.specs.Result.{IsErrAnd}
-use Rattle.rtl_rule.specs.Parts.{parts}
-use Rattle.event_model.specs.Queue.{flat, is_input}
+use Rattle.rtl_flat.specs.Flats.{flat}
+use Rattle.event_model.specs.Queue.{is_input}
 use Rattle.event_queue.specs.Sims.{state_of}
 use Rattle.netlist_eval.proofs.net_start_proofs.Listed.{all_same}
 use Rattle.netlist_eval.specs.Sims.{shown}
@@ -27,14 +27,14 @@ same_error (Ok value) why P same holds = absurd same
 same_error (Err e) why P same holds = subst P (sym same) holds
 
 -- a step of a trial is one for the inputs that are kept
-pub step_there : (kept : Kept) → IsOf kept.design.now kept → (trial step : ℕ) → IsStep (parts kept.design.now) trial step → step ≤ step_count trial (length (plain kept).tops)
+pub step_there : (kept : Kept) → IsOf kept.design.now kept → (trial step : ℕ) → IsStep (flat kept.design.now) trial step → step ≤ step_count trial (length (plain kept).tops)
 step_there kept is trial step there =
     subst (λ (l : List ℕ). step ≤ step_count trial (length l))
     (all_same (λ s. IsTrue (is_input (flat kept.design.now) s)) there.tops (plain kept).tops there.are_tops is.basis.tops) there.last
 
 module _ (kept : Kept) (is : IsOf kept.design.now kept) (demo : Demo) (run : Run) (same : run.setup.now ≡ kept) (trial : trial_of run ≡ demo.trial) where
   -- the two values after the step
-  pub gives : (moments : List Moment) → IsAt run moments → length moments ≡ demo.step → (values : Shown) → values.simulated ≡ (moment_of run.sim run.net).simulated demo.signal.0 → values.synthesised ≡ (moment_of run.sim run.net).synthesised demo.signal.0 → Gives (parts kept.design.now) demo values.simulated values.synthesised
+  pub gives : (moments : List Moment) → IsAt run moments → length moments ≡ demo.step → (values : Shown) → values.simulated ≡ (moment_of run.sim run.net).simulated demo.signal.0 → values.synthesised ≡ (moment_of run.sim run.net).synthesised demo.signal.0 → Gives (flat kept.design.now) demo values.simulated values.synthesised
   gives moments at count values simulated synthesised =
       let after = subst (λ (one : Kept). IsAfterSteps one demo.trial run.sim run.net run.taken moments) same
       (subst (λ (t : ℕ). IsAfterSteps run.setup.now t run.sim run.net run.taken moments) trial at) in
@@ -51,10 +51,10 @@ module _ (kept : Kept) (is : IsOf kept.design.now kept) (demo : Demo) (run : Run
       }
 
   -- why its steps aren't taken
-  pub fault_told : IsLegal (parts kept.design.now) demo → (why : ReplayFault) → IsStepFault run demo.step why → IsReplayFault (parts kept.design.now) demo why
+  pub fault_told : IsLegal (flat kept.design.now) demo → (why : ReplayFault) → IsStepFault run demo.step why → IsReplayFault (flat kept.design.now) demo why
   fault_told legal (fault.Unsettled step) (moments, stuck, count, below) =
-      let stuck' = subst (λ (one : Kept). IsStuck (parts one.design.now) (plain one) demo.trial moments) same
-      (subst (λ (t : ℕ). IsStuck (parts run.setup.now.design.now) (plain run.setup.now) t moments) trial stuck) in
+      let stuck' = subst (λ (one : Kept). IsStuck (flat one.design.now) (plain one) demo.trial moments) same
+      (subst (λ (t : ℕ). IsStuck (flat run.setup.now.design.now) (plain run.setup.now) t moments) trial stuck) in
       (legal, record { setup = plain kept; is_setup = setup_of kept is; moments = moments; stuck = stuck'; count = count; before = below })
   fault_told legal fault.Memory h = h
   fault_told legal fault.NoNetlist h = absurd h

@@ -4,10 +4,10 @@ use Rattle.std.specs.List.{slice_index_or}
 use Rattle.std.proofs.lemmas.Bool.{false≢true}
 use Rattle.rtl_bits.specs.declared.Bit.{Bit}
 use Rattle.rtl_flat.specs.declared.design.Design.{Design}
-use Rattle.rtl_rule.specs.Parts.{parts}
+use Rattle.rtl_flat.specs.Flats.{flat, Flat}
 use Rattle.event_model.specs.declared.setting.Setting.{Setting}
 use Rattle.event_model.specs.Policies.{IsDone, IsTooDear, budget}
-use Rattle.event_model.specs.Queue.{Flat, flat, offer}
+use Rattle.event_model.specs.Queue.{offer}
 use Rattle.event_model.specs.Writes.{Values}
 use Rattle.event_queue.specs.event_write.QueueState.{design_of as design_in}
 use Rattle.event_queue.specs.declared.sim.EventSim.{EventSim}
@@ -66,41 +66,41 @@ stops d trial settings s t is runs dear =
 -- ---- numbers
 
 -- the numbers after a step are known ones of their widths
-pub numbers_after : (design : Design) (b : Bool) (trial : ℕ) (settings : List Setting) (old new : Values) → AreNumbers (flat design) old → GoOn (parts design) b trial settings old new → AreNumbers (flat design) new
+pub numbers_after : (design : Design) (b : Bool) (trial : ℕ) (settings : List Setting) (old new : Values) → AreNumbers (flat design) old → GoOn (flat design) b trial settings old new → AreNumbers (flat design) new
 numbers_after design true trial settings old new numbers goes =
     subst (AreNumbers (flat design)) (sym goes) numbers
 numbers_after design false trial settings old new numbers goes = goes.cycle.rest.numbers
 
 -- a step of the netlist, over its design
-pub cycles : (design : Design) (trial : ℕ) (netlist : Netlist) (settings : List Setting) (old new : Values) (step : Step) → IsNetlistOf design (fill_of trial) netlist → IsStepOf (flat_in netlist) settings step → IsCycle (flat_in netlist) (chains_in netlist) netlist.fill old (step_view step) new → Cycles (flat design) (chains_of (parts design)) (fill_of trial) settings old new
+pub cycles : (design : Design) (trial : ℕ) (netlist : Netlist) (settings : List Setting) (old new : Values) (step : Step) → IsNetlistOf design (fill_of trial) netlist → IsStepOf (flat_in netlist) settings step → IsCycle (flat_in netlist) (chains_in netlist) netlist.fill old (step_view step) new → Cycles (flat design) (chains_of (flat design)) (fill_of trial) settings old new
 cycles design trial netlist settings old new step is is_step cycle =
     record {
       step = step;
       is_step = subst (λ (one : Design). IsStepOf (flat one) settings step) is.design_is is_step;
-      cycle = subst (λ (f : Fill). IsCycle (flat design) (chains_of (parts design)) f old (step_view step) new) is.fill_is
-          (subst (λ (one : Design). IsCycle (flat one) (chains_of (parts one)) netlist.fill old (step_view step) new) is.design_is cycle);
+      cycle = subst (λ (f : Fill). IsCycle (flat design) (chains_of (flat design)) f old (step_view step) new) is.fill_is
+          (subst (λ (one : Design). IsCycle (flat one) (chains_of (flat one)) netlist.fill old (step_view step) new) is.design_is cycle);
     }
 
-pub turned : (design : Design) (b : Bool) (trial : ℕ) (settings : List Setting) (old new : Values) → b ≡ false → Cycles (flat design) (chains_of (parts design)) (fill_of trial) settings old new → GoOn (parts design) b trial settings old new
+pub turned : (design : Design) (b : Bool) (trial : ℕ) (settings : List Setting) (old new : Values) → b ≡ false → Cycles (flat design) (chains_of (flat design)) (fill_of trial) settings old new → GoOn (flat design) b trial settings old new
 turned design true trial settings old new is cycles = absurd (false≢true (sym is))
 turned design false trial settings old new is cycles = cycles
 
-pub unturned : (design : Design) (b : Bool) (trial : ℕ) (settings : List Setting) (old new : Values) → b ≡ true → new ≡ old → GoOn (parts design) b trial settings old new
+pub unturned : (design : Design) (b : Bool) (trial : ℕ) (settings : List Setting) (old new : Values) → b ≡ true → new ≡ old → GoOn (flat design) b trial settings old new
 unturned design true trial settings old new is same = same
 unturned design false trial settings old new is same = absurd (false≢true is)
 
 -- the netlist where a trial begins
-pub first_net : (kept : Kept) (trial : ℕ) (net : NetSim) (netlist : Netlist) (registers inputs : List (List Bit)) → IsNetlistOf kept.design.now (fill_of trial) netlist → netlist_of net ≡ netlist → IsBegun (flat_in netlist) (chains_in netlist) netlist.fill registers inputs (shown net) → HasNoCycle (flat_in netlist) → registers ≡ map (first_value (parts kept.design.now) trial) (plain kept).stored → inputs ≡ map (first_value (parts kept.design.now) trial) (plain kept).tops → IsFirstNet kept trial net
+pub first_net : (kept : Kept) (trial : ℕ) (net : NetSim) (netlist : Netlist) (registers inputs : List (List Bit)) → IsNetlistOf kept.design.now (fill_of trial) netlist → netlist_of net ≡ netlist → IsBegun (flat_in netlist) (chains_in netlist) netlist.fill registers inputs (shown net) → HasNoCycle (flat_in netlist) → registers ≡ map (first_value (flat kept.design.now) trial) (plain kept).stored → inputs ≡ map (first_value (flat kept.design.now) trial) (plain kept).tops → IsFirstNet kept trial net
 first_net kept trial net netlist registers inputs is same begun no_cycle registers_are inputs_are =
     let design = kept.design.now in
-    let over = subst (λ (f : Fill). IsBegun (flat design) (chains_of (parts design)) f registers inputs (shown net)) is.fill_is
-    (subst (λ (one : Design). IsBegun (flat one) (chains_of (parts one)) netlist.fill registers inputs (shown net)) is.design_is begun) in
+    let over = subst (λ (f : Fill). IsBegun (flat design) (chains_of (flat design)) f registers inputs (shown net)) is.fill_is
+    (subst (λ (one : Design). IsBegun (flat one) (chains_of (flat one)) netlist.fill registers inputs (shown net)) is.design_is begun) in
     record {
       netlist = subst (IsNetlistOf design (fill_of trial)) (sym same) is;
       no_cycle = subst (λ (one : Design). HasNoCycle (flat one)) is.design_is no_cycle;
       numbers = over.starts.solution.numbers;
-      first = subst (λ (all : List (List Bit)). IsBegun (flat design) (chains_of (parts design)) (fill_of trial) all (map (first_value (parts design) trial) (plain kept).tops) (shown net)) registers_are
-          (subst (λ (all : List (List Bit)). IsBegun (flat design) (chains_of (parts design)) (fill_of trial) registers all (shown net)) inputs_are over);
+      first = subst (λ (all : List (List Bit)). IsBegun (flat design) (chains_of (flat design)) (fill_of trial) all (map (first_value (flat design) trial) (plain kept).tops) (shown net)) registers_are
+          (subst (λ (all : List (List Bit)). IsBegun (flat design) (chains_of (flat design)) (fill_of trial) registers all (shown net)) inputs_are over);
     }
 
 -- ---- counts

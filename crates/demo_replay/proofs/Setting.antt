@@ -11,9 +11,9 @@ use Rattle.rtl_flat.specs.declared.signal.Signal.{Signal}
 use Rattle.rtl_flat.specs.Signs.{width_in}
 use Rattle.rtl_flat.specs.WellFormed.{IsSignal}
 use Rattle.rtl_tree.specs.declared.memory.Memory.{Memory}
-use Rattle.rtl_rule.specs.Parts.{parts}
+use Rattle.rtl_flat.specs.Flats.{flat, widths}
 use Rattle.event_model.specs.declared.setting.Setting.{Setting}
-use Rattle.event_model.specs.Queue.{flat, is_input, widths}
+use Rattle.event_model.specs.Queue.{is_input}
 use Rattle.event_model.specs.Writes.{Values}
 use Rattle.event_model.proofs.Active.{signal_there}
 use Rattle.event_queue.specs.Offers.{AreAllowed}
@@ -28,7 +28,7 @@ use Rattle.demo_replay.specs.Runs.{input_of}
 use Rattle.demo_replay.specs.Tables.{IsOf, plain}
 use Rattle.demo_replay.proofs.Lawful.{allowed, inputs_have, inputs_tell, lawful, made_fit, made_known}
 
-pub setup_of : (kept : Kept) → IsOf kept.design.now kept → IsSetup (parts kept.design.now) (plain kept)
+pub setup_of : (kept : Kept) → IsOf kept.design.now kept → IsSetup (flat kept.design.now) (plain kept)
 setup_of kept is =
     record { are_stored = is.basis.holders; are_tops = is.basis.tops; are_controls = is.basis.controls }
 
@@ -56,7 +56,7 @@ early trial below other =
       | inr before ↦ omega (arith, below, before)
     ]
 
-module _ (kept : Kept) (is : IsOf kept.design.now kept) (n : Values) (numbers : AreNumbers (flat kept.design.now) n) (made : List Made) (are : map input made ≡ map (input_of (parts kept.design.now) (plain kept) n) (plain kept).tops) (settings : List Setting) (fit : (test : ℕ → ℕ → Bool) → InputsMeet test made → SettingsMeet test settings) where
+module _ (kept : Kept) (is : IsOf kept.design.now kept) (n : Values) (numbers : AreNumbers (flat kept.design.now) n) (made : List Made) (are : map input made ≡ map (input_of (flat kept.design.now) (plain kept) n) (plain kept).tops) (settings : List Setting) (fit : (test : ℕ → ℕ → Bool) → InputsMeet test made → SettingsMeet test settings) where
   pub step_allowed : AreAllowed (flat kept.design.now) settings
   step_allowed =
       allowed (flat kept.design.now) settings
@@ -68,14 +68,14 @@ module _ (kept : Kept) (is : IsOf kept.design.now kept) (n : Values) (numbers : 
       let g = plain kept in
       let same = exact ∙ ap (step_of trial step) are in
       subst (TurnsLawfully d n) (sym same)
-      (lawful d n trial step (map (input_of (parts kept.design.now) g n) g.tops) before
+      (lawful d n trial step (map (input_of (flat kept.design.now) g n) g.tops) before
       (inputs_have kept.design.now g n g.tops numbers (λ i among. input_wide kept.design.now i ((is.basis.tops.each i).0 among)))
       (inputs_tell kept.design.now g n g.tops (setup_of kept is))
       (subst (SettingsMeet (fits d)) same (fit (fits d) (made_fit kept.design.now g (setup_of kept is) n numbers made are)))
       (subst AreSettingsKnown same (known (made_known kept.design.now g (setup_of kept is) n numbers made are))))
 
 -- the settings that a step makes, where memory suffices
-pub settings_lawful : (kept : Kept) → IsOf kept.design.now kept → (n : Values) → AreNumbers (flat kept.design.now) n → (made : List Made) → map input made ≡ map (input_of (parts kept.design.now) (plain kept) n) (plain kept).tops → (trial step : ℕ) → trial ≤ 32 → (result : Result (Vec Setting Global) Memory) → IfOk result (λ settings. settings.items ≡ step_of trial step (map input made)) → IfOk result (λ settings. (test : ℕ → ℕ → Bool) → InputsMeet test made → SettingsMeet test settings.items) → IfOk result (λ settings. (trial < 32 → AreInputsKnown made) → AreSettingsKnown settings.items) → IfOk result (λ settings. (trial == 32) ≡ false → TurnsLawfully (flat kept.design.now) n settings.items)
+pub settings_lawful : (kept : Kept) → IsOf kept.design.now kept → (n : Values) → AreNumbers (flat kept.design.now) n → (made : List Made) → map input made ≡ map (input_of (flat kept.design.now) (plain kept) n) (plain kept).tops → (trial step : ℕ) → trial ≤ 32 → (result : Result (Vec Setting Global) Memory) → IfOk result (λ settings. settings.items ≡ step_of trial step (map input made)) → IfOk result (λ settings. (test : ℕ → ℕ → Bool) → InputsMeet test made → SettingsMeet test settings.items) → IfOk result (λ settings. (trial < 32 → AreInputsKnown made) → AreSettingsKnown settings.items) → IfOk result (λ settings. (trial == 32) ≡ false → TurnsLawfully (flat kept.design.now) n settings.items)
 settings_lawful kept is n numbers made are trial step below (Ok settings) exact fit known = λ other.
     step_lawful kept is n numbers made are settings.items fit trial step (early trial below other) (λ inputs. known (λ _. inputs)) exact
 settings_lawful kept is n numbers made are trial step below (Err fault) exact fit known = exact

@@ -7,7 +7,7 @@ use Rattle.std.proofs.lemmas.List.{length-map, length-replicate}
 use Rattle.std.proofs.lemmas.Option.{slice_get_within}
 use Rattle.rtl_flat.specs.declared.design.Design.{Design}
 use Rattle.rtl_rule.specs.declared.finding.Finding.{Finding}
-use Rattle.rtl_rule.specs.Parts.{parts}
+use Rattle.rtl_flat.specs.Flats.{flat}
 use Rattle.demo_replay.specs.declared.compare.Difference.{Difference}
 use Rattle.demo_told.specs.declared.demo.Demo.{Demo}
 use Rattle.demo_told.specs.declared.demo.Shown.{Shown as Values}
@@ -38,7 +38,7 @@ mapped (x ∷ found) (suc k) one is = mapped found k one is
 -- ---- one trial
 
 -- what a trial shows by its course
-pub shows : (kept : Kept) (clocked skipped : List Bool) (finding : Finding) → ((s : ℕ) → compared kept clocked finding s ≡ true → is_marked skipped s ≡ false) → (trial : ℕ) (steps : List (Vec Difference Global)) → IsCourseOf kept.design.now kept skipped trial steps → Shows (parts kept.design.now) (plain kept) (compared kept clocked finding) trial (first_in (compared kept clocked finding) 1 steps)
+pub shows : (kept : Kept) (clocked skipped : List Bool) (finding : Finding) → ((s : ℕ) → compared kept clocked finding s ≡ true → is_marked skipped s ≡ false) → (trial : ℕ) (steps : List (Vec Difference Global)) → IsCourseOf kept.design.now kept skipped trial steps → Shows (flat kept.design.now) (plain kept) (compared kept clocked finding) trial (first_in (compared kept clocked finding) 1 steps)
 shows kept clocked skipped finding free trial steps course =
     record {
       moments = course.moments;
@@ -65,10 +65,10 @@ module _ (design : Design) (g : Setup) (finding : Finding) (test : ℕ → Bool)
   shown_stays one before = (omega (arith, before.0), before.1, before.2, before.3)
 
   -- a trial that is run for it
-  pub shown_run : (found : Option Place) → is_trial_of finding.rule n ≡ true → IsShownBelow design g finding test n None → Shows (parts design) g test n found → IsShownBelow design g finding test (n + 1) (told_of n found)
+  pub shown_run : (found : Option Place) → is_trial_of finding.rule n ≡ true → IsShownBelow design g finding test n None → Shows (flat design) g test n found → IsShownBelow design g finding test (n + 1) (told_of n found)
   shown_run None runs before showing = λ lower below is.
       elim (cases_eq lower n) [
-        | inl here ↦ subst (λ m. Shows (parts design) g test m None) (sym here) showing
+        | inl here ↦ subst (λ m. Shows (flat design) g test m None) (sym here) showing
         | inr other ↦ before lower (omega (arith, below, other)) is
       ]
   shown_run (Some place) runs before showing = (omega arith, runs, showing, before)
@@ -82,7 +82,7 @@ trial_inside finding trial is = by (is_unwoken finding.rule) is
     by true e = grind arith
     by false e = grind arith
 
-pub first_of_all : (design : Design) (g : Setup) (finding : Finding) (test : ℕ → Bool) (one : Option Told) → IsSetup (parts design) g → AreCompared (parts design) finding test → IsShownBelow design g finding test 33 one → IsFirst (parts design) finding one
+pub first_of_all : (design : Design) (g : Setup) (finding : Finding) (test : ℕ → Bool) (one : Option Told) → IsSetup (flat design) g → AreCompared (flat design) finding test → IsShownBelow design g finding test 33 one → IsFirst (flat design) finding one
 first_of_all design g finding test None is are below =
     Nothing g test is are (λ trial of_rule. below trial (trial_inside finding trial of_rule) of_rule)
 first_of_all design g finding test (Some one) is are below =
@@ -193,27 +193,27 @@ unwanted kept clocked findings n found none are =
     }
 
 -- after the last trial
-pub all_first : (kept : Kept) (clocked : List Bool) (findings : List Finding) (found : List (Option (Demo × Values))) → IsOf kept.design.now kept → AreClocked (parts kept.design.now) clocked → AreShownBelow kept.design.now kept clocked findings 33 found → AreFirsts (parts kept.design.now) findings (map told found)
+pub all_first : (kept : Kept) (clocked : List Bool) (findings : List Finding) (found : List (Option (Demo × Values))) → IsOf kept.design.now kept → AreClocked (flat kept.design.now) clocked → AreShownBelow kept.design.now kept clocked findings 33 found → AreFirsts (flat kept.design.now) findings (map told found)
 all_first kept clocked findings found is marks are =
     record {
       count = length-map found told ∙ are.count;
       each = λ k finding one there here.
           let (shown, at, same) = mapped found k one here in
-          subst (IsFirst (parts kept.design.now) finding) same
+          subst (IsFirst (flat kept.design.now) finding) same
           (first_of_all kept.design.now (plain kept) finding (compared kept clocked finding) (told shown) (setup_of kept is) (are_compared kept is clocked marks finding) (are.each k finding shown there at));
     }
 
 -- where the design has no netlist
-pub none_first : (design : Design) (findings : List Finding) → LacksNetlist (parts design) → AreFirsts (parts design) findings (map told (replicate (length findings) None))
+pub none_first : (design : Design) (findings : List Finding) → LacksNetlist (flat design) → AreFirsts (flat design) findings (map told (replicate (length findings) None))
 none_first design findings lacks =
     record {
       count = length-map (replicate (length findings) None) told ∙ length-replicate (length findings) None;
       each = λ k finding one there here.
           let (shown, at, same) = mapped (replicate (length findings) None) k one here in
-          subst (IsFirst (parts design) finding) (ap told (sym (nothing_at (length findings) k shown at)) ∙ same) (NoNetlist lacks);
+          subst (IsFirst (flat design) finding) (ap told (sym (nothing_at (length findings) k shown at)) ∙ same) (NoNetlist lacks);
     }
 
 -- nothing is shown for no finding
-pub no_firsts : (design : Design) (findings : List Finding) → length findings ≡ 0 → AreFirsts (parts design) findings []
+pub no_firsts : (design : Design) (findings : List Finding) → length findings ≡ 0 → AreFirsts (flat design) findings []
 no_firsts design [] none = record { count = refl; each = λ k finding one there shown. absurd (cc) }
 no_firsts design (finding ∷ findings) none = absurd (omega (arith, none))

@@ -14,7 +14,7 @@ use Rattle.rtl_flat.specs.declared.signal.Kind.TheVariants.{Var}
 use Rattle.rtl_flat.specs.declared.signal.Signal.{Signal}
 use Rattle.rtl_flat.specs.Signs.{Has, width_in}
 use Rattle.rtl_flat.specs.Value.{store}
-use Rattle.event_model.specs.Queue.{Flat, flat, widths}
+use Rattle.rtl_flat.specs.Flats.{Flat, flat, widths}
 use Rattle.event_model.specs.Writes.{Values}
 use Rattle.event_queue.specs.event_write.Stored.{AreStored}
 use Rattle.net_model.specs.Numbers.{AreNumbers}
@@ -24,9 +24,8 @@ use Rattle.netlist_eval.specs.net_start.Stored.{AreStored as AreKept, AreInputs,
 use Rattle.event_queue.specs.rtl_scan.Arrows.{Among}
 use Rattle.event_model.proofs.Active.{signal_there}
 use Rattle.demo_trials.specs.Trials.{start_of}
-use Rattle.rtl_rule.specs.Parts.{Parts}
 use Rattle.demo_trials.proofs.Known.{known_bits, known_copies}
-use Rattle.demo_replay.specs.Setups.{first_value, flat_of, path_in, path_of}
+use Rattle.demo_replay.specs.Setups.{first_value, path_in, path_of}
 use Rattle.demo_replay.specs.Runs.{AreTaken}
 use Rattle.demo_replay.specs.Tables.{MarkTemporaries, is_marked}
 use Rattle.demo_replay.proofs.Marking.{marked}
@@ -143,7 +142,7 @@ module _ (design : Design) (temporaries : List Bool) (marks : MarkTemporaries de
 -- ---- values that trials begin with
 
 -- none has an unknown bit
-pub first_known : (d : Parts) (trial i : ℕ) → has_unknown (first_value d trial i) ≡ false
+pub first_known : (d : Flat) (trial i : ℕ) → has_unknown (first_value d trial i) ≡ false
 first_known d trial i = by (nat_lt trial 8) (nat_lt trial 32) (trial % 2 == 0) _ _
   where
     by : (b c e : Bool) (w n : ℕ) → has_unknown (unwrap_or (if b then Some (replicate w (if e then Zero else One)) else if c then Some (bits_of w n) else None) (replicate w Zero)) ≡ false
@@ -152,7 +151,7 @@ first_known d trial i = by (nat_lt trial 8) (nat_lt trial 32) (trial % 2 == 0) _
     by false true e w n = known_bits w n
     by false false e w n = known_copies w Zero refl
 
-firsts_known : (d : Parts) (trial : ℕ) (signals : List ℕ) → AreKnown (map (first_value d trial) signals)
+firsts_known : (d : Flat) (trial : ℕ) (signals : List ℕ) → AreKnown (map (first_value d trial) signals)
 firsts_known d trial [] j below = absurd (omega (arith, below))
 firsts_known d trial (i ∷ signals) zero below = first_known d trial i
 firsts_known d trial (i ∷ signals) (suc j) below =
@@ -165,7 +164,7 @@ both_known (x ∷ xs) ys left right (suc j) below =
     both_known xs ys (λ i inside. left (suc i) (omega (arith, inside))) right j (omega (arith, below))
 
 -- so a netlist may begin with them
-pub none_first_unknown : (d : Parts) (trial : ℕ) (xs ys : List ℕ) (registers inputs : List (List Bit)) (place : ℕ) → registers ≡ map (first_value d trial) xs → inputs ≡ map (first_value d trial) ys → IsFirstUnknown (registers ++ inputs) place → ⊥
+pub none_first_unknown : (d : Flat) (trial : ℕ) (xs ys : List ℕ) (registers inputs : List (List Bit)) (place : ℕ) → registers ≡ map (first_value d trial) xs → inputs ≡ map (first_value d trial) ys → IsFirstUnknown (registers ++ inputs) place → ⊥
 none_first_unknown d trial xs ys registers inputs place are given unknown =
     let left = subst AreKnown (sym are) (firsts_known d trial xs) in
     let right = subst AreKnown (sym given) (firsts_known d trial ys) in
@@ -174,20 +173,20 @@ none_first_unknown d trial xs ys registers inputs place are given unknown =
 -- ---- signals as they are there
 
 -- the value with which a trial begins at the signal with a number
-module _ (d : Parts) (trial i : ℕ) (signal : Signal) (there : slice_get d.signals i ≡ Some signal) (path : List ℕ) (path_is : path ≡ signal.path) where
-  start_is : start_of trial path signal.width ≡ start_of trial (path_of d i) (widths (flat_of d) i)
+module _ (d : Flat) (trial i : ℕ) (signal : Signal) (there : slice_get d.signals i ≡ Some signal) (path : List ℕ) (path_is : path ≡ signal.path) where
+  start_is : start_of trial path signal.width ≡ start_of trial (path_of d i) (widths d i)
   start_is =
       ap (λ (p : List ℕ). start_of trial p signal.width) (path_is ∙ ap path_in (sym there))
       ∙ ap (λ w. start_of trial (path_of d i) w) (width_at d.signals i signal there)
 
   pub given_is : (value : List Bit) → Some value ≡ start_of trial path signal.width → value ≡ first_value d trial i
   given_is value is =
-      ap (λ (o : Option (List Bit)). unwrap_or o (replicate (widths (flat_of d) i) Zero)) (is ∙ start_is)
+      ap (λ (o : Option (List Bit)). unwrap_or o (replicate (widths d i) Zero)) (is ∙ start_is)
 
   pub filled_is : (value : List Bit) → None ≡ start_of trial path signal.width → value ≡ replicate signal.width Zero → value ≡ first_value d trial i
   filled_is value none filled =
       filled ∙ ap (λ w. replicate w Zero) (width_at d.signals i signal there)
-      ∙ ap (λ (o : Option (List Bit)). unwrap_or o (replicate (widths (flat_of d) i) Zero)) (none ∙ start_is)
+      ∙ ap (λ (o : Option (List Bit)). unwrap_or o (replicate (widths d i) Zero)) (none ∙ start_is)
 
 -- ---- signals that are kept are there
 

@@ -6,7 +6,8 @@ use Rattle.std.specs.List.{slice_get}
 use Rattle.rtl_bits.specs.declared.Bit.{Bit}
 use Rattle.rtl_flat.specs.declared.expr.SigId.{SigId}
 use Rattle.rtl_rule.specs.declared.finding.Finding.{Finding}
-use Rattle.rtl_rule.specs.Parts.{Parts, first_below}
+use Rattle.rtl_rule.specs.Parts.{first_below}
+use Rattle.rtl_flat.specs.Flats.{Flat}
 use Rattle.demo_told.specs.Same.{are_same}
 use Rattle.demo_told.specs.declared.demo.Demo.{Demo}
 use Rattle.demo_told.specs.declared.demo.Shown.{Shown as Values}
@@ -49,7 +50,7 @@ first_place count compared step (m ∷ others) =
     place_or step m (first_signal count compared m) (first_place count compared (suc step) others)
 
 -- a trial shows a first place, or none
-pub record Shows (d : Parts) (setup : Setup) (compared : ℕ → Bool) (trial : ℕ) (found : Option Place) : Type 0 where
+pub record Shows (d : Flat) (setup : Setup) (compared : ℕ → Bool) (trial : ℕ) (found : Option Place) : Type 0 where
   pub moments : List Moment
   pub course : IsCourse d setup trial moments
   pub first : first_place (length d.signals) compared 1 moments ≡ found
@@ -78,7 +79,7 @@ told (Some (demo, shown)) =
 -- what is shown for a finding: nothing where the design has no netlist, as no trial is run then;
 -- nothing where no trial of the finding's rule shows a difference, or none can show one; or the
 -- first place in the first such trial that does
-pub data IsFirst (d : Parts) (finding : Finding) : Option Told → Type 0 where
+pub data IsFirst (d : Flat) (finding : Finding) : Option Told → Type 0 where
   NoNetlist : LacksNetlist d → IsFirst d finding None
   Nothing :
       (setup : Setup) (compared : ℕ → Bool) →
@@ -100,7 +101,7 @@ pub data IsFirst (d : Parts) (finding : Finding) : Option Told → Type 0 where
       IsFirst d finding (Some (record { trial = trial; place = place }))
 
 -- what is shown for each of some findings
-pub record AreFirsts (d : Parts) (findings : List Finding) (found : List (Option Told)) : Type 0 where
+pub record AreFirsts (d : Flat) (findings : List Finding) (found : List (Option Told)) : Type 0 where
   pub count : length found ≡ length findings
   pub each :
       (k : ℕ) (finding : Finding) (one : Option Told) →

@@ -4,9 +4,9 @@ use Rattle.std.specs.Prelude.{◌≡◌, ◌<◌, ◌≤◌, ◌+◌, ◌-◌, �
 use Rattle.rtl_tree.specs.declared.memory.Memory.{Memory}
 use Rattle.rtl_flat.specs.declared.design.Design.{Design}
 use Rattle.rtl_flat.specs.Levels.{IsLevel}
-use Rattle.rtl_rule.specs.Parts.{parts}
+use Rattle.rtl_flat.specs.Flats.{flat, Flat, widths}
 use Rattle.event_model.specs.declared.setting.Setting.{Setting}
-use Rattle.event_model.specs.Queue.{Flat, flat, is_input, widths}
+use Rattle.event_model.specs.Queue.{is_input}
 use Rattle.event_model.specs.Writes.{Values}
 use Rattle.event_queue.specs.declared.sim.EventSim.{EventSim}
 use Rattle.event_queue.specs.Sims.{flat_of, is_stuck, level_of, state_of}
@@ -60,7 +60,7 @@ pub record IsAfterSteps (kept : Kept) (trial : ℕ) (sim : EventSim) (net : NetS
   pub numbers : AreNumbers (flat kept.design.now) (shown net)
   pub count : length moments ≡ taken
   pub after :
-      IsAfter (parts kept.design.now) (plain kept) (level_of sim) trial moments (state_of sim)
+      IsAfter (flat kept.design.now) (plain kept) (level_of sim) trial moments (state_of sim)
       (shown net)
 
 -- a trial under way that took the steps after which these were there
@@ -73,7 +73,7 @@ abbrev pub Goes : Run → Run → Result Progress Memory → List Moment → Typ
 Goes before now (Ok Rested) moments =
     IsAt now (moments ++ moment_of now.sim now.net ∷ []) × (length moments < count_of before)
 Goes before now (Ok Unsettled) moments =
-    IsStuck (parts (design_of before)) (plain before.setup.now) (trial_of before) moments
+    IsStuck (flat (design_of before)) (plain before.setup.now) (trial_of before) moments
 Goes before now (Ok Ended) moments = length moments ≡ count_of before
 Goes before now (Err fault) moments = ⊤
 
@@ -86,7 +86,7 @@ pub record IsFirstNet (kept : Kept) (trial : ℕ) (net : NetSim) : Type 0 where
   pub netlist : IsNetlistOf kept.design.now (fill_of trial) (netlist_of net)
   pub no_cycle : HasNoCycle (flat kept.design.now)
   pub numbers : AreNumbers (flat kept.design.now) (shown net)
-  pub first : AreFirst (parts kept.design.now) (plain kept) trial (shown net)
+  pub first : AreFirst (flat kept.design.now) (plain kept) trial (shown net)
 
 -- whether a signal is an input of a width
 abbrev pub fits : Flat → ℕ → ℕ → Bool
@@ -100,7 +100,7 @@ TurnsLawfully d n settings = (step : Step) → IsStepOf d settings step → IsLa
 abbrev pub IsStepFault : Run → ℕ → ReplayFault → Type 0
 IsStepFault run last (fault.Unsettled step) =
     (moments : List Moment)
-    × IsStuck (parts (design_of run)) (plain run.setup.now) (trial_of run) moments
+    × IsStuck (flat (design_of run)) (plain run.setup.now) (trial_of run) moments
     × (length moments + 1 ≡ step)
     × (step ≤ last)
 IsStepFault run last fault.Memory = Unit {0}

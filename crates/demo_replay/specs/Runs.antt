@@ -6,10 +6,10 @@ use Rattle.std.specs.Prelude.{◌≡◌, ◌==◌, ◌<◌, ◌+◌, ℕ, Bool, 
 use Rattle.rtl_bits.specs.declared.Bit.TheVariants.{X}
 use Rattle.rtl_flat.specs.Levels.{IsLevel}
 use Rattle.rtl_flat.specs.PathSets.{IsTemporary}
-use Rattle.rtl_rule.specs.Parts.{Parts}
+use Rattle.rtl_flat.specs.Flats.{Flat, widths}
 use Rattle.event_model.specs.declared.setting.Setting.{Setting}
 use Rattle.event_model.specs.Policies.{IsDone, IsTooDear, PolicyRun, budget}
-use Rattle.event_model.specs.Queue.{Flat, State, offer, power_up, settled_at, widths}
+use Rattle.event_model.specs.Queue.{State, offer, power_up, settled_at}
 use Rattle.event_model.specs.Writes.{Values}
 use Rattle.event_queue.specs.Offers.{set_of}
 use Rattle.net_model.specs.Cycle.{Chain, IsCycle}
@@ -20,7 +20,7 @@ use Rattle.netlist_eval.specs.declared.step.Step.{Step}
 use Rattle.netlist_eval.specs.Steps.{IsBegun, IsStepOf, step_view}
 use Rattle.demo_trials.specs.Steps.{Input, step_of}
 use Rattle.demo_trials.specs.Trials.{fill_of, policy_of, step_count}
-use Rattle.demo_replay.specs.Setups.{Setup, HasNetlist, first_value, flat_of, path_of}
+use Rattle.demo_replay.specs.Setups.{Setup, HasNetlist, first_value, path_of}
 
 -- what is there after a step
 pub record Moment : Type 0 where
@@ -30,9 +30,9 @@ pub record Moment : Type 0 where
 -- ---- where a trial begins
 
 -- the numbers of the netlist
-abbrev pub AreFirst : Parts → Setup → ℕ → Values → Type 0
+abbrev pub AreFirst : Flat → Setup → ℕ → Values → Type 0
 AreFirst d setup trial n =
-    IsBegun (flat_of d) (chains_of d) (fill_of trial)
+    IsBegun d (chains_of d) (fill_of trial)
     (map (first_value d trial) setup.stored) (map (first_value d trial) setup.tops) n
 
 -- values that are numbers, but for temporaries, which are x
@@ -48,7 +48,7 @@ IsFirstState d false n s = (v : Values) × AreTaken d n v × (s ≡ settled_at d
 -- ---- a step
 
 -- a top input as the steps of trials see it
-abbrev pub input_of : Parts → Setup → Values → ℕ → Input
+abbrev pub input_of : Flat → Setup → Values → ℕ → Input
 input_of d setup n i =
     record {
       signal = record { 0 = i };
@@ -58,7 +58,7 @@ input_of d setup n i =
     }
 
 -- what a step sets, where inputs have some numbers before it
-abbrev pub settings_of : Parts → Setup → ℕ → ℕ → Values → List Setting
+abbrev pub settings_of : Flat → Setup → ℕ → ℕ → Values → List Setting
 settings_of d setup trial step n =
     step_of trial step (map (input_of d setup n) setup.tops)
 
@@ -86,30 +86,30 @@ pub record Cycles (d : Flat) (chains : ℕ → Chain) (f : Fill) (settings : Lis
   pub cycle : IsCycle d chains f old (step_view step) new
 
 -- the numbers after a step: where the trial begins at power-up, those with which the netlist began
-abbrev pub GoOn : Parts → Bool → ℕ → List Setting → Values → Values → Type 0
+abbrev pub GoOn : Flat → Bool → ℕ → List Setting → Values → Values → Type 0
 GoOn d true trial settings old new = new ≡ old
 GoOn d false trial settings old new =
-    Cycles (flat_of d) (chains_of d) (fill_of trial) settings old new
+    Cycles d (chains_of d) (fill_of trial) settings old new
 
 -- ---- a trial
 
 -- what is there after each of some steps, and the state and the numbers after the last
-pub data IsAfter (d : Parts) (setup : Setup) (level : ℕ → Option ℕ) (trial : ℕ) : List Moment → State → Values → Type 0 where
+pub data IsAfter (d : Flat) (setup : Setup) (level : ℕ → Option ℕ) (trial : ℕ) : List Moment → State → Values → Type 0 where
   Begun :
       (s : State) (n : Values) →
-      AreFirst d setup trial n → IsFirstState (flat_of d) (trial == 32) n s →
+      AreFirst d setup trial n → IsFirstState d (trial == 32) n s →
       IsAfter d setup level trial [] s n
   Stepped :
       (moments : List Moment) (s t : State) (n m : Values) →
       IsAfter d setup level trial moments s n →
       length moments < step_count trial (length setup.tops) →
-      Rests (flat_of d) level trial (settings_of d setup trial (length moments + 1) n) s t →
+      Rests d level trial (settings_of d setup trial (length moments + 1) n) s t →
       GoOn d (trial == 32) trial (settings_of d setup trial (length moments + 1) n) n m →
       IsAfter d setup level trial
       (moments ++ record { simulated = t.value; synthesised = m } ∷ []) t m
 
 -- the same, in a design that has a netlist, by levels that are those of the design's processes
-pub record Reaches (d : Parts) (setup : Setup) (trial : ℕ) (moments : List Moment) (s : State) (n : Values) : Type 0 where
+pub record Reaches (d : Flat) (setup : Setup) (trial : ℕ) (moments : List Moment) (s : State) (n : Values) : Type 0 where
   pub netlist : HasNetlist d
   pub level : ℕ → Option ℕ
   pub levels :
@@ -118,7 +118,7 @@ pub record Reaches (d : Parts) (setup : Setup) (trial : ℕ) (moments : List Mom
   pub after : IsAfter d setup level trial moments s n
 
 -- the step behind some doesn't settle
-pub record IsStuck (d : Parts) (setup : Setup) (trial : ℕ) (moments : List Moment) : Type 0 where
+pub record IsStuck (d : Flat) (setup : Setup) (trial : ℕ) (moments : List Moment) : Type 0 where
   pub netlist : HasNetlist d
   pub level : ℕ → Option ℕ
   pub levels :
@@ -129,12 +129,12 @@ pub record IsStuck (d : Parts) (setup : Setup) (trial : ℕ) (moments : List Mom
   pub after : IsAfter d setup level trial moments state numbers
   pub more : length moments < step_count trial (length setup.tops)
   pub stops :
-      Stops (flat_of d) level trial (settings_of d setup trial (length moments + 1) numbers)
+      Stops d level trial (settings_of d setup trial (length moments + 1) numbers)
       state
 
 -- all that a trial shows: after each of its steps, or after those before the first that doesn't
 -- settle
-pub data IsCourse (d : Parts) (setup : Setup) (trial : ℕ) (moments : List Moment) : Type 0 where
+pub data IsCourse (d : Flat) (setup : Setup) (trial : ℕ) (moments : List Moment) : Type 0 where
   Ended :
       (s : State) (n : Values) → Reaches d setup trial moments s n →
       length moments ≡ step_count trial (length setup.tops) → IsCourse d setup trial moments

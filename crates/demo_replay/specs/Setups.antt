@@ -5,32 +5,27 @@ use Rattle.std.specs.List.{slice_get}
 use Rattle.rtl_bits.specs.declared.Bit.{Bit}
 use Rattle.rtl_bits.specs.declared.Bit.TheVariants.{Zero}
 use Rattle.rtl_flat.specs.declared.signal.Signal.{Signal}
-use Rattle.event_model.specs.Queue.{Flat, widths}
+use Rattle.rtl_flat.specs.Flats.{Flat, widths}
 use Rattle.net_model.specs.Control.{IsControl}
 use Rattle.infer_latches.specs.net_list.Faults.{AreAlone, AreFormed, IsContended, IsShapeless}
 use Rattle.netlist_eval.specs.net_order.Order.{IsCyclic}
 use Rattle.netlist_eval.specs.Steps.{HasNoCycle}
 use Rattle.netlist_eval.specs.net_start.Stored.{AreInputs, AreStored}
-use Rattle.rtl_rule.specs.Parts.{Parts}
 use Rattle.demo_trials.specs.Trials.{start_of}
-
--- a design as the event queue runs it
-abbrev pub flat_of : Parts → Flat
-flat_of d = record { signals = d.signals; tasks = d.tasks }
 
 -- ---- netlists
 
 -- registers and blocks are inferred, and no block is on or behind a cycle
-pub record HasNetlist (d : Parts) : Type 0 where
+pub record HasNetlist (d : Flat) : Type 0 where
   pub formed : AreFormed d
   pub alone : AreAlone d
-  pub no_cycle : HasNoCycle (flat_of d)
+  pub no_cycle : HasNoCycle d
 
 -- a process has no form that synthesis takes, or a signal is on or behind a cycle of blocks
-pub data LacksNetlist (d : Parts) : Type 0 where
+pub data LacksNetlist (d : Flat) : Type 0 where
   Shapeless : (process : ℕ) → IsShapeless d process → LacksNetlist d
   Contended : (process : ℕ) → IsContended d process → LacksNetlist d
-  Cyclic : (signal : ℕ) → IsCyclic (flat_of d) signal → LacksNetlist d
+  Cyclic : (signal : ℕ) → IsCyclic d signal → LacksNetlist d
 
 -- ---- what trials begin with
 
@@ -41,22 +36,22 @@ pub record Setup : Type 0 where
   pub is_control : ℕ → Bool
 
 -- those of a design
-pub record IsSetup (d : Parts) (setup : Setup) : Type 0 where
-  pub are_stored : AreStored (flat_of d) setup.stored
-  pub are_tops : AreInputs (flat_of d) setup.tops
-  pub are_controls : (i : ℕ) → setup.is_control i ≡ true ↔ IsControl (flat_of d) i
+pub record IsSetup (d : Flat) (setup : Setup) : Type 0 where
+  pub are_stored : AreStored d setup.stored
+  pub are_tops : AreInputs d setup.tops
+  pub are_controls : (i : ℕ) → setup.is_control i ≡ true ↔ IsControl d i
 
 -- the path of a signal
 abbrev pub path_in : Option Signal → List ℕ
 path_in None = []
 path_in (Some signal) = signal.path
 
-abbrev pub path_of : Parts → ℕ → List ℕ
+abbrev pub path_of : Flat → ℕ → List ℕ
 path_of d i = path_in (slice_get d.signals i)
 
 -- what a register, a latch or an input begins with in a trial: where the trial begins at power-up,
 -- the netlist has 0
-abbrev pub first_value : Parts → ℕ → ℕ → List Bit
+abbrev pub first_value : Flat → ℕ → ℕ → List Bit
 first_value d trial i =
-    unwrap_or (start_of trial (path_of d i) (widths (flat_of d) i))
-    (replicate (widths (flat_of d) i) Zero)
+    unwrap_or (start_of trial (path_of d i) (widths d i))
+    (replicate (widths d i) Zero)

@@ -9,7 +9,7 @@ use Rattle.rtl_flat.specs.declared.signal.Signal.{Signal}
 use Rattle.rtl_flat.specs.PathSets.{IsTemporary}
 use Rattle.rtl_flat.specs.Levels.{IsLevel}
 use Rattle.rtl_flat.specs.Process.{Task, task}
-use Rattle.event_model.specs.Queue.{flat}
+use Rattle.rtl_flat.specs.Flats.{flat, Flat, widths}
 use Rattle.net_model.specs.declared.fill.Fill.{Fill}
 use Rattle.net_model.specs.declared.fill.Fill.TheVariants as fill
 use Rattle.infer_latches.specs.net_list.declared.netlist.Netlist.{Netlist}
@@ -17,7 +17,7 @@ use Rattle.infer_latches.specs.net_list.Faults.{AreAlone, AreFormed}
 use Rattle.netlist_eval.specs.net_start.Stored.{places}
 use Rattle.netlist_eval.specs.Basis.{IsBasisOf}
 use Rattle.rtl_rule.specs.declared.finding.Finding.{Finding}
-use Rattle.rtl_rule.specs.Parts.{Parts, has_some, parts, widths, written}
+use Rattle.rtl_rule.specs.Parts.{has_some, written}
 use Rattle.infer_latches.specs.check_assign.Assigned.{is_clocked}
 use Rattle.demo_replay.specs.declared.compare.Difference.{Difference}
 use Rattle.demo_told.specs.declared.demo.Demo.{Demo}
@@ -49,8 +49,8 @@ pub record MarkTemporaries (design : Design) (marks : List Bool) : Type 0 where
 -- what is kept is that of the design
 pub record IsOf (design : Design) (kept : Kept) : Type 0 where
   pub design_is : kept.design.now ≡ design
-  pub formed : AreFormed (parts design)
-  pub alone : AreAlone (parts design)
+  pub formed : AreFormed (flat design)
+  pub alone : AreAlone (flat design)
   pub zero_is : IsNetlistOf design fill.Zero kept.zero
   pub one_is : IsNetlistOf design fill.One kept.one
   pub basis : IsBasisOf (flat design) kept.basis
@@ -114,7 +114,7 @@ place_of step one =
 -- ---- signals that are compared
 
 -- a process below a number that waits for edges may write a signal
-pub record WritesBelow (d : Parts) (n s : ℕ) : Type 0 where
+pub record WritesBelow (d : Flat) (n s : ℕ) : Type 0 where
   pub process : ℕ
   pub below : process < n
   pub task : Task
@@ -123,7 +123,7 @@ pub record WritesBelow (d : Parts) (n s : ℕ) : Type 0 where
   pub writes : has_some (widths d) (written d task.does) s ≡ true
 
 -- marks get what a process may write
-pub record MarksWritten (d : Parts) (p : ℕ) (old new : List Bool) : Type 0 where
+pub record MarksWritten (d : Flat) (p : ℕ) (old new : List Bool) : Type 0 where
   pub count : length new ≡ length old
   pub each :
       (task : Task) → slice_get d.tasks p ≡ Some task → (s : ℕ) →
@@ -131,12 +131,12 @@ pub record MarksWritten (d : Parts) (p : ℕ) (old new : List Bool) : Type 0 whe
       ↔ ((is_marked old s ≡ true) ⊎ (has_some (widths d) (written d task.does) s ≡ true))
 
 -- marks are at what processes below a number that wait for edges may write
-pub record AreClockedBelow (d : Parts) (n : ℕ) (marks : List Bool) : Type 0 where
+pub record AreClockedBelow (d : Flat) (n : ℕ) (marks : List Bool) : Type 0 where
   pub count : length marks ≡ length d.signals
   pub each : (s : ℕ) → is_marked marks s ≡ true ↔ WritesBelow d n s
 
 -- marks are at what processes that wait for edges may write
-abbrev pub AreClocked : Parts → List Bool → Type 0
+abbrev pub AreClocked : Flat → List Bool → Type 0
 AreClocked d marks = AreClockedBelow d (length d.tasks) marks
 
 -- whether a signal is that of a finding
@@ -184,7 +184,7 @@ AreSkipped kept clocked findings skipped =
 -- the signals that differ after each step of a trial, but for those that are marked
 pub record IsCourseOf (design : Design) (kept : Kept) (skipped : List Bool) (trial : ℕ) (steps : List (Vec Difference Global)) : Type 0 where
   pub moments : List Moment
-  pub course : IsCourse (parts design) (plain kept) trial moments
+  pub course : IsCourse (flat design) (plain kept) trial moments
   pub are : AreDifferences (length design.signals.items) skipped moments steps
   pub few : length steps ≤ 16
 
@@ -209,13 +209,13 @@ told_of trial (Some place) = Some (record { trial = trial; place = place })
 abbrev pub IsShownBelow : Design → Setup → Finding → (ℕ → Bool) → ℕ → Option Told → Type 0
 IsShownBelow design g finding test n None =
     (lower : ℕ) → lower < n → is_trial_of finding.rule lower ≡ true →
-    Shows (parts design) g test lower None
+    Shows (flat design) g test lower None
 IsShownBelow design g finding test n (Some one) =
     (one.trial < n)
     × (is_trial_of finding.rule one.trial ≡ true)
-    × Shows (parts design) g test one.trial (Some one.place)
+    × Shows (flat design) g test one.trial (Some one.place)
     × ((lower : ℕ) → lower < one.trial → is_trial_of finding.rule lower ≡ true →
-    Shows (parts design) g test lower None)
+    Shows (flat design) g test lower None)
 
 -- what they show for each of some findings
 pub record AreShownBelow (design : Design) (kept : Kept) (clocked : List Bool) (findings : List Finding) (n : ℕ) (found : List (Option (Demo × Values))) : Type 0 where

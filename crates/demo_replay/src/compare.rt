@@ -1,7 +1,7 @@
 // Signals that differ, and which of them count for a finding.
 
 ghost use Rattle.std.specs.Prelude.{ℕ, ◌≡◌, ◌↔◌, ◌<◌, true, length, IfOk, OnOk};
-ghost use Rattle.rtl_rule.specs.Parts.{parts};
+ghost use Rattle.rtl_flat.specs.Flats.{flat};
 ghost use Rattle.demo_replay.specs.Compared.{is_unwoken};
 ghost use Rattle.demo_replay.specs.Tables.{AreClocked, AreClockedBelow, MarksWritten, compared, first_among, is_compared_for_some, is_marked, is_own, is_watched, skips};
 
@@ -30,7 +30,7 @@ pub(crate) struct Difference {
 fn mark_written(alloc: Global, design: &Design, p: ProcId, marks: &mut [bool]) -> Result<(), Memory>
     requires there { p.0 < length design.now.processes.items }
     requires count { length marks.old ≡ length design.now.signals.items }
-    ensures { OnOk result (MarksWritten (parts design.now) p.0 marks.old marks.new) }
+    ensures { OnOk result (MarksWritten (flat design.now) p.0 marks.old marks.new) }
 {
     let bits = written(alloc, design, p)?;
     let signals: Vec<u32> = bits.rows.iter().map(|row| row.signal.0).collect(alloc)?;
@@ -40,7 +40,7 @@ fn mark_written(alloc: Global, design: &Design, p: ProcId, marks: &mut [bool]) -
 
 /// Of each signal whether a process that waits for edges may write it.
 pub(crate) fn clocked_signals(alloc: Global, design: &Design) -> Result<Vec<bool>, Memory>
-    ensures { IfOk result (λ marks. AreClocked (parts design.now) marks.items) }
+    ensures { IfOk result (λ marks. AreClocked (flat design.now) marks.items) }
 {
     let mut marks = vec![in alloc; false; design.signals.len()]?;
     for number in 0..design.processes.len() {

@@ -2,7 +2,7 @@
 
 ghost use Rattle.std.specs.Prelude.{◌≡◌, ◌+◌, ◌≤◌, None, length, map, replicate, IfOk, OnOk};
 ghost use Rattle.std.specs.Bool.{OnFalse};
-ghost use Rattle.rtl_rule.specs.Parts.{parts};
+ghost use Rattle.rtl_flat.specs.Flats.{flat};
 ghost use Rattle.demo_replay.specs.Compared.{is_trial_of};
 ghost use Rattle.demo_replay.specs.Firsts.{AreFirsts, IsFirst, told};
 ghost use Rattle.demo_replay.specs.Tables.{AreShownBelow, AreSkipped, IsCourseOf, IsOf, IsUnwanted, compared, first_in, told_of};
@@ -129,7 +129,7 @@ fn attach_some(
     findings: &[Finding],
 ) -> Result<Vec<Option<(Demo, Shown)>>, Memory>
     ensures { IfOk result (λ found.
-        AreFirsts (parts design.now) findings.now (map told found.items)) }
+        AreFirsts (flat design.now) findings.now (map told found.items)) }
 {
     let Some(setup) = Setup::of(alloc, design)? else {
         return nothing(alloc, findings.len());
@@ -157,7 +157,7 @@ pub fn attach_all(
     findings: &[Finding],
 ) -> Result<Vec<Option<(Demo, Shown)>>, Memory>
     ensures { IfOk result (λ found.
-        AreFirsts (parts design.now) findings.now (map told found.items)) }
+        AreFirsts (flat design.now) findings.now (map told found.items)) }
 {
     if findings.is_empty() {
         return Ok(Vec::new(alloc));
@@ -173,7 +173,7 @@ pub fn attach(
     design: &Design,
     finding: &Finding,
 ) -> Result<Option<(Demo, Shown)>, Memory>
-    ensures { IfOk result (λ found. IsFirst (parts design.now) finding.now (told found)) }
+    ensures { IfOk result (λ found. IsFirst (flat design.now) finding.now (told found)) }
 {
     let found = attach_all(alloc, design, &[*finding])?;
     Ok(found[0])

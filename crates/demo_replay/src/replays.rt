@@ -1,9 +1,8 @@
 // A demonstration that is run again.
 
 ghost use Rattle.std.specs.Prelude.{◌≡◌, ◌<◌, ◌≤◌, ◌⊎◌, [], List, length, IfErr, IfOk, MatchBool, OnOk};
-ghost use Rattle.event_model.specs.Queue.{flat};
+ghost use Rattle.rtl_flat.specs.Flats.{flat};
 ghost use Rattle.net_model.specs.Solution.{IsLasting};
-ghost use Rattle.rtl_rule.specs.Parts.{parts};
 ghost use Rattle.rtl_flat.specs.PathSets.{IsTemporary};
 ghost use Rattle.demo_replay.specs.Progress.{IsAt, IsStepFault, count_of, trial_of};
 ghost use Rattle.demo_replay.specs.Replays.{IsLegal, IsReplayFault, IsReplayed};
@@ -24,9 +23,9 @@ use std::alloc::Global;
 
 /// The trial of a demonstration that names a step of it, and a signal of the design.
 fn legal_trial(alloc: Global, design: &Design, demo: &Demo) -> Result<Trial, ReplayFault>
-    ensures legal { IfOk result (λ trial. IsLegal (parts design.now) demo.now) }
+    ensures legal { IfOk result (λ trial. IsLegal (flat design.now) demo.now) }
     ensures trial { IfOk result (λ trial. trial.number ≡ demo.now.trial) }
-    ensures fault { IfErr result (IsReplayFault (parts design.now) demo.now) }
+    ensures fault { IfErr result (IsReplayFault (flat design.now) demo.now) }
 {
     let Some(trial) = Trial::new(demo.trial) else {
         return Err(ReplayFault::Illegal(Part::Trial));
@@ -81,10 +80,10 @@ fn shown_by(
     demo: &Demo,
 ) -> Result<Shown, ReplayFault>
     requires is_of { IsOf setup.now.design.now setup.now }
-    requires legal { IsLegal (parts setup.now.design.now) demo.now }
+    requires legal { IsLegal (flat setup.now.design.now) demo.now }
     requires trial { trial.number ≡ demo.now.trial }
-    ensures shown { IfOk result (IsReplayed (parts setup.now.design.now) demo.now) }
-    ensures fault { IfErr result (IsReplayFault (parts setup.now.design.now) demo.now) }
+    ensures shown { IfOk result (IsReplayed (flat setup.now.design.now) demo.now) }
+    ensures fault { IfErr result (IsReplayFault (flat setup.now.design.now) demo.now) }
 {
     let mut run = Run::begin(alloc, setup, trial)?;
     take_steps(alloc, &mut run, demo.step)?;
@@ -102,8 +101,8 @@ fn shown_by(
 /// design has none; with `Unsettled` of the first step that does not settle, up to that of the
 /// demonstration; with `Same` where both have one value; and where memory runs out.
 pub fn replay(alloc: Global, design: &Design, demo: &Demo) -> Result<Shown, ReplayFault>
-    ensures shown { IfOk result (IsReplayed (parts design.now) demo.now) }
-    ensures fault { IfErr result (IsReplayFault (parts design.now) demo.now) }
+    ensures shown { IfOk result (IsReplayed (flat design.now) demo.now) }
+    ensures fault { IfErr result (IsReplayFault (flat design.now) demo.now) }
 {
     let trial = legal_trial(alloc, design, demo)?;
     let Some(setup) = Setup::of(alloc, design)? else {

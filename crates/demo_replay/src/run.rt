@@ -2,7 +2,7 @@
 
 ghost use Rattle.std.specs.Prelude.{◌≡◌, ◌==◌, ◌++◌, ◌∷◌, [], cond, false, IfOk, OnOk};
 ghost use Rattle.rtl_flat.specs.declared.design.Design.{Design};
-ghost use Rattle.rtl_rule.specs.Parts.{parts};
+ghost use Rattle.rtl_flat.specs.Flats.{flat};
 ghost use Rattle.netlist_eval.specs.Sims.{flat_of, netlist_of, shown};
 ghost use Rattle.demo_trials.specs.Trials.{fill_of};
 ghost use Rattle.demo_replay.specs.Progress.{IsFirstNet, TurnsLawfully};
@@ -63,8 +63,7 @@ fn netlist_at<'d>(alloc: Global, setup: &'d Setup<'d>, trial: Trial) -> Result<N
 
 impl<'d> Run<'d> {
     ghost use Rattle.std.specs.Prelude.{◌≡◌, ◌==◌, ◌<◌, ◌+◌, List, [], false, length, Ok, IfOk};
-    ghost use Rattle.rtl_rule.specs.Parts.{parts};
-    ghost use Rattle.event_model.specs.Queue.{flat};
+    ghost use Rattle.rtl_flat.specs.Flats.{flat};
     ghost use Rattle.event_queue.specs.Offers.{AreAllowed};
     ghost use Rattle.netlist_eval.specs.Sims.{shown};
     ghost use Rattle.demo_replay.specs.Progress.{Goes, IsAt, TurnsLawfully, design_of, moment_of, steps_left, trial_of};
@@ -99,7 +98,7 @@ impl<'d> Run<'d> {
         requires at { (moments : List Moment) × IsAt self.now moments }
         requires left { self.now.taken < 16 }
         ensures exact { IfOk result (λ settings. settings.items
-            ≡ settings_of (parts (design_of self.now)) (plain self.now.setup.now)
+            ≡ settings_of (flat (design_of self.now)) (plain self.now.setup.now)
             (trial_of self.now) (self.now.taken + 1) (shown self.now.net)) }
         ensures allowed { IfOk result (λ settings.
             AreAllowed (flat (design_of self.now)) settings.items) }
@@ -194,7 +193,7 @@ fn turn(net: &mut NetSim<'_>, trial: Trial, settings: &[Setting])
     ensures netlist { netlist_of net.new ≡ netlist_of net.old }
     ensures goes { let netlist = netlist_of net.old in
         (design : Design) → IsNetlistOf design (fill_of trial.number) netlist
-        → GoOn (parts design) (trial.number == 32) trial.number settings.now
+        → GoOn (flat design) (trial.number == 32) trial.number settings.now
         (shown net.old) (shown net.new) }
 {
     if trial.number() != POWER_UP {

@@ -1,10 +1,9 @@
 // What all trials of a design begin with.
 
 ghost use Rattle.std.specs.Prelude.{◌≡◌, IfOk, IfSome, MatchOption};
-ghost use Rattle.event_model.specs.Queue.{flat};
+ghost use Rattle.rtl_flat.specs.Flats.{flat};
 ghost use Rattle.infer_latches.specs.net_list.Faults.{AreAlone, AreFormed};
 ghost use Rattle.netlist_eval.specs.Basis.{IsBasisOf};
-ghost use Rattle.rtl_rule.specs.Parts.{parts};
 ghost use Rattle.demo_replay.specs.Setups.{LacksNetlist};
 ghost use Rattle.demo_replay.specs.Tables.{IsNetlistOf, is_marked};
 
@@ -43,9 +42,9 @@ fn netlist_of<'d>(
     fill: Fill,
 ) -> Result<Option<Netlist<'d>>, Memory>
     ensures netlist { IfOk result (λ found.
-        MatchOption found (LacksNetlist (parts design.now)) (IsNetlistOf design.now fill)) }
-    ensures formed { IfOk result (λ found. IfSome found (λ _. AreFormed (parts design.now))) }
-    ensures alone { IfOk result (λ found. IfSome found (λ _. AreAlone (parts design.now))) }
+        MatchOption found (LacksNetlist (flat design.now)) (IsNetlistOf design.now fill)) }
+    ensures formed { IfOk result (λ found. IfSome found (λ _. AreFormed (flat design.now))) }
+    ensures alone { IfOk result (λ found. IfSome found (λ _. AreAlone (flat design.now))) }
 {
     let registers = match registers(alloc, design) {
         Ok(registers) => registers,
@@ -63,7 +62,7 @@ fn netlist_of<'d>(
 /// a cycle.
 fn basis_of(alloc: Global, design: &Design) -> Result<Option<Basis>, Memory>
     ensures { IfOk result (λ found.
-        MatchOption found (LacksNetlist (parts design.now)) (IsBasisOf (flat design.now))) }
+        MatchOption found (LacksNetlist (flat design.now)) (IsBasisOf (flat design.now))) }
 {
     match Basis::of(alloc, design) {
         Ok(basis) => Ok(Some(basis)),
@@ -82,7 +81,7 @@ impl<'d> Setup<'d> {
     /// That of a design, if the design has a netlist.
     pub(crate) fn of(alloc: Global, design: &'d Design) -> Result<Option<Setup<'d>>, Memory>
         ensures { IfOk result (λ found.
-            MatchOption found (LacksNetlist (parts design.now)) (IsOf design.now)) }
+            MatchOption found (LacksNetlist (flat design.now)) (IsOf design.now)) }
     {
         let temporaries = temporaries(alloc, design)?;
         let levels = levels(alloc, design)?;

@@ -4,8 +4,7 @@ ghost use Rattle.std.specs.Prelude.{◌≡◌, ◌==◌, ◌<◌, ◌≤◌, con
 ghost use Rattle.std.specs.List.{All};
 ghost use Rattle.rtl_bits.specs.declared.Bit.TheVariants.{X};
 ghost use Rattle.rtl_flat.specs.Value.{store};
-ghost use Rattle.rtl_rule.specs.Parts.{parts};
-ghost use Rattle.event_model.specs.Queue.{flat, widths};
+ghost use Rattle.rtl_flat.specs.Flats.{flat, widths};
 ghost use Rattle.event_queue.specs.Starts.{IsStart, start_of};
 ghost use Rattle.event_queue.specs.event_write.Stored.{AreStored};
 ghost use Rattle.netlist_eval.specs.Sims.{flat_of, shown};
@@ -33,7 +32,7 @@ pub(crate) const POWER_UP: u8 = 32;
 /// netlist has 0.
 fn first_value(design: &Design, trial: Trial, signal: SigId) -> Vec4
     requires { signal.0 < length design.now.signals.items }
-    ensures value { result ≡ first_value (parts design.now) trial.number signal.0 }
+    ensures value { result ≡ first_value (flat design.now) trial.number signal.0 }
     ensures width { length result ≡ widths (flat design.now) signal.0 }
 {
     let signal = &design.signals[signal.0 as usize];
@@ -52,7 +51,7 @@ pub(crate) fn first_values(
 ) -> Result<Vec<Vec4>, Memory>
     requires { All (λ signal. signal.0 < length design.now.signals.items) signals.now }
     ensures values { IfOk result (λ values.
-        values.items ≡ map (first_value (parts design.now) trial.number) (places signals.now)) }
+        values.items ≡ map (first_value (flat design.now) trial.number) (places signals.now)) }
     ensures widths { IfOk result (λ values.
         map length values.items ≡ map (widths (flat design.now)) (places signals.now)) }
 {
@@ -123,7 +122,7 @@ fn input_of<'d>(setup: &Setup<'d>, net: &NetSim, top: SigId) -> Input<'d>
     requires inside { top.0 < length setup.now.design.now.signals.items }
     requires design { flat_of net.now ≡ flat setup.now.design.now }
     ensures { input result
-        ≡ input_of (parts setup.now.design.now) (plain setup.now) (shown net.now) top.0 }
+        ≡ input_of (flat setup.now.design.now) (plain setup.now) (shown net.now) top.0 }
 {
     Input {
         signal: top,
@@ -142,7 +141,7 @@ pub(crate) fn inputs_of<'d>(
     requires is_of { IsOf setup.now.design.now setup.now }
     requires design { flat_of net.now ≡ flat setup.now.design.now }
     ensures { IfOk result (λ inputs. map input inputs.items
-        ≡ map (input_of (parts setup.now.design.now) (plain setup.now) (shown net.now))
+        ≡ map (input_of (flat setup.now.design.now) (plain setup.now) (shown net.now))
         (plain setup.now).tops) }
 {
     let inputs = setup

@@ -6,8 +6,8 @@ use Rattle.rtl_front.specs.declared.fault.FileFault.{FileFault}
 use Rattle.rtl_front.specs.declared.fault.SourceFault.TheVariants as source
 use Rattle.rtl_front.specs.Fronts.{AreRead, IsFirstFaulty}
 use Rattle.desk_refusals.specs.elab_scope.Faults.{Answer}
-use Rattle.rtl_elab.specs.elab_flat.Flats.{DesignParts}
-use Rattle.rtl_elab.specs.Designs.{flat_in, library_of}
+use Rattle.rtl_flat.specs.Flats.{DesignParts, flat_in}
+use Rattle.rtl_elab.specs.Designs.{library_of}
 use Rattle.rtl_elab.specs.Elaborated.{elaborated}
 use Rattle.desk_places.specs.Places.{Source}
 use Rattle.desk_refusals.specs.Refusals.{design_line, source_line}

@@ -5,7 +5,7 @@ use Rattle.std.proofs.lemmas.Bool.{cond-true}
 use Rattle.json.specs.Print.{escape_byte}
 use Rattle.rtl_tree.specs.TreeModule.{Circuit}
 use Rattle.design_db.specs.elab_scope.Faults.{Answer as Fault}
-use Rattle.design_db.specs.elab_flat.Flats.{DesignParts}
+use Rattle.rtl_flat.specs.Flats.{DesignParts}
 use Rattle.design_db.specs.elab_names.Extracts.{extract}
 use Rattle.design_db.specs.elab_names.LookUps.{AreUsed}
 use Rattle.design_db.specs.rtl_elab.Designs.{library_of}

@@ -2,7 +2,7 @@
 use Rattle.std.proofs.Common.{◌∙◌, List, ℕ, length, sym, ap}
 use Rattle.std.specs.Prelude.{Result, Ok, Err}
 use Rattle.design_db.specs.elab_scope.Faults.{Answer as Fault}
-use Rattle.design_db.specs.elab_flat.Flats.{DesignParts}
+use Rattle.rtl_flat.specs.Flats.{DesignParts}
 use Rattle.design_db.specs.elab_names.Extracts.{extract}
 use Rattle.design_db.specs.rtl_elab.Designs.{library_of}
 use Rattle.design_db.specs.rtl_elab.Elaborated.{elaborated}
@@ -17,7 +17,7 @@ use Rattle.desk_core.specs.Steps.{IsPaired}
 design_paired : (used : List SourceFile) (made : Result DesignParts Fault) (answer : Answer) → IsOfDesign used made answer → IsPaired answer
 design_paired used (Ok flat) (Ruled verdict reached) is =
     sym (ap length is.0.told_is
-    ∙ count_told flat.signals flat.instances verdict.ruling.findings.items is.0.shown)
+    ∙ count_told flat.parts.flat.signals flat.instances verdict.ruling.findings.items is.0.shown)
 design_paired used (Ok flat) (Refused line) is = absurd is
 design_paired used (Err fault) (Ruled verdict reached) is = absurd is
 design_paired used (Err fault) (Refused line) is = tt

@@ -5,13 +5,12 @@ use Rattle.rtl_tree.specs.TreeModule.{Circuit}
 use Rattle.rtl_rule.specs.declared.finding.Finding.{Finding}
 use Rattle.design_db.specs.check_all.Findings.{AreAllFindings, IsClean}
 use Rattle.design_db.specs.check_clean.Promise.{IsPromised}
-use Rattle.design_db.specs.elab_flat.Flats.{DesignParts}
+use Rattle.rtl_flat.specs.Flats.{DesignParts}
 use Rattle.design_db.specs.elab_names.Extracts.{extract}
 use Rattle.design_db.specs.elab_names.LookUps.{AreUsed}
 use Rattle.design_db.specs.rtl_elab.Designs.{library_of}
 use Rattle.design_db.specs.rtl_elab.Elaborated.{elaborated}
 use Rattle.design_db.specs.desk_build.Building.{AreSpelled}
-use Rattle.design_db.specs.desk_verdict.Verdicts.{parts_of, queue_of}
 use Rattle.desk_files.specs.declared.files.SourceFile.{SourceFile}
 use Rattle.desk_tables.specs.Tables.{Kept}
 use Rattle.desk_tables.specs.declared.rows.Grade.TheVariants.{Clean}
@@ -49,6 +48,6 @@ pub record IsSignedClean (kept : Kept) (top : List ℕ) : Type 0 where
   pub design : DesignParts
   pub flat : elaborated (extract numbers (library_of circuits)) top ≡ Ok design
   pub findings : List Finding
-  pub found : AreAllFindings (parts_of design) findings
+  pub found : AreAllFindings design.parts findings
   pub clean : IsClean findings
-  pub promised : IsPromised (queue_of design)
+  pub promised : IsPromised design.parts.flat

@@ -3,7 +3,7 @@ use Rattle.std.proofs.Common.{◌≡◌, ◌∙◌, ℕ, List, [], ◌∷◌, co
 use Rattle.std.specs.Io.KnownBytes.{Appends}
 use Rattle.desk_io.specs.declared.shelf.ShelfFault.{ShelfFault}
 use Rattle.desk_io.specs.Shelf.{Files, reading}
-use Rattle.desk_top.specs.elab_flat.Flats.{DesignParts}
+use Rattle.rtl_flat.specs.Flats.{DesignParts}
 use Rattle.desk_top.proofs.check_all_proofs.Alone.{alone}
 use Rattle.desk_places.specs.Places.{Source}
 use Rattle.desk_stages.specs.Stages.{stages_text}
@@ -14,7 +14,6 @@ use Rattle.demo_laws.specs.demo_replay.Firsts.{AreFirsts, told}
 use Rattle.demo_laws.specs.Laws.{AreProcesses}
 use Rattle.desk_top.specs.desk_build.Building.{Built, Designed, IsBuilt, Refused}
 use Rattle.desk_top.specs.desk_verdict.declared.verdict.TheConstants.{MAX_SHOWN}
-use Rattle.desk_top.specs.desk_verdict.Verdicts.{parts_of}
 use Rattle.desk_top.specs.Delivery.{Outcome}
 use Rattle.desk_top.specs.Outcome.{IsAnswer, IsDone, IsGenerated, IsJudged, IsOutcome, IsReplayIn, IsReplaying, IsRuled, IsRun, IsShownIn, IsSigned, IsSimulating, IsStaged, IsStepped, IsTried, World, generated_sources, generation_outcome, names_in, ruling_outcome, run}
 use Rattle.desk_top.specs.Texts.{named, texts_of}
@@ -26,9 +25,9 @@ use Rattle.desk_laws.proofs.OneRun.{one_run}
 
 -- ---- a ruling
 
-one_ruling : (top : List ℕ) (sources : List Source) (flat : DesignParts) → AreProcesses (parts_of flat) → (one other : Outcome) → IsRuled top sources flat one → IsRuled top sources flat other → one ≡ other
+one_ruling : (top : List ℕ) (sources : List Source) (flat : DesignParts) → AreProcesses flat.parts.flat → (one other : Outcome) → IsRuled top sources flat one → IsRuled top sources flat other → one ≡ other
 one_ruling top sources flat lawful one other first second =
-    let d = parts_of flat in
+    let d = flat.parts.flat in
     let found : first.found ≡ second.found = alone d first.found second.found first.are_all second.are_all in
     let shown : first.shown ≡ second.shown = firsts_once d lawful (take MAX_SHOWN second.found) first.shown second.shown
     (subst (λ (fs : List Finding). AreFirsts d (take MAX_SHOWN fs) (map told first.shown)) found first.are_shown) second.are_shown in
@@ -54,7 +53,7 @@ signed_once line top files (Some texts) one other first second = judged_once lin
 
 run_once : (flat : DesignParts) (read : Result Steps ℕ) (one other : Outcome) → IsRun flat read one → IsRun flat read other → one ≡ other
 run_once flat (Ok steps) one other first second =
-    first.2 ∙ ap run (one_run flat.signals flat.tasks flat.instances steps first.0 second.0 first.1 second.1) ∙ sym second.2
+    first.2 ∙ ap run (one_run flat.parts.flat.signals flat.parts.flat.tasks flat.instances steps first.0 second.0 first.1 second.1) ∙ sym second.2
 run_once flat (Err number) one other first second = first ∙ sym second
 
 tried_once : (steps : List ℕ) (built : Built) (one other : Outcome) → IsTried steps built one → IsTried steps built other → one ≡ other
@@ -93,7 +92,7 @@ replaying_once line top files (Ok demo) (Some texts) one other first second = re
 
 staged_once : (stages : ℕ) (built : Built) (one other : Outcome) → IsStaged stages built one → IsStaged stages built other → one ≡ other
 staged_once stages (Designed flat) one other first second =
-    first.is ∙ ap (generation_outcome stages flat) (alone (parts_of flat) first.found second.found first.are_all second.are_all) ∙ sym second.is
+    first.is ∙ ap (generation_outcome stages flat) (alone flat.parts first.found second.found first.are_all second.are_all) ∙ sym second.is
 staged_once stages (Refused line) one other first second = first ∙ sym second
 
 generated_once : OneLine → (stages : ℕ) (one other : Outcome) → IsGenerated stages one → IsGenerated stages other → one ≡ other

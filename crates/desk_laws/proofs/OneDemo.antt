@@ -4,12 +4,11 @@ use Rattle.std.specs.Prelude.{◌⊎◌}
 use Rattle.std.specs.List.{slice_get}
 use Rattle.desk_refusals.specs.elab_scope.Faults.{Answer}
 use Rattle.rtl_tree.specs.TreeModule.{Circuit}
-use Rattle.desk_top.specs.elab_flat.Flats.{DesignParts}
+use Rattle.rtl_flat.specs.Flats.{DesignParts, Flat}
 use Rattle.desk_top.specs.rtl_elab.Designs.{library_of}
 use Rattle.desk_top.specs.rtl_elab.Elaborated.{elaborated}
 use Rattle.desk_top.proofs.rtl_elab_proofs.Deciding.{elaborated_lawful}
 use Rattle.rtl_rule.specs.declared.finding.Finding.{Finding}
-use Rattle.rtl_rule.specs.Parts.{Parts}
 use Rattle.demo_told.specs.declared.demo.Demo.{Demo}
 use Rattle.demo_told.specs.declared.demo.Shown.{Shown}
 use Rattle.demo_laws.specs.demo_replay.declared.fault.ReplayFault.{ReplayFault}
@@ -21,7 +20,6 @@ use Rattle.demo_laws.proofs.Replays.{no_fault, one_fault, one_replay}
 use Rattle.desk_places.specs.Places.{Source}
 use Rattle.desk_demo.proofs.One.{never_both, one_malformed, one_told}
 use Rattle.desk_top.specs.desk_build.Building.{Built, Designed, Front, IsBuilt, Faulty, Modules, built_of, elaborated_or_not}
-use Rattle.desk_top.specs.desk_verdict.Verdicts.{parts_of}
 use Rattle.desk_top.specs.Delivery.{Outcome}
 use Rattle.desk_top.specs.Outcome.{Differs, Fails, IsDemoRun, IsRerun, Read, Unread, fault_outcome, malformed, replay_outcome}
 
@@ -30,15 +28,15 @@ use Rattle.desk_top.specs.Outcome.{Differs, Fails, IsDemoRun, IsRerun, Read, Unr
 flat_once : (one other : DesignParts) → Designed one ≡ Designed other → one ≡ other
 flat_once one other e = cc
 
-pub processes_of : (top : List ℕ) (sources : List Source) (texts : List (List ℕ)) (flat : DesignParts) → IsBuilt top sources texts (Designed flat) → AreProcesses (parts_of flat)
+pub processes_of : (top : List ℕ) (sources : List Source) (texts : List (List ℕ)) (flat : DesignParts) → IsBuilt top sources texts (Designed flat) → AreProcesses flat.parts.flat
 processes_of top sources texts flat is = by_front is.front is.is
   where
-    by_made : (circuits : List (List Circuit)) (made : Result DesignParts Answer) → elaborated (library_of circuits) top ≡ made → Designed flat ≡ elaborated_or_not sources made → AreProcesses (parts_of flat)
+    by_made : (circuits : List (List Circuit)) (made : Result DesignParts Answer) → elaborated (library_of circuits) top ≡ made → Designed flat ≡ elaborated_or_not sources made → AreProcesses flat.parts.flat
     by_made circuits (Ok f) made same =
-        subst (λ (parts : DesignParts). AreProcesses (parts_of parts)) (flat_once f flat (sym same)) (elaborated_lawful (library_of circuits) top f made).each_process
+        subst (λ (parts : DesignParts). AreProcesses parts.parts.flat) (flat_once f flat (sym same)) (elaborated_lawful (library_of circuits) top f made).each_process
     by_made circuits (Err answer) made same = absurd (cc)
 
-    by_front : (front : Front) → Designed flat ≡ built_of top sources front → AreProcesses (parts_of flat)
+    by_front : (front : Front) → Designed flat ≡ built_of top sources front → AreProcesses flat.parts.flat
     by_front (Modules circuits) same = by_made circuits (elaborated (library_of circuits) top) refl same
     by_front (Faulty file fault) same = absurd (cc)
 
@@ -56,7 +54,7 @@ back_told (Some (demo, shown)) = refl
 told_once : (one other : Option (Demo × Shown)) → told one ≡ told other → one ≡ other
 told_once one other e = sym (back_told one) ∙ ap back e ∙ back_told other
 
-pub firsts_once : (d : Parts) → AreProcesses d → (findings : List Finding) (one other : List (Option (Demo × Shown))) → AreFirsts d findings (map told one) → AreFirsts d findings (map told other) → one ≡ other
+pub firsts_once : (d : Flat) → AreProcesses d → (findings : List Finding) (one other : List (Option (Demo × Shown))) → AreFirsts d findings (map told one) → AreFirsts d findings (map told other) → one ≡ other
 firsts_once d lawful [] [] [] first second = refl
 firsts_once d lawful [] (x ∷ one) other first second = absurd (omega (arith, first.count))
 firsts_once d lawful [] [] (y ∷ other) first second = absurd (omega (arith, second.count))
@@ -85,24 +83,24 @@ some_once one other e = cc
 no_outcome : {P : Type 0} (fault : ReplayFault) (outcome : Outcome) → fault ≡ Memory → fault_outcome fault ≡ Some outcome → P
 no_outcome fault outcome memory is = none_some outcome (sym (ap fault_outcome memory) ∙ is)
 
-rerun_once : (flat : DesignParts) → AreProcesses (parts_of flat) → (demo : Demo) (one other : Outcome) → IsRerun flat demo one → IsRerun flat demo other → one ≡ other
+rerun_once : (flat : DesignParts) → AreProcesses flat.parts.flat → (demo : Demo) (one other : Outcome) → IsRerun flat demo one → IsRerun flat demo other → one ≡ other
 rerun_once flat lawful demo one other (Differs values is) (Differs others are) =
-    ap (replay_outcome flat demo) (one_replay (parts_of flat) lawful demo values others is are)
+    ap (replay_outcome flat demo) (one_replay flat.parts.flat lawful demo values others is are)
 rerun_once flat lawful demo one other (Differs values is) (Fails fault outcome why same) =
-    no_outcome fault outcome (no_fault (parts_of flat) lawful demo values fault is why) same
+    no_outcome fault outcome (no_fault flat.parts.flat lawful demo values fault is why) same
 rerun_once flat lawful demo one other (Fails fault outcome why same) (Differs values is) =
-    no_outcome fault outcome (no_fault (parts_of flat) lawful demo values fault is why) same
+    no_outcome fault outcome (no_fault flat.parts.flat lawful demo values fault is why) same
 rerun_once flat lawful demo one other (Fails fault outcome why same) (Fails fault' outcome' why' same') =
-    by (one_fault (parts_of flat) lawful demo fault fault' why why')
+    by (one_fault flat.parts.flat lawful demo fault fault' why why')
   where
     by : (fault ≡ fault') ⊎ ((fault ≡ Memory) ⊎ (fault' ≡ Memory)) → outcome ≡ outcome'
     by (inl alike) = some_once outcome outcome' (sym same ∙ ap fault_outcome alike ∙ same')
     by (inr (inl memory)) = no_outcome fault outcome memory same
     by (inr (inr memory)) = no_outcome fault' outcome' memory same'
 
-pub demo_once : (flat : DesignParts) → AreProcesses (parts_of flat) → (text : List ℕ) (one other : Outcome) → IsDemoRun flat text one → IsDemoRun flat text other → one ≡ other
+pub demo_once : (flat : DesignParts) → AreProcesses flat.parts.flat → (text : List ℕ) (one other : Outcome) → IsDemoRun flat text one → IsDemoRun flat text other → one ≡ other
 demo_once flat lawful text one other (Read demo outcome is shows) (Read demo' outcome' is' shows') =
-    rerun_once flat lawful demo' outcome outcome' (subst (λ (d : Demo). IsRerun flat d outcome) (one_told flat.signals text demo demo' is is') shows) shows'
-demo_once flat lawful text one other (Read demo outcome is shows) (Unread line wrong) = absurd (never_both flat.signals text demo line is wrong)
-demo_once flat lawful text one other (Unread line wrong) (Read demo outcome is shows) = absurd (never_both flat.signals text demo line is wrong)
-demo_once flat lawful text one other (Unread line wrong) (Unread line' wrong') = ap malformed (one_malformed flat.signals text line line' wrong wrong')
+    rerun_once flat lawful demo' outcome outcome' (subst (λ (d : Demo). IsRerun flat d outcome) (one_told flat.parts.flat.signals text demo demo' is is') shows) shows'
+demo_once flat lawful text one other (Read demo outcome is shows) (Unread line wrong) = absurd (never_both flat.parts.flat.signals text demo line is wrong)
+demo_once flat lawful text one other (Unread line wrong) (Read demo outcome is shows) = absurd (never_both flat.parts.flat.signals text demo line is wrong)
+demo_once flat lawful text one other (Unread line wrong) (Unread line' wrong') = ap malformed (one_malformed flat.parts.flat.signals text line line' wrong wrong')

@@ -4,7 +4,8 @@ use Rattle.rtl_flat.specs.declared.instance.Instance.{Instance}
 use Rattle.rtl_flat.specs.declared.signal.Signal.{Signal}
 use Rattle.rtl_flat.specs.Process.{Task}
 use Rattle.event_model.specs.declared.policy.Policy.{Policy}
-use Rattle.event_model.specs.Queue.{Flat, State, power_up}
+use Rattle.event_model.specs.Queue.{State, power_up}
+use Rattle.rtl_flat.specs.Flats.{Flat}
 use Rattle.desk_steps.specs.Steps.{Setting, Steps}
 use Rattle.desk_runs.specs.Lines.{rested_line}
 use Rattle.desk_runs.specs.Runs.{Ended, IsRun, IsSimulated, Rested, Shown, Stopped, behind, offered}

@@ -10,7 +10,7 @@ use Rattle.elab_names.specs.Extracts.{IsStill, extract, files_at, number_at, ren
 use Rattle.elab_names.specs.LookUps.{AreUsed, looked_up}
 use Rattle.elab_names.specs.declared.look_up.LookUp.{LookUp}
 use Rattle.elab_names.specs.elab_walk.Visits.{Library}
-use Rattle.elab_names.specs.elab_flat.Flats.{DesignParts}
+use Rattle.rtl_flat.specs.Flats.{DesignParts}
 use Rattle.elab_names.specs.rtl_elab.Designs.{library_of}
 use Rattle.elab_names.specs.rtl_elab.Elaborated.{elaborated}
 use Rattle.desk_build.specs.Building.{AreSpelled, Modules}

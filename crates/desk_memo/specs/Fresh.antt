@@ -5,7 +5,7 @@ use Rattle.std.specs.List.{filter_map}
 use Rattle.rtl_tree.specs.TreeModule.{Circuit}
 use Rattle.rtl_front.specs.declared.fault.FileFault.{FileFault}
 use Rattle.desk_refusals.specs.elab_scope.Faults.{Answer as Fault}
-use Rattle.elab_names.specs.elab_flat.Flats.{DesignParts}
+use Rattle.rtl_flat.specs.Flats.{DesignParts}
 use Rattle.elab_names.specs.Extracts.{extract}
 use Rattle.elab_names.specs.LookUps.{AreUsed}
 use Rattle.elab_names.specs.rtl_elab.Designs.{library_of}

@@ -2,7 +2,7 @@
 ghost use Rattle.std.specs.Prelude.{◌≡◌, ◌≤◌, ◌++◌, ◌∷◌, [], Ok, Result, length, IfOk, IsSome, OnOk};
 ghost use Rattle.rtl_tree.specs.declared.text.TheConstants.{MAX_BYTES};
 ghost use Rattle.desk_refusals.specs.elab_scope.Faults.{Answer as Fault, answer};
-ghost use Rattle.elab_names.specs.elab_flat.Flats.{DesignParts};
+ghost use Rattle.rtl_flat.specs.Flats.{DesignParts};
 ghost use Rattle.elab_names.specs.Extracts.{IsElaborated};
 ghost use Rattle.elab_names.specs.rtl_elab.Designs.{flat_in};
 ghost use Rattle.desk_places.specs.Places.{sources_of};

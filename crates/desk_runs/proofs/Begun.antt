@@ -4,7 +4,8 @@ use Rattle.std.proofs.lemmas.List.{take-append-drop}
 use Rattle.rtl_flat.specs.declared.instance.Instance.{Instance}
 use Rattle.event_model.specs.declared.policy.Policy.{Policy}
 use Rattle.event_model.specs.Policies.{budget}
-use Rattle.event_model.specs.Queue.{Flat, State, flat, power_up}
+use Rattle.event_model.specs.Queue.{State, power_up}
+use Rattle.rtl_flat.specs.Flats.{Flat, flat}
 use Rattle.event_queue.specs.Sims.{level_of, state_of}
 use Rattle.desk_steps.specs.Steps.{Setting, step}
 use Rattle.desk_runs.specs.declared.run.Run.{Run as Running}

@@ -5,7 +5,8 @@ use Rattle.rtl_flat.specs.Process.{Doing}
 use Rattle.event_model.specs.declared.policy.Policy.{Policy}
 use Rattle.event_model.specs.Order.{active, ready, ready_where}
 use Rattle.event_model.specs.Policies.{Here, IsDone, IsTooDear, Next, PolicyRun, chosen, cost, run_cost}
-use Rattle.event_model.specs.Queue.{Flat, State, Event, Input, Evaluate, Update, Run, Delayed, Activate, IsThere, after, after_delayed, doing_at, write, write_all}
+use Rattle.event_model.specs.Queue.{State, Event, Input, Evaluate, Update, Run, Delayed, Activate, IsThere, after, after_delayed, doing_at, write, write_all}
+use Rattle.rtl_flat.specs.Flats.{Flat}
 use Rattle.event_model.specs.Writes.{Write}
 use Rattle.event_model.proofs.Runs.{chosen_there}
 

@@ -10,7 +10,8 @@ use Rattle.rtl_flat.specs.Levels.{IsLevel}
 use Rattle.event_model.specs.declared.policy.Policy.{Policy}
 use Rattle.event_model.specs.declared.setting.Setting.{Setting}
 use Rattle.event_model.specs.Policies.{IsDone, IsTooDear, budget}
-use Rattle.event_model.specs.Queue.{Flat, State, IsAtRest, flat, offer, power_up}
+use Rattle.event_model.specs.Queue.{State, IsAtRest, offer, power_up}
+use Rattle.rtl_flat.specs.Flats.{Flat, flat}
 use Rattle.event_tables.specs.event_write.QueueState.{design_of}
 use Rattle.event_queue.specs.declared.sim.EventSim.{EventSim}
 use Rattle.event_queue.specs.Offers.{AreAllowed, set_of}

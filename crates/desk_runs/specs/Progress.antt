@@ -6,7 +6,8 @@ use Rattle.rtl_tree.specs.declared.memory.Memory.{Memory}
 use Rattle.rtl_flat.specs.declared.design.Design.{Design}
 use Rattle.rtl_flat.specs.Levels.{IsLevel}
 use Rattle.event_model.specs.declared.policy.Policy.{Policy}
-use Rattle.event_model.specs.Queue.{flat, power_up}
+use Rattle.event_model.specs.Queue.{power_up}
+use Rattle.rtl_flat.specs.Flats.{flat}
 use Rattle.event_queue.specs.declared.sim.EventSim.{EventSim}
 use Rattle.event_queue.specs.Sims.{flat_of, is_stuck, level_of, state_of}
 use Rattle.desk_steps.specs.declared.file.Steps.{Steps as Read}

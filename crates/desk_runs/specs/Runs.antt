@@ -7,7 +7,8 @@ use Rattle.rtl_flat.specs.Levels.{IsLevel}
 use Rattle.rtl_flat.specs.Process.{Task}
 use Rattle.event_model.specs.declared.policy.Policy.{Policy}
 use Rattle.event_model.specs.Policies.{IsDone, IsTooDear, PolicyRun, budget}
-use Rattle.event_model.specs.Queue.{Flat, State, offer, power_up}
+use Rattle.event_model.specs.Queue.{State, offer, power_up}
+use Rattle.rtl_flat.specs.Flats.{Flat}
 use Rattle.desk_steps.specs.Steps.{Setting, Steps}
 use Rattle.desk_runs.specs.Lines.{rested_line, unsettled_line}
 

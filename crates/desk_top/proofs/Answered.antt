@@ -3,7 +3,7 @@ use Rattle.std.proofs.Common.{◌≡◌, ◌≢◌, ℕ, List, [], Option, None,
 use Rattle.std.specs.Io.KnownBytes.{Appends}
 use Rattle.rtl_tree.specs.TreeModule.{Circuit}
 use Rattle.desk_build.specs.elab_scope.Faults.{Answer}
-use Rattle.desk_build.specs.elab_flat.Flats.{DesignParts}
+use Rattle.rtl_flat.specs.Flats.{DesignParts}
 use Rattle.desk_build.specs.rtl_elab.Designs.{library_of}
 use Rattle.desk_build.specs.rtl_elab.Elaborated.{elaborated}
 use Rattle.desk_verdict.specs.check_all.Findings.{has_first_grade}

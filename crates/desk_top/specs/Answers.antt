@@ -4,7 +4,7 @@ use Rattle.std.specs.Prelude.{◌≡◌, ℕ, List, [], Option, None, Some, Ok, 
 use Rattle.std.specs.Io.KnownBytes.{Appends}
 use Rattle.desk_io.specs.Shelf.{Files}
 use Rattle.rtl_tree.specs.TreeModule.{Circuit}
-use Rattle.desk_build.specs.elab_flat.Flats.{DesignParts}
+use Rattle.rtl_flat.specs.Flats.{DesignParts}
 use Rattle.desk_build.specs.rtl_elab.Designs.{library_of}
 use Rattle.desk_build.specs.rtl_elab.Elaborated.{elaborated}
 use Rattle.desk_verdict.specs.event_ending.Ending.{RunsEnd}
@@ -19,7 +19,7 @@ use Rattle.desk_top.specs.Delivery.{Outcome, Delivers, IsCut, gave_up}
 use Rattle.desk_build.specs.Building.{AreSpelled}
 use Rattle.demo_told.specs.declared.demo.Demo.{Demo}
 use Rattle.demo_told.specs.declared.demo.Shown.{Shown}
-use Rattle.desk_verdict.specs.Verdicts.{AreShown, parts_of, queue_of}
+use Rattle.desk_verdict.specs.Verdicts.{AreShown}
 use Rattle.desk_top.specs.Outcome.{World, IsOutcome, report_of}
 use Rattle.desk_top.specs.Texts.{named, texts_of}
 use Rattle.desk_top.specs.Words.{Sign, is_simulate, order}
@@ -59,13 +59,13 @@ pub record IsSignedClean (words : List (List ℕ)) (before now : Option (List �
   pub held : texts_of world.files files ≡ Some texts
   pub spelled : AreSpelled texts circuits
   pub flat : elaborated (library_of circuits) top ≡ Ok design
-  pub found : AreAllFindings (parts_of design) findings
+  pub found : AreAllFindings design.parts findings
   pub clean : IsClean findings
   pub shown : List (Option (Demo × Shown))
   pub are_shown : AreShown design findings shown
   pub reported : Appends before now (report_of top (named files texts) design findings shown)
   pub chains : ℕ → Chain
-  pub chained : AreChains (queue_of design) chains
-  pub agrees : (fill : Fill) → Agree (queue_of design) chains fill
-  pub brought_up : HaveResets (queue_of design) chains → (fill : Fill) → BringsUp (queue_of design) chains fill
-  pub ends : RunsEnd (queue_of design)
+  pub chained : AreChains design.parts.flat chains
+  pub agrees : (fill : Fill) → Agree design.parts.flat chains fill
+  pub brought_up : HaveResets design.parts.flat chains → (fill : Fill) → BringsUp design.parts.flat chains fill
+  pub ends : RunsEnd design.parts.flat

@@ -4,7 +4,7 @@ use Rattle.std.specs.Prelude.{◌≡◌, ℕ, List, [], ◌∷◌, ◌++◌, len
 use Rattle.std.specs.Fmt.{decimal}
 use Rattle.desk_io.specs.declared.shelf.ShelfFault.{ShelfFault}
 use Rattle.desk_io.specs.Shelf.{Files, reading}
-use Rattle.desk_build.specs.elab_flat.Flats.{DesignParts}
+use Rattle.rtl_flat.specs.Flats.{DesignParts}
 use Rattle.rtl_rule.specs.declared.finding.Finding.{Finding}
 use Rattle.desk_verdict.specs.check_all.Findings.{AreAllFindings, IsClean}
 use Rattle.desk_verdict.specs.check_clean.Promise.{IsPromised}
@@ -14,7 +14,7 @@ use Rattle.desk_verdict.specs.demo_replay.declared.fault.ReplayFault.{ReplayFaul
 use Rattle.desk_verdict.specs.demo_replay.declared.fault.ReplayFault.TheVariants.{Illegal, NoNetlist, Unsettled, Same, Memory}
 use Rattle.desk_verdict.specs.demo_replay.Replays.{IsReplayed, IsReplayFault}
 use Rattle.desk_demo.specs.Files.{IsMalformed, IsTold}
-use Rattle.desk_verdict.specs.Verdicts.{AreShown, is_clean, is_firm, parts_of, queue_of}
+use Rattle.desk_verdict.specs.Verdicts.{AreShown, is_clean, is_firm}
 use Rattle.desk_steps.specs.Names.{Names, ahead, names_from}
 use Rattle.desk_steps.specs.Steps.{Steps, file_of}
 use Rattle.desk_runs.specs.Runs.{Shown, IsSimulated}
@@ -40,7 +40,7 @@ pub record World : Type 0 where
 -- the report of a design with these findings, of which the first ones show; no waivers stand
 abbrev pub report_of : List ℕ → List Source → DesignParts → List Finding → List (Option (Demo × Values)) → List ℕ
 report_of top sources flat found shown =
-    report_text top sources found (tellings flat.signals flat.instances found shown)
+    report_text top sources found (tellings flat.parts.flat.signals flat.instances found shown)
     (replicate (length found) None) (is_clean found) (is_firm found)
 
 -- the design is clean, or has a finding of the first grade
@@ -55,11 +55,11 @@ ruling_outcome top sources flat found shown =
 -- where none of them is of the first grade, simulation agrees with synthesis
 pub record IsRuled (top : List ℕ) (sources : List Source) (flat : DesignParts) (outcome : Outcome) : Type 0 where
   pub found : List Finding
-  pub are_all : AreAllFindings (parts_of flat) found
+  pub are_all : AreAllFindings flat.parts found
   pub shown : List (Option (Demo × Values))
   pub are_shown : AreShown flat found shown
   pub is : outcome ≡ ruling_outcome top sources flat found shown
-  pub promised : IsClean found → IsPromised (queue_of flat)
+  pub promised : IsClean found → IsPromised flat.parts.flat
 
 -- the source is refused
 abbrev pub refused : List ℕ → Outcome
@@ -94,7 +94,7 @@ run shown = record { status = if shown.settled then DONE else UNSETTLED; bytes =
 -- what a design shows of steps
 abbrev pub IsShowing : DesignParts → Steps → Outcome → Type 0
 IsShowing flat steps outcome =
-    (shown : Shown) × IsSimulated flat.signals flat.tasks flat.instances steps shown × (outcome ≡ run shown)
+    (shown : Shown) × IsSimulated flat.parts.flat.signals flat.parts.flat.tasks flat.instances steps shown × (outcome ≡ run shown)
 
 -- the answer for the steps of a design
 abbrev pub IsRun : DesignParts → Result Steps ℕ → Outcome → Type 0
@@ -103,7 +103,7 @@ IsRun flat (Err number) outcome = outcome ≡ malformed number
 
 -- the inputs of a design's top by their names
 abbrev pub names_in : DesignParts → Names
-names_in flat = names_from (ahead flat.instances) 0 flat.signals
+names_in flat = names_from (ahead flat.instances) 0 flat.parts.flat.signals
 
 abbrev pub IsTried : List ℕ → Built → Outcome → Type 0
 IsTried steps (Designed flat) outcome = IsRun flat (file_of (names_in flat) steps) outcome
@@ -128,7 +128,7 @@ abbrev pub replay_outcome : DesignParts → Demo → Values → Outcome
 replay_outcome flat demo values =
     record {
       status = DONE;
-      bytes = replay_line demo (signal_path (slice_get flat.signals demo.signal.0)) values;
+      bytes = replay_line demo (signal_path (slice_get flat.parts.flat.signals demo.signal.0)) values;
     }
 
 -- why it shows nothing; its one line is malformed where it names what the design doesn't have
@@ -143,19 +143,19 @@ fault_outcome Memory = None
 -- the answer for a demonstration
 pub data IsRerun (flat : DesignParts) (demo : Demo) : Outcome → Type 0 where
   Differs :
-      (values : Values) → IsReplayed (parts_of flat) demo values →
+      (values : Values) → IsReplayed flat.parts.flat demo values →
       IsRerun flat demo (replay_outcome flat demo values)
   Fails :
-      (fault : ReplayFault) (outcome : Outcome) → IsReplayFault (parts_of flat) demo fault →
+      (fault : ReplayFault) (outcome : Outcome) → IsReplayFault flat.parts.flat demo fault →
       fault_outcome fault ≡ Some outcome → IsRerun flat demo outcome
 
 -- the answer for the text of a demonstration file
 pub data IsDemoRun (flat : DesignParts) (text : List ℕ) : Outcome → Type 0 where
   Read :
-      (demo : Demo) (outcome : Outcome) → IsTold flat.signals text demo →
+      (demo : Demo) (outcome : Outcome) → IsTold flat.parts.flat.signals text demo →
       IsRerun flat demo outcome → IsDemoRun flat text outcome
   Unread :
-      (line : ℕ) → IsMalformed flat.signals text line → IsDemoRun flat text (malformed line)
+      (line : ℕ) → IsMalformed flat.parts.flat.signals text line → IsDemoRun flat text (malformed line)
 
 abbrev pub IsShownIn : List ℕ → Built → Outcome → Type 0
 IsShownIn demo (Designed flat) outcome = IsDemoRun flat demo outcome
@@ -184,12 +184,12 @@ generated_sources stages = record { name = codes "generated"; text = stages_text
 -- what is told of a design with these findings
 abbrev pub generation_outcome : ℕ → DesignParts → List Finding → Outcome
 generation_outcome stages flat found =
-    record { status = DONE; bytes = stages_report stages (length flat.tasks) (is_clean found) (length found) }
+    record { status = DONE; bytes = stages_report stages (length flat.parts.flat.tasks) (is_clean found) (length found) }
 
 -- the answer for a design: all its findings are counted
 pub record IsCounted (stages : ℕ) (flat : DesignParts) (outcome : Outcome) : Type 0 where
   pub found : List Finding
-  pub are_all : AreAllFindings (parts_of flat) found
+  pub are_all : AreAllFindings flat.parts found
   pub is : outcome ≡ generation_outcome stages flat found
 
 abbrev pub IsStaged : ℕ → Built → Outcome → Type 0

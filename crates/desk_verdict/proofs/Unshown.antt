@@ -7,7 +7,7 @@ use Rattle.std.proofs.lemmas.Bool.{or_parts}
 use Rattle.std.proofs.lemmas.Option.{same_Some}
 use Rattle.rtl_flat.specs.declared.design.Design.{Design}
 use Rattle.rtl_rule.specs.declared.finding.Finding.{Finding}
-use Rattle.rtl_rule.specs.Parts.{parts}
+use Rattle.rtl_flat.specs.Flats.{flat, parts}
 use Rattle.sign_off.specs.check_all.Findings.{AreAllFindings}
 use Rattle.sign_off.specs.check_clean.Needed.{has_needed, is_needed}
 use Rattle.demo_told.specs.declared.demo.Demo.{Demo}
@@ -39,19 +39,19 @@ unneeded (suc n) (first ∷ findings) free (suc k) finding there =
 
 pub none_first :
     (design : Design) (findings : List Finding) (count : ℕ) → NoneShown design → AreAllFindings (parts design) findings → has_needed findings ≡ false →
-    count ≤ length findings → AreFirsts (parts design) (take count findings) (map told (none count))
+    count ≤ length findings → AreFirsts (flat design) (take count findings) (map told (none count))
 none_first design findings count law are free within =
     record {
       count = counted count findings within;
       each = λ k finding one there here.
-          subst (IsFirst (parts design) finding) (nothing_at count k one here) (law findings are free finding (unneeded count findings free k finding there));
+          subst (IsFirst (flat design) finding) (nothing_at count k one here) (law findings are free finding (unneeded count findings free k finding there));
     }
 
 -- so it is of what is made of nothing, where memory suffices
 pub nothing_first :
     {E : Type 0} (result : Result (Vec (Option (Demo × Shown)) Global) E) (design : Design) (some : List Finding) (count : ℕ) →
-    AreFirsts (parts design) some (map told (none count)) → IfOk result (λ shown. shown.items ≡ none count) →
-    IfOk result (λ shown. AreFirsts (parts design) some (map told shown.items))
+    AreFirsts (flat design) some (map told (none count)) → IfOk result (λ shown. shown.items ≡ none count) →
+    IfOk result (λ shown. AreFirsts (flat design) some (map told shown.items))
 nothing_first (Ok shown) design some count first is =
-    subst (λ (all : List (Option (Demo × Shown))). AreFirsts (parts design) some (map told all)) (sym is) first
+    subst (λ (all : List (Option (Demo × Shown))). AreFirsts (flat design) some (map told all)) (sym is) first
 nothing_first (Err fault) design some count first is = tt

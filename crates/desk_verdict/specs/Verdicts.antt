@@ -1,27 +1,16 @@
 -- What is said of a design.
 -- Worked examples: examples/stored/several_drivers.out, examples/stored/half_adder.out.
 use Rattle.std.specs.Prelude.{◌≡◌, Bool, true, false, not, List, [], ◌∷◌, Option, map, take}
-use Rattle.event_model.specs.Queue as queue
 use Rattle.rtl_rule.specs.declared.finding.Finding.{Finding}
-use Rattle.rtl_rule.specs.Parts.{Parts}
+use Rattle.rtl_flat.specs.Flats.{DesignParts}
 use Rattle.sign_off.specs.check_all.Findings.{AreAllFindings, IsClean, has_first_grade}
 use Rattle.sign_off.specs.check_clean.Promise.{IsPromised}
-use Rattle.rtl_elab.specs.elab_flat.Flats.{DesignParts}
 use Rattle.demo_told.specs.declared.demo.Demo.{Demo}
 use Rattle.demo_told.specs.declared.demo.Shown.{Shown}
 use Rattle.demo_clean.specs.demo_replay.Firsts.{AreFirsts, told}
 use Rattle.desk_report.specs.Tellings.{tellings}
 use Rattle.desk_verdict.specs.declared.verdict.TheConstants.{MAX_SHOWN}
 use Rattle.desk_verdict.specs.declared.verdict.Verdict.{Verdict}
-
--- a flat design as rules look at it
-abbrev pub parts_of : DesignParts → Parts
-parts_of flat =
-    record { signals = flat.signals; tasks = flat.tasks; delays = flat.delays; dropped = flat.dropped }
-
--- a flat design as the event queue runs it
-abbrev pub queue_of : DesignParts → queue.Flat
-queue_of flat = record { signals = flat.signals; tasks = flat.tasks }
 
 -- whether no finding is of the first grade
 abbrev pub is_clean : List Finding → Bool
@@ -34,17 +23,17 @@ is_firm (finding ∷ others) = false
 
 -- where the first findings show
 abbrev pub AreShown : DesignParts → List Finding → List (Option (Demo × Shown)) → Type 0
-AreShown flat found shown = AreFirsts (parts_of flat) (take MAX_SHOWN found) (map told shown)
+AreShown flat found shown = AreFirsts flat.parts.flat (take MAX_SHOWN found) (map told shown)
 
 -- all findings are told, the first of them with where they show; and where none of them is of the
 -- first grade, simulation agrees with synthesis
 pub record IsVerdict (flat : DesignParts) (verdict : Verdict) : Type 0 where
-  pub are_all : AreAllFindings (parts_of flat) verdict.ruling.findings.items
+  pub are_all : AreAllFindings flat.parts verdict.ruling.findings.items
   pub clean : verdict.ruling.clean ≡ is_clean verdict.ruling.findings.items
   pub firm : verdict.ruling.firm ≡ is_firm verdict.ruling.findings.items
   pub shown : List (Option (Demo × Shown))
   pub are_shown : AreShown flat verdict.ruling.findings.items shown
   pub told_is :
       verdict.told.items
-      ≡ tellings flat.signals flat.instances verdict.ruling.findings.items shown
-  pub promised : IsClean verdict.ruling.findings.items → IsPromised (queue_of flat)
+      ≡ tellings flat.parts.flat.signals flat.instances verdict.ruling.findings.items shown
+  pub promised : IsClean verdict.ruling.findings.items → IsPromised flat.parts.flat

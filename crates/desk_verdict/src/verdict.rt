@@ -1,8 +1,7 @@
 //! The verdict on a design.
 
 ghost use Rattle.std.specs.Prelude.{◌≡◌, ◌≤◌, IfOk, None, length, map, replicate, take};
-ghost use Rattle.rtl_elab.specs.Designs.{flat_in};
-ghost use Rattle.rtl_rule.specs.Parts.{parts};
+ghost use Rattle.rtl_flat.specs.Flats.{flat, flat_in, parts};
 ghost use Rattle.sign_off.specs.check_all.Findings.{AreAllFindings};
 ghost use Rattle.demo_clean.specs.demo_replay.Firsts.{AreFirsts, told};
 ghost use Rattle.desk_verdict.specs.Verdicts.{IsVerdict};
@@ -58,7 +57,7 @@ fn shown_of(
     requires all { AreAllFindings (parts design.now) findings.now }
     requires within { count ≤ length findings.now }
     ensures { IfOk result (λ shown.
-        AreFirsts (parts design.now) (take count findings.now) (map told shown.items)) }
+        AreFirsts (flat design.now) (take count findings.now) (map told shown.items)) }
 {
     if has_needed(findings) {
         return attach_all(alloc, design, &findings[..count]);

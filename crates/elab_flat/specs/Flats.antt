@@ -6,27 +6,20 @@ use Rattle.rtl_flat.specs.declared.instance.Delay.{Delay}
 use Rattle.rtl_flat.specs.declared.instance.DroppedRegion.{DroppedRegion}
 use Rattle.rtl_flat.specs.declared.instance.Instance.{Instance}
 use Rattle.rtl_flat.specs.declared.signal.Signal.{Signal}
-use Rattle.rtl_flat.specs.Process.{Task}
+use Rattle.rtl_flat.specs.Flats.{DesignParts}
 use Rattle.elab_walk.specs.Placements.{Placement, instance_of, regions_at, signals_at}
 use Rattle.elab_walk.specs.Visits.{Library}
 use Rattle.elab_flat.specs.Works.{Works, no_works, with_placements}
 
--- a flat design
-pub record DesignParts : Type 0 where
-  pub signals : List Signal
-  pub tasks : List Task
-  pub instances : List Instance
-  pub dropped : List DroppedRegion
-  pub delays : List Delay
-
 abbrev pub with_works : List Placement → Works → DesignParts
 with_works all works =
     record {
-      signals = flat_map signals_at all;
-      tasks = works.tasks;
+      parts = record {
+        flat = record { signals = flat_map signals_at all; tasks = works.tasks };
+        delays = works.delays;
+        dropped = flat_map regions_at all;
+      };
       instances = map instance_of all;
-      dropped = flat_map regions_at all;
-      delays = works.delays;
     }
 
 -- the design of these instances

@@ -4,7 +4,7 @@ use Rattle.std.specs.Prelude.{map}
 use Rattle.rtl_flat.specs.Process.{task}
 use Rattle.elab_flat.specs.declared.flat.DesignParts.{DesignParts as Kept}
 use Rattle.elab_flat.specs.declared.works.Works.{Works as Made}
-use Rattle.elab_flat.specs.Flats.{DesignParts}
+use Rattle.rtl_flat.specs.Flats.{DesignParts}
 use Rattle.elab_flat.specs.Works.{Works}
 
 abbrev pub works : Made → Works
@@ -13,9 +13,13 @@ works made = record { tasks = map task made.processes.items; delays = made.delay
 abbrev pub flat : Kept → DesignParts
 flat made =
     record {
-      signals = made.signals.items;
-      tasks = map task made.works.processes.items;
+      parts = record {
+        flat = record {
+          signals = made.signals.items;
+          tasks = map task made.works.processes.items;
+        };
+        delays = made.works.delays.items;
+        dropped = made.dropped.items;
+      };
       instances = made.instances.items;
-      dropped = made.dropped.items;
-      delays = made.works.delays.items;
     }

@@ -7,7 +7,8 @@ use Rattle.rtl_elab.specs.elab_walk.declared.trail.Placement.{Placement as Made}
 use Rattle.rtl_elab.specs.elab_walk.Placements.{Placement, placements}
 use Rattle.rtl_elab.specs.elab_walk.Trails.{placement}
 use Rattle.rtl_elab.specs.elab_walk.Visits.{Library}
-use Rattle.rtl_elab.specs.elab_flat.Flats.{DesignParts, flat_of}
+use Rattle.rtl_elab.specs.elab_flat.Flats.{flat_of}
+use Rattle.rtl_flat.specs.Flats.{DesignParts}
 use Rattle.rtl_elab.specs.Elaborated.{elaborated, refused, visited}
 use Rattle.elab_names.specs.Extracts.{extract, place_in}
 use Rattle.elab_names.specs.LookUps.{AreUsed}

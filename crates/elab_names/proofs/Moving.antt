@@ -13,7 +13,8 @@ use Rattle.rtl_elab.specs.elab_walk.Refusals.{come_to, refusal}
 use Rattle.rtl_elab.specs.elab_walk.Rooms.{whole_room}
 use Rattle.rtl_elab.specs.elab_walk.Visits.{Library, Visit, all_visits, top_visit}
 use Rattle.rtl_elab.proofs.elab_walk_proofs.Ending.{all_come_to}
-use Rattle.rtl_elab.specs.elab_flat.Flats.{DesignParts, flat_of, with_works}
+use Rattle.rtl_elab.specs.elab_flat.Flats.{flat_of, with_works}
+use Rattle.rtl_flat.specs.Flats.{DesignParts}
 use Rattle.rtl_elab.specs.elab_flat.Held.{bases_under, depth_of}
 use Rattle.rtl_elab.specs.elab_flat.Works.{Works, no_works, with_placement, with_placements}
 use Rattle.rtl_elab.specs.Elaborated.{decided, elaborated, elaborated_at, elaborated_found, elaborated_of, refused, visited, visited_found, visited_from}

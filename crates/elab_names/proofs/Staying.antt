@@ -10,7 +10,7 @@ use Rattle.rtl_elab.specs.elab_links.declared.module_set.Lookup.TheVariants.{Mis
 use Rattle.rtl_elab.specs.elab_links.declared.module_set.Place.{Place}
 use Rattle.rtl_elab.specs.elab_links.Modules.{circuit_at}
 use Rattle.rtl_elab.specs.elab_walk.Visits.{Library}
-use Rattle.rtl_elab.specs.elab_flat.Flats.{DesignParts}
+use Rattle.rtl_flat.specs.Flats.{DesignParts}
 use Rattle.rtl_elab.specs.Elaborated.{elaborated, refused}
 use Rattle.elab_names.specs.Extracts.{IsStill, extract, number_at, place_in, renumbered}
 use Rattle.elab_names.specs.LookUps.{AreUsed, IsUsed, looked_up}

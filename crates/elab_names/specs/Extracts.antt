@@ -10,8 +10,7 @@ use Rattle.rtl_elab.specs.elab_scope.Faults.{Answer, answer}
 use Rattle.rtl_elab.specs.elab_links.declared.module_set.Lookup.{Lookup}
 use Rattle.rtl_elab.specs.elab_links.declared.module_set.Lookup.TheVariants.{Missing, Found, Twice}
 use Rattle.rtl_elab.specs.elab_walk.Visits.{Library}
-use Rattle.rtl_elab.specs.elab_flat.Flats.{DesignParts}
-use Rattle.rtl_elab.specs.Designs.{flat_in}
+use Rattle.rtl_flat.specs.Flats.{DesignParts, flat_in}
 use Rattle.elab_names.specs.LookUps.{looked_up}
 
 -- how many numbers come before this one; all of them where it isn't there

@@ -11,7 +11,8 @@ use Rattle.rtl_flat.specs.Paths.{MayWrite, ReadsOutside}
 use Rattle.rtl_flat.specs.PathSets.{items_list}
 use Rattle.rtl_flat.specs.Process.{Watched, Actions, Edge'}
 use Rattle.event_model.specs.Bodies.{body_made}
-use Rattle.event_model.specs.Queue.{Flat, State, Event, Input, Evaluate, Update, Run, Delayed, Activate, CanRun, IsAtRest, IsThere, after, doing_at, happens, run, widths}
+use Rattle.event_model.specs.Queue.{State, Event, Input, Evaluate, Update, Run, Delayed, Activate, CanRun, IsAtRest, IsThere, after, doing_at, happens, run}
+use Rattle.rtl_flat.specs.Flats.{Flat, widths}
 use Rattle.event_model.specs.Traces.{FollowsPath, Same}
 use Rattle.event_model.specs.Writes.{Values}
 use Rattle.event_runs.specs.event_laws.Steady.{HaveWidths}

@@ -17,7 +17,8 @@ use Rattle.rtl_flat.specs.Process.{Selection, Whole, BitAt, BitBy, Part, Piece, 
 use Rattle.rtl_flat.specs.Signs.{Has, width_in}
 use Rattle.rtl_flat.specs.WellFormed.{IsWatched, IsWhole}
 use Rattle.rtl_flat.proofs.Paths.{decided}
-use Rattle.event_model.specs.Queue.{Flat, doing_at, doing_of, is_input, is_input_of, widths}
+use Rattle.event_model.specs.Queue.{doing_at, doing_of, is_input, is_input_of}
+use Rattle.rtl_flat.specs.Flats.{Flat, widths}
 use Rattle.net_model.specs.Control.{IsControl, IsPassedOn, IsReached, InCone, Itself, Through, waits_for, whole_of}
 use Rattle.event_runs.proofs.event_laws_proofs.Within.{may_read_outside}
 use Rattle.event_edges.specs.Synchronous.{IsItem, IsSynchronous}

@@ -5,7 +5,8 @@ use Rattle.rtl_flat.specs.Flows.{body_flow}
 use Rattle.rtl_flat.specs.Paths.{MayWrite}
 use Rattle.rtl_flat.specs.Process.{Watched, Actions, Doing, Assign, Comb, Edge'}
 use Rattle.event_model.specs.Bodies.{body_made}
-use Rattle.event_model.specs.Queue.{Flat, State, Event, Input, Evaluate, Update, Run, Delayed, Activate, CanRun, IsThere, after, doing_at, is_assignment, run, widths}
+use Rattle.event_model.specs.Queue.{State, Event, Input, Evaluate, Update, Run, Delayed, Activate, CanRun, IsThere, after, doing_at, is_assignment, run}
+use Rattle.rtl_flat.specs.Flats.{Flat, widths}
 use Rattle.event_model.specs.Writes.{Write, all_written}
 use Rattle.event_runs.specs.event_laws.Steady.{AreLawful, IsWithin}
 use Rattle.net_model.specs.Numbers.{bit}

@@ -24,7 +24,8 @@ use Rattle.rtl_flat.specs.Sizes.{width_of}
 use Rattle.rtl_flat.specs.WellFormed.{IsAssignment, IsProcess, IsSelection, IsWatched, has_edge}
 use Rattle.rtl_flat.proofs.Paths.{decided}
 use Rattle.event_model.specs.Bodies.{body_made}
-use Rattle.event_model.specs.Queue.{Flat, doing_at, doing_of, listens, settled_at, widths}
+use Rattle.event_model.specs.Queue.{doing_at, doing_of, listens, settled_at}
+use Rattle.rtl_flat.specs.Flats.{Flat, widths}
 use Rattle.event_model.specs.Writes.{Values}
 use Rattle.event_runs.specs.event_laws.Steady.{AreLawful, HaveWidths}
 use Rattle.event_runs.proofs.event_laws_proofs.Steady.{steady_settled}

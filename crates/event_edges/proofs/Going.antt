@@ -6,7 +6,8 @@ use Rattle.std.proofs.lemmas.Bool.{cases_eq, false≢true}
 use Rattle.std.proofs.lemmas.List.Elements.{All-head, All-tail}
 use Rattle.rtl_bits.specs.declared.Bit.{Bit}
 use Rattle.rtl_flat.specs.Process.{Watched}
-use Rattle.event_model.specs.Queue.{Flat, State, Event, Input, Evaluate, Update, Run, Delayed, Activate, CanRun, HasNoActive, IsAtRest, IsThere, after, doing_at, is_assignment, run, widths}
+use Rattle.event_model.specs.Queue.{State, Event, Input, Evaluate, Update, Run, Delayed, Activate, CanRun, HasNoActive, IsAtRest, IsThere, after, doing_at, is_assignment, run}
+use Rattle.rtl_flat.specs.Flats.{Flat, widths}
 use Rattle.event_model.specs.Writes.{Values, put}
 use Rattle.event_runs.proofs.event_laws_proofs.Lengths.{put_at, put_other}
 use Rattle.net_model.specs.Control.{IsReached}

@@ -4,7 +4,8 @@ use Rattle.std.specs.Prelude.{IsTrue, is_some}
 use Rattle.std.proofs.lemmas.Bool.{cases_eq, false≢true}
 use Rattle.std.proofs.lemmas.List.Elements.{All-head, All-tail}
 use Rattle.rtl_bits.specs.declared.Bit.{Bit}
-use Rattle.event_model.specs.Queue.{Flat, Event, Activate, after, is_input, run}
+use Rattle.event_model.specs.Queue.{Event, Activate, after, is_input, run}
+use Rattle.rtl_flat.specs.Flats.{Flat}
 use Rattle.event_model.specs.Writes.{put}
 use Rattle.event_runs.specs.event_laws.Steady.{AreLawful}
 use Rattle.event_runs.proofs.event_laws_proofs.Lengths.{put_at, put_other}

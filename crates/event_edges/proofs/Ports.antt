@@ -10,7 +10,8 @@ use Rattle.rtl_flat.specs.Flows.{flow_of, may_target}
 use Rattle.rtl_flat.specs.Paths.{MayWrite}
 use Rattle.rtl_flat.specs.Process.{Piece, Doing, Assign}
 use Rattle.rtl_flat.specs.Value.{value}
-use Rattle.event_model.specs.Queue.{Flat, State, HasNoActive, doing_at, is_assignment, resolved, widths}
+use Rattle.event_model.specs.Queue.{State, HasNoActive, doing_at, is_assignment, resolved}
+use Rattle.rtl_flat.specs.Flats.{Flat, widths}
 use Rattle.event_model.specs.Writes.{driven, no_drive}
 use Rattle.event_runs.proofs.event_laws_proofs.Lengths.{put_at}
 use Rattle.net_model.specs.Control.{IsControl, IsLink, IsPassedOn, IsReached, Itself, Through, whole_of}

@@ -9,7 +9,8 @@ use Rattle.rtl_flat.specs.Expression.{Tree}
 use Rattle.rtl_flat.specs.Flows.{may_target, reads}
 use Rattle.rtl_flat.specs.Process.{Piece, Watched, Actions, Doing, Assign, Comb, Edge'}
 use Rattle.event_model.specs.Bodies.{body_made}
-use Rattle.event_model.specs.Queue.{Flat, State, Event, Input, Evaluate, Update, Run, Delayed, Activate, IsThere, after, doing_at, hears, is_assignment, widths}
+use Rattle.event_model.specs.Queue.{State, Event, Input, Evaluate, Update, Run, Delayed, Activate, IsThere, after, doing_at, hears, is_assignment}
+use Rattle.rtl_flat.specs.Flats.{Flat, widths}
 use Rattle.event_model.specs.Traces.{Same, covers}
 use Rattle.event_model.specs.Writes.{Values, Write, written}
 use Rattle.event_runs.specs.event_laws.Steady.{HaveWidths, IsWithin}

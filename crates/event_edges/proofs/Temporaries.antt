@@ -9,7 +9,8 @@ use Rattle.rtl_flat.specs.Expression.{Tree}
 use Rattle.rtl_flat.specs.PathSets.{IsTemporaryOf}
 use Rattle.rtl_flat.specs.Process.{Piece, Watched, Actions, Assign, Comb, Edge'}
 use Rattle.event_model.specs.Bodies.{Made, Now, Later}
-use Rattle.event_model.specs.Queue.{Flat, State, doing_at, happens, hears, perform, perform_all, widths, write}
+use Rattle.event_model.specs.Queue.{State, doing_at, happens, hears, perform, perform_all, write}
+use Rattle.rtl_flat.specs.Flats.{Flat, widths}
 use Rattle.event_model.specs.Traces.{covers, makes_now}
 use Rattle.event_model.specs.Writes.{Values, Write, written}
 use Rattle.event_runs.specs.event_laws.Steady.{IsWithin}

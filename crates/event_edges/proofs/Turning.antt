@@ -8,7 +8,8 @@ use Rattle.rtl_bits.specs.Bits.{replaced}
 use Rattle.rtl_flat.specs.Expression.{Tree}
 use Rattle.rtl_flat.specs.Flows.{may_select}
 use Rattle.rtl_flat.specs.Process.{Selection, Whole, Piece, Watched, Actions, Doing, Assign, Comb, Edge'}
-use Rattle.event_model.specs.Queue.{Flat, State, doing_at, happens, hears, item_hears, widths, write}
+use Rattle.event_model.specs.Queue.{State, doing_at, happens, hears, item_hears, write}
+use Rattle.rtl_flat.specs.Flats.{Flat, widths}
 use Rattle.event_model.specs.Writes.{Values, Write, written}
 use Rattle.event_runs.specs.event_laws.Steady.{IsWithin}
 use Rattle.event_runs.proofs.event_laws_proofs.Lengths.{have_written, put_at, put_other}

@@ -9,7 +9,8 @@ use Rattle.rtl_flat.specs.Process.{Piece, Watched, Actions, Doing, Assign, Comb,
 use Rattle.rtl_flat.specs.Value.{value}
 use Rattle.rtl_flat.specs.WellFormed.{IsBody}
 use Rattle.event_model.specs.Bodies.{Made, Now, Later, body_made}
-use Rattle.event_model.specs.Queue.{Flat, State, Event, Input, Evaluate, Update, Run, Delayed, Activate, IsThere, after, after_evaluate, after_input, after_run, after_update, doing_at, drive, is_body, is_input, perform_all, resolved, widths, write}
+use Rattle.event_model.specs.Queue.{State, Event, Input, Evaluate, Update, Run, Delayed, Activate, IsThere, after, after_evaluate, after_input, after_run, after_update, doing_at, drive, is_body, is_input, perform_all, resolved, write}
+use Rattle.rtl_flat.specs.Flats.{Flat, widths}
 use Rattle.event_model.specs.Writes.{Values, put}
 use Rattle.event_runs.proofs.event_laws_proofs.Lengths.{put_at, put_other}
 use Rattle.event_runs.proofs.event_laws_proofs.Made.{body_within}

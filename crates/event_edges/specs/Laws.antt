@@ -6,7 +6,8 @@ use Rattle.rtl_flat.specs.Flows.{body_flow}
 use Rattle.rtl_flat.specs.Paths.{MayWrite}
 use Rattle.rtl_flat.specs.Process.{Watched, Actions, Edge'}
 use Rattle.event_model.specs.Bodies.{body_made}
-use Rattle.event_model.specs.Queue.{Flat, State, Event, Activate, CanRun, HasNoActive, IsAtRest, IsThere, after, doing_at, offer, power_up, run, widths}
+use Rattle.event_model.specs.Queue.{State, Event, Activate, CanRun, HasNoActive, IsAtRest, IsThere, after, doing_at, offer, power_up, run}
+use Rattle.rtl_flat.specs.Flats.{Flat, widths}
 use Rattle.event_model.specs.Traces.{FollowsPath, Same}
 use Rattle.event_model.specs.Writes.{Values}
 use Rattle.net_model.specs.Control.{IsReached}

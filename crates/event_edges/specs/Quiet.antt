@@ -4,7 +4,8 @@ use Rattle.rtl_bits.specs.declared.Bit.{Bit}
 use Rattle.rtl_flat.specs.Expression.{Tree}
 use Rattle.rtl_flat.specs.Flows.{may_target}
 use Rattle.rtl_flat.specs.Process.{Piece, Watched, Actions, Assign, Edge'}
-use Rattle.event_model.specs.Queue.{Flat, State, doing_at, is_input, widths}
+use Rattle.event_model.specs.Queue.{State, doing_at, is_input}
+use Rattle.rtl_flat.specs.Flats.{Flat, widths}
 use Rattle.event_model.specs.Traces.{Same}
 use Rattle.net_model.specs.Control.{InCone, IsDataInput}
 use Rattle.event_runs.specs.Writers.{IsOrderly, are_over}

@@ -8,7 +8,8 @@ use Rattle.rtl_flat.specs.Paths.{MayWrite}
 use Rattle.rtl_flat.specs.Process.{Watched, Actions, Edge'}
 use Rattle.rtl_flat.specs.Signs.{Has}
 use Rattle.event_model.specs.Bodies.{body_made}
-use Rattle.event_model.specs.Queue.{Flat, State, doing_at, listens, widths}
+use Rattle.event_model.specs.Queue.{State, doing_at, listens}
+use Rattle.rtl_flat.specs.Flats.{Flat, widths}
 use Rattle.event_model.specs.Writes.{Values}
 use Rattle.event_runs.specs.event_laws.Steady.{HaveWidths}
 use Rattle.net_model.specs.Numbers.{bit}

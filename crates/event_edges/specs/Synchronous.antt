@@ -7,7 +7,8 @@ use Rattle.rtl_flat.specs.Paths.{BitSet, MayWrite, MayWriteLate, MayWriteNow, Re
 use Rattle.rtl_flat.specs.PathSets.{IsTemporaryOf, items_list, listed}
 use Rattle.rtl_flat.specs.Process.{Piece, Watched, Actions, Doing, Assign, Comb, Edge'}
 use Rattle.rtl_flat.specs.WellFormed.{has_edge}
-use Rattle.event_model.specs.Queue.{Flat, doing_at, is_input, widths}
+use Rattle.event_model.specs.Queue.{doing_at, is_input}
+use Rattle.rtl_flat.specs.Flats.{Flat, widths}
 use Rattle.event_runs.specs.event_laws.Steady.{AreLawful}
 use Rattle.net_model.specs.Control.{InCone, IsFromTop, IsLink, IsPassedOn, IsReached}
 

@@ -5,7 +5,8 @@ use Rattle.rtl_bits.specs.declared.Bit.{Bit}
 use Rattle.rtl_flat.specs.Expression.{Tree}
 use Rattle.rtl_flat.specs.PathSets.{IsTemporaryOf, items_list}
 use Rattle.rtl_flat.specs.Process.{Piece, Watched, Actions, Assign, Comb, Edge'}
-use Rattle.event_model.specs.Queue.{Flat, State, IsAtRest, doing_at, happens, is_input, offer}
+use Rattle.event_model.specs.Queue.{State, IsAtRest, doing_at, happens, is_input, offer}
+use Rattle.rtl_flat.specs.Flats.{Flat}
 use Rattle.event_model.specs.Traces.{Same}
 use Rattle.event_model.specs.Writes.{Values}
 use Rattle.event_runs.specs.event_laws.Steady.{HaveWidths}

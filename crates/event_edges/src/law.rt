@@ -1,6 +1,6 @@
 //! Laws of steps of clocks, of resets and of data, in runs of the event queue in any order.
 
-ghost use Rattle.event_model.specs.Queue.{Flat};
+ghost use Rattle.rtl_flat.specs.Flats.{Flat};
 ghost use Rattle.event_runs.specs.event_laws.Steady.{AreLawful};
 ghost use Rattle.event_edges.specs.Laws.{ActivationIsQuiet, AllTurn, DataIsQuiet, KeepsRegisters, KeepsTurning, ResetsSet, RunsAreQuiet, RunsKeepTurning, SetAtRest, StepsBegin, TakesEdges, TurnsCone};
 ghost use Rattle.event_edges.specs.Synchronous.{IsSynchronous};

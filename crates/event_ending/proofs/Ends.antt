@@ -9,7 +9,8 @@ use Rattle.rtl_bits.specs.declared.Bit.{Bit}
 use Rattle.rtl_flat.specs.declared.signal.Signal.{Signal}
 use Rattle.event_model.specs.Order.{active}
 use Rattle.event_model.specs.Policies.{one_if}
-use Rattle.event_model.specs.Queue.{Flat, State, Event, Input, Evaluate, Update, Run, Delayed, Activate, CanRun, IsThere, HasNoActive, IsAtRest, after, doing_at, is_assignment, is_input, is_input_kind, is_input_of, offer, run, widths}
+use Rattle.event_model.specs.Queue.{State, Event, Input, Evaluate, Update, Run, Delayed, Activate, CanRun, IsThere, HasNoActive, IsAtRest, after, doing_at, is_assignment, is_input, is_input_kind, is_input_of, offer, run}
+use Rattle.rtl_flat.specs.Flats.{Flat, widths}
 use Rattle.event_model.specs.Writes.{Write, put}
 use Rattle.event_model.proofs.Active.{Each, all_there, no_active}
 use Rattle.event_settling.specs.event_laws.Steady.{AreLawful, IsWithin}

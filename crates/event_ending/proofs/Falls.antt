@@ -4,7 +4,8 @@ use Rattle.std.proofs.lemmas.Bool.{eq-eqb, falseâ‰¢true, ne_eqb, or_left, trueâ‰
 use Rattle.rtl_bits.specs.declared.Bit.{Bit}
 use Rattle.rtl_flat.specs.Process.{Doing, Assign, Comb, Edge'}
 use Rattle.event_model.specs.Policies.{is_below}
-use Rattle.event_model.specs.Queue.{Flat, State, Event, Input, Evaluate, Update, Run, Delayed, Activate, IsThere, after, doing_at, drive_now, is_assignment, is_body, is_input}
+use Rattle.event_model.specs.Queue.{State, Event, Input, Evaluate, Update, Run, Delayed, Activate, IsThere, after, doing_at, drive_now, is_assignment, is_body, is_input}
+use Rattle.rtl_flat.specs.Flats.{Flat}
 use Rattle.event_model.proofs.Active.{assignment_is, signal_there, task_there}
 use Rattle.event_settling.specs.event_laws.Steady.{AreLawful}
 use Rattle.event_settling.specs.event_runs.Effects.{evaluates, event_writes, heard, laters, run_made, runs, takes, updates}

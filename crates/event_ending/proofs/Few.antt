@@ -11,7 +11,8 @@ use Rattle.rtl_flat.specs.Process.{Action, Set, If, Case, Block, Actions, Done, 
 use Rattle.rtl_flat.specs.Value.{value}
 use Rattle.event_model.specs.Bodies.{Made, Now, Later, after_made, assigned, body_made, branches_made, made, other_made, some_matches}
 use Rattle.event_model.specs.Policies.{late, nonblocking, nonblocking_branches, nonblocking_in, nonblocking_of, nonblocking_other}
-use Rattle.event_model.specs.Queue.{Flat, doing_at, doing_of, widths}
+use Rattle.event_model.specs.Queue.{doing_at, doing_of}
+use Rattle.rtl_flat.specs.Flats.{Flat, widths}
 use Rattle.event_model.specs.Writes.{Values, Write, writes}
 use Rattle.event_settling.specs.event_runs.Effects.{laters, other_updates, run_made}
 use Rattle.event_ending.specs.Ending.{lates}

@@ -3,7 +3,8 @@ use Rattle.std.proofs.Common.{◌≡◌, ◌+◌, ◌≤◌, ℕ, zero, suc, Lis
 use Rattle.event_model.specs.declared.policy.Policy.{Policy}
 use Rattle.event_model.specs.Order.{IsReady, active, ready, ready_where}
 use Rattle.event_model.specs.Policies.{PolicyRun, Here, Next, chosen, cost}
-use Rattle.event_model.specs.Queue.{Flat, State, Event, Activate, HasNoActive, after}
+use Rattle.event_model.specs.Queue.{State, Event, Activate, HasNoActive, after}
+use Rattle.rtl_flat.specs.Flats.{Flat}
 use Rattle.event_model.specs.Writes.{Write}
 use Rattle.event_model.proofs.Active.{no_active}
 use Rattle.event_model.proofs.Runs.{chosen_there, policy_ready, policy_rests}

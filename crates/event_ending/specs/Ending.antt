@@ -7,7 +7,8 @@ use Rattle.rtl_flat.specs.Process.{Assign, Piece}
 use Rattle.rtl_flat.specs.Value.{value}
 use Rattle.event_model.specs.declared.policy.Policy.{Policy}
 use Rattle.event_model.specs.Policies.{IsDone, PolicyRun, nonblocking_of, one_if}
-use Rattle.event_model.specs.Queue.{Flat, State, Event, CanRun, IsAtRest, IsThere, doing_at, is_assignment, is_input_kind, offer, power_up, run}
+use Rattle.event_model.specs.Queue.{State, Event, CanRun, IsAtRest, IsThere, doing_at, is_assignment, is_input_kind, offer, power_up, run}
+use Rattle.rtl_flat.specs.Flats.{Flat}
 use Rattle.event_settling.specs.event_laws.Steady.{HaveWidths}
 use Rattle.event_settling.specs.event_runs.Writers.{IsOrderly}
 use Rattle.event_settling.specs.Settling.{Fits}

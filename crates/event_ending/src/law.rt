@@ -1,7 +1,7 @@
 //! How runs of the event queue end, in whatever order events are taken.
 
 ghost use Rattle.std.specs.Prelude.{ℕ, Option};
-ghost use Rattle.event_model.specs.Queue.{Flat};
+ghost use Rattle.rtl_flat.specs.Flats.{Flat};
 ghost use Rattle.net_model.specs.Control.{InCone};
 ghost use Rattle.event_settling.specs.event_laws.Steady.{AreLawful};
 ghost use Rattle.event_settling.specs.Settling.{IsSettling};

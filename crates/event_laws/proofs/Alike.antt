@@ -16,7 +16,7 @@ use Rattle.rtl_flat.specs.Signs.{IsExpression, sign_of}
 use Rattle.rtl_flat.specs.Value.{index_number, value}
 use Rattle.rtl_flat.specs.WellFormed.{AreBranches, IsAction, IsBody, IsOtherwise, IsSelection}
 use Rattle.event_model.specs.Bodies.{Made, after_made, assigned, body_made, branches_made, made, other_made, some_matches}
-use Rattle.event_model.specs.Queue.{Flat, widths}
+use Rattle.rtl_flat.specs.Flats.{Flat, widths}
 use Rattle.event_model.specs.Traces.{FollowsPath, Same, body_trace, branches_trace, other_trace, trace}
 use Rattle.event_model.specs.Writes.{Values, bit_inside, count_of, counts, span_of, write_at, writes}
 use Rattle.event_laws.specs.Steady.{HaveWidths}

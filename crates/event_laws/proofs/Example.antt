@@ -11,7 +11,8 @@ use Rattle.rtl_flat.specs.Expression as tree
 use Rattle.rtl_flat.specs.Process.{Whole, Assign, Piece, Task}
 use Rattle.rtl_flat.specs.Signs.{Has}
 use Rattle.rtl_flat.specs.WellFormed.{AreApart, IsAssignment, IsFixed, IsProcess, IsSelection}
-use Rattle.event_model.specs.Queue.{Flat, State, Event, Input, Evaluate, Update, after, offer, power_up, run}
+use Rattle.event_model.specs.Queue.{State, Event, Input, Evaluate, Update, after, offer, power_up, run}
+use Rattle.rtl_flat.specs.Flats.{Flat}
 use Rattle.event_laws.specs.Steady.{AreLawful, IsSteady}
 use Rattle.event_laws.proofs.Steady.{lawful_processes, steady_offer, steady_power_up, steady_run}
 

@@ -12,8 +12,9 @@ use Rattle.rtl_flat.specs.Value.{value}
 use Rattle.rtl_flat.specs.WellFormed.{IsBody}
 use Rattle.event_model.specs.Writes.{Values, Write, put, written}
 use Rattle.event_model.specs.Bodies.{Made, Now, Later, body_made}
-use Rattle.event_model.specs.Queue.{Flat, State, after_delayed, after_evaluate, after_input, after_run, after_update, doing_at, is_input}
-use Rattle.event_model.specs.Queue.{drive, hears, is_assignment, net_writes, perform, perform_all, resolved, wait, widths, write, write_all}
+use Rattle.event_model.specs.Queue.{State, after_delayed, after_evaluate, after_input, after_run, after_update, doing_at, is_input}
+use Rattle.rtl_flat.specs.Flats.{Flat, widths}
+use Rattle.event_model.specs.Queue.{drive, hears, is_assignment, net_writes, perform, perform_all, resolved, wait, write, write_all}
 use Rattle.event_laws.specs.Steady.{AreLawful, AreUpToDate, IsSteadyIn, IsWithin}
 use Rattle.event_laws.proofs.Inside.{nets_within}
 use Rattle.event_laws.proofs.Lengths.{put_at, put_other}

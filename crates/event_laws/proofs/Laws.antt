@@ -2,7 +2,7 @@
 use Rattle.std.proofs.Common.{◌∙◌, ◌⊎◌, length, get_or, ap, inl, inr}
 use Rattle.rtl_bits.specs.declared.Bit.TheVariants.{X}
 use Rattle.event_model.specs.Bodies.{after_made, body_made}
-use Rattle.event_model.specs.Queue.{Flat, widths}
+use Rattle.rtl_flat.specs.Flats.{Flat, widths}
 use Rattle.event_model.specs.Traces.{Same}
 use Rattle.event_laws.proofs.Made.{body_within}
 use Rattle.event_laws.specs.Laws.{Depends, KeepsOthers, KeepsWidths, LeavesAlike, MakesNow, MakesOnPaths, MakesSure, MakesSureNow, MayLate, MayMake, MayNow, ReadsInside, TellsPaths, TellsTraces, TracesArePaths, ValuesAreWide, WritesInside, WritesVariables, WrittenIn, WrittenOut, after_body}

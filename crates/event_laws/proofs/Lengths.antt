@@ -11,7 +11,7 @@ use Rattle.rtl_bits.specs.Bits.{replaced}
 use Rattle.rtl_flat.specs.declared.signal.Signal.{Signal}
 use Rattle.rtl_flat.specs.Signs.{width_in}
 use Rattle.event_model.specs.Writes.{Values, Write, put, written}
-use Rattle.event_model.specs.Queue.{Flat, widths}
+use Rattle.rtl_flat.specs.Flats.{Flat, widths}
 use Rattle.event_laws.specs.Steady.{HaveWidths, IsWithin, SignalsHaveWidths}
 
 pub put_at : {A : Type 0} (f : ℕ → A) (k j : ℕ) (a : A) → j ≡ k → put f k a j ≡ a

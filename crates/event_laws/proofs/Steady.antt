@@ -13,8 +13,9 @@ use Rattle.rtl_flat.specs.Value.{value}
 use Rattle.rtl_flat.specs.Signs.{width_in}
 use Rattle.rtl_flat.specs.WellFormed.{IsProcess}
 use Rattle.event_model.specs.Writes.{Values, Write, put, written}
-use Rattle.event_model.specs.Queue.{Flat, State, Event, Input, Evaluate, Update, Run, Delayed, Activate}
-use Rattle.event_model.specs.Queue.{after, doing_at, doing_of, drive_now, first_bits, hears, is_assignment, power_up, run, settled_at, widths, CanRun, IsThere}
+use Rattle.event_model.specs.Queue.{State, Event, Input, Evaluate, Update, Run, Delayed, Activate}
+use Rattle.rtl_flat.specs.Flats.{Flat, widths}
+use Rattle.event_model.specs.Queue.{after, doing_at, doing_of, drive_now, first_bits, hears, is_assignment, power_up, run, settled_at, CanRun, IsThere}
 use Rattle.event_laws.specs.Steady.{AreLawful, HaveWidths, IsSteady, IsSteadyIn, IsWithin, SignalsHaveWidths}
 use Rattle.event_laws.proofs.Lengths.{have_written, signals_written}
 use Rattle.event_laws.proofs.Unheard.{signals_unheard, unheard}

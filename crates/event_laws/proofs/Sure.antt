@@ -13,7 +13,7 @@ use Rattle.rtl_flat.specs.Value.{value}
 use Rattle.rtl_flat.specs.WellFormed.{IsAction, IsAssignment, IsBody}
 use Rattle.rtl_flat.proofs.Paths.{decided}
 use Rattle.event_model.specs.Bodies.{Now, assigned, body_made, made}
-use Rattle.event_model.specs.Queue.{Flat, widths}
+use Rattle.rtl_flat.specs.Flats.{Flat, widths}
 use Rattle.event_model.specs.Traces.{FollowsPath, body_trace, covers, makes, makes_late, makes_now, trace}
 use Rattle.event_model.specs.Writes.{Values, Write, writes}
 use Rattle.event_laws.specs.Steady.{HaveWidths}

@@ -20,7 +20,7 @@ use Rattle.rtl_flat.specs.WellFormed.{AreBranches, IsAction, IsAssignment, IsBod
 use Rattle.rtl_flat.proofs.Flows.{some_action}
 use Rattle.rtl_flat.proofs.Outside.{some_of}
 use Rattle.event_model.specs.Bodies.{Made, after_made, assigned, body_made, branches_made, made, other_made, some_matches}
-use Rattle.event_model.specs.Queue.{Flat, widths}
+use Rattle.rtl_flat.specs.Flats.{Flat, widths}
 use Rattle.event_model.specs.Traces.{body_trace, branches_trace, other_trace, trace}
 use Rattle.event_model.specs.Writes.{Values, writes}
 use Rattle.event_laws.specs.Steady.{HaveWidths}

@@ -20,7 +20,8 @@ use Rattle.rtl_flat.specs.Value.{value}
 use Rattle.rtl_flat.specs.WellFormed.{has_edge, IsList}
 use Rattle.event_model.specs.Traces.{Same}
 use Rattle.event_model.specs.Writes.{Values, Write, written}
-use Rattle.event_model.specs.Queue.{Flat, happens, hears, hears_from, item_hears, listens, widths}
+use Rattle.event_model.specs.Queue.{happens, hears, hears_from, item_hears, listens}
+use Rattle.rtl_flat.specs.Flats.{Flat, widths}
 use Rattle.event_laws.specs.Steady.{HaveWidths, IsWithin, SignalsHaveWidths}
 use Rattle.event_laws.proofs.Agreement.{value_agrees}
 use Rattle.event_laws.proofs.Lengths.{fits, have_written, is_there, put_other, signal_fits, signals_written, written_length}

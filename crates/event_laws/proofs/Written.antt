@@ -8,7 +8,7 @@ use Rattle.rtl_bits.specs.declared.Bit.{Bit}
 use Rattle.rtl_bits.specs.declared.Bit.TheVariants.{X}
 use Rattle.rtl_bits.specs.Bits.{replaced}
 use Rattle.event_model.specs.Bodies.{Made, Now, Later, after_made}
-use Rattle.event_model.specs.Queue.{Flat, widths}
+use Rattle.rtl_flat.specs.Flats.{Flat, widths}
 use Rattle.event_model.specs.Traces.{Same, covers, makes_now}
 use Rattle.event_model.specs.Writes.{Values, Write, written}
 use Rattle.event_laws.specs.Steady.{HaveWidths, IsWithin}

@@ -13,7 +13,7 @@ use Rattle.rtl_flat.specs.Sizes.{width_of}
 use Rattle.rtl_flat.specs.Value.{value}
 use Rattle.rtl_flat.specs.WellFormed.{IsAction, IsAssignment, IsBody}
 use Rattle.event_model.specs.Bodies.{Made, after_made, assigned, body_made, made}
-use Rattle.event_model.specs.Queue.{Flat, widths}
+use Rattle.rtl_flat.specs.Flats.{Flat, widths}
 use Rattle.event_model.specs.Traces.{FollowsPath, Same, body_trace, covers, makes, makes_late, makes_now, trace}
 use Rattle.event_model.specs.Writes.{Values, Write, writes, written}
 use Rattle.event_laws.specs.Steady.{HaveWidths, IsWithin}

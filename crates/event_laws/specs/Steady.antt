@@ -8,7 +8,8 @@ use Rattle.rtl_flat.specs.Process.{Piece, Doing, Assign}
 use Rattle.rtl_flat.specs.Value.{value}
 use Rattle.rtl_flat.specs.WellFormed.{IsProcess}
 use Rattle.event_model.specs.Writes.{Values, Write}
-use Rattle.event_model.specs.Queue.{Flat, State, doing_at, is_input, widths}
+use Rattle.event_model.specs.Queue.{State, doing_at, is_input}
+use Rattle.rtl_flat.specs.Flats.{Flat, widths}
 
 -- each process is lawful over the design's signals
 abbrev pub AreLawful : Flat → Type 0

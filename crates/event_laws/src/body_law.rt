@@ -1,6 +1,6 @@
 //! Laws of what a body makes in one run.
 
-ghost use Rattle.event_model.specs.Queue.{Flat};
+ghost use Rattle.rtl_flat.specs.Flats.{Flat};
 ghost use Rattle.event_laws.specs.Laws.{Depends, KeepsOthers, KeepsWidths, LeavesAlike, MakesOnPaths, MakesSure, MakesSureNow, MayLate, MayMake, MayNow, ReadsInside, TellsPaths, TellsTraces, TracesArePaths, ValuesAreWide, WritesInside, WritesVariables, WrittenIn, WrittenOut};
 
 /// What a body makes depends on what it reads outside: where one run takes a path, a run that finds the same there makes

@@ -5,7 +5,8 @@ ghost use Rattle.std.specs.List.{All};
 ghost use Rattle.rtl_bits.specs.declared.Bit.{Bit};
 ghost use Rattle.rtl_flat.specs.WellFormed.{IsProcess};
 ghost use Rattle.event_model.specs.Writes.{Values, put};
-ghost use Rattle.event_model.specs.Queue.{Flat, State, Event, after, power_up, run, settled_at, widths, CanRun, IsThere};
+ghost use Rattle.event_model.specs.Queue.{State, Event, after, power_up, run, settled_at, CanRun, IsThere};
+ghost use Rattle.rtl_flat.specs.Flats.{Flat, widths};
 ghost use Rattle.event_laws.specs.Steady.{AreLawful, HaveWidths, IsSteady};
 
 /// Each event keeps a state steady.

@@ -5,7 +5,8 @@ use Rattle.std.proofs.lemmas.Bool.{and_parts, cases_lt, false≢true, true≢fal
 use Rattle.std.proofs.lemmas.Option.{slice_get_cases}
 use Rattle.rtl_flat.specs.Process.{Doing, Assign, Comb, Edge', Task}
 use Rattle.event_model.specs.Writes.{Write}
-use Rattle.event_model.specs.Queue.{Flat, State, Event, Input, Evaluate, Update, Run, doing_of, doing_at, is_input, is_input_of, is_assignment, is_body, HasNoActive, IsThere, IsAtRest}
+use Rattle.event_model.specs.Queue.{State, Event, Input, Evaluate, Update, Run, doing_of, doing_at, is_input, is_input_of, is_assignment, is_body, HasNoActive, IsThere, IsAtRest}
+use Rattle.rtl_flat.specs.Flats.{Flat}
 use Rattle.event_model.specs.Order.{numbers, woken_event, inputs, updates, woken, first_delayed, active, ready_where, ready, IsReady}
 
 -- ---- lists

@@ -5,7 +5,8 @@ use Rattle.std.proofs.lemmas.Bool.{and_from, cases_lt, false≢true, true≢fals
 use Rattle.std.proofs.lemmas.List.Elements.{Contains-append_right}
 use Rattle.rtl_flat.specs.Process.{Doing, Assign, Comb, Edge'}
 use Rattle.event_model.specs.Writes.{Write}
-use Rattle.event_model.specs.Queue.{Flat, State, Event, Input, Evaluate, Update, Run, Delayed, Activate, doing_at, is_input, is_assignment, is_body, HasNoActive, IsThere}
+use Rattle.event_model.specs.Queue.{State, Event, Input, Evaluate, Update, Run, Delayed, Activate, doing_at, is_input, is_assignment, is_body, HasNoActive, IsThere}
+use Rattle.rtl_flat.specs.Flats.{Flat}
 use Rattle.event_model.specs.Order.{numbers, woken_event, inputs, updates, woken, first_delayed, active, HasAllActive, IsReady, HasAll}
 use Rattle.event_model.proofs.Active.{Each, each_append, each_map, numbers_pass, signal_there, task_there, assignment_is, all_there}
 

@@ -12,7 +12,8 @@ use Rattle.rtl_flat.specs.Paths.{Step, reads_bit, may_write_late}
 use Rattle.rtl_flat.specs.Process.{Whole, Action, Set, If, Actions, Done, Then, Without, Doing, Edge'}
 use Rattle.event_model.specs.declared.policy.Policy.TheVariants.{Descending}
 use Rattle.event_model.specs.Writes.{Values}
-use Rattle.event_model.specs.Queue.{Flat, State, Event, Input, Run, Delayed, Activate, run, offer, settled_at, power_up}
+use Rattle.event_model.specs.Queue.{State, Event, Input, Run, Delayed, Activate, run, offer, settled_at, power_up}
+use Rattle.rtl_flat.specs.Flats.{Flat}
 use Rattle.event_model.specs.Traces.{body_trace, makes, makes_now, makes_late}
 use Rattle.event_model.specs.Bodies.{made}
 use Rattle.event_model.specs.Order.{active}

@@ -3,7 +3,8 @@ use Rattle.std.proofs.Common.{◌≡◌, ◌∙◌, ℕ, Bool, true, false, cond
 use Rattle.event_model.specs.declared.policy.Policy.{Policy}
 use Rattle.event_model.specs.declared.policy.Policy.TheVariants.{Level, Ascending, Descending}
 use Rattle.event_model.specs.Writes.{Write}
-use Rattle.event_model.specs.Queue.{Flat, State, Event, Input, Update, Activate, after, IsThere, IsAtRest, run, CanRun, Reaches}
+use Rattle.event_model.specs.Queue.{State, Event, Input, Update, Activate, after, IsThere, IsAtRest, run, CanRun, Reaches}
+use Rattle.rtl_flat.specs.Flats.{Flat}
 use Rattle.event_model.specs.Order.{woken_event, inputs, updates, woken, first_delayed, active, ready_where, ready, IsReady}
 use Rattle.event_model.specs.Policies.{first_of, last_of, is_below, lower, lowest, lowest_event, by_level, chosen, PolicyRun, Here, Next, IsDone}
 use Rattle.event_model.proofs.Active.{Each, each_append, there_delayed, there_inputs, there_updates, woken_are, all_there, no_active, at_rest, is_ready}

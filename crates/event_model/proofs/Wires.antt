@@ -14,7 +14,8 @@ use Rattle.rtl_flat.specs.Process.{Piece, Whole, BitAt, Set, Case, Actions, Done
 use Rattle.event_model.specs.declared.policy.Policy.TheVariants.{Level, Ascending, Descending}
 use Rattle.event_model.specs.Bodies.{Now, body_made}
 use Rattle.event_model.specs.Writes.{Values, writes}
-use Rattle.event_model.specs.Queue.{Flat, Event, Input, Evaluate, Update, run, offer, power_up}
+use Rattle.event_model.specs.Queue.{Event, Input, Evaluate, Update, run, offer, power_up}
+use Rattle.rtl_flat.specs.Flats.{Flat}
 use Rattle.event_model.specs.Order.{active}
 use Rattle.event_model.specs.Policies.{chosen}
 

@@ -3,7 +3,8 @@
 use Rattle.std.specs.Prelude.{◌≡◌, ◌≢◌, ◌↔◌, ℕ, List, [], ◌∷◌, ◌++◌, map, length, is_some, Bool, ◌&&◌, cond}
 use Rattle.std.specs.List.{filter, range_with_len, Contains}
 use Rattle.event_model.specs.Writes.{Write}
-use Rattle.event_model.specs.Queue.{Flat, State, Event, Input, Evaluate, Update, Run, Delayed, Activate, after, doing_at, is_input, is_assignment, IsThere}
+use Rattle.event_model.specs.Queue.{State, Event, Input, Evaluate, Update, Run, Delayed, Activate, after, doing_at, is_input, is_assignment, IsThere}
+use Rattle.rtl_flat.specs.Flats.{Flat}
 
 -- the numbers below a limit that pass a test, in order
 abbrev pub numbers : ℕ → (ℕ → Bool) → List ℕ

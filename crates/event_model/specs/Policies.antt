@@ -4,7 +4,8 @@ use Rattle.std.specs.Prelude.{ℕ, suc, ◌+◌, ◌*◌, ◌≡◌, ◌<◌, na
 use Rattle.rtl_flat.specs.Process.{Action, Set, If, Case, Block, Actions, Done, Then, Otherwise, Without, With, Branches, NoBranch, Branch, Doing, Assign, Comb, Edge'}
 use Rattle.event_model.specs.declared.policy.Policy.{Policy}
 use Rattle.event_model.specs.declared.policy.Policy.TheVariants.{Level, Ascending, Descending}
-use Rattle.event_model.specs.Queue.{Flat, State, Event, Input, Evaluate, Update, Run, Delayed, Activate, after, doing_at, is_input_kind, is_assignment}
+use Rattle.event_model.specs.Queue.{State, Event, Input, Evaluate, Update, Run, Delayed, Activate, after, doing_at, is_input_kind, is_assignment}
+use Rattle.rtl_flat.specs.Flats.{Flat}
 use Rattle.event_model.specs.Order.{active, inputs, updates, woken, woken_event, first_delayed, ready}
 
 -- ---- which event is taken next

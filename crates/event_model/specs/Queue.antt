@@ -13,6 +13,7 @@ use Rattle.rtl_flat.specs.declared.design.Design.{Design}
 use Rattle.rtl_flat.specs.declared.signal.Signal.{Signal}
 use Rattle.rtl_flat.specs.declared.signal.Kind.{Kind}
 use Rattle.rtl_flat.specs.declared.signal.Kind.TheVariants.{TopInput, Net, Var}
+use Rattle.rtl_flat.specs.Flats.{Flat, widths}
 use Rattle.rtl_flat.specs.Flows.{reads, may_select}
 use Rattle.rtl_flat.specs.PathSets.{listed}
 use Rattle.rtl_flat.specs.Process.{Piece, Watched, Doing, Assign, Comb, Edge', Task, task}
@@ -21,18 +22,6 @@ use Rattle.rtl_flat.specs.Sizes.{width_of}
 use Rattle.rtl_flat.specs.Value.{value}
 use Rattle.event_model.specs.Writes.{Values, Write, Span, put, written, span_of, write_at, no_drive, driven}
 use Rattle.event_model.specs.Bodies.{Made, Now, Later, body_made}
-
--- the signals and the processes of a design
-pub record Flat : Type 0 where
-  pub signals : List Signal
-  pub tasks : List Task
-
-abbrev pub flat : Design → Flat
-flat design = record { signals = design.signals.items; tasks = map task design.processes.items }
-
--- the widths of the signals
-abbrev pub widths : Flat → ℕ → ℕ
-widths d = width_in d.signals
 
 -- what the process with a number does, where there is one
 abbrev pub doing_of : Option Task → Option Doing

@@ -2,7 +2,8 @@
 
 ghost use Rattle.std.specs.Prelude.{ℕ, Option};
 ghost use Rattle.event_model.specs.declared.policy.Policy.{Policy};
-ghost use Rattle.event_model.specs.Queue.{Flat, State, IsAtRest, Reaches};
+ghost use Rattle.event_model.specs.Queue.{State, IsAtRest, Reaches};
+ghost use Rattle.rtl_flat.specs.Flats.{Flat};
 ghost use Rattle.event_model.specs.Order.{HasAll, HasAllActive, IsReady};
 ghost use Rattle.event_model.specs.Policies.{IsDone, PolicyRun};
 

@@ -1,6 +1,6 @@
 -- The laws of runs, as they are stated.
 use Rattle.std.proofs.Common.{◌∙◌, ℕ, Option, sym}
-use Rattle.event_model.specs.Queue.{Flat}
+use Rattle.rtl_flat.specs.Flats.{Flat}
 use Rattle.event_once.specs.Laws.{AgreeBelow, EndOnce, HaveOneLevel, StopNowhereElse}
 use Rattle.event_once.proofs.OneLevel.{level_once, same_choice}
 use Rattle.event_once.proofs.Runs.{moved, one_rest, rests_or_stops}

@@ -9,7 +9,8 @@ use Rattle.event_model.specs.declared.policy.Policy.{Policy}
 use Rattle.event_model.specs.declared.policy.Policy.TheVariants.{Level, Ascending, Descending}
 use Rattle.event_model.specs.Order.{first_delayed, inputs, updates, woken}
 use Rattle.event_model.specs.Policies.{chosen, first_of, is_below, lower, lowest, lowest_event}
-use Rattle.event_model.specs.Queue.{Flat, Input, State, Update}
+use Rattle.event_model.specs.Queue.{Input, State, Update}
+use Rattle.rtl_flat.specs.Flats.{Flat}
 use Rattle.event_model.proofs.Active.{Each, numbers_pass}
 
 -- ---- one level

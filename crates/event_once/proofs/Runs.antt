@@ -3,7 +3,8 @@ use Rattle.std.proofs.Common.{◌≡◌, ◌∙◌, ℕ, ◌+◌, ◌<◌, lengt
 use Rattle.event_model.specs.declared.policy.Policy.{Policy}
 use Rattle.event_model.specs.Order.{ready}
 use Rattle.event_model.specs.Policies.{Here, IsDone, IsTooDear, Next, PolicyRun, budget, chosen, cost}
-use Rattle.event_model.specs.Queue.{Event, Flat, State, after}
+use Rattle.event_model.specs.Queue.{Event, State, after}
+use Rattle.rtl_flat.specs.Flats.{Flat}
 use Rattle.event_once.proofs.OneLevel.{same_choice}
 
 some_one : {A : Type 0} (x y : A) → Some x ≡ Some y → x ≡ y

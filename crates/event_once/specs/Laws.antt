@@ -4,7 +4,8 @@ use Rattle.std.specs.Prelude.{◌≡◌, ◌+◌, ◌<◌, ℕ, length, Option}
 use Rattle.rtl_flat.specs.Levels.{IsLevel}
 use Rattle.event_model.specs.declared.policy.Policy.{Policy}
 use Rattle.event_model.specs.Policies.{IsDone, IsTooDear, PolicyRun, budget}
-use Rattle.event_model.specs.Queue.{Flat, State}
+use Rattle.event_model.specs.Queue.{State}
+use Rattle.rtl_flat.specs.Flats.{Flat}
 
 -- a process has one level
 abbrev pub HaveOneLevel : Flat → Type 0

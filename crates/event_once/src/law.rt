@@ -1,6 +1,6 @@
 //! Each function is a law: it answers nothing, and its contract speaks of all inputs.
 
-ghost use Rattle.event_model.specs.Queue.{Flat};
+ghost use Rattle.rtl_flat.specs.Flats.{Flat};
 ghost use Rattle.event_once.specs.Laws.{EndOnce, HaveOneLevel, StopNowhereElse};
 
 /// A process has one level.

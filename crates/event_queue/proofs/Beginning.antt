@@ -8,7 +8,7 @@ use Rattle.rtl_flat.specs.Levels.{IsLevel}
 use Rattle.rtl_flat.specs.Process.{task}
 use Rattle.rtl_flat.specs.Value.{store}
 use Rattle.event_model.specs.Policies.{budget}
-use Rattle.event_model.specs.Queue.{Flat, flat}
+use Rattle.rtl_flat.specs.Flats.{Flat, flat}
 use Rattle.event_tables.specs.event_write.declared.fanout.Fanout.{Fanout}
 use Rattle.event_tables.specs.event_write.declared.queue_state.QueueState.{QueueState}
 use Rattle.event_tables.specs.event_write.QueueState.{IsFanout, IsQueueState, design_of, state}

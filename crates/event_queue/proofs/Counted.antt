@@ -11,7 +11,7 @@ use Rattle.rtl_bits.specs.declared.Bit.TheVariants.{Z}
 use Rattle.rtl_bits.specs.Bits.{replaced, selected}
 use Rattle.rtl_flat.specs.Process.{Piece, Doing, Assign, Comb, Edge', Task}
 use Rattle.event_model.specs.Writes.{Values, Span, all_written, count_of, counts, no_drive, put, span_of, write_at, writes, written}
-use Rattle.event_model.specs.Queue.{Flat, widths}
+use Rattle.rtl_flat.specs.Flats.{Flat, widths}
 use Rattle.event_tables.specs.event_tally.declared.tally.Tally.{Tally}
 use Rattle.event_tables.specs.event_tally.Given.{bit_given, given_from}
 use Rattle.event_tables.specs.event_tally.Tallies.{IsTalliedAt}

@@ -13,7 +13,8 @@ use Rattle.rtl_flat.specs.Value.{store}
 use Rattle.rank_set.specs.Ranks.{flag}
 use Rattle.agenda.specs.Agendas.{Numbered}
 use Rattle.event_model.specs.Writes.{Values}
-use Rattle.event_model.specs.Queue.{Flat, State, doing_at, flat, is_assignment, power_up, settled_at}
+use Rattle.event_model.specs.Queue.{State, doing_at, is_assignment, power_up, settled_at}
+use Rattle.rtl_flat.specs.Flats.{Flat, flat}
 use Rattle.event_tables.specs.event_write.declared.entries.Entry.{Entry as Code}
 use Rattle.event_tables.specs.event_write.declared.queue_state.QueueState.{QueueState}
 use Rattle.event_tables.specs.event_write.Entries.{Entry, IsClosed, entry}

@@ -7,7 +7,8 @@ use Rattle.rtl_bits.specs.declared.Bit.{Bit}
 use Rattle.rtl_flat.specs.Process.{Doing, Assign, Comb, Edge', Piece}
 use Rattle.rtl_flat.specs.Value.{value}
 use Rattle.event_model.specs.Bodies.{Made, Now, Later, body_made}
-use Rattle.event_model.specs.Queue.{Flat, State, Event, Input, Evaluate, Update, Run, Delayed, Activate, after, after_input, after_evaluate, after_update, after_run, after_delayed, doing_at, drive, is_assignment, is_input, net_writes, perform, offer, perform_all, power_up, resolved, settled_at, wait, widths, write, write_all}
+use Rattle.event_model.specs.Queue.{State, Event, Input, Evaluate, Update, Run, Delayed, Activate, after, after_input, after_evaluate, after_update, after_run, after_delayed, doing_at, drive, is_assignment, is_input, net_writes, perform, offer, perform_all, power_up, resolved, settled_at, wait, write, write_all}
+use Rattle.rtl_flat.specs.Flats.{Flat, widths}
 use Rattle.event_model.specs.declared.setting.Setting.{Setting}
 use Rattle.event_model.specs.Order.{active, ready, ready_where}
 use Rattle.event_model.specs.Writes.{Values, Write, put}

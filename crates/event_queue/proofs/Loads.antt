@@ -3,7 +3,8 @@ use Rattle.std.proofs.Common.{◌≡◌, ◌≤◌, ◌<◌, ◌+◌, ◌∙◌,
 use Rattle.std.specs.Prelude.{Vec, vec_capacity}
 use Rattle.std.specs.declared.alloc.Global.{Global}
 use Rattle.std.proofs.lemmas.List.{length-map}
-use Rattle.event_model.specs.Queue.{Flat, State, after_delayed, write, write_all}
+use Rattle.event_model.specs.Queue.{State, after_delayed, write, write_all}
+use Rattle.rtl_flat.specs.Flats.{Flat}
 use Rattle.event_model.specs.Writes.{Write}
 use Rattle.event_tables.specs.event_write.declared.entries.Entry.{Entry as Code}
 use Rattle.event_tables.specs.event_write.declared.queue_state.QueueState.{QueueState}

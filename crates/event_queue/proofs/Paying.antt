@@ -2,7 +2,8 @@
 use Rattle.std.proofs.Common.{◌≡◌, ◌≤◌, ◌<◌, ◌+◌, ◌*◌, ◌∙◌, ℕ, length, Option, None, Some, refl, sym, ap, arith}
 use Rattle.rtl_flat.specs.Process.{Doing}
 use Rattle.event_model.specs.Policies.{cost, run_cost}
-use Rattle.event_model.specs.Queue.{Flat, Event, Input, Evaluate, Update, Run, Delayed, Activate, doing_at}
+use Rattle.event_model.specs.Queue.{Event, Input, Evaluate, Update, Run, Delayed, Activate, doing_at}
+use Rattle.rtl_flat.specs.Flats.{Flat}
 use Rattle.event_tables.specs.event_write.declared.queue_state.QueueState.{QueueState}
 use Rattle.event_queue.specs.declared.costs.Costs.{Costs}
 use Rattle.event_queue.specs.Costs.{AreCosts}

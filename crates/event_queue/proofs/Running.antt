@@ -4,7 +4,8 @@ use Rattle.std.specs.Prelude.{slice_index_or}
 use Rattle.event_model.specs.declared.policy.Policy.{Policy}
 use Rattle.event_model.specs.Order.{ready}
 use Rattle.event_model.specs.Policies.{Here, IsDone, IsTooDear, Next, PolicyRun, chosen, cost}
-use Rattle.event_model.specs.Queue.{Flat, State, Event, Activate, after}
+use Rattle.event_model.specs.Queue.{State, Event, Activate, after}
+use Rattle.rtl_flat.specs.Flats.{Flat}
 use Rattle.event_tables.specs.event_write.declared.fanout.Fanout.{Fanout}
 use Rattle.event_tables.specs.event_write.QueueState.{design_of}
 use Rattle.event_take.specs.declared.choice.Choice.{Choice}

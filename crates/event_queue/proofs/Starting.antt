@@ -19,7 +19,8 @@ use Rattle.rtl_flat.specs.Value.{store}
 use Rattle.rank_set.specs.Ranks.{flag}
 use Rattle.rank_set.proofs.Law.{flag-replicate}
 use Rattle.event_model.specs.Writes.{Values}
-use Rattle.event_model.specs.Queue.{Flat, doing_at, doing_of, drive_now, first_bits, first_drive, is_assignment, power_up, settled_at}
+use Rattle.event_model.specs.Queue.{doing_at, doing_of, drive_now, first_bits, first_drive, is_assignment, power_up, settled_at}
+use Rattle.rtl_flat.specs.Flats.{Flat}
 use Rattle.event_tables.specs.event_write.declared.queue_state.QueueState.{QueueState}
 use Rattle.event_tables.specs.event_write.Entries.{entry, updates}
 use Rattle.event_tables.specs.event_write.QueueState.{HasWidth, driver_of, held, state}

@@ -9,7 +9,8 @@ use Rattle.rtl_flat.specs.Process.{Doing, Assign, Comb, Edge'}
 use Rattle.rtl_flat.specs.Sizes.{width_of}
 use Rattle.rtl_flat.specs.Value.{value}
 use Rattle.event_model.specs.Writes.{Values}
-use Rattle.event_model.specs.Queue.{Flat, State, doing_at, first_bit, widths}
+use Rattle.event_model.specs.Queue.{State, doing_at, first_bit}
+use Rattle.rtl_flat.specs.Flats.{Flat, widths}
 use Rattle.event_tables.specs.event_write.declared.queue_state.QueueState.{QueueState}
 use Rattle.event_tables.specs.event_write.QueueState.{HasWidth, IsQueueState, driver_of, state}
 

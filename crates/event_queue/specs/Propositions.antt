@@ -5,7 +5,8 @@ use Rattle.std.proofs.Props.{props}
 use Rattle.rtl_bits.specs.declared.Bit.{Bit}
 use Rattle.rtl_flat.specs.declared.signal.Signal.{Signal}
 use Rattle.rtl_flat.specs.Process.{Doing, Assign, Comb, Edge', Task}
-use Rattle.event_model.specs.Queue.{Flat, State, widths}
+use Rattle.event_model.specs.Queue.{State}
+use Rattle.rtl_flat.specs.Flats.{Flat, widths}
 use Rattle.event_model.specs.Writes.{Span}
 use Rattle.event_tables.specs.event_write.declared.fanout.Fanout.{Fanout}
 use Rattle.event_tables.specs.event_write.declared.queue_state.QueueState.{QueueState}

@@ -1,7 +1,8 @@
 -- It serves inner contracts and proofs; no answer of the program is stated by it.
 -- The room and the work of delayed updates.
 use Rattle.std.specs.Prelude.{◌≡◌, ◌≤◌, ◌+◌, ◌*◌, ℕ, Bool, true, false, List, [], ◌∷◌, length, vec_capacity}
-use Rattle.event_model.specs.Queue.{Flat, Event, Run, Delayed, doing_at}
+use Rattle.event_model.specs.Queue.{Event, Run, Delayed, doing_at}
+use Rattle.rtl_flat.specs.Flats.{Flat}
 use Rattle.event_tables.specs.event_write.declared.queue_state.QueueState.{QueueState}
 use Rattle.event_tables.specs.event_write.QueueState.{state}
 use Rattle.event_take.specs.Rooms.{room_of}

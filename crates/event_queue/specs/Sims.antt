@@ -7,7 +7,8 @@ use Rattle.rtl_flat.specs.Levels.{IsLevel}
 use Rattle.event_model.specs.declared.policy.Policy.{Policy}
 use Rattle.event_model.specs.Order.{active, ready}
 use Rattle.event_model.specs.Policies.{PolicyRun, budget, cost}
-use Rattle.event_model.specs.Queue.{Flat, State, Event, after, flat}
+use Rattle.event_model.specs.Queue.{State, Event, after}
+use Rattle.rtl_flat.specs.Flats.{Flat, flat}
 use Rattle.event_tables.specs.event_write.QueueState.{design_of, state}
 use Rattle.event_take.specs.Taken.{level_in}
 use Rattle.event_queue.specs.declared.sim.EventSim.{EventSim}

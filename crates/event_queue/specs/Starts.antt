@@ -2,7 +2,8 @@
 -- Where a simulator begins.
 use Rattle.rtl_flat.specs.declared.design.Design.{Design}
 use Rattle.rtl_flat.specs.Value.{store}
-use Rattle.event_model.specs.Queue.{Flat, State, power_up, settled_at}
+use Rattle.event_model.specs.Queue.{State, power_up, settled_at}
+use Rattle.rtl_flat.specs.Flats.{Flat}
 use Rattle.event_tables.specs.event_write.Stored.{AreStored}
 use Rattle.event_queue.specs.declared.start.Start.{Start}
 use Rattle.event_queue.specs.declared.start.Start.TheVariants.{PowerUp, Values}

@@ -6,7 +6,7 @@ use Rattle.rtl_bits.specs.declared.Bit.{Bit}
 use Rattle.rtl_bits.specs.declared.Bit.TheVariants.{Z}
 use Rattle.rtl_flat.specs.declared.signal.Signal.{Signal}
 use Rattle.rtl_flat.specs.Signs.{width_in}
-use Rattle.event_model.specs.Queue.{Flat}
+use Rattle.rtl_flat.specs.Flats.{Flat}
 use Rattle.event_tables.specs.event_tally.declared.tally.Tally.{Tally}
 use Rattle.event_tables.specs.event_tally.Tallies.{IsTalliedAt}
 use Rattle.event_tables.specs.event_write.QueueState.{AreTallied, row}

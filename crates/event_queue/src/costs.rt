@@ -3,7 +3,8 @@
 ghost use Rattle.std.specs.Prelude.{◌≡◌, ◌≤◌, ◌+◌, length, map, sum_by, IfOk, OnOk};
 ghost use Rattle.rtl_flat.specs.Process.{doing, task};
 ghost use Rattle.event_model.specs.Policies.{budget, one_if, nonblocking_of};
-ghost use Rattle.event_model.specs.Queue.{flat, is_assignment, is_input_kind};
+ghost use Rattle.event_model.specs.Queue.{is_assignment, is_input_kind};
+ghost use Rattle.rtl_flat.specs.Flats.{flat};
 ghost use Rattle.event_queue.specs.Costs.{AreCosts, IsEntered};
 ghost use Rattle.event_queue.specs.Lates.{IsFew, room_in};
 

@@ -6,7 +6,8 @@ ghost use Rattle.rtl_flat.specs.Signs.{width_in};
 ghost use Rattle.rtl_flat.specs.Value.{store};
 ghost use Rattle.rtl_flat.specs.WellFormed.{IsProcess};
 ghost use Rattle.rank_set.specs.Ranks.{flag};
-ghost use Rattle.event_model.specs.Queue.{doing_at, flat, is_assignment, power_up, settled_at};
+ghost use Rattle.event_model.specs.Queue.{doing_at, is_assignment, power_up, settled_at};
+ghost use Rattle.rtl_flat.specs.Flats.{flat};
 ghost use Rattle.event_tables.specs.event_write.Stored.{AreStored};
 ghost use Rattle.event_queue.specs.First.{AreDriven, IsFirst, IsFresh, blank, driver_in, first_driver, first_value, now_driver};
 

@@ -1,7 +1,8 @@
 //! The tallies from which a simulator begins.
 
 ghost use Rattle.std.specs.Prelude.{ℕ, ◌≡◌, ◌<◌, ◌≤◌, Some, length, replicate, IfOk};
-ghost use Rattle.event_model.specs.Queue.{doing_at, flat, widths};
+ghost use Rattle.event_model.specs.Queue.{doing_at};
+ghost use Rattle.rtl_flat.specs.Flats.{flat, widths};
 ghost use Rattle.event_tables.specs.event_tally.Tallies.{IsTalliedAt};
 ghost use Rattle.event_take.specs.Tallied.{AreMoved, AreTalliedWith};
 ghost use Rattle.event_tables.specs.event_write.QueueState.{HasWidth, driver_of};

@@ -50,7 +50,8 @@ impl<'d> EventSim<'d> {
     ghost use Rattle.rtl_flat.specs.Process.{task};
     ghost use Rattle.event_model.specs.Order.{active, ready};
     ghost use Rattle.event_model.specs.Policies.{IsDone, IsTooDear, budget, cost};
-    ghost use Rattle.event_model.specs.Queue.{IsAtRest, after, flat, offer};
+    ghost use Rattle.event_model.specs.Queue.{IsAtRest, after, offer};
+    ghost use Rattle.rtl_flat.specs.Flats.{flat};
     ghost use Rattle.event_take.specs.Taken.{IsAble, event_of};
     ghost use Rattle.event_queue.specs.Offers.{AreAllowed, set_of};
     ghost use Rattle.event_queue.specs.Starts.{IsStart, start_of};

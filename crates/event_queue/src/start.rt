@@ -1,7 +1,7 @@
 //! Where a simulator begins.
 
 ghost use Rattle.std.specs.Prelude.{◌≡◌, length, IfOk};
-ghost use Rattle.event_model.specs.Queue.{flat};
+ghost use Rattle.rtl_flat.specs.Flats.{flat};
 ghost use Rattle.event_queue.specs.First.{IsFirst};
 ghost use Rattle.event_queue.specs.Starts.{IsStart, start_of};
 

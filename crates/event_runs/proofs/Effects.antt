@@ -6,7 +6,8 @@ use Rattle.rtl_bits.specs.declared.Bit.{Bit}
 use Rattle.rtl_flat.specs.Process.{Piece, Doing, Assign, Comb, Edge'}
 use Rattle.rtl_flat.specs.Value.{value}
 use Rattle.event_model.specs.Bodies.{Made, Now, Later}
-use Rattle.event_model.specs.Queue.{Flat, State, Event, Input, Evaluate, Update, Run, Delayed, Activate, IsThere, after, after_delayed, after_evaluate, after_input, after_run, after_update, doing_at, drive, drive_now, hears, is_assignment, is_body, net_writes, perform_all, resolved, wait, widths, write, write_all}
+use Rattle.event_model.specs.Queue.{State, Event, Input, Evaluate, Update, Run, Delayed, Activate, IsThere, after, after_delayed, after_evaluate, after_input, after_run, after_update, doing_at, drive, drive_now, hears, is_assignment, is_body, net_writes, perform_all, resolved, wait, write, write_all}
+use Rattle.rtl_flat.specs.Flats.{Flat, widths}
 use Rattle.event_model.specs.Writes.{Write, all_written, put, written}
 use Rattle.event_runs.specs.Effects.{IsEffect, drive_writes, event_writes, first_update, heard, input_writes, laters, nows, other_updates, run_made, update_writes}
 

@@ -13,7 +13,8 @@ use Rattle.rtl_flat.specs.Paths.{MayWrite, ReadsOutside}
 use Rattle.rtl_flat.specs.PathSets.{OfProcess}
 use Rattle.rtl_flat.specs.Process.{Actions, Comb, Done, Set, Then, Whole}
 use Rattle.rtl_flat.proofs.Paths.{decided}
-use Rattle.event_model.specs.Queue.{CanRun, Event, Flat, Input, Run, State, offer, power_up, run, widths}
+use Rattle.event_model.specs.Queue.{CanRun, Event, Input, Run, State, offer, power_up, run}
+use Rattle.rtl_flat.specs.Flats.{Flat, widths}
 use Rattle.event_laws.proofs.Within.{may_read_outside}
 use Rattle.event_runs.specs.Plain.{IsPlain}
 

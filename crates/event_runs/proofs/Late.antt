@@ -7,7 +7,8 @@ use Rattle.rtl_bits.specs.declared.Bit.TheVariants.{X}
 use Rattle.rtl_flat.specs.Paths.{MayWriteLate}
 use Rattle.rtl_flat.specs.Process.{Doing, Assign, Comb, Edge'}
 use Rattle.event_model.specs.Bodies.{body_made}
-use Rattle.event_model.specs.Queue.{Flat, State, Event, Input, Evaluate, Update, Run, Delayed, Activate, CanRun, IsThere, after, doing_at, power_up, run, widths}
+use Rattle.event_model.specs.Queue.{State, Event, Input, Evaluate, Update, Run, Delayed, Activate, CanRun, IsThere, after, doing_at, power_up, run}
+use Rattle.rtl_flat.specs.Flats.{Flat, widths}
 use Rattle.event_model.specs.Traces.{Same, covers}
 use Rattle.event_model.specs.Writes.{Write}
 use Rattle.event_laws.specs.Steady.{AreLawful}

@@ -1,5 +1,6 @@
 -- The laws of events and runs, as they are stated.
-use Rattle.event_model.specs.Queue.{Flat, power_up}
+use Rattle.event_model.specs.Queue.{power_up}
+use Rattle.rtl_flat.specs.Flats.{Flat}
 use Rattle.event_model.specs.Writes.{Values}
 use Rattle.event_laws.specs.Steady.{AreLawful}
 use Rattle.event_runs.specs.Laws.{DrivenAreResolved, DriversRest, HaveEffects, IsKept, IsKeptByRuns, IsKeptByRunning, IsKeptRunning, KeepsOrder, LeavesBits, LeavesInputs, NoneAreLate, OffersGive, OffersKeepOrder, OffersLeave, RunsKeepOrder, SoleDriverGives}

@@ -4,7 +4,7 @@ use Rattle.std.specs.List.{list_any}
 use Rattle.std.proofs.lemmas.Bool.{and_parts, or_cases, or_left, or_right}
 use Rattle.rtl_flat.specs.Paths.{Flow, MayWrite, MayWriteLate, MayWriteNow, Read, Step, Write, may_write_bit, may_write_late, may_write_now}
 use Rattle.rtl_flat.specs.PathSets.{OfProcess}
-use Rattle.event_model.specs.Queue.{Flat}
+use Rattle.rtl_flat.specs.Flats.{Flat}
 use Rattle.event_runs.proofs.Writers.{of_process, to_process}
 
 any_more : (f g : Step → Bool) → ((x : Step) → f x ≡ true → g x ≡ true) → (path : List Step) → list_any f path ≡ true → list_any g path ≡ true

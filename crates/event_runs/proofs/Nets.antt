@@ -16,7 +16,8 @@ use Rattle.rtl_flat.specs.Process.{Assign, Comb, Doing, Edge', Piece}
 use Rattle.rtl_flat.specs.Signs.{width_in}
 use Rattle.rtl_flat.specs.Sizes.{width_of}
 use Rattle.rtl_flat.specs.Value.{value}
-use Rattle.event_model.specs.Queue.{Flat, State, Event, Input, Evaluate, Update, Run, Delayed, Activate, CanRun, IsAtRest, IsThere, after, doing_at, first_bit, first_bits, first_drive, is_assignment, is_input, net_writes, power_up, resolved, run, widths}
+use Rattle.event_model.specs.Queue.{State, Event, Input, Evaluate, Update, Run, Delayed, Activate, CanRun, IsAtRest, IsThere, after, doing_at, first_bit, first_bits, first_drive, is_assignment, is_input, net_writes, power_up, resolved, run}
+use Rattle.rtl_flat.specs.Flats.{Flat, widths}
 use Rattle.event_model.specs.Traces.{Same}
 use Rattle.event_model.specs.Writes.{all_written, driven, put}
 use Rattle.event_laws.specs.Steady.{AreLawful, IsSteady}

@@ -13,7 +13,8 @@ use Rattle.rtl_flat.specs.Expression.{Tree}
 use Rattle.rtl_flat.specs.Flows.{may_select, may_target}
 use Rattle.rtl_flat.specs.Process.{Piece, Selection, Whole, BitAt, BitBy, Part, Doing, Assign, Comb, Edge', Task}
 use Rattle.rtl_flat.specs.WellFormed.{IsFixed, IsProcess, IsSelection}
-use Rattle.event_model.specs.Queue.{Flat, bits_in, doing_of, drive_with, net_writes, resolved, resolved_from, widths}
+use Rattle.event_model.specs.Queue.{bits_in, doing_of, drive_with, net_writes, resolved, resolved_from}
+use Rattle.rtl_flat.specs.Flats.{Flat, widths}
 use Rattle.event_model.specs.Traces.{Same, covers}
 use Rattle.event_model.specs.Writes.{Values, Span, Write, all_written, bit_inside, count_of, counts, driven, no_drive, span_of, write_at, writes, written}
 use Rattle.event_laws.specs.Steady.{AreLawful, HaveWidths, IsWithin}

@@ -14,7 +14,8 @@ use Rattle.rtl_flat.specs.PathSets.{OfProcess}
 use Rattle.rtl_flat.specs.Process.{Assign, Comb, Doing, Edge', Piece}
 use Rattle.rtl_flat.specs.Signs.{Has}
 use Rattle.rtl_flat.proofs.Paths.{decided}
-use Rattle.event_model.specs.Queue.{Flat, doing_at, is_assignment, is_body, is_input, is_input_kind, is_input_of, widths}
+use Rattle.event_model.specs.Queue.{doing_at, is_assignment, is_body, is_input, is_input_kind, is_input_of}
+use Rattle.rtl_flat.specs.Flats.{Flat, widths}
 use Rattle.event_laws.specs.Steady.{AreLawful}
 use Rattle.event_laws.proofs.Laws.{writes_variables}
 use Rattle.event_laws.proofs.Within.{target_has}

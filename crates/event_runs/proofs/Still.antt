@@ -9,7 +9,8 @@ use Rattle.rtl_flat.specs.PathSets.{OfProcess, listed}
 use Rattle.rtl_flat.specs.Process.{Actions, Comb, Watched}
 use Rattle.rtl_flat.specs.WellFormed.{IsBody}
 use Rattle.event_model.specs.Bodies.{body_made}
-use Rattle.event_model.specs.Queue.{Flat, State, Event, Input, Evaluate, Update, Run, Delayed, Activate, CanRun, IsThere, after, doing_at, is_assignment, is_input, run, widths}
+use Rattle.event_model.specs.Queue.{State, Event, Input, Evaluate, Update, Run, Delayed, Activate, CanRun, IsThere, after, doing_at, is_assignment, is_input, run}
+use Rattle.rtl_flat.specs.Flats.{Flat, widths}
 use Rattle.event_model.specs.Traces.{FollowsPath, Same, covers, makes_now}
 use Rattle.event_model.specs.Writes as writes
 use Rattle.event_model.specs.Writes.{Values, all_written}

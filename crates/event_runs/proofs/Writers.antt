@@ -15,7 +15,8 @@ use Rattle.rtl_flat.specs.Process.{Piece, Doing, Assign, Comb, Edge', Task}
 use Rattle.rtl_flat.specs.Signs.{width_in}
 use Rattle.rtl_flat.specs.declared.signal.Signal.{Signal}
 use Rattle.rtl_flat.proofs.Paths.{decided}
-use Rattle.event_model.specs.Queue.{Flat, State, Event, Input, Evaluate, Update, Run, Delayed, Activate, IsThere, bits_in, doing_at, doing_of, is_input, net_writes, resolved, widths}
+use Rattle.event_model.specs.Queue.{State, Event, Input, Evaluate, Update, Run, Delayed, Activate, IsThere, bits_in, doing_at, doing_of, is_input, net_writes, resolved}
+use Rattle.rtl_flat.specs.Flats.{Flat, widths}
 use Rattle.event_model.specs.Traces.{covers}
 use Rattle.event_model.specs.Writes.{Values, Write, no_drive, put, span_of, write_at}
 use Rattle.event_laws.specs.Steady.{AreLawful, IsWithin}

@@ -7,7 +7,8 @@ use Rattle.rtl_flat.specs.PathSets.{listed}
 use Rattle.rtl_flat.specs.Process.{Actions, Watched, Comb}
 use Rattle.rtl_flat.specs.WellFormed.{IsList}
 use Rattle.event_model.specs.Bodies.{Made, Now, Later, after_made}
-use Rattle.event_model.specs.Queue.{Flat, hears, widths}
+use Rattle.event_model.specs.Queue.{hears}
+use Rattle.rtl_flat.specs.Flats.{Flat, widths}
 use Rattle.event_model.specs.Traces.{Same, covers, makes_late, makes_now}
 use Rattle.event_model.specs.Writes.{Values, Write, all_written, written}
 use Rattle.event_laws.specs.Steady.{HaveWidths, IsWithin}

@@ -4,7 +4,8 @@ use Rattle.std.specs.Prelude.{◌≡◌, ℕ, ◌==◌, Bool, false, ◌||◌, i
 use Rattle.rtl_bits.specs.declared.Bit.{Bit}
 use Rattle.rtl_flat.specs.Process.{Piece, Doing, Assign, Comb, Edge'}
 use Rattle.event_model.specs.Bodies.{Made, Now, Later, body_made}
-use Rattle.event_model.specs.Queue.{Flat, State, Event, Input, Evaluate, Update, Run, Delayed, Activate, doing_at, drive_now, hears, net_writes, resolved, widths}
+use Rattle.event_model.specs.Queue.{State, Event, Input, Evaluate, Update, Run, Delayed, Activate, doing_at, drive_now, hears, net_writes, resolved}
+use Rattle.rtl_flat.specs.Flats.{Flat, widths}
 use Rattle.event_model.specs.Writes.{Values, Write, all_written, put, written}
 
 -- ---- writes

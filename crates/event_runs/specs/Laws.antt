@@ -5,7 +5,8 @@ use Rattle.rtl_flat.specs.Expression.{Tree}
 use Rattle.rtl_flat.specs.Flows.{may_target}
 use Rattle.rtl_flat.specs.Process.{Piece, Assign}
 use Rattle.rtl_flat.specs.Value.{value}
-use Rattle.event_model.specs.Queue.{Flat, State, Event, CanRun, IsAtRest, IsThere, after, doing_at, is_input, offer, resolved, run, widths}
+use Rattle.event_model.specs.Queue.{State, Event, CanRun, IsAtRest, IsThere, after, doing_at, is_input, offer, resolved, run}
+use Rattle.rtl_flat.specs.Flats.{Flat, widths}
 use Rattle.event_model.specs.Traces.{Same}
 use Rattle.event_model.specs.Writes.{Values, driven}
 use Rattle.event_runs.specs.Effects.{IsEffect, event_writes, takes}

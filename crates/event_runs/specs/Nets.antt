@@ -4,7 +4,8 @@ use Rattle.rtl_bits.specs.declared.Bit.{Bit}
 use Rattle.rtl_flat.specs.Expression.{Tree}
 use Rattle.rtl_flat.specs.Flows.{may_target}
 use Rattle.rtl_flat.specs.Process.{Piece, Assign}
-use Rattle.event_model.specs.Queue.{Flat, State, doing_at, is_input, resolved, widths}
+use Rattle.event_model.specs.Queue.{State, doing_at, is_input, resolved}
+use Rattle.rtl_flat.specs.Flats.{Flat, widths}
 use Rattle.event_model.specs.Traces.{Same}
 use Rattle.event_model.specs.Writes.{Values, driven, put}
 use Rattle.event_runs.specs.Writers.{IsSole}

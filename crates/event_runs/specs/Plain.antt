@@ -4,7 +4,8 @@ use Rattle.rtl_flat.specs.Flows.{body_flow}
 use Rattle.rtl_flat.specs.Paths.{MayWrite, MayWriteLate, ReadsOutside}
 use Rattle.rtl_flat.specs.PathSets.{listed}
 use Rattle.rtl_flat.specs.Process.{Actions, Watched, Comb}
-use Rattle.event_model.specs.Queue.{Flat, State, Event, doing_at, widths}
+use Rattle.event_model.specs.Queue.{State, Event, doing_at}
+use Rattle.rtl_flat.specs.Flats.{Flat, widths}
 use Rattle.event_model.specs.Traces.{FollowsPath, Same}
 use Rattle.event_model.specs.Writes.{Values}
 use Rattle.event_laws.specs.Laws.{after_body}

@@ -3,7 +3,8 @@ use Rattle.std.specs.Prelude.{◌≡◌, ℕ, Bool, true, List}
 use Rattle.std.specs.List.{list_any}
 use Rattle.rtl_flat.specs.Paths.{MayWrite, MayWriteLate, MayWriteNow}
 use Rattle.rtl_flat.specs.PathSets.{OfProcess}
-use Rattle.event_model.specs.Queue.{Flat, State, Event, Input, Evaluate, Update, Run, Delayed, Activate}
+use Rattle.event_model.specs.Queue.{State, Event, Input, Evaluate, Update, Run, Delayed, Activate}
+use Rattle.rtl_flat.specs.Flats.{Flat}
 use Rattle.event_model.specs.Traces.{covers}
 use Rattle.event_model.specs.Writes.{Write}
 use Rattle.event_laws.specs.Steady.{IsSteady}

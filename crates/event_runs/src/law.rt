@@ -1,6 +1,7 @@
 //! Laws of the events of the queue, and of its runs in every lawful design.
 
-ghost use Rattle.event_model.specs.Queue.{Flat, power_up};
+ghost use Rattle.event_model.specs.Queue.{power_up};
+ghost use Rattle.rtl_flat.specs.Flats.{Flat};
 ghost use Rattle.event_model.specs.Writes.{Values};
 ghost use Rattle.event_laws.specs.Steady.{AreLawful};
 ghost use Rattle.event_runs.specs.Laws.{DrivenAreResolved, DriversRest, HaveEffects, IsKept, IsKeptByRuns, IsKeptByRunning, IsKeptRunning, KeepsOrder, LeavesBits, LeavesInputs, NoneAreLate, OffersGive, OffersKeepOrder, OffersLeave, RunsKeepOrder, SoleDriverGives};

@@ -4,7 +4,8 @@ use Rattle.std.proofs.lemmas.Bool.{cases_Bool, eq-eqb, false≢true, ne_eqb, or_
 use Rattle.rtl_bits.specs.declared.Bit.{Bit}
 use Rattle.rtl_flat.specs.Process.{Doing, Assign, Comb, Edge'}
 use Rattle.event_model.specs.Policies.{cost, one_if, run_cost}
-use Rattle.event_model.specs.Queue.{Flat, State, Event, Input, Evaluate, Update, Run, Delayed, Activate, IsThere, after, doing_at, drive_now, is_assignment, is_body, is_input}
+use Rattle.event_model.specs.Queue.{State, Event, Input, Evaluate, Update, Run, Delayed, Activate, IsThere, after, doing_at, drive_now, is_assignment, is_body, is_input}
+use Rattle.rtl_flat.specs.Flats.{Flat}
 use Rattle.event_model.proofs.Active.{assignment_is, signal_there, task_there}
 use Rattle.event_runs.specs.Effects.{evaluates, runs, takes, updates}
 use Rattle.event_runs.proofs.Effects.{effect}

@@ -12,7 +12,8 @@ use Rattle.rtl_flat.specs.PathSets.{OfProcess, items_list}
 use Rattle.rtl_flat.specs.Process.{Actions, Assign, BitAt, BitBy, Comb, Doing, Edge', Part, Selection, Watched, Whole}
 use Rattle.rtl_flat.specs.WellFormed.{has_edge}
 use Rattle.rtl_flat.proofs.Paths.{decided}
-use Rattle.event_model.specs.Queue.{Flat, doing_at, doing_of, is_assignment, is_body, is_input, widths}
+use Rattle.event_model.specs.Queue.{doing_at, doing_of, is_assignment, is_body, is_input}
+use Rattle.rtl_flat.specs.Flats.{Flat, widths}
 use Rattle.net_model.specs.Control.{InCone, IsControl, IsFromTop, IsReached, Itself, Through, waits_for, whole_of}
 use Rattle.event_runs.specs.event_laws.Steady.{AreLawful}
 use Rattle.event_runs.proofs.event_laws_proofs.Laws.{writes_inside}

@@ -11,7 +11,8 @@ use Rattle.rtl_flat.specs.Paths.{Step, Read, Write, MayRead, MayWrite, ReadsOuts
 use Rattle.rtl_flat.specs.PathSets.{IsTemporaryOf, Uses, listed}
 use Rattle.rtl_flat.specs.Process.{Piece, Watched, Actions, Doing, Assign, Comb, Edge', Task}
 use Rattle.event_model.specs.Policies.{is_below}
-use Rattle.event_model.specs.Queue.{Flat, doing_at, doing_of, is_assignment, widths}
+use Rattle.event_model.specs.Queue.{doing_at, doing_of, is_assignment}
+use Rattle.rtl_flat.specs.Flats.{Flat, widths}
 use Rattle.event_runs.proofs.Writers.{to_process}
 use Rattle.event_settling.specs.Settling.{IsSettling}
 use Rattle.event_settling.proofs.Waking.{attends}

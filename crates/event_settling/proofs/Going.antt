@@ -8,7 +8,8 @@ use Rattle.rtl_flat.specs.Process.{Actions, Watched, Doing, Assign, Comb, Edge',
 use Rattle.event_model.specs.declared.policy.Policy.TheVariants.{Level}
 use Rattle.event_model.specs.Order.{active, ready, ready_where}
 use Rattle.event_model.specs.Policies.{budget, chosen, cost, nonblocking_in, nonblocking_of, one_if, run_cost}
-use Rattle.event_model.specs.Queue.{Flat, State, Event, Input, Evaluate, Update, Run, Delayed, Activate, IsThere, HasNoActive, after, doing_at, doing_of, is_assignment, is_input_kind, is_input_of, widths}
+use Rattle.event_model.specs.Queue.{State, Event, Input, Evaluate, Update, Run, Delayed, Activate, IsThere, HasNoActive, after, doing_at, doing_of, is_assignment, is_input_kind, is_input_of}
+use Rattle.rtl_flat.specs.Flats.{Flat, widths}
 use Rattle.event_model.specs.Writes.{Write}
 use Rattle.event_model.proofs.Active.{no_active}
 use Rattle.event_model.proofs.Runs.{chosen_there}

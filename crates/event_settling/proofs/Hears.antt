@@ -5,7 +5,8 @@ use Rattle.rtl_flat.specs.Flows.{flow_of}
 use Rattle.rtl_flat.specs.Paths.{MayWrite, MayWriteNow}
 use Rattle.rtl_flat.specs.Process.{Doing, Assign, Comb, Edge'}
 use Rattle.event_model.specs.Policies.{is_below}
-use Rattle.event_model.specs.Queue.{Flat, State, Run, Update, IsThere, doing_at, is_assignment, widths}
+use Rattle.event_model.specs.Queue.{State, Run, Update, IsThere, doing_at, is_assignment}
+use Rattle.rtl_flat.specs.Flats.{Flat, widths}
 use Rattle.event_runs.specs.event_laws.Steady.{AreLawful}
 use Rattle.event_runs.specs.Effects.{event_writes, heard}
 use Rattle.event_runs.specs.Writers.{IsOrderly}

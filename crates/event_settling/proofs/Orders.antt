@@ -4,7 +4,8 @@ use Rattle.std.specs.List.{filter, range_with_len}
 use Rattle.std.proofs.lemmas.Bool.{cases_lt, cases_order, false≢true, ltb-false, ltb-true, true≢false}
 use Rattle.event_model.specs.declared.policy.Policy.TheVariants.{Level}
 use Rattle.event_model.specs.Writes.{Write}
-use Rattle.event_model.specs.Queue.{Flat, State, Event, Input, Evaluate, Update, Run, Delayed, Activate, doing_at, is_assignment, is_input}
+use Rattle.event_model.specs.Queue.{State, Event, Input, Evaluate, Update, Run, Delayed, Activate, doing_at, is_assignment, is_input}
+use Rattle.rtl_flat.specs.Flats.{Flat}
 use Rattle.event_model.specs.Order.{first_delayed, inputs, updates, woken, woken_event}
 use Rattle.event_model.specs.Policies.{chosen, first_of, is_below, lower, lowest, lowest_event}
 use Rattle.event_model.proofs.Active.{Each, each_append, assignment_is, none_passes, signal_there, task_there}

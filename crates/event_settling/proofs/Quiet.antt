@@ -9,7 +9,8 @@ use Rattle.rtl_flat.specs.Paths.{MayWrite, MayWriteLate, ReadsOutside}
 use Rattle.rtl_flat.specs.PathSets.{OfProcess}
 use Rattle.rtl_flat.specs.Process.{Piece, Watched, Actions, Doing, Assign, Comb, Edge'}
 use Rattle.rtl_flat.proofs.Paths.{decided}
-use Rattle.event_model.specs.Queue.{Flat, State, Event, Input, Evaluate, Update, Run, Delayed, Activate, IsThere, HasNoActive, after, doing_at, drive_now, is_assignment, is_input, widths}
+use Rattle.event_model.specs.Queue.{State, Event, Input, Evaluate, Update, Run, Delayed, Activate, IsThere, HasNoActive, after, doing_at, drive_now, is_assignment, is_input}
+use Rattle.rtl_flat.specs.Flats.{Flat, widths}
 use Rattle.event_runs.specs.event_laws.Steady.{AreLawful}
 use Rattle.event_runs.specs.Effects.{delayed_after, evaluates, event_writes, heard, laters, run_made, runs, takes, updates}
 use Rattle.event_runs.specs.Writers.{CanWrite, IsOrderly}

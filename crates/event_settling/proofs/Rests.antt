@@ -5,7 +5,8 @@ use Rattle.rtl_bits.specs.declared.Bit.{Bit}
 use Rattle.event_model.specs.declared.policy.Policy.TheVariants.{Level}
 use Rattle.event_model.specs.Order.{ready}
 use Rattle.event_model.specs.Policies.{PolicyRun, Here, Next, budget, chosen, cost}
-use Rattle.event_model.specs.Queue.{Flat, State, Event, after, offer, power_up, widths}
+use Rattle.event_model.specs.Queue.{State, Event, after, offer, power_up}
+use Rattle.rtl_flat.specs.Flats.{Flat, widths}
 use Rattle.event_model.specs.Writes.{put}
 use Rattle.event_model.proofs.Active.{no_active}
 use Rattle.event_model.proofs.Runs.{none_left, policy_ready, policy_rests}

@@ -11,7 +11,8 @@ use Rattle.rtl_flat.specs.Flows.{may_select, reads}
 use Rattle.rtl_flat.specs.Paths.{BitSet}
 use Rattle.rtl_flat.specs.PathSets.{items_list, listed}
 use Rattle.rtl_flat.specs.Process.{Watched, Doing, Assign, Comb, Edge'}
-use Rattle.event_model.specs.Queue.{Flat, happens, hears, hears_from, item_hears, listens, widths}
+use Rattle.event_model.specs.Queue.{happens, hears, hears_from, item_hears, listens}
+use Rattle.rtl_flat.specs.Flats.{Flat, widths}
 use Rattle.event_model.specs.Traces.{covers}
 use Rattle.event_model.specs.Writes.{Values, Write, written}
 use Rattle.event_runs.specs.event_laws.Steady.{HaveWidths, IsWithin}

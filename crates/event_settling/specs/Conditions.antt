@@ -7,7 +7,8 @@ use Rattle.rtl_flat.specs.Paths.{MayWrite, MayWriteLate, MayWriteNow}
 use Rattle.rtl_flat.specs.PathSets.{IsTemporaryOf}
 use Rattle.rtl_flat.specs.Process.{Piece, Watched, Action, Set, If, Case, Block, Actions, Done, Then, Otherwise, Without, With, Branches, NoBranch, Branch, Doing, Comb, Edge'}
 use Rattle.rtl_flat.specs.WellFormed.{has_edge}
-use Rattle.event_model.specs.Queue.{Flat, doing_at, widths}
+use Rattle.event_model.specs.Queue.{doing_at}
+use Rattle.rtl_flat.specs.Flats.{Flat, widths}
 use Rattle.net_model.specs.Control.{IsFromTop}
 
 -- a bit that an assignment may write: a constant index outside its signal selects none (IEEE 1364-2001 section 4.2.1)

@@ -11,7 +11,8 @@ use Rattle.rtl_flat.specs.Process.{Actions, Watched, Comb, Edge'}
 use Rattle.event_model.specs.declared.policy.Policy.TheVariants.{Level}
 use Rattle.event_model.specs.Order.{IsReady}
 use Rattle.event_model.specs.Policies.{IsDone, IsTooDear, PolicyRun, budget, nonblocking_in}
-use Rattle.event_model.specs.Queue.{Flat, State, IsAtRest, doing_at, is_assignment, offer, power_up, widths}
+use Rattle.event_model.specs.Queue.{State, IsAtRest, doing_at, is_assignment, offer, power_up}
+use Rattle.rtl_flat.specs.Flats.{Flat, widths}
 use Rattle.event_runs.specs.Writers.{IsOrderly}
 
 -- ---- designs

@@ -1,7 +1,7 @@
 //! How the policy that goes by level settles a design.
 
 ghost use Rattle.std.specs.Prelude.{ℕ, Option};
-ghost use Rattle.event_model.specs.Queue.{Flat};
+ghost use Rattle.rtl_flat.specs.Flats.{Flat};
 ghost use Rattle.net_model.specs.Control.{InCone};
 ghost use Rattle.event_runs.specs.event_laws.Steady.{AreLawful};
 ghost use Rattle.event_settling.specs.Conditions.{AreRulesKept};

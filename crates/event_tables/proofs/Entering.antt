@@ -11,7 +11,8 @@ use Rattle.rtl_flat.specs.declared.act.ProcId.{ProcId}
 use Rattle.rtl_flat.specs.declared.act.TargetPart.{TargetPart}
 use Rattle.rtl_flat.specs.Process.{Piece, Doing, Assign, Comb, Edge', Task, Actions, Watched, piece}
 use Rattle.rtl_flat.specs.Expression.{Tree}
-use Rattle.event_model.specs.Queue.{Flat, doing_of, doing_at}
+use Rattle.event_model.specs.Queue.{doing_of, doing_at}
+use Rattle.rtl_flat.specs.Flats.{Flat}
 use Rattle.event_write.specs.QueueState.{row}
 use Rattle.event_write.specs.event_tally.Targets.{names, drives_of}
 use Rattle.event_tables.specs.Driving.{drives, ends_in, entered, Enters}

@@ -10,7 +10,8 @@ use Rattle.rtl_flat.specs.declared.act.ProcId.{ProcId}
 use Rattle.rtl_flat.specs.Process.{Task}
 use Rattle.event_write.proofs.rtl_scan_proofs.Places.{width_past}
 use Rattle.event_model.specs.Writes.{no_drive}
-use Rattle.event_model.specs.Queue.{Flat, doing_of, doing_at, widths, drive_with, resolved_from, resolved}
+use Rattle.event_model.specs.Queue.{doing_of, doing_at, drive_with, resolved_from, resolved}
+use Rattle.rtl_flat.specs.Flats.{Flat, widths}
 use Rattle.event_write.specs.event_tally.Targets.{drives_of}
 use Rattle.event_write.proofs.event_tally_proofs.Lengths.{resolved_length, undriven}
 use Rattle.event_write.specs.QueueState.{row, driven_with, resolved_by}

@@ -22,7 +22,8 @@ use Rattle.rtl_flat.proofs.Paths.{decided}
 use Rattle.event_write.specs.rtl_scan.declared.bits.Row.{Row}
 use Rattle.event_write.specs.rtl_scan.Sets.{has_row, has_rows}
 use Rattle.event_write.proofs.rtl_scan_proofs.Places.{width_past}
-use Rattle.event_model.specs.Queue.{Flat, happens, hears, item_hears, doing_of, doing_at, widths}
+use Rattle.event_model.specs.Queue.{happens, hears, item_hears, doing_of, doing_at}
+use Rattle.rtl_flat.specs.Flats.{Flat, widths}
 use Rattle.event_write.specs.declared.listener.Listener.{Listener}
 use Rattle.event_write.specs.Listeners.{AreBelow, heard_by}
 use Rattle.event_write.specs.QueueState.{row}

@@ -6,7 +6,8 @@ use Rattle.std.specs.declared.alloc.Global.{Global}
 use Rattle.rtl_bits.specs.declared.Bit.{Bit}
 use Rattle.rtl_flat.specs.declared.act.ProcId.{ProcId}
 use Rattle.rtl_flat.specs.Process.{Piece, Doing, Assign, Comb, Edge'}
-use Rattle.event_model.specs.Queue.{Flat, doing_at, widths, resolved_from, resolved}
+use Rattle.event_model.specs.Queue.{doing_at, resolved_from, resolved}
+use Rattle.rtl_flat.specs.Flats.{Flat, widths}
 use Rattle.event_write.specs.event_tally.Targets.{drives_of}
 use Rattle.event_write.specs.QueueState.{row, driven_with}
 

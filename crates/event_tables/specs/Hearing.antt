@@ -7,7 +7,8 @@ use Rattle.rtl_bits.specs.declared.Bit.{Bit}
 use Rattle.rtl_bits.specs.declared.Edge.{Edge}
 use Rattle.rtl_flat.specs.declared.act.ProcId.{ProcId}
 use Rattle.rtl_flat.specs.Process.{Doing}
-use Rattle.event_model.specs.Queue.{Flat, doing_at, widths, listens, hears}
+use Rattle.event_model.specs.Queue.{doing_at, listens, hears}
+use Rattle.rtl_flat.specs.Flats.{Flat, widths}
 use Rattle.event_write.specs.declared.listener.Listener.{Listener}
 use Rattle.event_write.specs.Listeners.{AreBelow, heard_by, hears_from}
 use Rattle.event_write.specs.QueueState.{row}

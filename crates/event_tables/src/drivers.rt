@@ -2,7 +2,7 @@
 
 ghost use Rattle.std.specs.Prelude.{ℕ, ◌≡◌, ◌<◌, ◌==◌, length, map, IfOk, OnOk};
 ghost use Rattle.rtl_flat.specs.Process.{piece};
-ghost use Rattle.event_model.specs.Queue.{flat};
+ghost use Rattle.rtl_flat.specs.Flats.{flat};
 ghost use Rattle.event_write.specs.event_tally.Targets.{names};
 ghost use Rattle.event_tables.specs.Driving.{AreDriven, Enters, drives, ends_in};
 

@@ -4,7 +4,8 @@ ghost use Rattle.std.specs.Prelude.{ℕ, ◌≡◌, ◌<◌, ◌&&◌, [], lengt
 ghost use Rattle.std.specs.List.{list_any};
 ghost use Rattle.rtl_bits.specs.declared.Edge.TheVariants.{No};
 ghost use Rattle.rtl_flat.specs.Process.{watched};
-ghost use Rattle.event_model.specs.Queue.{flat, happens, item_hears, widths};
+ghost use Rattle.event_model.specs.Queue.{happens, item_hears};
+ghost use Rattle.rtl_flat.specs.Flats.{flat, widths};
 ghost use Rattle.event_write.specs.rtl_scan.Sets.{has_row, has_rows};
 ghost use Rattle.event_tables.specs.Hearing.{AreHeard, Hears, IsLike, Joins, listens_at};
 

@@ -2,7 +2,8 @@
 use Rattle.std.proofs.Common.{◌≡◌, ◌∙◌, ◌++◌, ℕ, Bool, List, [], ◌∷◌, length, map, Option, None, Some, ap}
 use Rattle.rank_set.specs.Ranks.{IsEmpty, IsLeast}
 use Rattle.agenda.specs.Agendas.{IsLowest, level_at}
-use Rattle.event_model.specs.Queue.{Flat, State, Event, Input, Update, Delayed}
+use Rattle.event_model.specs.Queue.{State, Event, Input, Update, Delayed}
+use Rattle.rtl_flat.specs.Flats.{Flat}
 use Rattle.event_model.specs.Order.{first_delayed, updates, woken, woken_event}
 use Rattle.event_model.specs.Policies.{by_level, first_of, lowest, lowest_event}
 use Rattle.event_take.specs.Lawful.{IsFlagged, IsLawful}

@@ -1,7 +1,8 @@
 -- A nonblocking update, one of its writes after the other.
 use Rattle.std.proofs.Common.{◌≡◌, ◌<◌, ◌≤◌, ◌+◌, ◌∙◌, ◌++◌, ℕ, zero, suc, true, false, cond, List, [], ◌∷◌, length, map, drop, get_or, refl, sym, ap, arith, add-one}
 use Rattle.std.proofs.lemmas.Bool.{true≢false}
-use Rattle.event_model.specs.Queue.{Flat, State, after_delayed, write, write_all}
+use Rattle.event_model.specs.Queue.{State, after_delayed, write, write_all}
+use Rattle.rtl_flat.specs.Flats.{Flat}
 use Rattle.event_model.specs.Writes.{Write}
 use Rattle.event_write.specs.declared.queue_state.QueueState.{QueueState}
 use Rattle.event_write.specs.Entries.{Entry, IsClosed, entry, glue, updates, writes_of}

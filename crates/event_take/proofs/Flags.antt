@@ -6,7 +6,8 @@ use Rattle.std.proofs.lemmas.List.{drop_all, length-map}
 use Rattle.rtl_bits.specs.declared.Bit.{Bit}
 use Rattle.rtl_flat.specs.Value.{store}
 use Rattle.rank_set.specs.Ranks.{flag}
-use Rattle.event_model.specs.Queue.{Flat, Event, Delayed}
+use Rattle.event_model.specs.Queue.{Event, Delayed}
+use Rattle.rtl_flat.specs.Flats.{Flat}
 use Rattle.event_model.specs.Order.{first_delayed}
 use Rattle.event_write.specs.declared.queue_state.QueueState.{QueueState}
 use Rattle.event_write.specs.declared.entries.Entry.{Entry as Code}

@@ -6,7 +6,8 @@ use Rattle.std.proofs.lemmas.List.{length-map}
 use Rattle.rank_set.specs.Ranks.{members, IsEmpty, IsGreatest, IsLeast, IsNth}
 use Rattle.rank_set.proofs.Law.{members-le-length}
 use Rattle.agenda.specs.Agendas.{IsLowest}
-use Rattle.event_model.specs.Queue.{Flat, Event, Input, Update, Delayed}
+use Rattle.event_model.specs.Queue.{Event, Input, Update, Delayed}
+use Rattle.rtl_flat.specs.Flats.{Flat}
 use Rattle.event_model.specs.Order.{active, first_delayed, woken_event}
 use Rattle.event_model.specs.Policies.{by_level, first_of, last_of}
 use Rattle.event_model.specs.Writes.{Write}

@@ -3,7 +3,8 @@ use Rattle.std.proofs.Common.{◌≡◌, ◌∙◌, ◌++◌, ℕ, Bool, true, f
 use Rattle.std.specs.Prelude.{is_some}
 use Rattle.rank_set.specs.Ranks.{flag, IsEmpty, IsGreatest, IsLeast}
 use Rattle.rank_set.proofs.Law.{member_within}
-use Rattle.event_model.specs.Queue.{Flat, State, Event, Input, Update, Delayed, doing_at, is_input, is_assignment}
+use Rattle.event_model.specs.Queue.{State, Event, Input, Update, Delayed, doing_at, is_input, is_assignment}
+use Rattle.rtl_flat.specs.Flats.{Flat}
 use Rattle.event_model.specs.Order.{active, first_delayed, inputs, numbers, updates, woken, woken_event}
 use Rattle.event_model.specs.Policies.{first_of, last_of}
 use Rattle.event_take.specs.Lawful.{IsFlagged, IsLawful}

@@ -5,7 +5,8 @@ use Rattle.std.proofs.lemmas.Bool.{true≢false}
 use Rattle.std.proofs.lemmas.List.{length-append, length-map}
 use Rattle.std.proofs.lemmas.List.Sums.{sum_by-cons}
 use Rattle.rank_set.specs.Ranks.{flag, members, IsNth}
-use Rattle.event_model.specs.Queue.{Flat, State, Event, Input, Update, Delayed}
+use Rattle.event_model.specs.Queue.{State, Event, Input, Update, Delayed}
+use Rattle.rtl_flat.specs.Flats.{Flat}
 use Rattle.event_model.specs.Order.{active, first_delayed, inputs, numbers, updates, woken, woken_event}
 use Rattle.event_take.specs.Lawful.{IsFlagged, IsLawful}
 use Rattle.event_take.proofs.Orders.{input_test, update_test}

@@ -14,7 +14,7 @@ use Rattle.rtl_flat.specs.Process.{Assign, Piece, Selection, Whole, BitAt, BitBy
 use Rattle.rtl_flat.specs.Signs.{sign_of, width_in}
 use Rattle.rtl_flat.specs.Value.{index_number, value}
 use Rattle.rtl_flat.specs.WellFormed.{IsSelection}
-use Rattle.event_model.specs.Queue.{Flat, widths}
+use Rattle.rtl_flat.specs.Flats.{Flat, widths}
 use Rattle.event_model.specs.Writes.{Span, Values, bit_inside, count_of, driven, put, span_of}
 use Rattle.event_write.specs.event_tally.declared.tally.Tally.{Tally}
 use Rattle.event_write.specs.event_tally.Given.{AreCounted}

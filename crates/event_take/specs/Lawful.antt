@@ -2,7 +2,8 @@
 -- What holds of each state that events lead to, and sets that tell what is active in it.
 use Rattle.std.specs.Prelude.{◌≡◌, ℕ, Bool, List, length, None, false, is_some}
 use Rattle.rank_set.specs.Ranks.{flag}
-use Rattle.event_model.specs.Queue.{Flat, State, doing_at, is_input, is_assignment}
+use Rattle.event_model.specs.Queue.{State, doing_at, is_input, is_assignment}
+use Rattle.rtl_flat.specs.Flats.{Flat}
 
 -- only top inputs have an offered value, and only continuous assignments a pending one
 pub record IsLawful (d : Flat) (s : State) : Type 0 where

@@ -2,7 +2,8 @@
 -- The event that a choice is.
 use Rattle.std.specs.Prelude.{◌≡◌, ◌<◌, ℕ, true, Option, None, length, slice_index_or}
 use Rattle.rank_set.specs.Ranks.{flag}
-use Rattle.event_model.specs.Queue.{Flat, Event, Input, Evaluate, Update, Run, Delayed}
+use Rattle.event_model.specs.Queue.{Event, Input, Evaluate, Update, Run, Delayed}
+use Rattle.rtl_flat.specs.Flats.{Flat}
 use Rattle.event_write.specs.declared.queue_state.QueueState.{QueueState}
 use Rattle.event_take.specs.declared.choice.Choice.{Choice}
 use Rattle.event_take.specs.declared.choice.Choice.TheVariants as choice

@@ -7,7 +7,8 @@ use Rattle.rtl_bits.specs.declared.Bit.{Bit}
 use Rattle.rtl_flat.specs.Expression.{Tree}
 use Rattle.rtl_flat.specs.Process.{Piece, Assign}
 use Rattle.rtl_flat.specs.WellFormed.{IsFixed}
-use Rattle.event_model.specs.Queue.{Flat, doing_at}
+use Rattle.event_model.specs.Queue.{doing_at}
+use Rattle.rtl_flat.specs.Flats.{Flat}
 use Rattle.event_model.specs.Writes.{put}
 use Rattle.event_write.specs.event_tally.declared.tally.Tally.{Tally}
 use Rattle.event_write.specs.Entries.{AreSelected}

@@ -9,7 +9,8 @@ use Rattle.rtl_bits.specs.declared.Bit.TheVariants.{Z}
 use Rattle.rtl_bits.specs.Bit.{resolve_bit}
 use Rattle.rtl_bits.specs.Bits.{reduced, same_bit, zip_with}
 use Rattle.rtl_flat.specs.Process.{Doing, Assign, Comb, Edge', Task}
-use Rattle.event_model.specs.Queue.{Flat, doing_of, doing_at, drive_with, resolved_from, resolved, widths}
+use Rattle.event_model.specs.Queue.{doing_of, doing_at, drive_with, resolved_from, resolved}
+use Rattle.rtl_flat.specs.Flats.{Flat, widths}
 use Rattle.event_model.specs.Writes.{driven, no_drive, put}
 use Rattle.event_tally.specs.declared.tally.Tally.{Tally}
 use Rattle.event_tally.specs.Given.{AreCounted, bit_given, given, given_from}

@@ -4,7 +4,7 @@ use Rattle.std.specs.Prelude.{ℕ, ◌≤◌, ◌+◌, List, [], ◌∷◌, leng
 use Rattle.rtl_bits.specs.declared.Bit.{Bit}
 use Rattle.rtl_bits.specs.declared.Bit.TheVariants.{Z}
 use Rattle.rtl_flat.specs.Process.{Doing, Assign, Comb, Edge', Task}
-use Rattle.event_model.specs.Queue.{Flat, widths}
+use Rattle.rtl_flat.specs.Flats.{Flat, widths}
 use Rattle.event_model.specs.Writes.{driven}
 use Rattle.event_tally.specs.declared.tally.Tally.{Tally}
 use Rattle.event_tally.specs.Tallies.{IsTalliedAt}

@@ -12,7 +12,7 @@ use Rattle.rtl_flat.specs.Signs.{Has, width_in, sign_of}
 use Rattle.rtl_flat.specs.Value.{value, index_number}
 use Rattle.rtl_flat.specs.WellFormed.{IsSelection}
 use Rattle.event_model.specs.Writes.{Values, Write, Span, bit_inside, span_of, count_of, counts, write_at, writes}
-use Rattle.event_model.specs.Queue.{Flat}
+use Rattle.rtl_flat.specs.Flats.{Flat}
 use Rattle.event_write.specs.declared.entries.Entry.{Entry as Code}
 use Rattle.event_write.specs.declared.queue_state.QueueState.{QueueState}
 use Rattle.event_write.specs.Entries.{Entry, AreSelected, entry, entries, writes_of, all_writes, glue, updates, IsClosed}

@@ -17,7 +17,8 @@ use Rattle.rtl_flat.proofs.ActViews.{block_is}
 use Rattle.rtl_scan.specs.Bodies.{branches_of, other_of}
 use Rattle.rtl_scan.proofs.Bodies.{case_is, choice_is}
 use Rattle.event_model.specs.Bodies.{Made, Now, Later, after_made, made, body_made, other_made}
-use Rattle.event_model.specs.Queue.{Flat, State, perform, perform_all, write, write_all}
+use Rattle.event_model.specs.Queue.{State, perform, perform_all, write, write_all}
+use Rattle.rtl_flat.specs.Flats.{Flat}
 use Rattle.event_model.specs.Writes.{Values, Write}
 use Rattle.event_write.specs.declared.queue_state.QueueState.{QueueState}
 use Rattle.event_write.specs.Rooms.{IsKept}

@@ -10,7 +10,8 @@ use mathlib.Core.Path.{fun_ext}
 use Rattle.rtl_bits.specs.declared.Bit.{Bit}
 use Rattle.rtl_flat.specs.Value.{store}
 use Rattle.event_model.specs.Writes.{Values, Write, put, written}
-use Rattle.event_model.specs.Queue.{Flat, State, write, widths, hears, doing_at}
+use Rattle.event_model.specs.Queue.{State, write, hears, doing_at}
+use Rattle.rtl_flat.specs.Flats.{Flat, widths}
 use Rattle.event_write.specs.QueueState.{items_of, row}
 
 pub put_at : {A : Type 0} (f : ℕ → A) (k : ℕ) (a : A) → put f k a k ≡ a

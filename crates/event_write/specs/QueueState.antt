@@ -12,7 +12,8 @@ use Rattle.rtl_flat.specs.Signs.{width_in}
 use Rattle.rtl_flat.specs.Value.{store}
 use Rattle.rank_set.specs.Ranks.{flag}
 use Rattle.event_model.specs.Writes.{Values, Span, no_drive}
-use Rattle.event_model.specs.Queue.{Flat, State, flat, doing_at, widths, hears, drive_with, resolved}
+use Rattle.event_model.specs.Queue.{State, doing_at, hears, drive_with, resolved}
+use Rattle.rtl_flat.specs.Flats.{Flat, flat, widths}
 use Rattle.event_tally.specs.declared.tally.Tally.{Tally}
 use Rattle.event_tally.specs.Given.{AreCounted}
 use Rattle.event_write.specs.declared.fanout.Fanout.{Fanout}

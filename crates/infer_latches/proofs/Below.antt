@@ -6,12 +6,12 @@ use Rattle.std.specs.Option.{IsSomeAnd}
 use Rattle.std.proofs.lemmas.Bool.{both_ways, cases_eq, true≢false}
 use Rattle.rtl_flat.specs.Process.{Task}
 use Rattle.rtl_rule.specs.declared.rule.Rule.TheVariants.{SeveralDrivers}
-use Rattle.rtl_rule.specs.Parts.{Parts}
+use Rattle.rtl_flat.specs.Flats.{Flat}
 use Rattle.net_list.specs.check_assign.Assigned.{is_clocked}
 use Rattle.net_list.specs.Failing.{IsLeast}
 use Rattle.net_list.specs.Faults.{AreAlone, HasFault, IsContended}
 
-abbrev pub AreAloneBelow : Parts → ℕ → Type 0
+abbrev pub AreAloneBelow : Flat → ℕ → Type 0
 AreAloneBelow d n = (p : ℕ) → p < n → IsContended d p → ⊥
 
 there_below : {A : Type 0} (xs : List A) (p : ℕ) (P : A → Type 0) → IsSomeAnd (slice_get xs p) P → p < length xs
@@ -19,7 +19,7 @@ there_below [] p P h = absurd h
 there_below (x ∷ xs) zero P h = omega arith
 there_below (x ∷ xs) (suc p) P h = let below = there_below xs p P h in omega (arith, below)
 
-module _ (d : Parts) (n : ℕ) where
+module _ (d : Flat) (n : ℕ) where
   pub alone_next : AreAloneBelow d n → (IsContended d n → ⊥) → AreAloneBelow d (n + 1)
   alone_next before here p below h =
       elim (cases_eq p n) [

@@ -1,7 +1,7 @@
 // The blocks of a design.
 
 ghost use Rattle.std.specs.Prelude.{◌≡◌, IfErr, IfOk};
-ghost use Rattle.rtl_rule.specs.Parts.{parts};
+ghost use Rattle.rtl_flat.specs.Flats.{flat};
 ghost use Rattle.net_list.specs.Failing.{IsFirst};
 ghost use Rattle.net_list.specs.Faults.{IsContended};
 
@@ -22,7 +22,7 @@ use std::alloc::Global;
 pub fn blocks<'d>(alloc: Global, design: &'d Design, fill: Fill) -> Result<Blocks<'d>, InferFault>
     ensures design { IfOk result (λ blocks. blocks.design.now ≡ design.now) }
     ensures fill { IfOk result (λ blocks. blocks.fill ≡ fill) }
-    ensures least { IfErr result (λ fault. IsFirst (IsContended (parts design.now)) fault) }
+    ensures least { IfErr result (λ fault. IsFirst (IsContended (flat design.now)) fault) }
 {
     let mut lower = BitSet::new(alloc);
     for number in 0..design.processes.len() {

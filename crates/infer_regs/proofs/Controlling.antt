@@ -9,10 +9,10 @@ use Rattle.rtl_flat.specs.declared.signal.Kind.TheVariants.{TopInput, Net, Var}
 use Rattle.rtl_flat.specs.declared.signal.Signal.{Signal}
 use Rattle.event_model.specs.Queue.{is_input_kind, is_input_of}
 use Rattle.net_model.specs.Control.{IsControl, IsReached, Itself, Through}
-use Rattle.rtl_rule.specs.Parts.{Parts}
+use Rattle.rtl_flat.specs.Flats.{Flat}
 use Rattle.net_list.specs.rtl_scan.Arrows.{Among, AreRising}
 use Rattle.net_list.specs.check_clocks.declared.reach.Link.{Link}
-use Rattle.net_list.specs.check_clocks.Cone.{AreEdgeMarks, ArePassing, ReachesMarked, flat_of}
+use Rattle.net_list.specs.check_clocks.Cone.{AreEdgeMarks, ArePassing, ReachesMarked}
 use Rattle.net_list.specs.check_clocks.Links.{AreRows}
 use Rattle.net_list.specs.check_clocks.Reach.{Reaches}
 use Rattle.net_list.specs.check_clocks.Tops.{is_top, is_top_kind}
@@ -71,57 +71,57 @@ input_below (s ∷ signals) zero h = omega arith
 input_below (s ∷ signals) (suc c) h = let below = input_below signals c h in omega (arith, below)
 
 -- those below a number
-pub record AreBelow (d : Parts) (n : ℕ) (found : List ℕ) : Type 0 where
+pub record AreBelow (d : Flat) (n : ℕ) (found : List ℕ) : Type 0 where
   pub rising : AreRising found
-  pub each : (s : ℕ) → Among found s ↔ ((s < n) × IsControl (flat_of d) s)
+  pub each : (s : ℕ) → Among found s ↔ ((s < n) × IsControl d s)
 
-module _ (d : Parts) where
+module _ (d : Flat) where
   pub none_below : (found : List ℕ) → found ≡ [] → AreBelow d 0 found
   none_below found none =
       subst (AreBelow d 0) (sym none) (record { rising = tt; each = λ s. (λ h. absurd h, λ h. absurd (omega (arith, h.0))) })
 
-  pub pass_one : (n : ℕ) (found : List ℕ) → AreBelow d n found → (IsControl (flat_of d) n → ⊥) → AreBelow d (n + 1) found
+  pub pass_one : (n : ℕ) (found : List ℕ) → AreBelow d n found → (IsControl d n → ⊥) → AreBelow d (n + 1) found
   pass_one n found are other =
       record { rising = are.rising; each = λ s. (λ h. let (below, is) = (are.each s).0 h in (omega (arith, below), is), λ h. back s h.0 h.1) }
     where
-      back : (s : ℕ) → s < n + 1 → IsControl (flat_of d) s → Among found s
+      back : (s : ℕ) → s < n + 1 → IsControl d s → Among found s
       back s below is = elim (cases_eq s n) [
-        | inl same ↦ absurd (other (subst (IsControl (flat_of d)) same is))
+        | inl same ↦ absurd (other (subst (IsControl d) same is))
         | inr apart ↦ (are.each s).1 (omega (arith, below, apart), is)
       ]
 
-  pub push_one : (n : ℕ) (found new : List ℕ) → AreBelow d n found → IsControl (flat_of d) n → new ≡ found ++ n ∷ [] → AreBelow d (n + 1) new
+  pub push_one : (n : ℕ) (found new : List ℕ) → AreBelow d n found → IsControl d n → new ≡ found ++ n ∷ [] → AreBelow d (n + 1) new
   push_one n found new are here added =
       subst (AreBelow d (n + 1)) (sym added) (record {
         rising = rising_push found n are.rising (λ s among. ((are.each s).0 among).0);
         each = λ s. (λ h. to s (among_cases found (n ∷ []) s h), λ h. back s h.0 h.1);
       })
     where
-      to : (s : ℕ) → Among found s ⊎ Among (n ∷ []) s → (s < n + 1) × IsControl (flat_of d) s
+      to : (s : ℕ) → Among found s ⊎ Among (n ∷ []) s → (s < n + 1) × IsControl d s
       to s (inl h) = let (below, is) = (are.each s).0 h in (omega (arith, below), is)
-      to s (inr (inl same)) = (omega (arith, same), subst (IsControl (flat_of d)) (sym same) here)
+      to s (inr (inl same)) = (omega (arith, same), subst (IsControl d) (sym same) here)
       to s (inr (inr none)) = absurd none
 
-      back : (s : ℕ) → s < n + 1 → IsControl (flat_of d) s → Among (found ++ n ∷ []) s
+      back : (s : ℕ) → s < n + 1 → IsControl d s → Among (found ++ n ∷ []) s
       back s below is = elim (cases_eq s n) [
         | inl same ↦ among_right found (n ∷ []) s (inl same)
         | inr apart ↦ among_left found (n ∷ []) s ((are.each s).1 (omega (arith, below, apart), is))
       ]
 
-  pub all_controls : (n : ℕ) (found : List ℕ) → AreBelow d n found → length d.signals ≤ n → AreControls (flat_of d) found
+  pub all_controls : (n : ℕ) (found : List ℕ) → AreBelow d n found → length d.signals ≤ n → AreControls d found
   all_controls n found are past =
       record { rising = are.rising; each = λ s. (λ h. ((are.each s).0 h).1, λ is. let below = input_below d.signals s is.input in (are.each s).1 (omega (arith, below, past), is)) }
 
-  reached_below : (c s : ℕ) → c < length d.signals → IsReached (flat_of d) c s → s < length d.signals
+  reached_below : (c s : ℕ) → c < length d.signals → IsReached d c s → s < length d.signals
   reached_below c s inside Itself = inside
   reached_below c s inside (Through i j from is) = bit_inside d.signals j is.port_bit
 
-  pub no_top : (n : ℕ) → is_top (slice_get d.signals n) ≡ false → IsControl (flat_of d) n → ⊥
+  pub no_top : (n : ℕ) → is_top (slice_get d.signals n) ≡ false → IsControl d n → ⊥
   no_top n other is =
       both_ways (is_top (slice_get d.signals n)) other (input_of (slice_get d.signals n) ∙ is.input)
 
   module _ (links : List Link) (rows : List (Vec ℕ Global)) (are : AreRows (length d.signals) links rows) (all : ArePassing d (length d.tasks) links) (edges : List Bool) (marked : AreEdgeMarks d edges) where
-    pub control_is : (n : ℕ) → is_top (slice_get d.signals n) ≡ true → ReachesMarked rows edges n → IsControl (flat_of d) n
+    pub control_is : (n : ℕ) → is_top (slice_get d.signals n) ≡ true → ReachesMarked rows edges n → IsControl d n
     control_is n top it =
         record {
           input = sym (input_of (slice_get d.signals n)) ∙ top;
@@ -130,7 +130,7 @@ module _ (d : Parts) where
           edges = ((marked.each it.signal).0 it.marked).1;
         }
 
-    pub control_reaches : (n : ℕ) → IsControl (flat_of d) n → ReachesMarked rows edges n
+    pub control_reaches : (n : ℕ) → IsControl d n → ReachesMarked rows edges n
     control_reaches n is =
         let inside = input_below d.signals n is.input in
         record {

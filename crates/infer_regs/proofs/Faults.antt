@@ -10,7 +10,8 @@ use Rattle.rtl_flat.specs.declared.design.Design.{Design}
 use Rattle.rtl_flat.specs.Process.{Watched, Actions, Doing, Assign, Comb, Edge', Task, watched}
 use Rattle.rtl_rule.specs.declared.rule.Rule.{Rule}
 use Rattle.rtl_rule.specs.declared.rule.Rule.TheVariants.{SenseMissing, NeverWakes, MixedEdges, BlockingState, NonblockingComb, MixedAssign, SeveralDrivers, Undriven, CombLoop, DerivedClock, ClockAsData, LatchInferred, Tristate, ResetShape, ResetPolarity, AsyncPair, ResetValue, FullCase, ParallelCase, UnknownItem, UnknownLiteral, SelectRange, DivideVariable, CaseEquality, DelayIgnored, InitialIgnored, TranslateOff, XOptimism, WildSelector}
-use Rattle.rtl_rule.specs.Parts.{Parts, items_of, parts, within}
+use Rattle.rtl_rule.specs.Parts.{items_of, within}
+use Rattle.rtl_flat.specs.Flats.{Flat, flat}
 use Rattle.net_list.proofs.check_found_proofs.Sites.{task_count}
 use Rattle.net_list.specs.check_sense.Sense.{first_level}
 use Rattle.net_list.specs.check_sense.Telling.{level_in}
@@ -37,7 +38,7 @@ items_are (Edge' events body) h = refl
 
 -- ---- rules
 
-module _ (d : Parts) (p : ℕ) (task : Task) where
+module _ (d : Flat) (p : ℕ) (task : Task) where
   abbrev Has : Rule → Type 0
   Has = IsFault d p task
 
@@ -117,7 +118,7 @@ level_is (Comb list body) = refl
 level_is (Edge' events body) = refl
 
 -- A7
-module _ (d : Parts) (tops : List (Vec ℕ Global)) (clocks resets temporaries : List Bool) (facts : AreFacts d tops clocks resets temporaries) (p : ℕ) (task : Task) (waits : is_clocked task.does ≡ true) where
+module _ (d : Flat) (tops : List (Vec ℕ Global)) (clocks resets temporaries : List Bool) (facts : AreFacts d tops clocks resets temporaries) (p : ℕ) (task : Task) (waits : is_clocked task.does ≡ true) where
   abbrev Derives : List Watched → Watched → Bool
   Derives items item = is_derived tops clocks resets items item.signal
 
@@ -134,8 +135,8 @@ module _ (d : Parts) (tops : List (Vec ℕ Global)) (clocks resets temporaries :
       (any_at (Derives (events_of task.does)) (λ item. IsDerivedClock d (within (p, task) item)) derived_at (events_of task.does))
 
 -- a process that waits is there
-pub below_of : (design : Design) (p : ℕ) → Waits (parts design) p → p < length design.processes.items
-below_of design p waits = let count = task_count design in let below = inside (parts design).tasks p waits in omega (arith, below, count)
+pub below_of : (design : Design) (p : ℕ) → Waits (flat design) p → p < length design.processes.items
+below_of design p waits = let count = task_count design in let below = inside (flat design).tasks p waits in omega (arith, below, count)
   where
     inside : (tasks : List Task) (p : ℕ) → IsSomeAnd (slice_get tasks p) (λ task. is_clocked task.does ≡ true) → p < length tasks
     inside [] p h = absurd h

@@ -12,7 +12,7 @@ use Rattle.rtl_flat.specs.Process.{Watched, Actions, Edge', Task, doing, task, w
 use Rattle.net_model.specs.Cycle.{Chain, Guard}
 use Rattle.rtl_rule.specs.declared.rule.Rule.{Rule}
 use Rattle.rtl_rule.specs.declared.rule.Rule.TheVariants.{MixedEdges, DerivedClock, ResetShape, ResetPolarity}
-use Rattle.rtl_rule.specs.Parts.{Parts, parts}
+use Rattle.rtl_flat.specs.Flats.{Flat, flat}
 use Rattle.net_list.proofs.check_found_proofs.Sites.{task_at}
 use Rattle.net_list.specs.check_sense.Sense.{has_item}
 use Rattle.net_list.specs.check_sense.Telling.{level_in}
@@ -39,9 +39,9 @@ refuted b is none h = both_ways b none (is.1 h)
 
 -- ---- a process that is looked at
 
-module _ (design : Design) (p : ℕ) (x : Process) (below : p < length design.processes.items) (is : x ≡ get_or design.processes.items p x) (t : Task) (there : slice_get (parts design).tasks p ≡ Some t) where
-  abbrev D : Parts
-  D = parts design
+module _ (design : Design) (p : ℕ) (x : Process) (below : p < length design.processes.items) (is : x ≡ get_or design.processes.items p x) (t : Task) (there : slice_get (flat design).tasks p ≡ Some t) where
+  abbrev D : Flat
+  D = flat design
 
   pub same_task : task x ≡ t
   same_task = let here = task_at design p x below is in cc
@@ -105,7 +105,7 @@ module _ (design : Design) (p : ℕ) (x : Process) (below : p < length design.pr
 
 -- ---- what was judged
 
-module _ (d : Parts) (p : ℕ) (t : Task) where
+module _ (d : Flat) (p : ℕ) (t : Task) where
   pub judged_none : (o : Option Rule) → ((rule : Rule) → o ≡ Some rule → ⊥) → IsJudged d p t o → AreNone (IsFault d p t) form_rules
   judged_none None never h = h
   judged_none (Some rule) never h = absurd (never rule refl)

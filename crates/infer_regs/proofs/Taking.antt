@@ -7,7 +7,7 @@ use Rattle.std.proofs.lemmas.List.{map-append, take_all}
 use Rattle.std.proofs.lemmas.List.Elements.{All-nil, All-push, filter_map-append}
 use Rattle.rtl_flat.specs.Process.{Doing, Assign, Comb, Edge', Task}
 use Rattle.rtl_rule.specs.declared.rule.Rule.TheVariants.{SeveralDrivers}
-use Rattle.rtl_rule.specs.Parts.{Parts}
+use Rattle.rtl_flat.specs.Flats.{Flat}
 use Rattle.net_list.proofs.check_found_proofs.Gathering.{take_next}
 use Rattle.net_list.proofs.check_found_proofs.Sites.{numbered_push}
 use Rattle.net_list.specs.check_assign.Assigned.{is_clocked}
@@ -26,7 +26,7 @@ number_at (x ∷ tasks) zero task there = refl
 number_at (x ∷ tasks) (suc n) task there =
     let before = number_at tasks n task there in omega (arith, before)
 
-numbers_next : (d : Parts) (n : ℕ) (task : Task) → slice_get d.tasks n ≡ Some task → numbers_below d (n + 1) ≡ numbers_below d n ++ cons_option (number_of n task.does) []
+numbers_next : (d : Flat) (n : ℕ) (task : Task) → slice_get d.tasks n ≡ Some task → numbers_below d (n + 1) ≡ numbers_below d n ++ cons_option (number_of n task.does) []
 numbers_next d n task there =
     let f : (ℕ × Task) → Option ℕ = λ one. number_of one.0 one.1.does in
     ap (λ ts. filter_map f (enumerate_from 0 ts)) (take_next d.tasks n task there)
@@ -46,11 +46,11 @@ number_none n (Edge' events body) h = absurd (false≢true (sym h))
 
 -- ---- steps
 
-pub taken_none : (d : Parts) (clocked : List Clocked) → clocked ≡ [] → AreTaken d 0 clocked
+pub taken_none : (d : Flat) (clocked : List Clocked) → clocked ≡ [] → AreTaken d 0 clocked
 taken_none d clocked none =
     subst (AreTaken d 0) (sym none) (record { numbers = refl; each = All-nil (IsClocked d); formed = λ p below h. absurd (omega (arith, below)) })
 
-module _ (d : Parts) (n : ℕ) (task : Task) (there : slice_get d.tasks n ≡ Some task) where
+module _ (d : Flat) (n : ℕ) (task : Task) (there : slice_get d.tasks n ≡ Some task) where
   formed_next : ((p : ℕ) → p < n → IsShapeless d p → ⊥) → (IsShapeless d n → ⊥) → (p : ℕ) → p < n + 1 → IsShapeless d p → ⊥
   formed_next before here p below h =
       elim (cases_eq p n) [
@@ -96,7 +96,7 @@ there_below [] p P h = absurd h
 there_below (x ∷ xs) zero P h = omega arith
 there_below (x ∷ xs) (suc p) P h = let below = there_below xs p P h in omega (arith, below)
 
-module _ (d : Parts) (n : ℕ) (clocked : List Clocked) (are : AreTaken d n clocked) (past : length d.tasks ≤ n) where
+module _ (d : Flat) (n : ℕ) (clocked : List Clocked) (are : AreTaken d n clocked) (past : length d.tasks ≤ n) where
   pub all_formed : AreFormed d
   all_formed p h =
       let below = there_below d.tasks p (λ one. is_clocked one.does ≡ true) h.waits in

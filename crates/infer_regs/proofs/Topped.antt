@@ -11,7 +11,8 @@ use Rattle.rtl_flat.specs.declared.expr.SigId.{SigId}
 use Rattle.rtl_flat.specs.Process.{Watched, Task}
 use Rattle.net_model.specs.Cycle.{Guard}
 use Rattle.rtl_rule.specs.declared.rule.Rule.TheVariants.{DerivedClock}
-use Rattle.rtl_rule.specs.Parts.{Parts, At, within}
+use Rattle.rtl_rule.specs.Parts.{At, within}
+use Rattle.rtl_flat.specs.Flats.{Flat}
 use Rattle.net_list.specs.rtl_scan.Arrows.{Among}
 use Rattle.net_list.specs.rtl_scan.Graph.{row}
 use Rattle.net_list.specs.check_chains.declared.chain.Guard as code
@@ -24,7 +25,7 @@ use Rattle.net_list.proofs.chain_laws_proofs.Lists.{Each, each_all, each_from, e
 use Rattle.net_list.specs.Faults.{IsFault}
 use Rattle.infer_regs.specs.Taken.{AreResetTops, HasTop}
 
-module _ (d : Parts) (tops : List (Vec ℕ Global)) (are : AreTops d (length d.signals) tops) where
+module _ (d : Flat) (tops : List (Vec ℕ Global)) (are : AreTops d (length d.signals) tops) where
   nothing : (row : List ℕ) → length row < 1 → (t : ℕ) → Among row t → ⊥
   nothing [] few t h = h
   nothing (x ∷ row) few t h = absurd (omega (arith, few))

@@ -4,10 +4,10 @@ use Rattle.std.specs.Prelude.{◌≡◌, ◌↔◌, ℕ, Bool, true, List, lengt
 use Rattle.std.specs.List.{slice_get}
 use Rattle.std.specs.declared.alloc.Global.{Global}
 use Rattle.rtl_flat.specs.PathSets.{IsTemporary}
-use Rattle.rtl_rule.specs.Parts.{Parts}
+use Rattle.rtl_flat.specs.Flats.{Flat}
 use Rattle.net_list.specs.check_clocks.Tops.{AreRoles, AreTops}
 
-pub record AreFacts (d : Parts) (tops : List (Vec ℕ Global)) (clocks resets temporaries : List Bool) : Type 0 where
+pub record AreFacts (d : Flat) (tops : List (Vec ℕ Global)) (clocks resets temporaries : List Bool) : Type 0 where
   pub tops_are : AreTops d (length d.signals) tops
   pub roles_are : AreRoles d (length d.tasks) clocks resets
   pub temporaries_are : (s : ℕ) → slice_get temporaries s ≡ Some true ↔ IsTemporary d.signals d.tasks s

@@ -2,12 +2,11 @@
 -- 5.2.2).
 use Rattle.std.specs.Prelude.{◌≡◌, ◌⊎◌, ◌↔◌, ℕ, List, [], ◌∷◌, map, Some}
 use Rattle.rtl_flat.specs.Process.{Watched, Task, watched}
-use Rattle.event_model.specs.Queue.{Flat}
+use Rattle.rtl_flat.specs.Flats.{Flat}
 use Rattle.net_model.specs.Control.{IsControl}
 use Rattle.net_model.specs.Cycle.{Chain, Guard}
 use Rattle.rtl_rule.specs.declared.rule.Rule.{Rule}
 use Rattle.rtl_rule.specs.declared.rule.Rule.TheVariants.{MixedEdges, DerivedClock, ResetShape, ResetPolarity, ResetValue}
-use Rattle.rtl_rule.specs.Parts.{Parts}
 use Rattle.net_list.specs.rtl_scan.Arrows.{Among, AreRising}
 use Rattle.net_list.specs.check_chains.Chains.{chain_of}
 use Rattle.net_list.specs.Faults.{IsFault}
@@ -31,14 +30,14 @@ AreNone P [] = Unit {0}
 AreNone P (one ∷ others) = (P one → ⊥) × AreNone P others
 
 -- the clock and the resets of a chain, the strongest reset first
-pub record HasItems (d : Parts) (task : Task) (clock : Watched) (resets : List Watched) : Type 0 where
+pub record HasItems (d : Flat) (task : Task) (clock : Watched) (resets : List Watched) : Type 0 where
   pub chain : Chain
   pub is_chain : chain_of d task.does ≡ Some chain
   pub clock_is : chain.clock ≡ clock
   pub resets_are : map (λ (guard : Guard). guard.item) chain.resets ≡ resets
 
 -- the first rule that has a finding on the process; or where none has, its clock and its resets
-abbrev pub IsForm : Parts → ℕ → Task → Form → Type 0
+abbrev pub IsForm : Flat → ℕ → Task → Form → Type 0
 IsForm d p task (Bad rule) = IsFirstOf (IsFault d p task) form_rules rule
 IsForm d p task (Clock clock resets) =
     AreNone (IsFault d p task) form_rules

@@ -3,7 +3,7 @@
 ghost use Rattle.std.specs.Prelude.{◌≡◌, ◌<◌, ◌↔◌, true, length, map, Some, IfOk};
 ghost use Rattle.std.specs.List.{list_any, slice_get};
 ghost use Rattle.rtl_flat.specs.Process.{Task, doing, watched};
-ghost use Rattle.rtl_rule.specs.Parts.{parts};
+ghost use Rattle.rtl_flat.specs.Flats.{flat};
 ghost use Rattle.net_list.specs.check_sense.Sense.{has_item};
 ghost use Rattle.net_list.specs.check_sense.Telling.{level_in};
 ghost use Rattle.net_list.specs.check_clocks.Clocks.{events_of};
@@ -67,9 +67,9 @@ pub(crate) fn first_broken(
     p: ProcId,
 ) -> Result<Option<Rule>, Memory>
     requires there { p.0 < length design.now.processes.items }
-    requires waits { Waits (parts design.now) p.0 }
-    requires facts { AreFacts (parts design.now) facts.now.tops.items facts.now.roles.clocks.items facts.now.roles.resets.items facts.now.temporaries.items }
-    ensures { let d = parts design.now in
+    requires waits { Waits (flat design.now) p.0 }
+    requires facts { AreFacts (flat design.now) facts.now.tops.items facts.now.roles.clocks.items facts.now.roles.resets.items facts.now.temporaries.items }
+    ensures { let d = flat design.now in
         IfOk result (λ rule. (task : Task) → slice_get d.tasks p.0 ≡ Some task → IsJudged d p.0 task rule) }
 {
     let does = &design.processes[p.0 as usize].does;

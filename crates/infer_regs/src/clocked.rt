@@ -1,7 +1,7 @@
 // The registers of a design.
 
 ghost use Rattle.std.specs.Prelude.{◌≡◌, ◌<◌, length, IfErr, IfOk, MatchOption};
-ghost use Rattle.rtl_rule.specs.Parts.{parts};
+ghost use Rattle.rtl_flat.specs.Flats.{flat};
 ghost use Rattle.net_list.specs.Failing.{IsFirst};
 ghost use Rattle.net_list.specs.Faults.{IsShapeless, Waits};
 ghost use Rattle.infer_regs.specs.Facts.{AreFacts};
@@ -30,9 +30,9 @@ fn clocked_of<'d>(
     p: ProcId,
 ) -> Result<Option<Clocked<'d>>, Memory>
     requires there { p.0 < length design.now.processes.items }
-    requires waits { Waits (parts design.now) p.0 }
-    requires facts { AreFacts (parts design.now) facts.now.tops.items facts.now.roles.clocks.items facts.now.roles.resets.items facts.now.temporaries.items }
-    ensures { let d = parts design.now in
+    requires waits { Waits (flat design.now) p.0 }
+    requires facts { AreFacts (flat design.now) facts.now.tops.items facts.now.roles.clocks.items facts.now.roles.resets.items facts.now.temporaries.items }
+    ensures { let d = flat design.now in
         IfOk result (λ found. MatchOption found (IsBroken d p.0) (IsOne d p.0)) }
 {
     if first_broken(alloc, design, facts, p)?.is_some() {
@@ -60,9 +60,9 @@ fn take<'d>(
     clocked: &mut Vec<Clocked<'d>>,
 ) -> Result<bool, Memory>
     requires there { p.0 < length design.now.processes.items }
-    requires waits { Waits (parts design.now) p.0 }
-    requires facts { AreFacts (parts design.now) facts.now.tops.items facts.now.roles.clocks.items facts.now.roles.resets.items facts.now.temporaries.items }
-    ensures { IfOk result (λ good. Takes (parts design.now) p.0 good clocked.old.items clocked.new.items) }
+    requires waits { Waits (flat design.now) p.0 }
+    requires facts { AreFacts (flat design.now) facts.now.tops.items facts.now.roles.clocks.items facts.now.roles.resets.items facts.now.temporaries.items }
+    ensures { IfOk result (λ good. Takes (flat design.now) p.0 good clocked.old.items clocked.new.items) }
 {
     match clocked_of(alloc, design, facts, p)? {
         Some(one) => {
@@ -79,7 +79,7 @@ fn take<'d>(
 /// its drivers, its clock or its resets; and where memory runs out.
 pub fn registers<'d>(alloc: Global, design: &'d Design) -> Result<Registers<'d>, InferFault>
     ensures design { IfOk result (λ found. found.design.now ≡ design.now) }
-    ensures least { IfErr result (λ fault. IsFirst (IsShapeless (parts design.now)) fault) }
+    ensures least { IfErr result (λ fault. IsFirst (IsShapeless (flat design.now)) fault) }
 {
     let facts = Facts::of(alloc, design)?;
     let mut lower = BitSet::new(alloc);

@@ -1,7 +1,7 @@
 // What is known of a design before its processes are looked at.
 
 ghost use Rattle.std.specs.Prelude.{IfOk};
-ghost use Rattle.rtl_rule.specs.Parts.{parts};
+ghost use Rattle.rtl_flat.specs.Flats.{flat};
 ghost use Rattle.infer_regs.specs.Facts.{AreFacts};
 
 use net_list::check_clocks::tops::{Roles, roles_of, tops_of};
@@ -23,7 +23,7 @@ pub(crate) struct Facts {
 
 impl Facts {
     pub(crate) fn of(alloc: Global, design: &Design) -> Result<Facts, Memory>
-        ensures { IfOk result (λ facts. AreFacts (parts design.now) facts.tops.items facts.roles.clocks.items facts.roles.resets.items facts.temporaries.items) }
+        ensures { IfOk result (λ facts. AreFacts (flat design.now) facts.tops.items facts.roles.clocks.items facts.roles.resets.items facts.temporaries.items) }
     {
         let tops = tops_of(alloc, design)?;
         let roles = roles_of(alloc, design, &tops)?;

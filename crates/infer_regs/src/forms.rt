@@ -3,7 +3,7 @@
 ghost use Rattle.std.specs.Prelude.{◌≡◌, ◌<◌, Some, length, map, IfOk};
 ghost use Rattle.std.specs.List.{slice_get};
 ghost use Rattle.rtl_flat.specs.Process.{Task, watched};
-ghost use Rattle.rtl_rule.specs.Parts.{parts};
+ghost use Rattle.rtl_flat.specs.Flats.{flat};
 ghost use Rattle.net_list.specs.check_chains.Views.{guard_view};
 ghost use Rattle.net_list.specs.Faults.{Waits};
 ghost use Rattle.infer_regs.specs.Forms.{IsForm};
@@ -44,8 +44,8 @@ fn items_of<'d>(alloc: Global, resets: &[Guard<'d>]) -> Result<Vec<&'d EventItem
 ///
 /// Fails where memory runs out.
 pub fn form_of<'d>(alloc: Global, design: &'d Design, p: ProcId) -> Result<Form<'d>, Memory>
-    requires { Waits (parts design.now) p.0 }
-    ensures { let d = parts design.now in
+    requires { Waits (flat design.now) p.0 }
+    ensures { let d = flat design.now in
         IfOk result (λ form. (task : Task) → slice_get d.tasks p.0 ≡ Some task → IsForm d p.0 task form) }
 {
     let facts = Facts::of(alloc, design)?;

@@ -1,7 +1,7 @@
 // The inputs that are clocks or resets.
 
 ghost use Rattle.std.specs.Prelude.{◌≡◌, ◌<◌, ◌↔◌, length, map, true, IfOk};
-ghost use Rattle.event_model.specs.Queue.{flat};
+ghost use Rattle.rtl_flat.specs.Flats.{flat};
 ghost use Rattle.net_list.specs.check_clocks.Cone.{ReachesMarked};
 ghost use Rattle.infer_regs.specs.Forms.{AreControls};
 

@@ -14,7 +14,7 @@ use Rattle.rtl_flat.specs.Process.{Actions}
 use Rattle.rtl_flat.specs.Value.{store}
 use Rattle.rtl_flat.specs.WellFormed.{IsBody}
 use Rattle.net_number.proofs.event_laws_proofs.Lengths.{put_at, put_other}
-use Rattle.event_model.specs.Queue.{Flat, widths}
+use Rattle.rtl_flat.specs.Flats.{Flat, widths}
 use Rattle.event_model.specs.Writes.{Values, put}
 use Rattle.net_model.specs.declared.fill.Fill.{Fill}
 use Rattle.net_model.specs.Block.{Maps, acts, begun, bit_after, block_bit}

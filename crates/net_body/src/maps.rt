@@ -9,7 +9,7 @@ ghost use Rattle.rtl_flat.specs.Process.{Assign, action, body_of, doing, piece};
 ghost use Rattle.rtl_flat.specs.Signs.{width_in};
 ghost use Rattle.rtl_flat.specs.Value.{store};
 ghost use Rattle.rtl_flat.specs.WellFormed.{IsBody, IsProcess, process_statements};
-ghost use Rattle.event_model.specs.Queue.{flat};
+ghost use Rattle.rtl_flat.specs.Flats.{flat};
 ghost use Rattle.event_model.specs.Writes.{driven, put};
 ghost use Rattle.net_model.specs.Block.{begun, block_bit};
 ghost use Rattle.net_model.specs.Numbers.{AreNumbers, bit, digits};

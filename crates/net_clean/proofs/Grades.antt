@@ -6,7 +6,7 @@ use Rattle.std.proofs.lemmas.Bool.{or_from, or_parts, true≢false}
 use Rattle.net_model.specs.Control.{InCone}
 use Rattle.rtl_rule.specs.declared.finding.Finding.{Finding}
 use Rattle.rtl_rule.specs.Order.{comes_before, placed, ranked}
-use Rattle.rtl_rule.specs.Parts.{Parts}
+use Rattle.rtl_flat.specs.Flats.{Flat, Parts}
 use Rattle.rtl_rule.specs.Rows.{row_of}
 use Rattle.rtl_rule.specs.Sites.{AreFindings}
 use Rattle.check_all.specs.check_sense.Sense.{AreMixedEdges, AreSenseFindings, IsMixedEdges, mixed_edges_at}
@@ -14,7 +14,7 @@ use Rattle.check_all.specs.check_assign.Assigned.{AreCombLoop, AreSeveralDrivers
 use Rattle.check_all.specs.check_assign.Findings.{AreAssignFindings}
 use Rattle.check_laws.specs.check_chains.Chains.{AreResetPolarity, AreResetShape, AreResetValue, IsResetPolarity, IsResetShape, IsResetValue, reset_polarity_at, reset_shape_at, reset_value_at}
 use Rattle.check_laws.specs.check_clocks.Clocks.{AreDerivedClock, IsDerivedClock, derived_clock_at}
-use Rattle.check_all.specs.Findings.{AreAllFindings, IsClean, queue_of}
+use Rattle.check_all.specs.Findings.{AreAllFindings, IsClean}
 
 -- ---- ranked findings
 
@@ -68,7 +68,7 @@ none_of P finding_at sites findings grade are h = by_list findings (in_map are.b
 -- ---- the rules
 
 -- no finding of each that keeps inference from a process, and of loops
-pub record HasNoFinding (d : Parts) : Type 0 where
+pub record HasNoFinding (d : Flat) : Type 0 where
   pub s3 : AreMixedEdges d []
   pub a4 : AreSeveralDrivers d []
   pub a6 : AreCombLoop d []
@@ -78,12 +78,12 @@ pub record HasNoFinding (d : Parts) : Type 0 where
   pub r4 : AreResetValue d []
 
 -- those about lists
-of_sense : (d : Parts) (findings : List Finding) → AreSenseFindings d findings → HasNone findings → AreMixedEdges d []
+of_sense : (d : Flat) (findings : List Finding) → AreSenseFindings d findings → HasNone findings → AreMixedEdges d []
 of_sense d findings are h =
     let all = unranked findings (are.missing ++ are.never ++ are.mixed) are.in_order h in
     none_of IsMixedEdges mixed_edges_at _ are.mixed (λ site. refl) are.are_mixed (none_parts (are.missing ++ are.never) are.mixed all).1
 
-module _ (d : Parts) (findings : List Finding) (are : AreAssignFindings (InCone (queue_of d)) d findings) where
+module _ (d : Flat) (findings : List Finding) (are : AreAssignFindings (InCone d) d findings) where
   -- the lists of one rule after another, from the last back to the fourth
   abbrev to_several : List Finding
   to_several = are.blocking ++ are.nonblocking ++ are.mixed ++ are.several
@@ -123,10 +123,10 @@ module _ (d : Parts) (findings : List Finding) (are : AreAssignFindings (InCone 
         r4 = none_of (IsResetValue d) (reset_value_at d) _ are.reset (λ site. refl) are.are_value h_value;
       }
 
-pub no_finding : (d : Parts) (findings : List Finding) → AreAllFindings d findings → IsClean findings → HasNoFinding d
+pub no_finding : (d : Parts) (findings : List Finding) → AreAllFindings d findings → IsClean findings → HasNoFinding d.flat
 no_finding d findings are clean =
     let all = unranked findings (are.sense ++ are.assigned ++ are.cases ++ are.unknown) are.in_order clean in
     let (three, _) = none_parts (are.sense ++ are.assigned ++ are.cases) are.unknown all in
     let (two, _) = none_parts (are.sense ++ are.assigned) are.cases three in
     let (h_sense, h_assigned) = none_parts are.sense are.assigned two in
-    of_assign d are.assigned are.are_assigned h_assigned (of_sense d are.sense are.are_sense h_sense)
+    of_assign d.flat are.assigned are.are_assigned h_assigned (of_sense d.flat are.sense are.are_sense h_sense)

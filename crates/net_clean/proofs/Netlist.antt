@@ -5,15 +5,14 @@ use Rattle.std.specs.Option.{IsSomeAnd}
 use Rattle.rtl_flat.specs.declared.design.Design.{Design}
 use Rattle.rtl_flat.specs.Levels.{Chain, Here, Then, IsArrow, IsBehindCycle}
 use Rattle.rtl_flat.specs.Process.{Task}
-use Rattle.event_model.specs.Queue.{flat}
+use Rattle.rtl_flat.specs.Flats.{Flat, Parts, flat, parts}
 use Rattle.rtl_rule.specs.declared.rule.Rule.{Rule}
 use Rattle.rtl_rule.specs.declared.rule.Rule.TheVariants.{MixedEdges, SeveralDrivers, DerivedClock, ResetShape, ResetPolarity, ResetValue}
-use Rattle.rtl_rule.specs.Parts.{Parts, parts, within}
+use Rattle.rtl_rule.specs.Parts.{within}
 use Rattle.check_all.specs.check_sense.Sense.{IsMixedEdges, mixed_edges_at}
 use Rattle.check_all.specs.check_assign.Assigned.{IsSeveralDrivers, several_drivers_at}
 use Rattle.check_laws.specs.check_chains.Chains.{IsResetPolarity, IsResetShape, IsResetValue, reset_polarity_at, reset_shape_at, reset_value_at}
 use Rattle.check_laws.specs.check_clocks.Clocks.{IsDerivedClock, derived_clock_at, events_of}
-use Rattle.check_all.specs.Findings.{queue_of}
 use Rattle.check_laws.proofs.Designs.{comb_loop}
 use Rattle.check_laws.proofs.Sites.{Each, process_refuted, refuted_in, signal_refuted}
 use Rattle.netlist_eval.specs.net_list.declared.fault.InferFault.{InferFault}
@@ -35,7 +34,7 @@ none_at P [] none n found = found
 none_at P (x ∷ xs) none zero found = none.0 found
 none_at P (x ∷ xs) none (suc n) found = none_at P xs none.1 n found
 
-module _ (d : Parts) (none : HasNoFinding d) where
+module _ (d : Flat) (none : HasNoFinding d) where
   no_fault : (p : ℕ) (task : Task) → slice_get d.tasks p ≡ Some task → (rule : Rule) → IsFault d p task rule → ⊥
   no_fault p task there MixedEdges fault =
       process_refuted IsMixedEdges mixed_edges_at d none.s3 p task there fault
@@ -65,7 +64,7 @@ module _ (d : Parts) (none : HasNoFinding d) where
 -- ---- cycles
 
 -- one process feeds another only along an arrow of the level graph
-module _ (d : Parts) where
+module _ (d : Flat) where
   arrow : (p q : ℕ) → IsFeed d.signals d.tasks p q → IsArrow d.signals d.tasks p q
   arrow p q feed =
       record {
@@ -91,7 +90,7 @@ module _ (d : Parts) where
         chain = arrows by_feeds.length by_feeds.node p by_feeds.chain;
       }
 
-  no_cycle : HasNoFinding d → (s : ℕ) → IsCyclic (queue_of d) s → ⊥
+  no_cycle : HasNoFinding d → (s : ℕ) → IsCyclic d s → ⊥
   no_cycle none s cyclic =
       comb_loop d none.a6 cyclic.process (behind cyclic.process cyclic.behind)
 
@@ -100,14 +99,14 @@ module _ (d : Parts) where
 pub has_netlist : (d : Parts) → NetlistByRules d
 has_netlist d findings are clean =
     let none = no_finding d findings are clean in
-    record { formed = formed d none; alone = alone d none; no_cycle = no_cycle d none }
+    record { formed = formed d.flat none; alone = alone d.flat none; no_cycle = no_cycle d.flat none }
 
-module _ (design : Design) (netlist : HasNetlist (parts design)) where
-  registers : (fault : InferFault) → IsFirst (IsShapeless (parts design)) fault → fault ≡ Memory
+module _ (design : Design) (netlist : HasNetlist (flat design)) where
+  registers : (fault : InferFault) → IsFirst (IsShapeless (flat design)) fault → fault ≡ Memory
   registers (Shape p) least = absurd (netlist.formed p.0 least.holds)
   registers Memory least = refl
 
-  blocks : (fault : InferFault) → IsFirst (IsContended (parts design)) fault → fault ≡ Memory
+  blocks : (fault : InferFault) → IsFirst (IsContended (flat design)) fault → fault ≡ Memory
   blocks (Shape p) least = absurd (netlist.alone p.0 least.holds)
   blocks Memory least = refl
 

@@ -6,10 +6,9 @@ use Rattle.std.specs.declared.alloc.Global.{Global}
 use Rattle.rtl_bits.specs.declared.Bit.{Bit}
 use Rattle.rtl_flat.specs.declared.act.ProcId.{ProcId}
 use Rattle.rtl_flat.specs.declared.design.Design.{Design}
-use Rattle.event_model.specs.Queue.{flat}
+use Rattle.rtl_flat.specs.Flats.{Flat, Parts, flat, parts}
 use Rattle.rtl_rule.specs.declared.finding.Finding.{Finding}
-use Rattle.rtl_rule.specs.Parts.{Parts, parts}
-use Rattle.check_all.specs.Findings.{AreAllFindings, IsClean, queue_of}
+use Rattle.check_all.specs.Findings.{AreAllFindings, IsClean}
 use Rattle.netlist_eval.specs.net_list.declared.fault.InferFault.{InferFault}
 use Rattle.netlist_eval.specs.net_list.declared.fault.InferFault.TheVariants.{Memory}
 use Rattle.netlist_eval.specs.net_list.Failing.{IsFirst}
@@ -23,15 +22,15 @@ use Rattle.netlist_eval.specs.Steps.{IsFault}
 
 -- each process that waits for edges makes registers, no process without edges may write what a lower one may write, and no
 -- signal is written on or behind a cycle of these
-pub record HasNetlist (d : Parts) : Type 0 where
+pub record HasNetlist (d : Flat) : Type 0 where
   pub formed : AreFormed d
   pub alone : AreAlone d
-  pub no_cycle : (s : ℕ) → IsCyclic (queue_of d) s → ⊥
+  pub no_cycle : (s : ℕ) → IsCyclic d s → ⊥
 
 -- where none of all findings of a design is of the first grade, it has one
 abbrev pub NetlistByRules : Parts → Type 0
 NetlistByRules d =
-    (findings : List Finding) → AreAllFindings d findings → IsClean findings → HasNetlist d
+    (findings : List Finding) → AreAllFindings d findings → IsClean findings → HasNetlist d.flat
 
 -- processes without edges have an order
 pub record IsOrdered (ranking : Ranking) : Type 0 where
@@ -40,8 +39,8 @@ pub record IsOrdered (ranking : Ranking) : Type 0 where
 
 -- want of memory alone keeps registers and blocks from being inferred, and the answer about its processes is an order
 pub record IsInferred (design : Design) : Type 0 where
-  pub registers : (fault : InferFault) → IsFirst (IsShapeless (parts design)) fault → fault ≡ Memory
-  pub blocks : (fault : InferFault) → IsFirst (IsContended (parts design)) fault → fault ≡ Memory
+  pub registers : (fault : InferFault) → IsFirst (IsShapeless (flat design)) fault → fault ≡ Memory
+  pub blocks : (fault : InferFault) → IsFirst (IsContended (flat design)) fault → fault ≡ Memory
   pub ordered : (ranking : Ranking) → IsRanking (flat design) ranking → IsOrdered ranking
 
 abbrev pub InferredByRules : Design → Type 0

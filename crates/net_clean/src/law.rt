@@ -1,7 +1,7 @@
 //! What synthesis makes of a design without findings of the first grade.
 
 ghost use Rattle.rtl_flat.specs.declared.design.Design.{Design};
-ghost use Rattle.rtl_rule.specs.Parts.{Parts};
+ghost use Rattle.rtl_flat.specs.Flats.{Parts};
 ghost use Rattle.net_clean.specs.Netlist.{BeginsByRules, InferredByRules, NetlistByRules};
 
 /// Each process of it that waits for edges makes registers, no process without edges may write what a lower one may write,

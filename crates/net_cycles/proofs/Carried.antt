@@ -10,7 +10,8 @@ use Rattle.rtl_flat.specs.Expression.{Tree, Sized}
 use Rattle.rtl_flat.specs.Expression as tree
 use Rattle.rtl_flat.specs.Flows.{may_target}
 use Rattle.rtl_flat.specs.Process.{Assign, Piece}
-use Rattle.event_model.specs.Queue.{Flat, doing_at, widths}
+use Rattle.event_model.specs.Queue.{doing_at}
+use Rattle.rtl_flat.specs.Flats.{Flat, widths}
 use Rattle.event_model.specs.Writes.{Values, Write, driven, no_drive}
 use Rattle.net_laws.proofs.event_laws_proofs.Written.{covers_from, written_in}
 use Rattle.net_model.specs.declared.fill.Fill.{Fill}

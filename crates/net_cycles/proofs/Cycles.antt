@@ -1,6 +1,6 @@
 -- The numbers after a step.
 use Rattle.std.proofs.Common.{◌∙◌, refl}
-use Rattle.event_model.specs.Queue.{Flat}
+use Rattle.rtl_flat.specs.Flats.{Flat}
 use Rattle.net_cycles.specs.Laws.{MakeCycles}
 
 pub cycle : (d : Flat) → MakeCycles d

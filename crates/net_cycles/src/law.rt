@@ -1,6 +1,6 @@
 //! Laws of steps.
 
-ghost use Rattle.event_model.specs.Queue.{Flat};
+ghost use Rattle.rtl_flat.specs.Flats.{Flat};
 ghost use Rattle.net_cycles.specs.Laws.{AreCarried, MakeCycles};
 
 /// In each solution what is behind a signal of one bit by plain connections has its number.

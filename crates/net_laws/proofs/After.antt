@@ -11,7 +11,7 @@ use Rattle.rtl_bits.specs.Bit.{or_bit}
 use Rattle.rtl_bits.specs.Inside.{length-tabulate}
 use Rattle.rtl_bits.proofs.Lists.{get_or-tabulate}
 use Rattle.event_model.specs.Bodies.{Made, Now, after_made, assigned}
-use Rattle.event_model.specs.Queue.{Flat, widths}
+use Rattle.rtl_flat.specs.Flats.{Flat, widths}
 use Rattle.event_model.specs.Traces.{covers, makes, makes_late, makes_now}
 use Rattle.event_model.specs.Writes.{Values, Write}
 use Rattle.event_laws.proofs.Written.{AreMadeWithin, kept_after}

@@ -8,7 +8,7 @@ use Rattle.rtl_flat.specs.Paths.{IsSure}
 use Rattle.rtl_flat.specs.Process.{Actions}
 use Rattle.rtl_flat.specs.WellFormed.{IsBody}
 use Rattle.event_model.specs.Bodies.{body_made}
-use Rattle.event_model.specs.Queue.{Flat, widths}
+use Rattle.rtl_flat.specs.Flats.{Flat, widths}
 use Rattle.event_model.specs.Traces.{Same, makes_late, makes_now}
 use Rattle.event_model.specs.Writes.{Values}
 use Rattle.event_laws.specs.Laws.{AgreeOutside, after_body}

@@ -16,7 +16,7 @@ use Rattle.rtl_flat.specs.Sizes.{IsSized, width_of}
 use Rattle.rtl_flat.specs.Value.{value}
 use Rattle.rtl_flat.specs.WellFormed.{AreBranches, IsAction, IsBody, IsOtherwise}
 use Rattle.event_model.specs.Bodies.{some_matches}
-use Rattle.event_model.specs.Queue.{Flat, widths}
+use Rattle.rtl_flat.specs.Flats.{Flat, widths}
 use Rattle.event_model.specs.Writes.{Values}
 use Rattle.event_laws.proofs.Sizes.{value_size}
 use Rattle.net_model.specs.declared.fill.Fill.TheVariants as fill

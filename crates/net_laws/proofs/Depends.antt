@@ -21,7 +21,7 @@ use Rattle.rtl_flat.specs.Signs.{IsExpression, sign_of}
 use Rattle.rtl_flat.specs.Sizes.{IsSized}
 use Rattle.rtl_flat.specs.Value.{bit_by, chosen, compared, folded, index_number, joined, linked, shifted, turned, value}
 use Rattle.rtl_flat.specs.WellFormed.{AreBranches, IsAction, IsBody, IsOtherwise, IsSelection}
-use Rattle.event_model.specs.Queue.{Flat, widths}
+use Rattle.rtl_flat.specs.Flats.{Flat, widths}
 use Rattle.event_model.specs.Traces.{Same, covers}
 use Rattle.event_model.specs.Writes.{Values, Write, bit_inside, count_of, counts, write_at, written}
 use Rattle.event_laws.specs.Steady.{HaveWidths, IsWithin}

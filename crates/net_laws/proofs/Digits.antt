@@ -8,7 +8,7 @@ use Rattle.rtl_bits.proofs.Lists.{length-copies}
 use Rattle.rtl_flat.specs.Expression.{Tree, Sized, Literal, Whole, BitAt, BitBy, Part, Turned, Joined, Compared, Linked, Folded, Shifted, Chosen, Empty, Beside, Repeated, Recast}
 use Rattle.rtl_flat.specs.Sizes.{IsSized, width_of}
 use Rattle.rtl_flat.specs.Value.{joined, value}
-use Rattle.event_model.specs.Queue.{Flat, widths}
+use Rattle.rtl_flat.specs.Flats.{Flat, widths}
 use Rattle.event_model.specs.Writes.{Values}
 use Rattle.event_laws.proofs.Sizes.{extended_length, value_size}
 use Rattle.net_model.specs.declared.fill.Fill.{Fill}

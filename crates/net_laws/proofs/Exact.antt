@@ -10,7 +10,7 @@ use Rattle.rtl_flat.specs.declared.expr.Join.TheVariants as join
 use Rattle.rtl_flat.specs.Expression.{Tree, Sized, Literal, Whole, BitAt, BitBy, Part, Turned, Joined, Compared, Linked, Folded, Shifted, Chosen, Empty, Beside, Repeated, Recast}
 use Rattle.rtl_flat.specs.Sizes.{IsSized, width_of}
 use Rattle.rtl_flat.specs.Value.{bit_at, bit_by, chosen, compared, folded, index_number, joined, linked, shifted, turned, value}
-use Rattle.event_model.specs.Queue.{Flat, widths}
+use Rattle.rtl_flat.specs.Flats.{Flat, widths}
 use Rattle.event_model.specs.Writes.{Values}
 use Rattle.event_laws.proofs.Sizes.{value_size}
 use Rattle.net_model.specs.declared.fill.Fill.{Fill}

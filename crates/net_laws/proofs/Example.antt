@@ -19,7 +19,7 @@ use Rattle.rtl_flat.specs.Signs.{Has, IsExpression, sign_of}
 use Rattle.rtl_flat.specs.Sizes.{width_of}
 use Rattle.rtl_flat.specs.WellFormed.{AreBranches, IsAssignment, IsBody, IsSelection}
 use Rattle.rtl_flat.proofs.Paths.{decided}
-use Rattle.event_model.specs.Queue.{Flat, widths}
+use Rattle.rtl_flat.specs.Flats.{Flat, widths}
 use Rattle.event_model.specs.Writes.{Values}
 use Rattle.event_laws.specs.Laws.{after_body}
 use Rattle.net_model.specs.declared.fill.Fill.{Fill}

@@ -16,7 +16,7 @@ use Rattle.rtl_flat.specs.Signs.{IsExpression}
 use Rattle.rtl_flat.specs.Sizes.{IsSized}
 use Rattle.rtl_flat.specs.Value.{chosen, compared, folded, joined, linked, shifted, turned, value}
 use Rattle.rtl_flat.specs.WellFormed.{AreBranches, IsAction, IsBody, IsOtherwise, IsSelection}
-use Rattle.event_model.specs.Queue.{Flat, widths}
+use Rattle.rtl_flat.specs.Flats.{Flat, widths}
 use Rattle.event_model.specs.Writes.{Values}
 use Rattle.event_laws.proofs.Inside.{AreSelections}
 use Rattle.net_model.specs.Numbers.{digits, is_literal}

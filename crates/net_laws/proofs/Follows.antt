@@ -16,7 +16,7 @@ use Rattle.rtl_flat.specs.Signs.{IsExpression}
 use Rattle.rtl_flat.specs.Value.{value}
 use Rattle.rtl_flat.specs.WellFormed.{AreBranches, IsAction, IsBody, IsOtherwise}
 use Rattle.event_model.specs.Bodies.{after_made, made, some_matches}
-use Rattle.event_model.specs.Queue.{Flat, widths}
+use Rattle.rtl_flat.specs.Flats.{Flat, widths}
 use Rattle.event_model.specs.Traces.{FollowsPath, body_trace, branches_trace, other_trace, trace}
 use Rattle.event_model.specs.Writes.{Values}
 use Rattle.net_model.specs.Numbers.{AreNumbers}

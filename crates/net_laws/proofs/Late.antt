@@ -9,7 +9,7 @@ use Rattle.std.proofs.lemmas.List.Folds.{list_any-append}
 use Rattle.rtl_bits.specs.declared.Bit.{Bit}
 use Rattle.rtl_bits.specs.declared.Bit.TheVariants.{X}
 use Rattle.event_model.specs.Bodies.{Made, Now, Later, after_made}
-use Rattle.event_model.specs.Queue.{Flat, widths}
+use Rattle.rtl_flat.specs.Flats.{Flat, widths}
 use Rattle.event_model.specs.Traces.{covers, makes_late}
 use Rattle.event_model.specs.Writes.{Values, Write, all_written, written}
 use Rattle.event_laws.specs.Steady.{HaveWidths, IsWithin}

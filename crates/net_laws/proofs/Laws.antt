@@ -10,7 +10,7 @@ use Rattle.rtl_flat.specs.WellFormed.{IsBody}
 use Rattle.rtl_flat.proofs.Outside.{read_or_written}
 use Rattle.rtl_flat.proofs.Paths.{decided}
 use Rattle.event_model.specs.Bodies.{after_made, body_made}
-use Rattle.event_model.specs.Queue.{Flat, widths}
+use Rattle.rtl_flat.specs.Flats.{Flat, widths}
 use Rattle.event_model.specs.Traces.{Same, makes_late}
 use Rattle.event_model.specs.Writes.{Values}
 use Rattle.event_laws.proofs.Made.{body_within}

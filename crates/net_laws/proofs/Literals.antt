@@ -8,7 +8,7 @@ use Rattle.rtl_flat.specs.Expression.{Tree, Sized, Literal, Whole, BitAt, BitBy,
 use Rattle.rtl_flat.specs.Flows.{literal}
 use Rattle.rtl_flat.specs.Sizes.{IsSized}
 use Rattle.rtl_flat.specs.Value.{value}
-use Rattle.event_model.specs.Queue.{Flat, widths}
+use Rattle.rtl_flat.specs.Flats.{Flat, widths}
 use Rattle.event_model.specs.Writes.{Values}
 
 -- bits at their own width

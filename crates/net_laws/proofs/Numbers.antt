@@ -10,7 +10,7 @@ use Rattle.rtl_flat.specs.Process.{Piece, Action, Set, If, Case, Block, Actions,
 use Rattle.rtl_flat.specs.Value.{value}
 use Rattle.rtl_flat.specs.WellFormed.{AreBranches, IsAction, IsBody, IsOtherwise}
 use Rattle.event_model.specs.Bodies.{Made, Now, Later, after_made, assigned, body_made, branches_made, made, other_made, some_matches}
-use Rattle.event_model.specs.Queue.{Flat, widths}
+use Rattle.rtl_flat.specs.Flats.{Flat, widths}
 use Rattle.event_model.specs.Writes.{Values, Write, Span, count_of, counts, span_of, write_at, writes, written}
 use Rattle.event_laws.proofs.Made.{body_within, made_within}
 use Rattle.event_laws.proofs.Written.{AreMadeWithin, have_after}

@@ -15,7 +15,7 @@ use Rattle.rtl_flat.specs.Flows.{action_then}
 use Rattle.rtl_flat.specs.Paths.{BitSet, End, may_write_blocking, may_write_delayed}
 use Rattle.rtl_flat.specs.Process.{Piece, Action, Set, If, Case, Block, Actions, Done, Then, Otherwise, Without, With, Branches, NoBranch, Branch}
 use Rattle.rtl_flat.specs.WellFormed.{AreBranches, IsAction, IsBody, IsOtherwise}
-use Rattle.event_model.specs.Queue.{Flat, widths}
+use Rattle.rtl_flat.specs.Flats.{Flat, widths}
 use Rattle.event_model.specs.Traces.{covers}
 use Rattle.event_model.specs.Writes.{Values, Write, count_of, counts, write_at}
 use Rattle.event_laws.specs.Steady.{IsWithin}

@@ -9,7 +9,7 @@ use Rattle.rtl_flat.specs.Paths.{MayWrite, ReadsOutside, may_write}
 use Rattle.rtl_flat.specs.Process.{Actions}
 use Rattle.rtl_flat.specs.WellFormed.{IsBody}
 use Rattle.rtl_flat.proofs.Paths.{decided}
-use Rattle.event_model.specs.Queue.{Flat, widths}
+use Rattle.rtl_flat.specs.Flats.{Flat, widths}
 use Rattle.event_model.specs.Traces.{Same}
 use Rattle.event_model.specs.Writes.{Values}
 use Rattle.event_laws.specs.Steady.{HaveWidths}

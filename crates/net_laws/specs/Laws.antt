@@ -15,7 +15,7 @@ use Rattle.rtl_flat.specs.Sizes.{width_of}
 use Rattle.rtl_flat.specs.Value.{value}
 use Rattle.rtl_flat.specs.WellFormed.{AreBranches, IsBody}
 use Rattle.event_model.specs.Bodies.{Made, Now, Later, body_made, some_matches}
-use Rattle.event_model.specs.Queue.{Flat, widths}
+use Rattle.rtl_flat.specs.Flats.{Flat, widths}
 use Rattle.event_model.specs.Traces.{FollowsPath, Same, covers}
 use Rattle.event_model.specs.Writes.{Values, Write, all_written}
 use Rattle.event_laws.specs.Steady.{HaveWidths}

@@ -14,7 +14,7 @@ use Rattle.rtl_flat.specs.Signs.{IsExpression}
 use Rattle.rtl_flat.specs.Sizes.{width_of}
 use Rattle.rtl_flat.specs.Value.{value}
 use Rattle.rtl_flat.specs.WellFormed.{IsBody}
-use Rattle.event_model.specs.Queue.{Flat, widths}
+use Rattle.rtl_flat.specs.Flats.{Flat, widths}
 use Rattle.net_model.specs.Numbers.{is_literal}
 use Rattle.net_laws.specs.Tame.{AreExclusive, AreTame, IsFirm, IsHonest, IsPlace}
 

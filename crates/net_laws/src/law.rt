@@ -1,6 +1,6 @@
 //! Laws of synthesised numbers beside simulated values.
 
-ghost use Rattle.event_model.specs.Queue.{Flat};
+ghost use Rattle.rtl_flat.specs.Flats.{Flat};
 ghost use Rattle.net_laws.specs.Laws.{AreCovered, AreExact, BlockDepends, BlockIs, BlocksAreKnown, ClockedIs, DigitsAreKnown, FillsAgree, LateIs, LeaveNumbers, StartDepends, TakePaths, TameDepends};
 ghost use Rattle.net_laws.specs.Rules.{ExclusiveByRules, FirmByRules, TameByRules};
 

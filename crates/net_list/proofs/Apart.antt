@@ -6,7 +6,8 @@ use Rattle.std.specs.Option.{IsSomeAnd}
 use Rattle.std.proofs.lemmas.Bool.{and_from, cases_Bool, cases_order, lt-ltb, or_left, or_right}
 use Rattle.rtl_flat.specs.Process.{Task}
 use Rattle.rtl_rule.specs.declared.rule.Rule.TheVariants.{SeveralDrivers}
-use Rattle.rtl_rule.specs.Parts.{Parts, widths, written}
+use Rattle.rtl_rule.specs.Parts.{written}
+use Rattle.rtl_flat.specs.Flats.{Flat, widths}
 use Rattle.check_assign.proofs.check_found_proofs.Inside.{written_inside}
 use Rattle.check_assign.proofs.check_found_proofs.Signals.{some_at}
 use Rattle.check_assign.specs.Assigned.{is_clocked, lower_writes}
@@ -23,7 +24,7 @@ any_numbered test n (y ∷ xs) zero m x there e is =
 any_numbered test n (y ∷ xs) (suc k) m x there e is =
     or_right (test (n, y)) _ (any_numbered test (n + 1) xs k m x there (omega (arith, e)) is)
 
-module _ (d : Parts) where
+module _ (d : Flat) where
   -- a process that may write a bit that a lower one may write
   pub fault_at : (p : ℕ) (task : Task) (s k : ℕ) → written d task.does s k ≡ true → lower_writes d p s k ≡ true → IsFault d p task SeveralDrivers
   fault_at p task s k here lower =
@@ -45,7 +46,7 @@ module _ (d : Parts) where
         no_fault p one there (fault_at p one s k writes
         (any_numbered (λ (it : ℕ × Task). nat_lt it.0 p && written d it.1.does s k) 0 d.tasks q q other there' (omega arith) (and_from _ _ (lt-ltb q p below) writes')))
 
-pub apart : (d : Parts) → AreFormed d → AreAlone d → AreApart d
+pub apart : (d : Flat) → AreFormed d → AreAlone d → AreApart d
 apart d formed alone p q one other there there' s k writes writes' =
     elim (cases_order p q) [
       | inl same ↦ same

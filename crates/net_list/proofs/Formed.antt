@@ -7,11 +7,11 @@ use Rattle.rtl_flat.specs.declared.design.Design.{Design}
 use Rattle.rtl_flat.specs.declared.signal.Signal.{Signal}
 use Rattle.rtl_flat.specs.Process.{Watched, Actions, Doing, Edge', Task}
 use Rattle.rtl_flat.specs.WellFormed.{IsProcess}
-use Rattle.event_model.specs.Queue.{doing_of, flat}
+use Rattle.event_model.specs.Queue.{doing_of}
+use Rattle.rtl_flat.specs.Flats.{flat, Flat}
 use Rattle.net_model.specs.Cycle.{AreChains, IsChain}
 use Rattle.rtl_rule.specs.declared.rule.Rule.{Rule}
 use Rattle.rtl_rule.specs.declared.rule.Rule.TheVariants.{MixedEdges, ResetPolarity, ResetShape}
-use Rattle.rtl_rule.specs.Parts.{Parts, parts}
 use Rattle.chain_laws.specs.check_chains.Chains.{chain_of}
 use Rattle.check_assign.specs.Assigned.{is_clocked}
 use Rattle.chain_laws.specs.Chained.{HasChain}
@@ -38,7 +38,7 @@ task_of tasks p does e = by_task (slice_get tasks p) refl e
     by_task (Some task) there is = (task, there, cc)
 
 -- a process that waits for edges, and of which three rules have no finding, has a chain
-pub chain_at : (d : Parts) (p : ℕ) (task : Task) (events : List Watched) (body : Actions) → task.does ≡ Edge' events body → IsProcess d.signals task.does → (IsFault d p task MixedEdges → ⊥) → (IsFault d p task ResetShape → ⊥) → (IsFault d p task ResetPolarity → ⊥) → HasChain d events body
+pub chain_at : (d : Flat) (p : ℕ) (task : Task) (events : List Watched) (body : Actions) → task.does ≡ Edge' events body → IsProcess d.signals task.does → (IsFault d p task MixedEdges → ⊥) → (IsFault d p task ResetShape → ⊥) → (IsFault d p task ResetPolarity → ⊥) → HasChain d events body
 chain_at d p task events body is lawful levels shaped straight =
     by_does task.does is lawful levels shaped straight
   where
@@ -51,9 +51,9 @@ chain_at d p task events body is lawful levels shaped straight =
 
 -- ---- all of them
 
-pub are_chains : (design : Design) → AreFormed (parts design) → AreChains (flat design) (chains_of (parts design))
+pub are_chains : (design : Design) → AreFormed (flat design) → AreChains (flat design) (chains_of (flat design))
 are_chains design formed p events body is =
-    let d = parts design in
+    let d = flat design in
     let (task, there, does) = task_of d.tasks p (Edge' events body) is in
     let waits : is_clocked task.does ≡ true = ap is_clocked does in
     let free : (rule : Rule) → IsFault d p task rule → ⊥ = λ rule fault. formed p (record {

@@ -7,7 +7,8 @@ use Rattle.std.proofs.lemmas.Bool.{and_from, and_parts, eq-eqb, false≢true, or
 use Rattle.rtl_bits.specs.Bits.{is_one_at}
 use Rattle.rtl_flat.specs.Process.{Task}
 use Rattle.rtl_rule.specs.declared.rule.Rule.TheVariants.{SeveralDrivers}
-use Rattle.rtl_rule.specs.Parts.{Parts, has_some, widths, written}
+use Rattle.rtl_rule.specs.Parts.{has_some, written}
+use Rattle.rtl_flat.specs.Flats.{Flat, widths}
 use Rattle.check_assign.specs.rtl_scan.declared.bits.Row.{Row}
 use Rattle.check_assign.specs.rtl_scan.Sets.{has_rows}
 use Rattle.check_assign.proofs.check_found_proofs.Inside.{written_inside}
@@ -37,7 +38,7 @@ module _ (test : Row → Bool) where
       ]
 
 -- the rows of what a process may write meet what lower ones may write just where it has a fault
-pub meets_is : (d : Parts) (p : ℕ) (task : Task) → slice_get d.tasks p ≡ Some task → (masks : ℕ → ℕ) (rows : List Row) → ((s k : ℕ) → is_one_at (masks s) k ≡ lower_writes d p s k) → ((s k : ℕ) → has_rows rows s k ≡ written d task.does s k) → list_any (shares masks) rows ≡ true ↔ HasFault d p SeveralDrivers
+pub meets_is : (d : Flat) (p : ℕ) (task : Task) → slice_get d.tasks p ≡ Some task → (masks : ℕ → ℕ) (rows : List Row) → ((s k : ℕ) → is_one_at (masks s) k ≡ lower_writes d p s k) → ((s k : ℕ) → has_rows rows s k ≡ written d task.does s k) → list_any (shares masks) rows ≡ true ↔ HasFault d p SeveralDrivers
 meets_is d p task there masks rows lower own = (
   λ h. subst (λ o. IsSomeAnd o (λ one. IsFault d p one SeveralDrivers)) (sym there) (to h),
   λ h. back (subst (λ o. IsSomeAnd o (λ one. IsFault d p one SeveralDrivers)) there h),

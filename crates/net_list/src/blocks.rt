@@ -1,6 +1,6 @@
 //! The blocks between registers.
 
-ghost use Rattle.rtl_rule.specs.Parts.{parts};
+ghost use Rattle.rtl_flat.specs.Flats.{flat};
 ghost use Rattle.net_list.specs.Faults.{AreAlone};
 
 use net_model::fill::Fill;
@@ -13,5 +13,5 @@ pub struct Blocks<'d> {
     pub design: &'d Design,
     /// What stands for bits that have no number.
     pub fill: Fill,
-    pub ghost alone: { AreAlone (parts design.now) },
+    pub ghost alone: { AreAlone (flat design.now) },
 }

@@ -3,7 +3,7 @@
 ghost use Rattle.std.specs.Prelude.{ℕ, ◌≡◌, ◌<◌, ◌+◌, ◌||◌, ◌↔◌, true, length, IfOk, OnOk};
 ghost use Rattle.std.specs.List.{list_any};
 ghost use Rattle.rtl_rule.specs.declared.rule.Rule.TheVariants.{SeveralDrivers};
-ghost use Rattle.rtl_rule.specs.Parts.{parts};
+ghost use Rattle.rtl_flat.specs.Flats.{flat};
 ghost use Rattle.check_assign.specs.rtl_scan.Sets.{has, has_rows, mask_of};
 ghost use Rattle.check_assign.specs.Marks.{shares};
 ghost use Rattle.net_list.specs.Drivers.{AreLower};
@@ -49,9 +49,9 @@ pub fn drives_again(
     lower: &mut BitSet,
 ) -> Result<bool, Memory>
     requires inside { p.0 < length design.now.processes.items }
-    requires lower { AreLower (parts design.now) p.0 lower.old }
-    ensures again { IfOk result (λ again. again ≡ true ↔ HasFault (parts design.now) p.0 SeveralDrivers) }
-    ensures lower { OnOk result (AreLower (parts design.now) (p.0 + 1) lower.new) }
+    requires lower { AreLower (flat design.now) p.0 lower.old }
+    ensures again { IfOk result (λ again. again ≡ true ↔ HasFault (flat design.now) p.0 SeveralDrivers) }
+    ensures lower { OnOk result (AreLower (flat design.now) (p.0 + 1) lower.new) }
 {
     let written = written(alloc, design, p)?;
     let again = any_shares(lower, &written.rows);

@@ -1,6 +1,6 @@
 //! What is inferred of a design.
 
-ghost use Rattle.rtl_rule.specs.Parts.{parts};
+ghost use Rattle.rtl_flat.specs.Flats.{flat};
 ghost use Rattle.net_list.specs.Chosen.{AreClocked};
 ghost use Rattle.net_list.specs.Faults.{AreApart, AreFormed};
 
@@ -18,9 +18,9 @@ pub struct Netlist<'d> {
     pub fill: Fill,
     /// Each process that waits for edges, in order.
     pub clocked: Vec<Clocked<'d>>,
-    pub ghost formed: { AreFormed (parts design.now) },
-    pub ghost apart: { AreApart (parts design.now) },
-    pub ghost chosen: { ∥ AreClocked (parts design.now) clocked.items ∥₁ },
+    pub ghost formed: { AreFormed (flat design.now) },
+    pub ghost apart: { AreApart (flat design.now) },
+    pub ghost chosen: { ∥ AreClocked (flat design.now) clocked.items ∥₁ },
 }
 
 impl<'d> Netlist<'d> {

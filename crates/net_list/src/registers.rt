@@ -1,6 +1,6 @@
 //! The registers of a design.
 
-ghost use Rattle.rtl_rule.specs.Parts.{parts};
+ghost use Rattle.rtl_flat.specs.Flats.{flat};
 ghost use Rattle.net_list.specs.Chosen.{AreClocked};
 ghost use Rattle.net_list.specs.Faults.{AreFormed};
 
@@ -13,6 +13,6 @@ pub struct Registers<'d> {
     pub design: &'d Design,
     /// Each process that waits for edges, in order.
     pub clocked: Vec<Clocked<'d>>,
-    pub ghost formed: { AreFormed (parts design.now) },
-    pub ghost chosen: { ∥ AreClocked (parts design.now) clocked.items ∥₁ },
+    pub ghost formed: { AreFormed (flat design.now) },
+    pub ghost chosen: { ∥ AreClocked (flat design.now) clocked.items ∥₁ },
 }

@@ -10,7 +10,7 @@ use Rattle.rtl_flat.specs.declared.signal.Kind.TheVariants.{Net, TopInput, Var}
 use Rattle.rtl_flat.specs.Expression.{Tree, Sized}
 use Rattle.rtl_flat.specs.Expression as tree
 use Rattle.rtl_flat.specs.Process.{Whole, Watched, Set, Actions, Done, Then, Doing, Assign, Edge', Task}
-use Rattle.event_model.specs.Queue.{Flat}
+use Rattle.rtl_flat.specs.Flats.{Flat}
 use Rattle.net_model.specs.Control.{InCone, IsControl, IsInputConnection, IsLink, IsPassedOn, Itself, Through, whole_of}
 
 spot : Spot

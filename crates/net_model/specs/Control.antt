@@ -10,7 +10,8 @@ use Rattle.rtl_flat.specs.Flows.{reads}
 use Rattle.rtl_flat.specs.Process.{Whole, Piece, Watched, Actions, Assign, Edge', Task}
 use Rattle.rtl_flat.specs.Signs.{Has}
 use Rattle.rtl_flat.specs.WellFormed.{has_edge}
-use Rattle.event_model.specs.Queue.{Flat, doing_at, is_input, widths}
+use Rattle.event_model.specs.Queue.{doing_at, is_input}
+use Rattle.rtl_flat.specs.Flats.{Flat, widths}
 
 -- ---- input ports
 

@@ -4,7 +4,7 @@
 use Rattle.std.specs.Prelude.{◌≡◌, ◌≢◌, false, List, [], ◌∷◌, length}
 use Rattle.std.specs.List.{All}
 use Rattle.rtl_bits.specs.Bits.{has_unknown}
-use Rattle.event_model.specs.Queue.{Flat, widths}
+use Rattle.rtl_flat.specs.Flats.{Flat, widths}
 use Rattle.event_model.specs.Writes.{Values}
 use Rattle.net_model.specs.Control.{IsControl, IsDataInput}
 use Rattle.net_model.specs.Cycle.{Setting, Step, Data, Turn, given_after, settings}

@@ -11,7 +11,7 @@ use Rattle.rtl_flat.specs.Expression.{Tree, Sized, Literal, Whole, BitAt, BitBy,
 use Rattle.rtl_flat.specs.Flows.{literal}
 use Rattle.rtl_flat.specs.Labels.{label_matches}
 use Rattle.rtl_flat.specs.Value.{bit_at, bit_by, chosen, compared, folded, joined, linked, shifted, turned, value}
-use Rattle.event_model.specs.Queue.{Flat, widths}
+use Rattle.rtl_flat.specs.Flats.{Flat, widths}
 use Rattle.event_model.specs.Writes.{Values}
 use Rattle.net_model.specs.declared.fill.Fill.{Fill}
 use Rattle.net_model.specs.declared.fill.Fill.TheVariants as fill

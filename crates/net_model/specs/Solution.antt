@@ -7,7 +7,8 @@ use Rattle.rtl_flat.specs.Flows.{body_flow, may_target}
 use Rattle.rtl_flat.specs.Paths.{MayWrite, may_write}
 use Rattle.rtl_flat.specs.PathSets.{IsTemporary, OfProcess}
 use Rattle.rtl_flat.specs.Process.{Piece, Watched, Actions, Assign, Comb, Edge'}
-use Rattle.event_model.specs.Queue.{Flat, doing_at, is_input, widths}
+use Rattle.event_model.specs.Queue.{doing_at, is_input}
+use Rattle.rtl_flat.specs.Flats.{Flat, widths}
 use Rattle.event_model.specs.Writes.{Values, driven}
 use Rattle.net_model.specs.declared.fill.Fill.{Fill}
 use Rattle.net_model.specs.Block.{block_bit}

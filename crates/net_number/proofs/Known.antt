@@ -10,7 +10,7 @@ use Rattle.rtl_flat.specs.Expression.{Tree}
 use Rattle.rtl_flat.specs.Signs.{width_in}
 use Rattle.rtl_flat.specs.Sizes.{IsSized}
 use Rattle.rtl_flat.specs.Value.{store, widths}
-use Rattle.event_model.specs.Queue.{Flat}
+use Rattle.rtl_flat.specs.Flats.{Flat}
 use Rattle.net_model.specs.declared.fill.Fill.{Fill}
 use Rattle.net_model.specs.Numbers.{digits}
 use Rattle.net_laws.proofs.Digits.{digits_known}

@@ -7,7 +7,7 @@ use Rattle.std.proofs.lemmas.Bool.{cases_lt}
 use Rattle.std.proofs.lemmas.Option.{slice_get_within}
 use Rattle.rtl_flat.specs.declared.expr.SigId.{SigId}
 use Rattle.rtl_flat.specs.Levels.{Chain, HasNoEdge, Here, IsBehindCycle, IsDepth, IsLevelIn, IsNode, Then}
-use Rattle.event_model.specs.Queue.{Flat}
+use Rattle.rtl_flat.specs.Flats.{Flat}
 use Rattle.check_found.specs.rtl_scan.Graph.{AreDepths, ArrowIn}
 use Rattle.net_solve.specs.Feeds.{IsFeed}
 use Rattle.net_solve.specs.Laws.{IsOrder, place}

@@ -11,7 +11,8 @@ use Rattle.rtl_flat.specs.Paths.{MayWrite}
 use Rattle.rtl_flat.specs.Process.{Task}
 use Rattle.rtl_flat.specs.Signs.{width_in}
 use Rattle.rtl_flat.proofs.Paths.{decided}
-use Rattle.rtl_rule.specs.Parts.{Parts, first_below, first_of, has_some, number, some_below, widths, written}
+use Rattle.rtl_rule.specs.Parts.{first_below, first_of, has_some, number, some_below, written}
+use Rattle.rtl_flat.specs.Flats.{Flat, widths}
 use Rattle.check_found.proofs.rtl_scan_proofs.Processes.{back, there}
 use Rattle.check_found.proofs.Inside.{written_inside}
 use Rattle.check_found.proofs.Signals.{some_at, some_found}
@@ -102,7 +103,7 @@ signal_there (x ∷ signals) zero k h = omega arith
 signal_there (x ∷ signals) (suc s) k h = let below = signal_there signals s k h in omega (arith, below)
 
 -- the least signal that a process may write
-first_written : (d : Parts) (task : Task) → IsLeastOf (λ s. (k : ℕ) × MayWrite (flow_of (widths d) task.does) s k) (first_of d (written d task.does))
+first_written : (d : Flat) (task : Task) → IsLeastOf (λ s. (k : ℕ) × MayWrite (flow_of (widths d) task.does) s k) (first_of d (written d task.does))
 first_written d task =
     least_as (Below (length d.signals) (has_some (widths d) (written d task.does))) (λ s. (k : ℕ) × MayWrite (flow_of (widths d) task.does) s k) (first_of d (written d task.does)) (λ s. (to s, from s)) (first_is (length d.signals) (has_some (widths d) (written d task.does)))
   where
@@ -119,7 +120,7 @@ first_written d task =
 
 -- ---- process by process
 
-module _ (d : Parts) (depths : List (Option ℕ)) where
+module _ (d : Flat) (depths : List (Option ℕ)) where
   abbrev Lost : ℕ → ℕ → Type 0
   Lost n s = IsLost d.signals d.tasks depths n s
 

@@ -6,7 +6,7 @@ use Rattle.rtl_flat.specs.declared.act.Process.{Process}
 use Rattle.rtl_flat.specs.declared.design.Design.{Design}
 use Rattle.rtl_flat.specs.Levels.{HasNoEdge, IsNode}
 use Rattle.rtl_flat.specs.Process.{Task, doing, task}
-use Rattle.rtl_rule.specs.Parts.{parts}
+use Rattle.rtl_flat.specs.Flats.{flat}
 use Rattle.check_found.specs.rtl_scan.Arrows.{is_node}
 use Rattle.check_found.proofs.rtl_scan_proofs.Processes.{back, there}
 use Rattle.check_found.proofs.Sites.{task_at, task_count}
@@ -17,22 +17,22 @@ there_is [] k below = absurd (omega arith)
 there_is (x ∷ xs) zero below = (x, refl)
 there_is (x ∷ xs) (suc k) below = there_is xs k (omega arith)
 
-pub task_of : (design : Design) (k : ℕ) → k < length design.processes.items → (one : Task) × (slice_get (parts design).tasks k ≡ Some one)
+pub task_of : (design : Design) (k : ℕ) → k < length design.processes.items → (one : Task) × (slice_get (flat design).tasks k ≡ Some one)
 task_of design k below =
     let count = task_count design in
-    there_is (parts design).tasks k (omega arith)
+    there_is (flat design).tasks k (omega arith)
 
 -- ---- whether it has a place in the graph
 
 module _ (design : Design) (n : ℕ) (x : Process) (below : n < length design.processes.items) (read : x ≡ get_or design.processes.items n x) where
-  pub there_at : slice_get (parts design).tasks n ≡ Some (task x)
+  pub there_at : slice_get (flat design).tasks n ≡ Some (task x)
   there_at = task_at design n x below read
 
-  pub node_there : (b : Bool) → b ≡ is_node (doing x.does) → b ≡ true → IsNode (parts design).tasks n
+  pub node_there : (b : Bool) → b ≡ is_node (doing x.does) → b ≡ true → IsNode (flat design).tasks n
   node_there b is some =
-      there (λ t. HasNoEdge t.does) (parts design).tasks n (task x) there_at (edge_node (doing x.does) (sym is ∙ some))
+      there (λ t. HasNoEdge t.does) (flat design).tasks n (task x) there_at (edge_node (doing x.does) (sym is ∙ some))
 
-  pub node_not : (b : Bool) → b ≡ is_node (doing x.does) → b ≡ false → IsNode (parts design).tasks n → ⊥
+  pub node_not : (b : Bool) → b ≡ is_node (doing x.does) → b ≡ false → IsNode (flat design).tasks n → ⊥
   node_not b is none node =
-      let no_edge = back (λ t. HasNoEdge t.does) (parts design).tasks n n (task x) there_at refl node in
+      let no_edge = back (λ t. HasNoEdge t.does) (flat design).tasks n n (task x) there_at refl node in
       false≢true (sym none ∙ (is ∙ node_edge (doing x.does) no_edge))

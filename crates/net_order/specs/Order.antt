@@ -4,7 +4,7 @@ use Rattle.rtl_flat.specs.declared.act.ProcId.{ProcId}
 use Rattle.rtl_flat.specs.Levels.{IsBehindCycle}
 use Rattle.rtl_flat.specs.Paths.{MayWrite}
 use Rattle.rtl_flat.specs.PathSets.{OfProcess}
-use Rattle.event_model.specs.Queue.{Flat}
+use Rattle.rtl_flat.specs.Flats.{Flat}
 use Rattle.net_solve.specs.Feeds.{IsFeed}
 use Rattle.net_solve.specs.Laws.{IsOrder}
 use Rattle.net_order.specs.declared.order.Ranking.{Ranking}

@@ -3,7 +3,7 @@
 ghost use Rattle.std.specs.Prelude.{◌≡◌, ◌<◌, length, true, Some, IfOk, OnOk};
 ghost use Rattle.std.specs.List.{slice_get};
 ghost use Rattle.rtl_flat.specs.Process.{Task};
-ghost use Rattle.rtl_rule.specs.Parts.{parts, widths};
+ghost use Rattle.rtl_flat.specs.Flats.{flat, widths};
 ghost use Rattle.net_order.specs.Feeds.{AreFeeders, AreFeeds, FromRow, FromRows, FromWriters, Joins, comes, is_from};
 
 use crate::writers::{Writer, is_node, writers};
@@ -72,7 +72,7 @@ fn feeders(
     table: &[Vec<Writer>],
 ) -> Result<Vec<u32>, Memory>
     requires { q.0 < length design.now.processes.items }
-    ensures { let d = parts design.now in IfOk result (λ found.
+    ensures { let d = flat design.now in IfOk result (λ found.
         (task : Task) → slice_get d.tasks q.0 ≡ Some task →
         AreFeeders (widths d) table.now task found.items) }
 {
@@ -87,7 +87,7 @@ fn feeders(
 
 /// The graph: a row has the processes that feed its process.
 pub(crate) fn arrows(alloc: Global, design: &Design) -> Result<Vec<Vec<u32>>, Memory>
-    ensures { let d = parts design.now in
+    ensures { let d = flat design.now in
         IfOk result (λ rows. AreFeeds d.signals d.tasks rows.items) }
 {
     let table = writers(alloc, design)?;

@@ -1,7 +1,7 @@
 //! The order of processes without edges.
 
 ghost use Rattle.std.specs.Prelude.{IfOk};
-ghost use Rattle.event_model.specs.Queue.{flat};
+ghost use Rattle.rtl_flat.specs.Flats.{flat};
 ghost use Rattle.net_order.specs.Order.{IsRanking};
 
 use crate::feeds::arrows;

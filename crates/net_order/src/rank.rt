@@ -2,7 +2,7 @@
 
 ghost use Rattle.std.specs.Prelude.{◌≡◌, ◌<◌, ◌+◌, length, map, IfOk, OnOk};
 ghost use Rattle.rtl_flat.specs.declared.act.ProcId.{ProcId};
-ghost use Rattle.rtl_rule.specs.Parts.{parts};
+ghost use Rattle.rtl_flat.specs.Flats.{flat};
 ghost use Rattle.net_order.specs.Feeds.{ArePlaced, IsLeastOf, IsLost, IsRanked, lesser_of};
 
 use crate::writers::is_node;
@@ -29,7 +29,7 @@ fn place(
 ) -> Result<(), Memory>
     requires inside { number < length design.now.processes.items }
     requires depths { number < length depths.now }
-    ensures { let d = parts design.now in OnOk result (ArePlaced d.tasks depths.now number found.old.items →
+    ensures { let d = flat design.now in OnOk result (ArePlaced d.tasks depths.now number found.old.items →
         ArePlaced d.tasks depths.now (number + 1) found.new.items) }
 {
     if !is_node(&design.processes[number as usize].does) {
@@ -48,7 +48,7 @@ fn place(
 /// The processes without edges that have a depth.
 fn places(alloc: Global, design: &Design, depths: &[Option<u32>]) -> Result<Vec<Placed>, Memory>
     requires { length depths.now ≡ length design.now.processes.items }
-    ensures { let d = parts design.now in
+    ensures { let d = flat design.now in
         IfOk result (λ found. ArePlaced d.tasks depths.now (length d.tasks) found.items) }
 {
     let mut found = Vec::new(alloc);
@@ -65,7 +65,7 @@ pub(crate) fn ranked(
     depths: &[Option<u32>],
 ) -> Result<Vec<ProcId>, Memory>
     requires { length depths.now ≡ length design.now.processes.items }
-    ensures { let d = parts design.now in IfOk result (λ order. IsRanked d.tasks depths.now (map (λ (p : ProcId). p.0) order.items)) }
+    ensures { let d = flat design.now in IfOk result (λ order. IsRanked d.tasks depths.now (map (λ (p : ProcId). p.0) order.items)) }
 {
     let mut sorted = places(alloc, design, depths)?;
     sorted.sort_by_key(
@@ -101,7 +101,7 @@ fn lost_at(
 ) -> Result<Option<SigId>, Memory>
     requires inside { number < length design.now.processes.items }
     requires depths { number < length depths.now }
-    ensures { let d = parts design.now in IfOk result (λ next. IsLeastOf (IsLost d.signals d.tasks depths.now number) least →
+    ensures { let d = flat design.now in IfOk result (λ next. IsLeastOf (IsLost d.signals d.tasks depths.now number) least →
         IsLeastOf (IsLost d.signals d.tasks depths.now (number + 1)) next) }
 {
     if !is_node(&design.processes[number as usize].does) || depths[number as usize].is_some() {
@@ -118,7 +118,7 @@ pub(crate) fn lost(
     depths: &[Option<u32>],
 ) -> Result<Option<SigId>, Memory>
     requires { length depths.now ≡ length design.now.processes.items }
-    ensures { let d = parts design.now in
+    ensures { let d = flat design.now in
         IfOk result (λ least. IsLeastOf (IsLost d.signals d.tasks depths.now (length d.tasks)) least) }
 {
     let mut least = None;

@@ -3,7 +3,7 @@
 ghost use Rattle.std.specs.Prelude.{ℕ, ◌≡◌, ◌<◌, length, Some, IfOk, OnOk};
 ghost use Rattle.std.specs.List.{slice_get};
 ghost use Rattle.rtl_flat.specs.Process.{Task, doing};
-ghost use Rattle.rtl_rule.specs.Parts.{parts, widths};
+ghost use Rattle.rtl_flat.specs.Flats.{flat, widths};
 ghost use Rattle.check_found.specs.rtl_scan.Arrows.{is_node};
 ghost use Rattle.net_order.specs.Feeds.{AreWriters, Notes, Puts, WritesMore, bucket};
 
@@ -87,7 +87,7 @@ fn note_writes(
     table: &mut Vec<Vec<Writer>>,
 ) -> Result<(), Memory>
     requires { p.0 < length design.now.processes.items }
-    ensures { let d = parts design.now in OnOk result ((task : Task) → slice_get d.tasks p.0 ≡ Some task →
+    ensures { let d = flat design.now in OnOk result ((task : Task) → slice_get d.tasks p.0 ≡ Some task →
         WritesMore (widths d) task p.0 table.old.items table.new.items) }
 {
     if !is_node(&design.processes[p.0 as usize].does) {
@@ -99,7 +99,7 @@ fn note_writes(
 
 /// The processes that write bits of each signal.
 pub(crate) fn writers(alloc: Global, design: &Design) -> Result<Vec<Vec<Writer>>, Memory>
-    ensures { let d = parts design.now in
+    ensures { let d = flat design.now in
         IfOk result (λ table. AreWriters (widths d) d.tasks (length d.tasks) table.items) }
 {
     let mut table = Vec::new(alloc);

@@ -19,7 +19,8 @@ use Rattle.rtl_flat.specs.Value.{value}
 use Rattle.rtl_flat.specs.WellFormed.{IsBody, IsFixed, IsProcess}
 use Rattle.rtl_flat.proofs.Paths.{decided}
 use Rattle.event_model.specs.Bodies.{Made, body_made}
-use Rattle.event_model.specs.Queue.{Flat, doing_at, widths}
+use Rattle.event_model.specs.Queue.{doing_at}
+use Rattle.rtl_flat.specs.Flats.{Flat, widths}
 use Rattle.event_model.specs.Traces.{FollowsPath, Same, makes, makes_late, makes_now}
 use Rattle.event_model.specs.Writes.{Span, Values, count_of, counts, driven, no_drive, span_of, write_at, writes}
 use Rattle.event_runs.specs.event_laws.Steady.{HaveWidths}

@@ -1,6 +1,6 @@
 -- The laws of values at rest, as they are stated.
 use Rattle.std.proofs.Common.{ℕ}
-use Rattle.event_model.specs.Queue.{Flat}
+use Rattle.rtl_flat.specs.Flats.{Flat}
 use Rattle.net_rest.specs.Laws.{AreAlone, AreKnownAtRest, AreSolved, LevelsAscend, SolutionsRest}
 use Rattle.net_rest.specs.Rest.{IsSolvable}
 use Rattle.net_rest.proofs.Levels as levels

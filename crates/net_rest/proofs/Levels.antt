@@ -12,7 +12,8 @@ use Rattle.rtl_flat.specs.PathSets.{Lists, OfProcess, Uses, listed}
 use Rattle.rtl_flat.specs.Process.{Assign, Comb, Doing, Edge', Piece, Task}
 use Rattle.rtl_flat.specs.Signs.{width_in}
 use Rattle.rtl_flat.proofs.Paths.{decided}
-use Rattle.event_model.specs.Queue.{Flat, doing_at, doing_of, is_input, widths}
+use Rattle.event_model.specs.Queue.{doing_at, doing_of, is_input}
+use Rattle.rtl_flat.specs.Flats.{Flat, widths}
 use Rattle.event_runs.specs.event_laws.Steady.{AreLawful}
 use Rattle.net_model.specs.Solution.{IsLasting, IsRegisterBit}
 use Rattle.event_runs.proofs.event_laws_proofs.Within.{may_read_outside, outside_inside, reads_inside}

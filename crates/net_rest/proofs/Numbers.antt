@@ -15,7 +15,8 @@ use Rattle.rtl_flat.specs.Paths.{MayWrite, may_write}
 use Rattle.rtl_flat.specs.PathSets.{OfProcess}
 use Rattle.rtl_flat.specs.Process.{Edge', Task}
 use Rattle.rtl_flat.proofs.Paths.{decided}
-use Rattle.event_model.specs.Queue.{Flat, is_input, widths}
+use Rattle.event_model.specs.Queue.{is_input}
+use Rattle.rtl_flat.specs.Flats.{Flat, widths}
 use Rattle.event_model.specs.Traces.{Same}
 use Rattle.event_model.specs.Writes.{Values}
 use Rattle.event_runs.specs.event_laws.Steady.{HaveWidths}

@@ -13,7 +13,8 @@ use Rattle.rtl_flat.specs.Paths.{MayWrite, ReadsOutside, may_write}
 use Rattle.rtl_flat.specs.Process.{Actions, Assign, Comb, Doing, Edge', Piece, Watched}
 use Rattle.rtl_flat.specs.Value.{value}
 use Rattle.rtl_flat.proofs.Paths.{decided}
-use Rattle.event_model.specs.Queue.{Flat, doing_at, is_input, widths}
+use Rattle.event_model.specs.Queue.{doing_at, is_input}
+use Rattle.rtl_flat.specs.Flats.{Flat, widths}
 use Rattle.event_model.specs.Traces.{FollowsPath, Same}
 use Rattle.event_model.specs.Writes.{Values, driven}
 use Rattle.event_runs.specs.event_laws.Steady.{HaveWidths}

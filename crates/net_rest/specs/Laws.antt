@@ -1,7 +1,7 @@
 -- What values at rest are.
 use Rattle.std.specs.Prelude.{ℕ, ◌<◌, Option, IsSome, unwrap_or}
 use Rattle.rtl_flat.specs.Levels.{IsArrow, IsLevel, IsNode}
-use Rattle.event_model.specs.Queue.{Flat}
+use Rattle.rtl_flat.specs.Flats.{Flat}
 use Rattle.event_model.specs.Writes.{Values}
 use Rattle.net_model.specs.declared.fill.Fill.{Fill}
 use Rattle.net_model.specs.Numbers.{AreNumbers}

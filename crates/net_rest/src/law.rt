@@ -1,7 +1,7 @@
 //! Laws of values at rest.
 
 ghost use Rattle.std.specs.Prelude.{ℕ};
-ghost use Rattle.event_model.specs.Queue.{Flat};
+ghost use Rattle.rtl_flat.specs.Flats.{Flat};
 ghost use Rattle.net_rest.specs.Laws.{AreAlone, AreKnownAtRest, AreSolved, LevelsAscend, SolutionsRest};
 ghost use Rattle.net_rest.specs.Rest.{IsSolvable};
 

@@ -10,7 +10,8 @@ use Rattle.rtl_flat.specs.declared.design.Design.{Design}
 use Rattle.rtl_flat.specs.Levels.{HasNoEdge, IsNode}
 use Rattle.rtl_flat.specs.Process.{Actions, Comb, Edge', Task, doing, task}
 use Rattle.rtl_flat.specs.Value.{store}
-use Rattle.event_model.specs.Queue.{doing_at, doing_of, flat}
+use Rattle.event_model.specs.Queue.{doing_at, doing_of}
+use Rattle.rtl_flat.specs.Flats.{flat}
 use Rattle.net_model.specs.Numbers.{AreNumbers}
 use Rattle.net_body.specs.declared.maps.Maps.{Maps}
 use Rattle.net_body.specs.Levels.{levels_of}

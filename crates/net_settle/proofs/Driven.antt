@@ -11,7 +11,7 @@ use Rattle.rtl_flat.specs.Flows.{may_select, may_target, selects, targets}
 use Rattle.rtl_flat.specs.Process.{Assign, Piece, Selection, Whole, BitAt, BitBy, Part}
 use Rattle.rtl_flat.specs.Sizes.{width_of}
 use Rattle.rtl_flat.specs.WellFormed.{IsFixed, IsProcess}
-use Rattle.event_model.specs.Queue.{Flat, widths}
+use Rattle.rtl_flat.specs.Flats.{Flat, widths}
 use Rattle.event_model.specs.Writes.{Span, Values, count_of, counts, driven, no_drive, span_of, write_at, writes}
 use Rattle.net_cycles.proofs.event_laws_proofs.Inside.{writes_within}
 use Rattle.net_cycles.proofs.event_laws_proofs.Targets.{same_count, target_over}

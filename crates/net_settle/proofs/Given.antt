@@ -13,7 +13,8 @@ use Rattle.rtl_flat.specs.Paths.{MayWrite}
 use Rattle.rtl_flat.specs.PathSets.{OfProcess}
 use Rattle.rtl_flat.specs.Process.{Comb, Edge'}
 use Rattle.event_model.specs.declared.setting.Setting as queue
-use Rattle.event_model.specs.Queue.{Flat, is_input, is_input_of, widths}
+use Rattle.event_model.specs.Queue.{is_input, is_input_of}
+use Rattle.rtl_flat.specs.Flats.{Flat, widths}
 use Rattle.event_model.specs.Traces.{Same}
 use Rattle.event_model.specs.Writes.{Values, put}
 use Rattle.net_cycles.specs.event_laws.Steady.{AreLawful}

@@ -5,7 +5,8 @@ use Rattle.std.proofs.lemmas.Option.{slice_get-get_or, slice_get_within}
 use Rattle.rtl_flat.specs.declared.design.Design.{Design}
 use Rattle.rtl_flat.specs.Process.{Task}
 use Rattle.rtl_flat.specs.WellFormed.{IsProcess}
-use Rattle.event_model.specs.Queue.{doing_of, flat}
+use Rattle.event_model.specs.Queue.{doing_of}
+use Rattle.rtl_flat.specs.Flats.{flat}
 use Rattle.net_cycles.specs.event_laws.Steady.{AreLawful}
 
 pub lawful_flat : (design : Design) → AreLawful (flat design)

@@ -11,7 +11,8 @@ use Rattle.rtl_flat.specs.Expression.{Tree}
 use Rattle.rtl_flat.specs.Flows.{body_flow, may_target}
 use Rattle.rtl_flat.specs.Paths.{MayWrite}
 use Rattle.rtl_flat.specs.Process.{Actions, Assign, Comb, Doing, Piece, Watched}
-use Rattle.event_model.specs.Queue.{Flat, doing_at, widths}
+use Rattle.event_model.specs.Queue.{doing_at}
+use Rattle.rtl_flat.specs.Flats.{Flat, widths}
 use Rattle.event_model.specs.Writes.{Values, driven}
 use Rattle.net_cycles.specs.event_laws.Steady.{AreLawful}
 use Rattle.net_cycles.proofs.event_laws_proofs.Within as within

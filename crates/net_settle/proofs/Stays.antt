@@ -19,7 +19,7 @@ use Rattle.rtl_flat.specs.Paths.{BitSet, End, Flow, MayWrite, may_write_bit, may
 use Rattle.rtl_flat.specs.Process.{Piece, Selection, Whole, BitAt, BitBy, Part, Action, Set, If, Case, Block, Actions, Done, Then, Otherwise, Without, With, Branches, NoBranch, Branch}
 use Rattle.rtl_flat.specs.WellFormed.{AreBranches, IsAction, IsBody, IsOtherwise}
 use Rattle.rtl_flat.proofs.Paths.{decided}
-use Rattle.event_model.specs.Queue.{Flat, widths}
+use Rattle.rtl_flat.specs.Flats.{Flat, widths}
 use Rattle.event_model.specs.Traces.{Same, covers}
 use Rattle.event_model.specs.Writes.{Span, Values, Write, count_of, counts, write_at}
 use Rattle.net_cycles.specs.event_laws.Steady.{HaveWidths, IsWithin}

@@ -4,7 +4,8 @@ use Rattle.rtl_flat.specs.declared.act.ProcId.{ProcId}
 use Rattle.rtl_flat.specs.Process.{Actions, Comb, Edge', Watched}
 use Rattle.rtl_flat.specs.Value.{store}
 use Rattle.std.specs.Prelude.{Option}
-use Rattle.event_model.specs.Queue.{Flat, doing_at, flat}
+use Rattle.event_model.specs.Queue.{doing_at}
+use Rattle.rtl_flat.specs.Flats.{Flat, flat}
 use Rattle.net_model.specs.declared.fill.Fill.{Fill}
 use Rattle.net_model.specs.Numbers.{AreNumbers}
 use Rattle.net_model.specs.Solution.{IsSolution}

@@ -3,7 +3,7 @@
 ghost use Rattle.std.specs.Prelude.{ℕ, ◌≡◌, ◌<◌, length};
 ghost use Rattle.rtl_flat.specs.Levels.{IsNode};
 ghost use Rattle.rtl_flat.specs.Value.{store};
-ghost use Rattle.event_model.specs.Queue.{flat};
+ghost use Rattle.rtl_flat.specs.Flats.{flat};
 ghost use Rattle.net_solve.specs.Laws.{AreApart, IsOrder, IsWorked};
 ghost use Rattle.net_settle.specs.Work.{IsAble, Solves, numbers_of};
 

@@ -8,7 +8,7 @@ use Rattle.rtl_flat.specs.Flows.{all_bits, reads}
 use Rattle.rtl_flat.specs.Paths.{BitSet, either}
 use Rattle.rtl_flat.specs.Sizes.{IsSized}
 use Rattle.rtl_flat.specs.Value.{bit_by, chosen, compared, folded, joined, linked, shifted, turned, value}
-use Rattle.event_model.specs.Queue.{Flat, widths}
+use Rattle.rtl_flat.specs.Flats.{Flat, widths}
 use Rattle.event_model.specs.Traces.{Same}
 use Rattle.event_model.specs.Writes.{Values}
 use Rattle.net_rest.specs.event_laws.Steady.{HaveWidths}

@@ -1,7 +1,7 @@
 -- An order of processes ranks them.
 use Rattle.std.proofs.Common.{◌≡◌, ◌<◌, ◌==◌, ℕ, zero, suc, Bool, true, false, List, [], ◌∷◌, length, get_or, if◌then◌else◌, refl, sym, subst, arith}
 use Rattle.std.proofs.lemmas.Bool.{eq-eqb, eqb-true}
-use Rattle.event_model.specs.Queue.{Flat}
+use Rattle.rtl_flat.specs.Flats.{Flat}
 use Rattle.net_rest.specs.event_laws.Steady.{AreLawful}
 use Rattle.net_solve.specs.Feeds.{IsFeed}
 use Rattle.net_solve.specs.Laws.{AreSame, Ascends, IsOrder}

@@ -11,7 +11,8 @@ use Rattle.rtl_flat.specs.Levels.{HasNoEdge, IsNode}
 use Rattle.rtl_flat.specs.Paths.{MayWrite, ReadsOutside}
 use Rattle.rtl_flat.specs.PathSets.{OfProcess}
 use Rattle.rtl_flat.specs.Process.{Assign, Comb, Doing, Edge', Piece, Task}
-use Rattle.event_model.specs.Queue.{Flat, doing_at, doing_of, is_input, widths}
+use Rattle.event_model.specs.Queue.{doing_at, doing_of, is_input}
+use Rattle.rtl_flat.specs.Flats.{Flat, widths}
 use Rattle.event_model.specs.Traces.{Same}
 use Rattle.event_model.specs.Writes.{Values, driven}
 use Rattle.net_rest.specs.event_laws.Steady.{AreLawful}

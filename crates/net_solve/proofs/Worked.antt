@@ -12,7 +12,8 @@ use Rattle.rtl_flat.specs.Paths.{MayWrite, ReadsOutside, may_write}
 use Rattle.rtl_flat.specs.PathSets.{OfProcess}
 use Rattle.rtl_flat.specs.Process.{Actions, Assign, Comb, Doing, Edge', Piece, Watched}
 use Rattle.rtl_flat.proofs.Paths.{decided}
-use Rattle.event_model.specs.Queue.{Flat, doing_at, is_assignment, is_body, is_input, widths}
+use Rattle.event_model.specs.Queue.{doing_at, is_assignment, is_body, is_input}
+use Rattle.rtl_flat.specs.Flats.{Flat, widths}
 use Rattle.event_model.specs.Traces.{Same}
 use Rattle.event_model.specs.Writes.{Values, driven}
 use Rattle.net_model.specs.declared.fill.Fill.{Fill}

@@ -1,7 +1,7 @@
 //! Laws of solutions.
 
 ghost use Rattle.std.specs.Prelude.{ℕ, List};
-ghost use Rattle.event_model.specs.Queue.{Flat};
+ghost use Rattle.rtl_flat.specs.Flats.{Flat};
 ghost use Rattle.net_rest.specs.event_laws.Steady.{AreLawful};
 ghost use Rattle.net_solve.specs.Laws.{AreSame, Ascends, IsOrder, IsWorkable, WorkedSolve};
 

@@ -16,7 +16,8 @@ use Rattle.rtl_flat.specs.declared.signal.Kind.TheVariants.{TopInput, Net, Var}
 use Rattle.rtl_flat.specs.declared.signal.Signal.{Signal}
 use Rattle.rtl_flat.specs.PathSets.{IsTemporary}
 use Rattle.rtl_flat.specs.Value.{store}
-use Rattle.event_model.specs.Queue.{Flat, is_input, is_input_kind, is_input_of, widths}
+use Rattle.event_model.specs.Queue.{is_input, is_input_kind, is_input_of}
+use Rattle.rtl_flat.specs.Flats.{Flat, widths}
 use Rattle.net_model.specs.declared.fill.Fill.{Fill}
 use Rattle.net_model.specs.Numbers.{bit, fill_bit}
 use Rattle.check_found.specs.rtl_scan.Arrows.{Among}

@@ -4,7 +4,7 @@ use Rattle.std.specs.Prelude.{ℕ, false, take, Option, None, Some}
 use Rattle.std.specs.List.{list_any, slice_get}
 use Rattle.rtl_flat.specs.Paths.{BitSet}
 use Rattle.rtl_flat.specs.Process.{Task}
-use Rattle.event_model.specs.Queue.{Flat, widths}
+use Rattle.rtl_flat.specs.Flats.{Flat, widths}
 use Rattle.net_start.specs.Stored.{keeps}
 
 abbrev pub kept_in : (ℕ → ℕ) → Option Task → BitSet

@@ -8,7 +8,8 @@ use Rattle.rtl_flat.specs.Flows.{flow_of}
 use Rattle.rtl_flat.specs.Paths.{BitSet, is_sure, may_write}
 use Rattle.rtl_flat.specs.Process.{Doing, Assign, Comb, Edge', Task}
 use Rattle.rtl_flat.specs.Signs.{Has}
-use Rattle.event_model.specs.Queue.{Flat, is_input, widths}
+use Rattle.event_model.specs.Queue.{is_input}
+use Rattle.rtl_flat.specs.Flats.{Flat, widths}
 use Rattle.net_model.specs.Solution.{IsLasting}
 use Rattle.check_found.specs.rtl_scan.Arrows.{Among, AreRising}
 

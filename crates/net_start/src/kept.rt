@@ -2,11 +2,11 @@
 
 ghost use Rattle.std.specs.Prelude.{ℕ, ◌≡◌, ◌||◌, ◌&&◌, ◌<◌, length, not, Some, IfOk, OnOk};
 ghost use Rattle.std.specs.List.{slice_get};
-ghost use Rattle.event_model.specs.Queue.{flat};
+ghost use Rattle.rtl_flat.specs.Flats.{flat, widths};
 ghost use Rattle.rtl_flat.specs.Flows.{flow_of};
 ghost use Rattle.rtl_flat.specs.Paths.{is_sure};
 ghost use Rattle.rtl_flat.specs.Process.{Task};
-ghost use Rattle.rtl_rule.specs.Parts.{parts, widths, written};
+ghost use Rattle.rtl_rule.specs.Parts.{written};
 ghost use Rattle.check_found.specs.rtl_scan.Sets.{has, has_rows};
 ghost use Rattle.net_start.specs.Kept.{kept_by};
 ghost use Rattle.net_start.specs.Stored.{is_kept};
@@ -43,7 +43,7 @@ fn add_left(bits: &mut BitSet, rows: &[Row], sure: &BitSet) -> Result<(), Memory
 /// Adds the bits that a body without edges may write and some path of it leaves.
 fn add_latched(alloc: Global, design: &Design, p: ProcId, bits: &mut BitSet) -> Result<(), Memory>
     requires there { p.0 < length design.now.processes.items }
-    ensures { let d = parts design.now in
+    ensures { let d = flat design.now in
         OnOk result ((task : Task) → slice_get d.tasks p.0 ≡ Some task → (s k : ℕ) →
         has bits.new.masks s k ≡ (has bits.old.masks s k
         || (written d task.does s k && not (is_sure (flow_of (widths d) task.does) s k)))) }
@@ -58,7 +58,7 @@ fn add_latched(alloc: Global, design: &Design, p: ProcId, bits: &mut BitSet) -> 
 /// Adds the bits that a process may write.
 fn add_written(alloc: Global, design: &Design, p: ProcId, bits: &mut BitSet) -> Result<(), Memory>
     requires there { p.0 < length design.now.processes.items }
-    ensures { let d = parts design.now in
+    ensures { let d = flat design.now in
         OnOk result ((task : Task) → slice_get d.tasks p.0 ≡ Some task → (s k : ℕ) →
         has bits.new.masks s k ≡ (has bits.old.masks s k || written d task.does s k)) }
 {

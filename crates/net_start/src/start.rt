@@ -6,7 +6,7 @@ ghost use Rattle.rtl_bits.specs.declared.Bit.TheVariants.{X};
 ghost use Rattle.rtl_bits.specs.Bit.{is_one};
 ghost use Rattle.rtl_bits.specs.Bits.{has_unknown, is_one_at};
 ghost use Rattle.rtl_flat.specs.Value.{store};
-ghost use Rattle.event_model.specs.Queue.{flat, widths};
+ghost use Rattle.rtl_flat.specs.Flats.{flat, widths};
 ghost use Rattle.check_found.specs.rtl_scan.Arrows.{AreRising};
 ghost use Rattle.check_found.specs.rtl_scan.Sets.{has};
 ghost use Rattle.net_model.specs.Numbers.{fill_bit};

@@ -2,7 +2,8 @@
 
 ghost use Rattle.std.specs.Prelude.{ℕ, ◌≡◌, ◌≤◌, ◌<◌, ◌++◌, ◌∷◌, ◌&&◌, ◌==◌, [], cond, length, not, IfOk, OnOk};
 ghost use Rattle.std.specs.List.{slice_get};
-ghost use Rattle.event_model.specs.Queue.{flat, is_input};
+ghost use Rattle.event_model.specs.Queue.{is_input};
+ghost use Rattle.rtl_flat.specs.Flats.{flat};
 ghost use Rattle.net_start.specs.Listing.{is_var};
 ghost use Rattle.net_start.specs.Stored.{AreInputs, AreStored, places};
 

@@ -13,14 +13,14 @@ use Rattle.rtl_flat.specs.Paths.{MayWrite}
 use Rattle.rtl_flat.specs.Process.{Task}
 use Rattle.rtl_flat.specs.Signs.{Has}
 use Rattle.rtl_flat.proofs.Paths.{decided}
-use Rattle.event_model.specs.Queue.{doing_of, flat, is_input, is_input_kind, is_input_of, widths}
+use Rattle.event_model.specs.Queue.{doing_of, is_input, is_input_kind, is_input_of}
+use Rattle.rtl_flat.specs.Flats.{flat, widths}
 use Rattle.net_model.specs.Control.{Here, IsBehind, Next, whole_of}
-use Rattle.rtl_rule.specs.Parts.{parts}
 use Rattle.net_list.specs.check_clocks.Clocks.{ComesFrom, GoesTo, Itself, Through}
 use Rattle.net_list.specs.Faults as faults
 use Rattle.net_settle.specs.net_solve.Laws.{AreApart}
 
-pub apart : (design : Design) → faults.AreApart (parts design) → AreApart (flat design)
+pub apart : (design : Design) → faults.AreApart (flat design) → AreApart (flat design)
 apart design none_twice p q i k may may' =
     by_tasks (slice_get (flat design).tasks p) (slice_get (flat design).tasks q) refl refl may may'
   where
@@ -32,18 +32,18 @@ apart design none_twice p q i k may may' =
         ((decided (flow_of (widths (flat design)) task.does) i k).writes.1 one)
         ((decided (flow_of (widths (flat design)) task'.does) i k).writes.1 other)
 
-goes_behind : (design : Design) (top i : ℕ) → GoesTo (parts design) top i → IsBehind (flat design) top i
+goes_behind : (design : Design) (top i : ℕ) → GoesTo (flat design) top i → IsBehind (flat design) top i
 goes_behind design top i (Itself) = Here
 goes_behind design top i (Through j i' p task goes there plain) =
     Next j i p (whole_of i plain.at) (Sized 1 plain.signed plain.spot (tree.Whole j)) (goes_behind design top j goes)
     (ap doing_of there ∙ ap Some plain.does)
     (record { signed = plain.signed; spot = plain.spot; target_spot = plain.at; whole = refl; copy = refl; one_bit = plain.one_bit; target_bit = plain.port_bit })
 
-pub behind : (design : Design) (top i : ℕ) → ComesFrom (parts design) top i → IsBehind (flat design) top i
+pub behind : (design : Design) (top i : ℕ) → ComesFrom (flat design) top i → IsBehind (flat design) top i
 behind design top i comes = goes_behind design top i comes.goes
 
 -- a signal that is a top input
-pub is_top : (design : Design) (top : ℕ) → Has (λ signal. signal.kind ≡ TopInput) (parts design).signals top → IsTrue (is_input (flat design) top)
+pub is_top : (design : Design) (top : ℕ) → Has (λ signal. signal.kind ≡ TopInput) (flat design).signals top → IsTrue (is_input (flat design) top)
 is_top design top h = by_signal (slice_get (flat design).signals top) h
   where
     by_signal : (o : Option Signal) → IsSomeAnd o (λ signal. signal.kind ≡ TopInput) → is_input_of o ≡ true

@@ -6,7 +6,8 @@ use Rattle.std.specs.Option.{IsSomeAnd}
 use Rattle.std.proofs.lemmas.List.{at_drop_more}
 use Rattle.rtl_bits.specs.Bits.{same_bit}
 use Rattle.rtl_flat.specs.Process.{Actions}
-use Rattle.event_model.specs.Queue.{Flat, happens, is_input}
+use Rattle.event_model.specs.Queue.{happens, is_input}
+use Rattle.rtl_flat.specs.Flats.{Flat}
 use Rattle.event_model.specs.Writes.{Values}
 use Rattle.net_model.specs.declared.fill.Fill.{Fill}
 use Rattle.net_model.specs.Block.{block_bit}

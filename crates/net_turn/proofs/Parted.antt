@@ -7,7 +7,7 @@ use Rattle.rtl_flat.specs.Paths.{MayWrite, may_write_bit}
 use Rattle.rtl_flat.specs.Process.{Set, If, Case, Block, Actions, Done, Then, With}
 use Rattle.rtl_flat.specs.WellFormed.{IsBody}
 use Rattle.rtl_flat.proofs.Paths.{decided}
-use Rattle.event_model.specs.Queue.{Flat}
+use Rattle.rtl_flat.specs.Flats.{Flat}
 use Rattle.net_model.specs.Cycle.{Chain, Guard, IsChained, opened}
 use Rattle.net_settle.proofs.net_laws_proofs.Parts.{Gives, other_gives, taken_gives}
 use Rattle.net_list.proofs.chain_laws_proofs.Branches.{IsLawfulGuard, chain_lawful}

@@ -13,7 +13,8 @@ use Rattle.rtl_flat.specs.Paths.{MayWrite}
 use Rattle.rtl_flat.specs.PathSets.{OfProcess}
 use Rattle.rtl_flat.specs.Process.{Actions, Assign, Comb, Doing, Edge'}
 use Rattle.rtl_flat.specs.WellFormed.{IsBody}
-use Rattle.event_model.specs.Queue.{Flat, doing_at, widths}
+use Rattle.event_model.specs.Queue.{doing_at}
+use Rattle.rtl_flat.specs.Flats.{Flat, widths}
 use Rattle.event_model.specs.Traces.{Same}
 use Rattle.event_model.specs.Writes.{Values, put}
 use Rattle.net_settle.specs.event_laws.Steady.{AreLawful}

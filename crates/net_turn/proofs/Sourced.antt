@@ -9,10 +9,10 @@ use Rattle.rtl_flat.specs.declared.design.Design.{Design}
 use Rattle.rtl_flat.specs.declared.expr.SigId.{SigId}
 use Rattle.rtl_flat.specs.Paths.{MayWrite}
 use Rattle.rtl_flat.specs.Process.{Actions, Assign, Comb, Doing, Edge', Task, Watched}
-use Rattle.event_model.specs.Queue.{doing_at, doing_of, flat, widths}
+use Rattle.event_model.specs.Queue.{doing_at, doing_of}
+use Rattle.rtl_flat.specs.Flats.{flat, widths}
 use Rattle.net_settle.proofs.event_runs_proofs.Writers.{to_process}
 use Rattle.net_model.specs.Cycle.{Chain, Guard, IsChained}
-use Rattle.rtl_rule.specs.Parts.{parts}
 use Rattle.net_list.specs.check_chains.Chains.{chain_of}
 use Rattle.net_list.specs.check_chains.Views.{chain_view, guard_view}
 use Rattle.net_list.specs.check_clocks.Clocks.{ComesFrom}
@@ -31,12 +31,12 @@ use Rattle.net_turn.proofs.Bridges.{behind, is_top}
 use Rattle.net_turn.proofs.Numbered.{found, rising, waits}
 use Rattle.net_turn.proofs.Parted.{part_lawful, part_levels, part_may}
 
-module _ (design : Design) (formed : AreFormed (parts design)) where
-  comes_from : (top i : ℕ) → ComesFrom (parts design) top i → IsFrom (flat design) top i
+module _ (design : Design) (formed : AreFormed (flat design)) where
+  comes_from : (top i : ℕ) → ComesFrom (flat design) top i → IsFrom (flat design) top i
   comes_from top i comes =
       record { input = is_top design top comes.input; behind = behind design top i comes }
 
-  all_from : (tops : List SigId) (guards : List Guard) → length tops ≡ length guards → ((k : ℕ) (guard : Guard) (top : SigId) → slice_get guards k ≡ Some guard → slice_get tops k ≡ Some top → ComesFrom (parts design) top.0 guard.item.signal) → AreFrom (flat design) (numbers_of tops) guards
+  all_from : (tops : List SigId) (guards : List Guard) → length tops ≡ length guards → ((k : ℕ) (guard : Guard) (top : SigId) → slice_get guards k ≡ Some guard → slice_get tops k ≡ Some top → ComesFrom (flat design) top.0 guard.item.signal) → AreFrom (flat design) (numbers_of tops) guards
   all_from [] [] e each = tt
   all_from [] (guard ∷ guards) e each = absurd (omega (arith, e))
   all_from (top ∷ tops) [] e each = absurd (omega (arith, e))
@@ -50,23 +50,23 @@ module _ (design : Design) (formed : AreFormed (parts design)) where
     pub events : List Watched
     pub body : Actions
     pub does : doing_at (flat design) one.process.0 ≡ Some (Edge' events body)
-    pub chain : chains_of (parts design) one.process.0 ≡ chain_view one.chain
+    pub chain : chains_of (flat design) one.process.0 ≡ chain_view one.chain
 
-  waiting : (one : Clocked) → IsClocked (parts design) one → Waiting one
-  waiting one clocked = by_task (slice_get (parts design).tasks one.process.0) refl clocked.chain
+  waiting : (one : Clocked) → IsClocked (flat design) one → Waiting one
+  waiting one clocked = by_task (slice_get (flat design).tasks one.process.0) refl clocked.chain
     where
-      by_doing : (task : Task) → slice_get (parts design).tasks one.process.0 ≡ Some task → (does : Doing) → task.does ≡ does → chain_of (parts design) does ≡ Some (chain_view one.chain) → Waiting one
+      by_doing : (task : Task) → slice_get (flat design).tasks one.process.0 ≡ Some task → (does : Doing) → task.does ≡ does → chain_of (flat design) does ≡ Some (chain_view one.chain) → Waiting one
       by_doing task there (Assign target e) is none = absurd (cc)
       by_doing task there (Comb list body) is none = absurd (cc)
       by_doing task there (Edge' events body) is some = record {
         events = events;
         body = body;
         does = ap doing_of there ∙ ap Some is;
-        chain = ap (λ o. unwrap_or (chain_in (parts design) o) no_chain) there
-            ∙ (ap (λ x. unwrap_or (chain_of (parts design) x) no_chain) is ∙ ap (λ o. unwrap_or o no_chain) some);
+        chain = ap (λ o. unwrap_or (chain_in (flat design) o) no_chain) there
+            ∙ (ap (λ x. unwrap_or (chain_of (flat design) x) no_chain) is ∙ ap (λ o. unwrap_or o no_chain) some);
       }
 
-      by_task : (o : Option Task) → slice_get (parts design).tasks one.process.0 ≡ o → IsSomeAnd o (λ task. chain_of (parts design) task.does ≡ Some (chain_view one.chain)) → Waiting one
+      by_task : (o : Option Task) → slice_get (flat design).tasks one.process.0 ≡ o → IsSomeAnd o (λ task. chain_of (flat design) task.does ≡ Some (chain_view one.chain)) → Waiting one
       by_task None there none = absurd none
       by_task (Some task) there is = by_doing task there task.does refl is
 
@@ -75,7 +75,7 @@ module _ (design : Design) (formed : AreFormed (parts design)) where
       subst (λ (c : Chain). IsChained c.resets c.part w.body) w.chain
       (are_chains design formed one.process.0 w.events w.body w.does).chained
 
-  source : (one : Clocked) → IsClocked (parts design) one → IsSource (flat design) (chains_of (parts design)) one
+  source : (one : Clocked) → IsClocked (flat design) one → IsSource (flat design) (chains_of (flat design)) one
   source one clocked =
       let w = waiting one clocked in
       let is = chained one w in
@@ -93,22 +93,22 @@ module _ (design : Design) (formed : AreFormed (parts design)) where
             (part_may (widths (flat design)) (chain_view one.chain) w.body is part of i k may);
       }
 
-  pub sources : (all : List Clocked) → AreClocked (parts design) all → AreSources (flat design) (chains_of (parts design)) all
+  pub sources : (all : List Clocked) → AreClocked (flat design) all → AreSources (flat design) (chains_of (flat design)) all
   sources all clocked =
-      let numbers : processes_of all ≡ waits 0 (parts design).tasks = clocked.numbers in
+      let numbers : processes_of all ≡ waits 0 (flat design).tasks = clocked.numbers in
       let count = length-map all (λ (one : Clocked). one.process.0) in
-      let many : length all ≡ length (waits 0 (parts design).tasks) = sym count ∙ ap length numbers in
+      let many : length all ≡ length (waits 0 (flat design).tasks) = sym count ∙ ap length numbers in
       record {
-        each = each_all (IsSource (flat design) (chains_of (parts design))) all
-            (each_more (IsClocked (parts design)) (IsSource (flat design) (chains_of (parts design))) source all (each_from (IsClocked (parts design)) all clocked.each));
+        each = each_all (IsSource (flat design) (chains_of (flat design))) all
+            (each_more (IsClocked (flat design)) (IsSource (flat design) (chains_of (flat design))) source all (each_from (IsClocked (flat design)) all clocked.each));
         once = λ s t less below same.
-            let rise = rising 0 (parts design).tasks s t less (omega (arith, below, many)) in
-            let e : place (waits 0 (parts design).tasks) s ≡ place (waits 0 (parts design).tasks) t
+            let rise = rising 0 (flat design).tasks s t less (omega (arith, below, many)) in
+            let e : place (waits 0 (flat design).tasks) s ≡ place (waits 0 (flat design).tasks) t
             = sym (ap (λ xs. place xs s) numbers) ∙ (same ∙ ap (λ xs. place xs t) numbers) in
             absurd (omega (arith, rise, e));
         there = λ p events body here.
-            let (task, there, does) = task_of (parts design).tasks p (Edge' events body) here in
-            let (t, below, is) = found 0 (parts design).tasks p task events body there does in
+            let (task, there, does) = task_of (flat design).tasks p (Edge' events body) here in
+            let (t, below, is) = found 0 (flat design).tasks p task events body there does in
             (t, omega (arith, below, many), ap (λ xs. place xs t) numbers ∙ (is ∙ omega arith));
       }
 
@@ -120,7 +120,7 @@ module _ (design : Design) (formed : AreFormed (parts design)) where
   tops_there (top ∷ tops) (guard ∷ guards) are =
       All-cons (λ (one : SigId). one.0 < length design.signals.items) top tops (input_there (flat design) top.0 are.0.input) (tops_there tops guards are.1)
 
-  can : (one : Clocked) → IsClocked (parts design) one → CanRun design one
+  can : (one : Clocked) → IsClocked (flat design) one → CanRun design one
   can one clocked =
       let w = waiting one clocked in
       let is = chained one w in
@@ -137,6 +137,6 @@ module _ (design : Design) (formed : AreFormed (parts design)) where
             omega (arith, mul-le-mul_left (length m.design.now.signals.items) small, roomy);
       }
 
-  pub can_run : (all : List Clocked) → AreClocked (parts design) all → All (CanRun design) all
+  pub can_run : (all : List Clocked) → AreClocked (flat design) all → All (CanRun design) all
   can_run all clocked =
-      each_all (CanRun design) all (each_more (IsClocked (parts design)) (CanRun design) can all (each_from (IsClocked (parts design)) all clocked.each))
+      each_all (CanRun design) all (each_more (IsClocked (flat design)) (CanRun design) can all (each_from (IsClocked (flat design)) all clocked.each))

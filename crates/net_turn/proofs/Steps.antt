@@ -5,7 +5,7 @@ use Rattle.rtl_bits.specs.declared.Bit.{Bit}
 use Rattle.rtl_flat.specs.declared.signal.Signal.{Signal}
 use Rattle.rtl_flat.specs.Signs.{width_in}
 use Rattle.rtl_flat.specs.Value.{store}
-use Rattle.event_model.specs.Queue.{Flat}
+use Rattle.rtl_flat.specs.Flats.{Flat}
 use Rattle.event_model.specs.Writes.{Values, put}
 use Rattle.net_settle.proofs.event_laws_proofs.Lengths.{put_at, put_other}
 use Rattle.net_model.specs.Numbers.{AreNumbers}

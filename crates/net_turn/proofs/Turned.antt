@@ -14,7 +14,8 @@ use Rattle.rtl_flat.specs.Paths.{MayWrite}
 use Rattle.rtl_flat.specs.PathSets.{OfProcess}
 use Rattle.rtl_flat.specs.Process.{Actions, Comb, Edge', Watched}
 use Rattle.event_model.specs.declared.setting.Setting.{Setting}
-use Rattle.event_model.specs.Queue.{Flat, doing_at, happens, is_input, widths}
+use Rattle.event_model.specs.Queue.{doing_at, happens, is_input}
+use Rattle.rtl_flat.specs.Flats.{Flat, widths}
 use Rattle.event_model.specs.Traces.{Same}
 use Rattle.event_model.specs.Writes.{Values, put}
 use Rattle.net_settle.specs.event_laws.Steady.{AreLawful}

@@ -9,7 +9,8 @@ use Rattle.rtl_flat.specs.Paths.{MayWrite}
 use Rattle.rtl_flat.specs.PathSets.{OfProcess}
 use Rattle.rtl_flat.specs.Process.{Actions, Edge', Watched}
 use Rattle.rtl_flat.specs.WellFormed.{IsBody}
-use Rattle.event_model.specs.Queue.{Flat, doing_at, is_input, widths}
+use Rattle.event_model.specs.Queue.{doing_at, is_input}
+use Rattle.rtl_flat.specs.Flats.{Flat, widths}
 use Rattle.net_model.specs.Control.{IsBehind}
 use Rattle.net_model.specs.Cycle.{Chain, Guard}
 use Rattle.net_list.specs.check_chains.Views.{chain_view}

@@ -4,7 +4,7 @@ ghost use Rattle.std.specs.Prelude.{ℕ, ◌≡◌, length};
 ghost use Rattle.std.specs.List.{All};
 ghost use Rattle.rtl_bits.specs.Bits.{tabulate};
 ghost use Rattle.rtl_flat.specs.Value.{store};
-ghost use Rattle.event_model.specs.Queue.{flat, widths};
+ghost use Rattle.rtl_flat.specs.Flats.{flat, widths};
 ghost use Rattle.net_model.specs.Numbers.{AreNumbers};
 ghost use Rattle.net_settle.specs.net_body.Ends.{changed};
 ghost use Rattle.net_settle.specs.net_solve.Laws.{AreApart};

@@ -3,7 +3,7 @@
 ghost use Rattle.std.specs.Prelude.{ℕ, ◌≡◌, [], ◌∷◌, false, length, Some};
 ghost use Rattle.std.specs.List.{All};
 ghost use Rattle.rtl_flat.specs.Value.{store};
-ghost use Rattle.event_model.specs.Queue.{flat};
+ghost use Rattle.rtl_flat.specs.Flats.{flat};
 ghost use Rattle.net_model.specs.Cycle as cycle;
 ghost use Rattle.net_settle.specs.net_solve.Laws.{AreApart, IsOrder};
 ghost use Rattle.net_settle.specs.Work.{IsAble, numbers_of};

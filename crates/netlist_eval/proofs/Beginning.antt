@@ -9,7 +9,8 @@ use Rattle.rtl_flat.specs.declared.act.Process.{Process}
 use Rattle.rtl_flat.specs.declared.design.Design.{Design}
 use Rattle.rtl_flat.specs.Process.{Comb, Edge', Doing, doing, task}
 use Rattle.rtl_flat.specs.Value.{store}
-use Rattle.event_model.specs.Queue.{Flat, doing_at, doing_of, flat}
+use Rattle.event_model.specs.Queue.{doing_at, doing_of}
+use Rattle.rtl_flat.specs.Flats.{Flat, flat}
 use Rattle.event_model.specs.Writes.{Values}
 use Rattle.net_model.specs.Numbers.{AreNumbers}
 use Rattle.infer_regs.specs.net_list.declared.clocked.Clocked.{Clocked}

@@ -5,7 +5,8 @@ use Rattle.std.specs.List.{slice_get}
 use Rattle.std.proofs.lemmas.Bool.{both_ways, false≢true}
 use Rattle.rtl_flat.specs.declared.design.Design.{Design}
 use Rattle.rtl_flat.specs.declared.signal.Signal.{Signal}
-use Rattle.event_model.specs.Queue.{flat, is_input_of}
+use Rattle.event_model.specs.Queue.{is_input_of}
+use Rattle.rtl_flat.specs.Flats.{flat}
 use Rattle.net_model.specs.Control.{IsControl}
 use Rattle.net_start.specs.rtl_scan.Arrows.{Among}
 use Rattle.infer_regs.specs.check_clocks.Tops.{AreMarkedAlso}

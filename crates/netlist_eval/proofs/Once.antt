@@ -5,7 +5,7 @@ use Rattle.std.proofs.Props.{props}
 use Rattle.rtl_bits.specs.declared.Bit.{Bit}
 use Rattle.rtl_flat.specs.declared.design.Design.{Design}
 use Rattle.rtl_flat.specs.Propositions.{body_one}
-use Rattle.event_model.specs.Queue.{Flat}
+use Rattle.rtl_flat.specs.Flats.{Flat}
 use Rattle.event_model.specs.Writes.{Values}
 use Rattle.net_model.specs.declared.fill.Fill.{Fill}
 use Rattle.net_model.specs.Cycle.{Chain, IsCycle, Setting, Step}

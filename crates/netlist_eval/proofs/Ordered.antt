@@ -8,7 +8,7 @@ use Rattle.std.proofs.Props.{props}
 use Rattle.std.proofs.lemmas.Bool.{cases_eq, cases_lt}
 use Rattle.rtl_flat.specs.Levels.{Chain, HasNoEdge, Here, IsNode, Then}
 use Rattle.rtl_flat.specs.Process.{Assign, Comb, Edge', Doing, Task}
-use Rattle.event_model.specs.Queue.{Flat}
+use Rattle.rtl_flat.specs.Flats.{Flat}
 use Rattle.net_order.specs.Order.{IsCyclic}
 use Rattle.net_order.specs.net_solve.Feeds.{IsFeed}
 use Rattle.net_order.specs.net_solve.Laws.{IsOrder, place}

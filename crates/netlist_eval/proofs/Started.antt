@@ -10,7 +10,7 @@ use Rattle.rtl_flat.specs.Paths.{MayWrite, is_sure, may_write}
 use Rattle.rtl_flat.specs.Process.{Assign, Comb, Edge', Doing, Task}
 use Rattle.rtl_flat.specs.Value.{store}
 use Rattle.rtl_flat.proofs.Paths.{decided}
-use Rattle.event_model.specs.Queue.{Flat, widths}
+use Rattle.rtl_flat.specs.Flats.{Flat, widths}
 use Rattle.event_model.specs.Writes.{Values}
 use Rattle.net_model.specs.declared.fill.Fill.{Fill}
 use Rattle.net_model.specs.Cycle.{Chain}

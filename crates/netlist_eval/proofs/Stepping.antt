@@ -9,7 +9,7 @@ use Rattle.rtl_bits.specs.declared.Bit.{Bit}
 use Rattle.rtl_flat.specs.declared.act.ProcId.{ProcId}
 use Rattle.rtl_flat.specs.declared.design.Design.{Design}
 use Rattle.rtl_flat.specs.Value.{store}
-use Rattle.event_model.specs.Queue.{Flat, flat, widths}
+use Rattle.rtl_flat.specs.Flats.{Flat, flat, widths}
 use Rattle.event_model.specs.Writes.{Values}
 use Rattle.net_model.specs.Control.{IsControl}
 use Rattle.net_model.specs.Cycle as cycle

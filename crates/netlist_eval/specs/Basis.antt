@@ -1,7 +1,7 @@
 -- It serves inner contracts and proofs; no answer of the program is stated by it.
 -- What all simulators of a design's netlists begin with.
 use Rattle.std.specs.Prelude.{◌≡◌, ◌↔◌, ◌≤◌, ℕ, false, true, length, slice_index_or}
-use Rattle.event_model.specs.Queue.{Flat}
+use Rattle.rtl_flat.specs.Flats.{Flat}
 use Rattle.net_model.specs.Control.{IsControl}
 use Rattle.net_order.specs.net_solve.Laws.{IsOrder}
 use Rattle.net_start.specs.rtl_scan.Sets.{has}

@@ -4,7 +4,7 @@ use Rattle.std.specs.Prelude.{◌≡◌, ◌↔◌, ℕ, Bool, false, true, List
 use Rattle.rtl_bits.specs.declared.Bit.{Bit}
 use Rattle.rtl_flat.specs.declared.act.ProcId.{ProcId}
 use Rattle.rtl_flat.specs.Value.{store}
-use Rattle.event_model.specs.Queue.{flat}
+use Rattle.rtl_flat.specs.Flats.{flat}
 use Rattle.net_model.specs.Control.{IsControl}
 use Rattle.infer_regs.specs.net_list.declared.netlist.Netlist.{Netlist}
 use Rattle.net_order.specs.net_solve.Laws.{IsOrder}

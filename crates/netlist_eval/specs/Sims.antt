@@ -1,7 +1,7 @@
 -- What is seen of a simulator of a netlist.
 -- Worked examples: crates/tests_net/src/sims.rt.
 use Rattle.rtl_flat.specs.Value.{store}
-use Rattle.event_model.specs.Queue.{Flat}
+use Rattle.rtl_flat.specs.Flats.{Flat}
 use Rattle.event_model.specs.Writes.{Values}
 use Rattle.infer_regs.specs.net_list.declared.netlist.Netlist.{Netlist}
 use Rattle.netlist_eval.specs.declared.sim.NetSim.{NetSim}

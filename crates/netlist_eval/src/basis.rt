@@ -1,7 +1,7 @@
 //! What all simulators of a design's netlists begin with.
 
 ghost use Rattle.std.specs.Prelude.{ℕ, ◌≡◌, ◌↔◌, false, true, slice_index_or, IfErr, IfOk};
-ghost use Rattle.event_model.specs.Queue.{flat};
+ghost use Rattle.rtl_flat.specs.Flats.{flat};
 ghost use Rattle.net_model.specs.Control.{IsControl};
 ghost use Rattle.net_order.specs.net_solve.Laws.{IsOrder};
 ghost use Rattle.net_turn.specs.net_settle.Work.{numbers_of};
@@ -72,7 +72,7 @@ fn order_of(alloc: Global, design: &Design) -> Result<Vec<ProcId>, NetFault>
 
 impl Basis {
     ghost use Rattle.std.specs.Prelude.{IfErr, IfOk};
-    ghost use Rattle.event_model.specs.Queue.{flat};
+    ghost use Rattle.rtl_flat.specs.Flats.{flat};
     ghost use Rattle.netlist_eval.specs.Basis.{IsBasisOf};
     ghost use Rattle.netlist_eval.specs.Steps.{IsOrderFault};
 

@@ -45,7 +45,7 @@ impl<'n> NetSim<'n> {
     ghost use Rattle.std.specs.Prelude.{ℕ, ◌≡◌, ◌↔◌, ◌<◌, ◌++◌, false, true, length, slice_index_or, IfErr, IfOk};
     ghost use Rattle.std.specs.List.{All};
     ghost use Rattle.rtl_bits.specs.Bits.{has_unknown};
-    ghost use Rattle.event_model.specs.Queue.{widths};
+    ghost use Rattle.rtl_flat.specs.Flats.{widths};
     ghost use Rattle.rtl_flat.specs.Value.{store};
     ghost use Rattle.net_model.specs.Control.{IsControl};
     ghost use Rattle.net_model.specs.Cycle.{IsCycle};

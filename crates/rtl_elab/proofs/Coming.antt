@@ -13,7 +13,8 @@ use Rattle.elab_lawful.specs.elab_walk.Placements.{placements}
 use Rattle.elab_lawful.specs.elab_walk.Visits.{Library, Visit, all_visits, top_visit}
 use Rattle.elab_lawful.proofs.elab_walk_proofs.Ending.{all_come_to}
 use Rattle.elab_lawful.specs.elab_flat.Children.{HaveChildren}
-use Rattle.elab_lawful.specs.elab_flat.Flats.{DesignParts, flat_of}
+use Rattle.elab_lawful.specs.elab_flat.Flats.{flat_of}
+use Rattle.rtl_flat.specs.Flats.{DesignParts}
 use Rattle.elab_lawful.proofs.Trees.{all_have_children}
 use Rattle.rtl_elab.specs.Elaborated.{decided, elaborated, elaborated_at, elaborated_found, refused, visited, visited_found, visited_from}
 

@@ -11,7 +11,8 @@ use Rattle.elab_lawful.specs.elab_walk.Refusals.{refusal}
 use Rattle.elab_lawful.specs.elab_walk.Rooms.{whole_room}
 use Rattle.elab_lawful.specs.elab_walk.Placements.{placements}
 use Rattle.elab_lawful.specs.elab_walk.Visits.{Library, Visit, all_visits, top_visit}
-use Rattle.elab_lawful.specs.elab_flat.Flats.{DesignParts, flat_of}
+use Rattle.elab_lawful.specs.elab_flat.Flats.{flat_of}
+use Rattle.rtl_flat.specs.Flats.{DesignParts}
 use Rattle.elab_lawful.specs.Laws.{IsLawful}
 use Rattle.elab_lawful.proofs.Designs.{lawful}
 use Rattle.rtl_elab.specs.Elaborated.{decided, elaborated, elaborated_at, elaborated_found, elaborated_of}

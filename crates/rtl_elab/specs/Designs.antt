@@ -6,19 +6,8 @@ use Rattle.rtl_flat.specs.declared.design.Design.{Design}
 use Rattle.rtl_flat.specs.Process.{task}
 use Rattle.elab_lawful.specs.elab_links.Modules.{all_placed, found}
 use Rattle.elab_lawful.specs.elab_walk.Visits.{Library}
-use Rattle.elab_lawful.specs.elab_flat.Flats.{DesignParts}
+use Rattle.rtl_flat.specs.Flats.{DesignParts}
 
 -- the modules of files, and which of them a name means
 abbrev pub library_of : List (List Circuit) → Library
 library_of files = record { lookups = found (all_placed files); files = files }
-
--- what a design is made of
-abbrev pub flat_in : Design → DesignParts
-flat_in design =
-    record {
-      signals = design.signals.items;
-      tasks = map task design.processes.items;
-      instances = design.instances.items;
-      dropped = design.dropped.items;
-      delays = design.delays.items;
-    }

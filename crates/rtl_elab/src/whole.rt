@@ -7,7 +7,8 @@ ghost use Rattle.elab_lawful.specs.elab_links.Modules.{all_placed, circuits_of, 
 ghost use Rattle.elab_lawful.specs.elab_walk.Trails.{IsTold};
 ghost use Rattle.elab_lawful.specs.elab_walk.Visits.{library};
 ghost use Rattle.elab_lawful.specs.Laws.{IsLawful};
-ghost use Rattle.rtl_elab.specs.Designs.{flat_in, library_of};
+ghost use Rattle.rtl_elab.specs.Designs.{library_of};
+ghost use Rattle.rtl_flat.specs.Flats.{flat_in};
 ghost use Rattle.rtl_elab.specs.Elaborated.{elaborated, refused};
 
 use crate::elaborate::flat_design;

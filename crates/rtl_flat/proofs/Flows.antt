@@ -1,9 +1,8 @@
 -- Tests of paths over statements in order and over the ways of a case.
-use Rattle.std.proofs.Common.{ℕ, ◌≡◌, ◌∙◌, Bool, true, false, not, ◌&&◌, ◌||◌, List, [], ◌∷◌, ◌++◌, Some, None, refl, sym, ap}
-use Rattle.std.specs.Prelude.{Option}
+use Rattle.std.proofs.Common.{ℕ, ◌≡◌, ◌∙◌, Bool, true, false, not, ◌&&◌, ◌||◌, List, refl, sym, ap}
 use Rattle.rtl_flat.specs.Expression.{Tree}
-use Rattle.rtl_flat.specs.Process.{Piece, Action, Set, If, Case, Block, Actions, Done, Then, Otherwise, Without, With, Branches, NoBranch, Branch}
-use Rattle.rtl_flat.specs.Paths.{Step, Read, Write, either, Flow, End, Do, Fork, Ways, Last, More, some, some_way, every, every_way, first, first_way}
+use Rattle.rtl_flat.specs.Process.{Piece, Action, Set, If, Case, Block, Actions, Done, Then, Branches}
+use Rattle.rtl_flat.specs.Paths.{Step, Read, Write, either, Flow, End, Last, More, some, some_way, every, every_way, first, first_way}
 use Rattle.rtl_flat.specs.Flows.{reads, reads_all, labels_of, target_reads, may_target, targets, action_then, actions_then, other_flow, way_past, ways, is_complete}
 
 or_assoc : (a b c : Bool) → (a || (b || c)) ≡ ((a || b) || c)

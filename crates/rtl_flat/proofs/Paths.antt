@@ -1,9 +1,8 @@
 -- Tests of paths, by recursion on the body, say what holds on its paths.
 use Rattle.std.proofs.Common.{ℕ, ◌≡◌, ◌∙◌, Bool, true, false, not, ◌&&◌, ◌||◌, List, [], ◌∷◌, ◌++◌, refl, sym, ap, inl, inr, append_assoc}
-use Rattle.std.specs.Prelude.{◌⊎◌, ◌↔◌}
 use Rattle.std.specs.List.{list_any}
-use Rattle.std.proofs.lemmas.Bool.{cases_Bool, or_cases, or_left, or_right, or_parts, or_from, and_parts, and_from, and_cases, false≢true, true≢false, both_ways, not-true, not_from_false, true_from_ne_false}
-use Rattle.rtl_flat.specs.Paths.{Step, Read, Write, Flow, End, Do, Fork, Ways, Last, More, IsPath, IsWay, reads_bit, may_write_bit, may_write_late, may_write_now, writes_bit, writes_now, MayWrite, MayWriteLate, MayWriteNow, IsSure, MayRead, ReadsOutside, some, some_way, every, every_way, first, first_way, may_write, may_write_delayed, may_write_blocking, is_sure, may_read, reads_outside, AreDecided}
+use Rattle.std.proofs.lemmas.Bool.{cases_Bool, or_cases, or_left, or_right, or_parts, or_from, and_parts, and_from, and_cases, false≢true, both_ways, not-true, true_from_ne_false}
+use Rattle.rtl_flat.specs.Paths.{Step, Flow, End, Do, Fork, Ways, Last, More, IsPath, IsWay, reads_bit, may_write_bit, may_write_late, may_write_now, writes_bit, writes_now, some, some_way, every, every_way, first, first_way, AreDecided}
 
 -- ---- tests of two lists one after the other
 

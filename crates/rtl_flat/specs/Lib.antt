@@ -2,6 +2,7 @@ pub mod Expression
 pub mod Value
 pub mod Sizes
 pub mod Process
+pub mod Flats
 pub mod Labels
 pub mod Signs
 pub mod Sizing

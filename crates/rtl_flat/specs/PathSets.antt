@@ -1,6 +1,6 @@
 -- What processes read, write, surely write and list, and which variables are temporaries.
 -- Worked examples: crates/tests_elab/src/scans.rt.
-use Rattle.std.specs.Prelude.{ℕ, ◌≡◌, ◌⊎◌, Bool, true, false, List, [], ◌∷◌, Option, Some, None}
+use Rattle.std.specs.Prelude.{ℕ, ◌≡◌, ◌⊎◌, true, false, List, [], ◌∷◌, Some, None}
 use Rattle.std.specs.List.{slice_get}
 use Rattle.std.specs.Option.{IsSomeAnd}
 use Rattle.rtl_flat.specs.declared.signal.Signal.{Signal}

@@ -11,6 +11,7 @@ use Rattle.rtl_flat.specs.declared.instance.Delay.{Delay}
 use Rattle.rtl_flat.specs.declared.instance.DroppedRegion.{DroppedRegion}
 use Rattle.rtl_flat.specs.declared.signal.Signal.{Signal}
 use Rattle.rtl_flat.specs.Expression.{Tree, Sized, Literal, Whole, BitAt, BitBy, Part, Turned, Joined, Compared, Linked, Folded, Shifted, Chosen, Empty, Beside, Repeated, Recast}
+use Rattle.rtl_flat.specs.Flats.{Flat, widths}
 use Rattle.rtl_flat.specs.Flows.{flow_of, labels_of}
 use Rattle.rtl_flat.specs.Paths.{BitSet, may_write}
 use Rattle.rtl_flat.specs.Process.{Selection, Piece, Watched, Action, Set, If, Case, Block, Actions, Done, Then, Otherwise, Without, With, Branches, NoBranch, Branch, Doing, Assign, Comb, Edge', Task, task}
@@ -18,21 +19,6 @@ use Rattle.rtl_flat.specs.Process as part
 use Rattle.rtl_flat.specs.Signs.{width_in}
 use Rattle.rtl_rule.specs.declared.finding.Finding.{Finding}
 use Rattle.rtl_rule.specs.declared.rule.Rule.{Rule}
-
--- a flat design without its instances
-pub record Parts : Type 0 where
-  pub signals : List Signal
-  pub tasks : List Task
-  pub delays : List Delay
-  pub dropped : List DroppedRegion
-
--- those of a design
-abbrev pub parts : Design → Parts
-parts design =
-    record { signals = design.signals.items; tasks = map task design.processes.items; delays = design.delays.items; dropped = design.dropped.items }
-
-abbrev pub widths : Parts → ℕ → ℕ
-widths d = width_in d.signals
 
 -- ---- sites: something in a process
 
@@ -45,17 +31,17 @@ abbrev pub within : {A : Type 0} → (ℕ × Task) → A → At A
 within (number, task) it = record { process = number; task = task; it = it }
 
 -- all that a function lists of each process, in the order of processes
-abbrev pub sites : {A : Type 0} → (Doing → List A) → Parts → List (At A)
+abbrev pub sites : {A : Type 0} → (Doing → List A) → Flat → List (At A)
 sites list d =
     flat_map (λ (one : ℕ × Task). map (within one) (list one.1.does)) (enumerate_from 0 d.tasks)
 
 -- each process with each signal
-abbrev pub signal_sites : Parts → List (At ℕ)
+abbrev pub signal_sites : Flat → List (At ℕ)
 signal_sites d =
     sites (λ does. map (λ (one : ℕ × Signal). one.0) (enumerate_from 0 d.signals)) d
 
 -- each process
-abbrev pub process_sites : Parts → List (At Doing)
+abbrev pub process_sites : Flat → List (At Doing)
 process_sites d = sites (λ does. does ∷ []) d
 
 -- ---- findings at sites
@@ -99,14 +85,14 @@ abbrev pub has_some : (ℕ → ℕ) → BitSet → ℕ → Bool
 has_some ws bits s = some_below (ws s) (bits s)
 
 -- the least signal that a set has a bit of
-abbrev pub first_of : Parts → BitSet → Option SigId
+abbrev pub first_of : Flat → BitSet → Option SigId
 first_of d bits = first_below (length d.signals) (has_some (widths d) bits)
 
-abbrev pub written : Parts → Doing → BitSet
+abbrev pub written : Flat → Doing → BitSet
 written d does = may_write (flow_of (widths d) does)
 
 -- the least signal that a process may write
-abbrev pub first_written : {A : Type 0} → Parts → At A → Option SigId
+abbrev pub first_written : {A : Type 0} → Flat → At A → Option SigId
 first_written d site = first_of d (written d site.task.does)
 
 -- ---- places

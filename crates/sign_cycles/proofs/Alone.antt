@@ -8,7 +8,8 @@ use Rattle.rtl_tree.specs.declared.text.Spot.{Spot}
 use Rattle.rtl_flat.specs.Flows.{body_flow}
 use Rattle.rtl_flat.specs.Paths.{MayWrite}
 use Rattle.rtl_flat.specs.Process.{Watched, Actions, Assign, Edge'}
-use Rattle.event_model.specs.Queue.{Flat, doing_at, happens, widths}
+use Rattle.event_model.specs.Queue.{doing_at, happens}
+use Rattle.rtl_flat.specs.Flats.{Flat, widths}
 use Rattle.event_model.specs.Writes.{Values, driven, no_drive}
 use Rattle.event_edges.proofs.event_laws_proofs.Lengths.{put_at}
 use Rattle.net_model.specs.declared.fill.Fill.{Fill}

@@ -9,7 +9,8 @@ use Rattle.rtl_bits.specs.declared.Bit.TheVariants.{X}
 use Rattle.rtl_bits.specs.Bit.{is_unknown}
 use Rattle.rtl_bits.specs.Bits.{has_unknown}
 use Rattle.rtl_flat.specs.Process.{Watched, Actions, Edge'}
-use Rattle.event_model.specs.Queue.{Flat, State, IsAtRest, doing_at, offer, power_up, run, widths}
+use Rattle.event_model.specs.Queue.{State, IsAtRest, doing_at, offer, power_up, run}
+use Rattle.rtl_flat.specs.Flats.{Flat, widths}
 use Rattle.event_model.specs.Writes.{Values, put}
 use Rattle.event_edges.proofs.event_laws_proofs.Lengths.{put_at, put_other}
 use Rattle.net_model.specs.declared.fill.Fill.{Fill}

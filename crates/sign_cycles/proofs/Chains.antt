@@ -17,7 +17,8 @@ use Rattle.rtl_flat.specs.Paths.{Read, Step, MayWrite, MayWriteLate, MayWriteNow
 use Rattle.rtl_flat.specs.Process.{Watched, Set, If, Case, Block, Actions, Done, Then, With}
 use Rattle.rtl_flat.specs.WellFormed.{IsBody, has_edge}
 use Rattle.rtl_flat.proofs.Paths.{decided}
-use Rattle.event_model.specs.Queue.{Flat, happens, widths}
+use Rattle.event_model.specs.Queue.{happens}
+use Rattle.rtl_flat.specs.Flats.{Flat, widths}
 use Rattle.event_model.specs.Writes.{Values}
 use Rattle.net_model.specs.declared.fill.Fill.{Fill}
 use Rattle.net_model.specs.Block.{Maps, acts, begun, bit_after, block_bit}

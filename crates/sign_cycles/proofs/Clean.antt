@@ -17,7 +17,8 @@ use Rattle.rtl_flat.specs.Signs.{Has, IsExpression}
 use Rattle.rtl_flat.specs.Sizes.{width_of}
 use Rattle.rtl_flat.specs.WellFormed.{IsAssignment, IsProcess, IsSelection, IsWatched, has_edge}
 use Rattle.rtl_flat.proofs.Paths.{decided}
-use Rattle.event_model.specs.Queue.{doing_at, is_input, widths}
+use Rattle.event_model.specs.Queue.{doing_at, is_input}
+use Rattle.rtl_flat.specs.Flats.{widths}
 use Rattle.event_edges.specs.event_laws.Steady.{AreLawful}
 use Rattle.event_edges.proofs.event_laws_proofs.Laws.{outside_inside}
 use Rattle.event_edges.proofs.event_laws_proofs.Within.{may_read_outside}

@@ -8,7 +8,8 @@ use Rattle.rtl_bits.specs.declared.Bit.TheVariants.{X}
 use Rattle.rtl_bits.specs.Bit.{is_unknown}
 use Rattle.rtl_flat.specs.Paths.{MayWrite}
 use Rattle.rtl_flat.specs.Process.{Edge'}
-use Rattle.event_model.specs.Queue.{Flat, State, IsAtRest, is_body, is_input, offer, run}
+use Rattle.event_model.specs.Queue.{State, IsAtRest, is_body, is_input, offer, run}
+use Rattle.rtl_flat.specs.Flats.{Flat}
 use Rattle.event_model.specs.Traces.{Same}
 use Rattle.event_model.specs.Writes.{Values, put}
 use Rattle.event_edges.proofs.event_laws_proofs.Lengths.{put_other}

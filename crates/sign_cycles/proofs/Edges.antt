@@ -18,7 +18,8 @@ use Rattle.rtl_flat.specs.Signs.{Has}
 use Rattle.rtl_flat.specs.WellFormed.{has_edge}
 use Rattle.rtl_flat.specs.Process.{Watched, Actions, Edge'}
 use Rattle.event_model.specs.Bodies.{Made, Now, Later, body_made}
-use Rattle.event_model.specs.Queue.{Flat, State, IsAtRest, Reaches, doing_at, happens, offer, widths}
+use Rattle.event_model.specs.Queue.{State, IsAtRest, Reaches, doing_at, happens, offer}
+use Rattle.rtl_flat.specs.Flats.{Flat, widths}
 use Rattle.event_model.specs.Traces.{FollowsPath, Same, covers, makes_now}
 use Rattle.event_model.specs.Writes.{Values, Write, driven}
 use Rattle.event_edges.specs.event_laws.Steady.{HaveWidths}

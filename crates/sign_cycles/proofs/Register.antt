@@ -23,7 +23,8 @@ use Rattle.rtl_flat.specs.Paths.{MayWrite}
 use Rattle.rtl_flat.specs.PathSets.{OfProcess}
 use Rattle.rtl_flat.specs.Process.{Whole, Watched, Set, If, Actions, Assign, Comb, Done, Then, Doing, Edge', With}
 use Rattle.rtl_flat.proofs.Paths.{decided}
-use Rattle.event_model.specs.Queue.{Flat, State, Event, Input, Run, Delayed, Activate, HasNoActive, IsAtRest, doing_at, doing_of, is_assignment, is_input, power_up, run, settled_at, widths}
+use Rattle.event_model.specs.Queue.{State, Event, Input, Run, Delayed, Activate, HasNoActive, IsAtRest, doing_at, doing_of, is_assignment, is_input, power_up, run, settled_at}
+use Rattle.rtl_flat.specs.Flats.{Flat, widths}
 use Rattle.event_model.specs.Writes.{Values, Write}
 use Rattle.net_model.specs.declared.fill.Fill.{Fill}
 use Rattle.net_model.specs.Control.{IsControl, IsPassedOn, IsReached, Itself, Through, whole_of}

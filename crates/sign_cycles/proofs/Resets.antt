@@ -17,7 +17,8 @@ use Rattle.rtl_flat.specs.Process.{Watched, Set, If, Case, Block, Actions, Done,
 use Rattle.rtl_flat.specs.Value.{value}
 use Rattle.rtl_flat.specs.WellFormed.{has_edge}
 use Rattle.event_model.specs.Bodies.{Made, body_made}
-use Rattle.event_model.specs.Queue.{Flat, doing_at, happens, item_hears, widths}
+use Rattle.event_model.specs.Queue.{doing_at, happens, item_hears}
+use Rattle.rtl_flat.specs.Flats.{Flat, widths}
 use Rattle.event_model.specs.Traces.{Same, makes_late, makes_now}
 use Rattle.event_model.specs.Writes.{Values}
 use Rattle.event_edges.specs.event_laws.Steady.{HaveWidths}

@@ -9,7 +9,8 @@ use Rattle.rtl_flat.specs.Paths.{MayWrite}
 use Rattle.rtl_flat.specs.Process.{Piece, Watched, Actions, Assign, Edge'}
 use Rattle.rtl_flat.specs.Signs.{Has}
 use Rattle.rtl_flat.specs.Value.{value}
-use Rattle.event_model.specs.Queue.{Flat, State, IsAtRest, Reaches, doing_at, offer, widths}
+use Rattle.event_model.specs.Queue.{State, IsAtRest, Reaches, doing_at, offer}
+use Rattle.rtl_flat.specs.Flats.{Flat, widths}
 use Rattle.event_model.specs.Writes.{Values}
 use Rattle.net_model.specs.declared.fill.Fill.{Fill}
 use Rattle.net_model.specs.Block.{block_bit}

@@ -3,7 +3,8 @@
 use Rattle.std.specs.Prelude.{◌≡◌, ◌≢◌, ℕ, ◌==◌, Bool, List, [], ◌∷◌, Some, IsTrue}
 use Rattle.std.specs.List.{All, list_any}
 use Rattle.rtl_flat.specs.Process.{Watched, Actions, Edge'}
-use Rattle.event_model.specs.Queue.{Flat, State, doing_at, is_input, power_up}
+use Rattle.event_model.specs.Queue.{State, doing_at, is_input, power_up}
+use Rattle.rtl_flat.specs.Flats.{Flat}
 use Rattle.event_model.specs.Writes.{Values}
 use Rattle.net_model.specs.declared.fill.Fill.{Fill}
 use Rattle.net_model.specs.Control.{IsReached}

@@ -5,7 +5,8 @@ use Rattle.std.specs.List.{All}
 use Rattle.rtl_flat.specs.Flows.{body_flow, reads}
 use Rattle.rtl_flat.specs.Paths.{IsSure, MayWrite, MayWriteNow, ReadsOutside}
 use Rattle.rtl_flat.specs.Process.{Watched, Actions, Edge'}
-use Rattle.event_model.specs.Queue.{Flat, doing_at, widths}
+use Rattle.event_model.specs.Queue.{doing_at}
+use Rattle.rtl_flat.specs.Flats.{Flat, widths}
 use Rattle.net_model.specs.Control.{InCone}
 use Rattle.net_model.specs.Cycle.{Chain, Guard, IsChain}
 use Rattle.net_model.specs.Solution.{IsLasting}

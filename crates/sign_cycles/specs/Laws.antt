@@ -1,7 +1,8 @@
 -- From one step to lists of steps.
 use Rattle.std.specs.Prelude.{◌≡◌, ℕ, List, [], ◌∷◌}
 use Rattle.std.specs.List.{All}
-use Rattle.event_model.specs.Queue.{Flat, State, widths}
+use Rattle.event_model.specs.Queue.{State}
+use Rattle.rtl_flat.specs.Flats.{Flat, widths}
 use Rattle.event_model.specs.Writes.{Values}
 use Rattle.net_model.specs.declared.fill.Fill.{Fill}
 use Rattle.net_model.specs.Cycle.{Chain, Data, IsCycle, Setting, Step, Turn, register_bit, settings}

@@ -1,7 +1,7 @@
 //! Laws of lists of steps.
 
 ghost use Rattle.std.specs.Prelude.{ℕ};
-ghost use Rattle.event_model.specs.Queue.{Flat};
+ghost use Rattle.rtl_flat.specs.Flats.{Flat};
 ghost use Rattle.net_model.specs.declared.fill.Fill.{Fill};
 ghost use Rattle.net_model.specs.Cycle.{Chain};
 ghost use Rattle.sign_rounds.specs.net_rest.Rest.{IsSolvable};

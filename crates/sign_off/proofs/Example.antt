@@ -23,7 +23,8 @@ use Rattle.rtl_flat.specs.Process.{Piece, Task, Actions, Watched, Assign, Comb, 
 use Rattle.rtl_flat.specs.Signs.{width_in}
 use Rattle.rtl_flat.specs.Value.{value}
 use Rattle.rtl_flat.proofs.Paths.{decided}
-use Rattle.event_model.specs.Queue.{Flat, State, Event, Input, Evaluate, Update, doing_at, is_assignment, is_input, power_up, run, CanRun, IsAtRest}
+use Rattle.event_model.specs.Queue.{State, Event, Input, Evaluate, Update, doing_at, is_assignment, is_input, power_up, run, CanRun, IsAtRest}
+use Rattle.rtl_flat.specs.Flats.{Flat}
 use Rattle.event_model.specs.Writes.{Values, driven}
 use Rattle.net_model.specs.declared.fill.Fill.{Fill}
 use Rattle.net_model.specs.Control.{whole_of}

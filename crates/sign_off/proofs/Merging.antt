@@ -5,13 +5,13 @@ use Rattle.rtl_tree.specs.declared.memory.Memory.{Memory}
 use Rattle.net_model.specs.Control.{InCone}
 use Rattle.rtl_rule.specs.declared.finding.Finding.{Finding}
 use Rattle.rtl_rule.specs.Order.{comes_before, ranked}
-use Rattle.rtl_rule.specs.Parts.{Parts}
+use Rattle.rtl_flat.specs.Flats.{Parts}
 use Rattle.check_clean.proofs.check_found_proofs.Ordered.{finding_order, level, one_order, ranked_sum, ranked_up}
 use Rattle.check_clean.specs.check_sense.Sense.{AreSenseFindings}
 use Rattle.check_clean.specs.check_assign.Findings.{AreAssignFindings}
 use Rattle.check_clean.specs.check_case.Cases.{AreCaseFindings}
 use Rattle.check_clean.specs.check_xprop.Unknowns.{AreUnknownFindings}
-use Rattle.check_clean.specs.check_all.Findings.{AreAllFindings, queue_of}
+use Rattle.check_clean.specs.check_all.Findings.{AreAllFindings}
 
 -- what is ranked stays as it is when it is ranked again
 again : (xs : List Finding) → ranked (ranked xs) ≡ ranked xs
@@ -21,7 +21,7 @@ again xs =
 in_order : (all xs : List Finding) → all ≡ ranked xs → all ≡ ranked all
 in_order all xs is = is ∙ sym (again xs) ∙ sym (ap ranked is)
 
-module _ (d : Parts) (sense assigned cases unknown two three : List Finding) (s : AreSenseFindings d sense) (a : AreAssignFindings (InCone (queue_of d)) d assigned) (c : AreCaseFindings d cases) (u : AreUnknownFindings d unknown) where
+module _ (d : Parts) (sense assigned cases unknown two three : List Finding) (s : AreSenseFindings d.flat sense) (a : AreAssignFindings (InCone d.flat) d.flat assigned) (c : AreCaseFindings d.flat cases) (u : AreUnknownFindings d unknown) where
   told : (all : List Finding) → all ≡ ranked (sense ++ assigned ++ cases ++ unknown) → AreAllFindings d all
   told all is =
       record {

@@ -1,7 +1,6 @@
 //! What a clean design promises.
 
-ghost use Rattle.event_model.specs.Queue.{flat};
-ghost use Rattle.rtl_rule.specs.Parts.{parts};
+ghost use Rattle.rtl_flat.specs.Flats.{flat, parts};
 ghost use Rattle.check_clean.specs.check_all.Findings.{AreAllFindings, IsClean};
 ghost use Rattle.check_clean.specs.Promise.{IsPromised};
 

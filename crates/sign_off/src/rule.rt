@@ -1,13 +1,12 @@
 //! All rules over a design.
 
 ghost use Rattle.std.specs.Prelude.{◌≡◌, ◌↔◌, ℕ, [], IsTrue, IfOk};
-ghost use Rattle.event_model.specs.Queue.{flat};
+ghost use Rattle.rtl_flat.specs.Flats.{flat, parts};
 ghost use Rattle.check_clean.specs.event_ending.Ending.{RunsEnd};
 ghost use Rattle.net_model.specs.declared.fill.Fill.{Fill};
 ghost use Rattle.net_model.specs.Cycle.{AreChains, Chain};
 ghost use Rattle.check_clean.specs.sign_cycles.Agree.{Agree};
 ghost use Rattle.check_clean.specs.sign_cycles.BringUp.{BringsUp, HaveResets};
-ghost use Rattle.rtl_rule.specs.Parts.{parts};
 ghost use Rattle.rtl_rule.specs.Rows.{row_of};
 ghost use Rattle.check_clean.specs.check_all.Findings.{AreAllFindings, IsClean, has_first_grade};
 

@@ -19,7 +19,8 @@ use Rattle.rtl_flat.specs.Process.{Actions, Assign, Comb, Done, Edge', Piece, Se
 use Rattle.rtl_flat.specs.Signs.{Has}
 use Rattle.rtl_flat.specs.WellFormed.{IsAssignment, IsProcess, IsSelection}
 use Rattle.rtl_flat.proofs.Paths.{decided}
-use Rattle.event_model.specs.Queue.{Flat, Input, IsAtRest, Run, State, doing_at, is_input, power_up, widths}
+use Rattle.event_model.specs.Queue.{Input, IsAtRest, Run, State, doing_at, is_input, power_up}
+use Rattle.rtl_flat.specs.Flats.{Flat, widths}
 use Rattle.net_rest.specs.event_laws.Steady.{AreLawful}
 use Rattle.net_rest.proofs.event_laws_proofs.Steady.{lawful_processes}
 use Rattle.net_rest.proofs.event_laws_proofs.Within.{may_read_outside}

@@ -1,6 +1,6 @@
 -- The laws of rounds, as they are stated.
 use Rattle.std.proofs.Common.{ℕ}
-use Rattle.event_model.specs.Queue.{Flat}
+use Rattle.rtl_flat.specs.Flats.{Flat}
 use Rattle.net_rest.specs.Rest.{IsSolvable}
 use Rattle.sign_rounds.specs.BringUp.{CanAllWake}
 use Rattle.sign_rounds.specs.Laws.{Agree, Arrive, ArrivedFollow, BringsUp, SettledForBoth}

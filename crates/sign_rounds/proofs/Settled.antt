@@ -12,7 +12,8 @@ use Rattle.rtl_flat.specs.Flows.{body_flow, flow_of}
 use Rattle.rtl_flat.specs.Paths.{ReadsOutside, may_write}
 use Rattle.rtl_flat.specs.Process.{Actions, Assign, Comb, Doing, Watched}
 use Rattle.rtl_flat.proofs.Paths.{decided}
-use Rattle.event_model.specs.Queue.{Flat, State, Event, IsAtRest, doing_at, is_assignment, is_input, offer, run, widths}
+use Rattle.event_model.specs.Queue.{State, Event, IsAtRest, doing_at, is_assignment, is_input, offer, run}
+use Rattle.rtl_flat.specs.Flats.{Flat, widths}
 use Rattle.event_model.specs.Traces.{Same}
 use Rattle.event_model.specs.Writes.{Values, driven}
 use Rattle.net_rest.specs.event_laws.Steady.{IsWithin}

@@ -17,7 +17,8 @@ use Rattle.rtl_flat.specs.Paths.{MayWrite, ReadsOutside}
 use Rattle.rtl_flat.specs.PathSets.{listed}
 use Rattle.rtl_flat.specs.Process.{Actions, Assign, Comb, Doing, Edge', Watched}
 use Rattle.rtl_flat.specs.Signs.{width_in}
-use Rattle.event_model.specs.Queue.{Flat, State, IsAtRest, doing_at, first_bit, first_bits, is_input, offer, power_up, widths}
+use Rattle.event_model.specs.Queue.{State, IsAtRest, doing_at, first_bit, first_bits, is_input, offer, power_up}
+use Rattle.rtl_flat.specs.Flats.{Flat, widths}
 use Rattle.event_model.specs.Writes.{Values, driven}
 use Rattle.net_model.specs.declared.fill.Fill.{Fill}
 use Rattle.net_model.specs.Numbers.{bit}

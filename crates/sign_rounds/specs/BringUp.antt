@@ -4,7 +4,8 @@ use Rattle.rtl_bits.specs.Bit.{is_unknown}
 use Rattle.rtl_bits.specs.Bits.{has_unknown}
 use Rattle.rtl_flat.specs.PathSets.{listed}
 use Rattle.rtl_flat.specs.Process.{Actions, Comb, Watched}
-use Rattle.event_model.specs.Queue.{Flat, State, IsAtRest, doing_at, is_input, power_up, widths}
+use Rattle.event_model.specs.Queue.{State, IsAtRest, doing_at, is_input, power_up}
+use Rattle.rtl_flat.specs.Flats.{Flat, widths}
 use Rattle.event_model.specs.Writes.{Values}
 use Rattle.net_model.specs.Numbers.{bit}
 use Rattle.net_model.specs.Solution.{IsRegisterBit}

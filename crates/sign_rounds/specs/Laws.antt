@@ -1,6 +1,7 @@
 -- What rounds lead to.
 use Rattle.std.specs.Prelude.{◌≡◌, ℕ, List, IsTrue}
-use Rattle.event_model.specs.Queue.{Flat, State, IsAtRest, is_input, power_up}
+use Rattle.event_model.specs.Queue.{State, IsAtRest, is_input, power_up}
+use Rattle.rtl_flat.specs.Flats.{Flat}
 use Rattle.event_model.specs.Writes.{Values}
 use Rattle.net_model.specs.declared.fill.Fill.{Fill}
 use Rattle.net_model.specs.Numbers.{AreNumbers, bit}

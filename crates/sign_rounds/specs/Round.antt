@@ -6,7 +6,8 @@ use Rattle.rtl_flat.specs.Expression.{Tree}
 use Rattle.rtl_flat.specs.Flows.{may_target}
 use Rattle.rtl_flat.specs.Process.{Actions, Assign, Comb, Edge', Piece, Watched}
 use Rattle.rtl_flat.specs.Value.{value}
-use Rattle.event_model.specs.Queue.{Flat, State, Event, CanRun, IsAtRest, doing_at, is_input, offer, run, widths}
+use Rattle.event_model.specs.Queue.{State, Event, CanRun, IsAtRest, doing_at, is_input, offer, run}
+use Rattle.rtl_flat.specs.Flats.{Flat, widths}
 use Rattle.event_model.specs.Traces.{FollowsPath}
 use Rattle.event_model.specs.Writes.{Values, driven}
 use Rattle.net_rest.specs.event_laws.Steady.{HaveWidths}

@@ -1,7 +1,7 @@
 //! Laws of rounds.
 
 ghost use Rattle.std.specs.Prelude.{ℕ};
-ghost use Rattle.event_model.specs.Queue.{Flat};
+ghost use Rattle.rtl_flat.specs.Flats.{Flat};
 ghost use Rattle.net_rest.specs.Rest.{IsSolvable};
 ghost use Rattle.sign_rounds.specs.BringUp.{CanAllWake};
 ghost use Rattle.sign_rounds.specs.Laws.{Agree, Arrive, ArrivedFollow, BringsUp, SettledForBoth};

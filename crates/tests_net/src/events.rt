@@ -1,7 +1,7 @@
 //! A step, event by event.
 
 ghost use Rattle.std.specs.Prelude.{◌≡◌, IfOk};
-ghost use Rattle.event_model.specs.Queue.{flat};
+ghost use Rattle.rtl_flat.specs.Flats.{flat};
 ghost use Rattle.event_queue.specs.Sims.{flat_of};
 
 use desk_steps::read_steps;

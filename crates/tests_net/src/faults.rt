@@ -1,7 +1,7 @@
 // Designs without a netlist, and netlists that aren't simulated.
 
 ghost use Rattle.std.specs.Prelude.{◌≡◌, length, map, IfOk};
-ghost use Rattle.event_model.specs.Queue.{flat, widths};
+ghost use Rattle.rtl_flat.specs.Flats.{flat, widths};
 ghost use Rattle.tests_netlists.specs.net_start.Stored.{places};
 
 use net_model::fill::Fill;

@@ -1,7 +1,7 @@
 // Runs of a netlist, as rows.
 
 ghost use Rattle.std.specs.Prelude.{◌≡◌};
-ghost use Rattle.event_model.specs.Queue.{flat};
+ghost use Rattle.rtl_flat.specs.Flats.{flat};
 ghost use Rattle.tests_netlists.specs.netlist_eval.Sims.{flat_of};
 
 use desk_steps::read_steps;

@@ -3,7 +3,7 @@
 ghost use Rattle.std.specs.Prelude.{◌≡◌, [], IfOk, OnOk};
 ghost use Rattle.std.specs.List.{All};
 ghost use Rattle.desk_steps.specs.Fitting.{AreFitting};
-ghost use Rattle.event_model.specs.Queue.{flat};
+ghost use Rattle.rtl_flat.specs.Flats.{flat};
 ghost use Rattle.event_queue.specs.Offers.{AreAllowed};
 ghost use Rattle.event_queue.specs.Sims as events;
 ghost use Rattle.tests_netlists.specs.netlist_eval.Sims.{flat_of, netlist_of};

@@ -2,7 +2,7 @@
 #![tactic(auto)]
 
 ghost use Rattle.std.specs.Prelude.{◌≡◌, ◌≤◌, length, map, IfOk};
-ghost use Rattle.event_model.specs.Queue.{flat, widths};
+ghost use Rattle.rtl_flat.specs.Flats.{flat, widths};
 ghost use Rattle.netlist_eval.specs.Sims.{netlist_of};
 ghost use Rattle.netlist_eval.specs.net_start.Stored.{places};
 ghost use Rattle.tests_netlists.specs.declared.NoRun.TheVariants as no;

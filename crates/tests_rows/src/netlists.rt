@@ -1,7 +1,7 @@
 //! A netlist that runs, for what it costs and for a look at its numbers. Registers, latches and inputs begin with 0.
 
 ghost use Rattle.std.specs.Prelude.{◌≡◌};
-ghost use Rattle.event_model.specs.Queue.{flat};
+ghost use Rattle.rtl_flat.specs.Flats.{flat};
 ghost use Rattle.tests_netlists.specs.netlist_eval.Sims.{flat_of};
 
 use crate::look::Stop;

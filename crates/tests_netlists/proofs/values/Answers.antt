@@ -1,5 +1,5 @@
 use Rattle.std.proofs.Common.{◌∙◌, ◌<◌, ◌≤◌, length, arith}
-use Rattle.event_model.specs.Queue.{flat, widths}
+use Rattle.rtl_flat.specs.Flats.{flat, widths}
 use Rattle.tests_netlists.proofs.Widths.{as_places, next_wide, one_more, whole, wide}
 use Rattle.tests_netlists.proofs.values.Goals as goal
 

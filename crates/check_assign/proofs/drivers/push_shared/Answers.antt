@@ -4,7 +4,8 @@ use Rattle.std.specs.BTreeMap.{get}
 use Rattle.std.proofs.lemmas.Result.{on_ok_weaker}
 use Rattle.rtl_flat.specs.Process.{Task, task}
 use Rattle.rtl_rule.specs.declared.rule.Rule.TheVariants.{SeveralDrivers}
-use Rattle.rtl_rule.specs.Parts.{parts, widths, written}
+use Rattle.rtl_rule.specs.Parts.{written}
+use Rattle.rtl_flat.specs.Flats.{flat, widths}
 use Rattle.check_graph.specs.rtl_scan.declared.bits.Row.{Row}
 use Rattle.check_graph.specs.rtl_scan.Sets.{has_rows}
 use Rattle.check_graph.specs.check_found.Masks.{has_in, mask_in}
@@ -20,7 +21,7 @@ use Rattle.check_assign.proofs.drivers.push_shared.Goals as goal
 
 pub returns-clause-found : goal.returns-clause-found
 returns-clause-found c =
-    let d = parts c.args.scans.now.design.now in
+    let d = flat c.args.scans.now.design.now in
     let p = c.args.p.0 in
     let process = c.index-process.result.now in
     let one = task process in

@@ -1,7 +1,8 @@
 use Rattle.std.proofs.Common.{◌≡◌, ◌∙◌, [], ◌∷◌, true, false, not, ◌&&◌, List, sym, ap, subst}
 use Rattle.std.proofs.lemmas.Bool.{both_ways}
 use Rattle.rtl_rule.specs.declared.finding.Finding.{Finding}
-use Rattle.rtl_rule.specs.Parts.{has_some, parts, widths}
+use Rattle.rtl_rule.specs.Parts.{has_some}
+use Rattle.rtl_flat.specs.Flats.{flat, widths}
 use Rattle.check_graph.specs.check_found.Masks.{has_in}
 use Rattle.check_graph.specs.check_found.Gathered.{Gets}
 use Rattle.check_graph.proofs.check_found_proofs.Gathering.{gets_nothing, gets_one}
@@ -11,7 +12,7 @@ use Rattle.check_assign.proofs.drivers.push_undriven.Goals as goal
 
 pub returns-then-not-is_undriven : goal.returns-then-not-is_undriven
 returns-then-not-is_undriven c =
-    let d = parts c.args.design.now in
+    let d = flat c.args.design.now in
     let s = c.args.number.0 in
     let test : (not (is_input c.args.signal.now.kind) && has_some (widths d) (λ i k. not (has_in c.args.driven.now i k)) s) ≡ false = cc in
     let same = below_same (widths d s) (λ k. not (has_in c.args.driven.now s k)) (λ k. not (is_written d s k)) (λ k. ap not (c.requires s k)) in
@@ -20,7 +21,7 @@ returns-then-not-is_undriven c =
 
 pub returns : goal.returns
 returns c =
-    let d = parts c.args.design.now in
+    let d = flat c.args.design.now in
     let s = c.args.number.0 in
     let test : (not (is_input c.args.signal.now.kind) && has_some (widths d) (λ i k. not (has_in c.args.driven.now i k)) s) ≡ true = cc in
     let same = below_same (widths d s) (λ k. not (has_in c.args.driven.now s k)) (λ k. not (is_written d s k)) (λ k. ap not (c.requires s k)) in

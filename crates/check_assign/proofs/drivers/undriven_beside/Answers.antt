@@ -2,7 +2,7 @@ use Rattle.std.proofs.Common.{ℕ, ◌<◌, [], ◌∷◌, List, length, take, s
 use Rattle.std.specs.List.{enumerate_from}
 use Rattle.std.proofs.lemmas.List.FromFn.{length-enumerate_from}
 use Rattle.rtl_flat.specs.declared.signal.Signal.{Signal}
-use Rattle.rtl_rule.specs.Parts.{parts}
+use Rattle.rtl_flat.specs.Flats.{flat}
 use Rattle.rtl_rule.specs.Sites.{AreFindings}
 use Rattle.check_graph.proofs.check_found_proofs.Gathering.{all_taken, findings_more, take_next}
 use Rattle.check_graph.proofs.check_found_proofs.Sites.{numbered_at, read_at}
@@ -11,7 +11,7 @@ use Rattle.check_assign.proofs.drivers.undriven_beside.Goals as goal
 
 pub loop-number-preserved : goal.loop-number-preserved
 loop-number-preserved c =
-    let d = parts c.args.design.now in
+    let d = flat c.args.design.now in
     let n = c.loop-number.number in
     let signal = c.index-signal.result.now in
     let all = enumerate_from 0 d.signals in
@@ -22,6 +22,6 @@ loop-number-preserved c =
 
 pub returns : goal.returns
 returns c =
-    let d = parts c.args.design.now in
+    let d = flat c.args.design.now in
     let count = length-enumerate_from 0 d.signals in
     all_taken (IsUndriven d) undriven_at (enumerate_from 0 d.signals) c.loop-number.number c.loop-number.found.items (omega (arith, count)) c.loop-number.invariant

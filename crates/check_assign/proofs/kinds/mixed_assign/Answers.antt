@@ -1,5 +1,5 @@
 use Rattle.rtl_flat.specs.Process.{task}
-use Rattle.rtl_rule.specs.Parts.{parts}
+use Rattle.rtl_flat.specs.Flats.{flat}
 use Rattle.check_graph.specs.check_found.Gathered.{signal_numbers}
 use Rattle.check_graph.proofs.check_found_proofs.Sites.{next_below}
 use Rattle.check_assign.specs.Assigned.{IsMixedAssign, mixed_assign_at}
@@ -8,7 +8,7 @@ use Rattle.check_assign.proofs.kinds.mixed_assign.Goals as goal
 
 pub loop-process-preserved : goal.loop-process-preserved
 loop-process-preserved c =
-    let d = parts c.args.design.now in
+    let d = flat c.args.design.now in
     let n = c.loop-process.process-index in
     let one = c.process-item.result in
     next_below (IsMixedAssign d) (mixed_assign_at d) (signal_numbers d) d n (task one) c.loop-process.found.items c.push_mixed.new.found.items

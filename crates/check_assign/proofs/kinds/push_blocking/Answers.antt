@@ -6,7 +6,7 @@ use Rattle.std.proofs.lemmas.Bool.{both_ways}
 use Rattle.std.proofs.lemmas.Result.{on_ok_weaker}
 use Rattle.rtl_flat.specs.Process.{doing, task}
 use Rattle.rtl_rule.specs.declared.rule.Rule.TheVariants.{BlockingState}
-use Rattle.rtl_rule.specs.Parts.{parts}
+use Rattle.rtl_flat.specs.Flats.{flat}
 use Rattle.check_assign.specs.Assigned.{IsBlockingState, blocking_state_at, is_clocked}
 use Rattle.check_assign.proofs.Firsts.{blocking_inside, blocking_tells}
 use Rattle.check_assign.proofs.Shown.{gets_no, gets_shown}
@@ -14,13 +14,13 @@ use Rattle.check_assign.proofs.kinds.push_blocking.Goals as goal
 
 pub returns-then-not-is_clocked : goal.returns-then-not-is_clocked
 returns-then-not-is_clocked c = λ p.
-    let d = parts c.args.design.now in
+    let d = flat c.args.design.now in
     let other : is_clocked (doing c.args.process.now.does) ≡ false = cc in
     gets_no (IsBlockingState d) (blocking_state_at d) d p (task c.args.process.now) (λ s broken. both_ways (is_clocked (doing c.args.process.now.does)) other broken.clocked) c.args.found.now.items
 
 pub returns : goal.returns
 returns c =
-    let d = parts c.args.design.now in
+    let d = flat c.args.design.now in
     let one = task c.args.process.now in
     let clocked : is_clocked (doing c.args.process.now.does) ≡ true = cc in
     let answers = c.args.temporaries.now in

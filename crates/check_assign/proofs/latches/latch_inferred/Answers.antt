@@ -1,5 +1,5 @@
 use Rattle.std.proofs.Common.{arith}
-use Rattle.rtl_rule.specs.Parts.{parts}
+use Rattle.rtl_flat.specs.Flats.{flat}
 use Rattle.check_graph.specs.check_found.Gathered.{signal_numbers}
 use Rattle.check_graph.proofs.check_found_proofs.Sites.{next_below}
 use Rattle.check_assign.specs.Assigned.{IsLatchInferred, latch_inferred_at}
@@ -8,7 +8,7 @@ use Rattle.check_assign.proofs.latches.latch_inferred.Goals as goal
 
 pub loop-number-preserved : goal.loop-number-preserved
 loop-number-preserved c =
-    let d = parts c.args.scans.now.design.now in
+    let d = flat c.args.scans.now.design.now in
     let n = c.loop-number.number in
     let (one, there) = task_of c.args.scans.now.design.now n (omega arith) in
     next_below (IsLatchInferred d) latch_inferred_at (signal_numbers d) d n one c.loop-number.found.items c.push_latches.new.found.items there c.loop-number.invariant (c.in_ok-push_latches.ensures one there)

@@ -8,7 +8,8 @@ use Rattle.rtl_flat.specs.Flows.{flow_of}
 use Rattle.rtl_flat.specs.Paths.{is_sure}
 use Rattle.rtl_flat.specs.Process.{Task, doing, task}
 use Rattle.rtl_rule.specs.declared.rule.Rule.TheVariants.{LatchInferred}
-use Rattle.rtl_rule.specs.Parts.{parts, widths, written}
+use Rattle.rtl_rule.specs.Parts.{written}
+use Rattle.rtl_flat.specs.Flats.{flat, widths}
 use Rattle.check_graph.specs.rtl_scan.declared.bits.Row.{Row}
 use Rattle.check_graph.specs.rtl_scan.Sets.{mask_of}
 use Rattle.check_graph.specs.check_found.Gathered.{Gets, signal_numbers, task_sites}
@@ -23,7 +24,7 @@ use Rattle.check_assign.proofs.latches.push_latches.Goals as goal
 
 pub returns-then-not-is_comb : goal.returns-then-not-is_comb
 returns-then-not-is_comb c = λ other there.
-    let d = parts c.args.scans.now.design.now in
+    let d = flat c.args.scans.now.design.now in
     let p = c.args.p.0 in
     let process = c.index-process.result.now in
     let at = task_at c.args.scans.now.design.now p process c.requires.inside c.index-process.ensures in
@@ -34,7 +35,7 @@ returns-then-not-is_comb c = λ other there.
 
 pub returns : goal.returns
 returns c =
-    let d = parts c.args.scans.now.design.now in
+    let d = flat c.args.scans.now.design.now in
     let p = c.args.p.0 in
     let process = c.index-process.result.now in
     let one = task process in

@@ -6,7 +6,8 @@ use Rattle.std.proofs.lemmas.List.{nil_from_length}
 use Rattle.rtl_flat.specs.Process.{Task, doing, task}
 use Rattle.rtl_rule.specs.declared.finding.Finding.{Finding}
 use Rattle.rtl_rule.specs.declared.rule.Rule.TheVariants.{Tristate}
-use Rattle.rtl_rule.specs.Parts.{found_at, has_literal, is_z, least_place, nodes, parts, valued_trees, within}
+use Rattle.rtl_rule.specs.Parts.{found_at, has_literal, is_z, least_place, nodes, valued_trees, within}
+use Rattle.rtl_flat.specs.Flats.{flat}
 use Rattle.check_graph.specs.check_found.Gathered.{Gets}
 use Rattle.check_graph.proofs.check_found_proofs.Gathering.{gets_nothing, gets_one}
 use Rattle.check_graph.proofs.check_found_proofs.Sites.{task_at}
@@ -17,7 +18,7 @@ use Rattle.check_assign.proofs.literals.push_tristate.Goals as goal
 
 pub returns-then-is_empty : goal.returns-then-is_empty
 returns-then-is_empty c = λ other there.
-    let d = parts c.args.design.now in
+    let d = flat c.args.design.now in
     let p = c.args.p.0 in
     let process = c.index-process.result.now in
     let at = task_at c.args.design.now p process c.requires c.index-process.ensures in
@@ -31,7 +32,7 @@ returns-then-is_empty c = λ other there.
 
 pub returns : goal.returns
 returns c = λ other there.
-    let d = parts c.args.design.now in
+    let d = flat c.args.design.now in
     let p = c.args.p.0 in
     let process = c.index-process.result.now in
     let one = task process in

@@ -1,5 +1,5 @@
 use Rattle.std.proofs.Common.{[], ◌∷◌}
-use Rattle.rtl_rule.specs.Parts.{parts}
+use Rattle.rtl_flat.specs.Flats.{flat}
 use Rattle.rtl_rule.specs.Sites.{AreFindings}
 use Rattle.check_graph.specs.check_found.Gathered.{sites_below}
 use Rattle.check_assign.specs.Assigned.{IsTristate, tristate_at}
@@ -7,4 +7,4 @@ use Rattle.check_assign.proofs.literals.tristate.Given as goal
 
 abbrev pub invariant-loop-number : goal.invariant-loop-number
 invariant-loop-number l =
-    AreFindings IsTristate (tristate_at (parts l.design)) (sites_below (λ does. does ∷ []) (parts l.design) l.number) l.found.items
+    AreFindings IsTristate (tristate_at (flat l.design)) (sites_below (λ does. does ∷ []) (flat l.design) l.number) l.found.items

@@ -3,7 +3,8 @@ use Rattle.std.proofs.lemmas.Bool.{both_ways}
 use Rattle.rtl_flat.specs.Process.{Task, doing, task}
 use Rattle.rtl_rule.specs.declared.finding.Finding.{Finding}
 use Rattle.rtl_rule.specs.declared.rule.Rule.TheVariants.{CombLoop}
-use Rattle.rtl_rule.specs.Parts.{found, parts, within}
+use Rattle.rtl_rule.specs.Parts.{found, within}
+use Rattle.rtl_flat.specs.Flats.{flat}
 use Rattle.check_graph.specs.check_found.Gathered.{Gets}
 use Rattle.check_graph.proofs.check_found_proofs.Gathering.{gets_nothing, gets_one}
 use Rattle.check_graph.proofs.check_found_proofs.Sites.{task_at}
@@ -12,13 +13,13 @@ use Rattle.check_assign.proofs.loops.push_loop.Goals as goal
 
 pub returns-then-not-on_cycle : goal.returns-then-not-on_cycle
 returns-then-not-on_cycle c = λ one there.
-    let d = parts c.args.design.now in
+    let d = flat c.args.design.now in
     let other : c.args.on_cycle ≡ false = cc in
     gets_nothing (IsCombLoop d) (comb_loop_at d) c.args.found.now.items (within (c.args.p.0, one) one.does) (λ broken. both_ways c.args.on_cycle other (c.requires.on_cycle.1 broken))
 
 pub returns : goal.returns
 returns c = λ other there.
-    let d = parts c.args.design.now in
+    let d = flat c.args.design.now in
     let p = c.args.p.0 in
     let process = c.index-process.result.now in
     let one = task process in

@@ -5,7 +5,7 @@ use Rattle.std.specs.List.{filter_map}
 use Rattle.std.proofs.lemmas.Result.{on_ok_weaker}
 use Rattle.rtl_flat.specs.Expression.{tree}
 use Rattle.rtl_flat.specs.Process.{action, piece}
-use Rattle.rtl_rule.specs.Parts.{parts, widths}
+use Rattle.rtl_flat.specs.Flats.{flat, widths}
 use Rattle.check_assign.specs.Assigned.{own_targets}
 use Rattle.check_assign.specs.Marks.{joined, least_of, spot_of}
 use Rattle.check_assign.proofs.Firsts.{own_none, own_same}
@@ -14,7 +14,7 @@ use Rattle.check_assign.proofs.targets.note_act.Goals as goal
 
 pub returns-then-is_delayed-delayed : goal.returns-then-is_delayed-delayed
 returns-then-is_delayed-delayed c = λ s.
-    let ws = widths (parts c.args.design.now) in
+    let ws = widths (flat c.args.design.now) in
     let set = c.in-Set in
     let old = get nat_cmp c.args.marks.now.spots s in
     sym (ap (λ one. joined old (least_of (own_targets ws c.args.delayed s (action one)))) set.is
@@ -22,7 +22,7 @@ returns-then-is_delayed-delayed c = λ s.
 
 pub returns-else-is_delayed-delayed : goal.returns-else-is_delayed-delayed
 returns-else-is_delayed-delayed c =
-    let ws = widths (parts c.args.design.now) in
+    let ws = widths (flat c.args.design.now) in
     let set = c.in-Set in
     on_ok_weaker c.note_parts.result (λ are s.
     let old = get nat_cmp c.args.marks.now.spots s in

@@ -4,7 +4,8 @@ use Rattle.std.specs.BTreeMap.{get}
 use Rattle.std.proofs.lemmas.Bool.{ne_eqb}
 use Rattle.std.proofs.lemmas.Result.{on_ok_weaker}
 use Rattle.rtl_flat.specs.Process.{selection}
-use Rattle.rtl_rule.specs.Parts.{parts, spot_if, widths}
+use Rattle.rtl_rule.specs.Parts.{spot_if}
+use Rattle.rtl_flat.specs.Flats.{flat, widths}
 use Rattle.check_assign.specs.Marks.{joined}
 use Rattle.check_assign.proofs.Hits.{part_none, part_some}
 use Rattle.check_assign.proofs.Places.{joined-none, joined_if}
@@ -13,7 +14,7 @@ use Rattle.check_assign.proofs.targets.note_part.Goals as goal
 pub returns-then-row-eq0 : goal.returns-then-row-eq0
 returns-then-row-eq0 c = λ s.
     let old = get nat_cmp c.args.marks.now.spots s in
-    sym (ap (λ b. joined old (spot_if b c.args.part.now.spot)) (part_none (widths (parts c.args.design.now)) c.args.part.now.signal.0 (selection c.args.part.now.select) c.selected-row.result c.selected-row.ensures c.if-row-eq0.true s) ∙ joined-none old)
+    sym (ap (λ b. joined old (spot_if b c.args.part.now.spot)) (part_none (widths (flat c.args.design.now)) c.args.part.now.signal.0 (selection c.args.part.now.select) c.selected-row.result c.selected-row.ensures c.if-row-eq0.true s) ∙ joined-none old)
 
 pub returns : goal.returns
 returns c =
@@ -21,5 +22,5 @@ returns c =
     on_ok_weaker c.note.result (λ are s.
     let old = get nat_cmp c.args.marks.now.spots s in
     are s ∙ joined_if _ old part.spot
-    ∙ ap (λ b. joined old (spot_if b part.spot)) (sym (part_some (widths (parts c.args.design.now)) part.signal.0 (selection part.select) c.selected-row.result c.selected-row.ensures (ne_eqb c.selected-row.result.mask 0 c.if-row-eq0.false) s)))
+    ∙ ap (λ b. joined old (spot_if b part.spot)) (sym (part_some (widths (flat c.args.design.now)) part.signal.0 (selection part.select) c.selected-row.result c.selected-row.ensures (ne_eqb c.selected-row.result.mask 0 c.if-row-eq0.false) s)))
     c.note.ensures

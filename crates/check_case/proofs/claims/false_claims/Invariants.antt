@@ -1,4 +1,5 @@
-use Rattle.rtl_rule.specs.Parts.{parts, statements}
+use Rattle.rtl_rule.specs.Parts.{statements}
+use Rattle.rtl_flat.specs.Flats.{flat}
 use Rattle.rtl_rule.specs.Sites.{AreFindings}
 use Rattle.check_found.specs.Gathered.{sites_below}
 use Rattle.check_case.specs.Claims.{IsFalse, claim_at}
@@ -6,4 +7,4 @@ use Rattle.check_case.proofs.claims.false_claims.Given as goal
 
 abbrev pub invariant-loop-process : goal.invariant-loop-process
 invariant-loop-process l =
-    AreFindings (IsFalse (parts l.design) l.claim) (claim_at (parts l.design) l.claim) (sites_below statements (parts l.design) l.process-index) l.found.items
+    AreFindings (IsFalse (flat l.design) l.claim) (claim_at (flat l.design) l.claim) (sites_below statements (flat l.design) l.process-index) l.found.items

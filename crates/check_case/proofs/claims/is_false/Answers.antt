@@ -4,7 +4,7 @@ use Rattle.rtl_flat.specs.declared.act.Act.{Act}
 use Rattle.rtl_flat.specs.declared.act.CaseItem.{CaseItem}
 use Rattle.rtl_flat.specs.Expression.{tree}
 use Rattle.rtl_flat.specs.Process.{Case, action}
-use Rattle.rtl_rule.specs.Parts.{parts, widths}
+use Rattle.rtl_flat.specs.Flats.{flat, widths}
 use Rattle.check_parts.specs.rtl_scan.Bodies.{branches_of, other_of}
 use Rattle.check_parts.proofs.rtl_scan_proofs.Bodies.{case_is}
 use Rattle.check_case.specs.declared.claims.Claim.{Claim}
@@ -14,7 +14,7 @@ use Rattle.check_case.proofs.claims.is_false.Goals as goal
 
 pub returns-in-Full : goal.returns-in-Full
 returns-in-Full c =
-    let d = parts c.args.design.now in
+    let d = flat c.args.design.now in
     let one = c.in-Case in
     IfOk-weaker c.is_false_full.result _ _
     (λ wrong is.
@@ -27,7 +27,7 @@ returns-in-Full c =
 
 pub returns-in-Parallel : goal.returns-in-Parallel
 returns-in-Parallel c =
-    let d = parts c.args.design.now in
+    let d = flat c.args.design.now in
     let one = c.in-Case in
     IfOk-weaker c.is_false_parallel.result _ _
     (λ wrong is.

@@ -4,7 +4,8 @@ use Rattle.rtl_flat.specs.declared.expr.SigId.{SigId}
 use Rattle.rtl_flat.specs.Process.{action, task}
 use Rattle.rtl_rule.specs.declared.finding.Finding.{Finding}
 use Rattle.rtl_rule.specs.declared.rule.Rule.{Rule}
-use Rattle.rtl_rule.specs.Parts.{found_at, parts, within}
+use Rattle.rtl_rule.specs.Parts.{found_at, within}
+use Rattle.rtl_flat.specs.Flats.{flat}
 use Rattle.check_found.specs.Gathered.{Gets}
 use Rattle.check_found.proofs.Gathering.{gets_one}
 use Rattle.check_case.specs.Cases.{first_in}
@@ -13,7 +14,7 @@ use Rattle.check_case.proofs.claims.push_claim.Goals as goal
 
 pub returns : goal.returns
 returns c = λ p.
-    let d = parts c.args.design.now in
+    let d = flat c.args.design.now in
     let claim = c.args.claim in
     let old = c.args.found.now.items in
     let process = c.args.process.now in

@@ -6,7 +6,7 @@ use Rattle.rtl_flat.specs.Expression.{tree}
 use Rattle.rtl_flat.specs.Process.{action, body_of}
 use Rattle.rtl_flat.specs.WellFormed.{statements}
 use Rattle.rtl_flat.proofs.ActViews.{block_is}
-use Rattle.rtl_rule.specs.Parts.{parts}
+use Rattle.rtl_flat.specs.Flats.{flat}
 use Rattle.check_parts.specs.rtl_scan.Bodies.{branches_of, other_of}
 use Rattle.check_parts.specs.rtl_scan.Loads.{load, other_load, items_load}
 use Rattle.check_parts.proofs.rtl_scan_proofs.Bodies.{case_is, choice_is}
@@ -57,7 +57,7 @@ first_in-first_of_all-requires-in-Block t c =
 
 pub first_in-returns-in-If : goal.first_in-returns-in-If
 first_in-returns-in-If t c =
-    let d = parts c.args.design.now in
+    let d = flat c.args.design.now in
     let one = c.in-If in
     c.lesser.ensures ∙ ap (λ x. lesser x c.first_of_all.result) c.first_of_other.ensures
     ∙ ap (lesser (first_of_other d (other_of one.no))) (c.first_of_all.ensures ∙ ap (λ (acts : List Act). first_of_all d (body_of (map action acts))) c.deref-in-If.ensures.value)
@@ -66,7 +66,7 @@ first_in-returns-in-If t c =
 
 pub first_in-returns-in-Case : goal.first_in-returns-in-Case
 first_in-returns-in-Case t c =
-    let d = parts c.args.design.now in
+    let d = flat c.args.design.now in
     let one = c.in-Case in
     c.lesser-in-Case.ensures ∙ ap (λ x. lesser x c.first_of_items.result) c.first_of_other-in-Case.ensures
     ∙ ap (lesser (first_of_other d (other_of one.fallback))) (c.first_of_items.ensures ∙ ap (λ (items : List CaseItem). first_of_items d (branches_of items)) c.deref-in-Case.ensures.value)
@@ -75,7 +75,7 @@ first_in-returns-in-Case t c =
 
 pub first_in-returns-in-Block : goal.first_in-returns-in-Block
 first_in-returns-in-Block t c =
-    let d = parts c.args.design.now in
+    let d = flat c.args.design.now in
     c.first_of_all-in-Block.ensures ∙ ap (λ (acts : List Act). first_of_all d (body_of (map action acts))) c.deref-in-Block.ensures.value
     ∙ sym (ap (λ (a : Act). first_in d (action a)) c.in-Block.is ∙ ap (first_in d) (block_is c.in-Block.body))
 
@@ -88,7 +88,7 @@ first_of_all-first_in-requires t c =
 
 pub first_of_all-loop-one-preserved : goal.first_of_all-loop-one-preserved
 first_of_all-loop-one-preserved t c =
-    let d = parts c.args.design.now in
+    let d = flat c.args.design.now in
     let i = c.loop-one.one-index in
     let one = c.one-item.result in
     let first = c.loop-one.first in
@@ -101,7 +101,7 @@ first_of_all-loop-one-preserved t c =
 
 pub first_of_all-returns : goal.first_of_all-returns
 first_of_all-returns t c =
-    let d = parts c.args.design.now in
+    let d = flat c.args.design.now in
     let first = c.loop-one.first in
     sym (lesser-none first) ∙ ap (lesser first) (sym (pieces_none d))
     ∙ ap (λ (xs : List Act). lesser first (first_of_all d (body_of (map action xs)))) (sym (drop_all c.loop-one.one-index c.args.body.now c.loop-one-test.false))
@@ -117,7 +117,7 @@ first_of_items-first_of_all-requires t c =
 
 pub first_of_items-loop-item-preserved : goal.first_of_items-loop-item-preserved
 first_of_items-loop-item-preserved t c =
-    let d = parts c.args.design.now in
+    let d = flat c.args.design.now in
     let i = c.loop-item.item-index in
     let one = c.item-item.result in
     let first = c.loop-item.first in
@@ -131,7 +131,7 @@ first_of_items-loop-item-preserved t c =
 
 pub first_of_items-returns : goal.first_of_items-returns
 first_of_items-returns t c =
-    let d = parts c.args.design.now in
+    let d = flat c.args.design.now in
     let first = c.loop-item.first in
     sym (lesser-none first) ∙ ap (lesser first) (sym (pieces_none d))
     ∙ ap (λ (xs : List CaseItem). lesser first (first_of_items d (branches_of xs))) (sym (drop_all c.loop-item.item-index c.args.items.now c.loop-item-test.false))
@@ -139,5 +139,5 @@ first_of_items-returns t c =
 
 pub first_of_other-returns-in-None : goal.first_of_other-returns-in-None
 first_of_other-returns-in-None t c =
-    let d = parts c.args.design.now in
+    let d = flat c.args.design.now in
     sym (ap (λ o. first_of_other d (other_of o)) c.in-None.is ∙ pieces_none d)

@@ -2,7 +2,7 @@ use Rattle.std.proofs.Common.{◌+◌, ◌∙◌, ap, sym, drop, map, [], ◌∷
 use Rattle.std.proofs.lemmas.List.{drop_all}
 use Rattle.rtl_flat.specs.declared.act.TargetPart.{TargetPart}
 use Rattle.rtl_flat.specs.Process.{piece}
-use Rattle.rtl_rule.specs.Parts.{parts}
+use Rattle.rtl_flat.specs.Flats.{flat}
 use Rattle.check_parts.proofs.rtl_scan_proofs.Labels.{left_at}
 use Rattle.check_case.specs.Least.{first_of_pieces, lesser}
 use Rattle.check_case.proofs.Firsts.{lesser-none, lesser_assoc, pieces_next, pieces_none}
@@ -10,7 +10,7 @@ use Rattle.check_case.proofs.first.first_of_target.Goals as goal
 
 pub loop-part-preserved : goal.loop-part-preserved
 loop-part-preserved c =
-    let d = parts c.args.design.now in
+    let d = flat c.args.design.now in
     let target = c.args.target.now in
     let i = c.loop-part.part-index in
     let one = c.part-item.result in
@@ -24,7 +24,7 @@ loop-part-preserved c =
 
 pub returns : goal.returns
 returns c =
-    let d = parts c.args.design.now in
+    let d = flat c.args.design.now in
     let first = c.loop-part.first in
     sym (lesser-none first) ∙ ap (lesser first) (sym (pieces_none d))
     ∙ ap (λ (xs : List TargetPart). lesser first (first_of_pieces d (map piece xs))) (sym (drop_all c.loop-part.part-index c.args.target.now c.loop-part-test.false))

@@ -1,4 +1,4 @@
-use Rattle.rtl_rule.specs.Parts.{parts}
+use Rattle.rtl_flat.specs.Flats.{flat}
 use Rattle.rtl_rule.specs.Sites.{AreFindings}
 use Rattle.check_found.specs.Gathered.{sites_below}
 use Rattle.check_case.specs.Cases.{IsUnknownItem, unknown_item_at}
@@ -7,4 +7,4 @@ use Rattle.check_case.proofs.unknown.unknown_item.Given as goal
 
 abbrev pub invariant-loop-number : goal.invariant-loop-number
 invariant-loop-number l =
-    AreFindings IsUnknownItem (unknown_item_at (parts l.scans.design.now)) (sites_below kinds_in (parts l.scans.design.now) l.number) l.found.items
+    AreFindings IsUnknownItem (unknown_item_at (flat l.scans.design.now)) (sites_below kinds_in (flat l.scans.design.now) l.number) l.found.items

@@ -4,7 +4,8 @@ use Rattle.std.proofs.lemmas.Bool.{false≢true}
 use Rattle.std.proofs.lemmas.List.{length-map}
 use Rattle.rtl_flat.specs.declared.act.Act.{Act}
 use Rattle.rtl_flat.specs.Process.{action, body_of}
-use Rattle.rtl_rule.specs.Parts.{all_of, parts}
+use Rattle.rtl_rule.specs.Parts.{all_of}
+use Rattle.rtl_flat.specs.Flats.{flat}
 use Rattle.check_chains.specs.Chains.{resets_to}
 use Rattle.check_chains.proofs.Bad.{statement_at, was_new, was_there}
 use Rattle.check_chains.proofs.Formed.{formed_at}
@@ -29,7 +30,7 @@ returns-in_default c =
     = rw c.in_default.is at c.in_ok-signal.ensures in
     λ does are. (
       λ h. absurd (false≢true h),
-      λ good. absurd (gives_none statements c.args.registers.now c.loop-one.one-index c.loop-one.seen c.loop-one.invariant (action c.one-item.result.now) there (parts c.args.design.now) does are none good),
+      λ good. absurd (gives_none statements c.args.registers.now c.loop-one.one-index c.loop-one.seen c.loop-one.invariant (action c.one-item.result.now) there (flat c.args.design.now) does are none good),
     )
 
 pub returns-then-not-contains : goal.returns-then-not-contains
@@ -40,7 +41,7 @@ returns-then-not-contains c =
     = rw c.in-Some.is at c.in_ok-signal.ensures in
     λ does are. (
       λ h. absurd (false≢true h),
-      λ good. absurd (gives_other statements c.args.registers.now c.loop-one.one-index c.loop-one.seen c.loop-one.invariant (action c.one-item.result.now) there (parts c.args.design.now) does are c.in-Some.signal.0 resets (sym c.contains.ensures ∙ c.if-not-contains.true) good),
+      λ good. absurd (gives_other statements c.args.registers.now c.loop-one.one-index c.loop-one.seen c.loop-one.invariant (action c.one-item.result.now) there (flat c.args.design.now) does are c.in-Some.signal.0 resets (sym c.contains.ensures ∙ c.if-not-contains.true) good),
     )
 
 pub returns-then-not-branch : goal.returns-then-not-branch
@@ -51,7 +52,7 @@ returns-then-not-branch c =
     = rw c.in-Some.is at c.in_ok-signal.ensures in
     λ does are. (
       λ h. absurd (false≢true h),
-      λ good. absurd (gives_again statements c.args.registers.now c.loop-one.one-index c.loop-one.seen c.loop-one.invariant (action c.one-item.result.now) there (parts c.args.design.now) does are c.in-Some.signal.0 resets (was_there _ _ c.in_ok-add.ensures.new c.if-not-branch.true) good),
+      λ good. absurd (gives_again statements c.args.registers.now c.loop-one.one-index c.loop-one.seen c.loop-one.invariant (action c.one-item.result.now) there (flat c.args.design.now) does are c.in-Some.signal.0 resets (was_there _ _ c.in_ok-add.ensures.new c.if-not-branch.true) good),
     )
 
 pub loop-one-preserved : goal.loop-one-preserved
@@ -70,4 +71,4 @@ returns c =
     let viewed = ap length c.deref-one-items.ensures.value in
     let past : length statements ≤ c.loop-one.one-index
     = omega (arith, count, size, viewed, c.loop-one-test.false) in
-    all_given statements c.args.registers.now c.loop-one.one-index c.loop-one.seen past c.loop-one.invariant c.is_subset.result c.is_subset.ensures (parts c.args.design.now)
+    all_given statements c.args.registers.now c.loop-one.one-index c.loop-one.seen past c.loop-one.invariant c.is_subset.result c.is_subset.ensures (flat c.args.design.now)

@@ -1,4 +1,4 @@
-use Rattle.rtl_rule.specs.Parts.{parts}
+use Rattle.rtl_flat.specs.Flats.{flat}
 use Rattle.rtl_rule.specs.Sites.{AreFindings}
 use Rattle.check_found.specs.Gathered.{sites_below}
 use Rattle.check_chains.specs.Chains.{IsResetPolarity, reset_polarity_at}
@@ -7,4 +7,4 @@ use Rattle.check_chains.proofs.shapes.reset_polarity.Given as goal
 
 abbrev pub invariant-loop-number : goal.invariant-loop-number
 invariant-loop-number l =
-    AreFindings (IsResetPolarity (parts l.design)) (reset_polarity_at (parts l.design)) (sites_below itself (parts l.design) l.number) l.found.items
+    AreFindings (IsResetPolarity (flat l.design)) (reset_polarity_at (flat l.design)) (sites_below itself (flat l.design) l.number) l.found.items

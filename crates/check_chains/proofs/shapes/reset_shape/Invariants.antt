@@ -1,4 +1,4 @@
-use Rattle.rtl_rule.specs.Parts.{parts}
+use Rattle.rtl_flat.specs.Flats.{flat}
 use Rattle.rtl_rule.specs.Sites.{AreFindings}
 use Rattle.check_found.specs.Gathered.{sites_below}
 use Rattle.check_chains.specs.Chains.{IsResetShape, reset_shape_at}
@@ -7,4 +7,4 @@ use Rattle.check_chains.proofs.shapes.reset_shape.Given as goal
 
 abbrev pub invariant-loop-number : goal.invariant-loop-number
 invariant-loop-number l =
-    AreFindings (IsResetShape (parts l.design)) (reset_shape_at (parts l.design)) (sites_below itself (parts l.design) l.number) l.found.items
+    AreFindings (IsResetShape (flat l.design)) (reset_shape_at (flat l.design)) (sites_below itself (flat l.design) l.number) l.found.items

@@ -1,6 +1,5 @@
-use Rattle.event_model.specs.Queue.{flat}
+use Rattle.rtl_flat.specs.Flats.{flat}
 use Rattle.net_model.specs.Control.{InCone}
-use Rattle.rtl_rule.specs.Parts.{parts}
 use Rattle.rtl_rule.specs.Sites.{AreFindings}
 use Rattle.check_chains.specs.check_found.Gathered.{signal_numbers, sites_below}
 use Rattle.check_clocks.specs.Clocks.{IsClockAsData, clock_as_data_at}
@@ -8,5 +7,5 @@ use Rattle.check_clocks.proofs.clock_data.findings.Given as goal
 
 abbrev pub invariant-loop-process : goal.invariant-loop-process
 invariant-loop-process l =
-    let d = parts l.design in
+    let d = flat l.design in
     AreFindings (IsClockAsData (InCone (flat l.design)) d) (clock_as_data_at d) (sites_below (signal_numbers d) d l.process-index) l.found.items

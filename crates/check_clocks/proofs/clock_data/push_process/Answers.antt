@@ -2,10 +2,9 @@ use Rattle.std.proofs.Common.{◌∙◌, ℕ, ap}
 use Rattle.std.specs.Ordering.{nat_cmp}
 use Rattle.std.specs.BTreeMap.{get}
 use Rattle.std.proofs.lemmas.Result.{on_ok_weaker}
-use Rattle.event_model.specs.Queue.{flat}
+use Rattle.rtl_flat.specs.Flats.{flat}
 use Rattle.net_model.specs.Control.{InCone}
 use Rattle.rtl_flat.specs.Process.{task}
-use Rattle.rtl_rule.specs.Parts.{parts}
 use Rattle.check_clocks.specs.Firsts.{least_of}
 use Rattle.check_clocks.specs.Uses.{places_of}
 use Rattle.check_clocks.proofs.AsData.{data_gets}
@@ -13,7 +12,7 @@ use Rattle.check_clocks.proofs.clock_data.push_process.Goals as goal
 
 pub returns : goal.returns
 returns c =
-    let d = parts c.args.design.now in
+    let d = flat c.args.design.now in
     let one = task c.args.process.now in
     let firsts = λ (s : ℕ). get nat_cmp c.in_ok-firsts.firsts.spots s in
     on_ok_weaker c.push.result (λ shows p.

@@ -3,7 +3,7 @@ use Rattle.std.specs.List.{flat_map}
 use Rattle.std.proofs.lemmas.List.{length-replicate}
 use Rattle.rtl_flat.specs.declared.act.Process.{Process}
 use Rattle.rtl_flat.specs.Process.{doing}
-use Rattle.rtl_rule.specs.Parts.{parts}
+use Rattle.rtl_flat.specs.Flats.{flat}
 use Rattle.check_clocks.specs.Cone.{AreConed, AreEdgeMarks, IsSpread, waited}
 use Rattle.check_clocks.specs.Links.{AreRows}
 use Rattle.check_clocks.specs.Tops.{AreMarkedAlso}
@@ -13,14 +13,14 @@ use Rattle.check_clocks.proofs.cone.coned.Goals.{then-is_top+in_ok-spread, else-
 
 pub loop-top-init : goal.loop-top-init
 loop-top-init c =
-    let d = parts c.args.scans.now.design.now in
+    let d = flat c.args.scans.now.design.now in
     let count : c.len-count.result ≡ length d.signals = c.len-count.ensures ∙ c.args.scans.now.design.now.signals.ok.0 in
     let none : c.in_ok-cone.cone.items ≡ replicate (length d.signals) false = c.in_ok-cone.ensures.items_if_clones_equal (λ y e. search rules) ∙ ap (λ n. replicate n false) count in
     coned_none d c.in_ok-cone.cone.items none (ap length none ∙ length-replicate (length d.signals) false)
 
 pub loop-top-preserved : goal.loop-top-preserved
 loop-top-preserved c =
-    let d = parts c.args.scans.now.design.now in
+    let d = flat c.args.scans.now.design.now in
     let count : c.len-count.result ≡ length d.signals = c.len-count.ensures ∙ c.args.scans.now.design.now.signals.ok.0 in
     let links = c.in_ok-links.links.items in
     let rows = c.in_ok-rows.rows.items in

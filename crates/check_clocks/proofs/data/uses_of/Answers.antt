@@ -1,7 +1,8 @@
 use Rattle.std.proofs.Common.{◌≡◌, ◌∙◌, ◌++◌, ap, map}
 use Rattle.std.specs.List.{flat_map}
 use Rattle.rtl_flat.specs.Process.{doing, task, watched}
-use Rattle.rtl_rule.specs.Parts.{items_of, nodes, parts}
+use Rattle.rtl_rule.specs.Parts.{items_of, nodes}
+use Rattle.rtl_flat.specs.Flats.{flat}
 use Rattle.check_chains.specs.check_parts.Kept.{expressions}
 use Rattle.check_clocks.specs.Clocks.{data_trees}
 use Rattle.check_clocks.specs.Uses.{level_places, places_of, read_places}
@@ -11,7 +12,7 @@ pub returns : goal.returns
 returns c =
     let x = c.args.process.now in
     let all = c.deref-2.result.now in
-    let trees : expressions all ≡ flat_map nodes (data_trees (parts c.args.design.now) (task x))
+    let trees : expressions all ≡ flat_map nodes (data_trees (flat c.args.design.now) (task x))
     = ap expressions c.deref-2.ensures.value ∙ c.in_ok-all.ensures ∙ ap (λ es. flat_map nodes (expressions es)) c.deref.ensures.value ∙ ap (flat_map nodes) c.in_ok-trees.ensures in
     λ p s.
     c.in_ok-push_reads.ensures x.spot s

@@ -1,5 +1,5 @@
 use Rattle.std.proofs.Common.{◌≡◌, ◌∙◌, get_or, ap, sym, subst, arith}
-use Rattle.rtl_rule.specs.Parts.{parts}
+use Rattle.rtl_flat.specs.Flats.{flat}
 use Rattle.rtl_rule.specs.Sites.{AreFindings}
 use Rattle.rtl_flat.specs.Process.{task}
 use Rattle.check_chains.specs.check_found.Gathered.{sites_below}
@@ -11,13 +11,13 @@ use Rattle.check_clocks.proofs.derived.findings.Goals as goal
 
 pub loop-process-init : goal.loop-process-init
 loop-process-init c = λ tops roles.
-    let d = parts c.args.design.now in
+    let d = flat c.args.design.now in
     subst (AreFindings (IsDerivedClock d) derived_clock_at (sites_below events_of d 0)) (sym c.new-found.ensures.items) (none_below (IsDerivedClock d) derived_clock_at events_of d)
 
 pub loop-process-preserved : goal.loop-process-preserved
 loop-process-preserved c = λ tops roles.
     let design = c.args.design.now in
-    let d = parts design in
+    let d = flat design in
     let at = c.loop-process.process-index in
     let item = c.process-item.result in
     let read : item ≡ get_or design.processes.items at item = c.process-item.is ∙ ap (λ l. get_or l at item) c.deref-process-items.ensures.value in
@@ -29,6 +29,6 @@ loop-process-preserved c = λ tops roles.
 pub returns : goal.returns
 returns c = λ tops roles.
     let design = c.args.design.now in
-    let d = parts design in
+    let d = flat design in
     let count = task_count design in
     all_below (IsDerivedClock d) derived_clock_at events_of d c.loop-process.process-index c.loop-process.found.items (omega (arith, count)) (c.loop-process.invariant tops roles)

@@ -1,5 +1,5 @@
 use Rattle.std.proofs.Common.{length}
-use Rattle.rtl_rule.specs.Parts.{parts}
+use Rattle.rtl_flat.specs.Flats.{flat}
 use Rattle.rtl_rule.specs.Sites.{AreFindings}
 use Rattle.check_chains.specs.check_found.Gathered.{sites_below}
 use Rattle.check_clocks.specs.Clocks.{IsDerivedClock, derived_clock_at, events_of}
@@ -8,5 +8,5 @@ use Rattle.check_clocks.proofs.derived.findings.Given as goal
 
 abbrev pub invariant-loop-process : goal.invariant-loop-process
 invariant-loop-process l =
-    let d = parts l.design in
+    let d = flat l.design in
     AreTops d (length d.signals) l.tops → AreRoles d (length l.design.processes.items) l.roles.clocks.items l.roles.resets.items → AreFindings (IsDerivedClock d) derived_clock_at (sites_below events_of d l.process-index) l.found.items

@@ -2,7 +2,7 @@ use Rattle.std.proofs.Common.{◌≡◌, ◌∙◌, ◌++◌, get_or, take, ap, 
 use Rattle.std.specs.List.{filter_map}
 use Rattle.std.specs.Option.{option_to_list}
 use Rattle.rtl_flat.specs.Process.{task}
-use Rattle.rtl_rule.specs.Parts.{parts}
+use Rattle.rtl_flat.specs.Flats.{flat}
 use Rattle.check_clocks.specs.Links.{plain_of}
 use Rattle.check_clocks.proofs.Linked.{kept_next, kept_all, none_of, pass_kept, push_kept}
 use Rattle.check_clocks.proofs.links.plain_links.Goals as goal
@@ -10,7 +10,7 @@ use Rattle.check_clocks.proofs.links.plain_links.Goals.{in-Some+in_ok-push, in_d
 
 pub loop-process-preserved : goal.loop-process-preserved
 loop-process-preserved c =
-    let d = parts c.args.design.now in
+    let d = flat c.args.design.now in
     let processes = c.args.design.now.processes.items in
     let at = c.loop-process.process-index in
     let item = c.process-item.result in
@@ -27,6 +27,6 @@ loop-process-preserved c =
 
 pub returns : goal.returns
 returns c =
-    let d = parts c.args.design.now in
+    let d = flat c.args.design.now in
     let processes = c.args.design.now.processes.items in
     c.loop-process.invariant ∙ kept_all (plain_of d) task processes c.loop-process.process-index (omega arith)

@@ -2,7 +2,7 @@ use Rattle.std.proofs.Common.{◌≡◌, ◌∙◌, None, map, refl, ap, sym, su
 use Rattle.std.proofs.lemmas.Option.{same_Some}
 use Rattle.rtl_flat.specs.Expression.{tree}
 use Rattle.rtl_flat.specs.Process.{doing, piece, task}
-use Rattle.rtl_rule.specs.Parts.{parts}
+use Rattle.rtl_flat.specs.Flats.{flat}
 use Rattle.check_chains.proofs.check_found_proofs.Sites.{task_at}
 use Rattle.check_clocks.specs.Links.{linked, whole_target}
 use Rattle.check_clocks.specs.Passed.{IsPassingLink}
@@ -12,7 +12,7 @@ use Rattle.check_clocks.proofs.passed.passing_link.Goals as goal
 pub returns-in-Assign : goal.returns-in-Assign
 returns-in-Assign c = λ one there.
     let design = c.args.scans.now.design.now in
-    let d = parts design in
+    let d = flat design in
     let process = c.index-process.result.now in
     let here = task_at design c.args.p.0 process c.requires.there c.index-process.ensures in
     let at : task process ≡ one = same_Some (task process) one (sym here ∙ there) in
@@ -30,9 +30,9 @@ returns-in-Comb c = λ one there.
     let process = c.index-process.result.now in
     let here = task_at design c.args.p.0 process c.requires.there c.index-process.ensures in
     let at : task process ≡ one = same_Some (task process) one (sym here ∙ there) in
-    let link : IsPassingLink (parts design) (task process) None =
-    no_link (parts design) (task process) None refl (λ target value is. let both = sym (ap doing c.in-Comb.is) ∙ is in absurd (cc)) in
-    subst (λ t. IsPassingLink (parts design) t None) at link
+    let link : IsPassingLink (flat design) (task process) None =
+    no_link (flat design) (task process) None refl (λ target value is. let both = sym (ap doing c.in-Comb.is) ∙ is in absurd (cc)) in
+    subst (λ t. IsPassingLink (flat design) t None) at link
 
 pub returns-in-Edge : goal.returns-in-Edge
 returns-in-Edge c = λ one there.
@@ -40,6 +40,6 @@ returns-in-Edge c = λ one there.
     let process = c.index-process.result.now in
     let here = task_at design c.args.p.0 process c.requires.there c.index-process.ensures in
     let at : task process ≡ one = same_Some (task process) one (sym here ∙ there) in
-    let link : IsPassingLink (parts design) (task process) None =
-    no_link (parts design) (task process) None refl (λ target value is. let both = sym (ap doing c.in-Edge.is) ∙ is in absurd (cc)) in
-    subst (λ t. IsPassingLink (parts design) t None) at link
+    let link : IsPassingLink (flat design) (task process) None =
+    no_link (flat design) (task process) None refl (λ target value is. let both = sym (ap doing c.in-Edge.is) ∙ is in absurd (cc)) in
+    subst (λ t. IsPassingLink (flat design) t None) at link

@@ -1,5 +1,5 @@
 use Rattle.std.proofs.Common.{◌≡◌, ◌∙◌, ◌+◌, length, ap, sym, subst}
-use Rattle.rtl_rule.specs.Parts.{parts}
+use Rattle.rtl_flat.specs.Flats.{flat}
 use Rattle.check_clocks.specs.Links.{AreRows}
 use Rattle.check_clocks.specs.Tops.{AreTops, IsNoted}
 use Rattle.check_clocks.proofs.Linked.{ArePlain}
@@ -9,7 +9,7 @@ use Rattle.check_clocks.proofs.tops.tops_of.Goals.{then-is_top+in_ok-note_top, e
 
 pub loop-top-preserved : goal.loop-top-preserved
 loop-top-preserved c =
-    let d = parts c.args.design.now in
+    let d = flat c.args.design.now in
     let rows = c.in_ok-rows.rows.items in
     let count : c.len-count.result ≡ length d.signals = c.len-count.ensures ∙ c.args.design.now.signals.ok.0 in
     let links = c.deref.ensures.value ∙ c.in_ok-links.ensures in

@@ -1,7 +1,7 @@
 use Rattle.std.specs.Prelude.{Vec}
 use Rattle.std.specs.declared.alloc.Global.{Global}
 use Rattle.std.proofs.Common.{ℕ, ◌≡◌, List, length, subst, arith}
-use Rattle.rtl_rule.specs.Parts.{parts, widths}
+use Rattle.rtl_flat.specs.Flats.{flat, widths}
 use Rattle.check_found.proofs.Sites.{task_count}
 use Rattle.check_graph.specs.declared.writers.Writer.{Writer}
 use Rattle.check_graph.specs.Feeds.{AreFed, AreFeeders}
@@ -11,7 +11,7 @@ use Rattle.check_graph.proofs.arrows.arrows.Goals as goal
 
 pub loop-number-preserved : goal.loop-number-preserved
 loop-number-preserved c =
-    let d = parts c.args.scans.now.design.now in
+    let d = flat c.args.scans.now.design.now in
     let table = c.in_ok-table.table.items in
     let n = c.loop-number.number in
     let (one, there) = task_of c.args.scans.now.design.now n (omega arith) in
@@ -21,7 +21,7 @@ loop-number-preserved c =
 
 pub returns : goal.returns
 returns c =
-    let d = parts c.args.scans.now.design.now in
+    let d = flat c.args.scans.now.design.now in
     let table = c.in_ok-table.table.items in
     let count = task_count c.args.scans.now.design.now in
     let e : c.loop-number.number ≡ length d.tasks = omega arith in

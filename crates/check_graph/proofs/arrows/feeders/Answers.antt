@@ -1,6 +1,6 @@
 use Rattle.std.proofs.Common.{◌≡◌, ◌∙◌, true, Some, sym, ap}
 use Rattle.rtl_flat.specs.Process.{Task, task}
-use Rattle.rtl_rule.specs.Parts.{parts, widths}
+use Rattle.rtl_flat.specs.Flats.{flat, widths}
 use Rattle.check_loops.specs.rtl_scan.Arrows.{is_node}
 use Rattle.check_loops.specs.rtl_scan.Sets.{has_rows}
 use Rattle.check_found.proofs.Sites.{task_at}
@@ -9,7 +9,7 @@ use Rattle.check_graph.proofs.arrows.feeders.Goals as goal
 
 pub returns : goal.returns
 returns c = λ one there.
-    let d = parts c.args.scans.now.design.now in
+    let d = flat c.args.scans.now.design.now in
     let q = c.args.q.0 in
     let process = c.index.result.now in
     let at : Some one ≡ Some (task process) = sym there ∙ task_at c.args.scans.now.design.now q process c.requires.there c.index.ensures in

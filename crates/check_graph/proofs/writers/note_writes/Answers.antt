@@ -1,7 +1,7 @@
 use Rattle.std.proofs.Common.{◌≡◌, ◌∙◌, true, Some, sym, ap}
 use Rattle.std.proofs.lemmas.Result.{on_ok_weaker}
 use Rattle.rtl_flat.specs.Process.{Task, task}
-use Rattle.rtl_rule.specs.Parts.{parts, widths}
+use Rattle.rtl_flat.specs.Flats.{flat, widths}
 use Rattle.check_loops.specs.rtl_scan.Arrows.{is_node}
 use Rattle.check_found.proofs.Sites.{task_at}
 use Rattle.check_graph.proofs.Tabling.{writes_more}
@@ -9,7 +9,7 @@ use Rattle.check_graph.proofs.writers.note_writes.Goals as goal
 
 pub returns : goal.returns
 returns c =
-    let d = parts c.args.scans.now.design.now in
+    let d = flat c.args.scans.now.design.now in
     let p = c.args.p.0 in
     let process = c.index.result.now in
     on_ok_weaker c.note_rows.result

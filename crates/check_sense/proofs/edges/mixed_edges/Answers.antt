@@ -1,6 +1,6 @@
 use Rattle.std.proofs.Common.{◌≡◌, ◌<◌, length, get_or, ap, arith}
 use Rattle.rtl_flat.specs.Process.{task}
-use Rattle.rtl_rule.specs.Parts.{parts}
+use Rattle.rtl_flat.specs.Flats.{flat}
 use Rattle.check_found.proofs.Sites.{next_below, task_at}
 use Rattle.check_sense.specs.Sense.{IsMixedEdges, mixed_edges_at}
 use Rattle.check_sense.specs.Telling.{itself}
@@ -13,4 +13,4 @@ loop-process-preserved c =
     let process = c.process-item.result in
     let below : n < length design.processes.items = omega (arith, ap length c.deref-process-items.ensures.value) in
     let is : process ≡ get_or design.processes.items n process = cc (c.process-item.is, c.deref-process-items.ensures.value) in
-    next_below IsMixedEdges mixed_edges_at itself (parts design) n (task process) c.loop-process.found.items c.push_mixed.new.found.items (task_at design n process below is) c.loop-process.invariant (c.in_ok-push_mixed.ensures n)
+    next_below IsMixedEdges mixed_edges_at itself (flat design) n (task process) c.loop-process.found.items c.push_mixed.new.found.items (task_at design n process below is) c.loop-process.invariant (c.in_ok-push_mixed.ensures n)

@@ -1,4 +1,4 @@
-use Rattle.rtl_rule.specs.Parts.{parts}
+use Rattle.rtl_flat.specs.Flats.{flat}
 use Rattle.rtl_rule.specs.Sites.{AreFindings}
 use Rattle.check_found.specs.Gathered.{sites_below}
 use Rattle.check_sense.specs.Sense.{IsMixedEdges, mixed_edges_at}
@@ -7,4 +7,4 @@ use Rattle.check_sense.proofs.edges.mixed_edges.Given as goal
 
 abbrev pub invariant-loop-process : goal.invariant-loop-process
 invariant-loop-process l =
-    AreFindings IsMixedEdges mixed_edges_at (sites_below itself (parts l.design) l.process-index) l.found.items
+    AreFindings IsMixedEdges mixed_edges_at (sites_below itself (flat l.design) l.process-index) l.found.items

@@ -1,4 +1,4 @@
-use Rattle.rtl_rule.specs.Parts.{parts}
+use Rattle.rtl_flat.specs.Flats.{flat}
 use Rattle.rtl_rule.specs.Sites.{AreFindings}
 use Rattle.check_found.specs.Gathered.{signal_numbers, sites_below}
 use Rattle.check_sense.specs.Sense.{IsSenseMissing, sense_missing_at}
@@ -6,4 +6,4 @@ use Rattle.check_sense.proofs.missing.sense_missing.Given as goal
 
 abbrev pub invariant-loop-number : goal.invariant-loop-number
 invariant-loop-number l =
-    AreFindings (IsSenseMissing (parts l.scans.design.now)) sense_missing_at (sites_below (signal_numbers (parts l.scans.design.now)) (parts l.scans.design.now) l.number) l.found.items
+    AreFindings (IsSenseMissing (flat l.scans.design.now)) sense_missing_at (sites_below (signal_numbers (flat l.scans.design.now)) (flat l.scans.design.now) l.number) l.found.items

@@ -1,7 +1,7 @@
 use Rattle.std.proofs.Common.{◌∙◌, ap, List}
 use Rattle.std.specs.List.{list_any}
 use Rattle.rtl_flat.specs.declared.signal.Signal.{Signal}
-use Rattle.rtl_rule.specs.Parts.{parts}
+use Rattle.rtl_flat.specs.Flats.{flat}
 use Rattle.check_found.specs.rtl_scan.declared.bits.Row.{Row}
 use Rattle.check_found.specs.rtl_scan.Sets.{has_rows}
 use Rattle.check_sense.specs.Telling.{row_wakes}
@@ -10,7 +10,7 @@ use Rattle.check_sense.proofs.waking.can_wake.Goals as goal
 
 pub returns : goal.returns
 returns c = λ t at.
-    let d = parts c.args.scans.now.design.now in
+    let d = flat c.args.scans.now.design.now in
     let writers = c.args.writers.now in
     let own = c.in_ok-own.own.masks in
     let rows = c.listed-listed.result.now.rows.items in

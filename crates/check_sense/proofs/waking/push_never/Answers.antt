@@ -3,7 +3,8 @@ use Rattle.rtl_flat.specs.declared.expr.SigId.{SigId}
 use Rattle.rtl_flat.specs.Process.{Task}
 use Rattle.rtl_rule.specs.declared.finding.Finding.{Finding}
 use Rattle.rtl_rule.specs.declared.rule.Rule.TheVariants.{NeverWakes}
-use Rattle.rtl_rule.specs.Parts.{found, parts, within}
+use Rattle.rtl_rule.specs.Parts.{found, within}
+use Rattle.rtl_flat.specs.Flats.{flat}
 use Rattle.check_found.specs.Gathered.{Gets, task_sites}
 use Rattle.check_sense.specs.Sense.{IsNeverWakes, can_wake, never_wakes_at}
 use Rattle.check_sense.specs.Telling.{has_level_list, itself}
@@ -17,20 +18,20 @@ and_none false b h = refl
 
 pub returns-then-not-has_level_list : goal.returns-then-not-has_level_list
 returns-then-not-has_level_list c = λ t at.
-    let d = parts c.args.scans.now.design.now in
+    let d = flat c.args.scans.now.design.now in
     let p = c.args.p.0 in
     let same = task_is c.args.scans.now.design.now p c.index-process.result.now c.requires.inside c.index-process.ensures t at in
     gets_none_never d p t (ap (λ b. b && not (can_wake d p t.does)) (sym (ap (λ (t : Task). has_level_list t.does) same) ∙ sym c.has_level_list.ensures ∙ c.if-not-has_level_list.true)) c.args.found.now.items
 
 pub returns-then-wakes : goal.returns-then-wakes
 returns-then-wakes c = λ t at.
-    let d = parts c.args.scans.now.design.now in
+    let d = flat c.args.scans.now.design.now in
     let p = c.args.p.0 in
     gets_none_never d p t (and_none (has_level_list t.does) (not (can_wake d p t.does)) (ap not (sym (c.in_ok-wakes.ensures t at) ∙ c.if-wakes.true))) c.args.found.now.items
 
 pub returns : goal.returns
 returns c = λ t at.
-    let d = parts c.args.scans.now.design.now in
+    let d = flat c.args.scans.now.design.now in
     let p = c.args.p.0 in
     let old = c.args.found.now.items in
     let process = c.index-process.result.now in

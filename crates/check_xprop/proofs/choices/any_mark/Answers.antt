@@ -2,14 +2,14 @@ use Rattle.std.proofs.Common.{◌∙◌, List, Bor, sym, ap, map}
 use Rattle.std.specs.List.{list_any}
 use Rattle.rtl_flat.specs.declared.expr.SizedExpr.{SizedExpr}
 use Rattle.rtl_flat.specs.Expression.{Tree, tree}
-use Rattle.rtl_rule.specs.Parts.{parts, widths}
+use Rattle.rtl_flat.specs.Flats.{flat, widths}
 use Rattle.check_xprop.specs.Doubts.{meets, own_reads}
 use Rattle.check_xprop.proofs.Doubts.{any_end, any_found, any_next, any_reads}
 use Rattle.check_xprop.proofs.choices.any_mark.Goals as goal
 
 pub returns-then-reads_mark : goal.returns-then-reads_mark
 returns-then-reads_mark c =
-    let ws = widths (parts c.args.design.now) in
+    let ws = widths (flat c.args.design.now) in
     let marks = c.args.marks.now in
     let own = λ (one : Tree). meets ws marks (own_reads ws one) in
     let items = c.deref-e-items.result.now in
@@ -19,7 +19,7 @@ returns-then-reads_mark c =
 
 pub loop-e-preserved : goal.loop-e-preserved
 loop-e-preserved c =
-    let ws = widths (parts c.args.design.now) in
+    let ws = widths (flat c.args.design.now) in
     let marks = c.args.marks.now in
     let own = λ (one : Tree). meets ws marks (own_reads ws one) in
     let items = c.deref-e-items.result.now in
@@ -27,7 +27,7 @@ loop-e-preserved c =
 
 pub returns : goal.returns
 returns c =
-    let ws = widths (parts c.args.design.now) in
+    let ws = widths (flat c.args.design.now) in
     let marks = c.args.marks.now in
     let own = λ (one : Tree). meets ws marks (own_reads ws one) in
     let items = c.deref-e-items.result.now in

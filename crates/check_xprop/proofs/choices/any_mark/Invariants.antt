@@ -1,10 +1,10 @@
 use Rattle.std.proofs.Common.{◌≡◌, map, drop}
 use Rattle.std.specs.List.{list_any}
 use Rattle.rtl_flat.specs.Expression.{tree}
-use Rattle.rtl_rule.specs.Parts.{parts, widths}
+use Rattle.rtl_flat.specs.Flats.{flat, widths}
 use Rattle.check_xprop.specs.Doubts.{meets, own_reads}
 use Rattle.check_xprop.proofs.choices.any_mark.Given as goal
 
 abbrev pub invariant-loop-e : goal.invariant-loop-e
 invariant-loop-e l =
-    list_any (λ one. meets (widths (parts l.design)) l.marks (own_reads (widths (parts l.design)) one)) (map (λ e. tree e.now) (drop l.e-index l.e-items)) ≡ list_any (λ one. meets (widths (parts l.design)) l.marks (own_reads (widths (parts l.design)) one)) (map (λ e. tree e.now) l.e-items)
+    list_any (λ one. meets (widths (flat l.design)) l.marks (own_reads (widths (flat l.design)) one)) (map (λ e. tree e.now) (drop l.e-index l.e-items)) ≡ list_any (λ one. meets (widths (flat l.design)) l.marks (own_reads (widths (flat l.design)) one)) (map (λ e. tree e.now) l.e-items)

@@ -10,7 +10,8 @@ use Rattle.rtl_flat.specs.Sizes.{IsSized}
 use Rattle.check_assign.proofs.rtl_scan_proofs.Processes.{length-tasks}
 use Rattle.check_xprop.proofs.Sized.{all_sized, each_at}
 use Rattle.rtl_rule.specs.declared.rule.Rule.TheVariants as rule
-use Rattle.rtl_rule.specs.Parts.{parts, place_of}
+use Rattle.rtl_rule.specs.Parts.{place_of}
+use Rattle.rtl_flat.specs.Flats.{flat}
 use Rattle.check_xprop.specs.Lists.{at_spots}
 use Rattle.check_xprop.specs.Unknowns.{all_nodes, divides_by_other}
 use Rattle.check_xprop.proofs.Lists.{spot_less, spot_more}
@@ -50,7 +51,7 @@ divides_by_other-requires c =
 
 pub returns : goal.returns
 returns c =
-    let d = parts c.args.design.now in
+    let d = flat c.args.design.now in
     let fs = c.args.found.now.items in
     on_ok_weaker c.push_all.result
     (λ h. λ other there.

@@ -1,6 +1,6 @@
 use Rattle.std.proofs.Common.{rules, ℕ, ◌≡◌, ◌∙◌, ◌<◌, [], Bool, false, List, length, replicate, sym, ap, subst, refl, arith}
 use Rattle.std.proofs.lemmas.List.{length-replicate}
-use Rattle.rtl_rule.specs.Parts.{parts}
+use Rattle.rtl_flat.specs.Flats.{flat}
 use Rattle.check_assign.proofs.rtl_scan_proofs.Processes.{length-tasks}
 use Rattle.check_assign.proofs.rtl_scan_proofs.Users.{written_back}
 use Rattle.check_xprop.specs.declared.doubt.Spread.{Spread}
@@ -10,7 +10,7 @@ use Rattle.check_xprop.proofs.doubt.doubtful.Goals as goal
 
 pub loop-signal-init : goal.loop-signal-init
 loop-signal-init c =
-    let d = parts c.args.scans.now.design.now in
+    let d = flat c.args.scans.now.design.now in
     let processes = c.args.scans.now.design.now.processes in
     let unseen : c.in_ok-seen.seen.items ≡ replicate c.len.result false
     = c.in_ok-seen.ensures.items_if_clones_equal (λ y e. search rules) in
@@ -21,14 +21,14 @@ loop-signal-init c =
 
 pub index-requires : goal.index-requires
 index-requires c =
-    let d = parts c.args.scans.now.design.now in
+    let d = flat c.args.scans.now.design.now in
     let table = c.in_ok-readers.readers in
     let (inside, doubtful) = waits_marked d c.loop-signal.seen.items c.loop-signal.spread c.in-Some.signal c.pop.new.self.items c.in-Some.ensures.items c.loop-signal.invariant.0 in
     omega (arith, inside, c.in_ok-readers.ensures.same_length, table.ok.0)
 
 pub visit_all-requires-clause-readers : goal.visit_all-requires-clause-readers
 visit_all-requires-clause-readers c =
-    let d = parts c.args.scans.now.design.now in
+    let d = flat c.args.scans.now.design.now in
     let table = c.in_ok-readers.readers.items in
     let signal = c.in-Some.signal in
     let (below, doubtful) = waits_marked d c.loop-signal.seen.items c.loop-signal.spread signal c.pop.new.self.items c.in-Some.ensures.items c.loop-signal.invariant.0 in
@@ -39,7 +39,7 @@ visit_all-requires-clause-readers c =
 
 pub loop-signal-preserved : goal.loop-signal-preserved
 loop-signal-preserved c =
-    let d = parts c.args.scans.now.design.now in
+    let d = flat c.args.scans.now.design.now in
     let processes = c.args.scans.now.design.now.processes.items in
     let table = c.in_ok-readers.readers.items in
     let signal = c.in-Some.signal in
@@ -62,4 +62,4 @@ loop-signal-preserved c =
 pub returns-clause-each : goal.returns-clause-each
 returns-clause-each c =
     let none : c.loop-signal.spread.waiting.items ≡ [] = search rules in
-    spread_all (parts c.args.scans.now.design.now) c.loop-signal.seen.items c.loop-signal.spread c.loop-signal.invariant.0 none
+    spread_all (flat c.args.scans.now.design.now) c.loop-signal.seen.items c.loop-signal.spread c.loop-signal.invariant.0 none

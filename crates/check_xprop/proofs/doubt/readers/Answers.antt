@@ -1,6 +1,6 @@
 use Rattle.std.proofs.Common.{◌<◌, length, map, arith}
 use Rattle.rtl_flat.specs.Process.{task}
-use Rattle.rtl_rule.specs.Parts.{parts}
+use Rattle.rtl_flat.specs.Flats.{flat}
 use Rattle.check_assign.proofs.rtl_scan_proofs.Processes.{length-tasks}
 use Rattle.check_xprop.proofs.Processes.{slice_there}
 use Rattle.check_xprop.proofs.Worklist.{readers_more}
@@ -13,4 +13,4 @@ loop-p-preserved c =
     let inside : c.loop-p.p < length (map task processes.items)
     = omega (arith, count, c.loop-p-test.true, c.len-p-end.ensures, processes.ok.0) in
     let (one, there) = slice_there (map task processes.items) c.loop-p.p inside in
-    readers_more (parts c.args.scans.now.design.now) c.loop-p.p one there c.loop-p.table.items c.note_process.new.table.items (c.in_ok-note_process.ensures one there) c.loop-p.invariant
+    readers_more (flat c.args.scans.now.design.now) c.loop-p.p one there c.loop-p.table.items c.note_process.new.table.items (c.in_ok-note_process.ensures one there) c.loop-p.invariant

@@ -2,7 +2,7 @@ use Rattle.std.specs.Prelude.{nat_lt}
 use Rattle.std.proofs.Common.{◌≡◌, ◌∙◌, ◌&&◌, not, true, false, List, length, get_or, sym, ap}
 use Rattle.std.proofs.lemmas.Result.{on_ok_weaker}
 use Rattle.rtl_flat.specs.Process.{Task}
-use Rattle.rtl_rule.specs.Parts.{parts}
+use Rattle.rtl_flat.specs.Flats.{flat}
 use Rattle.check_assign.specs.rtl_scan.declared.bits.Row.{Row}
 use Rattle.check_assign.specs.rtl_scan.Usage.{has_row_of}
 use Rattle.check_assign.specs.Assigned.{is_clocked}
@@ -14,7 +14,7 @@ use Rattle.check_xprop.proofs.doubt.start.Goals as goal
 
 pub returns : goal.returns
 returns c =
-    let d = parts c.args.scans.now.design.now in
+    let d = flat c.args.scans.now.design.now in
     let one = c.index.result.now in
     let temporaries = c.args.temporaries.now in
     let rows = c.deref.result.now in

@@ -1,6 +1,6 @@
 use Rattle.std.proofs.Common.{◌≡◌, ◌<◌, length, map, subst, arith}
 use Rattle.rtl_flat.specs.Process.{task}
-use Rattle.rtl_rule.specs.Parts.{parts}
+use Rattle.rtl_flat.specs.Flats.{flat}
 use Rattle.check_assign.proofs.rtl_scan_proofs.Processes.{length-tasks}
 use Rattle.check_xprop.specs.Spreading.{IsStarting}
 use Rattle.check_xprop.proofs.Processes.{slice_there}
@@ -9,7 +9,7 @@ use Rattle.check_xprop.proofs.doubt.started.Goals as goal
 
 pub loop-p-preserved : goal.loop-p-preserved
 loop-p-preserved c =
-    let d = parts c.args.scans.now.design.now in
+    let d = flat c.args.scans.now.design.now in
     let processes = c.args.scans.now.design.now.processes in
     let temporaries = c.temporaries-temporaries.result.now in
     let count = length-tasks processes.items in
@@ -20,7 +20,7 @@ loop-p-preserved c =
 
 pub returns : goal.returns
 returns c =
-    let d = parts c.args.scans.now.design.now in
+    let d = flat c.args.scans.now.design.now in
     let processes = c.args.scans.now.design.now.processes in
     let end : c.loop-p.p ≡ length processes.items
     = omega (arith, c.loop-p-test.false, c.loop-p.auto.p-end, c.len-p-end.ensures, processes.ok.0) in

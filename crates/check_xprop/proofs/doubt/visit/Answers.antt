@@ -1,6 +1,6 @@
 use Rattle.std.proofs.Common.{◌∙◌, ◌<◌, List, sym, ap, length, arith}
 use Rattle.std.proofs.lemmas.Result.{on_ok_weaker}
-use Rattle.rtl_rule.specs.Parts.{parts}
+use Rattle.rtl_flat.specs.Flats.{flat}
 use Rattle.check_assign.specs.rtl_scan.declared.bits.Row.{Row}
 use Rattle.check_assign.specs.rtl_scan.Usage.{has_row_of}
 use Rattle.check_xprop.specs.Spreading.{writes}
@@ -9,7 +9,7 @@ use Rattle.check_xprop.proofs.doubt.visit.Goals as goal
 
 pub returns : goal.returns
 returns c =
-    let d = parts c.args.scans.now.design.now in
+    let d = flat c.args.scans.now.design.now in
     let inside : c.args.p.0 < length c.args.seen.now = omega (arith, c.requires.there, c.requires.seen) in
     on_ok_weaker c.mark_rows.result
     (λ h. visited d c.args.p.0 c.args.seen.now c.args.spread.now c.mark_rows.new.self c.requires.reader inside

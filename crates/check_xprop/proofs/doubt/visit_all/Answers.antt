@@ -1,4 +1,4 @@
-use Rattle.rtl_rule.specs.Parts.{parts}
+use Rattle.rtl_flat.specs.Flats.{flat}
 use Rattle.check_xprop.proofs.Worklist.{among_at, reader_there, reaches_more}
 use Rattle.check_xprop.proofs.doubt.visit_all.Goals as goal
 
@@ -13,4 +13,4 @@ visit-requires-clause-reader c =
 
 pub loop-p-preserved : goal.loop-p-preserved
 loop-p-preserved c =
-    reaches_more (parts c.args.scans.now.design.now) c.args.readers.now c.loop-p.p-index _ c.loop-p-test.true c.args.seen.now c.args.spread.now c.loop-p.seen c.loop-p.spread c.visit.new.seen c.visit.new.spread c.loop-p.invariant c.in_ok-visit.ensures
+    reaches_more (flat c.args.scans.now.design.now) c.args.readers.now c.loop-p.p-index _ c.loop-p-test.true c.args.seen.now c.args.spread.now c.loop-p.seen c.loop-p.spread c.visit.new.seen c.visit.new.spread c.loop-p.invariant c.in_ok-visit.ensures

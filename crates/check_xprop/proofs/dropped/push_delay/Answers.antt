@@ -5,7 +5,8 @@ use Rattle.rtl_flat.specs.declared.act.Process.{Process}
 use Rattle.rtl_flat.specs.declared.expr.SigId.{SigId}
 use Rattle.rtl_flat.specs.Process.{task}
 use Rattle.rtl_rule.specs.declared.rule.Rule.TheVariants.{DelayIgnored}
-use Rattle.rtl_rule.specs.Parts.{parts, first_of, written}
+use Rattle.rtl_rule.specs.Parts.{first_of, written}
+use Rattle.rtl_flat.specs.Flats.{flat}
 use Rattle.check_assign.proofs.rtl_scan_proofs.Processes.{length-tasks, task_at}
 use Rattle.check_xprop.specs.Lists.{at_spot}
 use Rattle.check_xprop.proofs.Regions.{delay_nowhere, delay_there}
@@ -17,11 +18,11 @@ returns-in_default c =
     let past = c.in_default.ensures.lookup.3 in
     let seen = ap length c.deref.ensures.value in
     let count = length-tasks processes in
-    delay_nowhere (parts c.args.design.now) c.args.delay.now c.args.found.now.items (slice_get_past (map task processes) c.args.delay.now.process.0 (omega (arith, past, seen, count)))
+    delay_nowhere (flat c.args.design.now) c.args.delay.now c.args.found.now.items (slice_get_past (map task processes) c.args.delay.now.process.0 (omega (arith, past, seen, count)))
 
 pub returns : goal.returns
 returns c =
-    let d = parts c.args.design.now in
+    let d = flat c.args.design.now in
     let processes = c.args.design.now.processes.items in
     let p = c.args.delay.now.process.0 in
     let one = c.in-Some.process.now in

@@ -5,7 +5,8 @@ use Rattle.std.proofs.lemmas.Result.{on_ok_weaker}
 use Rattle.rtl_tree.specs.declared.text.Spot.{Spot}
 use Rattle.rtl_flat.specs.Expression.{tree}
 use Rattle.rtl_rule.specs.declared.rule.Rule.TheVariants as rule
-use Rattle.rtl_rule.specs.Parts.{parts, place_of}
+use Rattle.rtl_rule.specs.Parts.{place_of}
+use Rattle.rtl_flat.specs.Flats.{flat}
 use Rattle.check_xprop.specs.Lists.{at_spots}
 use Rattle.check_xprop.specs.Unknowns.{all_nodes, is_case_equality}
 use Rattle.check_xprop.proofs.Lists.{spot_less, spot_more}
@@ -30,7 +31,7 @@ loop-e-preserved c = λ otherwise.
 
 pub returns : goal.returns
 returns c =
-    let d = parts c.args.design.now in
+    let d = flat c.args.design.now in
     let fs = c.args.found.now.items in
     on_ok_weaker c.push_all.result
     (λ h. λ other there.

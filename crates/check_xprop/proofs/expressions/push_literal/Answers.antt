@@ -2,7 +2,8 @@ use Rattle.std.proofs.Common.{◌≡◌, ◌∙◌, sym, ap, arith}
 use Rattle.std.proofs.lemmas.Bool.{eqb-true, eqb-false}
 use Rattle.std.proofs.lemmas.Result.{on_ok_weaker}
 use Rattle.rtl_flat.specs.Process.{Task}
-use Rattle.rtl_rule.specs.Parts.{is_literal_with, is_x, least_place, nodes, parts, valued_trees}
+use Rattle.rtl_rule.specs.Parts.{is_literal_with, is_x, least_place, nodes, valued_trees}
+use Rattle.rtl_flat.specs.Flats.{flat}
 use Rattle.std.specs.List.{flat_map, list_any}
 use Rattle.check_xprop.specs.Lists.{tree_spots}
 use Rattle.check_xprop.proofs.Processes.{first_literal_found, no_literal_found, same_task, unknown_nowhere}
@@ -11,11 +12,11 @@ use Rattle.check_xprop.proofs.expressions.push_literal.Goals as goal
 pub returns-then-not-has_unknown_literal : goal.returns-then-not-has_unknown_literal
 returns-then-not-has_unknown_literal c = λ other there.
     let none = sym (c.has_unknown_literal.ensures ∙ ap (list_any (is_literal_with is_x)) (c.requires.all other there)) ∙ c.if-not-has_unknown_literal.true in
-    unknown_nowhere (parts c.args.design.now) c.args.p.0 other c.args.found.now.items none
+    unknown_nowhere (flat c.args.design.now) c.args.p.0 other c.args.found.now.items none
 
 pub returns-then-is_empty : goal.returns-then-is_empty
 returns-then-is_empty c = λ other there.
-    let d = parts c.args.design.now in
+    let d = flat c.args.design.now in
     let spots = c.in_ok-spots.spots in
     let same = same_task c.args.design.now.processes.items c.args.p.0 c.index-process.result.now c.requires.there c.index-process.ensures other there in
     let none = eqb-true _ _ (sym c.is_empty.ensures ∙ c.if-is_empty.true) in
@@ -25,7 +26,7 @@ returns-then-is_empty c = λ other there.
 
 pub returns : goal.returns
 returns c =
-    let d = parts c.args.design.now in
+    let d = flat c.args.design.now in
     let spots = c.in_ok-spots.spots in
     let some = eqb-false _ _ (sym c.is_empty.ensures ∙ c.if-is_empty.false) in
     on_ok_weaker c.push_all.result

@@ -1,6 +1,6 @@
 use Rattle.std.proofs.Common.{◌≡◌, ◌<◌, length, map, arith}
 use Rattle.rtl_flat.specs.Process.{task}
-use Rattle.rtl_rule.specs.Parts.{parts}
+use Rattle.rtl_flat.specs.Flats.{flat}
 use Rattle.check_assign.proofs.rtl_scan_proofs.Processes.{length-tasks}
 use Rattle.check_xprop.proofs.NodeRules.{below_also, below_end}
 use Rattle.check_xprop.proofs.Processes.{slice_there}
@@ -20,11 +20,11 @@ loop-p-preserved c =
     let inside : c.loop-p.p < length (map task processes.items)
     = omega (arith, count, c.loop-p-test.true, c.len-p-end.ensures, processes.ok.0) in
     let (one, there) = slice_there (map task processes.items) c.loop-p.p inside in
-    below_also (parts c.args.design.now) c.loop-p.p one there c.loop-p.found c.add.new.self c.loop-p.invariant (c.in_ok-add.ensures one there)
+    below_also (flat c.args.design.now) c.loop-p.p one there c.loop-p.found c.add.new.self c.loop-p.invariant (c.in_ok-add.ensures one there)
 
 pub returns : goal.returns
 returns c =
-    let d = parts c.args.design.now in
+    let d = flat c.args.design.now in
     let processes = c.args.design.now.processes in
     let count = length-tasks processes.items in
     below_end d c.loop-p.p (let e : c.loop-p.p ≡ length d.tasks = omega (arith, count, c.loop-p-test.false, c.loop-p.auto.p-end, c.len-p-end.ensures, processes.ok.0) in e) c.loop-p.found c.loop-p.invariant

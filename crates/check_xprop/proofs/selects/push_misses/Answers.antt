@@ -3,7 +3,8 @@ use Rattle.std.specs.List.{filter_map}
 use Rattle.std.proofs.lemmas.Result.{on_ok_weaker}
 use Rattle.rtl_flat.specs.declared.act.TargetPart.{TargetPart}
 use Rattle.rtl_flat.specs.Process.{Piece, Task, Watched, doing, piece, task}
-use Rattle.rtl_rule.specs.Parts.{items_of, parts, pieces, widths}
+use Rattle.rtl_rule.specs.Parts.{items_of, pieces}
+use Rattle.rtl_flat.specs.Flats.{flat, widths}
 use Rattle.check_assign.proofs.rtl_scan_proofs.Processes.{task_at}
 use Rattle.check_xprop.specs.Lists.{misses_found}
 use Rattle.check_xprop.specs.Unknowns.{all_nodes, pick_in, pick_of, picks}
@@ -13,7 +14,7 @@ use Rattle.check_xprop.proofs.selects.push_misses.Goals as goal
 
 pub returns : goal.returns
 returns c =
-    let d = parts c.args.design.now in
+    let d = flat c.args.design.now in
     let one = c.index-process.result.now in
     let fs = c.args.found.now.items in
     let ws = widths d in

@@ -1,11 +1,11 @@
 use Rattle.std.proofs.Common.{◌≡◌, ◌++◌, map, take}
 use Rattle.std.specs.List.{filter_map}
 use Rattle.rtl_flat.specs.Expression.{tree}
-use Rattle.rtl_rule.specs.Parts.{parts, widths}
+use Rattle.rtl_flat.specs.Flats.{flat, widths}
 use Rattle.check_xprop.specs.Lists.{misses_found}
 use Rattle.check_xprop.specs.Unknowns.{pick_in}
 use Rattle.check_xprop.proofs.selects.push_reads.Given as goal
 
 abbrev pub invariant-loop-e : goal.invariant-loop-e
 invariant-loop-e l =
-    l.found.items ≡ l.initial.found.items ++ misses_found (widths (parts l.design)) l.instance (filter_map pick_in (map (λ e. tree e.now) (take l.e-index l.all)))
+    l.found.items ≡ l.initial.found.items ++ misses_found (widths (flat l.design)) l.instance (filter_map pick_in (map (λ e. tree e.now) (take l.e-index l.all)))

@@ -1,6 +1,6 @@
 use Rattle.std.proofs.Common.{◌∙◌, ◌<◌, ◌+◌, List, Bool, length, sym, subst, arith}
 use Rattle.rtl_flat.specs.Process.{task}
-use Rattle.rtl_rule.specs.Parts.{parts}
+use Rattle.rtl_flat.specs.Flats.{flat}
 use Rattle.netlist_eval.proofs.check_clocks_proofs.Coned.{written}
 use Rattle.infer_latches.proofs.check_found_proofs.Sites.{task_at}
 use Rattle.demo_replay.specs.Tables.{AreClockedBelow, MarksWritten}
@@ -10,7 +10,7 @@ use Rattle.demo_replay.proofs.compare.clocked_signals.Goals.{then-waits+in_ok-ma
 
 pub loop-number-preserved : goal.loop-number-preserved
 loop-number-preserved c =
-    let d = parts c.args.design.now in
+    let d = flat c.args.design.now in
     let n = c.loop-number.number in
     let process = c.index.result.now in
     let test = c.loop-number-test.true in

@@ -1,7 +1,7 @@
 use Rattle.std.proofs.Common.{◌≡◌, ◌∙◌, ℕ, Bool, List, [], ◌∷◌, ◌++◌, length, map, Ok, Vec, sym, ap, subst, arith}
 use Rattle.std.specs.declared.alloc.Global.{Global}
 use Rattle.std.proofs.lemmas.List.{length-map, map-append}
-use Rattle.rtl_rule.specs.Parts.{parts}
+use Rattle.rtl_flat.specs.Flats.{flat}
 use Rattle.event_queue.specs.Sims.{state_of}
 use Rattle.netlist_eval.specs.Sims.{shown}
 use Rattle.demo_trials.specs.Trials.{step_count}
@@ -45,10 +45,10 @@ module _ (kept : Kept) (skipped : List Bool) (trial : ℕ) (run : Run) (steps : 
       ∙ length-map going.moments (differences (length kept.design.now.signals.items) skipped)
 
   -- the next step doesn't settle
-  stopped : IsStuck (parts (design_of run)) (plain run.setup.now) (trial_of run) going.moments → IsCourseOf kept.design.now kept skipped trial steps
+  stopped : IsStuck (flat (design_of run)) (plain run.setup.now) (trial_of run) going.moments → IsCourseOf kept.design.now kept skipped trial steps
   stopped stuck =
-      let by_trial : IsStuck (parts (design_of run)) (plain run.setup.now) trial going.moments = subst (λ (t : ℕ). IsStuck (parts (design_of run)) (plain run.setup.now) t going.moments) going.trial_is stuck in
-      let here : IsStuck (parts kept.design.now) (plain kept) trial going.moments = subst (λ (k : Kept). IsStuck (parts k.design.now) (plain k) trial going.moments) going.setup_is by_trial in
+      let by_trial : IsStuck (flat (design_of run)) (plain run.setup.now) trial going.moments = subst (λ (t : ℕ). IsStuck (flat (design_of run)) (plain run.setup.now) t going.moments) going.trial_is stuck in
+      let here : IsStuck (flat kept.design.now) (plain kept) trial going.moments = subst (λ (k : Kept). IsStuck (flat k.design.now) (plain k) trial going.moments) going.setup_is by_trial in
       let few = few_steps trial (length (plain kept).tops) in
       let more = here.more in
       let count = counted in
@@ -63,8 +63,8 @@ module _ (kept : Kept) (skipped : List Bool) (trial : ℕ) (run : Run) (steps : 
   ended : length going.moments ≡ count_of run → IsCourseOf kept.design.now kept skipped trial steps
   ended all =
       let at = reached run.setup.now (trial_of run) run.taken run.sim run.net going.moments going.at in
-      let by_trial : Reaches (parts (design_of run)) (plain run.setup.now) trial going.moments (state_of run.sim) (shown run.net) = subst (λ (t : ℕ). Reaches (parts (design_of run)) (plain run.setup.now) t going.moments (state_of run.sim) (shown run.net)) going.trial_is at in
-      let here : Reaches (parts kept.design.now) (plain kept) trial going.moments (state_of run.sim) (shown run.net) = subst (λ (k : Kept). Reaches (parts k.design.now) (plain k) trial going.moments (state_of run.sim) (shown run.net)) going.setup_is by_trial in
+      let by_trial : Reaches (flat (design_of run)) (plain run.setup.now) trial going.moments (state_of run.sim) (shown run.net) = subst (λ (t : ℕ). Reaches (flat (design_of run)) (plain run.setup.now) t going.moments (state_of run.sim) (shown run.net)) going.trial_is at in
+      let here : Reaches (flat kept.design.now) (plain kept) trial going.moments (state_of run.sim) (shown run.net) = subst (λ (k : Kept). Reaches (flat k.design.now) (plain k) trial going.moments (state_of run.sim) (shown run.net)) going.setup_is by_trial in
       let whole : length going.moments ≡ step_count trial (length (plain kept).tops) = all ∙ ap (λ (t : ℕ). step_count t (length (plain run.setup.now).tops)) going.trial_is ∙ ap (λ (k : Kept). step_count trial (length (plain k).tops)) going.setup_is in
       let few = few_steps trial (length (plain kept).tops) in
       let count = counted in

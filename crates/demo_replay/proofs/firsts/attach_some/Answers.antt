@@ -5,7 +5,7 @@ use Rattle.std.proofs.lemmas.Bool.{false≢true}
 use Rattle.std.proofs.lemmas.Option.{MatchOption-at_none, MatchOption-at_some}
 use Rattle.std.proofs.lemmas.Result.{IfOk-weaker}
 use Rattle.rtl_flat.specs.declared.design.Design.{Design}
-use Rattle.rtl_rule.specs.Parts.{parts}
+use Rattle.rtl_flat.specs.Flats.{flat}
 use Rattle.demo_told.specs.declared.demo.Demo.{Demo}
 use Rattle.demo_told.specs.declared.demo.Shown.{Shown as Values}
 use Rattle.demo_replay.specs.Firsts.{AreFirsts, told}
@@ -23,8 +23,8 @@ written size new old is same =
 
 pub returns-in_default : goal.returns-in_default
 returns-in_default c =
-    let lacks = MatchOption-at_none (LacksNetlist (parts c.args.design.now)) (IsOf c.args.design.now) c.in_default.is c.in_ok-setup.ensures in
-    IfOk-weaker c.nothing.result _ _ (λ found is. subst (λ (all : List (Option (Demo × Values))). AreFirsts (parts c.args.design.now) c.args.findings.now (map told all)) (sym is) (none_first c.args.design.now c.args.findings.now lacks)) c.nothing.ensures
+    let lacks = MatchOption-at_none (LacksNetlist (flat c.args.design.now)) (IsOf c.args.design.now) c.in_default.is c.in_ok-setup.ensures in
+    IfOk-weaker c.nothing.result _ _ (λ found is. subst (λ (all : List (Option (Demo × Values))). AreFirsts (flat c.args.design.now) c.args.findings.now (map told all)) (sym is) (none_first c.args.design.now c.args.findings.now lacks)) c.nothing.ensures
 
 pub loop-number-init : goal.loop-number-init
 loop-number-init c =
@@ -69,9 +69,9 @@ returns c =
     let clocked = c.in_ok-clocked.clocked.items in
     let findings = c.args.findings.now in
     let found = c.loop-number.found.items in
-    let is_of : IsOf c.args.design.now kept = MatchOption-at_some (LacksNetlist (parts c.args.design.now)) (IsOf c.args.design.now) kept c.in-Some.is c.in_ok-setup.ensures in
+    let is_of : IsOf c.args.design.now kept = MatchOption-at_some (LacksNetlist (flat c.args.design.now)) (IsOf c.args.design.now) kept c.in-Some.is c.in_ok-setup.ensures in
     let own : IsOf kept.design.now kept = subst (λ (design : Design). IsOf design kept) (sym is_of.design_is) is_of in
-    let marks : AreClocked (parts kept.design.now) clocked = subst (λ (design : Design). AreClocked (parts design) clocked) (sym is_of.design_is) c.in_ok-clocked.ensures in
+    let marks : AreClocked (flat kept.design.now) clocked = subst (λ (design : Design). AreClocked (flat design) clocked) (sym is_of.design_is) c.in_ok-clocked.ensures in
     let last : c.loop-number.number ≡ 33 = omega arith in
     let shown : AreShownBelow kept.design.now kept clocked findings 33 found = subst (λ (n : ℕ). AreShownBelow kept.design.now kept clocked findings n found) last c.loop-number.invariant in
-    subst (λ (design : Design). AreFirsts (parts design) findings (map told found)) is_of.design_is (all_first kept clocked findings found own marks shown)
+    subst (λ (design : Design). AreFirsts (flat design) findings (map told found)) is_of.design_is (all_first kept clocked findings found own marks shown)

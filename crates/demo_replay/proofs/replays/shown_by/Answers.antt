@@ -1,5 +1,5 @@
 use Rattle.std.proofs.Common.{◌≡◌, ◌∙◌, ◌≤◌, ℕ, length, subst, sym}
-use Rattle.rtl_rule.specs.Parts.{parts}
+use Rattle.rtl_flat.specs.Flats.{flat}
 use Rattle.demo_told.proofs.Same.{differ_is, same_by}
 use Rattle.demo_trials.specs.Trials.{step_count}
 use Rattle.demo_replay.specs.declared.setup.Setup.{Setup as Kept}
@@ -26,7 +26,7 @@ returns-in_err-take_steps-clause-fault c =
     let same : run.setup.now ≡ kept = c.in_ok-run.ensures.setup in
     let trial : trial_of run ≡ c.args.trial.number = c.in_ok-run.ensures.trial in
     let why = c.in_err-take_steps.field-0.0 in
-    same_error c.from_residual-in_err-take_steps.result why (IsReplayFault (parts kept.design.now) c.args.demo.now) c.from_residual-in_err-take_steps.ensures.1
+    same_error c.from_residual-in_err-take_steps.result why (IsReplayFault (flat kept.design.now) c.args.demo.now) c.from_residual-in_err-take_steps.ensures.1
     (fault_told kept c.requires.is_of c.args.demo.now run same (trial ∙ c.requires.trial) c.requires.legal why c.in_err-take_steps.ensures.fault)
 
 pub returns-then-differs-clause-shown : goal.returns-then-differs-clause-shown
@@ -55,4 +55,4 @@ returns-clause-fault c =
     let (moments, at, count) = c.in_ok-take_steps.ensures.taken in
     let values = c.shown-shown.result in
     let both = gives kept c.requires.is_of demo now (c.take_steps.ensures.setup ∙ same) (c.take_steps.ensures.trial ∙ (trial ∙ c.requires.trial)) moments at count values c.shown-shown.ensures.simulated c.shown-shown.ensures.synthesised in
-    (c.requires.legal, subst (Gives (parts kept.design.now) demo values.simulated) (sym (same_by values.simulated values.synthesised (sym c.differs.ensures ∙ c.if-differs.false))) both)
+    (c.requires.legal, subst (Gives (flat kept.design.now) demo values.simulated) (sym (same_by values.simulated values.synthesised (sym c.differs.ensures ∙ c.if-differs.false))) both)

@@ -2,8 +2,7 @@ use Rattle.std.proofs.Common.{◌∙◌, ◌++◌, ◌<◌, List, length, map, a
 use Rattle.std.specs.List.{All}
 use Rattle.rtl_flat.specs.declared.design.Design.{Design}
 use Rattle.rtl_flat.specs.declared.expr.SigId.{SigId}
-use Rattle.rtl_rule.specs.Parts.{parts}
-use Rattle.event_model.specs.Queue.{flat}
+use Rattle.rtl_flat.specs.Flats.{flat}
 use Rattle.net_model.specs.declared.fill.Fill.{Fill}
 use Rattle.netlist_eval.specs.net_order.Order.{IsCyclic}
 use Rattle.netlist_eval.specs.net_start.Stored.{places}
@@ -38,7 +37,7 @@ returns-in-Ok c =
     let kept = c.args.setup.now in
     let trial = c.args.trial.number in
     let netlist = c.netlist-netlist.result.now in
-    let firsts = λ (l : List SigId). map (first_value (parts kept.design.now) trial) (places l) in
+    let firsts = λ (l : List SigId). map (first_value (flat kept.design.now) trial) (places l) in
     first_net kept trial c.in-Ok.net netlist c.deref-3.result.now c.deref-4.result.now
     (subst (λ (f : Fill). IsNetlistOf kept.design.now f netlist) c.fill.ensures c.netlist-netlist.ensures)
     c.in-Ok.ensures.netlist c.in-Ok.ensures.begun c.in-Ok.ensures.no_cycle
@@ -56,5 +55,5 @@ unreachable-requires-in-Err-NotKnown c =
     let design = c.args.setup.now.design.now in
     let netlist = c.netlist-netlist.result.now in
     let unknown = subst (IsFault (flat_in netlist) (c.deref-3.result.now ++ c.deref-4.result.now)) c.in-Err-NotKnown.field-0-is c.in-Err-NotKnown.ensures.fault in
-    none_first_unknown (parts design) c.args.trial.number (places c.deref.result.now) (places c.deref-2.result.now) c.deref-3.result.now c.deref-4.result.now c.in-Err-NotKnown.field-0-0
+    none_first_unknown (flat design) c.args.trial.number (places c.deref.result.now) (places c.deref-2.result.now) c.deref-3.result.now c.deref-4.result.now c.in-Err-NotKnown.field-0-0
     (c.deref-3.ensures.value ∙ c.in_ok-registers.ensures.values) (c.deref-4.ensures.value ∙ c.in_ok-inputs.ensures.values) unknown.1

@@ -1,5 +1,5 @@
 use Rattle.std.proofs.Common.{subst}
-use Rattle.event_model.specs.Queue.{flat}
+use Rattle.rtl_flat.specs.Flats.{flat}
 use Rattle.netlist_eval.specs.Steps.{IsOrderFault}
 use Rattle.demo_replay.specs.Setups.{Cyclic}
 use Rattle.demo_replay.proofs.setup.basis_of.Goals as goal

@@ -1,13 +1,13 @@
 use Rattle.std.proofs.Common.{◌≡◌, ◌∙◌, refl, Some}
 use Rattle.std.specs.List.{slice_get}
 use Rattle.std.proofs.lemmas.Option.{slice_get_read}
-use Rattle.rtl_rule.specs.Parts.{parts}
+use Rattle.rtl_flat.specs.Flats.{flat}
 use Rattle.demo_replay.proofs.Starting.{filled_is, given_is, width_at}
 use Rattle.demo_replay.proofs.start.first_value.Goals as goal
 
 pub returns-in-Some-clause-value : goal.returns-in-Some-clause-value
 returns-in-Some-clause-value c =
-    let d = parts c.args.design.now in
+    let d = flat c.args.design.now in
     let i = c.args.signal.0 in
     let signal = c.index-signal.result.now in
     let there : slice_get d.signals i ≡ Some signal = slice_get_read d.signals _ i signal refl c.requires c.index-signal.ensures in
@@ -15,7 +15,7 @@ returns-in-Some-clause-value c =
 
 pub returns-in-Some-clause-width : goal.returns-in-Some-clause-width
 returns-in-Some-clause-width c =
-    let d = parts c.args.design.now in
+    let d = flat c.args.design.now in
     let i = c.args.signal.0 in
     let signal = c.index-signal.result.now in
     let there : slice_get d.signals i ≡ Some signal = slice_get_read d.signals _ i signal refl c.requires c.index-signal.ensures in
@@ -23,7 +23,7 @@ returns-in-Some-clause-width c =
 
 pub returns-in-None-clause-value : goal.returns-in-None-clause-value
 returns-in-None-clause-value c =
-    let d = parts c.args.design.now in
+    let d = flat c.args.design.now in
     let i = c.args.signal.0 in
     let signal = c.index-signal.result.now in
     let there : slice_get d.signals i ≡ Some signal = slice_get_read d.signals _ i signal refl c.requires c.index-signal.ensures in
@@ -31,7 +31,7 @@ returns-in-None-clause-value c =
 
 pub returns-in-None-clause-width : goal.returns-in-None-clause-width
 returns-in-None-clause-width c =
-    let d = parts c.args.design.now in
+    let d = flat c.args.design.now in
     let i = c.args.signal.0 in
     let signal = c.index-signal.result.now in
     let there : slice_get d.signals i ≡ Some signal = slice_get_read d.signals _ i signal refl c.requires c.index-signal.ensures in

@@ -7,8 +7,7 @@ use Rattle.std.proofs.lemmas.Iterator.Adapters.{serves_from_places}
 use Rattle.std.proofs.lemmas.Iterator.Consumers.{map_from_collect}
 use Rattle.std.proofs.lemmas.Result.{IfOk-at_ok}
 use Rattle.rtl_flat.specs.declared.expr.SigId.{SigId}
-use Rattle.rtl_rule.specs.Parts.{parts}
-use Rattle.event_model.specs.Queue.{flat}
+use Rattle.rtl_flat.specs.Flats.{flat}
 use Rattle.netlist_eval.specs.Sims.{shown}
 use Rattle.demo_trials.specs.declared.input.Input.{Input as Made}
 use Rattle.demo_trials.specs.Steps.{input}
@@ -32,7 +31,7 @@ pub returns : goal.returns
 returns c =
     let kept = c.args.setup.now in
     let tops = kept.basis.tops.items in
-    let one = input_of (parts kept.design.now) (plain kept) (shown c.args.net.now) in
+    let one = input_of (flat kept.design.now) (plain kept) (shown c.args.net.now) in
     IfOk-at_ok (λ (w : Vec Made Global). map input (vec_items w) ≡ map (λ (top : SigId). one top.0) tops) c.in_ok-inputs.was
     (map_from_collect c.collect.result c.collect.ensures.ran
     (YieldsList-from_map_by _ input (λ (top : SigId). one top.0) (YieldsList-from_slice tops (ap iter_rest c.map.ensures.source ∙ c.iter.ensures.rest ∙ c.deref.ensures.value)) c.map.ensures.closure (λ x r q k. search rules)))

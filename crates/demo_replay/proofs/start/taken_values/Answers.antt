@@ -3,7 +3,7 @@ use Rattle.std.specs.List.{slice_get}
 use Rattle.std.proofs.lemmas.Option.{slice_get_read}
 use Rattle.rtl_bits.specs.declared.Bit.{Bit}
 use Rattle.rtl_flat.specs.declared.signal.Signal.{Signal}
-use Rattle.event_model.specs.Queue.{flat}
+use Rattle.rtl_flat.specs.Flats.{flat}
 use Rattle.netlist_eval.specs.Sims.{shown}
 use Rattle.demo_replay.proofs.Starting.{AreTakenBelow, are_stored, are_taken, one_taken}
 use Rattle.demo_replay.proofs.start.taken_values.Goals as goal

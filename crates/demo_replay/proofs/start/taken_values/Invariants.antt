@@ -1,4 +1,4 @@
-use Rattle.event_model.specs.Queue.{flat}
+use Rattle.rtl_flat.specs.Flats.{flat}
 use Rattle.netlist_eval.specs.Sims.{shown}
 use Rattle.demo_replay.proofs.Starting.{AreTakenBelow}
 use Rattle.demo_replay.proofs.start.taken_values.Given as goal

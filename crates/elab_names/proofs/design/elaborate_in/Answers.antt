@@ -7,7 +7,7 @@ use Rattle.rtl_elab.specs.elab_scope.Faults.{answer}
 use Rattle.rtl_elab.specs.elab_walk.Placements.{placements}
 use Rattle.rtl_elab.specs.elab_walk.Trails.{AreDeclared, placement}
 use Rattle.rtl_elab.specs.elab_walk.Visits.{library}
-use Rattle.rtl_elab.specs.elab_flat.Flats.{DesignParts}
+use Rattle.rtl_flat.specs.Flats.{DesignParts}
 use Rattle.rtl_elab.specs.elab_flat.Views.{flat}
 use Rattle.rtl_elab.specs.Elaborated.{elaborated, refused, visited}
 use Rattle.elab_names.specs.declared.look_up.LookUp.{LookUp}

@@ -1,6 +1,6 @@
 use Rattle.std.proofs.Common.{List, Option, refl, subst, arith}
 use Rattle.rtl_bits.specs.declared.Bit.{Bit}
-use Rattle.event_model.specs.Queue.{flat}
+use Rattle.rtl_flat.specs.Flats.{flat}
 use Rattle.event_queue.specs.First.{driver_in}
 use Rattle.event_queue.specs.Tallying.{AreTallies}
 use Rattle.event_queue.proofs.Freshness.{fresh_is}

@@ -1,7 +1,8 @@
 use Rattle.std.proofs.Common.{ap, sym, subst}
 use Rattle.std.proofs.lemmas.Result.{IfOk-weaker}
 use Rattle.rtl_flat.specs.Value.{store}
-use Rattle.event_model.specs.Queue.{flat, settled_at}
+use Rattle.event_model.specs.Queue.{settled_at}
+use Rattle.rtl_flat.specs.Flats.{flat}
 use Rattle.event_tables.specs.event_write.Stored.{AreStored}
 use Rattle.event_queue.specs.First.{IsFirst, IsFresh, driver_in}
 use Rattle.event_queue.proofs.Freshness.{now_drivers_are, settled_first}

@@ -2,7 +2,8 @@ use Rattle.std.proofs.Common.{◌∙◌, ◌&&◌, ◌||◌, Bool, Option, Some,
 use Rattle.std.specs.Prelude.{◌==◌, nat_lt}
 use Rattle.std.proofs.lemmas.List.{length-map}
 use Rattle.rtl_flat.specs.Process.{Doing, doing, task}
-use Rattle.event_model.specs.Queue.{doing_at, flat, is_assignment}
+use Rattle.event_model.specs.Queue.{doing_at, is_assignment}
+use Rattle.rtl_flat.specs.Flats.{flat}
 use Rattle.event_take.proofs.Taking.{doing_here}
 use Rattle.event_queue.proofs.Starting.{all_of_them, one_more}
 use Rattle.event_queue.proofs.first_queue.wake_assignments.Goals as goal

@@ -4,7 +4,8 @@ use Rattle.std.proofs.lemmas.Option.{slice_get_read}
 use Rattle.rtl_bits.specs.declared.Bit.{Bit}
 use Rattle.rtl_bits.specs.declared.Bit.TheVariants.{Z}
 use Rattle.rtl_flat.specs.Process.{task}
-use Rattle.event_model.specs.Queue.{doing_at, flat, widths}
+use Rattle.event_model.specs.Queue.{doing_at}
+use Rattle.rtl_flat.specs.Flats.{flat, widths}
 use Rattle.event_model.specs.Writes.{put}
 use Rattle.event_tables.specs.event_write.QueueState.{AreTallied, HasWidth, driver_of}
 use Rattle.event_queue.specs.First.{driver_in}

@@ -1,5 +1,5 @@
 use Rattle.std.proofs.Common.{◌≡◌, length}
-use Rattle.event_model.specs.Queue.{flat}
+use Rattle.rtl_flat.specs.Flats.{flat}
 use Rattle.event_tables.specs.event_write.QueueState.{AreTallied}
 use Rattle.event_queue.specs.First.{driver_in}
 use Rattle.event_queue.proofs.Counted.{so_far}

@@ -2,7 +2,8 @@ use Rattle.std.proofs.Common.{◌≡◌, true, length, List, [], Bool, Some, ref
 use Rattle.std.specs.Vec.{with_item}
 use Rattle.std.proofs.lemmas.List.Elements.{All-head}
 use Rattle.event_model.specs.declared.setting.Setting.{Setting}
-use Rattle.event_model.specs.Queue.{is_input, widths}
+use Rattle.event_model.specs.Queue.{is_input}
+use Rattle.rtl_flat.specs.Flats.{widths}
 use Rattle.event_model.specs.Writes.{put}
 use Rattle.event_tables.specs.event_write.QueueState.{IsQueueState, design_of, state}
 use Rattle.event_queue.proofs.Offered.{input_within, offered_queue, offered_state}

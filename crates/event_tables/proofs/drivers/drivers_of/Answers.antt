@@ -1,7 +1,7 @@
 use Rattle.std.proofs.Common.{◌<◌, length, map, arith}
 use Rattle.rtl_flat.specs.Process.{task}
 use Rattle.event_write.proofs.rtl_scan_proofs.Processes.{length-tasks}
-use Rattle.event_model.specs.Queue.{flat}
+use Rattle.rtl_flat.specs.Flats.{flat}
 use Rattle.event_tables.proofs.Given.{driven_more}
 use Rattle.event_tables.proofs.drivers.drivers_of.Goals as goal
 

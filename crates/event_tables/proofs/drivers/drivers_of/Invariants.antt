@@ -1,4 +1,4 @@
-use Rattle.event_model.specs.Queue.{flat}
+use Rattle.rtl_flat.specs.Flats.{flat}
 use Rattle.event_tables.specs.Driving.{AreDriven}
 use Rattle.event_tables.proofs.drivers.drivers_of.Given as goal
 

@@ -6,7 +6,7 @@ use Rattle.rtl_flat.specs.Expression.{tree}
 use Rattle.rtl_flat.specs.Process.{piece, doing, task, body_of, action}
 use Rattle.event_write.specs.rtl_scan.Sets.{has_rows}
 use Rattle.event_write.proofs.rtl_scan_proofs.Processes.{task_at}
-use Rattle.event_model.specs.Queue.{flat, widths}
+use Rattle.rtl_flat.specs.Flats.{flat, widths}
 use Rattle.event_tables.specs.Hearing.{Hears}
 use Rattle.event_tables.proofs.Hearing.{items_ear, exact_reads, exact_lists, assignment_hears, star_hears, list_hears, edges_hear}
 use Rattle.event_tables.proofs.listeners.hear.Goals as goal

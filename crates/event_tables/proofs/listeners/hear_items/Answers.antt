@@ -1,6 +1,7 @@
 use Rattle.std.proofs.Common.{◌∙◌, ◌+◌, ◌∷◌, ◌&&◌, drop, ap, sym}
 use Rattle.std.proofs.lemmas.List.{drop_all}
-use Rattle.event_model.specs.Queue.{flat, happens, widths}
+use Rattle.event_model.specs.Queue.{happens}
+use Rattle.rtl_flat.specs.Flats.{flat, widths}
 use Rattle.event_tables.proofs.Ears.{left}
 use Rattle.event_tables.proofs.Hearing.{items_none, items_more}
 use Rattle.event_tables.proofs.listeners.hear_items.Goals as goal

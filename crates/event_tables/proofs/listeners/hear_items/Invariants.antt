@@ -1,7 +1,7 @@
 use Rattle.std.proofs.Common.{List, drop}
 use Rattle.std.specs.Prelude.{Vec}
 use Rattle.std.specs.declared.alloc.Global.{Global}
-use Rattle.event_model.specs.Queue.{flat, widths}
+use Rattle.rtl_flat.specs.Flats.{flat, widths}
 use Rattle.event_write.specs.declared.listener.Listener.{Listener}
 use Rattle.event_tables.specs.Hearing.{Hears}
 use Rattle.event_tables.proofs.Hearing.{items_ear}

@@ -1,4 +1,4 @@
-use Rattle.event_model.specs.Queue.{flat}
+use Rattle.rtl_flat.specs.Flats.{flat}
 use Rattle.event_tables.specs.Hearing.{AreHeard}
 use Rattle.event_tables.proofs.listeners.listeners_of.Given as goal
 

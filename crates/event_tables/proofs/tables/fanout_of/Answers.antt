@@ -1,6 +1,6 @@
 use Rattle.std.proofs.Common.{ℕ, length, subst}
 use Rattle.event_write.proofs.rtl_scan_proofs.Processes.{length-tasks}
-use Rattle.event_model.specs.Queue.{flat}
+use Rattle.rtl_flat.specs.Flats.{flat}
 use Rattle.event_tables.specs.Hearing.{AreHeard}
 use Rattle.event_tables.specs.Driving.{AreDriven}
 use Rattle.event_tables.proofs.Hearing.{all_hear}

@@ -8,7 +8,8 @@ use Rattle.rtl_flat.specs.Process.{task}
 use Rattle.rtl_flat.specs.Signs.{width_in}
 use Rattle.event_write.proofs.rtl_scan_proofs.Labels.{left_at}
 use Rattle.event_write.proofs.rtl_scan_proofs.Processes.{widths_fit}
-use Rattle.event_model.specs.Queue.{doing_at, widths}
+use Rattle.event_model.specs.Queue.{doing_at}
+use Rattle.rtl_flat.specs.Flats.{widths}
 use Rattle.event_write.specs.QueueState.{design_of, driven_with, resolved_by, row, state}
 use Rattle.event_write.proofs.Targets.{some_bits}
 use Rattle.event_write.proofs.Writing.{row_at}

@@ -1,7 +1,8 @@
 use Rattle.std.proofs.Common.{◌<◌, ◌+◌, ◌∙◌, List, sym, subst, arith}
 use Rattle.rtl_bits.specs.Bits.{selected}
 use Rattle.event_write.proofs.rtl_scan_proofs.Processes.{widths_fit}
-use Rattle.event_model.specs.Queue.{resolved, widths}
+use Rattle.event_model.specs.Queue.{resolved}
+use Rattle.rtl_flat.specs.Flats.{widths}
 use Rattle.event_write.specs.event_tally.declared.tally.Tally.{Tally}
 use Rattle.event_write.specs.event_tally.Given as tally
 use Rattle.event_write.specs.event_tally.Tallies.{IsTalliedAt}

@@ -6,7 +6,7 @@ use Rattle.rtl_bits.specs.declared.Bit.TheVariants.{Z}
 use Rattle.rtl_flat.specs.declared.act.TargetPart.{TargetPart}
 use Rattle.rtl_flat.specs.Process.{piece, selection}
 use Rattle.event_write.proofs.rtl_scan_proofs.Labels.{left_at}
-use Rattle.event_model.specs.Queue.{flat, widths}
+use Rattle.rtl_flat.specs.Flats.{flat, widths}
 use Rattle.event_model.specs.Writes.{driven, put}
 use Rattle.event_write.specs.event_tally.Given.{AreCounted}
 use Rattle.event_write.specs.event_tally.Tallies.{IsTalliedAt}

@@ -1,7 +1,7 @@
 use Rattle.std.proofs.Common.{ℕ, ◌≡◌, List, drop, length, map}
 use Rattle.rtl_bits.specs.declared.Bit.{Bit}
 use Rattle.rtl_flat.specs.Process.{piece}
-use Rattle.event_model.specs.Queue.{flat}
+use Rattle.rtl_flat.specs.Flats.{flat}
 use Rattle.event_write.specs.QueueState.{AreTallied}
 use Rattle.event_take.proofs.Retallying.{Half}
 use Rattle.event_take.proofs.tallies.move_parts.Given as goal

@@ -5,7 +5,8 @@ use Rattle.rtl_flat.specs.Expression.{tree}
 use Rattle.rtl_flat.specs.Process.{Assign, Doing, doing, piece}
 use Rattle.rtl_flat.specs.Signs.{width_in}
 use Rattle.rtl_flat.specs.WellFormed.{IsProcess}
-use Rattle.event_model.specs.Queue.{doing_at, flat}
+use Rattle.event_model.specs.Queue.{doing_at}
+use Rattle.rtl_flat.specs.Flats.{flat}
 use Rattle.event_model.specs.Writes.{counts}
 use Rattle.event_write.specs.event_tally.Targets.{drives_of}
 use Rattle.event_write.proofs.event_tally_proofs.Counting.{counted_apart}

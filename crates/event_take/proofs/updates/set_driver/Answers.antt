@@ -5,7 +5,8 @@ use Rattle.std.proofs.lemmas.Option.{slice_get_read}
 use mathlib.Core.Path.{fun_ext}
 use Rattle.rtl_bits.specs.declared.Bit.{Bit}
 use Rattle.rtl_flat.specs.Process.{task}
-use Rattle.event_model.specs.Queue.{doing_at, widths}
+use Rattle.event_model.specs.Queue.{doing_at}
+use Rattle.rtl_flat.specs.Flats.{widths}
 use Rattle.event_write.specs.QueueState.{AreTallied, HasWidth, design_of, driver_of, state}
 use Rattle.event_take.proofs.Driving.{driver_put, driver_widths_put}
 use Rattle.event_take.proofs.updates.set_driver.Goals as goal

@@ -10,7 +10,8 @@ use Rattle.rtl_flat.specs.Signs.{width_in}
 use Rattle.rtl_flat.specs.Value.{store}
 use Rattle.rtl_flat.specs.WellFormed.{IsFixed, IsProcess}
 use Rattle.rank_set.proofs.Law.{member_within}
-use Rattle.event_model.specs.Queue.{State, after_update, doing_at, drive, net_writes, resolved, widths, write_all}
+use Rattle.event_model.specs.Queue.{State, after_update, doing_at, drive, net_writes, resolved, write_all}
+use Rattle.rtl_flat.specs.Flats.{widths}
 use Rattle.event_model.specs.Writes.{put}
 use Rattle.event_write.specs.Entries.{AreSelected}
 use Rattle.event_write.specs.QueueState.{HasWidth, design_of, held, state}

@@ -6,7 +6,8 @@ use Rattle.rtl_bits.specs.Bits.{replaced}
 use Rattle.rtl_flat.specs.Value.{store}
 use Rattle.rank_set.specs.Ranks.{flag}
 use Rattle.event_model.specs.Writes.{Write, put, written}
-use Rattle.event_model.specs.Queue.{hears, doing_at, widths}
+use Rattle.event_model.specs.Queue.{hears, doing_at}
+use Rattle.rtl_flat.specs.Flats.{widths}
 use Rattle.event_write.specs.declared.listener.Listener.{Listener}
 use Rattle.event_write.specs.Listeners.{AreBelow, heard_by}
 use Rattle.event_write.specs.QueueState.{design_of, row, state}

@@ -1,6 +1,6 @@
 use Rattle.std.proofs.Common.{◌∙◌, ◌<◌, ◌≤◌, length, sym, arith}
 use Rattle.rtl_flat.specs.Process.{task}
-use Rattle.rtl_rule.specs.Parts.{parts}
+use Rattle.rtl_flat.specs.Flats.{flat}
 use Rattle.net_list.proofs.check_found_proofs.Sites.{task_at, task_count}
 use Rattle.net_list.proofs.check_assign_proofs.Turns.{lower_none, task_of}
 use Rattle.infer_latches.proofs.Below.{alone_all, alone_next, least_at, single, waiting}
@@ -10,7 +10,7 @@ use Rattle.infer_latches.proofs.alone.blocks.Goals.{else-again-via-then-again+el
 pub loop-number-init : goal.loop-number-init
 loop-number-init c =
     record {
-      lower = λ s k. c.new-lower.ensures s k ∙ sym (lower_none (parts c.args.design.now) s k);
+      lower = λ s k. c.new-lower.ensures s k ∙ sym (lower_none (flat c.args.design.now) s k);
       alone = λ p below h. absurd (omega (arith, below));
     }
 
@@ -20,12 +20,12 @@ returns-then-not-waits-clause-least c =
     let n = c.loop-number.number in
     let process = c.index.result.now in
     let below : n < length design.processes.items = omega arith in
-    least_at (parts design) n (task process) (task_at design n process below c.index.ensures) c.in_ok-again.again c.in_ok-again.ensures.again c.loop-number.invariant.alone c.if-again.true (sym c.waits.ensures ∙ c.if-not-waits.true)
+    least_at (flat design) n (task process) (task_at design n process below c.index.ensures) c.in_ok-again.again c.in_ok-again.ensures.again c.loop-number.invariant.alone c.if-again.true (sym c.waits.ensures ∙ c.if-not-waits.true)
 
 pub loop-number-preserved : goal.loop-number-preserved
 loop-number-preserved c =
     let design = c.args.design.now in
-    let d = parts design in
+    let d = flat design in
     let n = c.loop-number.number in
     let below : n < length design.processes.items = omega arith in
     record {
@@ -42,7 +42,7 @@ loop-number-preserved c =
 pub invariant_of-result : goal.invariant_of-result
 invariant_of-result c =
     let design = c.args.design.now in
-    let d = parts design in
+    let d = flat design in
     let count = task_count design in
     let past : length d.tasks ≤ c.loop-number.number = omega arith in
     record { alone = alone_all d c.loop-number.number c.loop-number.invariant.alone past }

@@ -2,7 +2,7 @@ use Rattle.std.proofs.Common.{◌≡◌, ◌∙◌, Some, List, map, refl, sym, 
 use Rattle.std.specs.List.{All}
 use Rattle.std.specs.Option.{IsSomeAnd}
 use Rattle.rtl_flat.specs.Process.{Task}
-use Rattle.rtl_rule.specs.Parts.{parts}
+use Rattle.rtl_flat.specs.Flats.{flat}
 use Rattle.net_list.specs.rtl_scan.Arrows.{Among}
 use Rattle.net_list.specs.rtl_scan.Graph.{row}
 use Rattle.net_list.proofs.check_assign_proofs.Turns.{task_of}
@@ -18,7 +18,7 @@ use Rattle.infer_regs.proofs.clocked.clocked_of.Goals as goal
 
 pub returns-then-is_some : goal.returns-then-is_some
 returns-then-is_some c =
-    let d = parts c.args.design.now in
+    let d = flat c.args.design.now in
     let p = c.args.p.0 in
     let (t, there) = task_of c.args.design.now p c.requires.there in
     let (rule, fault) = judged_some d p t c.in_ok-first_broken.field-0 (sym c.is_some.ensures ∙ c.if-is_some.true) (c.in_ok-first_broken.ensures t there) in
@@ -29,7 +29,7 @@ returns-in_default c =
     let design = c.args.design.now in
     let p = c.args.p.0 in
     let (t, there) = task_of design p c.requires.there in
-    let none = judged_not (parts design) p t c.in_ok-first_broken.field-0 (sym c.is_some.ensures ∙ c.if-is_some.false) (c.in_ok-first_broken.ensures t there) in
+    let none = judged_not (flat design) p t c.in_ok-first_broken.field-0 (sym c.is_some.ensures ∙ c.if-is_some.false) (c.in_ok-first_broken.ensures t there) in
     absurd (chain_there design p c.index.result.now c.requires.there c.index.ensures t there c.requires.waits none c.in_ok-chain.field-0 c.in_ok-chain.ensures c.in_default.not-Some)
 
 pub top_of-clock-requires : goal.top_of-clock-requires
@@ -37,7 +37,7 @@ top_of-clock-requires c =
     let design = c.args.design.now in
     let p = c.args.p.0 in
     let (t, there) = task_of design p c.requires.there in
-    let none = judged_not (parts design) p t c.in_ok-first_broken.field-0 (sym c.is_some.ensures ∙ c.if-is_some.false) (c.in_ok-first_broken.ensures t there) in
+    let none = judged_not (flat design) p t c.in_ok-first_broken.field-0 (sym c.is_some.ensures ∙ c.if-is_some.false) (c.in_ok-first_broken.ensures t there) in
     let x = c.index.result.now in
     let is = chain_is design p x c.requires.there c.index.ensures t there c.in_ok-chain.field-0 c.in_ok-chain.ensures c.in-Some.chain c.in-Some.is in
     let both = topped design p x c.requires.there c.index.ensures t there c.requires.waits none c.args.facts.now.tops.items c.requires.facts.tops_are (chain_view c.in-Some.chain) is in
@@ -48,7 +48,7 @@ reset_tops-requires c =
     let design = c.args.design.now in
     let p = c.args.p.0 in
     let (t, there) = task_of design p c.requires.there in
-    let none = judged_not (parts design) p t c.in_ok-first_broken.field-0 (sym c.is_some.ensures ∙ c.if-is_some.false) (c.in_ok-first_broken.ensures t there) in
+    let none = judged_not (flat design) p t c.in_ok-first_broken.field-0 (sym c.is_some.ensures ∙ c.if-is_some.false) (c.in_ok-first_broken.ensures t there) in
     let x = c.index.result.now in
     let tops = c.args.facts.now.tops.items in
     let is = chain_is design p x c.requires.there c.index.ensures t there c.in_ok-chain.field-0 c.in_ok-chain.ensures c.in-Some.chain c.in-Some.is in
@@ -60,7 +60,7 @@ reset_tops-requires c =
 pub returns : goal.returns
 returns c =
     let design = c.args.design.now in
-    let d = parts design in
+    let d = flat design in
     let p = c.args.p.0 in
     let (t, there) = task_of design p c.requires.there in
     let x = c.index.result.now in

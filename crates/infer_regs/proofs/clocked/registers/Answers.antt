@@ -2,7 +2,7 @@ use Rattle.std.proofs.Common.{◌≡◌, ◌∙◌, ◌<◌, ◌≤◌, ◌+◌,
 use Rattle.std.specs.Option.{IsSomeAnd}
 use Rattle.rtl_flat.specs.Process.{Task, task}
 use Rattle.rtl_rule.specs.declared.rule.Rule.TheVariants.{SeveralDrivers}
-use Rattle.rtl_rule.specs.Parts.{parts}
+use Rattle.rtl_flat.specs.Flats.{flat}
 use Rattle.net_list.proofs.check_found_proofs.Sites.{task_at, task_count}
 use Rattle.net_list.specs.check_assign.Assigned.{is_clocked}
 use Rattle.net_list.proofs.check_assign_proofs.Turns.{lower_none}
@@ -14,7 +14,7 @@ use Rattle.infer_regs.proofs.clocked.registers.Goals.{then-again-via-then-again,
 
 pub loop-number-init : goal.loop-number-init
 loop-number-init c =
-    let d = parts c.args.design.now in
+    let d = flat c.args.design.now in
     record {
       lower = λ s k. c.new-lower.ensures s k ∙ sym (lower_none d s k);
       taken = taken_none d c.new-clocked.result.items c.new-clocked.ensures.items;
@@ -30,7 +30,7 @@ take-requires-clause-waits c =
 pub returns-then-again-clause-least : goal.returns-then-again-clause-least
 returns-then-again-clause-least c =
     let design = c.args.design.now in
-    let d = parts design in
+    let d = flat design in
     let n = c.loop-number.number in
     let below : n < length design.processes.items = omega arith in
     let x = c.index.result.now in
@@ -45,7 +45,7 @@ returns-then-again-clause-least c =
 pub loop-number-preserved : goal.loop-number-preserved
 loop-number-preserved c =
     let design = c.args.design.now in
-    let d = parts design in
+    let d = flat design in
     let n = c.loop-number.number in
     let below : n < length design.processes.items = omega arith in
     let x = c.index.result.now in
@@ -68,7 +68,7 @@ loop-number-preserved c =
 pub invariant_of-result : goal.invariant_of-result
 invariant_of-result c =
     let design = c.args.design.now in
-    let d = parts design in
+    let d = flat design in
     let count = task_count design in
     let n = c.loop-number.number in
     let past : length d.tasks ≤ n = omega arith in

@@ -1,6 +1,6 @@
 use Rattle.std.proofs.Common.{◌≡◌, ◌∙◌, List, Option, None, Some, map, refl, sym, ap}
 use Rattle.net_model.specs.Cycle.{Guard}
-use Rattle.rtl_rule.specs.Parts.{parts}
+use Rattle.rtl_flat.specs.Flats.{flat}
 use Rattle.net_list.specs.check_chains.declared.chain.Guard as code
 use Rattle.net_list.specs.check_chains.Views.{chain_view, guard_view}
 use Rattle.infer_regs.proofs.Faults.{below_of}
@@ -13,7 +13,7 @@ returns-in-Some-2 c = λ t there.
     let p = c.args.p.0 in
     let below = below_of design p c.requires in
     let chain = c.in-Some-2.chain in (
-      judged_none (parts design) p t c.in_ok-rule.field-0 c.in_default.not-Some (c.in_ok-rule.ensures t there),
+      judged_none (flat design) p t c.in_ok-rule.field-0 c.in_default.not-Some (c.in_ok-rule.ensures t there),
       record {
         chain = chain_view chain;
         is_chain = chain_is design p c.index.result.now below c.index.ensures t there c.in_ok-chain.field-0 c.in_ok-chain.ensures chain c.in-Some-2.is;
@@ -27,7 +27,7 @@ returns c = λ t there.
     let design = c.args.design.now in
     let p = c.args.p.0 in
     let below = below_of design p c.requires in
-    let none = judged_none (parts design) p t c.in_ok-rule.field-0 c.in_default.not-Some (c.in_ok-rule.ensures t there) in
+    let none = judged_none (flat design) p t c.in_ok-rule.field-0 c.in_default.not-Some (c.in_ok-rule.ensures t there) in
     absurd (chain_there design p c.index.result.now below c.index.ensures t there c.requires none c.in_ok-chain.field-0 c.in_ok-chain.ensures (λ chain some. none_some c.in_ok-chain.field-0 chain c.in-None.is some))
   where
     none_some : {A : Type 0} (o : Option A) (x : A) → o ≡ None → o ≡ Some x → ⊥

@@ -5,7 +5,7 @@ use Rattle.std.proofs.lemmas.List.{length-replicate, map-append}
 use Rattle.rtl_flat.specs.declared.act.Process.{Process}
 use Rattle.rtl_flat.specs.declared.expr.SigId.{SigId}
 use Rattle.rtl_flat.specs.Process.{doing}
-use Rattle.rtl_rule.specs.Parts.{parts}
+use Rattle.rtl_flat.specs.Flats.{flat}
 use Rattle.net_list.specs.check_clocks.Cone.{AreEdgeMarks, ArePassing, ReachesMarked, waited}
 use Rattle.net_list.specs.check_clocks.Links.{AreRows}
 use Rattle.net_list.specs.check_clocks.Tops.{AreMarkedAlso}
@@ -17,10 +17,10 @@ use Rattle.infer_regs.proofs.inputs.controls.Goals.{then-is_top+in_ok-reaches_ma
 
 pub loop-number-preserved : goal.loop-number-preserved
 loop-number-preserved c =
-    let d = parts c.args.design.now in
+    let d = flat c.args.design.now in
     let count : c.len-count.result ≡ length d.signals = c.len-count.ensures ∙ c.args.design.now.signals.ok.0 in
     let links = c.in_ok-links.links.items in
-    let passing = subst (λ d. ArePassing (parts d) (length (parts d).tasks) links) c.in_ok-scans.ensures.design c.in_ok-links.ensures in
+    let passing = subst (λ d. ArePassing (flat d) (length (flat d).tasks) links) c.in_ok-scans.ensures.design c.in_ok-links.ensures in
     let rows = c.in_ok-rows.rows.items in
     let are : AreRows (length d.signals) links rows =
     subst (λ n. AreRows n links rows) count (subst (λ l. AreRows c.len-count.result l rows) c.deref.ensures.value c.in_ok-rows.ensures) in
@@ -58,7 +58,7 @@ loop-number-preserved c =
 
 pub returns : goal.returns
 returns c =
-    let d = parts c.args.design.now in
+    let d = flat c.args.design.now in
     let count : c.len-count.result ≡ length d.signals = c.len-count.ensures ∙ c.args.design.now.signals.ok.0 in
     let past : length d.signals ≤ c.loop-number.number = omega (arith, count) in
     all_controls d c.loop-number.number (map (λ (one : SigId). one.0) c.loop-number.found.items) c.loop-number.invariant past

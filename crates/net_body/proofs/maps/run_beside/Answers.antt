@@ -5,7 +5,7 @@ use Rattle.rtl_bits.specs.Bits.{tabulate}
 use Rattle.rtl_flat.specs.Process.{action, body_of}
 use Rattle.rtl_flat.specs.Signs.{width_in}
 use Rattle.rtl_flat.specs.Value.{store}
-use Rattle.event_model.specs.Queue.{flat}
+use Rattle.rtl_flat.specs.Flats.{flat}
 use Rattle.event_model.specs.Writes.{Values}
 use Rattle.net_model.specs.Block.{Maps, acts, begun, block_bit}
 use Rattle.net_body.specs.Ends.{Ending, changed, ending}

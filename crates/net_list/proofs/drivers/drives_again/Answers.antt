@@ -2,7 +2,8 @@ use Rattle.std.proofs.Common.{◌≡◌, ◌∙◌, ◌||◌, true, List, ap, sy
 use Rattle.std.specs.Prelude.{◌↔◌}
 use Rattle.std.specs.List.{list_any}
 use Rattle.rtl_rule.specs.declared.rule.Rule.TheVariants.{SeveralDrivers}
-use Rattle.rtl_rule.specs.Parts.{parts, written}
+use Rattle.rtl_rule.specs.Parts.{written}
+use Rattle.rtl_flat.specs.Flats.{flat}
 use Rattle.check_assign.specs.rtl_scan.declared.bits.Row.{Row}
 use Rattle.check_assign.specs.rtl_scan.Sets.{has, has_rows, mask_of}
 use Rattle.check_assign.specs.Marks.{shares}
@@ -13,7 +14,7 @@ use Rattle.net_list.proofs.drivers.drives_again.Goals as goal
 
 pub returns-clause-again : goal.returns-clause-again
 returns-clause-again c =
-    let d = parts c.args.design.now in
+    let d = flat c.args.design.now in
     let p = c.args.p.0 in
     let (one, there) = task_of c.args.design.now p c.requires.inside in
     let masks = mask_of c.args.lower.now.masks in
@@ -23,7 +24,7 @@ returns-clause-again c =
 
 pub returns-clause-lower : goal.returns-clause-lower
 returns-clause-lower c = λ s k.
-    let d = parts c.args.design.now in
+    let d = flat c.args.design.now in
     let p = c.args.p.0 in
     let (one, there) = task_of c.args.design.now p c.requires.inside in
     let old = has c.args.lower.now.masks s k in

@@ -1,6 +1,6 @@
 use Rattle.std.proofs.Common.{◌≡◌, ◌∙◌, true, false, Some, sym, ap}
 use Rattle.rtl_flat.specs.Process.{Task, task}
-use Rattle.rtl_rule.specs.Parts.{parts, widths}
+use Rattle.rtl_flat.specs.Flats.{flat, widths}
 use Rattle.check_found.specs.rtl_scan.Arrows.{is_node}
 use Rattle.check_found.specs.rtl_scan.Sets.{has_rows}
 use Rattle.check_found.proofs.Sites.{task_at}
@@ -9,7 +9,7 @@ use Rattle.net_order.proofs.feeds.feeders.Goals as goal
 
 pub returns-then-not-is_node : goal.returns-then-not-is_node
 returns-then-not-is_node c = λ one there.
-    let d = parts c.args.design.now in
+    let d = flat c.args.design.now in
     let q = c.args.q.0 in
     let process = c.index.result.now in
     let at : Some one ≡ Some (task process) = sym there ∙ task_at c.args.design.now q process c.requires c.index.ensures in
@@ -21,7 +21,7 @@ returns-then-not-is_node c = λ one there.
 
 pub returns : goal.returns
 returns c = λ one there.
-    let d = parts c.args.design.now in
+    let d = flat c.args.design.now in
     let q = c.args.q.0 in
     let process = c.index.result.now in
     let at : Some one ≡ Some (task process) = sym there ∙ task_at c.args.design.now q process c.requires c.index.ensures in

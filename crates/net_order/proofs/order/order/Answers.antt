@@ -1,7 +1,6 @@
 use Rattle.std.proofs.Common.{◌<◌, ◌^◌, ℕ, List, Option, length, subst, sym, arith}
 use Rattle.rtl_flat.specs.declared.expr.SigId.{SigId}
-use Rattle.rtl_rule.specs.Parts.{parts}
-use Rattle.event_model.specs.Queue.{flat}
+use Rattle.rtl_flat.specs.Flats.{flat}
 use Rattle.check_found.specs.rtl_scan.Graph.{AreRows}
 use Rattle.check_found.proofs.Sites.{task_count}
 use Rattle.net_order.specs.Feeds.{IsLeastOf, IsLost, IsRanked}
@@ -12,7 +11,7 @@ use Rattle.net_order.proofs.order.order.Goals as goal
 
 pub depths-requires : goal.depths-requires
 depths-requires c =
-    let d = parts c.args.design.now in
+    let d = flat c.args.design.now in
     let len = task_count c.args.design.now in
     let small : length d.tasks < 2 ^ 32 = omega arith in
     subst (λ rows. AreRows rows) (sym c.deref.ensures.value) (rows_of_feeds d.signals d.tasks c.in_ok-rows.rows.items c.in_ok-rows.ensures small)

@@ -1,6 +1,6 @@
-use Rattle.rtl_rule.specs.Parts.{parts}
+use Rattle.rtl_flat.specs.Flats.{flat}
 use Rattle.net_order.specs.Feeds.{ArePlaced}
 use Rattle.net_order.proofs.rank.places.Given as goal
 
 abbrev pub invariant-loop-number : goal.invariant-loop-number
-invariant-loop-number l = ArePlaced (parts l.design).tasks l.depths l.number l.found.items
+invariant-loop-number l = ArePlaced (flat l.design).tasks l.depths l.number l.found.items

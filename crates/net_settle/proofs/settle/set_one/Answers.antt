@@ -1,6 +1,6 @@
 use Rattle.std.proofs.Common.{sym, subst}
 use Rattle.rtl_flat.specs.Value.{store}
-use Rattle.event_model.specs.Queue.{flat}
+use Rattle.rtl_flat.specs.Flats.{flat}
 use Rattle.net_model.specs.Numbers.{AreNumbers}
 use Rattle.net_settle.proofs.Able.{able_after}
 use Rattle.net_settle.specs.Settle.{setting_view}

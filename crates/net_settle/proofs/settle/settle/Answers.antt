@@ -1,6 +1,6 @@
 use Rattle.std.proofs.Common.{map, sym, subst}
 use Rattle.rtl_flat.specs.Value.{store}
-use Rattle.event_model.specs.Queue.{flat}
+use Rattle.rtl_flat.specs.Flats.{flat}
 use Rattle.net_model.specs.Cycle.{given_after}
 use Rattle.net_solve.specs.Laws.{AreApart, IsOrder}
 use Rattle.net_settle.specs.Work.{Solves, numbers_of}

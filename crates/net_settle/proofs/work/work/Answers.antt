@@ -3,7 +3,7 @@ use Rattle.std.proofs.lemmas.List.{length-map}
 use Rattle.rtl_flat.specs.declared.act.ProcId.{ProcId}
 use Rattle.rtl_flat.specs.Levels.{IsNode}
 use Rattle.rtl_flat.specs.Value.{store}
-use Rattle.event_model.specs.Queue.{flat}
+use Rattle.rtl_flat.specs.Flats.{flat}
 use Rattle.net_solve.specs.Laws.{AreDone, IsWorked, place}
 use Rattle.net_solve.proofs.Worked.{worked}
 use Rattle.net_settle.specs.Work.{numbers_of}

@@ -1,6 +1,6 @@
 use Rattle.std.proofs.Common.{◌≡◌}
 use Rattle.rtl_flat.specs.Value.{store}
-use Rattle.event_model.specs.Queue.{flat}
+use Rattle.rtl_flat.specs.Flats.{flat}
 use Rattle.net_solve.specs.Laws.{AreDone}
 use Rattle.net_settle.specs.Work.{IsAble, numbers_of}
 use Rattle.net_settle.proofs.work.work.Given as goal

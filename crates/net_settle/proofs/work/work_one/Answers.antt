@@ -6,7 +6,7 @@ use Rattle.rtl_flat.specs.Process.{Assign, Comb, Edge', action, body_of, doing, 
 use Rattle.rtl_flat.specs.Value.{store}
 use Rattle.rtl_flat.specs.WellFormed.{IsBody}
 use Rattle.net_body.specs.Ready.{HasRoom}
-use Rattle.event_model.specs.Queue.{flat, widths}
+use Rattle.rtl_flat.specs.Flats.{flat, widths}
 use Rattle.net_model.specs.Block.{block_bit}
 use Rattle.net_solve.proofs.Same.{of_node}
 use Rattle.net_settle.proofs.Able.{able_after, doing_there, node_below}

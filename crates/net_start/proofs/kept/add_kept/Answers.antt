@@ -3,7 +3,7 @@ use Rattle.std.specs.List.{slice_get}
 use Rattle.std.proofs.lemmas.Result.{IfOk-weaker}
 use Rattle.rtl_flat.specs.declared.act.Does.{Does}
 use Rattle.rtl_flat.specs.Process.{doing, task}
-use Rattle.event_model.specs.Queue.{flat}
+use Rattle.rtl_flat.specs.Flats.{flat}
 use Rattle.check_found.specs.rtl_scan.Sets.{has}
 use Rattle.check_found.proofs.Sites.{task_at}
 use Rattle.net_start.proofs.Keeping.{comb, edged, kept_comb, kept_edge}

@@ -1,5 +1,5 @@
 use Rattle.std.proofs.Common.{◌∙◌, ◌<◌, ◌||◌, length, sym, ap, arith}
-use Rattle.event_model.specs.Queue.{flat}
+use Rattle.rtl_flat.specs.Flats.{flat}
 use Rattle.check_found.proofs.Sites.{task_count}
 use Rattle.net_start.specs.Kept.{kept_by}
 use Rattle.net_start.proofs.Keeping.{kept_next, there_is}

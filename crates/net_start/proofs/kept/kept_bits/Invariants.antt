@@ -1,5 +1,5 @@
 use Rattle.std.proofs.Common.{◌≡◌, ℕ}
-use Rattle.event_model.specs.Queue.{flat}
+use Rattle.rtl_flat.specs.Flats.{flat}
 use Rattle.check_found.specs.rtl_scan.Sets.{has}
 use Rattle.net_start.specs.Kept.{kept_below}
 use Rattle.net_start.proofs.kept.kept_bits.Given as goal

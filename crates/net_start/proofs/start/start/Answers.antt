@@ -5,7 +5,7 @@ use Rattle.rtl_bits.specs.declared.Bit.{Bit}
 use Rattle.rtl_flat.specs.declared.expr.SigId.{SigId}
 use Rattle.rtl_flat.specs.Value.{store}
 use Rattle.check_found.proofs.rtl_scan_proofs.Users.{written_back}
-use Rattle.event_model.specs.Queue.{flat}
+use Rattle.rtl_flat.specs.Flats.{flat}
 use Rattle.net_start.specs.Listing.{AreGiven, AreMasked}
 use Rattle.net_start.specs.Start.{IsStart}
 use Rattle.net_start.specs.Stored.{places}

@@ -3,7 +3,7 @@ use Rattle.std.specs.Prelude.{◌↔◌, ◌==◌}
 use Rattle.std.specs.List.{slice_get}
 use Rattle.rtl_bits.specs.Bits.{is_one_at}
 use Rattle.rtl_flat.specs.PathSets.{IsTemporary}
-use Rattle.event_model.specs.Queue.{flat}
+use Rattle.rtl_flat.specs.Flats.{flat}
 use Rattle.check_found.proofs.Sites.{read_at}
 use Rattle.net_start.specs.Stored.{IsStored, places}
 use Rattle.net_start.proofs.Listed.{all_below, few_more, next_below}

@@ -1,5 +1,5 @@
 use Rattle.std.proofs.Common.{◌≤◌, length}
-use Rattle.event_model.specs.Queue.{flat}
+use Rattle.rtl_flat.specs.Flats.{flat}
 use Rattle.net_start.specs.Listing.{AreBelow}
 use Rattle.net_start.specs.Stored.{IsStored, places}
 use Rattle.net_start.proofs.stored.stored.Given as goal

@@ -1,6 +1,7 @@
 use Rattle.std.proofs.Common.{◌≡◌, ◌∙◌, ◌≤◌, length, refl, sym, arith}
 use Rattle.std.specs.Prelude.{IsTrue}
-use Rattle.event_model.specs.Queue.{flat, is_input}
+use Rattle.event_model.specs.Queue.{is_input}
+use Rattle.rtl_flat.specs.Flats.{flat}
 use Rattle.net_start.specs.Stored.{places}
 use Rattle.net_start.proofs.Listed.{all_below, few_more, next_below}
 use Rattle.net_start.proofs.Started.{top_there}

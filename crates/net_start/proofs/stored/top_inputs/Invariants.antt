@@ -1,6 +1,7 @@
 use Rattle.std.proofs.Common.{◌≤◌, length}
 use Rattle.std.specs.Prelude.{IsTrue}
-use Rattle.event_model.specs.Queue.{flat, is_input}
+use Rattle.event_model.specs.Queue.{is_input}
+use Rattle.rtl_flat.specs.Flats.{flat}
 use Rattle.net_start.specs.Listing.{AreBelow}
 use Rattle.net_start.specs.Stored.{places}
 use Rattle.net_start.proofs.stored.top_inputs.Given as goal

@@ -2,7 +2,7 @@ use Rattle.std.proofs.Common.{◌≡◌, ◌∙◌, List, length, sym, subst}
 use Rattle.std.proofs.Math.Path.{fun_ext}
 use Rattle.rtl_bits.specs.declared.Bit.{Bit}
 use Rattle.rtl_flat.specs.Value.{store}
-use Rattle.event_model.specs.Queue.{flat}
+use Rattle.rtl_flat.specs.Flats.{flat}
 use Rattle.net_turn.specs.Runs.{ArePut, AreRuns, runs_of, turned}
 use Rattle.net_turn.proofs.take.take.Goals as goal
 

@@ -4,7 +4,7 @@ use Rattle.std.proofs.lemmas.List.{get_or-map, length-map}
 use Rattle.std.proofs.lemmas.List.Elements.{All-get_or}
 use Rattle.rtl_bits.specs.Bits.{tabulate}
 use Rattle.rtl_flat.specs.Value.{store}
-use Rattle.event_model.specs.Queue.{flat, widths}
+use Rattle.rtl_flat.specs.Flats.{flat, widths}
 use Rattle.net_model.specs.Numbers.{AreNumbers}
 use Rattle.net_list.specs.declared.clocked.Clocked.{Clocked}
 use Rattle.net_settle.proofs.Lawful.{lawful_flat}

@@ -3,7 +3,7 @@ use Rattle.std.proofs.Math.Path.{fun_ext}
 use Rattle.rtl_bits.specs.Bits.{tabulate}
 use Rattle.rtl_flat.specs.Process.{Actions}
 use Rattle.rtl_flat.specs.Value.{store}
-use Rattle.event_model.specs.Queue.{flat, widths}
+use Rattle.rtl_flat.specs.Flats.{flat, widths}
 use Rattle.net_model.specs.Numbers.{AreNumbers}
 use Rattle.net_settle.specs.net_body.Ends.{changed}
 use Rattle.net_settle.proofs.Able.{able_after}

@@ -2,7 +2,7 @@ use Rattle.std.proofs.Common.{◌≡◌, ◌∙◌, ◌<◌, [], ◌∷◌, Some
 use Rattle.std.specs.List.{All}
 use Rattle.std.proofs.lemmas.List.Elements.{All-cons, All-nil}
 use Rattle.rtl_flat.specs.Value.{store}
-use Rattle.event_model.specs.Queue.{flat, widths}
+use Rattle.rtl_flat.specs.Flats.{flat, widths}
 use Rattle.event_model.specs.Writes.{put}
 use Rattle.net_model.specs.Numbers.{AreNumbers}
 use Rattle.net_settle.specs.Settle.{SetsInput, setting_view}

@@ -1,7 +1,7 @@
 use Rattle.std.proofs.Common.{◌≡◌, ◌∙◌, Bool, false, List, ap, length, replicate, subst, sym, rules}
 use Rattle.std.specs.Prelude.{◌↔◌, true, slice_index_or, ℕ}
 use Rattle.std.proofs.lemmas.List.{length-replicate}
-use Rattle.event_model.specs.Queue.{flat}
+use Rattle.rtl_flat.specs.Flats.{flat}
 use Rattle.net_model.specs.Control.{IsControl}
 use Rattle.net_start.specs.Stored.{places}
 use Rattle.infer_regs.specs.check_clocks.Tops.{AreMarkedAlso}

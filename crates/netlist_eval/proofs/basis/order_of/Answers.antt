@@ -1,5 +1,5 @@
 use Rattle.std.proofs.Common.{subst}
-use Rattle.event_model.specs.Queue.{flat}
+use Rattle.rtl_flat.specs.Flats.{flat}
 use Rattle.net_order.specs.declared.order.Ranking.{Ranking}
 use Rattle.net_order.specs.Order.{IsRanking}
 use Rattle.net_turn.specs.net_settle.Work.{numbers_of}

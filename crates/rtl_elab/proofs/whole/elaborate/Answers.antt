@@ -3,7 +3,7 @@ use Rattle.std.specs.Prelude.{IfErr, IfOk}
 use Rattle.elab_lawful.specs.elab_scope.Faults.{answer}
 use Rattle.elab_lawful.specs.elab_walk.Trails.{IsTold}
 use Rattle.elab_lawful.specs.elab_walk.Visits.{Library}
-use Rattle.rtl_elab.specs.Designs.{flat_in}
+use Rattle.rtl_flat.specs.Flats.{flat_in}
 use Rattle.rtl_elab.specs.Elaborated.{elaborated, refused}
 use Rattle.rtl_elab.proofs.Libraries.{library_is}
 use Rattle.rtl_elab.proofs.whole.elaborate.Goals as goal

@@ -1,5 +1,5 @@
 use Rattle.std.proofs.Common.{◌≡◌, []}
-use Rattle.event_model.specs.Queue.{flat}
+use Rattle.rtl_flat.specs.Flats.{flat}
 use Rattle.event_queue.specs.Sims as events
 use Rattle.tests_netlists.specs.netlist_eval.Sims.{flat_of}
 use Rattle.tests_net.proofs.transmitter.alike.Given as goal

@@ -1,5 +1,5 @@
 use Rattle.std.proofs.Common.{◌≡◌, ◌∙◌, ◌<◌, ◌≤◌, length, ap, arith}
-use Rattle.event_model.specs.Queue.{Flat, flat, widths}
+use Rattle.rtl_flat.specs.Flats.{Flat, flat, widths}
 use Rattle.tests_netlists.proofs.Widths.{one_more, whole}
 use Rattle.tests_net.proofs.Widths.{are_stored, next_width, width}
 use Rattle.tests_net.proofs.transmitter.beside.Goals as goal

@@ -1,5 +1,5 @@
 use Rattle.std.proofs.Common.{◌≡◌}
-use Rattle.event_model.specs.Queue.{flat}
+use Rattle.rtl_flat.specs.Flats.{flat}
 use Rattle.tests_netlists.specs.netlist_eval.Sims.{flat_of}
 use Rattle.tests_rows.proofs.netlists.stepped.Given as goal
 

@@ -1,5 +1,5 @@
 use Rattle.std.proofs.Common.{◌≡◌, ℕ}
-use Rattle.rtl_rule.specs.Parts.{parts}
+use Rattle.rtl_flat.specs.Flats.{flat}
 use Rattle.rtl_rule.specs.Sites.{AreFindings}
 use Rattle.check_graph.specs.check_found.Masks.{has_in}
 use Rattle.check_graph.specs.check_found.Gathered.{signal_numbers, sites_below}
@@ -8,4 +8,4 @@ use Rattle.check_assign.proofs.drivers.Drivers.of.Given as goal
 
 abbrev pub invariant-loop-number : goal.invariant-loop-number
 invariant-loop-number l =
-    AreFindings (IsSeveralDrivers (parts l.scans.design.now)) several_drivers_at (sites_below (signal_numbers (parts l.scans.design.now)) (parts l.scans.design.now) l.number) l.several.items × ((s k : ℕ) → has_in l.lower s k ≡ lower_writes (parts l.scans.design.now) l.number s k)
+    AreFindings (IsSeveralDrivers (flat l.scans.design.now)) several_drivers_at (sites_below (signal_numbers (flat l.scans.design.now)) (flat l.scans.design.now) l.number) l.several.items × ((s k : ℕ) → has_in l.lower s k ≡ lower_writes (flat l.scans.design.now) l.number s k)

@@ -1,6 +1,6 @@
 use Rattle.std.proofs.Common.{◌≡◌, ◌<◌, length, map, arith}
 use Rattle.rtl_flat.specs.Process.{task}
-use Rattle.rtl_rule.specs.Parts.{parts}
+use Rattle.rtl_flat.specs.Flats.{flat}
 use Rattle.check_assign.proofs.rtl_scan_proofs.Processes.{length-tasks}
 use Rattle.check_xprop.proofs.Lists.{below_more}
 use Rattle.check_xprop.proofs.Doubts.{choices_all}
@@ -25,7 +25,7 @@ loop-p-preserved c =
 
 pub returns : goal.returns
 returns c =
-    let d = parts c.args.design.now in
+    let d = flat c.args.design.now in
     let processes = c.args.design.now.processes in
     let count = length-tasks processes.items in
     choices_all c.args.self d c.args.marks.now c.requires c.loop-p.p (let e : c.loop-p.p ≡ length d.tasks = omega (arith, count, c.loop-p-test.false, c.loop-p.auto.p-end, c.len-p-end.ensures, processes.ok.0) in e) c.loop-p.found.items c.loop-p.invariant

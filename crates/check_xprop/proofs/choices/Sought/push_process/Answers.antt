@@ -5,7 +5,8 @@ use Rattle.std.proofs.lemmas.Result.{on_ok_weaker}
 use Rattle.rtl_flat.specs.declared.act.Act.{Act}
 use Rattle.rtl_flat.specs.Process.{Action, Task, action}
 use Rattle.rtl_rule.specs.declared.rule.Rule.{Rule}
-use Rattle.rtl_rule.specs.Parts.{parts, statements, widths}
+use Rattle.rtl_rule.specs.Parts.{statements}
+use Rattle.rtl_flat.specs.Flats.{flat, widths}
 use Rattle.check_xprop.specs.Doubts.{choice_spots, choices_of}
 use Rattle.check_xprop.specs.Lists.{at_spots}
 use Rattle.check_xprop.proofs.Doubts.{choices_more}
@@ -14,11 +15,11 @@ use Rattle.check_xprop.proofs.choices.Sought.push_process.Goals as goal
 
 pub loop-one-preserved : goal.loop-one-preserved
 loop-one-preserved c =
-    choices_more (widths (parts c.args.design.now)) c.args.marks.now (choices_of c.args.self) (λ (one : Bor Act). action one.now) c.deref-one-items.result.now c.loop-one.one-index c.one-item.result c.loop-one-test.true c.one-item.is [] c.loop-one.spots.items c.push.new.spots.items c.loop-one.invariant c.in_ok-push.ensures
+    choices_more (widths (flat c.args.design.now)) c.args.marks.now (choices_of c.args.self) (λ (one : Bor Act). action one.now) c.deref-one-items.result.now c.loop-one.one-index c.one-item.result c.loop-one-test.true c.one-item.is [] c.loop-one.spots.items c.push.new.spots.items c.loop-one.invariant c.in_ok-push.ensures
 
 pub returns : goal.returns
 returns c =
-    let d = parts c.args.design.now in
+    let d = flat c.args.design.now in
     let one = c.index.result.now in
     let fs = c.args.found.now.items in
     let shown = λ (acts : List Action). choice_spots (widths d) c.args.marks.now (flat_map (choices_of c.args.self) acts) in

@@ -1,4 +1,4 @@
-use Rattle.event_model.specs.Queue.{flat}
+use Rattle.rtl_flat.specs.Flats.{flat}
 use Rattle.event_queue.specs.Starts.{start_of}
 use Rattle.demo_replay.proofs.Going.{begun}
 use Rattle.demo_replay.proofs.run.Run.begin.Goals as goal

@@ -1,5 +1,5 @@
 use Rattle.std.proofs.Common.{◌==◌, ◌∙◌, List, map, subst, sym, arith}
-use Rattle.rtl_rule.specs.Parts.{parts}
+use Rattle.rtl_flat.specs.Flats.{flat}
 use Rattle.event_model.specs.declared.policy.Policy.{Policy}
 use Rattle.event_model.specs.declared.setting.Setting.{Setting}
 use Rattle.event_model.specs.Policies.{IsDone, IsTooDear, budget}
@@ -40,7 +40,7 @@ returns-in-Ok-clause-goes c = λ moments at.
     let runs = subst (λ (p : Policy). Runs p (level_of s) (flat_of s) (offer (state_of s) (map set_of settings)) (budget (flat_of s)) (state_of t) (left_of t)) c.policy.ensures
     (subst (λ (l : List Setting). Runs c.policy.result (level_of s) (flat_of s) (offer (state_of s) (map set_of l)) (budget (flat_of s)) (state_of t) (left_of t)) c.deref.ensures.value (c.step.ensures.run at.resting.free)) in
     let done = subst (λ (p : Policy). IsDone p (level_of s) (flat_of s) (state_of t)) c.policy.ensures c.in-Ok.ensures.done in
-    let goes = subst (λ (l : List Setting). GoOn (parts kept.design.now) (trial == 32) trial l (shown n) (shown m)) c.deref-in-Ok.ensures.value (c.turn.ensures.goes kept.design.now at.netlist) in
+    let goes = subst (λ (l : List Setting). GoOn (flat kept.design.now) (trial == 32) trial l (shown n) (shown m)) c.deref-in-Ok.ensures.value (c.turn.ensures.goes kept.design.now at.netlist) in
     let size = at.count in
     (went kept trial run.taken s n moments at settings left c.in_ok-settings.ensures.exact t m c.step.ensures.same runs done c.in-Ok.ensures.rest c.in-Ok.ensures.free.1 c.turn.ensures.netlist goes, omega (arith, left, size))
 

@@ -2,7 +2,7 @@ use Rattle.std.proofs.Common.{◌∙◌, ◌+◌, ℕ, Bool, Vec, ap, map}
 use Rattle.std.specs.declared.alloc.Global.{Global}
 use Rattle.std.proofs.lemmas.Result.{IfOk-weaker}
 use Rattle.event_model.specs.declared.setting.Setting.{Setting}
-use Rattle.event_model.specs.Queue.{flat}
+use Rattle.rtl_flat.specs.Flats.{flat}
 use Rattle.event_queue.specs.Offers.{AreAllowed}
 use Rattle.netlist_eval.specs.Sims.{shown}
 use Rattle.demo_trials.specs.Fitting.{InputsMeet, SettingsMeet}

@@ -1,11 +1,10 @@
 use Rattle.std.proofs.Common.{◌≡◌, ◌∙◌, List, length, map, min, take, rules, ap, subst}
 use Rattle.std.proofs.lemmas.List.{take_min}
-use Rattle.rtl_elab.specs.Designs.{flat_in}
+use Rattle.rtl_flat.specs.Flats.{flat_in}
 use Rattle.rtl_rule.specs.declared.finding.Finding.{Finding}
 use Rattle.demo_clean.specs.demo_replay.Firsts.{AreFirsts, told}
 use Rattle.desk_report.specs.Tellings.{tellings}
 use Rattle.desk_verdict.specs.declared.verdict.TheConstants.{MAX_SHOWN}
-use Rattle.desk_verdict.specs.Verdicts.{parts_of}
 use Rattle.desk_verdict.proofs.Said.{clean_is, count_told, firm_is}
 use Rattle.desk_verdict.proofs.verdict.Verdict.of.Goals as goal
 
@@ -23,7 +22,7 @@ returns-clause-said c =
       clean = clean_is c.in_ok-ruling.ruling.clean found is.clean;
       firm = firm_is c.in_ok-ruling.ruling.firm found is.firm;
       shown = shown;
-      are_shown = subst (λ (some : List Finding). AreFirsts (parts_of flat) some (map told shown)) taken c.in_ok-shown.ensures;
+      are_shown = subst (λ (some : List Finding). AreFirsts flat.parts.flat some (map told shown)) taken c.in_ok-shown.ensures;
       told_is =
           c.in_ok-told.ensures
           ∙ ap (λ (some : List Finding). tellings flat.signals flat.instances some c.deref-3.result.now) c.deref-2.ensures.value

@@ -2,7 +2,7 @@ use Rattle.std.proofs.Common.{◌∙◌, List, Vec, length, refl, ap}
 use Rattle.std.specs.declared.alloc.Global.{Global}
 use Rattle.rtl_flat.specs.declared.act.ProcId.{ProcId}
 use Rattle.rtl_flat.specs.declared.design.Design.{Design}
-use Rattle.event_model.specs.Queue.{flat}
+use Rattle.rtl_flat.specs.Flats.{flat}
 use Rattle.event_queue.proofs.Beginning.{holding, levels_are}
 use Rattle.event_queue.proofs.sim.EventSim.on.Goals as goal
 

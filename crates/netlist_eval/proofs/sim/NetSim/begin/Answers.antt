@@ -6,7 +6,7 @@ use Rattle.rtl_bits.specs.declared.Bit.{Bit}
 use Rattle.rtl_flat.specs.declared.design.Design.{Design}
 use Rattle.rtl_flat.specs.Value.{store}
 use Rattle.net_start.proofs.rtl_scan_proofs.Users.{written_back}
-use Rattle.event_model.specs.Queue.{flat}
+use Rattle.rtl_flat.specs.Flats.{flat}
 use Rattle.infer_regs.specs.net_list.declared.clocked.Clocked.{Clocked}
 use Rattle.net_turn.specs.net_settle.Settle.{IsSolved}
 use Rattle.net_order.specs.net_solve.Laws.{AreApart, IsOrder}

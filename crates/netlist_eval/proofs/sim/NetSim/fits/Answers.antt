@@ -3,7 +3,8 @@ use Rattle.std.specs.List.{slice_get}
 use Rattle.std.specs.Prelude.{IsTrue}
 use Rattle.std.proofs.lemmas.Bool.{eq-eqb, eqb-true, false≢true}
 use Rattle.rtl_bits.specs.Bits.{has_unknown}
-use Rattle.event_model.specs.Queue.{flat, is_input, widths}
+use Rattle.event_model.specs.Queue.{is_input}
+use Rattle.rtl_flat.specs.Flats.{flat, widths}
 use Rattle.netlist_eval.proofs.Fitting.{top_is, width_at}
 use Rattle.netlist_eval.proofs.Marked.{input_below}
 use Rattle.netlist_eval.proofs.sim.NetSim.fits.Goals as goal

@@ -2,7 +2,8 @@ use Rattle.std.proofs.Common.{◌∙◌, ℕ, List, length, map, sym, ap, arith}
 use Rattle.std.proofs.lemmas.List.{length-map}
 use Rattle.std.specs.Prelude.{IsTrue}
 use Rattle.rtl_flat.specs.declared.expr.SigId.{SigId}
-use Rattle.event_model.specs.Queue.{flat, is_input, widths}
+use Rattle.event_model.specs.Queue.{is_input}
+use Rattle.rtl_flat.specs.Flats.{flat, widths}
 use Rattle.net_start.specs.Stored.{IsStored, places}
 use Rattle.net_start.proofs.Listed.{all_same}
 use Rattle.net_start.proofs.Started.{as_many}

@@ -4,7 +4,7 @@ use Rattle.rtl_bits.specs.declared.Bit.{Bit}
 use Rattle.rtl_flat.specs.declared.act.ProcId.{ProcId}
 use Rattle.rtl_flat.specs.Value.{store}
 use Rattle.net_start.proofs.rtl_scan_proofs.Users.{written_back}
-use Rattle.event_model.specs.Queue.{flat}
+use Rattle.rtl_flat.specs.Flats.{flat}
 use Rattle.net_model.specs.Cycle as cycle
 use Rattle.net_model.specs.Cycle.{IsCycle}
 use Rattle.infer_regs.specs.net_list.declared.clocked.Clocked.{Clocked}
