@@ -45,7 +45,8 @@ impl Agenda {
     /// It fails only for want of memory.
     pub fn new(alloc: Global, levels: Vec<Option<u32>>) -> Result<Self, AllocError>
         requires { length levels.items ≤ 2 ^ 32 }
-        ensures { IfOk result (λ a. a ≡ record { flags = replicate (length levels.items) false; levels = levels.items }) }
+        ensures { IfOk result (λ a. a ≡ record
+            { flags = replicate (length levels.items) false; levels = levels.items }) }
     {
         let members = RankSet::new(alloc, levels.len())?;
         let ranked = RankSet::new(alloc, levels.len())?;
@@ -108,7 +109,8 @@ impl Agenda {
 
     /// The least member, or `None` where there is none.
     pub fn least(&self) -> Option<usize>
-        ensures least { MatchOption result (IsEmpty self.now.flags) (λ number. IsLeast self.now.flags number) }
+        ensures least { MatchOption result (IsEmpty self.now.flags)
+            (λ number. IsLeast self.now.flags number) }
         ensures within { IfSome result (λ number. number < length self.now.flags) }
     {
         self.members.least()
@@ -116,7 +118,8 @@ impl Agenda {
 
     /// The greatest member, or `None` where there is none.
     pub fn greatest(&self) -> Option<usize>
-        ensures greatest { MatchOption result (IsEmpty self.now.flags) (λ number. IsGreatest self.now.flags number) }
+        ensures greatest { MatchOption result (IsEmpty self.now.flags)
+            (λ number. IsGreatest self.now.flags number) }
         ensures within { IfSome result (λ number. number < length self.now.flags) }
     {
         self.members.greatest()
@@ -134,7 +137,8 @@ impl Agenda {
     /// The member of the lowest level, the least where several have it, or `None` where there is no member.
     /// A number that has no level comes after all that have one.
     pub fn lowest(&self) -> Option<usize>
-        ensures lowest { MatchOption result (IsEmpty self.now.flags) (λ number. IsLowest self.now.levels self.now.flags number) }
+        ensures lowest { MatchOption result (IsEmpty self.now.flags)
+            (λ number. IsLowest self.now.levels self.now.flags number) }
         ensures within { IfSome result (λ number. number < length self.now.flags) }
     {
         let rank = self.ranked.least()?;

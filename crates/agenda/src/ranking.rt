@@ -29,8 +29,10 @@ pub(crate) fn numbers_by_level(
 /// It fails only for want of memory.
 pub(crate) fn ranks_of(alloc: Global, numbers: &[u32]) -> Result<Vec<u32>, AllocError>
     requires fits { length numbers.now ≤ 2 ^ 32 }
-    requires within { (r : ℕ) → r < length numbers.now → slice_index numbers.now r < length numbers.now }
-    requires distinct { (i j : ℕ) → i < j → j < length numbers.now → slice_index numbers.now i ≢ slice_index numbers.now j }
+    requires within { (r : ℕ) → r < length numbers.now
+        → slice_index numbers.now r < length numbers.now }
+    requires distinct { (i j : ℕ) → i < j → j < length numbers.now
+        → slice_index numbers.now i ≢ slice_index numbers.now j }
     ensures { IfOk result (λ ranks. AreRanks numbers.now ranks.items) }
 {
     let mut ranks = vec![in alloc; 0; numbers.len()]?;

@@ -54,14 +54,16 @@ pub trait Shelf {
     /// The whole bytes of the file that has the name.
     fn read(&mut self, name: &str) -> Result<Vec<u8>, ShelfFault>
         // The answer is the reading of the named file, unless the call fails or finds no memory.
-        ensures told { IfSome (files self.old) (λ held. IsReading (reading (held name.now)) result) }
+        ensures told { IfSome (files self.old)
+            (λ held. IsReading (reading (held name.now)) result) }
         ensures short { IfOk result (λ bytes. vec_len bytes ≤ MAX_FILE_BYTES) }
 
         ensures same { files self.new ≡ files self.old }
 
         // An error for which no file speaks is counted.
         ensures later { faults self.old ≤ faults self.new }
-        ensures failed { IsErrOf result ShelfFault.Failed → Rose (faults self.old) (faults self.new) }
+        ensures failed { IsErrOf result ShelfFault.Failed
+            → Rose (faults self.old) (faults self.new) }
         ensures missing { IfNone (files self.old) (IsErrOf result ShelfFault.NoSuchFile
             → Rose (faults self.old) (faults self.new)) }
 

@@ -47,7 +47,9 @@ fn assigned(
     names: &Names,
     site: Site,
 ) -> Result<Act, Memory>
-    ensures { IfOk result (λ made. made_action made ≡ set_of site.file site.base (meanings names.now) (target written.now) kind (formula value.now)) }
+    ensures { IfOk result (λ made. made_action made
+        ≡ set_of site.file site.base (meanings names.now) (target written.now) kind
+        (formula value.now)) }
 {
     Ok(Act::Set {
         target: target_of(written, names, site)?,
@@ -58,7 +60,8 @@ fn assigned(
 }
 
 fn branched(test: SizedExpr, yes: Vec<Act>, no: Option<Vec<Act>>, spot: Spot) -> Act
-    ensures { made_action result ≡ If (tree test) (body_of (map made_action yes.items)) (otherwise_of no) spot }
+    ensures { made_action result ≡ If (tree test) (body_of (map made_action yes.items))
+        (otherwise_of no) spot }
 {
     Act::If {
         test,
@@ -77,7 +80,8 @@ fn block(body: Vec<Act>) -> Act
 
 /// A statement more.
 fn with(mut made: Vec<Act>, act: Act) -> Result<Vec<Act>, Memory>
-    ensures { IfOk result (λ all. map made_action all.items ≡ map made_action made.items ++ (made_action act ∷ [])) }
+    ensures { IfOk result (λ all. map made_action all.items
+        ≡ map made_action made.items ++ (made_action act ∷ [])) }
 {
     made.push(act)?;
     Ok(made)
@@ -87,7 +91,8 @@ fn with(mut made: Vec<Act>, act: Act) -> Result<Vec<Act>, Memory>
 fn boxed(e: &Expr, context: Context, names: &Names, site: Site) -> Result<Box<SizedExpr>, Memory>
     requires not_empty { 1 ≤ context.width }
     requires at_most { context.width ≤ 128 }
-    ensures { IfOk result (λ made. tree made.value ≡ tree_of site.file site.base (meanings names.now) (formula e.now) context) }
+    ensures { IfOk result (λ made. tree made.value
+        ≡ tree_of site.file site.base (meanings names.now) (formula e.now) context) }
 {
     Ok(Box::new(site.alloc, size(e, context, names, site)?)?)
 }
@@ -101,14 +106,17 @@ fn push_branches(
     spot: Spot,
 ) -> Result<Vec<Act>, Memory>
     ensures { IfOk result (λ all. map made_action all.items ≡ map made_action made.items
-        ++ (If (tree test.value) (body_of (map made_action yes.items)) (otherwise_of no) spot ∷ [])) }
+        ++ (If (tree test.value) (body_of (map made_action yes.items)) (otherwise_of no) spot
+        ∷ [])) }
 {
     with(made, branched(Box::into_inner(test), yes, no, spot))
 }
 
 /// The test of an `if`.
 fn test(condition: &Expr, names: &Names, site: Site) -> Result<Box<SizedExpr>, Memory>
-    ensures { IfOk result (λ made. tree made.value ≡ tree_of site.file site.base (meanings names.now) (formula condition.now) (own_context (meanings names.now) (formula condition.now))) }
+    ensures { IfOk result (λ made. tree made.value
+        ≡ tree_of site.file site.base (meanings names.now) (formula condition.now)
+        (own_context (meanings names.now) (formula condition.now))) }
 {
     boxed(condition, own_context(condition, names), names, site)
 }
@@ -122,7 +130,9 @@ fn push_assignment(
     site: Site,
     mut made: Vec<Act>,
 ) -> Result<Vec<Act>, Memory>
-    ensures { IfOk result (λ all. map made_action all.items ≡ map made_action made.items ++ (set_of site.file site.base (meanings names.now) (target written.now) kind (formula value.now) ∷ [])) }
+    ensures { IfOk result (λ all. map made_action all.items
+        ≡ map made_action made.items ++ (set_of site.file site.base (meanings names.now)
+        (target written.now) kind (formula value.now) ∷ [])) }
 {
     made.push(assigned(written, kind, value, names, site)?)?;
     Ok(made)
@@ -148,7 +158,9 @@ fn labels(
 ) -> Result<Vec<SizedExpr>, Memory>
     requires not_empty { 1 ≤ context.width }
     requires at_most { context.width ≤ 128 }
-    ensures { IfOk result (λ made. map tree made.items ≡ map (λ label. tree_of site.file site.base (meanings names.now) label context) (map formula all.now)) }
+    ensures { IfOk result (λ made. map tree made.items
+        ≡ map (λ label. tree_of site.file site.base (meanings names.now) label context)
+        (map formula all.now)) }
 {
     let mut made = Vec::with_capacity(site.alloc, all.len())?;
     for label in all {
@@ -163,7 +175,8 @@ fn labels(
 /// The only error is want of memory.
 #[cycle(acts)]
 pub fn acts_of(body: &Stmt, names: &mut Names, site: Site) -> Result<Vec<Act>, Memory>
-    ensures made { IfOk result (λ all. map made_action all.items ≡ acts site.file site.base (action body.now) (meanings names.old)) }
+    ensures made { IfOk result (λ all. map made_action all.items
+        ≡ acts site.file site.base (action body.now) (meanings names.old)) }
     ensures same { meanings names.new ≡ meanings names.old }
 {
     push_acts(body, names, site, Vec::with_capacity(site.alloc, 1)?)
@@ -173,7 +186,9 @@ pub fn acts_of(body: &Stmt, names: &mut Names, site: Site) -> Result<Vec<Act>, M
 #[cycle(acts)]
 #[tactic(auto, using(crate::proofs::Acting::branches_decided))]
 fn push_acts(body: &Stmt, names: &mut Names, site: Site, made: Vec<Act>) -> Result<Vec<Act>, Memory>
-    ensures made { IfOk result (λ all. map made_action all.items ≡ map made_action made.items ++ acts site.file site.base (action body.now) (meanings names.old)) }
+    ensures made { IfOk result (λ all. map made_action all.items
+        ≡ map made_action made.items ++ acts site.file site.base (action body.now)
+        (meanings names.old)) }
     ensures same { meanings names.new ≡ meanings names.old }
 {
     match body {
@@ -300,7 +315,9 @@ fn push_bodies(
     site: Site,
     made: Vec<Act>,
 ) -> Result<Vec<Act>, Memory>
-    ensures made { IfOk result (λ acts. map made_action acts.items ≡ map made_action made.items ++ body_acts site.file site.base (action_row (map action all.now)) (meanings names.old)) }
+    ensures made { IfOk result (λ acts. map made_action acts.items
+        ≡ map made_action made.items ++ body_acts site.file site.base
+        (action_row (map action all.now)) (meanings names.old)) }
     ensures same { meanings names.new ≡ meanings names.old }
 {
     let mut made = made;
@@ -320,7 +337,9 @@ fn items_of(
 ) -> Result<Vec<FlatItem>, Memory>
     requires not_empty { 1 ≤ context.width }
     requires at_most { context.width ≤ 128 }
-    ensures made { IfOk result (λ items. items_before items.items NoBranch ≡ case_branches site.file site.base (branch_row (map branch all.now)) (meanings names.old) context) }
+    ensures made { IfOk result (λ items. items_before items.items NoBranch
+        ≡ case_branches site.file site.base (branch_row (map branch all.now))
+        (meanings names.old) context) }
     ensures same { meanings names.new ≡ meanings names.old }
 {
     let mut made = Vec::new(site.alloc);
@@ -341,7 +360,9 @@ fn push_item(
 ) -> Result<Vec<FlatItem>, Memory>
     requires not_empty { 1 ≤ context.width }
     requires at_most { context.width ≤ 128 }
-    ensures made { IfOk result (λ items. (others : Branches) → items_before items.items others ≡ items_before made.items (with_branch site.file site.base (branch item.now) (meanings names.old) context others)) }
+    ensures made { IfOk result (λ items. (others : Branches) → items_before items.items others
+        ≡ items_before made.items (with_branch site.file site.base (branch item.now)
+        (meanings names.old) context others)) }
     ensures same { meanings names.new ≡ meanings names.old }
 {
     match item {
@@ -358,7 +379,8 @@ fn push_item(
 /// What runs where no label matches.
 #[cycle(acts)]
 fn fallback_of(all: &[CaseItem], names: &mut Names, site: Site) -> Result<Option<Vec<Act>>, Memory>
-    ensures made { IfOk result (λ body. otherwise_of body ≡ fallback site.file site.base (branch_row (map branch all.now)) (meanings names.old)) }
+    ensures made { IfOk result (λ body. otherwise_of body
+        ≡ fallback site.file site.base (branch_row (map branch all.now)) (meanings names.old)) }
     ensures same { meanings names.new ≡ meanings names.old }
 {
     for item in all {
@@ -379,7 +401,9 @@ fn push_loop(
     site: Site,
     made: Vec<Act>,
 ) -> Result<Vec<Act>, Memory>
-    ensures made { IfOk result (λ all. map made_action all.items ≡ map made_action made.items ++ loop_acts (acts site.file site.base (action body.now)) (meanings names.old) (head_of head.entry)) }
+    ensures made { IfOk result (λ all. map made_action all.items
+        ≡ map made_action made.items ++ loop_acts (acts site.file site.base (action body.now))
+        (meanings names.old) (head_of head.entry)) }
     ensures same { meanings names.new ≡ meanings names.old }
 {
     let Ok(first) = constant(head.start, names) else {
@@ -401,8 +425,12 @@ fn push_turns(
     site: Site,
     made: Vec<Act>,
 ) -> Result<Vec<Act>, Memory>
-    ensures made { IfOk result (λ all. map made_action all.items ≡ map made_action made.items ++ act_turns (acts site.file site.base (action body.now)) (meanings names.old) (head_of head.entry) TURNS first) }
-    ensures same { (number : Option ℤ) → indexed (meanings names.new) head.entry.index.now.text number ≡ indexed (meanings names.old) head.entry.index.now.text number }
+    ensures made { IfOk result (λ all. map made_action all.items
+        ≡ map made_action made.items ++ act_turns (acts site.file site.base (action body.now))
+        (meanings names.old) (head_of head.entry) TURNS first) }
+    ensures same { (number : Option ℤ)
+        → indexed (meanings names.new) head.entry.index.now.text number
+        ≡ indexed (meanings names.old) head.entry.index.now.text number }
 {
     let mut number = first;
     let mut made = made;

@@ -24,7 +24,8 @@ pub(crate) const TURNS: u32 = 4096;
 #[cycle(judge_body)]
 #[tactic(auto, using(crate::proofs::Passing::passed_append, crate::proofs::Deciding::passed_branches))]
 pub fn judge_body<'a>(body: &'a Stmt, names: &mut Names, so_far: Progress<'a>) -> Progress<'a>
-    ensures told { course result ≡ passed (course so_far.entry) (steps (action body.now) (meanings names.old)) }
+    ensures told { course result ≡ passed (course so_far.entry)
+        (steps (action body.now) (meanings names.old)) }
     ensures same { meanings names.new ≡ meanings names.old }
 {
     match body {
@@ -88,7 +89,8 @@ pub fn judge_body<'a>(body: &'a Stmt, names: &mut Names, so_far: Progress<'a>) -
 /// Statements in a row.
 #[cycle(judge_body)]
 fn judge_bodies<'a>(all: &'a [Stmt], names: &mut Names, so_far: Progress<'a>) -> Progress<'a>
-    ensures told { course result ≡ passed (course so_far.entry) (body_steps (action_row (map action all.now)) (meanings names.old)) }
+    ensures told { course result ≡ passed (course so_far.entry)
+        (body_steps (action_row (map action all.now)) (meanings names.old)) }
     ensures same { meanings names.new ≡ meanings names.old }
 {
     let mut so_far = so_far;
@@ -101,7 +103,8 @@ fn judge_bodies<'a>(all: &'a [Stmt], names: &mut Names, so_far: Progress<'a>) ->
 /// The items of a case.
 #[cycle(judge_body)]
 fn judge_items<'a>(all: &'a [CaseItem], names: &mut Names, so_far: Progress<'a>) -> Progress<'a>
-    ensures told { course result ≡ passed (course so_far.entry) (branches_steps (branch_row (map branch all.now)) (meanings names.old)) }
+    ensures told { course result ≡ passed (course so_far.entry)
+        (branches_steps (branch_row (map branch all.now)) (meanings names.old)) }
     ensures same { meanings names.new ≡ meanings names.old }
 {
     let mut so_far = so_far;
@@ -114,7 +117,8 @@ fn judge_items<'a>(all: &'a [CaseItem], names: &mut Names, so_far: Progress<'a>)
 #[cycle(judge_body)]
 #[tactic(auto, using(crate::proofs::Passing::passed_append))]
 fn judge_item<'a>(item: &'a CaseItem, names: &mut Names, so_far: Progress<'a>) -> Progress<'a>
-    ensures told { course result ≡ passed (course so_far.entry) (branch_item_steps (branch item.now) (meanings names.old)) }
+    ensures told { course result ≡ passed (course so_far.entry)
+        (branch_item_steps (branch item.now) (meanings names.old)) }
     ensures same { meanings names.new ≡ meanings names.old }
 {
     match item {
@@ -132,7 +136,8 @@ fn judge_loop<'a>(
     names: &mut Names,
     so_far: Progress<'a>,
 ) -> Progress<'a>
-    ensures told { course result ≡ passed (course so_far.entry) (all_turns (steps (action body.now)) (meanings names.old) (head_of head.entry)) }
+    ensures told { course result ≡ passed (course so_far.entry)
+        (all_turns (steps (action body.now)) (meanings names.old) (head_of head.entry)) }
     ensures same { meanings names.new ≡ meanings names.old }
 {
     let Some(first) = head.first(names) else {
@@ -153,8 +158,11 @@ fn judge_turns<'a>(
     names: &mut Names,
     so_far: Progress<'a>,
 ) -> Progress<'a>
-    ensures told { course result ≡ passed (course so_far.entry) (turns (steps (action body.now)) (meanings names.old) (head_of head.entry) TURNS first) }
-    ensures same { (number : Option ℤ) → indexed (meanings names.new) head.entry.index.now.text number ≡ indexed (meanings names.old) head.entry.index.now.text number }
+    ensures told { course result ≡ passed (course so_far.entry)
+        (turns (steps (action body.now)) (meanings names.old) (head_of head.entry) TURNS first) }
+    ensures same { (number : Option ℤ)
+        → indexed (meanings names.new) head.entry.index.now.text number
+        ≡ indexed (meanings names.old) head.entry.index.now.text number }
 {
     let mut number = first;
     let mut so_far = so_far;
@@ -186,7 +194,8 @@ fn judge_turns<'a>(
 /// A turn of a loop; one that leaves no statement counts as one.
 #[cycle(judge_body)]
 fn judge_turn<'a>(at: u32, body: &'a Stmt, names: &mut Names, so_far: Progress<'a>) -> Progress<'a>
-    ensures told { course result ≡ passed (course so_far.entry) (counted at (steps (action body.now) (meanings names.old))) }
+    ensures told { course result ≡ passed (course so_far.entry)
+        (counted at (steps (action body.now) (meanings names.old))) }
     ensures same { meanings names.new ≡ meanings names.old }
 {
     let after = judge_body(body, names, so_far.begin_turn());

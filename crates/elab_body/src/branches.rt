@@ -54,13 +54,16 @@ pub fn goes_on(condition: Result<i64, ConstFault>) -> bool
 }
 
 /// The condition of an `if`, which counts where both branches are left.
-pub fn judge_condition<'a>(
+pub(crate) fn judge_condition<'a>(
     at: u32,
     condition: &'a Expr,
     names: &Names,
     so_far: Progress<'a>,
 ) -> Progress<'a>
-    ensures { course result ≡ passed (course so_far.entry) (condition_steps at (constant (numbers_in (meanings names.now)) (formula condition.now)) (node_count (meanings names.now) (formula condition.now)) (faults (meanings names.now) (formula condition.now))) }
+    ensures { course result ≡ passed (course so_far.entry)
+        (condition_steps at (constant (numbers_in (meanings names.now)) (formula condition.now))
+        (node_count (meanings names.now) (formula condition.now))
+        (faults (meanings names.now) (formula condition.now))) }
 {
     match constant(condition, names) {
         Ok(_) => so_far.judge(condition, names),

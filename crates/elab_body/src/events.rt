@@ -27,7 +27,8 @@ use rtl_tree::tree::names::Name;
 
 /// An event is a change of a signal.
 fn watch<'a>(name: &'a Name, known: Option<Known>, best: Option<Fault<'a>>) -> Option<Fault<'a>>
-    ensures { option_map refusal result ≡ after (option_map refusal best.entry) (watch_faults (identifier name.now) known) }
+    ensures { option_map refusal result
+        ≡ after (option_map refusal best.entry) (watch_faults (identifier name.now) known) }
 {
     let cause = match known {
         None => Cause::Undeclared(&name.text),
@@ -41,7 +42,8 @@ fn watch<'a>(name: &'a Name, known: Option<Known>, best: Option<Fault<'a>>) -> O
 
 /// An edge is one of a single bit.
 fn edge<'a>(at: u32, known: Option<Known>, best: Option<Fault<'a>>) -> Option<Fault<'a>>
-    ensures { option_map refusal result ≡ after (option_map refusal best.entry) (edge_faults at known) }
+    ensures { option_map refusal result
+        ≡ after (option_map refusal best.entry) (edge_faults at known) }
 {
     match known {
         Some(
@@ -60,7 +62,9 @@ fn edge<'a>(at: u32, known: Option<Known>, best: Option<Fault<'a>>) -> Option<Fa
 /// The faults of an event, after `best`.
 #[tactic(auto, using(crate::proofs::Borrowed::after_append))]
 fn judge_event<'a>(event: &'a Event, names: &Names, best: Option<Fault<'a>>) -> Option<Fault<'a>>
-    ensures { option_map refusal result ≡ after (option_map refusal best.entry) (event_faults (meanings names.now) (happening event.now)) }
+    ensures { option_map refusal result
+        ≡ after (option_map refusal best.entry)
+        (event_faults (meanings names.now) (happening event.now)) }
 {
     match event {
         Event::Edge(_, at, name) => {
@@ -97,7 +101,9 @@ fn judge_events<'a>(
     names: &Names,
     best: Option<Fault<'a>>,
 ) -> Option<Fault<'a>>
-    ensures { option_map refusal result ≡ after (option_map refusal best.entry) (events_faults (meanings names.now) (map happening events.now)) }
+    ensures { option_map refusal result
+        ≡ after (option_map refusal best.entry)
+        (events_faults (meanings names.now) (map happening events.now)) }
 {
     let mut best = best;
     for event in events {
@@ -112,7 +118,9 @@ pub fn judge_control<'a>(
     names: &Names,
     best: Option<Fault<'a>>,
 ) -> Option<Fault<'a>>
-    ensures { option_map refusal result ≡ after (option_map refusal best.entry) (sensitivity_faults (meanings names.now) (sensitivity control.now)) }
+    ensures { option_map refusal result
+        ≡ after (option_map refusal best.entry)
+        (sensitivity_faults (meanings names.now) (sensitivity control.now)) }
 {
     match control {
         EventControl::Star | EventControl::StarInParens => best,
@@ -131,7 +139,8 @@ fn edge_of_event(edge: EventEdge) -> Edge
 
 /// An event in the design.
 fn item(event: &Event, names: &Names, site: Site) -> Result<EventItem, Memory>
-    ensures { IfOk result (λ made. watched made ≡ watched_of site.file site.base (meanings names.now) (happening event.now)) }
+    ensures { IfOk result (λ made. watched made
+        ≡ watched_of site.file site.base (meanings names.now) (happening event.now)) }
 {
     let spot = Spot {
         file: site.file,
@@ -173,7 +182,8 @@ fn item(event: &Event, names: &Names, site: Site) -> Result<EventItem, Memory>
 }
 
 fn items(events: &[Event], names: &Names, site: Site) -> Result<Vec<EventItem>, Memory>
-    ensures { IfOk result (λ made. map watched made.items ≡ map (watched_of site.file site.base (meanings names.now)) (map happening events.now)) }
+    ensures { IfOk result (λ made. map watched made.items
+        ≡ map (watched_of site.file site.base (meanings names.now)) (map happening events.now)) }
 {
     let mut made = Vec::with_capacity(site.alloc, events.len())?;
     for event in events {
@@ -184,7 +194,8 @@ fn items(events: &[Event], names: &Names, site: Site) -> Result<Vec<EventItem>, 
 
 /// The sensitivity list of a process in the design.
 pub fn listed(control: &EventControl, names: &Names, site: Site) -> Result<Listed, Memory>
-    ensures { IfOk result (λ made. listing made ≡ listing_of site.file site.base (meanings names.now) (sensitivity control.now)) }
+    ensures { IfOk result (λ made. listing made
+        ≡ listing_of site.file site.base (meanings names.now) (sensitivity control.now)) }
 {
     match control {
         EventControl::Star | EventControl::StarInParens => Ok(Listed::Star),

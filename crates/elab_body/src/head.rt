@@ -31,7 +31,8 @@ pub struct Head<'a> {
 impl<'a> Head<'a> {
     /// The faults of the head.
     pub fn judge(self, names: &mut Names, so_far: Progress<'a>) -> Progress<'a>
-        ensures told { course result ≡ passed (course so_far.entry) (faulty (loop_faults (meanings names.old) (head_of self.entry))) }
+        ensures told { course result ≡ passed (course so_far.entry)
+            (faulty (loop_faults (meanings names.old) (head_of self.entry))) }
         ensures same { meanings names.new ≡ meanings names.old }
     {
         let so_far = index(self.index, names.find(&self.index.text), so_far);
@@ -48,7 +49,9 @@ impl<'a> Head<'a> {
     /// The names of the condition and of the step, where the index has its first number.
     #[tactic(auto, using(crate::proofs::Passing::passed_faults))]
     fn judge_first(self, names: &mut Names, so_far: Progress<'a>) -> Progress<'a>
-        ensures told { course result ≡ passed (course so_far.entry) (faulty (head_faults (meanings names.old) (head_of self.entry) (in_head (meanings names.old) (formula self.entry.start.now)))) }
+        ensures told { course result ≡ passed (course so_far.entry)
+            (faulty (head_faults (meanings names.old) (head_of self.entry)
+            (in_head (meanings names.old) (formula self.entry.start.now)))) }
         ensures same { meanings names.new ≡ meanings names.old }
     {
         let Ok(first) = constant(self.start, names) else {
@@ -63,7 +66,8 @@ impl<'a> Head<'a> {
 
     /// The number that the loop starts with; only one that counts by an `integer` of its own has turns.
     pub fn first(self, names: &Names) -> Option<i64>
-        ensures { result ≡ first_of (meanings names.now self.entry.index.now.text) (in_head (meanings names.now) (formula self.entry.start.now)) }
+        ensures { result ≡ first_of (meanings names.now self.entry.index.now.text)
+            (in_head (meanings names.now) (formula self.entry.start.now)) }
     {
         match (names.find(&self.index.text), constant(self.start, names)) {
             (Some(Known::Integer(None)), Ok(first)) => Some(first),

@@ -31,7 +31,8 @@ use rtl_tree::tree::stmt::{AssignmentKind, CaseItem, CaseKind, Delay, Lvalue};
 /// The faults of what a statement assigns.
 #[tactic(auto, using(crate::proofs::Passing::passed_faulty, crate::proofs::Passing::passed_cut, crate::proofs::Borrowed::after_append))]
 fn assigned<'a>(written: &'a Lvalue, names: &Names, so_far: Progress<'a>) -> Progress<'a>
-    ensures { course result ≡ passed (course so_far.entry) (faulty (target_faults writer.Procedural (meanings names.now) (target written.now))) }
+    ensures { course result ≡ passed (course so_far.entry)
+        (faulty (target_faults writer.Procedural (meanings names.now) (target written.now))) }
 {
     match so_far.left {
         None => so_far,
@@ -44,7 +45,8 @@ fn assigned<'a>(written: &'a Lvalue, names: &Names, so_far: Progress<'a>) -> Pro
 }
 
 fn paused<'a>(delay: &Option<Delay>, so_far: Progress<'a>) -> Progress<'a>
-    ensures { course result ≡ passed (course so_far.entry) (pause_steps (option_map pause delay.now)) }
+    ensures { course result ≡ passed (course so_far.entry)
+        (pause_steps (option_map pause delay.now)) }
 {
     match delay {
         Some(delay) => so_far.pause(delay.at),
@@ -62,7 +64,9 @@ pub fn assignment<'a>(
     names: &Names,
     so_far: Progress<'a>,
 ) -> Progress<'a>
-    ensures { course result ≡ passed (course so_far.entry) (steps (Assign (target written.now) kind (option_map pause delay.now) (formula value.now)) (meanings names.now)) }
+    ensures { course result ≡ passed (course so_far.entry)
+        (steps (Assign (target written.now) kind (option_map pause delay.now) (formula value.now))
+        (meanings names.now)) }
 {
     let so_far = so_far.count(written.place());
     let so_far = so_far.spend_assignment(written, value, names);
@@ -72,7 +76,8 @@ pub fn assignment<'a>(
 /// The labels of an item of a case.
 #[tactic(auto, using(crate::proofs::Passing::passed_faults))]
 pub fn labels<'a>(all: &'a [Expr], names: &Names, so_far: Progress<'a>) -> Progress<'a>
-    ensures { course result ≡ passed (course so_far.entry) (faulty (all_faults (meanings names.now) (map formula all.now))) }
+    ensures { course result ≡ passed (course so_far.entry)
+        (faulty (all_faults (meanings names.now) (map formula all.now))) }
 {
     let mut so_far = so_far;
     for label in all {
@@ -83,7 +88,8 @@ pub fn labels<'a>(all: &'a [Expr], names: &Names, so_far: Progress<'a>) -> Progr
 
 /// A loop counts by an `integer` that no loop around it counts by.
 pub fn index<'a>(name: &'a Name, known: Option<Known>, so_far: Progress<'a>) -> Progress<'a>
-    ensures { course result ≡ passed (course so_far.entry) (faulty (index_faults (identifier name.now) known)) }
+    ensures { course result ≡ passed (course so_far.entry)
+        (faulty (index_faults (identifier name.now) known)) }
 {
     let cause = match known {
         Some(Known::Integer(None)) => return so_far,
@@ -102,7 +108,8 @@ pub fn stepped<'a>(
     known: Option<Known>,
     so_far: Progress<'a>,
 ) -> Progress<'a>
-    ensures { course result ≡ passed (course so_far.entry) (faulty (stepped_faults (identifier index.now) (identifier name.now) known)) }
+    ensures { course result ≡ passed (course so_far.entry)
+        (faulty (stepped_faults (identifier index.now) (identifier name.now) known)) }
 {
     if known.is_none() {
         let cause = Cause::Undeclared(&name.text);
@@ -156,7 +163,8 @@ fn labels_sign(all: &[Expr], names: &Names, signed: bool) -> bool
 }
 
 fn items_breadth(items: &[CaseItem], names: &Names, widest: Breadth) -> Breadth
-    ensures { result ≡ branches_breadth (meanings names.now) widest (branch_row (map branch items.now)) }
+    ensures { result ≡ branches_breadth (meanings names.now) widest
+        (branch_row (map branch items.now)) }
 {
     let mut widest = widest;
     for item in items {
@@ -168,7 +176,8 @@ fn items_breadth(items: &[CaseItem], names: &Names, widest: Breadth) -> Breadth
 }
 
 fn items_sign(items: &[CaseItem], names: &Names, signed: bool) -> bool
-    ensures { result ≡ branches_sign (meanings names.now) signed (branch_row (map branch items.now)) }
+    ensures { result ≡ branches_sign (meanings names.now) signed
+        (branch_row (map branch items.now)) }
 {
     let mut signed = signed;
     for item in items {
@@ -181,7 +190,8 @@ fn items_sign(items: &[CaseItem], names: &Names, signed: bool) -> bool
 
 /// The width and the sign of the selector of a case and of its labels: those of all of them.
 pub fn case_context(selector: &Expr, items: &[CaseItem], names: &Names) -> Context
-    ensures exact { result ≡ case_context (meanings names.now) (formula selector.now) (branch_row (map branch items.now)) }
+    ensures exact { result ≡ case_context (meanings names.now) (formula selector.now)
+        (branch_row (map branch items.now)) }
     ensures not_empty { 1 ≤ result.width }
     ensures at_most { result.width ≤ 128 }
 {

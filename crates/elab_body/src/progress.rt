@@ -67,7 +67,8 @@ impl<'a> Progress<'a> {
     }
 
     fn counted(self, at: u32, filled: bool) -> Progress<'a>
-        ensures { course result ≡ counted_in (course self.entry).best at self.entry.filled filled self.entry.left }
+        ensures { course result ≡ counted_in (course self.entry).best at self.entry.filled filled
+            self.entry.left }
     {
         match self.left {
             None => self,
@@ -103,7 +104,7 @@ impl<'a> Progress<'a> {
     }
 
     /// A turn of a loop begins.
-    pub fn begin_turn(self) -> Progress<'a>
+    pub(crate) fn begin_turn(self) -> Progress<'a>
         ensures { course result ≡ begun (course self.entry) }
     {
         Progress {
@@ -125,7 +126,7 @@ impl<'a> Progress<'a> {
     }
 
     /// A turn of a loop at `at` ends, where a statement has come before it or not.
-    pub fn end_turn(self, before: bool, at: u32) -> Progress<'a>
+    pub(crate) fn end_turn(self, before: bool, at: u32) -> Progress<'a>
         ensures { course result ≡ ended before at (course self.entry) }
     {
         let turned = self.turned(at);
@@ -162,7 +163,8 @@ impl<'a> Progress<'a> {
     /// Nodes of expressions more at a place, where so many are left before them and behind them; none where they are too
     /// many.
     pub fn spend(self, at: u32, left: Left, spare: Option<u32>) -> Progress<'a>
-        ensures { course result ≡ with_nodes (course self.entry).best at self.entry.filled left.statements left.delays spare }
+        ensures { course result ≡ with_nodes (course self.entry).best at self.entry.filled
+            left.statements left.delays spare }
     {
         match spare {
             None => Progress {
@@ -184,7 +186,8 @@ impl<'a> Progress<'a> {
 
     /// The nodes of an expression more.
     pub fn spend_expression(self, at: u32, e: &Expr, names: &Names) -> Progress<'a>
-        ensures { course result ≡ stepped (course self.entry) (Nodes at (node_count (meanings names.now) (formula e.now))) }
+        ensures { course result ≡ stepped (course self.entry)
+            (Nodes at (node_count (meanings names.now) (formula e.now))) }
     {
         match self.left {
             None => self,
@@ -194,7 +197,9 @@ impl<'a> Progress<'a> {
 
     /// The nodes of an assignment more, at its target.
     pub fn spend_assignment(self, written: &Lvalue, value: &Expr, names: &Names) -> Progress<'a>
-        ensures { course result ≡ stepped (course self.entry) (Nodes (target_place (target written.now)) (assignment_count (meanings names.now) (target written.now) (formula value.now))) }
+        ensures { course result ≡ stepped (course self.entry)
+            (Nodes (target_place (target written.now))
+            (assignment_count (meanings names.now) (target written.now) (formula value.now))) }
     {
         match self.left {
             None => self,
@@ -213,7 +218,9 @@ impl<'a> Progress<'a> {
         items: &[CaseItem],
         names: &Names,
     ) -> Progress<'a>
-        ensures { course result ≡ stepped (course self.entry) (Nodes at (case_count (meanings names.now) (formula selector.now) (branch_row (map branch items.now)))) }
+        ensures { course result ≡ stepped (course self.entry)
+            (Nodes at (case_count (meanings names.now) (formula selector.now)
+            (branch_row (map branch items.now)))) }
     {
         match self.left {
             None => self,
@@ -223,7 +230,8 @@ impl<'a> Progress<'a> {
 
     /// The nodes of a sensitivity list more, at its `always`.
     pub fn spend_listing(self, at: u32, control: &EventControl, names: &Names) -> Progress<'a>
-        ensures { course result ≡ stepped (course self.entry) (Nodes at (listing_count (meanings names.now) (sensitivity control.now))) }
+        ensures { course result ≡ stepped (course self.entry)
+            (Nodes at (listing_count (meanings names.now) (sensitivity control.now))) }
     {
         match self.left {
             None => self,
@@ -234,7 +242,8 @@ impl<'a> Progress<'a> {
     /// The faults of an expression.
     #[tactic(auto, using(crate::proofs::Passing::passed_faulty, crate::proofs::Passing::passed_cut))]
     pub fn judge(self, e: &'a Expr, names: &Names) -> Progress<'a>
-        ensures { course result ≡ passed (course self.entry) (faulty (faults (meanings names.now) (formula e.now))) }
+        ensures { course result ≡ passed (course self.entry)
+            (faulty (faults (meanings names.now) (formula e.now))) }
     {
         match self.left {
             None => self,
@@ -249,7 +258,8 @@ impl<'a> Progress<'a> {
     /// The faults of an expression that has to be constant.
     #[tactic(auto, using(crate::proofs::Passing::passed_faulty, crate::proofs::Passing::passed_cut))]
     pub fn judge_constant(self, e: &'a Expr, names: &Names) -> Progress<'a>
-        ensures { course result ≡ passed (course self.entry) (faulty (constant_faults (meanings names.now) (formula e.now))) }
+        ensures { course result ≡ passed (course self.entry)
+            (faulty (constant_faults (meanings names.now) (formula e.now))) }
     {
         match self.left {
             None => self,

@@ -67,7 +67,8 @@ fn push_own(
     listed: &[Listing<'_>],
     signals: &mut Vec<Signal>,
 ) -> Result<(), Memory>
-    requires { map listing listed.now ≡ listings_of (placement at.now).visit.settings (placement at.now).visit.circuit }
+    requires { map listing listed.now
+        ≡ listings_of (placement at.now).visit.settings (placement at.now).visit.circuit }
     ensures { OnOk result (signals.new.items ≡ signals.old.items ++ signals_at (placement at.now)) }
 {
     let home = Home {
@@ -167,7 +168,8 @@ fn push_located(
     regions: &[Dropped],
     dropped: &mut Vec<DroppedRegion>,
 ) -> Result<(), Memory>
-    ensures { OnOk result (dropped.new.items ≡ dropped.old.items ++ map (region (placement at.now)) regions.now) }
+    ensures { OnOk result (dropped.new.items
+        ≡ dropped.old.items ++ map (region (placement at.now)) regions.now) }
 {
     let file = file_of(at.visit.place)?;
     for one in regions {
@@ -194,7 +196,8 @@ fn push_regions(
 }
 
 fn regions_of(alloc: Global, placements: &[Placement<'_>]) -> Result<Vec<DroppedRegion>, Memory>
-    ensures { IfOk result (λ made. made.items ≡ flat_map regions_at (map placement placements.now)) }
+    ensures { IfOk result (λ made. made.items
+        ≡ flat_map regions_at (map placement placements.now)) }
 {
     let mut made = Vec::new(alloc);
     for at in placements {

@@ -48,7 +48,12 @@ pub struct Ends<'a> {
 
 /// What is selected of a name.
 fn part_of(name: &Name, known: Option<Known>, select: Select, site: Site) -> TargetPart
-    ensures { piece result ≡ record { signal = signal_of site.base known; selection = selection select; spot = spot_in site.file name.now.at } }
+    ensures { piece result ≡ record {
+      signal = signal_of site.base known;
+      selection = selection select;
+      spot = spot_in site.file
+          name.now.at;
+    } }
 {
     TargetPart {
         signal: signal_of(site.base, known),
@@ -68,7 +73,9 @@ fn push_pieces(
     site: Site,
     mut made: Vec<TargetPart>,
 ) -> Result<Vec<TargetPart>, Memory>
-    ensures { IfOk result (λ all. map piece all.items ≡ map piece made.items ++ link_pieces site.file site.base (meanings names.now) (formula e.now)) }
+    ensures { IfOk result (λ all. map piece all.items
+        ≡ map piece made.items ++ link_pieces site.file site.base (meanings names.now)
+        (formula e.now)) }
 {
     match e {
         Expr::Read(name) => {
@@ -107,7 +114,9 @@ fn push_all_pieces(
     site: Site,
     made: Vec<TargetPart>,
 ) -> Result<Vec<TargetPart>, Memory>
-    ensures { IfOk result (λ all. map piece all.items ≡ map piece made.items ++ all_link_pieces site.file site.base (meanings names.now) (formula_row (map formula parts.now))) }
+    ensures { IfOk result (λ all. map piece all.items
+        ≡ map piece made.items ++ all_link_pieces site.file site.base (meanings names.now)
+        (formula_row (map formula parts.now))) }
 {
     let mut made = made;
     for part in parts {
@@ -140,7 +149,8 @@ fn output_context(port: Option<Known>, e: &Expr, names: &Names) -> Context
 
 /// What drives what, where a connection stands.
 fn process(ends: Ends<'_>, at: u32, target: Target, value: SizedExpr) -> Process
-    ensures { task result ≡ link_task (sides ends.entry) at (map piece target.parts.items) (tree value) }
+    ensures { task result ≡ link_task (sides ends.entry) at (map piece target.parts.items)
+        (tree value) }
 {
     Process {
         does: Does::Assign { target, value },
@@ -183,7 +193,8 @@ fn port_value(ends: Ends<'_>, at: u32, port: Option<Known>, context: Context) ->
 
 /// An input port is assigned its argument.
 fn input(ends: Ends<'_>, at: u32, port: Option<Known>, e: &Expr) -> Result<Process, Memory>
-    ensures { IfOk result (λ made. task made ∷ [] ≡ port_tasks (sides ends.entry) at (Some Input) port (formula e.now)) }
+    ensures { IfOk result (λ made. task made ∷ []
+        ≡ port_tasks (sides ends.entry) at (Some Input) port (formula e.now)) }
 {
     let mut parts = Vec::new(ends.site.alloc);
     parts.push(port_piece(ends, at, port))?;
@@ -193,7 +204,8 @@ fn input(ends: Ends<'_>, at: u32, port: Option<Known>, e: &Expr) -> Result<Proce
 
 /// The argument of an output port is assigned the port.
 fn output(ends: Ends<'_>, at: u32, port: Option<Known>, e: &Expr) -> Result<Process, Memory>
-    ensures { IfOk result (λ made. task made ∷ [] ≡ port_tasks (sides ends.entry) at (Some Output) port (formula e.now)) }
+    ensures { IfOk result (λ made. task made ∷ []
+        ≡ port_tasks (sides ends.entry) at (Some Output) port (formula e.now)) }
 {
     let parts = push_pieces(e, ends.names, ends.site, Vec::new(ends.site.alloc))?;
     let value = port_value(ends, at, port, output_context(port, e, ends.names));
@@ -208,7 +220,9 @@ fn push_port(
     e: &Expr,
     made: &mut Vec<Process>,
 ) -> Result<(), Memory>
-    ensures { OnOk result (map task made.new.items ≡ map task made.old.items ++ port_tasks (sides ends.entry) at direction port (formula e.now)) }
+    ensures { OnOk result (map task made.new.items
+        ≡ map task made.old.items ++ port_tasks (sides ends.entry) at direction port
+        (formula e.now)) }
 {
     match direction {
         None => {}
@@ -227,7 +241,9 @@ fn push_value(
     value: &Option<Expr>,
     made: &mut Vec<Process>,
 ) -> Result<(), Memory>
-    ensures { OnOk result (map task made.new.items ≡ map task made.old.items ++ named_port_tasks (sockets ports.now) (sides ends.entry) at name.now (option_map formula value.now)) }
+    ensures { OnOk result (map task made.new.items
+        ≡ map task made.old.items ++ named_port_tasks (sockets ports.now)
+        (sides ends.entry) at name.now (option_map formula value.now)) }
 {
     if let Some(e) = value {
         push_port(
@@ -249,7 +265,10 @@ fn push_placed(
     argument: &OrderedArgument,
     made: &mut Vec<Process>,
 ) -> Result<(), Memory>
-    ensures { OnOk result (map task made.new.items ≡ map task made.old.items ++ placed_tasks (sockets ports.now) (sides ends.entry) argument.now.at (slice_get (sockets ports.now).order place) (option_map formula argument.now.value)) }
+    ensures { OnOk result (map task made.new.items
+        ≡ map task made.old.items ++ placed_tasks (sockets ports.now)
+        (sides ends.entry) argument.now.at (slice_get (sockets ports.now).order place)
+        (option_map formula argument.now.value)) }
 {
     match ports.order.get(place) {
         None => Ok(()),
@@ -263,7 +282,9 @@ fn push_ordered(
     arguments: &[OrderedArgument],
     made: &mut Vec<Process>,
 ) -> Result<(), Memory>
-    ensures { OnOk result (map task made.new.items ≡ map task made.old.items ++ ordered_tasks (sockets ports.now) (sides ends.entry) 0 (map positional arguments.now)) }
+    ensures { OnOk result (map task made.new.items
+        ≡ map task made.old.items ++ ordered_tasks (sockets ports.now) (sides ends.entry) 0
+        (map positional arguments.now)) }
 {
     for (place, argument) in arguments.iter().enumerate() {
         push_placed(ports, ends, place, argument, made)?;
@@ -277,7 +298,9 @@ fn push_named(
     arguments: &[NamedArgument],
     made: &mut Vec<Process>,
 ) -> Result<(), Memory>
-    ensures { OnOk result (map task made.new.items ≡ map task made.old.items ++ named_tasks (sockets ports.now) (sides ends.entry) (map associated arguments.now)) }
+    ensures { OnOk result (map task made.new.items
+        ≡ map task made.old.items ++ named_tasks (sockets ports.now) (sides ends.entry)
+        (map associated arguments.now)) }
 {
     for argument in arguments {
         let name = &argument.name.text;
@@ -287,13 +310,15 @@ fn push_named(
 }
 
 /// What the connections of an instance of a module with these ports do, behind others.
-pub fn push_links(
+pub(crate) fn push_links(
     ports: &Ports<'_>,
     ends: Ends<'_>,
     connections: &Arguments,
     made: &mut Vec<Process>,
 ) -> Result<(), Memory>
-    ensures { OnOk result (map task made.new.items ≡ map task made.old.items ++ link_tasks (sockets ports.now) (sides ends.entry) (association connections.now)) }
+    ensures { OnOk result (map task made.new.items
+        ≡ map task made.old.items ++ link_tasks (sockets ports.now) (sides ends.entry)
+        (association connections.now)) }
 {
     match connections {
         Arguments::Ordered(arguments) => push_ordered(ports, ends, arguments, made),

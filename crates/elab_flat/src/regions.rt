@@ -72,7 +72,8 @@ fn merged(alloc: Global, regions: &[Dropped], others: &[Dropped]) -> Result<Vec<
 
 /// The initial values of variables, behind others.
 fn push_variables(regs: &[Reg], made: &mut Vec<Dropped>) -> Result<(), Memory>
-    ensures { OnOk result (made.new.items ≡ made.old.items ++ variable_initials (map variable regs.now)) }
+    ensures { OnOk result (made.new.items
+        ≡ made.old.items ++ variable_initials (map variable regs.now)) }
 {
     for reg in regs {
         if reg.initial {
@@ -86,7 +87,8 @@ fn push_variables(regs: &[Reg], made: &mut Vec<Dropped>) -> Result<(), Memory>
 }
 
 fn push_item(item: &Item, made: &mut Vec<Dropped>) -> Result<(), Memory>
-    ensures { OnOk result (made.new.items ≡ made.old.items ++ item_initials (module_item item.now)) }
+    ensures { OnOk result (made.new.items
+        ≡ made.old.items ++ item_initials (module_item item.now)) }
 {
     match item {
         Item::Regs { regs, .. } => push_variables(regs, made)?,

@@ -245,7 +245,8 @@ impl Works {
             ≡ with_part (library all.entry) (placement at.now) (bases_of held.now) (works self.old)
             (module_item item.now)) }
         ensures count { IfOk result (λ count.
-            count ≡ placed (group_in (library all.entry) (placement at.now) (module_item item.now))) }
+            count ≡ placed (group_in (library all.entry) (placement at.now)
+            (module_item item.now))) }
         ensures same { meanings names.new ≡ meanings names.old }
     {
         let first = self.processes.len();
@@ -274,7 +275,8 @@ impl Works {
         requires base { site.base ≡ (placement at.now).base }
         requires names { meanings names.old ≡ scope_in (placement at.now).visit }
         requires known { AreKnown held.now
-            (placed_scopes (library all) (scope_in (placement at.now).visit) (map module_item items.now)) }
+            (placed_scopes (library all) (scope_in (placement at.now).visit)
+            (map module_item items.now)) }
         ensures { OnOk result (works self.new
             ≡ with_parts (library all.entry) (placement at.now) (bases_of held.now) (works self.old)
             (map module_item items.now)) }

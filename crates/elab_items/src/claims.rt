@@ -78,7 +78,8 @@ impl Claims {
 
     /// Puts a claim in the place of that which is there.
     pub fn put(&mut self, name: &Text, claim: Claim) -> Result<(), Memory>
-        ensures { OnOk result (claims_in self.new ≡ with_claim (claims_in self.old) name.now claim) }
+        ensures { OnOk result (claims_in self.new
+            ≡ with_claim (claims_in self.old) name.now claim) }
     {
         self.known.put(name, claim)?;
         Ok(())
@@ -200,7 +201,7 @@ impl Claim {
     }
 
     /// A declaration of what is no signal more.
-    pub fn with_plain(self, own: Sense) -> Claim
+    pub(crate) fn with_plain(self, own: Sense) -> Claim
         ensures { result ≡ plain_claim own self }
     {
         Claim {
@@ -211,7 +212,8 @@ impl Claim {
 }
 
 fn declared_twice<'a>(name: &'a Name, best: Option<Fault<'a>>) -> Option<Fault<'a>>
-    ensures { option_map refusal result ≡ after (option_map refusal best.entry) (listed_faults (identifier name.now) true) }
+    ensures { option_map refusal result
+        ≡ after (option_map refusal best.entry) (listed_faults (identifier name.now) true) }
 {
     let cause = Cause::DeclaredTwice(&name.text);
     Fault::keep(best, Fault { at: name.at, cause })
@@ -240,7 +242,8 @@ fn judge_pair<'a>(
     line: Line,
     best: Option<Fault<'a>>,
 ) -> Option<Fault<'a>>
-    ensures { option_map refusal result ≡ after (option_map refusal best.entry) (pair_faults (identifier name.now) old line) }
+    ensures { option_map refusal result
+        ≡ after (option_map refusal best.entry) (pair_faults (identifier name.now) old line) }
 {
     let best = if old.reach.agrees(line.reach) {
         best
@@ -252,13 +255,14 @@ fn judge_pair<'a>(
 }
 
 /// The declaration of a signal, where the name has a sense already or not.
-pub fn judge_signal<'a>(
+pub(crate) fn judge_signal<'a>(
     name: &'a Name,
     sense: Option<Sense>,
     line: Line,
     best: Option<Fault<'a>>,
 ) -> Option<Fault<'a>>
-    ensures { option_map refusal result ≡ after (option_map refusal best.entry) (signal_faults (identifier name.now) sense line) }
+    ensures { option_map refusal result
+        ≡ after (option_map refusal best.entry) (signal_faults (identifier name.now) sense line) }
 {
     match sense {
         None => judge_reg(name, name.at, line, best),
@@ -268,13 +272,14 @@ pub fn judge_signal<'a>(
 }
 
 /// What an item gives a direction stands in the head.
-pub fn judge_outside<'a>(
+pub(crate) fn judge_outside<'a>(
     name: &'a Name,
     form: Form,
     listed: bool,
     best: Option<Fault<'a>>,
 ) -> Option<Fault<'a>>
-    ensures { option_map refusal result ≡ after (option_map refusal best.entry) (outside_faults (identifier name.now) form listed) }
+    ensures { option_map refusal result
+        ≡ after (option_map refusal best.entry) (outside_faults (identifier name.now) form listed) }
 {
     match form {
         Form::Item(_, _) if !listed => {
@@ -286,12 +291,13 @@ pub fn judge_outside<'a>(
 }
 
 /// The declaration of what is no signal.
-pub fn judge_plain<'a>(
+pub(crate) fn judge_plain<'a>(
     name: &'a Name,
     sense: Option<Sense>,
     best: Option<Fault<'a>>,
 ) -> Option<Fault<'a>>
-    ensures { option_map refusal result ≡ after (option_map refusal best.entry) (plain_faults (identifier name.now) sense) }
+    ensures { option_map refusal result
+        ≡ after (option_map refusal best.entry) (plain_faults (identifier name.now) sense) }
 {
     match sense {
         None => best,
@@ -300,8 +306,13 @@ pub fn judge_plain<'a>(
 }
 
 /// A name in the head that leaves its direction to an item.
-pub fn judge_listed<'a>(name: &'a Name, listed: bool, best: Option<Fault<'a>>) -> Option<Fault<'a>>
-    ensures { option_map refusal result ≡ after (option_map refusal best.entry) (listed_faults (identifier name.now) listed) }
+pub(crate) fn judge_listed<'a>(
+    name: &'a Name,
+    listed: bool,
+    best: Option<Fault<'a>>,
+) -> Option<Fault<'a>>
+    ensures { option_map refusal result
+        ≡ after (option_map refusal best.entry) (listed_faults (identifier name.now) listed) }
 {
     if listed {
         declared_twice(name, best)

@@ -43,7 +43,9 @@ fn judge_value<'a>(
     names: &Names,
     best: Option<Fault<'a>>,
 ) -> Option<Fault<'a>>
-    ensures { option_map refusal result ≡ after (option_map refusal best.entry) (value_name_faults (meanings names.now) given (formula value.now)) }
+    ensures { option_map refusal result
+        ≡ after (option_map refusal best.entry)
+        (value_name_faults (meanings names.now) given (formula value.now)) }
 {
     match given {
         Some(_) => best,
@@ -58,7 +60,9 @@ fn judge_names<'a>(
     names: &Names,
     best: Option<Fault<'a>>,
 ) -> Option<Fault<'a>>
-    ensures { option_map refusal result ≡ after (option_map refusal best.entry) (name_faults (settings_of overrides.now) (meanings names.now) (declaration entry.entry)) }
+    ensures { option_map refusal result
+        ≡ after (option_map refusal best.entry)
+        (name_faults (settings_of overrides.now) (meanings names.now) (declaration entry.entry)) }
 {
     match entry {
         Entry::ParameterRange(range) => judge_bounds(range, names, best),
@@ -77,7 +81,10 @@ fn judge_all_names<'a>(
     names: &Names,
     best: Option<Fault<'a>>,
 ) -> Option<Fault<'a>>
-    ensures { option_map refusal result ≡ after (option_map refusal best.entry) (all_name_faults (settings_of overrides.now) (meanings names.now) (map declaration entries.now)) }
+    ensures { option_map refusal result
+        ≡ after (option_map refusal best.entry)
+        (all_name_faults (settings_of overrides.now) (meanings names.now)
+        (map declaration entries.now)) }
 {
     let mut best = best;
     for entry in entries {
@@ -96,9 +103,14 @@ fn declare_entries<'a>(
     numbers: &Names,
     best: Option<Fault<'a>>,
 ) -> Result<Declared<'a>, Memory>
-    ensures names { IfOk result (λ made. meanings made.names ≡ (roster_from (meanings numbers.now) (map declaration entries.now)).scope) }
-    ensures signals { IfOk result (λ made. map listing made.signals.items ≡ (roster_from (meanings numbers.now) (map declaration entries.now)).signals) }
-    ensures best { IfOk result (λ made. option_map refusal made.best ≡ after (option_map refusal best.entry) (faults_after (settings_of overrides.now) base (meanings numbers.now) (map declaration entries.now))) }
+    ensures names { IfOk result (λ made. meanings made.names
+        ≡ (roster_from (meanings numbers.now) (map declaration entries.now)).scope) }
+    ensures signals { IfOk result (λ made. map listing made.signals.items
+        ≡ (roster_from (meanings numbers.now) (map declaration entries.now)).signals) }
+    ensures best { IfOk result (λ made. option_map refusal made.best
+        ≡ after (option_map refusal best.entry)
+        (faults_after (settings_of overrides.now) base (meanings numbers.now)
+        (map declaration entries.now))) }
 {
     let joined = join(alloc, entries, numbers, best)?;
     let best = judge_directions(entries, &joined.claims, joined.best);
@@ -122,9 +134,13 @@ pub fn declare<'a>(
     base: u32,
     best: Option<Fault<'a>>,
 ) -> Result<Declared<'a>, Memory>
-    ensures names { IfOk result (λ made. meanings made.names ≡ scope_of (settings_of overrides.now) (circuit written.now)) }
-    ensures signals { IfOk result (λ made. map listing made.signals.items ≡ listings_of (settings_of overrides.now) (circuit written.now)) }
-    ensures best { IfOk result (λ made. option_map refusal made.best ≡ after (option_map refusal best.entry) (declaration_faults (settings_of overrides.now) base (circuit written.now))) }
+    ensures names { IfOk result (λ made. meanings made.names
+        ≡ scope_of (settings_of overrides.now) (circuit written.now)) }
+    ensures signals { IfOk result (λ made. map listing made.signals.items
+        ≡ listings_of (settings_of overrides.now) (circuit written.now)) }
+    ensures best { IfOk result (λ made. option_map refusal made.best
+        ≡ after (option_map refusal best.entry)
+        (declaration_faults (settings_of overrides.now) base (circuit written.now))) }
 {
     let made = entries_of(alloc, written)?;
     let entries = made.as_slice();

@@ -38,7 +38,9 @@ fn judge_value<'a>(
     names: &Names,
     best: Option<Fault<'a>>,
 ) -> Option<Fault<'a>>
-    ensures { option_map refusal result ≡ after (option_map refusal best.entry) (value_faults given (meanings names.now) (formula value.now)) }
+    ensures { option_map refusal result
+        ≡ after (option_map refusal best.entry)
+        (value_faults given (meanings names.now) (formula value.now)) }
 {
     match given {
         Some(_) => best,
@@ -53,7 +55,9 @@ fn judge_numbers<'a>(
     names: &Names,
     best: Option<Fault<'a>>,
 ) -> Option<Fault<'a>>
-    ensures { option_map refusal result ≡ after (option_map refusal best.entry) (draft_faults (settings_of overrides.now) (meanings names.now) (declaration entry.entry)) }
+    ensures { option_map refusal result
+        ≡ after (option_map refusal best.entry)
+        (draft_faults (settings_of overrides.now) (meanings names.now) (declaration entry.entry)) }
 {
     match entry {
         Entry::ParameterRange(range) => judge_range(MOST, range, names, best),
@@ -97,7 +101,9 @@ fn declare_number(
     reach: Reach,
     names: &mut Names,
 ) -> Result<(), Memory>
-    ensures { OnOk result (meanings names.new ≡ scope_after (settings_of overrides.now) (meanings names.old) reach (declaration entry.entry)) }
+    ensures { OnOk result (meanings names.new
+        ≡ scope_after (settings_of overrides.now) (meanings names.old) reach
+        (declaration entry.entry)) }
 {
     match entry {
         Entry::ParameterRange(_) | Entry::SignalRange(_) | Entry::Listed(_) => {}
@@ -122,8 +128,11 @@ pub fn draft<'a>(
     overrides: &Overrides,
     best: Option<Fault<'a>>,
 ) -> Result<Numbered<'a>, Memory>
-    ensures names { IfOk result (λ made. meanings made.names ≡ (all_drafted (settings_of overrides.now) no_draft (map declaration entries.now)).scope) }
-    ensures best { IfOk result (λ made. option_map refusal made.best ≡ after (option_map refusal best.entry) (all_draft_faults (settings_of overrides.now) no_draft (map declaration entries.now))) }
+    ensures names { IfOk result (λ made. meanings made.names
+        ≡ (all_drafted (settings_of overrides.now) no_draft (map declaration entries.now)).scope) }
+    ensures best { IfOk result (λ made. option_map refusal made.best
+        ≡ after (option_map refusal best.entry)
+        (all_draft_faults (settings_of overrides.now) no_draft (map declaration entries.now))) }
 {
     let mut names = Names::new(alloc);
     let mut reach = Reach::Scalar;

@@ -51,7 +51,9 @@ fn push_parameters<'a>(
     parameters: &'a [HeadParameter],
     entries: &mut Vec<Entry<'a>>,
 ) -> Result<(), Memory>
-    ensures { OnOk result (map declaration entries.new.items ≡ map declaration entries.old.items ++ head_parameters (map header_parameter parameters.now)) }
+    ensures { OnOk result (map declaration entries.new.items
+        ≡ map declaration entries.old.items
+        ++ head_parameters (map header_parameter parameters.now)) }
 {
     for parameter in parameters {
         if let Some(head) = &parameter.head {
@@ -67,7 +69,8 @@ fn push_parameters<'a>(
 }
 
 fn push_ports<'a>(ports: &'a [HeadPort], entries: &mut Vec<Entry<'a>>) -> Result<(), Memory>
-    ensures { OnOk result (map declaration entries.new.items ≡ map declaration entries.old.items ++ head_ports None (map header_port ports.now)) }
+    ensures { OnOk result (map declaration entries.new.items
+        ≡ map declaration entries.old.items ++ head_ports None (map header_port ports.now)) }
 {
     let mut in_force: Option<&'a PortHead> = None;
     for port in ports {
@@ -82,7 +85,8 @@ fn push_ports<'a>(ports: &'a [HeadPort], entries: &mut Vec<Entry<'a>>) -> Result
 
 /// A port of the head, with the direction that is in force.
 fn headed<'a>(in_force: Option<&'a PortHead>, name: &'a Name) -> Entry<'a>
-    ensures { declaration result ≡ headed (option_map (λ written. head written.now) in_force.entry) (identifier name.now) }
+    ensures { declaration result ≡ headed (option_map (λ written. head written.now) in_force.entry)
+        (identifier name.now) }
 {
     match in_force {
         None => Entry::Listed(name),
@@ -95,7 +99,8 @@ fn headed<'a>(in_force: Option<&'a PortHead>, name: &'a Name) -> Entry<'a>
 }
 
 fn push_listed<'a>(names: &'a [Name], entries: &mut Vec<Entry<'a>>) -> Result<(), Memory>
-    ensures { OnOk result (map declaration entries.new.items ≡ map declaration entries.old.items ++ map Listed (map identifier names.now)) }
+    ensures { OnOk result (map declaration entries.new.items
+        ≡ map declaration entries.old.items ++ map Listed (map identifier names.now)) }
 {
     for name in names {
         entries.push(Entry::Listed(name))?;
@@ -104,7 +109,8 @@ fn push_listed<'a>(names: &'a [Name], entries: &mut Vec<Entry<'a>>) -> Result<()
 }
 
 fn push_header<'a>(ports: &'a PortList, entries: &mut Vec<Entry<'a>>) -> Result<(), Memory>
-    ensures { OnOk result (map declaration entries.new.items ≡ map declaration entries.old.items ++ header_declarations (header ports.now)) }
+    ensures { OnOk result (map declaration entries.new.items
+        ≡ map declaration entries.old.items ++ header_declarations (header ports.now)) }
 {
     match ports {
         PortList::Absent | PortList::Empty => {}
@@ -119,7 +125,10 @@ fn push_directed<'a>(
     names: &'a [Name],
     entries: &mut Vec<Entry<'a>>,
 ) -> Result<(), Memory>
-    ensures { OnOk result (map declaration entries.new.items ≡ map declaration entries.old.items ++ map (Signal (form.Item written.now.direction written.now.kind) written.now.signed) (map identifier names.now)) }
+    ensures { OnOk result (map declaration entries.new.items
+        ≡ map declaration entries.old.items
+        ++ map (Signal (form.Item written.now.direction written.now.kind) written.now.signed)
+        (map identifier names.now)) }
 {
     let form = Form::Item(written.direction, written.kind);
     let signed = written.signed;
@@ -134,7 +143,8 @@ fn push_wires<'a>(
     wires: &'a [Wire],
     entries: &mut Vec<Entry<'a>>,
 ) -> Result<(), Memory>
-    ensures { OnOk result (map declaration entries.new.items ≡ map declaration entries.old.items ++ map (declared_net signed) (map net wires.now)) }
+    ensures { OnOk result (map declaration entries.new.items
+        ≡ map declaration entries.old.items ++ map (declared_net signed) (map net wires.now)) }
 {
     for wire in wires {
         entries.push(Entry::Signal {
@@ -147,7 +157,9 @@ fn push_wires<'a>(
 }
 
 fn push_regs<'a>(signed: bool, regs: &'a [Reg], entries: &mut Vec<Entry<'a>>) -> Result<(), Memory>
-    ensures { OnOk result (map declaration entries.new.items ≡ map declaration entries.old.items ++ map (declared_variable signed) (map variable regs.now)) }
+    ensures { OnOk result (map declaration entries.new.items
+        ≡ map declaration entries.old.items
+        ++ map (declared_variable signed) (map variable regs.now)) }
 {
     for reg in regs {
         entries.push(Entry::Signal {
@@ -160,7 +172,8 @@ fn push_regs<'a>(signed: bool, regs: &'a [Reg], entries: &mut Vec<Entry<'a>>) ->
 }
 
 fn push_integers<'a>(names: &'a [Name], entries: &mut Vec<Entry<'a>>) -> Result<(), Memory>
-    ensures { OnOk result (map declaration entries.new.items ≡ map declaration entries.old.items ++ map Integer (map identifier names.now)) }
+    ensures { OnOk result (map declaration entries.new.items
+        ≡ map declaration entries.old.items ++ map Integer (map identifier names.now)) }
 {
     for name in names {
         entries.push(Entry::Integer(name))?;
@@ -173,7 +186,9 @@ fn push_settings<'a>(
     settings: &'a [Setting],
     entries: &mut Vec<Entry<'a>>,
 ) -> Result<(), Memory>
-    ensures { OnOk result (map declaration entries.new.items ≡ map declaration entries.old.items ++ map (declared_parameter kind) (map valuation settings.now)) }
+    ensures { OnOk result (map declaration entries.new.items
+        ≡ map declaration entries.old.items
+        ++ map (declared_parameter kind) (map valuation settings.now)) }
 {
     for setting in settings {
         entries.push(Entry::Parameter(kind, &setting.name, &setting.value))?;
@@ -192,7 +207,8 @@ fn push_instances<'a>(instances: &'a [Instance], entries: &mut Vec<Entry<'a>>) -
 }
 
 fn push_item<'a>(item: &'a Item, entries: &mut Vec<Entry<'a>>) -> Result<(), Memory>
-    ensures { OnOk result (map declaration entries.new.items ≡ map declaration entries.old.items ++ item_declarations (module_item item.now)) }
+    ensures { OnOk result (map declaration entries.new.items
+        ≡ map declaration entries.old.items ++ item_declarations (module_item item.now)) }
 {
     match item {
         Item::Ports(head, names) => {
@@ -234,7 +250,8 @@ fn push_item<'a>(item: &'a Item, entries: &mut Vec<Entry<'a>>) -> Result<(), Mem
 }
 
 fn push_items<'a>(items: &'a [Item], entries: &mut Vec<Entry<'a>>) -> Result<(), Memory>
-    ensures { OnOk result (map declaration entries.new.items ≡ map declaration entries.old.items ++ items_declarations (map module_item items.now)) }
+    ensures { OnOk result (map declaration entries.new.items
+        ≡ map declaration entries.old.items ++ items_declarations (map module_item items.now)) }
 {
     for item in items {
         push_item(item, entries)?;
@@ -244,7 +261,8 @@ fn push_items<'a>(items: &'a [Item], entries: &mut Vec<Entry<'a>>) -> Result<(),
 
 /// The declarations of the module.
 pub fn entries_of(alloc: Global, written: &Module) -> Result<Vec<Entry<'_>>, Memory>
-    ensures { IfOk result (λ entries. map declaration entries.items ≡ declarations (circuit written.now)) }
+    ensures { IfOk result (λ entries. map declaration entries.items
+        ≡ declarations (circuit written.now)) }
 {
     // Most items declare one name, and a head has a few.
     let mut entries = Vec::with_capacity(alloc, written.items.len().saturating_add(8))?;

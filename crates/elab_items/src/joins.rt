@@ -29,7 +29,8 @@ const MOST: u8 = 128;
 
 /// The range of the signals behind a declaration.
 fn reach_after(entry: Entry<'_>, names: &Names, reach: Reach) -> Reach
-    ensures { result ≡ reach_after (numbers_in (meanings names.now)) reach (declaration entry.entry) }
+    ensures { result ≡ reach_after (numbers_in (meanings names.now)) reach
+        (declaration entry.entry) }
 {
     match entry {
         Entry::SignalRange(range) => reach_of(MOST, range, names),
@@ -48,8 +49,12 @@ fn take_listed<'a>(
     claims: &mut Claims,
     best: Option<Fault<'a>>,
 ) -> Result<Option<Fault<'a>>, Memory>
-    ensures claims { OnOk result (claims_in claims.new ≡ with_claim (claims_in claims.old) name.now.text (listed_claim (claims_in claims.old name.now.text))) }
-    ensures told { IfOk result (λ told. option_map refusal told ≡ after (option_map refusal best.entry) (listed_faults (identifier name.now) (claims_in claims.old name.now.text).listed)) }
+    ensures claims { OnOk result (claims_in claims.new
+        ≡ with_claim (claims_in claims.old) name.now.text
+        (listed_claim (claims_in claims.old name.now.text))) }
+    ensures told { IfOk result (λ told. option_map refusal told
+        ≡ after (option_map refusal best.entry)
+        (listed_faults (identifier name.now) (claims_in claims.old name.now.text).listed)) }
 {
     let old = claims.find(&name.text);
     claims.put(&name.text, old.listed())?;
@@ -65,8 +70,13 @@ fn take_signal<'a>(
     claims: &mut Claims,
     best: Option<Fault<'a>>,
 ) -> Result<Option<Fault<'a>>, Memory>
-    ensures claims { OnOk result (claims_in claims.new ≡ with_claim (claims_in claims.old) name.now.text (signal_claim (claims_in claims.old name.now.text) form line)) }
-    ensures told { IfOk result (λ told. option_map refusal told ≡ after (option_map refusal best.entry) (outside_faults (identifier name.now) form (claims_in claims.old name.now.text).listed ++ signal_faults (identifier name.now) (claims_in claims.old name.now.text).sense line)) }
+    ensures claims { OnOk result (claims_in claims.new
+        ≡ with_claim (claims_in claims.old) name.now.text
+        (signal_claim (claims_in claims.old name.now.text) form line)) }
+    ensures told { IfOk result (λ told. option_map refusal told
+        ≡ after (option_map refusal best.entry)
+        (outside_faults (identifier name.now) form (claims_in claims.old name.now.text).listed
+        ++ signal_faults (identifier name.now) (claims_in claims.old name.now.text).sense line)) }
 {
     let old = claims.find(&name.text);
     claims.put(&name.text, old.with_signal(form, line))?;
@@ -81,8 +91,12 @@ fn take_plain<'a>(
     claims: &mut Claims,
     best: Option<Fault<'a>>,
 ) -> Result<Option<Fault<'a>>, Memory>
-    ensures claims { OnOk result (claims_in claims.new ≡ with_claim (claims_in claims.old) name.now.text (plain_claim own (claims_in claims.old name.now.text))) }
-    ensures told { IfOk result (λ told. option_map refusal told ≡ after (option_map refusal best.entry) (plain_faults (identifier name.now) (claims_in claims.old name.now.text).sense)) }
+    ensures claims { OnOk result (claims_in claims.new
+        ≡ with_claim (claims_in claims.old) name.now.text
+        (plain_claim own (claims_in claims.old name.now.text))) }
+    ensures told { IfOk result (λ told. option_map refusal told
+        ≡ after (option_map refusal best.entry)
+        (plain_faults (identifier name.now) (claims_in claims.old name.now.text).sense)) }
 {
     let old = claims.find(&name.text);
     claims.put(&name.text, old.with_plain(own))?;
@@ -97,8 +111,12 @@ fn take_entry<'a>(
     claims: &mut Claims,
     best: Option<Fault<'a>>,
 ) -> Result<Option<Fault<'a>>, Memory>
-    ensures claims { OnOk result (claims_in claims.new ≡ claims_after (claims_in claims.old) reach (declaration entry.entry)) }
-    ensures told { IfOk result (λ told. option_map refusal told ≡ after (option_map refusal best.entry) (claim_faults (numbers_in (meanings names.now)) (claims_in claims.old) reach (declaration entry.entry))) }
+    ensures claims { OnOk result (claims_in claims.new
+        ≡ claims_after (claims_in claims.old) reach (declaration entry.entry)) }
+    ensures told { IfOk result (λ told. option_map refusal told
+        ≡ after (option_map refusal best.entry)
+        (claim_faults (numbers_in (meanings names.now)) (claims_in claims.old) reach
+        (declaration entry.entry))) }
 {
     match entry {
         Entry::ParameterRange(_) => Ok(best),
@@ -121,8 +139,13 @@ pub fn join<'a>(
     names: &Names,
     best: Option<Fault<'a>>,
 ) -> Result<Joined<'a>, Memory>
-    ensures claims { IfOk result (λ made. claims_in made.claims ≡ (all_claimed (numbers_in (meanings names.now)) no_course (map declaration entries.now)).claims) }
-    ensures best { IfOk result (λ made. option_map refusal made.best ≡ after (option_map refusal best.entry) (all_claim_faults (numbers_in (meanings names.now)) no_course (map declaration entries.now))) }
+    ensures claims { IfOk result (λ made. claims_in made.claims
+        ≡ (all_claimed (numbers_in (meanings names.now)) no_course
+        (map declaration entries.now)).claims) }
+    ensures best { IfOk result (λ made. option_map refusal made.best
+        ≡ after (option_map refusal best.entry)
+        (all_claim_faults (numbers_in (meanings names.now)) no_course
+        (map declaration entries.now))) }
 {
     let mut claims = Claims::new(alloc);
     let mut reach = Reach::Scalar;
@@ -140,7 +163,9 @@ fn judge_direction<'a>(
     claims: &Claims,
     best: Option<Fault<'a>>,
 ) -> Option<Fault<'a>>
-    ensures { option_map refusal result ≡ after (option_map refusal best.entry) (direction_faults (claims_in claims.now) (declaration entry.entry)) }
+    ensures { option_map refusal result
+        ≡ after (option_map refusal best.entry)
+        (direction_faults (claims_in claims.now) (declaration entry.entry)) }
 {
     match entry {
         Entry::Listed(name) => judge_directed(name, claims.find(&name.text).directed, best),
@@ -154,7 +179,8 @@ fn judge_direction<'a>(
 }
 
 fn judge_directed<'a>(name: &'a Name, directed: bool, best: Option<Fault<'a>>) -> Option<Fault<'a>>
-    ensures { option_map refusal result ≡ after (option_map refusal best.entry) (directed_faults (identifier name.now) directed) }
+    ensures { option_map refusal result
+        ≡ after (option_map refusal best.entry) (directed_faults (identifier name.now) directed) }
 {
     if directed {
         return best;
@@ -165,12 +191,14 @@ fn judge_directed<'a>(name: &'a Name, directed: bool, best: Option<Fault<'a>>) -
 
 /// The names of the head that no item gives a direction.
 #[tactic(auto, using(elab_scope::proofs::Least::after_append))]
-pub fn judge_directions<'a>(
+pub(crate) fn judge_directions<'a>(
     entries: &[Entry<'a>],
     claims: &Claims,
     best: Option<Fault<'a>>,
 ) -> Option<Fault<'a>>
-    ensures { option_map refusal result ≡ after (option_map refusal best.entry) (all_direction_faults (claims_in claims.now) (map declaration entries.now)) }
+    ensures { option_map refusal result
+        ≡ after (option_map refusal best.entry)
+        (all_direction_faults (claims_in claims.now) (map declaration entries.now)) }
 {
     let mut best = best;
     for entry in entries {

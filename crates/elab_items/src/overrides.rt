@@ -59,14 +59,15 @@ impl Overrides {
 
     /// Sets the parameter, or sets it again. Where memory runs out, nothing has changed.
     pub fn set(&mut self, name: &Text, given: Override) -> Result<(), Memory>
-        ensures ok { OnOk result (settings_of self.new ≡ with_setting (settings_of self.old) name.now given) }
+        ensures ok { OnOk result (settings_of self.new
+            ≡ with_setting (settings_of self.old) name.now given) }
         ensures err { OnErr result (settings_of self.new ≡ settings_of self.old) }
     {
         self.given.put(name, given)
     }
 
     /// What a parameter of this kind is set to; a `localparam` keeps its value.
-    pub fn given_to(&self, kind: ParameterKind, name: &Text) -> Option<Override>
+    pub(crate) fn given_to(&self, kind: ParameterKind, name: &Text) -> Option<Override>
         ensures { result ≡ given_to (settings_of self.now) kind name.now }
     {
         match kind {
@@ -142,7 +143,7 @@ fn unranged(format: Option<Format>, number: Option<i64>) -> Known
 }
 
 /// The parameter with a value: a range gives it its width, else a sized literal does.
-pub fn parameter_of(reach: Reach, value: Override) -> Known
+pub(crate) fn parameter_of(reach: Reach, value: Override) -> Known
     ensures { result ≡ parameter_of reach value }
 {
     match reach {

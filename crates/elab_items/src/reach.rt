@@ -84,7 +84,8 @@ fn spanned(most: u8, msb: Result<i64, ConstFault>, lsb: Result<i64, ConstFault>)
 /// The bits of a range, with the numbers that hold for it.
 pub fn reach_of(most: u8, range: Option<&Range>, names: &Names) -> Reach
     requires { most ≤ 128 }
-    ensures { result ≡ reach_of most (numbers_in (meanings names.now)) (option_map (λ range. bounds range.now) range.entry) }
+    ensures { result ≡ reach_of most (numbers_in (meanings names.now))
+        (option_map (λ range. bounds range.now) range.entry) }
 {
     match range {
         None => Reach::Scalar,
@@ -123,7 +124,8 @@ fn judge_span<'a>(
     lsb: Result<i64, ConstFault>,
     best: Option<Fault<'a>>,
 ) -> Option<Fault<'a>>
-    ensures { option_map refusal result ≡ after (option_map refusal best.entry) (span_faults most at msb lsb) }
+    ensures { option_map refusal result
+        ≡ after (option_map refusal best.entry) (span_faults most at msb lsb) }
 {
     let (Ok(msb), Ok(lsb)) = (msb, lsb) else {
         return best;
@@ -134,13 +136,16 @@ fn judge_span<'a>(
 
 /// The faults of a range with the numbers that hold for it.
 #[tactic(auto, using(elab_scope::proofs::Least::after_append))]
-pub fn judge_range<'a>(
+pub(crate) fn judge_range<'a>(
     most: u8,
     range: Option<&'a Range>,
     names: &Names,
     best: Option<Fault<'a>>,
 ) -> Option<Fault<'a>>
-    ensures { option_map refusal result ≡ after (option_map refusal best.entry) (range_faults most (numbers_in (meanings names.now)) (option_map (λ range. bounds range.now) range.entry)) }
+    ensures { option_map refusal result
+        ≡ after (option_map refusal best.entry)
+        (range_faults most (numbers_in (meanings names.now))
+        (option_map (λ range. bounds range.now) range.entry)) }
 {
     let Some(range) = range else {
         return best;
@@ -154,12 +159,15 @@ pub fn judge_range<'a>(
 
 /// The faults of the names in a range.
 #[tactic(auto, using(elab_scope::proofs::Least::after_append))]
-pub fn judge_bounds<'a>(
+pub(crate) fn judge_bounds<'a>(
     range: Option<&'a Range>,
     names: &Names,
     best: Option<Fault<'a>>,
 ) -> Option<Fault<'a>>
-    ensures { option_map refusal result ≡ after (option_map refusal best.entry) (bounds_name_faults (meanings names.now) (option_map (λ range. bounds range.now) range.entry)) }
+    ensures { option_map refusal result
+        ≡ after (option_map refusal best.entry)
+        (bounds_name_faults (meanings names.now)
+        (option_map (λ range. bounds range.now) range.entry)) }
 {
     match range {
         None => best,

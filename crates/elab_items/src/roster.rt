@@ -63,7 +63,8 @@ impl Line {
 
 impl<'a> Roster<'a> {
     fn enter_signal(&mut self, name: &'a Name, line: Line) -> Result<(), Memory>
-        ensures { OnOk result (roster self.new ≡ with_signal (roster self.old) name.entry.now.text line) }
+        ensures { OnOk result (roster self.new
+            ≡ with_signal (roster self.old) name.entry.now.text line) }
     {
         self.names
             .declare(&name.text, line.known(self.signals.len()))?;
@@ -89,7 +90,8 @@ impl<'a> Roster<'a> {
         draft: &Names,
         sense: Option<Sense>,
     ) -> Result<(), Memory>
-        ensures { OnOk result (roster self.new ≡ with_sense (meanings draft.now) (roster self.old) name.entry.now.text sense) }
+        ensures { OnOk result (roster self.new
+            ≡ with_sense (meanings draft.now) (roster self.old) name.entry.now.text sense) }
     {
         match sense {
             None | Some(Sense::Instance) => {}
@@ -101,7 +103,9 @@ impl<'a> Roster<'a> {
 
     /// A name enters once.
     fn enter(&mut self, name: &'a Name, draft: &Names, claims: &Claims) -> Result<(), Memory>
-        ensures { OnOk result (roster self.new ≡ with_name (meanings draft.now) (claims_in claims.now) (roster self.old) (identifier name.entry.now)) }
+        ensures { OnOk result (roster self.new
+            ≡ with_name (meanings draft.now) (claims_in claims.now) (roster self.old)
+            (identifier name.entry.now)) }
     {
         if self.names.find(&name.text).is_none() {
             self.enter_sense(name, draft, claims.find(&name.text).sense)?;
@@ -110,7 +114,9 @@ impl<'a> Roster<'a> {
     }
 
     fn enroll(&mut self, entry: Entry<'a>, draft: &Names, claims: &Claims) -> Result<(), Memory>
-        ensures { OnOk result (roster self.new ≡ enrolled (meanings draft.now) (claims_in claims.now) (roster self.old) (declaration entry.entry)) }
+        ensures { OnOk result (roster self.new
+            ≡ enrolled (meanings draft.now) (claims_in claims.now) (roster self.old)
+            (declaration entry.entry)) }
     {
         match entry {
             Entry::ParameterRange(_) | Entry::SignalRange(_) => {}
@@ -125,13 +131,15 @@ impl<'a> Roster<'a> {
 }
 
 /// All names of a module, with the numbers of a draft and what their declarations make together.
-pub fn enroll_all<'a>(
+pub(crate) fn enroll_all<'a>(
     alloc: Global,
     entries: &[Entry<'a>],
     draft: &Names,
     claims: &Claims,
 ) -> Result<Roster<'a>, Memory>
-    ensures { IfOk result (λ made. roster made ≡ all_enrolled (meanings draft.now) (claims_in claims.now) no_roster (map declaration entries.now)) }
+    ensures { IfOk result (λ made. roster made
+        ≡ all_enrolled (meanings draft.now) (claims_in claims.now) no_roster
+        (map declaration entries.now)) }
 {
     let mut made = Roster {
         names: Names::new(alloc),
@@ -145,12 +153,13 @@ pub fn enroll_all<'a>(
 
 /// The signal that is one too many, where so many come before those of the module.
 #[tactic(auto, using(std::proofs::lemmas::Grind::common_steps, crate::proofs::Views::listed_at))]
-pub fn judge_limit<'a>(
+pub(crate) fn judge_limit<'a>(
     base: u32,
     signals: &[Listing<'_>],
     best: Option<Fault<'a>>,
 ) -> Option<Fault<'a>>
-    ensures { option_map refusal result ≡ after (option_map refusal best.entry) (limit_faults base (map listing signals.now)) }
+    ensures { option_map refusal result
+        ≡ after (option_map refusal best.entry) (limit_faults base (map listing signals.now)) }
 {
     let left = u32::from(MOST).saturating_sub(base);
     match signals.get(left as usize) {

@@ -105,7 +105,8 @@ pub fn push_signals(
     listings: &[Listing<'_>],
     signals: &mut Vec<Signal>,
 ) -> Result<(), Memory>
-    ensures { OnOk result (signals.new.items ≡ signals.old.items ++ signals_in (home at.entry) (map listing listings.now)) }
+    ensures { OnOk result (signals.new.items
+        ≡ signals.old.items ++ signals_in (home at.entry) (map listing listings.now)) }
 {
     for one in listings {
         let signal = signal_in(at, *one)?;

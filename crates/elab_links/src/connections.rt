@@ -43,7 +43,10 @@ fn judge_argument<'a>(
     names: &Names,
     best: Option<Fault<'a>>,
 ) -> Result<Option<Fault<'a>>, Memory>
-    ensures { IfOk result (λ told. option_map refusal told ≡ after (option_map refusal best.entry) (argument_faults (meanings names.now) direction plug.entry.at plug.entry.port.now (formula value.now))) }
+    ensures { IfOk result (λ told. option_map refusal told
+        ≡ after (option_map refusal best.entry)
+        (argument_faults (meanings names.now) direction plug.entry.at plug.entry.port.now
+        (formula value.now))) }
 {
     let judged = judge(value, names, best);
     match direction {
@@ -70,7 +73,10 @@ fn judge_connection<'a>(
     names: &Names,
     best: Option<Fault<'a>>,
 ) -> Result<Option<Fault<'a>>, Memory>
-    ensures { IfOk result (λ told. option_map refusal told ≡ after (option_map refusal best.entry) (connection_faults (meanings names.now) direction plug.entry.at plug.entry.port.now (option_map formula value.now))) }
+    ensures { IfOk result (λ told. option_map refusal told
+        ≡ after (option_map refusal best.entry)
+        (connection_faults (meanings names.now) direction plug.entry.at plug.entry.port.now
+        (option_map formula value.now))) }
 {
     match value {
         None => Ok(best),
@@ -84,7 +90,9 @@ fn judge_spare<'a>(
     names: &Names,
     best: Option<Fault<'a>>,
 ) -> Option<Fault<'a>>
-    ensures { option_map refusal result ≡ after (option_map refusal best.entry) (spare_faults (meanings names.now) (option_map formula value.now)) }
+    ensures { option_map refusal result
+        ≡ after (option_map refusal best.entry)
+        (spare_faults (meanings names.now) (option_map formula value.now)) }
 {
     match value {
         None => best,
@@ -102,7 +110,10 @@ fn judge_placed<'a>(
     names: &Names,
     best: Option<Fault<'a>>,
 ) -> Result<Option<Fault<'a>>, Memory>
-    ensures { IfOk result (λ told. option_map refusal told ≡ after (option_map refusal best.entry) (placed_faults (sockets ports.now) (meanings names.now) argument.now.at (slice_get (sockets ports.now).order place) (option_map formula argument.now.value))) }
+    ensures { IfOk result (λ told. option_map refusal told
+        ≡ after (option_map refusal best.entry)
+        (placed_faults (sockets ports.now) (meanings names.now) argument.now.at
+        (slice_get (sockets ports.now).order place) (option_map formula argument.now.value))) }
 {
     match ports.order.get(place) {
         None => Ok(judge_spare(&argument.value, names, best)),
@@ -130,7 +141,9 @@ fn judge_count<'a>(
     at: u32,
     best: Option<Fault<'a>>,
 ) -> Option<Fault<'a>>
-    ensures { option_map refusal result ≡ after (option_map refusal best.entry) (surplus_faults (length (sockets ports.now).order) place at (Port child.now)) }
+    ensures { option_map refusal result
+        ≡ after (option_map refusal best.entry)
+        (surplus_faults (length (sockets ports.now).order) place at (Port child.now)) }
 {
     judge_surplus(ports.order.len(), place, at, Cause::Port(child), best)
 }
@@ -143,7 +156,10 @@ fn judge_ordered<'a>(
     names: &Names,
     best: Option<Fault<'a>>,
 ) -> Result<Option<Fault<'a>>, Memory>
-    ensures { IfOk result (λ told. option_map refusal told ≡ after (option_map refusal best.entry) (ordered_link_faults child.now (sockets ports.now) (meanings names.now) 0 (map positional arguments.now))) }
+    ensures { IfOk result (λ told. option_map refusal told
+        ≡ after (option_map refusal best.entry)
+        (ordered_link_faults child.now (sockets ports.now) (meanings names.now) 0
+        (map positional arguments.now))) }
 {
     let mut best = best;
     for (place, argument) in arguments.iter().enumerate() {
@@ -161,7 +177,10 @@ fn judge_named<'a>(
     names: &Names,
     best: Option<Fault<'a>>,
 ) -> Result<Option<Fault<'a>>, Memory>
-    ensures { IfOk result (λ told. option_map refusal told ≡ after (option_map refusal best.entry) (named_link_faults (sockets ports.now) (meanings names.now) no_marks (map associated arguments.now))) }
+    ensures { IfOk result (λ told. option_map refusal told
+        ≡ after (option_map refusal best.entry)
+        (named_link_faults (sockets ports.now) (meanings names.now) no_marks
+        (map associated arguments.now))) }
 {
     let mut best = best;
     let listed = ports.listed(alloc)?;
@@ -208,7 +227,7 @@ fn judge_instantiation<'a>(
 
 /// The faults of the connections of several instances of a module with these ports.
 #[tactic(auto, using(crate::proofs::Borrowed::after_append))]
-pub fn judge_instantiations<'a>(
+pub(crate) fn judge_instantiations<'a>(
     alloc: Global,
     child: &'a Text,
     ports: &Ports<'a>,

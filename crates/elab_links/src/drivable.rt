@@ -79,7 +79,8 @@ fn push_cover(cover: Option<Cover>, covers: &mut Vec<Cover>) -> Result<(), Memor
 #[cycle(push_covers)]
 #[tactic(auto, using(crate::proofs::Rows::concat_covers))]
 fn push_covers(e: &Expr, names: &Names, covers: &mut Vec<Cover>) -> Result<(), Memory>
-    ensures { OnOk result (covers.new.items ≡ covers.old.items ++ covers_of (meanings names.now) (formula e.now)) }
+    ensures { OnOk result (covers.new.items
+        ≡ covers.old.items ++ covers_of (meanings names.now) (formula e.now)) }
 {
     match e {
         Expr::Read(name) => push_cover(whole_cover(names.find(&name.text)), covers)?,
@@ -107,7 +108,9 @@ fn push_covers(e: &Expr, names: &Names, covers: &mut Vec<Cover>) -> Result<(), M
 #[cycle(push_covers)]
 #[tactic(auto, using(std::proofs::lemmas::Grind::common_steps))]
 fn push_all_covers(parts: &[Expr], names: &Names, covers: &mut Vec<Cover>) -> Result<(), Memory>
-    ensures { OnOk result (covers.new.items ≡ covers.old.items ++ all_covers_of (meanings names.now) (formula_row (map formula parts.now))) }
+    ensures { OnOk result (covers.new.items
+        ≡ covers.old.items ++ all_covers_of (meanings names.now)
+        (formula_row (map formula parts.now))) }
 {
     for part in parts {
         push_covers(part, names, covers)?;

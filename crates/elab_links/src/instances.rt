@@ -42,7 +42,9 @@ fn is_on(way: &[&Text], name: &Text) -> bool
 
 /// A module doesn't hold itself.
 fn judge_loop<'a>(way: &[&Text], child: &'a Name, best: Option<Fault<'a>>) -> Option<Fault<'a>>
-    ensures { option_map refusal result ≡ after (option_map refusal best.entry) (loop_faults (map (λ text. text.now) way.now) (identifier child.now)) }
+    ensures { option_map refusal result
+        ≡ after (option_map refusal best.entry)
+        (loop_faults (map (λ text. text.now) way.now) (identifier child.now)) }
 {
     if is_on(way, &child.text) {
         let cause = Cause::InstanceLoop(&child.text);
@@ -60,7 +62,9 @@ fn judge_loop<'a>(way: &[&Text], child: &'a Name, best: Option<Fault<'a>>) -> Op
 
 /// Modules are at most 32 deep.
 fn judge_depth<'a>(way: &[&Text], child: &'a Name, best: Option<Fault<'a>>) -> Option<Fault<'a>>
-    ensures { option_map refusal result ≡ after (option_map refusal best.entry) (depth_faults (map (λ text. text.now) way.now) (identifier child.now)) }
+    ensures { option_map refusal result
+        ≡ after (option_map refusal best.entry)
+        (depth_faults (map (λ text. text.now) way.now) (identifier child.now)) }
 {
     if way.len() < DEEPEST {
         best

@@ -102,7 +102,8 @@ impl ModuleSet {
 /// The module at a place.
 #[tactic(auto, using(crate::proofs::Places::at_place))]
 pub fn module_at(files: &[Vec<Module>], place: Place) -> Option<&Module>
-    ensures { option_map (λ written. circuit written.now) result ≡ circuit_at (circuits_of files.now) place }
+    ensures { option_map (λ written. circuit written.now) result
+        ≡ circuit_at (circuits_of files.now) place }
 {
     files.get(place.file)?.get(place.index)
 }

@@ -27,7 +27,9 @@ use rtl_tree::tree::names::Name;
 use std::alloc::Global;
 
 fn push_settable<'a>(entry: Entry<'a>, names: &mut Vec<&'a Name>) -> Result<(), Memory>
-    ensures { OnOk result (map (λ name. identifier name.now) names.new.items ≡ map (λ name. identifier name.now) names.old.items ++ settable_here (declaration entry.entry)) }
+    ensures { OnOk result (map (λ name. identifier name.now) names.new.items
+        ≡ map (λ name. identifier name.now) names.old.items
+        ++ settable_here (declaration entry.entry)) }
 {
     match entry {
         Entry::Parameter(ParameterKind::Parameter, name, _) => names.push(name)?,
@@ -41,7 +43,8 @@ fn push_settable<'a>(entry: Entry<'a>, names: &mut Vec<&'a Name>) -> Result<(), 
 /// The parameters that an instance may set, in order.
 #[tactic(auto, using(std::proofs::lemmas::Grind::common_steps))]
 pub fn settable<'a>(alloc: Global, entries: &[Entry<'a>]) -> Result<Vec<&'a Name>, Memory>
-    ensures { IfOk result (λ names. map (λ name. identifier name.now) names.items ≡ settable (map declaration entries.now)) }
+    ensures { IfOk result (λ names. map (λ name. identifier name.now) names.items
+        ≡ settable (map declaration entries.now)) }
 {
     let mut names = Vec::new(alloc);
     for entry in entries {
@@ -55,7 +58,9 @@ fn judge_setting<'a>(
     names: &Names,
     best: Option<Fault<'a>>,
 ) -> Option<Fault<'a>>
-    ensures { option_map refusal result ≡ after (option_map refusal best.entry) (setting_faults (meanings names.now) (option_map formula value.now)) }
+    ensures { option_map refusal result
+        ≡ after (option_map refusal best.entry)
+        (setting_faults (meanings names.now) (option_map formula value.now)) }
 {
     match value {
         None => best,
@@ -71,7 +76,9 @@ pub fn judge_surplus<'a>(
     cause: Cause<'a>,
     best: Option<Fault<'a>>,
 ) -> Option<Fault<'a>>
-    ensures { option_map refusal result ≡ after (option_map refusal best.entry) (surplus_faults many place at (breach cause.entry)) }
+    ensures { option_map refusal result
+        ≡ after (option_map refusal best.entry)
+        (surplus_faults many place at (breach cause.entry)) }
 {
     if place == many {
         Fault::keep(best, Fault { at, cause })
@@ -81,14 +88,15 @@ pub fn judge_surplus<'a>(
 }
 
 /// An argument by name names what is there, and what no argument before it names.
-pub fn judge_name<'a>(
+pub(crate) fn judge_name<'a>(
     known: bool,
     taken: bool,
     at: u32,
     cause: Cause<'a>,
     best: Option<Fault<'a>>,
 ) -> Option<Fault<'a>>
-    ensures { option_map refusal result ≡ after (option_map refusal best.entry) (name_faults known taken at (breach cause.entry)) }
+    ensures { option_map refusal result
+        ≡ after (option_map refusal best.entry) (name_faults known taken at (breach cause.entry)) }
 {
     if known && !taken {
         best
@@ -105,7 +113,10 @@ fn judge_ordered<'a>(
     names: &Names,
     best: Option<Fault<'a>>,
 ) -> Option<Fault<'a>>
-    ensures { option_map refusal result ≡ after (option_map refusal best.entry) (ordered_setting_faults child.now many (meanings names.now) 0 (map positional arguments.now)) }
+    ensures { option_map refusal result
+        ≡ after (option_map refusal best.entry)
+        (ordered_setting_faults child.now many (meanings names.now) 0
+        (map positional arguments.now)) }
 {
     let mut best = best;
     for (place, argument) in arguments.iter().enumerate() {
@@ -123,7 +134,10 @@ fn judge_named<'a>(
     names: &Names,
     best: Option<Fault<'a>>,
 ) -> Result<Option<Fault<'a>>, Memory>
-    ensures { IfOk result (λ told. option_map refusal told ≡ after (option_map refusal best.entry) (named_setting_faults (marks_of known.now) (meanings names.now) no_marks (map associated arguments.now))) }
+    ensures { IfOk result (λ told. option_map refusal told
+        ≡ after (option_map refusal best.entry)
+        (named_setting_faults (marks_of known.now) (meanings names.now) no_marks
+        (map associated arguments.now))) }
 {
     let mut best = best;
     let mut taken = NameSet::new(alloc);
@@ -144,7 +158,7 @@ fn judge_named<'a>(
 }
 
 /// The faults of what an instance of a module with these settable parameters sets.
-pub fn judge_parameters<'a>(
+pub(crate) fn judge_parameters<'a>(
     alloc: Global,
     child: &'a Text,
     settable: &[&Name],
@@ -152,7 +166,10 @@ pub fn judge_parameters<'a>(
     names: &Names,
     best: Option<Fault<'a>>,
 ) -> Result<Option<Fault<'a>>, Memory>
-    ensures { IfOk result (λ told. option_map refusal told ≡ after (option_map refusal best.entry) (parameter_faults child.now (map (λ name. identifier name.now) settable.now) (meanings names.now) (association parameters.now))) }
+    ensures { IfOk result (λ told. option_map refusal told
+        ≡ after (option_map refusal best.entry)
+        (parameter_faults child.now (map (λ name. identifier name.now) settable.now)
+        (meanings names.now) (association parameters.now))) }
 {
     match parameters {
         Arguments::Ordered(arguments) => {
@@ -172,7 +189,9 @@ fn set_value(
     names: &Names,
     made: &mut Overrides,
 ) -> Result<(), Memory>
-    ensures { OnOk result (settings_of made.new ≡ set_by (numbers_in (meanings names.now)) (settings_of made.old) name.now (option_map formula value.now)) }
+    ensures { OnOk result (settings_of made.new
+        ≡ set_by (numbers_in (meanings names.now)) (settings_of made.old) name.now
+        (option_map formula value.now)) }
 {
     if let Some(value) = value {
         made.set(name, value_of(value, names))?;
@@ -188,7 +207,10 @@ fn set_place(
     names: &Names,
     made: &mut Overrides,
 ) -> Result<(), Memory>
-    ensures { OnOk result (settings_of made.new ≡ set_at (numbers_in (meanings names.now)) (settings_of made.old) (slice_get (map (λ name. identifier name.now) settable.now) place) (option_map formula value.now)) }
+    ensures { OnOk result (settings_of made.new
+        ≡ set_at (numbers_in (meanings names.now)) (settings_of made.old)
+        (slice_get (map (λ name. identifier name.now) settable.now) place)
+        (option_map formula value.now)) }
 {
     match settable.get(place) {
         None => Ok(()),
@@ -202,7 +224,10 @@ fn set_ordered(
     names: &Names,
     made: &mut Overrides,
 ) -> Result<(), Memory>
-    ensures { OnOk result (settings_of made.new ≡ ordered_settings (numbers_in (meanings names.now)) (map (λ name. identifier name.now) settable.now) (settings_of made.old) 0 (map positional arguments.now)) }
+    ensures { OnOk result (settings_of made.new
+        ≡ ordered_settings (numbers_in (meanings names.now))
+        (map (λ name. identifier name.now) settable.now) (settings_of made.old) 0
+        (map positional arguments.now)) }
 {
     for (place, argument) in arguments.iter().enumerate() {
         set_place(settable, place, &argument.value, names, made)?;
@@ -211,7 +236,9 @@ fn set_ordered(
 }
 
 fn set_named(arguments: &[NamedArgument], names: &Names, made: &mut Overrides) -> Result<(), Memory>
-    ensures { OnOk result (settings_of made.new ≡ named_settings (numbers_in (meanings names.now)) (settings_of made.old) (map associated arguments.now)) }
+    ensures { OnOk result (settings_of made.new
+        ≡ named_settings (numbers_in (meanings names.now)) (settings_of made.old)
+        (map associated arguments.now)) }
 {
     for argument in arguments {
         set_value(&argument.name.text, &argument.value, names, made)?;
@@ -227,7 +254,9 @@ pub fn settings_by(
     parameters: &Arguments,
     names: &Names,
 ) -> Result<Overrides, Memory>
-    ensures { IfOk result (λ made. settings_of made ≡ settings_by (map (λ name. identifier name.now) settable.now) (meanings names.now) (association parameters.now)) }
+    ensures { IfOk result (λ made. settings_of made
+        ≡ settings_by (map (λ name. identifier name.now) settable.now) (meanings names.now)
+        (association parameters.now)) }
 {
     let mut made = Overrides::new(alloc);
     match parameters {

@@ -24,7 +24,8 @@ fn enter(
     direction: Option<Direction>,
     made: &mut NameMap<Direction>,
 ) -> Result<(), Memory>
-    ensures { OnOk result (values_of made.new ≡ with_direction (values_of made.old) name.now direction) }
+    ensures { OnOk result (values_of made.new
+        ≡ with_direction (values_of made.old) name.now direction) }
 {
     match direction {
         None => Ok(()),
@@ -33,7 +34,8 @@ fn enter(
 }
 
 fn declare(entry: Entry<'_>, made: &mut NameMap<Direction>) -> Result<(), Memory>
-    ensures { OnOk result (values_of made.new ≡ directed (values_of made.old) (declaration entry.entry)) }
+    ensures { OnOk result (values_of made.new
+        ≡ directed (values_of made.old) (declaration entry.entry)) }
 {
     match entry {
         Entry::Signal { form, name, .. } => enter(&name.text, form.direction(), made)?,
@@ -46,7 +48,8 @@ fn declare(entry: Entry<'_>, made: &mut NameMap<Direction>) -> Result<(), Memory
 
 /// The direction of each name, by the declarations of its module.
 fn directions_by(alloc: Global, entries: &[Entry<'_>]) -> Result<NameMap<Direction>, Memory>
-    ensures { IfOk result (λ made. values_of made ≡ all_directed no_directions (map declaration entries.now)) }
+    ensures { IfOk result (λ made. values_of made
+        ≡ all_directed no_directions (map declaration entries.now)) }
 {
     let mut made = NameMap::new(alloc);
     for entry in entries {
@@ -56,7 +59,9 @@ fn directions_by(alloc: Global, entries: &[Entry<'_>]) -> Result<NameMap<Directi
 }
 
 fn push_declared<'a>(ports: &'a [HeadPort], order: &mut Vec<&'a Name>) -> Result<(), Memory>
-    ensures { OnOk result (map (λ name. identifier name.now) order.new.items ≡ map (λ name. identifier name.now) order.old.items ++ map port_name (map header_port ports.now)) }
+    ensures { OnOk result (map (λ name. identifier name.now) order.new.items
+        ≡ map (λ name. identifier name.now) order.old.items
+        ++ map port_name (map header_port ports.now)) }
 {
     for port in ports {
         order.push(&port.name)?;
@@ -65,7 +70,8 @@ fn push_declared<'a>(ports: &'a [HeadPort], order: &mut Vec<&'a Name>) -> Result
 }
 
 fn push_named<'a>(names: &'a [Name], order: &mut Vec<&'a Name>) -> Result<(), Memory>
-    ensures { OnOk result (map (λ name. identifier name.now) order.new.items ≡ map (λ name. identifier name.now) order.old.items ++ map identifier names.now) }
+    ensures { OnOk result (map (λ name. identifier name.now) order.new.items
+        ≡ map (λ name. identifier name.now) order.old.items ++ map identifier names.now) }
 {
     for name in names {
         order.push(name)?;
@@ -75,7 +81,8 @@ fn push_named<'a>(names: &'a [Name], order: &mut Vec<&'a Name>) -> Result<(), Me
 
 /// The names in a head, in the order of the ports.
 fn port_names<'a>(alloc: Global, ports: &'a PortList) -> Result<Vec<&'a Name>, Memory>
-    ensures { IfOk result (λ order. map (λ name. identifier name.now) order.items ≡ port_names (header ports.now)) }
+    ensures { IfOk result (λ order. map (λ name. identifier name.now) order.items
+        ≡ port_names (header ports.now)) }
 {
     let mut order = Vec::new(alloc);
     match ports {
@@ -88,7 +95,8 @@ fn port_names<'a>(alloc: Global, ports: &'a PortList) -> Result<Vec<&'a Name>, M
 
 /// The set of these names.
 pub fn set_of(alloc: Global, names: &[&Name]) -> Result<NameSet, Memory>
-    ensures { IfOk result (λ set. marks_of set ≡ with_marks no_marks (map (λ name. identifier name.now) names.now)) }
+    ensures { IfOk result (λ set. marks_of set
+        ≡ with_marks no_marks (map (λ name. identifier name.now) names.now)) }
 {
     let mut set = NameSet::new(alloc);
     for name in names {

@@ -85,7 +85,8 @@ pub(crate) fn move_placements(
 
 pub(crate) fn moved_fault(fault: ElabFault, numbers: &[usize]) -> Result<ElabFault, Memory>
     requires { IsStrictlyIncreasing numbers.now }
-    ensures { IfOk result (λ moved. answer moved ≡ moved_answer (place_in numbers.now) (answer fault)) }
+    ensures { IfOk result (λ moved. answer moved
+        ≡ moved_answer (place_in numbers.now) (answer fault)) }
 {
     Ok(match fault {
         ElabFault::NoSuchModule(name) => ElabFault::NoSuchModule(name),

@@ -90,7 +90,8 @@ pub(crate) fn look_ups(
     placements: &[Placement<'_>],
 ) -> Result<Vec<LookUp>, Memory>
     ensures { IfOk result (λ found. AreFound (lookups_of set.now)
-        (top.now ∷ names_by (map (λ placement. visit placement.visit) placements.now)) found.items) }
+        (top.now ∷ names_by (map (λ placement. visit placement.visit) placements.now))
+        found.items) }
 {
     let mut asked = Asked::new(alloc);
     asked.add(alloc, set, top)?;

@@ -29,7 +29,8 @@ fn spend_target(written: &Lvalue, names: &Names, left: u32) -> Option<u32>
 #[cycle(spend_target)]
 #[tactic(auto, using(crate::proofs::Sparing::spared_more, crate::proofs::Sparing::spared_zero))]
 fn spend_targets(parts: &[Lvalue], names: &Names, left: u32) -> Option<u32>
-    ensures { result ≡ spared left (targets_count (meanings names.now) (target_row (map target parts.now))) }
+    ensures { result ≡ spared left
+        (targets_count (meanings names.now) (target_row (map target parts.now))) }
 {
     let mut left = left;
     for part in parts {
@@ -41,7 +42,8 @@ fn spend_targets(parts: &[Lvalue], names: &Names, left: u32) -> Option<u32>
 /// What is left behind the nodes of an assignment.
 #[tactic(auto, using(crate::proofs::Sparing::spared_more))]
 pub fn spend_assignment(written: &Lvalue, value: &Expr, names: &Names, left: u32) -> Option<u32>
-    ensures { result ≡ spared left (assignment_count (meanings names.now) (target written.now) (formula value.now)) }
+    ensures { result ≡ spared left
+        (assignment_count (meanings names.now) (target written.now) (formula value.now)) }
 {
     spend(value, names, spend_target(written, names, left)?)
 }
@@ -70,7 +72,9 @@ fn spend_item(item: &CaseItem, names: &Names, left: u32) -> Option<u32>
 /// What is left behind the nodes of a case without its bodies.
 #[tactic(auto, using(crate::proofs::Sparing::spared_more, crate::proofs::Sparing::spared_zero))]
 pub fn spend_case(selector: &Expr, items: &[CaseItem], names: &Names, left: u32) -> Option<u32>
-    ensures { result ≡ spared left (case_count (meanings names.now) (formula selector.now) (branch_row (map branch items.now))) }
+    ensures { result ≡ spared left
+        (case_count (meanings names.now) (formula selector.now)
+        (branch_row (map branch items.now))) }
 {
     let mut left = spend(selector, names, left)?;
     for item in items {

@@ -38,8 +38,10 @@ pub fn spend(e: &Expr, names: &Names, left: u32) -> Option<u32>
 /// The same for the index of a bit: a constant one has none.
 #[cycle(spend)]
 #[tactic(auto, using(crate::proofs::Sparing::spared_zero))]
-pub fn spend_index(index: &Expr, names: &Names, left: u32) -> Option<u32>
-    ensures { result ≡ spared left (index_count (constant (numbers_in (meanings names.now)) (formula index.now)) (node_count (meanings names.now) (formula index.now))) }
+pub(crate) fn spend_index(index: &Expr, names: &Names, left: u32) -> Option<u32>
+    ensures { result ≡ spared left
+        (index_count (constant (numbers_in (meanings names.now)) (formula index.now))
+        (node_count (meanings names.now) (formula index.now))) }
 {
     match constant(index, names) {
         Ok(_) => Some(left),
@@ -51,7 +53,8 @@ pub fn spend_index(index: &Expr, names: &Names, left: u32) -> Option<u32>
 #[cycle(spend)]
 #[tactic(auto, using(crate::proofs::Sparing::spared_more, crate::proofs::Sparing::spared_zero))]
 fn spend_row(parts: &[Expr], names: &Names, left: u32) -> Option<u32>
-    ensures { result ≡ spared left (row_count (meanings names.now) (formula_row (map formula parts.now))) }
+    ensures { result ≡ spared left
+        (row_count (meanings names.now) (formula_row (map formula parts.now))) }
 {
     let mut left = left;
     for part in parts {

@@ -27,7 +27,8 @@ fn push_repeated(
     delays: &mut Vec<Delay>,
 ) -> Result<(), Memory>
     requires { first + count ≤ 2 ^ 32 }
-    ensures { OnOk result (delays.new.items ≡ delays.old.items ++ repeated spot.file first spot.at count) }
+    ensures { OnOk result (delays.new.items
+        ≡ delays.old.items ++ repeated spot.file first spot.at count) }
 {
     for index in 0..count {
         let process = ProcId((first + index) as u32);
@@ -43,7 +44,8 @@ fn push_places(
     file: u32,
     delays: &mut Vec<Delay>,
 ) -> Result<(), Memory>
-    ensures { OnOk result (delays.new.items ≡ delays.old.items ++ map (delay_in file process) places.now) }
+    ensures { OnOk result (delays.new.items
+        ≡ delays.old.items ++ map (delay_in file process) places.now) }
 {
     for at in places {
         let spot = Spot { file, at: *at };
@@ -63,7 +65,9 @@ fn push_body(
     process: u32,
     delays: &mut Vec<Delay>,
 ) -> Result<(), Memory>
-    ensures made { OnOk result (delays.new.items ≡ delays.old.items ++ map (delay_in site.file process) (delays_of (steps (action body.now) (meanings names.old)))) }
+    ensures made { OnOk result (delays.new.items
+        ≡ delays.old.items ++ map (delay_in site.file process)
+        (delays_of (steps (action body.now) (meanings names.old)))) }
     ensures same { meanings names.new ≡ meanings names.old }
 {
     let places = pauses_of(body, names, site.alloc)?;
@@ -79,7 +83,9 @@ pub fn push_delays(
     delays: &mut Vec<Delay>,
 ) -> Result<(), Memory>
     requires { first + length (item_places (module_item item.now)) ≤ 2 ^ 32 }
-    ensures made { OnOk result (delays.new.items ≡ delays.old.items ++ item_delays site.file first (meanings names.old) (module_item item.now)) }
+    ensures made { OnOk result (delays.new.items
+        ≡ delays.old.items ++ item_delays site.file first (meanings names.old)
+        (module_item item.now)) }
     ensures same { meanings names.new ≡ meanings names.old }
 {
     match item {

@@ -31,7 +31,9 @@ use std::alloc::Global;
 /// The faults of a net that is driven: it is written whole, so no bit stands in the target twice.
 #[tactic(auto, using(elab_body::proofs::Passing::passed_faulty, elab_body::proofs::Passing::passed_cut, crate::proofs::Wholes::whole_faults))]
 fn driven<'a>(name: &'a Name, names: &Names, so_far: Progress<'a>) -> Progress<'a>
-    ensures { course result ≡ passed (course so_far.entry) (faulty (target_faults writer.Continuous (meanings names.now) (Whole (identifier name.now)))) }
+    ensures { course result ≡ passed (course so_far.entry)
+        (faulty (target_faults writer.Continuous (meanings names.now)
+        (Whole (identifier name.now)))) }
 {
     match so_far.left {
         None => so_far,
@@ -50,7 +52,9 @@ fn driven<'a>(name: &'a Name, names: &Names, so_far: Progress<'a>) -> Progress<'
 
 /// The nodes of a net with a value, at its name: a target that is written whole has none.
 fn spend_net<'a>(name: &Name, value: &Expr, names: &Names, so_far: Progress<'a>) -> Progress<'a>
-    ensures { course result ≡ stepped (course so_far.entry) (Nodes name.now.at (assignment_count (meanings names.now) (Whole (identifier name.now)) (formula value.now))) }
+    ensures { course result ≡ stepped (course so_far.entry)
+        (Nodes name.now.at (assignment_count (meanings names.now) (Whole (identifier name.now))
+        (formula value.now))) }
 {
     so_far.spend_expression(name.at, value, names)
 }
@@ -62,7 +66,8 @@ fn judge_value<'a>(
     names: &Names,
     so_far: Progress<'a>,
 ) -> Progress<'a>
-    ensures { course result ≡ passed (course so_far.entry) (value_steps (meanings names.now) (identifier name.now) (option_map formula value.now)) }
+    ensures { course result ≡ passed (course so_far.entry)
+        (value_steps (meanings names.now) (identifier name.now) (option_map formula value.now)) }
 {
     match value {
         None => so_far,
@@ -75,7 +80,8 @@ fn judge_value<'a>(
 
 #[tactic(auto, using(elab_body::proofs::Passing::passed_append))]
 fn judge_nets<'a>(wires: &'a [Wire], names: &Names, so_far: Progress<'a>) -> Progress<'a>
-    ensures { course result ≡ passed (course so_far.entry) (net_steps (meanings names.now) (map net wires.now)) }
+    ensures { course result ≡ passed (course so_far.entry)
+        (net_steps (meanings names.now) (map net wires.now)) }
 {
     let mut so_far = so_far;
     for wire in wires {
@@ -85,7 +91,8 @@ fn judge_nets<'a>(wires: &'a [Wire], names: &Names, so_far: Progress<'a>) -> Pro
 }
 
 fn paused<'a>(delay: &Option<Delay>, so_far: Progress<'a>) -> Progress<'a>
-    ensures { course result ≡ passed (course so_far.entry) (pause_steps (option_map pause delay.now)) }
+    ensures { course result ≡ passed (course so_far.entry)
+        (pause_steps (option_map pause delay.now)) }
 {
     match delay {
         Some(delay) => so_far.pause(delay.at),
@@ -101,7 +108,9 @@ fn judge_written<'a>(
     names: &Names,
     so_far: Progress<'a>,
 ) -> Result<Progress<'a>, Memory>
-    ensures { IfOk result (λ judged. course judged ≡ passed (course so_far.entry) (faulty (target_faults writer.Continuous (meanings names.now) (target written.now)))) }
+    ensures { IfOk result (λ judged. course judged
+        ≡ passed (course so_far.entry)
+        (faulty (target_faults writer.Continuous (meanings names.now) (target written.now)))) }
 {
     match so_far.left {
         None => Ok(so_far),
@@ -123,7 +132,10 @@ fn judge_assignment<'a>(
     names: &Names,
     so_far: Progress<'a>,
 ) -> Result<Progress<'a>, Memory>
-    ensures { IfOk result (λ judged. course judged ≡ passed (course so_far.entry) (assignment_steps (meanings names.now) (target assignment.now.target) (formula assignment.now.value))) }
+    ensures { IfOk result (λ judged. course judged
+        ≡ passed (course so_far.entry)
+        (assignment_steps (meanings names.now) (target assignment.now.target)
+        (formula assignment.now.value))) }
 {
     let so_far = so_far.spend_assignment(&assignment.target, &assignment.value, names);
     let so_far = judge_written(alloc, &assignment.target, names, so_far)?;
@@ -138,7 +150,10 @@ fn judge_drives<'a>(
     names: &Names,
     so_far: Progress<'a>,
 ) -> Result<Progress<'a>, Memory>
-    ensures { IfOk result (λ judged. course judged ≡ passed (course so_far.entry) (drive_steps (meanings names.now) (option_map pause delay.now) (map drive assignments.now))) }
+    ensures { IfOk result (λ judged. course judged
+        ≡ passed (course so_far.entry)
+        (drive_steps (meanings names.now) (option_map pause delay.now)
+        (map drive assignments.now))) }
 {
     let mut so_far = so_far;
     for assignment in assignments {
@@ -150,7 +165,8 @@ fn judge_drives<'a>(
 /// The faults of a sensitivity list.
 #[tactic(auto, using(elab_body::proofs::Passing::passed_faulty, elab_body::proofs::Passing::passed_cut))]
 fn judge_list<'a>(control: &'a EventControl, names: &Names, so_far: Progress<'a>) -> Progress<'a>
-    ensures { course result ≡ passed (course so_far.entry) (faulty (sensitivity_faults (meanings names.now) (sensitivity control.now))) }
+    ensures { course result ≡ passed (course so_far.entry)
+        (faulty (sensitivity_faults (meanings names.now) (sensitivity control.now))) }
 {
     match so_far.left {
         None => so_far,
@@ -170,7 +186,8 @@ fn judge_always<'a>(
     names: &mut Names,
     so_far: Progress<'a>,
 ) -> Progress<'a>
-    ensures told { course result ≡ passed (course so_far.entry) (always_steps (meanings names.old) at (sensitivity control.now) (action body.now)) }
+    ensures told { course result ≡ passed (course so_far.entry)
+        (always_steps (meanings names.old) at (sensitivity control.now) (action body.now)) }
     ensures same { meanings names.new ≡ meanings names.old }
 {
     let so_far = so_far.spend_listing(at, control, names);
@@ -185,7 +202,8 @@ pub fn judge_item<'a>(
     names: &mut Names,
     so_far: Progress<'a>,
 ) -> Result<Progress<'a>, Memory>
-    ensures told { IfOk result (λ judged. course judged ≡ passed (course so_far.entry) (item_steps (meanings names.old) (module_item item.now))) }
+    ensures told { IfOk result (λ judged. course judged
+        ≡ passed (course so_far.entry) (item_steps (meanings names.old) (module_item item.now))) }
     ensures same { meanings names.new ≡ meanings names.old }
 {
     match item {
@@ -211,7 +229,9 @@ pub fn judge_items<'a>(
     names: &mut Names,
     so_far: Progress<'a>,
 ) -> Result<Progress<'a>, Memory>
-    ensures told { IfOk result (λ judged. course judged ≡ passed (course so_far.entry) (items_steps (meanings names.old) (map module_item items.now))) }
+    ensures told { IfOk result (λ judged. course judged
+        ≡ passed (course so_far.entry)
+        (items_steps (meanings names.old) (map module_item items.now))) }
     ensures same { meanings names.new ≡ meanings names.old }
 {
     let mut so_far = so_far;

@@ -31,7 +31,8 @@ fn with(mut made: Vec<u32>, at: u32) -> Result<Vec<u32>, Memory>
 
 /// The delay of an assignment, behind others.
 fn paused(delay: &Option<Delay>, made: Vec<u32>) -> Result<Vec<u32>, Memory>
-    ensures { IfOk result (λ all. all.items ≡ made.items ++ delays_of (pause_steps (option_map pause delay.now))) }
+    ensures { IfOk result (λ all. all.items
+        ≡ made.items ++ delays_of (pause_steps (option_map pause delay.now))) }
 {
     match delay {
         Some(delay) => with(made, delay.at),
@@ -40,8 +41,9 @@ fn paused(delay: &Option<Delay>, made: Vec<u32>) -> Result<Vec<u32>, Memory>
 }
 
 /// The places of the delays of a body.
-pub fn pauses_of(body: &Stmt, names: &mut Names, alloc: Global) -> Result<Vec<u32>, Memory>
-    ensures made { IfOk result (λ all. all.items ≡ delays_of (steps (action body.now) (meanings names.old))) }
+pub(crate) fn pauses_of(body: &Stmt, names: &mut Names, alloc: Global) -> Result<Vec<u32>, Memory>
+    ensures made { IfOk result (λ all. all.items
+        ≡ delays_of (steps (action body.now) (meanings names.old))) }
     ensures same { meanings names.new ≡ meanings names.old }
 {
     push_pauses(body, names, Vec::new(alloc))
@@ -51,7 +53,8 @@ pub fn pauses_of(body: &Stmt, names: &mut Names, alloc: Global) -> Result<Vec<u3
 #[cycle(pauses)]
 #[tactic(auto, using(crate::proofs::Pausing::branch_pauses, crate::proofs::Pausing::else_pauses, std::proofs::lemmas::Grind::common_steps))]
 fn push_pauses(body: &Stmt, names: &mut Names, made: Vec<u32>) -> Result<Vec<u32>, Memory>
-    ensures made { IfOk result (λ all. all.items ≡ made.items ++ delays_of (steps (action body.now) (meanings names.old))) }
+    ensures made { IfOk result (λ all. all.items
+        ≡ made.items ++ delays_of (steps (action body.now) (meanings names.old))) }
     ensures same { meanings names.new ≡ meanings names.old }
 {
     match body {
@@ -100,7 +103,9 @@ fn push_if(
     names: &mut Names,
     made: Vec<u32>,
 ) -> Result<Vec<u32>, Memory>
-    ensures made { IfOk result (λ all. all.items ≡ made.items ++ delays_of (chosen_steps chosen (steps (action taken.now) (meanings names.old)) [])) }
+    ensures made { IfOk result (λ all. all.items
+        ≡ made.items ++ delays_of (chosen_steps chosen
+        (steps (action taken.now) (meanings names.old)) [])) }
     ensures same { meanings names.new ≡ meanings names.old }
 {
     match chosen {
@@ -118,7 +123,9 @@ fn push_else(
     names: &mut Names,
     made: Vec<u32>,
 ) -> Result<Vec<u32>, Memory>
-    ensures made { IfOk result (λ all. all.items ≡ made.items ++ delays_of (chosen_steps chosen [] (steps (action otherwise.now) (meanings names.old)))) }
+    ensures made { IfOk result (λ all. all.items
+        ≡ made.items ++ delays_of (chosen_steps chosen []
+        (steps (action otherwise.now) (meanings names.old)))) }
     ensures same { meanings names.new ≡ meanings names.old }
 {
     match chosen {
@@ -131,7 +138,9 @@ fn push_else(
 /// The delays of statements in a row, behind others.
 #[cycle(pauses)]
 fn push_bodies(all: &[Stmt], names: &mut Names, made: Vec<u32>) -> Result<Vec<u32>, Memory>
-    ensures made { IfOk result (λ places. places.items ≡ made.items ++ delays_of (body_steps (action_row (map action all.now)) (meanings names.old))) }
+    ensures made { IfOk result (λ places. places.items
+        ≡ made.items ++ delays_of (body_steps (action_row (map action all.now))
+        (meanings names.old))) }
     ensures same { meanings names.new ≡ meanings names.old }
 {
     let mut made = made;
@@ -144,7 +153,9 @@ fn push_bodies(all: &[Stmt], names: &mut Names, made: Vec<u32>) -> Result<Vec<u3
 /// The delays of the items of a case, behind others.
 #[cycle(pauses)]
 fn push_items(all: &[CaseItem], names: &mut Names, made: Vec<u32>) -> Result<Vec<u32>, Memory>
-    ensures made { IfOk result (λ places. places.items ≡ made.items ++ delays_of (branches_steps (branch_row (map branch all.now)) (meanings names.old))) }
+    ensures made { IfOk result (λ places. places.items
+        ≡ made.items ++ delays_of (branches_steps (branch_row (map branch all.now))
+        (meanings names.old))) }
     ensures same { meanings names.new ≡ meanings names.old }
 {
     let mut made = made;
@@ -157,7 +168,8 @@ fn push_items(all: &[CaseItem], names: &mut Names, made: Vec<u32>) -> Result<Vec
 #[cycle(pauses)]
 #[tactic(auto, using(crate::proofs::Pausing::behind_faults))]
 fn push_item(item: &CaseItem, names: &mut Names, made: Vec<u32>) -> Result<Vec<u32>, Memory>
-    ensures made { IfOk result (λ places. places.items ≡ made.items ++ delays_of (branch_item_steps (branch item.now) (meanings names.old))) }
+    ensures made { IfOk result (λ places. places.items
+        ≡ made.items ++ delays_of (branch_item_steps (branch item.now) (meanings names.old))) }
     ensures same { meanings names.new ≡ meanings names.old }
 {
     match item {
@@ -174,7 +186,9 @@ fn push_loop(
     names: &mut Names,
     made: Vec<u32>,
 ) -> Result<Vec<u32>, Memory>
-    ensures made { IfOk result (λ all. all.items ≡ made.items ++ delays_of (all_turns (steps (action body.now)) (meanings names.old) (head_of head.entry))) }
+    ensures made { IfOk result (λ all. all.items
+        ≡ made.items ++ delays_of (all_turns (steps (action body.now)) (meanings names.old)
+        (head_of head.entry))) }
     ensures same { meanings names.new ≡ meanings names.old }
 {
     let Some(first) = head.first(names) else {
@@ -195,8 +209,12 @@ fn push_turns(
     names: &mut Names,
     made: Vec<u32>,
 ) -> Result<Vec<u32>, Memory>
-    ensures made { IfOk result (λ all. all.items ≡ made.items ++ delays_of (turns (steps (action body.now)) (meanings names.old) (head_of head.entry) TURNS first)) }
-    ensures same { (number : Option ℤ) → indexed (meanings names.new) head.entry.index.now.text number ≡ indexed (meanings names.old) head.entry.index.now.text number }
+    ensures made { IfOk result (λ all. all.items
+        ≡ made.items ++ delays_of (turns (steps (action body.now)) (meanings names.old)
+        (head_of head.entry) TURNS first)) }
+    ensures same { (number : Option ℤ)
+        → indexed (meanings names.new) head.entry.index.now.text number
+        ≡ indexed (meanings names.old) head.entry.index.now.text number }
 {
     let mut number = first;
     let mut made = made;

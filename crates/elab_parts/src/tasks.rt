@@ -40,7 +40,8 @@ fn spot_at(site: Site, at: u32) -> Spot
 
 /// A net that is driven whole.
 fn whole(name: &Name, names: &Names, site: Site) -> Result<Target, Memory>
-    ensures { IfOk result (λ made. map piece made.parts.items ≡ pieces_of site.file site.base (meanings names.now) (Whole (identifier name.now))) }
+    ensures { IfOk result (λ made. map piece made.parts.items
+        ≡ pieces_of site.file site.base (meanings names.now) (Whole (identifier name.now))) }
 {
     let mut parts = Vec::new(site.alloc);
     parts.push(TargetPart {
@@ -53,7 +54,8 @@ fn whole(name: &Name, names: &Names, site: Site) -> Result<Target, Memory>
 
 /// The context of a value that drives a net whole.
 fn whole_context(name: &Name, value: &Expr, names: &Names) -> Context
-    ensures exact { result ≡ assigned_context (meanings names.now) (formula value.now) (Whole (identifier name.now)) }
+    ensures exact { result ≡ assigned_context (meanings names.now) (formula value.now)
+        (Whole (identifier name.now)) }
     ensures not_empty { 1 ≤ result.width }
     ensures at_most { result.width ≤ 128 }
 {
@@ -73,7 +75,9 @@ fn net_process(
     site: Site,
     instance: u32,
 ) -> Result<Process, Memory>
-    ensures { IfOk result (λ made. task made ≡ assigned_task site.file site.base instance (meanings names.now) (Whole (identifier name.now)) (formula value.now)) }
+    ensures { IfOk result (λ made. task made
+        ≡ assigned_task site.file site.base instance (meanings names.now)
+        (Whole (identifier name.now)) (formula value.now)) }
 {
     let does = Does::Assign {
         target: whole(name, names, site)?,
@@ -93,7 +97,9 @@ fn drive_process(
     site: Site,
     instance: u32,
 ) -> Result<Process, Memory>
-    ensures { IfOk result (λ made. task made ≡ assigned_task site.file site.base instance (meanings names.now) (target assignment.now.target) (formula assignment.now.value)) }
+    ensures { IfOk result (λ made. task made
+        ≡ assigned_task site.file site.base instance (meanings names.now)
+        (target assignment.now.target) (formula assignment.now.value)) }
 {
     let written = &assignment.target;
     let value = &assignment.value;
@@ -126,7 +132,9 @@ fn always_process(
     site: Site,
     instance: u32,
 ) -> Result<Process, Memory>
-    ensures made { IfOk result (λ made. task made ≡ always_task site.file site.base instance (meanings names.old) at (sensitivity control.now) (action body.now)) }
+    ensures made { IfOk result (λ made. task made
+        ≡ always_task site.file site.base instance (meanings names.old) at (sensitivity control.now)
+        (action body.now)) }
     ensures same { meanings names.new ≡ meanings names.old }
 {
     let list = listed(control, names, site)?;
@@ -145,7 +153,10 @@ fn push_value(
     instance: u32,
     processes: &mut Vec<Process>,
 ) -> Result<(), Memory>
-    ensures { OnOk result (map task processes.new.items ≡ map task processes.old.items ++ value_tasks site.file site.base instance (meanings names.now) (identifier wire.now.name) (option_map formula wire.now.value)) }
+    ensures { OnOk result (map task processes.new.items
+        ≡ map task processes.old.items
+        ++ value_tasks site.file site.base instance (meanings names.now) (identifier wire.now.name)
+        (option_map formula wire.now.value)) }
 {
     if let Some(value) = &wire.value {
         processes.push(net_process(&wire.name, value, names, site, instance)?)?;
@@ -160,7 +171,9 @@ fn push_nets(
     instance: u32,
     processes: &mut Vec<Process>,
 ) -> Result<(), Memory>
-    ensures { OnOk result (map task processes.new.items ≡ map task processes.old.items ++ net_tasks site.file site.base instance (meanings names.now) (map net wires.now)) }
+    ensures { OnOk result (map task processes.new.items
+        ≡ map task processes.old.items
+        ++ net_tasks site.file site.base instance (meanings names.now) (map net wires.now)) }
 {
     for wire in wires {
         push_value(wire, names, site, instance, processes)?;
@@ -175,7 +188,10 @@ fn push_drives(
     instance: u32,
     processes: &mut Vec<Process>,
 ) -> Result<(), Memory>
-    ensures { OnOk result (map task processes.new.items ≡ map task processes.old.items ++ drive_tasks site.file site.base instance (meanings names.now) (map drive assignments.now)) }
+    ensures { OnOk result (map task processes.new.items
+        ≡ map task processes.old.items
+        ++ drive_tasks site.file site.base instance (meanings names.now)
+        (map drive assignments.now)) }
 {
     for assignment in assignments {
         processes.push(drive_process(assignment, names, site, instance)?)?;
@@ -192,7 +208,9 @@ pub fn push_processes(
     instance: u32,
     processes: &mut Vec<Process>,
 ) -> Result<(), Memory>
-    ensures made { OnOk result (map task processes.new.items ≡ map task processes.old.items ++ item_tasks site.file site.base instance (meanings names.old) (module_item item.now)) }
+    ensures made { OnOk result (map task processes.new.items
+        ≡ map task processes.old.items
+        ++ item_tasks site.file site.base instance (meanings names.old) (module_item item.now)) }
     ensures same { meanings names.new ≡ meanings names.old }
 {
     match item {

@@ -71,7 +71,8 @@ pub(crate) fn left_context(
 ) -> Context
     requires not_empty { 1 ≤ context.width }
     requires at_most { context.width ≤ 128 }
-    ensures exact { result ≡ left_context (meanings names.now) operator (formula a.now) (formula b.now) context }
+    ensures exact { result ≡ left_context (meanings names.now) operator (formula a.now)
+        (formula b.now) context }
     ensures not_empty { 1 ≤ result.width }
     ensures at_most { result.width ≤ 128 }
 {
@@ -92,7 +93,8 @@ pub(crate) fn right_context(
 ) -> Context
     requires not_empty { 1 ≤ context.width }
     requires at_most { context.width ≤ 128 }
-    ensures exact { result ≡ right_context (meanings names.now) operator (formula a.now) (formula b.now) context }
+    ensures exact { result ≡ right_context (meanings names.now) operator (formula a.now)
+        (formula b.now) context }
     ensures not_empty { 1 ≤ result.width }
     ensures at_most { result.width ≤ 128 }
 {

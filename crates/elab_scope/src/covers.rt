@@ -129,7 +129,9 @@ fn judge_cover<'a>(
     earlier: &[Cover],
     best: Option<Fault<'a>>,
 ) -> Option<Fault<'a>>
-    ensures { option_map refusal result ≡ after (option_map refusal best.entry) (cover_faults (identifier name.now) earlier.now cover) }
+    ensures { option_map refusal result
+        ≡ after (option_map refusal best.entry)
+        (cover_faults (identifier name.now) earlier.now cover) }
 {
     match cover {
         None => best,
@@ -150,8 +152,11 @@ fn add_part<'a>(
     cover: Option<Cover>,
     so_far: Covered<'a>,
 ) -> Result<Covered<'a>, Memory>
-    ensures covers { IfOk result (λ all. all.covers.items ≡ with_cover so_far.entry.covers.items cover) }
-    ensures best { IfOk result (λ all. option_map refusal all.best ≡ after (option_map refusal so_far.entry.best) (cover_faults (identifier name.now) so_far.entry.covers.items cover)) }
+    ensures covers { IfOk result (λ all. all.covers.items
+        ≡ with_cover so_far.entry.covers.items cover) }
+    ensures best { IfOk result (λ all. option_map refusal all.best
+        ≡ after (option_map refusal so_far.entry.best)
+        (cover_faults (identifier name.now) so_far.entry.covers.items cover)) }
 {
     let Covered { mut covers, best } = so_far;
     let best = judge_cover(name, cover, &covers, best);
@@ -169,8 +174,11 @@ fn cover_target<'a>(
     names: &Names,
     so_far: Covered<'a>,
 ) -> Result<Covered<'a>, Memory>
-    ensures covers { IfOk result (λ all. all.covers.items ≡ covered (meanings names.now) so_far.entry.covers.items (target written.now)) }
-    ensures best { IfOk result (λ all. option_map refusal all.best ≡ after (option_map refusal so_far.entry.best) (twice_faults (meanings names.now) so_far.entry.covers.items (target written.now))) }
+    ensures covers { IfOk result (λ all. all.covers.items
+        ≡ covered (meanings names.now) so_far.entry.covers.items (target written.now)) }
+    ensures best { IfOk result (λ all. option_map refusal all.best
+        ≡ after (option_map refusal so_far.entry.best)
+        (twice_faults (meanings names.now) so_far.entry.covers.items (target written.now))) }
 {
     match written {
         Lvalue::Whole(name) => add_part(name, whole_cover(names.find(&name.text)), so_far),
@@ -195,8 +203,13 @@ fn cover_all<'a>(
     names: &Names,
     so_far: Covered<'a>,
 ) -> Result<Covered<'a>, Memory>
-    ensures covers { IfOk result (λ all. all.covers.items ≡ all_covered (meanings names.now) so_far.entry.covers.items (target_row (map target parts.now))) }
-    ensures best { IfOk result (λ all. option_map refusal all.best ≡ after (option_map refusal so_far.entry.best) (all_twice_faults (meanings names.now) so_far.entry.covers.items (target_row (map target parts.now)))) }
+    ensures covers { IfOk result (λ all. all.covers.items
+        ≡ all_covered (meanings names.now) so_far.entry.covers.items
+        (target_row (map target parts.now))) }
+    ensures best { IfOk result (λ all. option_map refusal all.best
+        ≡ after (option_map refusal so_far.entry.best)
+        (all_twice_faults (meanings names.now) so_far.entry.covers.items
+        (target_row (map target parts.now)))) }
 {
     let mut all = so_far;
     for part in parts {
@@ -214,8 +227,11 @@ pub fn judge_target<'a>(
     names: &Names,
     best: Option<Fault<'a>>,
 ) -> Result<Judged<'a>, Memory>
-    ensures breadth { IfOk result (λ judged. judged.breadth ≡ target_breadth (meanings names.now) (target written.now)) }
-    ensures best { IfOk result (λ judged. option_map refusal judged.best ≡ after (option_map refusal best.entry) (target_faults by (meanings names.now) (target written.now))) }
+    ensures breadth { IfOk result (λ judged. judged.breadth
+        ≡ target_breadth (meanings names.now) (target written.now)) }
+    ensures best { IfOk result (λ judged. option_map refusal judged.best
+        ≡ after (option_map refusal best.entry)
+        (target_faults by (meanings names.now) (target written.now))) }
 {
     let judged = judge_parts(by, written, names, best);
     match (by, judged.breadth) {

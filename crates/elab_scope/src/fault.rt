@@ -120,7 +120,8 @@ impl<'a> Fault<'a> {
 
     /// The one of two that is told; where neither comes before the other, the one that was there.
     pub fn keep(best: Option<Fault<'a>>, fault: Fault<'a>) -> Option<Fault<'a>>
-        ensures { option_map refusal result ≡ keep (option_map refusal best.entry) (refusal fault.entry) }
+        ensures { option_map refusal result
+            ≡ keep (option_map refusal best.entry) (refusal fault.entry) }
     {
         match best {
             Some(best) if !fault.comes_before(best) => Some(best),

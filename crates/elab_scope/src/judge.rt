@@ -30,7 +30,8 @@ pub struct Judged<'a> {
 /// An expression of this breadth, after the faults of its parts.
 fn whole<'a>(at: u32, breadth: Breadth, best: Option<Fault<'a>>) -> Judged<'a>
     ensures breadth { result.breadth ≡ breadth }
-    ensures best { option_map refusal result.best ≡ after (option_map refusal best.entry) (width_faults at breadth) }
+    ensures best { option_map refusal result.best
+        ≡ after (option_map refusal best.entry) (width_faults at breadth) }
 {
     Judged {
         breadth,
@@ -43,7 +44,8 @@ fn whole<'a>(at: u32, breadth: Breadth, best: Option<Fault<'a>>) -> Judged<'a>
 #[tactic(auto, using(crate::proofs::Least::after_append, crate::proofs::Views::concat_breadth, crate::proofs::Views::repeat_breadth, crate::proofs::Views::concat_told, crate::proofs::Views::repeat_told))]
 pub fn judge<'a>(e: &'a Expr, names: &Names, best: Option<Fault<'a>>) -> Judged<'a>
     ensures breadth { result.breadth ≡ breadth (meanings names.now) (formula e.now) }
-    ensures best { option_map refusal result.best ≡ after (option_map refusal best.entry) (faults (meanings names.now) (formula e.now)) }
+    ensures best { option_map refusal result.best
+        ≡ after (option_map refusal best.entry) (faults (meanings names.now) (formula e.now)) }
 {
     match e {
         Expr::Number(value, at) => whole(*at, breadth_of(u32::from(value.width)), best),
@@ -128,7 +130,9 @@ fn combined(operation: Operation, left: Breadth, right: Breadth) -> Breadth
 #[cycle(judge)]
 #[tactic(auto, using(crate::proofs::Least::after_append))]
 pub fn judge_constant<'a>(e: &'a Expr, names: &Names, best: Option<Fault<'a>>) -> Option<Fault<'a>>
-    ensures { option_map refusal result ≡ after (option_map refusal best.entry) (constant_faults (meanings names.now) (formula e.now)) }
+    ensures { option_map refusal result
+        ≡ after (option_map refusal best.entry)
+        (constant_faults (meanings names.now) (formula e.now)) }
 {
     rules::number(constant(e, names), judge(e, names, best).best)
 }
@@ -137,8 +141,11 @@ pub fn judge_constant<'a>(e: &'a Expr, names: &Names, best: Option<Fault<'a>>) -
 #[cycle(judge)]
 #[tactic(auto, using(crate::proofs::Least::after_append, crate::proofs::Views::beside_beside, crate::proofs::Views::beside_none, crate::proofs::Views::row_alone))]
 fn judge_row<'a>(parts: &'a [Expr], names: &Names, best: Option<Fault<'a>>) -> Judged<'a>
-    ensures breadth { result.breadth ≡ row_breadth (meanings names.now) (formula_row (map formula parts.now)) }
-    ensures best { option_map refusal result.best ≡ after (option_map refusal best.entry) (row_faults (meanings names.now) (formula_row (map formula parts.now))) }
+    ensures breadth { result.breadth
+        ≡ row_breadth (meanings names.now) (formula_row (map formula parts.now)) }
+    ensures best { option_map refusal result.best
+        ≡ after (option_map refusal best.entry)
+        (row_faults (meanings names.now) (formula_row (map formula parts.now))) }
 {
     let mut breadth = Breadth::Bits(0);
     let mut best = best;

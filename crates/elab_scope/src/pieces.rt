@@ -25,7 +25,11 @@ use rtl_tree::tree::stmt::Lvalue;
 
 /// The bit that an index selects: a constant one is its number.
 pub fn bit(index: &Expr, known: Option<Known>, names: &Names, site: Site) -> Result<Select, Memory>
-    ensures { IfOk result (λ made. selection made ≡ bit_selection (low_of known) (constant (numbers_in (meanings names.now)) (formula index.now)) (tree_of site.file site.base (meanings names.now) (formula index.now) (own_context (meanings names.now) (formula index.now)))) }
+    ensures { IfOk result (λ made. selection made
+        ≡ bit_selection (low_of known)
+        (constant (numbers_in (meanings names.now)) (formula index.now))
+        (tree_of site.file site.base (meanings names.now) (formula index.now)
+        (own_context (meanings names.now) (formula index.now)))) }
 {
     let low = low_of(known);
     match constant(index, names) {
@@ -55,7 +59,12 @@ pub fn part(field: Option<Field>) -> Select
 
 /// What is selected of a name.
 pub fn part_of(name: &Name, known: Option<Known>, select: Select, site: Site) -> TargetPart
-    ensures { piece result ≡ record { signal = signal_of site.base known; selection = selection select; spot = spot_in site.file name.now.at } }
+    ensures { piece result ≡ record {
+      signal = signal_of site.base known;
+      selection = selection select;
+      spot = spot_in site.file
+          name.now.at;
+    } }
 {
     TargetPart {
         signal: signal_of(site.base, known),
@@ -120,7 +129,8 @@ fn push_all(
 
 /// A target in the design.
 pub fn target_of(written: &Lvalue, names: &Names, site: Site) -> Result<Target, Memory>
-    ensures { IfOk result (λ made. map piece made.parts.items ≡ pieces_of site.file site.base (meanings names.now) (target written.now)) }
+    ensures { IfOk result (λ made. map piece made.parts.items
+        ≡ pieces_of site.file site.base (meanings names.now) (target written.now)) }
 {
     let mut parts = Vec::new(site.alloc);
     push_parts(written, names, site, &mut parts)?;

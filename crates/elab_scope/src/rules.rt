@@ -23,14 +23,16 @@ pub enum Writer {
 }
 
 fn at<'a>(best: Option<Fault<'a>>, at: u32, cause: Cause<'a>) -> Option<Fault<'a>>
-    ensures { option_map refusal result ≡ keep (option_map refusal best.entry) (refusal (record { at = at; cause = cause.entry })) }
+    ensures { option_map refusal result
+        ≡ keep (option_map refusal best.entry) (refusal (record { at = at; cause = cause.entry })) }
 {
     Fault::keep(best, Fault { at, cause })
 }
 
 /// What is read is declared, and an `integer` is read in its own loop alone.
 pub fn read<'a>(name: &'a Name, known: Option<Known>, best: Option<Fault<'a>>) -> Option<Fault<'a>>
-    ensures { option_map refusal result ≡ after (option_map refusal best.entry) (read_faults (identifier name.now) known) }
+    ensures { option_map refusal result
+        ≡ after (option_map refusal best.entry) (read_faults (identifier name.now) known) }
 {
     match known {
         None => at(best, name.at, Cause::Undeclared(&name.text)),
@@ -41,7 +43,8 @@ pub fn read<'a>(name: &'a Name, known: Option<Known>, best: Option<Fault<'a>>) -
 
 /// Only signals have bits to select.
 pub fn range<'a>(name: &'a Name, known: Option<Known>, best: Option<Fault<'a>>) -> Option<Fault<'a>>
-    ensures { option_map refusal result ≡ after (option_map refusal best.entry) (range_faults (identifier name.now) known) }
+    ensures { option_map refusal result
+        ≡ after (option_map refusal best.entry) (range_faults (identifier name.now) known) }
 {
     match known {
         Some(Known::Parameter { .. }) | Some(Known::Integer(_)) => at(best, name.at, Cause::Range),
@@ -56,7 +59,8 @@ pub fn select<'a>(
     known: Option<Known>,
     best: Option<Fault<'a>>,
 ) -> Option<Fault<'a>>
-    ensures { option_map refusal result ≡ after (option_map refusal best.entry) (select_faults (identifier name.now) known) }
+    ensures { option_map refusal result
+        ≡ after (option_map refusal best.entry) (select_faults (identifier name.now) known) }
 {
     range(name, known, read(name, known, best))
 }
@@ -72,7 +76,8 @@ fn const_place(cause: ConstFault) -> u32
 
 /// What has to be constant has a number.
 pub fn number<'a>(number: Result<i64, ConstFault>, best: Option<Fault<'a>>) -> Option<Fault<'a>>
-    ensures { option_map refusal result ≡ after (option_map refusal best.entry) (number_faults number) }
+    ensures { option_map refusal result
+        ≡ after (option_map refusal best.entry) (number_faults number) }
 {
     match number {
         Ok(_) => best,
@@ -86,7 +91,8 @@ pub fn times<'a>(
     times: Result<i64, ConstFault>,
     best: Option<Fault<'a>>,
 ) -> Option<Fault<'a>>
-    ensures { option_map refusal result ≡ after (option_map refusal best.entry) (times_faults place times) }
+    ensures { option_map refusal result
+        ≡ after (option_map refusal best.entry) (times_faults place times) }
 {
     match times {
         Ok(times) if times < 1 => at(best, place, Cause::Width),
@@ -103,7 +109,8 @@ pub fn part<'a>(
     lsb: Result<i64, ConstFault>,
     best: Option<Fault<'a>>,
 ) -> Option<Fault<'a>>
-    ensures { option_map refusal result ≡ after (option_map refusal best.entry) (part_faults place known msb lsb) }
+    ensures { option_map refusal result
+        ≡ after (option_map refusal best.entry) (part_faults place known msb lsb) }
 {
     match (known, msb, lsb) {
         (
@@ -134,7 +141,8 @@ pub fn part<'a>(
 
 /// An expression has from 1 to 128 bits.
 pub fn width<'a>(place: u32, breadth: Breadth, best: Option<Fault<'a>>) -> Option<Fault<'a>>
-    ensures { option_map refusal result ≡ after (option_map refusal best.entry) (width_faults place breadth) }
+    ensures { option_map refusal result
+        ≡ after (option_map refusal best.entry) (width_faults place breadth) }
 {
     match breadth {
         Breadth::Unfit => at(best, place, Cause::Width),
@@ -159,7 +167,8 @@ pub fn write<'a>(
     known: Option<Known>,
     best: Option<Fault<'a>>,
 ) -> Option<Fault<'a>>
-    ensures { option_map refusal result ≡ after (option_map refusal best.entry) (write_faults by (identifier name.now) known) }
+    ensures { option_map refusal result
+        ≡ after (option_map refusal best.entry) (write_faults by (identifier name.now) known) }
 {
     let Some(known) = known else {
         return at(best, name.at, Cause::Undeclared(&name.text));
@@ -178,7 +187,8 @@ pub fn index<'a>(
     index: Result<i64, ConstFault>,
     best: Option<Fault<'a>>,
 ) -> Option<Fault<'a>>
-    ensures { option_map refusal result ≡ after (option_map refusal best.entry) (index_faults by (identifier name.now) index) }
+    ensures { option_map refusal result
+        ≡ after (option_map refusal best.entry) (index_faults by (identifier name.now) index) }
 {
     match (by, index) {
         (Writer::Continuous, Err(_)) => at(best, name.at, Cause::NotAssignable(&name.text)),

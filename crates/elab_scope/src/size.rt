@@ -137,7 +137,8 @@ fn combined(operator: Operation, a: Box<SizedExpr>, b: Box<SizedExpr>) -> Node
 
 /// An expression of this form.
 fn sized(site: Site, at: u32, context: Context, node: Node) -> SizedExpr
-    ensures tree { tree result ≡ Sized context.width context.signed (spot_in site.file at) (form node) }
+    ensures tree { tree result ≡ Sized context.width context.signed (spot_in site.file at)
+        (form node) }
     ensures signed { result.signed ≡ context.signed }
 {
     SizedExpr {
@@ -157,7 +158,8 @@ fn sized(site: Site, at: u32, context: Context, node: Node) -> SizedExpr
 pub fn size(e: &Expr, context: Context, names: &Names, site: Site) -> Result<SizedExpr, Memory>
     requires not_empty { 1 ≤ context.width }
     requires at_most { context.width ≤ 128 }
-    ensures tree { IfOk result (λ made. tree made ≡ tree_of site.file site.base (meanings names.now) (formula e.now) context) }
+    ensures tree { IfOk result (λ made. tree made
+        ≡ tree_of site.file site.base (meanings names.now) (formula e.now) context) }
     ensures signed { IfOk result (λ made. made.signed ≡ context.signed) }
 {
     match e {
@@ -231,7 +233,8 @@ pub(crate) fn boxed(
 ) -> Result<Box<SizedExpr>, Memory>
     requires not_empty { 1 ≤ context.width }
     requires at_most { context.width ≤ 128 }
-    ensures tree { IfOk result (λ made. tree made.value ≡ tree_of site.file site.base (meanings names.now) (formula e.now) context) }
+    ensures tree { IfOk result (λ made. tree made.value
+        ≡ tree_of site.file site.base (meanings names.now) (formula e.now) context) }
     ensures signed { IfOk result (λ made. made.value.signed ≡ context.signed) }
 {
     Ok(Box::new(site.alloc, size(e, context, names, site)?)?)
@@ -240,7 +243,12 @@ pub(crate) fn boxed(
 /// What is read where a bit is selected: a constant index is its number.
 #[cycle(size)]
 fn bit(index: &Expr, known: Option<Known>, names: &Names, site: Site) -> Result<Node, Memory>
-    ensures { IfOk result (λ made. form made ≡ bit_form (signal_of site.base known) (low_of known) (constant (numbers_in (meanings names.now)) (formula index.now)) (sign (meanings names.now) (formula index.now)) (tree_of site.file site.base (meanings names.now) (formula index.now) (own_context (meanings names.now) (formula index.now)))) }
+    ensures { IfOk result (λ made. form made
+        ≡ bit_form (signal_of site.base known) (low_of known)
+        (constant (numbers_in (meanings names.now)) (formula index.now))
+        (sign (meanings names.now) (formula index.now))
+        (tree_of site.file site.base (meanings names.now) (formula index.now)
+        (own_context (meanings names.now) (formula index.now)))) }
 {
     match constant(index, names) {
         Ok(number) => Ok(selected(known, Index::Fixed(number), site.base)),
@@ -265,7 +273,8 @@ fn selected(known: Option<Known>, index: Index, base: u16) -> Node
 #[cycle(size)]
 #[tactic(auto, using(crate::proofs::Nodes::before_more, crate::proofs::Nodes::before_none))]
 fn row(parts: &[Expr], names: &Names, site: Site) -> Result<Node, Memory>
-    ensures { IfOk result (λ made. form made ≡ row_tree site.file site.base (meanings names.now) (formula_row (map formula parts.now))) }
+    ensures { IfOk result (λ made. form made
+        ≡ row_tree site.file site.base (meanings names.now) (formula_row (map formula parts.now))) }
 {
     let mut made = Vec::with_capacity(site.alloc, parts.len())?;
     for part in parts {

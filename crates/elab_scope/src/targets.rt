@@ -29,7 +29,9 @@ pub fn judge_parts<'a>(
     best: Option<Fault<'a>>,
 ) -> Judged<'a>
     ensures breadth { result.breadth ≡ target_breadth (meanings names.now) (target written.now) }
-    ensures best { option_map refusal result.best ≡ after (option_map refusal best.entry) (part_target_faults by (meanings names.now) (target written.now)) }
+    ensures best { option_map refusal result.best
+        ≡ after (option_map refusal best.entry)
+        (part_target_faults by (meanings names.now) (target written.now)) }
 {
     match written {
         Lvalue::Whole(name) => {
@@ -82,8 +84,11 @@ fn judge_joined<'a>(
     names: &Names,
     best: Option<Fault<'a>>,
 ) -> Judged<'a>
-    ensures breadth { result.breadth ≡ targets_breadth (meanings names.now) (target_row (map target parts.now)) }
-    ensures best { option_map refusal result.best ≡ after (option_map refusal best.entry) (joined_faults by (meanings names.now) (target_row (map target parts.now))) }
+    ensures breadth { result.breadth
+        ≡ targets_breadth (meanings names.now) (target_row (map target parts.now)) }
+    ensures best { option_map refusal result.best
+        ≡ after (option_map refusal best.entry)
+        (joined_faults by (meanings names.now) (target_row (map target parts.now))) }
 {
     let mut breadth = Breadth::Bits(0);
     let mut best = best;
@@ -98,7 +103,7 @@ fn judge_joined<'a>(
 /// How many bits a target has.
 #[cycle(target_breadth)]
 #[tactic(auto, using(crate::proofs::TargetViews::joined_breadth))]
-pub fn breadth_of_target(written: &Lvalue, names: &Names) -> Breadth
+pub(crate) fn breadth_of_target(written: &Lvalue, names: &Names) -> Breadth
     ensures { result ≡ target_breadth (meanings names.now) (target written.now) }
 {
     match written {
@@ -128,7 +133,8 @@ fn breadth_of_row(parts: &[Lvalue], names: &Names) -> Breadth
 
 /// The context of a value that is assigned: the target counts for the width and not for the sign.
 pub fn assigned_context(e: &Expr, written: &Lvalue, names: &Names) -> Context
-    ensures exact { result ≡ assigned_context (meanings names.now) (formula e.now) (target written.now) }
+    ensures exact { result ≡ assigned_context (meanings names.now) (formula e.now)
+        (target written.now) }
     ensures not_empty { 1 ≤ result.width }
     ensures at_most { result.width ≤ 128 }
 {

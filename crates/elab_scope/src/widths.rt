@@ -110,7 +110,7 @@ pub struct Field {
 }
 
 /// The bits from `msb` to `lsb` of a signal, where it has them.
-pub fn field_of(shape: Shape, msb: i64, lsb: i64) -> Option<Field>
+pub(crate) fn field_of(shape: Shape, msb: i64, lsb: i64) -> Option<Field>
     ensures { result ≡ field shape msb lsb }
 {
     let low = i64::from(shape.low);

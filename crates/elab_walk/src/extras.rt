@@ -28,7 +28,7 @@ fn count_in(item: &Item) -> usize
 
 /// How many of so many extras are left behind those of a module; none where it has more.
 #[tactic(auto, using(crate::proofs::Borrowed::spared_more))]
-pub fn spare_extras(written: &Module, most: u32) -> Option<u32>
+pub(crate) fn spare_extras(written: &Module, most: u32) -> Option<u32>
     ensures { result ≡ spared most (extra_count (circuit written.now)) }
 {
     let left = spare(most, written.parameters.len())?;

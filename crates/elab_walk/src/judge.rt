@@ -72,7 +72,10 @@ fn judge_part<'a>(
     names: &mut Names,
     so_far: Progress<'a>,
 ) -> Result<Progress<'a>, Memory>
-    ensures told { IfOk result (λ judged. course judged ≡ passed (course so_far.entry) (part_steps (library all.entry) (map (λ text. text.now) way.now) (meanings names.old) (module_item item.now))) }
+    ensures told { IfOk result (λ judged. course judged
+        ≡ passed (course so_far.entry)
+        (part_steps (library all.entry) (map (λ text. text.now) way.now) (meanings names.old)
+        (module_item item.now))) }
     ensures same { meanings names.new ≡ meanings names.old }
 {
     let so_far = judge_item(alloc, item, names, so_far)?;
@@ -90,7 +93,10 @@ fn judge_parts<'a>(
     names: &mut Names,
     so_far: Progress<'a>,
 ) -> Result<Progress<'a>, Memory>
-    ensures told { IfOk result (λ judged. course judged ≡ passed (course so_far.entry) (parts_steps (library all.entry) (map (λ text. text.now) way.now) (meanings names.old) (map module_item items.now))) }
+    ensures told { IfOk result (λ judged. course judged
+        ≡ passed (course so_far.entry)
+        (parts_steps (library all.entry) (map (λ text. text.now) way.now) (meanings names.old)
+        (map module_item items.now))) }
     ensures same { meanings names.new ≡ meanings names.old }
 {
     let mut so_far = so_far;
@@ -102,7 +108,8 @@ fn judge_parts<'a>(
 
 /// The process that is one too many.
 fn judge_surplus<'a>(seek: Seek, best: Option<Fault<'a>>) -> Option<Fault<'a>>
-    ensures { option_map refusal result ≡ after (option_map refusal best.entry) (surplus (place_of seek)) }
+    ensures { option_map refusal result
+        ≡ after (option_map refusal best.entry) (surplus (place_of seek)) }
 {
     match seek {
         Seek::Left(_) => best,
@@ -127,7 +134,7 @@ pub struct Judged<'a> {
 }
 
 /// What is told of an instance, where so much room is left.
-pub fn judge_visit<'a>(
+pub(crate) fn judge_visit<'a>(
     alloc: Global,
     all: Library<'a>,
     met: &Visit<'a>,
@@ -137,8 +144,10 @@ pub fn judge_visit<'a>(
     ensures names { IfOk result (λ judged. meanings judged.names ≡ scope_in (visit met.now)) }
     ensures signals { IfOk result (λ judged. map listing judged.signals.items
         ≡ listings_of (visit met.now).settings (visit met.now).circuit) }
-    ensures told { IfOk result (λ judged. option_map refusal judged.best ≡ least (own_faults (library all.entry) room (visit met.now))) }
-    ensures room { IfOk result (λ judged. option_map refusal judged.best ≡ None → judged.room ≡ room_after (library all.entry) room (visit met.now)) }
+    ensures told { IfOk result (λ judged. option_map refusal judged.best
+        ≡ least (own_faults (library all.entry) room (visit met.now))) }
+    ensures room { IfOk result (λ judged. option_map refusal judged.best ≡ None
+        → judged.room ≡ room_after (library all.entry) room (visit met.now)) }
 {
     let base = u32::from(room.base);
     let declared = declare(alloc, met.written, &met.overrides, base, None)?;

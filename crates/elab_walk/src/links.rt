@@ -47,7 +47,8 @@ fn spend_argument<'a>(
     names: &Names,
     so_far: Progress<'a>,
 ) -> Progress<'a>
-    ensures { course result ≡ passed (course so_far.entry) (argument_steps (meanings names.now) at direction (option_map formula value.now)) }
+    ensures { course result ≡ passed (course so_far.entry)
+        (argument_steps (meanings names.now) at direction (option_map formula value.now)) }
 {
     match value {
         None => so_far,
@@ -66,7 +67,9 @@ fn spend_placed<'a>(
     names: &Names,
     so_far: Progress<'a>,
 ) -> Progress<'a>
-    ensures { course result ≡ passed (course so_far.entry) (placed_steps (sockets ports.now) (meanings names.now) argument.now.at (slice_get (sockets ports.now).order place) (option_map formula argument.now.value)) }
+    ensures { course result ≡ passed (course so_far.entry)
+        (placed_steps (sockets ports.now) (meanings names.now) argument.now.at
+        (slice_get (sockets ports.now).order place) (option_map formula argument.now.value)) }
 {
     match ports.order.get(place) {
         None => so_far,
@@ -83,7 +86,8 @@ fn spend_ordered<'a>(
     names: &Names,
     so_far: Progress<'a>,
 ) -> Progress<'a>
-    ensures { course result ≡ passed (course so_far.entry) (ordered_steps (sockets ports.now) (meanings names.now) 0 (map positional arguments.now)) }
+    ensures { course result ≡ passed (course so_far.entry)
+        (ordered_steps (sockets ports.now) (meanings names.now) 0 (map positional arguments.now)) }
 {
     let mut so_far = so_far;
     for (place, argument) in arguments.iter().enumerate() {
@@ -98,7 +102,8 @@ fn spend_named<'a>(
     names: &Names,
     so_far: Progress<'a>,
 ) -> Progress<'a>
-    ensures { course result ≡ passed (course so_far.entry) (named_steps (sockets ports.now) (meanings names.now) (map associated arguments.now)) }
+    ensures { course result ≡ passed (course so_far.entry)
+        (named_steps (sockets ports.now) (meanings names.now) (map associated arguments.now)) }
 {
     let mut so_far = so_far;
     for argument in arguments {
@@ -114,7 +119,8 @@ fn spend_connections<'a>(
     names: &Names,
     so_far: Progress<'a>,
 ) -> Progress<'a>
-    ensures { course result ≡ passed (course so_far.entry) (connection_steps (sockets ports.now) (meanings names.now) (association connections.now)) }
+    ensures { course result ≡ passed (course so_far.entry)
+        (connection_steps (sockets ports.now) (meanings names.now) (association connections.now)) }
 {
     match connections {
         Arguments::Ordered(arguments) => spend_ordered(ports, arguments, names, so_far),
@@ -128,7 +134,9 @@ fn spend_instances<'a>(
     names: &Names,
     so_far: Progress<'a>,
 ) -> Progress<'a>
-    ensures { course result ≡ passed (course so_far.entry) (instantiations_steps (sockets ports.now) (meanings names.now) (map instantiation instances.now)) }
+    ensures { course result ≡ passed (course so_far.entry)
+        (instantiations_steps (sockets ports.now) (meanings names.now)
+        (map instantiation instances.now)) }
 {
     let mut so_far = so_far;
     for instance in instances {
@@ -143,7 +151,9 @@ fn spend_group<'a>(
     names: &Names,
     so_far: Progress<'a>,
 ) -> Result<Progress<'a>, Memory>
-    ensures { IfOk result (λ judged. course judged ≡ passed (course so_far.entry) (group_steps (meanings names.now) (option_map group found.entry))) }
+    ensures { IfOk result (λ judged. course judged
+        ≡ passed (course so_far.entry)
+        (group_steps (meanings names.now) (option_map group found.entry))) }
 {
     let Some(found) = found else {
         return Ok(so_far);
@@ -155,14 +165,16 @@ fn spend_group<'a>(
 
 /// The nodes of the connections of the instances that an item places.
 #[tactic(auto, using(crate::proofs::Borrowed::passed_cut))]
-pub fn spend_links<'a>(
+pub(crate) fn spend_links<'a>(
     alloc: Global,
     all: Library<'_>,
     item: &Item,
     names: &Names,
     so_far: Progress<'a>,
 ) -> Result<Progress<'a>, Memory>
-    ensures { IfOk result (λ judged. course judged ≡ passed (course so_far.entry) (link_steps (library all.entry) (meanings names.now) (module_item item.now))) }
+    ensures { IfOk result (λ judged. course judged
+        ≡ passed (course so_far.entry)
+        (link_steps (library all.entry) (meanings names.now) (module_item item.now))) }
 {
     match so_far.left {
         None => Ok(so_far),

@@ -114,7 +114,7 @@ fn seek_links(item: &Item, seek: Seek) -> Seek
 
 /// The processes of items, one after the other.
 #[tactic(auto, using(crate::proofs::Seeking::sought_append))]
-pub fn seek_all(items: &[Item], seek: Seek) -> Seek
+pub(crate) fn seek_all(items: &[Item], seek: Seek) -> Seek
     ensures { result ≡ sought_on seek (process_places (map module_item items.now)) }
 {
     let mut seek = seek;

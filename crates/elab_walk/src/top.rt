@@ -79,7 +79,8 @@ pub struct Walked<'a> {
 /// Fails only where memory runs out.
 pub fn walk<'a>(alloc: Global, all: Library<'a>, met: Visit<'a>) -> Result<Walked<'a>, Memory>
     ensures told { IfOk result (λ walk. option_map answer walk.fault
-        ≡ refusal (library all.entry) whole_room (all_visits (library all.entry) (visit met.entry))) }
+        ≡ refusal (library all.entry) whole_room
+        (all_visits (library all.entry) (visit met.entry))) }
     ensures placements { IfOk result (λ walk. map placement walk.placements.items
         ≡ placements 0 0 (come_to (library all.entry) whole_room
         (all_visits (library all.entry) (visit met.entry)))) }

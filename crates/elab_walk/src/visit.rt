@@ -64,7 +64,8 @@ pub fn path_in(alloc: Global, holder: &Text, name: &Text) -> Result<Text, Memory
 }
 
 fn way_of<'a>(alloc: Global, way: &[&'a Text]) -> Result<Vec<&'a Text>, Memory>
-    ensures { IfOk result (λ made. map (λ text. text.now) made.items ≡ map (λ text. text.now) way.now) }
+    ensures { IfOk result (λ made. map (λ text. text.now) made.items
+        ≡ map (λ text. text.now) way.now) }
 {
     let mut made = Vec::new(alloc);
     for name in way {
@@ -94,7 +95,8 @@ impl<'a> Holder<'a> {
         name: &Text,
         made: Group<'a>,
     ) -> Result<Visit<'a>, Memory>
-        ensures { IfOk result (λ met. visit met ≡ child_in (holder self.now) at name.now (group made.entry)) }
+        ensures { IfOk result (λ met. visit met
+            ≡ child_in (holder self.now) at name.now (group made.entry)) }
     {
         let mut way = way_of(alloc, &self.way)?;
         way.push(&made.written.name.text)?;

@@ -76,9 +76,12 @@ fn pass<'a>(
     ensures names { IfOk result (λ left. meanings left.names ≡ scope_in (visit met.now)) }
     ensures signals { IfOk result (λ left. map listing left.signals.items
         ≡ listings_of (visit met.now).settings (visit met.now).circuit) }
-    ensures nothing { IfOk result (λ left. told_of (library all.entry) room (visit met.now) ≡ None) }
-    ensures room { IfOk result (λ left. left.room ≡ room_after (library all.entry) room (visit met.now)) }
-    ensures told { IfErr result (λ error. IsTold (answer error) (told_of (library all.entry) room (visit met.now))) }
+    ensures nothing { IfOk result (λ left. told_of (library all.entry) room (visit met.now)
+        ≡ None) }
+    ensures room { IfOk result (λ left. left.room
+        ≡ room_after (library all.entry) room (visit met.now)) }
+    ensures told { IfErr result (λ error.
+        IsTold (answer error) (told_of (library all.entry) room (visit met.now))) }
 {
     if !has_room(room, met.written) {
         return Err(ElabFault::TooLarge(met.spot));

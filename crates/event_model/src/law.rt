@@ -9,12 +9,15 @@ ghost use Rattle.event_model.specs.Policies.{IsDone, PolicyRun};
 
 /// What a policy does is a run of the queue.
 pub fn policies_run()
-    ensures { (policy : Policy) (level : ℕ → Option ℕ) (d : Flat) (s t : State) (spent : ℕ) → PolicyRun policy level d s spent t → Reaches d s t }
+    ensures { (policy : Policy) (level : ℕ → Option ℕ) (d : Flat) (s t : State) (spent : ℕ)
+        → PolicyRun policy level d s spent t → Reaches d s t }
 {}
 
 /// Where a policy finds no more to do, no event is left: nonblocking updates became active as soon as nothing else was.
 pub fn policies_rest()
-    ensures { (policy : Policy) (level : ℕ → Option ℕ) (d : Flat) (s t : State) (spent : ℕ) → IsReady d s → PolicyRun policy level d s spent t → IsDone policy level d t → IsAtRest d t }
+    ensures { (policy : Policy) (level : ℕ → Option ℕ) (d : Flat) (s t : State) (spent : ℕ)
+        → IsReady d s → PolicyRun policy level d s spent t → IsDone policy level d t
+        → IsAtRest d t }
 {}
 
 /// The list of active events has just the active events that may be taken.

@@ -39,8 +39,10 @@ impl Late {
 /// Those of statements.
 #[cycle(lates)]
 fn late_in(acts: &[Act]) -> Late
-    requires { IsFew (nonblocking_in (body_of (map action acts.now))) (rooms (body_of (map action acts.now))) }
-    ensures { IsLate (nonblocking_in (body_of (map action acts.now))) (rooms (body_of (map action acts.now))) result }
+    requires { IsFew (nonblocking_in (body_of (map action acts.now)))
+        (rooms (body_of (map action acts.now))) }
+    ensures { IsLate (nonblocking_in (body_of (map action acts.now)))
+        (rooms (body_of (map action acts.now))) result }
 {
     let mut found = Late::none();
     for act in acts {
@@ -98,7 +100,8 @@ fn late_set(parts: usize, delayed: bool) -> Late
 #[cycle(lates)]
 fn late_other(body: &Option<Vec<Act>>) -> Late
     requires { IsFew (nonblocking_other (other_of body.now)) (other_room (other_of body.now)) }
-    ensures { IsLate (nonblocking_other (other_of body.now)) (other_room (other_of body.now)) result }
+    ensures { IsLate (nonblocking_other (other_of body.now))
+        (other_room (other_of body.now)) result }
 {
     match body {
         Some(body) => late_in(body),
@@ -109,8 +112,10 @@ fn late_other(body: &Option<Vec<Act>>) -> Late
 /// Those of the items of a case.
 #[cycle(lates)]
 fn late_items(items: &[CaseItem]) -> Late
-    requires { IsFew (nonblocking_branches (branches_of items.now)) (branch_rooms (branches_of items.now)) }
-    ensures { IsLate (nonblocking_branches (branches_of items.now)) (branch_rooms (branches_of items.now)) result }
+    requires { IsFew (nonblocking_branches (branches_of items.now))
+        (branch_rooms (branches_of items.now)) }
+    ensures { IsLate (nonblocking_branches (branches_of items.now))
+        (branch_rooms (branches_of items.now)) result }
 {
     let mut found = Late::none();
     for item in items {

@@ -61,7 +61,9 @@ fn blank(signals: &[Signal], does: &Does) -> Vec4
 
 /// Such a value for each process.
 fn blanks(alloc: Global, design: &Design) -> Result<Vec<Vec4>, Memory>
-    ensures { IfOk result (λ values. values.items ≡ map (λ process. blank (width_in design.now.signals.items) (doing process.does)) design.now.processes.items) }
+    ensures { IfOk result (λ values. values.items
+        ≡ map (λ process. blank (width_in design.now.signals.items) (doing process.does))
+        design.now.processes.items) }
 {
     let mut values = Vec::new(alloc);
     for process in &design.processes {
@@ -87,7 +89,9 @@ fn first_driver(signals: &[Signal], does: &Does) -> Option<Vec4>
 
 /// What each process drives before its first update.
 fn first_drivers(alloc: Global, design: &Design) -> Result<Vec<Option<Vec4>>, Memory>
-    ensures { IfOk result (λ drivers. drivers.items ≡ map (λ process. first_driver (width_in design.now.signals.items) (doing process.does)) design.now.processes.items) }
+    ensures { IfOk result (λ drivers. drivers.items
+        ≡ map (λ process. first_driver (width_in design.now.signals.items) (doing process.does))
+        design.now.processes.items) }
 {
     let mut drivers = Vec::new(alloc);
     for process in &design.processes {
@@ -112,7 +116,9 @@ fn now_driver(signals: &[Signal], values: &[Vec4], does: &Does) -> Option<Vec4>
 /// What each process drives where all assignments are up to date.
 fn now_drivers(alloc: Global, design: &Design, values: &[Vec4]) -> Result<Vec<Option<Vec4>>, Memory>
     requires { AreStored design.now.signals.items values.now }
-    ensures { IfOk result (λ drivers. drivers.items ≡ map (λ process. now_driver (store values.now) (doing process.does)) design.now.processes.items) }
+    ensures { IfOk result (λ drivers. drivers.items
+        ≡ map (λ process. now_driver (store values.now) (doing process.does))
+        design.now.processes.items) }
 {
     let mut drivers = Vec::new(alloc);
     for process in &design.processes {
@@ -182,7 +188,8 @@ fn wake_if(woken: &mut Agenda, number: usize, does: &Does)
     requires { number < length woken.old.flags }
     ensures size { length woken.new.flags ≡ length woken.old.flags }
     ensures levels { woken.new.levels ≡ woken.old.levels }
-    ensures flags { (p : ℕ) → flag woken.new.flags p ≡ (flag woken.old.flags p || ((p == number) && is_assignment (Some (doing does.now)))) }
+    ensures flags { (p : ℕ) → flag woken.new.flags p
+        ≡ (flag woken.old.flags p || ((p == number) && is_assignment (Some (doing does.now)))) }
 {
     if is_assignment(does) {
         woken.insert(number);
@@ -208,7 +215,8 @@ fn wake_assignments(design: &Design, woken: &mut Agenda)
     requires { woken.old.flags ≡ replicate (length design.now.processes.items) false }
     ensures size { length woken.new.flags ≡ length woken.old.flags }
     ensures levels { woken.new.levels ≡ woken.old.levels }
-    ensures flags { (p : ℕ) → flag woken.new.flags p ≡ is_assignment (doing_at (flat design.now) p) }
+    ensures flags { (p : ℕ) → flag woken.new.flags p
+        ≡ is_assignment (doing_at (flat design.now) p) }
 {
     for number in 0..design.processes.len() {
         wake_if(woken, number, &design.processes[number].does);

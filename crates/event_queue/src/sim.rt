@@ -60,7 +60,8 @@ impl<'d> EventSim<'d> {
     /// A simulator of a design that begins at a start. It fails only for want of memory.
     pub fn new(alloc: Global, design: &'d Design, start: &Start) -> Result<EventSim<'d>, Memory>
         requires { IsStart design.now start.now }
-        ensures { IfOk result (λ sim. IsSimOf design.now (start_of (flat design.now) start.now) sim) }
+        ensures { IfOk result (λ sim. IsSimOf design.now (start_of (flat design.now) start.now)
+            sim) }
     {
         let levels = levels(alloc, design)?;
         EventSim::on(alloc, design, &levels, start)
@@ -75,8 +76,11 @@ impl<'d> EventSim<'d> {
     ) -> Result<EventSim<'d>, Memory>
         requires start { IsStart design.now start.now }
         requires length { length levels.now ≡ length design.now.processes.items }
-        requires each { (p : ℕ) → p < length design.now.processes.items → IsLevel design.now.signals.items (map task design.now.processes.items) p (slice_index_or levels.now p None) }
-        ensures { IfOk result (λ sim. IsSimOf design.now (start_of (flat design.now) start.now) sim) }
+        requires each { (p : ℕ) → p < length design.now.processes.items
+            → IsLevel design.now.signals.items (map task design.now.processes.items) p
+            (slice_index_or levels.now p None) }
+        ensures { IfOk result (λ sim. IsSimOf design.now (start_of (flat design.now) start.now)
+            sim) }
     {
         let fanout = fanout_of(alloc, design)?;
         let costs = costs_of(alloc, design)?;
@@ -120,8 +124,11 @@ impl<'d> EventSim<'d> {
     fn take_paid(&mut self, choice: Choice)
         requires able { IsAble (flat_of self.old) self.old.queue choice }
         requires paid { cost (flat_of self.old) (event_of choice) ≤ left_of self.old }
-        ensures state { state_of self.new ≡ ready (flat_of self.old) (after (flat_of self.old) (state_of self.old) (event_of choice)) }
-        ensures left { left_of self.new + cost (flat_of self.old) (event_of choice) ≡ left_of self.old }
+        ensures state { state_of self.new
+            ≡ ready (flat_of self.old) (after (flat_of self.old) (state_of self.old)
+            (event_of choice)) }
+        ensures left { left_of self.new + cost (flat_of self.old) (event_of choice)
+            ≡ left_of self.old }
         ensures work { work self.new < work self.old }
         ensures same { IsSame self.old self.new }
         ensures stuck { is_stuck self.new ≡ is_stuck self.old }
@@ -136,10 +143,14 @@ impl<'d> EventSim<'d> {
     fn settle(&mut self, policy: Policy) -> Result<(), Unsettled>
         requires free { is_stuck self.old ≡ false }
         ensures same { IsSame self.old self.new }
-        ensures run { Runs policy (level_of self.old) (flat_of self.old) (state_of self.old) (left_of self.old) (state_of self.new) (left_of self.new) }
-        ensures done { IfOk result (λ _. IsDone policy (level_of self.old) (flat_of self.old) (state_of self.new)) }
+        ensures run { Runs policy (level_of self.old) (flat_of self.old) (state_of self.old)
+            (left_of self.old) (state_of self.new) (left_of self.new) }
+        ensures done { IfOk result (λ _.
+            IsDone policy (level_of self.old) (flat_of self.old) (state_of self.new)) }
         ensures free { IfOk result (λ _. is_stuck self.new ≡ false) }
-        ensures dear { IfErr result (λ _. IsTooDear policy (level_of self.old) (flat_of self.old) (state_of self.new) (left_of self.new)) }
+        ensures dear { IfErr result (λ _.
+            IsTooDear policy (level_of self.old) (flat_of self.old) (state_of self.new)
+            (left_of self.new)) }
         ensures stuck { IfErr result (λ _. is_stuck self.new ≡ true) }
     {
         while let Some(choice) = choose(policy, &self.fanout, &self.queue) {
@@ -164,11 +175,13 @@ impl<'d> EventSim<'d> {
     pub fn take(&mut self, place: usize) -> Result<(), Unsettled>
         requires there { place < length (active (flat_of self.old) (state_of self.old)) }
         ensures same { IsSame self.old self.new }
-        ensures free { IfOk result (λ _. (is_stuck self.old ≡ false) × (is_stuck self.new ≡ false)) }
+        ensures free { IfOk result (λ _. (is_stuck self.old ≡ false)
+            × (is_stuck self.new ≡ false)) }
         ensures taken { IfOk result (λ _. IsTakenAt place self.old self.new) }
         ensures stuck { IfErr result (λ _. is_stuck self.new ≡ true) }
         ensures dear { IfErr result (λ _. is_stuck self.old ≡ false → IsDearAt place self.old) }
-        ensures stays { IfErr result (λ _. (state_of self.new ≡ state_of self.old) × (left_of self.new ≡ left_of self.old)) }
+        ensures stays { IfErr result (λ _. (state_of self.new ≡ state_of self.old)
+            × (left_of self.new ≡ left_of self.old)) }
     {
         if self.stuck {
             return Err(Unsettled);
@@ -200,13 +213,21 @@ impl<'d> EventSim<'d> {
     /// where the next one costs more than is left of the budget: then no later step settles, and nothing changes.
     pub fn step(&mut self, settings: &[Setting], policy: Policy) -> Result<(), Unsettled>
         requires allowed { AreAllowed (flat_of self.old) settings.now }
-        requires settled { is_stuck self.old ≡ false → ((state_of self.old).activated ≡ []) × ((state_of self.old).delayed ≡ []) }
+        requires settled { is_stuck self.old ≡ false → ((state_of self.old).activated ≡ [])
+            × ((state_of self.old).delayed ≡ []) }
         ensures same { IsSame self.old self.new }
-        ensures run { is_stuck self.old ≡ false → Runs policy (level_of self.old) (flat_of self.old) (offer (state_of self.old) (map set_of settings.now)) (budget (flat_of self.old)) (state_of self.new) (left_of self.new) }
-        ensures done { IfOk result (λ _. IsDone policy (level_of self.old) (flat_of self.old) (state_of self.new)) }
+        ensures run { is_stuck self.old ≡ false
+            → Runs policy (level_of self.old) (flat_of self.old)
+            (offer (state_of self.old) (map set_of settings.now)) (budget (flat_of self.old))
+            (state_of self.new) (left_of self.new) }
+        ensures done { IfOk result (λ _.
+            IsDone policy (level_of self.old) (flat_of self.old) (state_of self.new)) }
         ensures rest { IfOk result (λ _. IsAtRest (flat_of self.old) (state_of self.new)) }
-        ensures free { IfOk result (λ _. (is_stuck self.old ≡ false) × (is_stuck self.new ≡ false)) }
-        ensures dear { IfErr result (λ _. is_stuck self.old ≡ false → IsTooDear policy (level_of self.old) (flat_of self.old) (state_of self.new) (left_of self.new)) }
+        ensures free { IfOk result (λ _. (is_stuck self.old ≡ false)
+            × (is_stuck self.new ≡ false)) }
+        ensures dear { IfErr result (λ _. is_stuck self.old ≡ false
+            → IsTooDear policy (level_of self.old) (flat_of self.old) (state_of self.new)
+            (left_of self.new)) }
         ensures stuck { IfErr result (λ _. is_stuck self.new ≡ true) }
         ensures stays { is_stuck self.old ≡ true → IsErr result × (self.new ≡ self.old) }
     {

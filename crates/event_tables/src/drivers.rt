@@ -25,7 +25,8 @@ fn ends_in(row: &[ProcId], process: ProcId) -> bool
 
 /// Puts a process into the row of a signal, unless it is the last one there.
 fn enter(drivers: &mut Vec<Vec<ProcId>>, process: ProcId, signal: SigId) -> Result<(), Memory>
-    ensures { OnOk result (Enters process (λ i. i == signal.0) drivers.old.items drivers.new.items) }
+    ensures { OnOk result (Enters process
+        (λ i. i == signal.0) drivers.old.items drivers.new.items) }
 {
     let place = signal.0 as usize;
     if place >= drivers.len() {
@@ -45,7 +46,8 @@ fn enter_parts(
     process: ProcId,
     parts: &[TargetPart],
 ) -> Result<(), Memory>
-    ensures { OnOk result (Enters process (names (map piece parts.now)) drivers.old.items drivers.new.items) }
+    ensures { OnOk result (Enters process (names (map piece parts.now)) drivers.old.items
+        drivers.new.items) }
 {
     for part in parts {
         enter(drivers, process, part.signal)?;
@@ -68,7 +70,8 @@ fn drive(drivers: &mut Vec<Vec<ProcId>>, design: &Design, process: ProcId) -> Re
 
 /// The continuous assignments that drive each signal.
 pub(crate) fn drivers_of(alloc: Global, design: &Design) -> Result<Vec<Vec<ProcId>>, Memory>
-    ensures { IfOk result (λ drivers. AreDriven (flat design.now) (length design.now.processes.items) drivers.items) }
+    ensures { IfOk result (λ drivers.
+        AreDriven (flat design.now) (length design.now.processes.items) drivers.items) }
 {
     let mut drivers = empty_rows(alloc, design.signals.len())?;
     for number in 0..design.processes.len() {

@@ -139,7 +139,8 @@ fn hear(
     process: ProcId,
 ) -> Result<(), Memory>
     requires { process.0 < length design.now.processes.items }
-    ensures { OnOk result (Hears process.0 (listens_at (flat design.now) process.0) listeners.old.items listeners.new.items) }
+    ensures { OnOk result (Hears process.0 (listens_at (flat design.now) process.0)
+        listeners.old.items listeners.new.items) }
 {
     match &design.processes[process.0 as usize].does {
         Does::Assign {
@@ -162,7 +163,8 @@ fn hear(
 
 /// Who hears changes of each signal.
 pub(crate) fn listeners_of(alloc: Global, design: &Design) -> Result<Vec<Vec<Listener>>, Memory>
-    ensures { IfOk result (λ listeners. AreHeard (flat design.now) (length design.now.processes.items) listeners.items) }
+    ensures { IfOk result (λ listeners.
+        AreHeard (flat design.now) (length design.now.processes.items) listeners.items) }
 {
     let mut listeners = empty_rows(alloc, design.signals.len())?;
     for number in 0..design.processes.len() {

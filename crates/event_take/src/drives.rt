@@ -105,12 +105,19 @@ fn with_part(
     given: Vec4,
 ) -> Vec4
     requires selected { IsSelection signals.now part.now.signal.0 (selection part.now.select) }
-    requires not_empty { 1 ≤ count_of (width_in signals.now) part.now.signal.0 (selection part.now.select) }
+    requires not_empty { 1 ≤ count_of (width_in signals.now) part.now.signal.0
+        (selection part.now.select) }
     requires fixed { IsFixed (selection part.now.select) }
-    requires inside { at + count_of (width_in signals.now) part.now.signal.0 (selection part.now.select) ≤ length bits }
+    requires inside { at + count_of (width_in signals.now) part.now.signal.0
+        (selection part.now.select) ≤ length bits }
     requires stored { AreStored signals.now values.now }
     requires width { length given ≡ width_in signals.now net.0 }
-    ensures bits { (v : Values) → v net.0 ≡ given → result ≡ all_written v (write_at part.now.signal.0 (span_of (width_in signals.now) (no_drive (width_in signals.now)) part.now.signal.0 (selection part.now.select)) (selected at (count_of (width_in signals.now) part.now.signal.0 (selection part.now.select)) bits)) net.0 }
+    ensures bits { (v : Values) → v net.0 ≡ given
+        → result ≡ all_written v (write_at part.now.signal.0
+        (span_of (width_in signals.now) (no_drive (width_in signals.now)) part.now.signal.0
+        (selection part.now.select)) (selected at
+        (count_of (width_in signals.now) part.now.signal.0 (selection part.now.select)) bits))
+        net.0 }
     ensures width { length result ≡ width_in signals.now net.0 }
 {
     let is_there = is_same(part.signal, net);

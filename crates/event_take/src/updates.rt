@@ -88,8 +88,10 @@ fn write_nets(fanout: &Fanout, queue: &mut QueueState, parts: &[TargetPart])
 fn write_net(fanout: &Fanout, queue: &mut QueueState, part: &TargetPart)
     requires fanout { IsFanout fanout.now }
     requires queue { IsQueueState (design_of fanout.now) queue.old }
-    requires selected { IsSelection fanout.now.design.now.signals.items part.now.signal.0 (selection part.now.select) }
-    requires not_empty { 1 ≤ count_of (width_in fanout.now.design.now.signals.items) part.now.signal.0 (selection part.now.select) }
+    requires selected { IsSelection fanout.now.design.now.signals.items part.now.signal.0
+        (selection part.now.select) }
+    requires not_empty { 1 ≤ count_of (width_in fanout.now.design.now.signals.items)
+        part.now.signal.0 (selection part.now.select) }
     requires fixed { IsFixed (selection part.now.select) }
     ensures state { state queue.new
         ≡ write_all (design_of fanout.now) (state queue.old)

@@ -21,7 +21,8 @@ use rtl_flat::act::TargetPart;
 pub fn write_entry(fanout: &Fanout, queue: &mut QueueState, prepared: Entry)
     requires fanout { IsFanout fanout.now }
     requires queue { IsQueueState (design_of fanout.now) queue.old }
-    requires inside { IsInside fanout.now.design.now.signals.items (entry prepared).signal (entry prepared).span (entry prepared).bits }
+    requires inside { IsInside fanout.now.design.now.signals.items (entry prepared).signal
+        (entry prepared).span (entry prepared).bits }
     ensures state { state queue.new
         ≡ write_all (design_of fanout.now) (state queue.old) (writes_of (entry prepared)) }
     ensures queue { IsQueueState (design_of fanout.now) queue.new }
@@ -63,7 +64,8 @@ pub fn write_now(fanout: &Fanout, queue: &mut QueueState, parts: &[TargetPart], 
     requires fanout { IsFanout fanout.now }
     requires queue { IsQueueState (design_of fanout.now) queue.old }
     requires selected { AreSelected fanout.now.design.now.signals.items (map piece parts.now) }
-    requires covered { counts (width_in fanout.now.design.now.signals.items) (map piece parts.now) ≤ length bits }
+    requires covered { counts (width_in fanout.now.design.now.signals.items) (map piece parts.now)
+        ≤ length bits }
     requires room { length parts.now ≤ vec_capacity queue.old.scratch }
     ensures state { state queue.new
         ≡ write_all (design_of fanout.now) (state queue.old)
@@ -92,7 +94,8 @@ pub fn write_later(fanout: &Fanout, queue: &mut QueueState, parts: &[TargetPart]
     requires queue { IsQueueState (design_of fanout.now) queue.old }
     requires some { 1 ≤ length parts.now }
     requires selected { AreSelected fanout.now.design.now.signals.items (map piece parts.now) }
-    requires covered { counts (width_in fanout.now.design.now.signals.items) (map piece parts.now) ≤ length bits }
+    requires covered { counts (width_in fanout.now.design.now.signals.items) (map piece parts.now)
+        ≤ length bits }
     requires room { length queue.old.waiting.items + length parts.now
         ≤ vec_capacity queue.old.waiting }
     ensures state { state queue.new

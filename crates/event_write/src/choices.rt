@@ -62,7 +62,8 @@ pub fn chosen_body<'a>(
 ) -> Option<&'a [Act]>
     requires matched { AreMatched signals.now (length selector) items.now }
     requires stored { AreStored signals.now values.now }
-    ensures { option_map (λ body. body_of (map action body.now)) result ≡ chosen_body kind (store values.now) selector (branches_of items.now) }
+    ensures { option_map (λ body. body_of (map action body.now)) result
+        ≡ chosen_body kind (store values.now) selector (branches_of items.now) }
 {
     for item in items {
         if some_matches(signals, values, kind, selector, &item.labels) {

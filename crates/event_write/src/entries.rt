@@ -52,7 +52,9 @@ pub fn prepare(
     requires stored { AreStored signals.now values.now }
     requires covered { counts (width_in signals.now) (map piece parts.now) ≤ length value }
     requires room { length prepared.old.items + length parts.now ≤ vec_capacity prepared.old }
-    ensures entries { map entry prepared.new.items ≡ map entry prepared.old.items ++ entries (width_in signals.now) (store values.now) (map piece parts.now) value }
+    ensures entries { map entry prepared.new.items
+        ≡ map entry prepared.old.items
+        ++ entries (width_in signals.now) (store values.now) (map piece parts.now) value }
     ensures capacity { vec_capacity prepared.old ≤ vec_capacity prepared.new }
 {
     let left = counts(signals, parts);
@@ -73,7 +75,9 @@ fn prepare_parts(
     requires left { left ≡ counts (width_in signals.now) (map piece parts.now) }
     requires covered { left ≤ length value }
     requires room { length prepared.old.items + length parts.now ≤ vec_capacity prepared.old }
-    ensures entries { map entry prepared.new.items ≡ map entry prepared.old.items ++ entries (width_in signals.now) (store values.now) (map piece parts.now) value }
+    ensures entries { map entry prepared.new.items
+        ≡ map entry prepared.old.items
+        ++ entries (width_in signals.now) (store values.now) (map piece parts.now) value }
     ensures capacity { vec_capacity prepared.old ≤ vec_capacity prepared.new }
 {
     let Some((part, others)) = parts.split_first() else {
@@ -98,10 +102,19 @@ pub fn entry_of(
     is_last: bool,
 ) -> Entry
     requires selected { IsSelection signals.now part.now.signal.0 (selection part.now.select) }
-    requires not_empty { 1 ≤ count_of (width_in signals.now) part.now.signal.0 (selection part.now.select) }
-    requires inside { at + count_of (width_in signals.now) part.now.signal.0 (selection part.now.select) ≤ length value }
+    requires not_empty { 1 ≤ count_of (width_in signals.now) part.now.signal.0
+        (selection part.now.select) }
+    requires inside { at + count_of (width_in signals.now) part.now.signal.0
+        (selection part.now.select) ≤ length value }
     requires stored { AreStored signals.now values.now }
-    ensures { entry result ≡ record { signal = part.now.signal.0; span = span_of (width_in signals.now) (store values.now) part.now.signal.0 (selection part.now.select); bits = selected at (count_of (width_in signals.now) part.now.signal.0 (selection part.now.select)) value; is_last = is_last } }
+    ensures { entry result ≡ record {
+      signal = part.now.signal.0;
+      span = span_of (width_in signals.now)
+          (store values.now) part.now.signal.0 (selection part.now.select);
+      bits = selected at
+          (count_of (width_in signals.now) part.now.signal.0 (selection part.now.select)) value;
+      is_last = is_last;
+    } }
 {
     let count = count_of(signals, part.signal, &part.select);
     Entry {

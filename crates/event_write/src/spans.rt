@@ -43,7 +43,8 @@ fn bit_at(width: u8, low: u32, index: i64) -> Option<Span>
 /// The bit that an index selects, which is negative where it is signed and its highest bit is 1.
 #[tactic(auto, using(crate::proofs::Indices::negative_index))]
 fn bit_by(width: u8, low: u32, signed: bool, index: Vec4) -> Option<Span>
-    ensures { option_map span result ≡ cond (has_unknown index) None (bit_inside width (index_number signed index -ℤ pos low)) }
+    ensures { option_map span result
+        ≡ cond (has_unknown index) None (bit_inside width (index_number signed index -ℤ pos low)) }
 {
     if !index.is_known() {
         return None;
@@ -79,7 +80,8 @@ fn is_negative(bits: Vec4) -> bool
 pub fn span_of(signals: &[Signal], values: &[Vec4], signal: SigId, select: &Select) -> Option<Span>
     requires inside { IsSelection signals.now signal.0 (selection select.now) }
     requires stored { AreStored signals.now values.now }
-    ensures { option_map span result ≡ span_of (width_in signals.now) (store values.now) signal.0 (selection select.now) }
+    ensures { option_map span result
+        ≡ span_of (width_in signals.now) (store values.now) signal.0 (selection select.now) }
 {
     let width = width_of(signals, signal);
     match select {

@@ -125,7 +125,8 @@ fn make_case(
     requires fanout { IsFanout fanout.now }
     requires queue { IsQueueState (design_of fanout.now) queue.old }
     requires selector { IsExpression fanout.now.design.now.signals.items (tree selector.now) }
-    requires branches { AreBranches fanout.now.design.now.signals.items (tree selector.now) (branches_of items.now) }
+    requires branches { AreBranches fanout.now.design.now.signals.items (tree selector.now)
+        (branches_of items.now) }
     requires fallback { IsOtherwise fanout.now.design.now.signals.items (other_of fallback.now) }
     requires scratch { 128 ≤ vec_capacity queue.old.scratch }
     requires room { length queue.old.waiting.items
@@ -159,7 +160,8 @@ fn make_set(
 )
     requires fanout { IsFanout fanout.now }
     requires queue { IsQueueState (design_of fanout.now) queue.old }
-    requires assignment { IsAssignment fanout.now.design.now.signals.items Var (map piece parts.now) (tree expression.now) }
+    requires assignment { IsAssignment fanout.now.design.now.signals.items Var (map piece parts.now)
+        (tree expression.now) }
     requires scratch { 128 ≤ vec_capacity queue.old.scratch }
     requires room { length queue.old.waiting.items + late_parts delayed (map piece parts.now)
         ≤ vec_capacity queue.old.waiting }

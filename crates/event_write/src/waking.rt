@@ -24,7 +24,9 @@ pub(crate) fn wake(listeners: &[Listener], changes: Changes, woken: &mut Agenda)
     requires { All (λ listener. AreBelow (length woken.old.flags) listener) listeners.now }
     ensures size { length woken.new.flags ≡ length woken.old.flags }
     ensures levels { woken.new.levels ≡ woken.old.levels }
-    ensures woken { (old new : List Bit) → length old ≡ length new → AreChanges old new changes → (p : ℕ) → flag woken.new.flags p ≡ (flag woken.old.flags p || heard_by listeners.now p old new) }
+    ensures woken { (old new : List Bit) → length old ≡ length new → AreChanges old new changes
+        → (p : ℕ) → flag woken.new.flags p
+        ≡ (flag woken.old.flags p || heard_by listeners.now p old new) }
 {
     for listener in listeners {
         let hears = listener.hears(changes);

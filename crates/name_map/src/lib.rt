@@ -49,7 +49,8 @@ impl<V: Copy> NameMap<V> {
     /// Gives the name this value, and returns the one that it had. Where memory runs out, nothing has changed.
     fn exchange(&mut self, name: &Text, value: V) -> Result<Option<V>, Memory>
         ensures had { IfOk result (λ had. had ≡ values_of self.old name.now) }
-        ensures ok { OnOk result (values_of self.new ≡ with_value (values_of self.old) name.now value) }
+        ensures ok { OnOk result (values_of self.new
+            ≡ with_value (values_of self.old) name.now value) }
         ensures err { OnErr result (values_of self.new ≡ values_of self.old) }
     {
         let bytes = name.as_bytes();
@@ -64,7 +65,8 @@ impl<V: Copy> NameMap<V> {
 
     /// Gives the name this value, in place of the one that it may have. Where memory runs out, nothing has changed.
     pub fn put(&mut self, name: &Text, value: V) -> Result<(), Memory>
-        ensures ok { OnOk result (values_of self.new ≡ with_value (values_of self.old) name.now value) }
+        ensures ok { OnOk result (values_of self.new
+            ≡ with_value (values_of self.old) name.now value) }
         ensures err { OnErr result (values_of self.new ≡ values_of self.old) }
     {
         self.exchange(name, value)?;
@@ -73,7 +75,8 @@ impl<V: Copy> NameMap<V> {
 
     /// Gives the name this value where it has none: of several values the first holds.
     pub fn enter(&mut self, name: &Text, value: V) -> Result<(), Memory>
-        ensures ok { OnOk result (values_of self.new ≡ entered (values_of self.old) name.now value) }
+        ensures ok { OnOk result (values_of self.new
+            ≡ entered (values_of self.old) name.now value) }
         ensures err { OnErr result (values_of self.new ≡ values_of self.old) }
     {
         // Nearly all names are new: one search in place of two.

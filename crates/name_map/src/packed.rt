@@ -7,14 +7,14 @@ ghost use Rattle.name_map.specs.Packed as spec;
 const MOST: usize = 15;
 
 /// Whether a name is kept as a number.
-pub fn is_short(name: &[u8]) -> bool
+pub(crate) fn is_short(name: &[u8]) -> bool
     ensures { result ≡ spec.is_short name.now }
 {
     name.len() <= MOST
 }
 
 /// A short name as a number: its bytes, the first of them the lowest, below a 1.
-pub fn packed(name: &[u8]) -> u128
+pub(crate) fn packed(name: &[u8]) -> u128
     requires { spec.is_short name.now ≡ true }
     ensures { result ≡ spec.packed name.now }
 {

@@ -113,7 +113,8 @@ impl RankSet {
 
     /// The greatest member, or `None` where there is none.
     pub fn greatest(&self) -> Option<usize>
-        ensures greatest { MatchOption result (IsEmpty self.now) (λ rank. IsGreatest self.now rank) }
+        ensures greatest { MatchOption result (IsEmpty self.now)
+            (λ rank. IsGreatest self.now rank) }
         ensures within { IfSome result (λ rank. rank < length self.now) }
     {
         let number = last_bit(&self.summary)?;

@@ -17,7 +17,8 @@ fn set_bit(words: &mut [u64], place: usize)
     requires { place / 64 < length words.old }
     ensures bit { has words.new place ≡ true }
     ensures other_bits { (k : ℕ) → k ≢ place → has words.new k ≡ has words.old k }
-    ensures other_words { (w : ℕ) → w ≢ place / 64 → slice_index words.new w ≡ slice_index words.old w }
+    ensures other_words { (w : ℕ) → w ≢ place / 64
+        → slice_index words.new w ≡ slice_index words.old w }
 {
     words[place / 64] |= 1 << (place % 64);
 }
@@ -27,7 +28,8 @@ fn clear_bit(words: &mut [u64], place: usize)
     requires { place / 64 < length words.old }
     ensures bit { has words.new place ≡ false }
     ensures other_bits { (k : ℕ) → k ≢ place → has words.new k ≡ has words.old k }
-    ensures other_words { (w : ℕ) → w ≢ place / 64 → slice_index words.new w ≡ slice_index words.old w }
+    ensures other_words { (w : ℕ) → w ≢ place / 64
+        → slice_index words.new w ≡ slice_index words.old w }
 {
     words[place / 64] &= !(1 << (place % 64));
 }

@@ -61,7 +61,8 @@ impl Vec4 {
         requires not_empty { 1 ≤ width }
         requires at_most { width ≤ 128 }
         requires fits { n < 2 ^ width }
-        ensures bits { result ≡ bits_of_signed width (if is_negative then neg_ℤ (pos n) else pos n) }
+        ensures bits { result ≡ bits_of_signed width
+            (if is_negative then neg_ℤ (pos n) else pos n) }
         ensures width { length result ≡ width }
     {
         if is_negative {

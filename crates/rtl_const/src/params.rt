@@ -38,7 +38,8 @@ impl Params {
 
     /// Gives the name this number, in place of the one that it may have; only a new name takes memory.
     pub fn set(&mut self, name: &Text, n: i64) -> Result<(), Memory>
-        ensures ok { OnOk result (numbers_of self.new ≡ with_number (numbers_of self.old) name.now n) }
+        ensures ok { OnOk result (numbers_of self.new
+            ≡ with_number (numbers_of self.old) name.now n) }
         ensures replaced { IsSome (numbers_of self.old name.now) → IsOk result }
         ensures err { OnErr result (numbers_of self.new ≡ numbers_of self.old) }
     {

@@ -51,9 +51,14 @@ fn unmet<'a>(alloc: Global, fault: ElabFault) -> Walked<'a>
 }
 
 /// What elaboration makes of the module with a name, but for the proof that it is lawful.
-pub fn flat_design(alloc: Global, all: Library<'_>, top: &Text) -> Result<DesignParts, ElabFault>
+pub(crate) fn flat_design(
+    alloc: Global,
+    all: Library<'_>,
+    top: &Text,
+) -> Result<DesignParts, ElabFault>
     ensures design { IfOk result (λ made. elaborated (library all.entry) top.now ≡ Ok (flat made)) }
-    ensures told { IfErr result (λ error. IsTold (answer error) (refused (elaborated (library all.entry) top.now))) }
+    ensures told { IfErr result (λ error.
+        IsTold (answer error) (refused (elaborated (library all.entry) top.now))) }
 {
     let Walked {
         mut placements,

@@ -47,8 +47,10 @@ pub fn design_of(made: DesignParts) -> Design
 
 /// The design of the module with a name, of modules and any set of them.
 fn design_in(alloc: Global, all: Library<'_>, top: &Text) -> Result<Design, ElabFault>
-    ensures design { IfOk result (λ design. elaborated (library all.entry) top.now ≡ Ok (flat_in design)) }
-    ensures told { IfErr result (λ error. IsTold (answer error) (refused (elaborated (library all.entry) top.now))) }
+    ensures design { IfOk result (λ design. elaborated (library all.entry) top.now
+        ≡ Ok (flat_in design)) }
+    ensures told { IfErr result (λ error.
+        IsTold (answer error) (refused (elaborated (library all.entry) top.now))) }
 {
     match flat_design(alloc, all, top) {
         Ok(made) => Ok(design_of(made)),

@@ -34,7 +34,8 @@ impl Design {
     /// It takes no memory and looks at the signals one after the other: who looks up many paths
     /// makes a map of them first.
     pub fn signal(&self, path: &str) -> Option<SigId>
-        ensures { result ≡ option_map (λ at. record { 0 = at }) (position (λ signal. bytes_eq signal.path path.now) self.now.signals.items) }
+        ensures { result ≡ option_map (λ at. record { 0 = at })
+            (position (λ signal. bytes_eq signal.path path.now) self.now.signals.items) }
     {
         let at = place(&self.signals, path)?;
         Some(SigId(at as u32))

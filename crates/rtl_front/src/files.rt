@@ -22,7 +22,8 @@ use text_build::spelled_once;
 fn prepared(alloc: Global, text: &[u8]) -> Result<Prepared, FileFault>
     requires { length text.now ≤ MAX_BYTES }
     ensures prepared { IfOk result (λ ready. IsPrepared text.now ready) }
-    ensures only { IfOk result (λ ready. (other : Ready) → IsPrepared text.now other → other ≡ ready) }
+    ensures only { IfOk result (λ ready. (other : Ready) → IsPrepared text.now other
+        → other ≡ ready) }
     ensures fault { IfErr result (λ fault. IsFaulty text.now fault) }
 {
     match lex(alloc, text) {
@@ -43,7 +44,8 @@ fn read_file<L: Ledger>(
     requires { length text.now ≤ MAX_BYTES }
     ensures counted { steps.new ≤ steps.old + 1 }
     ensures read { IfOk result (λ modules. IsRead text.now (map circuit modules.items)) }
-    ensures only { IfOk result (λ modules. (circuits : List Circuit) → IsRead text.now circuits → circuits ≡ map circuit modules.items) }
+    ensures only { IfOk result (λ modules. (circuits : List Circuit) → IsRead text.now circuits
+        → circuits ≡ map circuit modules.items) }
     ensures fault { IfErr result (λ fault. IsFaulty text.now fault) }
 {
     let ready = prepared(alloc, text)?;
@@ -92,7 +94,8 @@ pub fn read_files<L: Ledger>(
     requires { All (λ text. length text.items ≤ MAX_BYTES) texts.now }
     ensures counted { steps.new ≤ steps.old + length texts.now }
     ensures read { IfOk result (λ files. AreRead (texts_of texts.now) (circuits_of files.items)) }
-    ensures only { IfOk result (λ files. (made : List (List Circuit)) → AreRead (texts_of texts.now) made → made ≡ circuits_of files.items) }
+    ensures only { IfOk result (λ files. (made : List (List Circuit))
+        → AreRead (texts_of texts.now) made → made ≡ circuits_of files.items) }
     ensures fault { IfErr result (λ fault. IsFirstFaulty (texts_of texts.now) fault) }
 {
     let mut files = Vec::new(alloc);

@@ -9,13 +9,15 @@ ghost use Rattle.rtl_front.specs.Reasons.{reason};
 /// Files of which one is refused have no list of modules: none are both read and refused. Want of memory, which tells
 /// nothing of the files, is left out.
 pub fn never_both()
-    ensures { (texts : List (List ℕ)) (circuits : List (List Circuit)) (number : ℕ) (fault : FileFault) →
+    ensures { (texts : List (List ℕ)) (circuits : List (List Circuit)) (number : ℕ)
+        (fault : FileFault) →
         is_memory fault ≡ false → AreRead texts circuits → IsFirst texts number fault → ⊥ }
 {}
 
 /// The first faulty file of a list is one at most: its texts alone settle which file is refused.
 pub fn one_first()
-    ensures { (texts : List (List ℕ)) (m n : ℕ) (a b : FileFault) → IsFirst texts m a → IsFirst texts n b → is_memory a ≡ false → is_memory b ≡ false → m ≡ n }
+    ensures { (texts : List (List ℕ)) (m n : ℕ) (a b : FileFault) → IsFirst texts m a
+        → IsFirst texts n b → is_memory a ≡ false → is_memory b ≡ false → m ≡ n }
 {}
 
 /// The texts alone settle what is told of the first faulty file: which fault, with which word or token, at which place.

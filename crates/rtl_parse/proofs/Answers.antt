@@ -17,8 +17,8 @@ use Rattle.text_survey.specs.Terminals.{is_refused}
 use Rattle.text_survey.specs.Surveys.{AreNumbered, AreClosed, IsSurvey}
 use Rattle.text_survey.specs.declared.machine.Surveyed.{Surveyed}
 use Rattle.text_survey.specs.declared.machine.Surveyed.TheVariants as surveyed
-use Rattle.text_least.specs.Least.{IsLeast}
-use Rattle.text_least.proofs.Least.{goes_on}
+use Rattle.text_survey.specs.Least.{IsLeast}
+use Rattle.text_survey.proofs.Least.{goes_on}
 use Rattle.text_build.specs.declared.fault.BuildFault.{BuildFault}
 use Rattle.text_build.specs.Built.{IsBuilt}
 use Rattle.rtl_parse.specs.declared.fault.ParseFault.TheVariants.{Refused, Syntax, TooDeep}

@@ -7,8 +7,8 @@ use Rattle.rtl_tree.specs.Symbols.{Terminal}
 use Rattle.rtl_tree.specs.TreeModule.{Circuit}
 use Rattle.rtl_tree.specs.GrammarModule.{Spells}
 use Rattle.rtl_tree.specs.Deeper.{too_deep, IsLeastPlace}
-use Rattle.text_least.specs.Least.{IsLeast}
-use Rattle.text_least.proofs.Least.{one_least}
+use Rattle.text_survey.specs.Least.{IsLeast}
+use Rattle.text_survey.proofs.Least.{one_least}
 use Rattle.text_build.proofs.Laws.Modules.{spelled_once}
 use Rattle.rtl_parse.specs.declared.fault.ParseFault.{ParseFault}
 use Rattle.rtl_parse.specs.declared.fault.ParseFault.TheVariants.{Refused, Syntax, TooDeep, Memory}

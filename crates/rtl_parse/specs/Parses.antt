@@ -9,7 +9,7 @@ use Rattle.rtl_tree.specs.GrammarModule.{Spells}
 use Rattle.rtl_tree.specs.Deeper.{too_deep, IsLeastPlace}
 use Rattle.text_survey.specs.Terminals.{is_refused}
 use Rattle.text_survey.specs.Surveys.{AreClosed}
-use Rattle.text_least.specs.Least.{IsLeast}
+use Rattle.text_survey.specs.Least.{IsLeast}
 use Rattle.rtl_parse.specs.declared.fault.ParseFault.{ParseFault}
 use Rattle.rtl_parse.specs.declared.fault.ParseFault.TheVariants.{Refused, Syntax, TooDeep, Memory}
 

@@ -7,6 +7,7 @@ ghost use Rattle.rtl_parse.specs.Parses.{IsCause, IsOfText, reason};
 
 /// A text alone settles why it isn't parsed: which fault, at which token, at which place. Want of memory is left out.
 pub fn one_cause()
-    ensures { (ready : Ready) (a b : ParseFault) → IsOfText a → IsOfText b → IsCause ready a → IsCause ready b →
+    ensures { (ready : Ready) (a b : ParseFault) → IsOfText a → IsOfText b → IsCause ready a
+        → IsCause ready b →
         reason a ≡ reason b }
 {}

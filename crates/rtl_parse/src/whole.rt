@@ -17,8 +17,7 @@ use rtl_tree::tree::modules::Module;
 use std::alloc::Global;
 use std::sync::ledger::Ledger;
 use steps::Steps;
-use text_build::{BuildFault, build};
-use text_sound::{are_proper, is_ordinary};
+use text_build::{BuildFault, are_proper, build, is_ordinary};
 use text_survey::{Surveyed, refused, survey, terminals};
 
 /// The text and the place of a token, or of the end of the text.
@@ -28,7 +27,8 @@ fn place(
     tokens: &[Terminal],
     number: usize,
 ) -> Result<(Vec<u8>, u32), Memory>
-    ensures { IfOk result (λ found. IsThere text.now (slice_get (map terminal tokens.now) number) found.0.items found.1) }
+    ensures { IfOk result (λ found.
+        IsThere text.now (slice_get (map terminal tokens.now) number) found.0.items found.1) }
 {
     match tokens.get(number) {
         Some(token) => Ok((Vec::from_slice(alloc, token.text)?, token.at)),

@@ -61,7 +61,7 @@ fn is_ignored(name: &[u8]) -> bool
 }
 
 /// The directive that a name is; any other is a macro's.
-pub fn directive_of(name: &[u8]) -> Option<Known>
+pub(crate) fn directive_of(name: &[u8]) -> Option<Known>
     ensures { result ≡ spec.directive_of name.now }
 {
     if name == b"define".as_slice() {

@@ -76,8 +76,10 @@ impl Shed {
     #[tactic(auto, unfolding(crate::specs::Initials::shed))]
     fn take(&mut self, text: &[u8], token: Token) -> Result<(), PrepFault>
         requires { spec.depth_of self.old.within < usize.MAX }
-        ensures deep { OnOk result (spec.depth_of self.new.within ≤ spec.depth_of self.old.within + 1) }
-        ensures step { Tells (λ _. spec.seen self.new) (spec.shed text.now (spec.seen self.old) token) result }
+        ensures deep { OnOk result (spec.depth_of self.new.within
+            ≤ spec.depth_of self.old.within + 1) }
+        ensures step { Tells (λ _. spec.seen self.new)
+            (spec.shed text.now (spec.seen self.old) token) result }
     {
         self.within = match self.within {
             Within::Outside => {

@@ -43,7 +43,8 @@ impl<'a> Macros<'a> {
 
     /// Gives a name this body, in place of one that it may have.
     pub fn define(&mut self, name: &'a [u8], body: &'a [Token]) -> Result<(), PrepFault>
-        ensures ok { OnOk result (table self.new ≡ spec.with_macro (table self.old) name.now (Some (macro body.now))) }
+        ensures ok { OnOk result (table self.new
+            ≡ spec.with_macro (table self.old) name.now (Some (macro body.now))) }
         ensures memory { IfErr result (λ e. e ≡ Memory) }
     {
         let macro_ = Macro { body, busy: false };
@@ -51,7 +52,7 @@ impl<'a> Macros<'a> {
         Ok(())
     }
 
-    pub fn undefine(&mut self, name: &[u8])
+    pub(crate) fn undefine(&mut self, name: &[u8])
         ensures { table self.new ≡ spec.with_macro (table self.old) name.now None }
     {
         self.all.remove(name);

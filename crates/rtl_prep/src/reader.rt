@@ -47,7 +47,8 @@ impl<'a> Reader<'a> {
     fn undef(&mut self, token: Token, rest: &'a [Token]) -> Result<(), PrepFault>
         ensures text { self.new.text.now ≡ self.old.text.now }
         ensures same { self.new.replacer.text.now ≡ self.old.replacer.text.now }
-        ensures step { Tells (λ _. seen self.new) (spec.undef self.old.text.now rest.now (seen self.old) token) result }
+        ensures step { Tells (λ _. seen self.new)
+            (spec.undef self.old.text.now rest.now (seen self.old) token) result }
     {
         let name = named(self.alloc, self.text, token, rest)?;
         free(self.alloc, self.text, token, name)?;
@@ -61,7 +62,8 @@ impl<'a> Reader<'a> {
     fn open(&mut self, token: Token, rest: &'a [Token], wanted: bool) -> Result<(), PrepFault>
         ensures text { self.new.text.now ≡ self.old.text.now }
         ensures same { self.new.replacer.text.now ≡ self.old.replacer.text.now }
-        ensures step { Tells (λ _. seen self.new) (spec.opens self.old.text.now rest.now (seen self.old) token wanted) result }
+        ensures step { Tells (λ _. seen self.new)
+            (spec.opens self.old.text.now rest.now (seen self.old) token wanted) result }
     {
         let name = named(self.alloc, self.text, token, rest)?;
         let group = self.first_group(token, name, wanted)?;
@@ -78,7 +80,8 @@ impl<'a> Reader<'a> {
     fn elsif(&mut self, token: Token, rest: &'a [Token]) -> Result<(), PrepFault>
         ensures text { self.new.text.now ≡ self.old.text.now }
         ensures same { self.new.replacer.text.now ≡ self.old.replacer.text.now }
-        ensures step { Tells (λ _. seen self.new) (spec.elsif self.old.text.now rest.now (seen self.old) token) result }
+        ensures step { Tells (λ _. seen self.new)
+            (spec.elsif self.old.text.now rest.now (seen self.old) token) result }
     {
         let Some(chain) = self.chains.pop_front() else {
             return Err(PrepFault::Unbalanced(token.at));
@@ -122,7 +125,8 @@ impl<'a> Reader<'a> {
     fn define(&mut self, token: Token, rest: &'a [Token]) -> Result<(), PrepFault>
         ensures text { self.new.text.now ≡ self.old.text.now }
         ensures same { self.new.replacer.text.now ≡ self.old.replacer.text.now }
-        ensures step { Tells (λ _. seen self.new) (spec.define self.old.text.now rest.now (seen self.old) token) result }
+        ensures step { Tells (λ _. seen self.new)
+            (spec.define self.old.text.now rest.now (seen self.old) token) result }
     {
         let name = named(self.alloc, self.text, token, rest)?;
         let line = after(rest, 1);
@@ -142,7 +146,8 @@ impl<'a> Reader<'a> {
     fn ignore(&mut self, token: Token, rest: &'a [Token]) -> Result<(), PrepFault>
         ensures text { self.new.text.now ≡ self.old.text.now }
         ensures same { self.new.replacer.text.now ≡ self.old.replacer.text.now }
-        ensures step { Tells (λ _. seen self.new) (spec.ignored self.old.text.now rest.now (seen self.old) token) result }
+        ensures step { Tells (λ _. seen self.new)
+            (spec.ignored self.old.text.now rest.now (seen self.old) token) result }
     {
         self.passed = line_len(self.text, token, rest);
         Ok(())
@@ -153,7 +158,8 @@ impl<'a> Reader<'a> {
         requires { self.old.replacer.text.now ≡ self.old.text.now }
         ensures text { self.new.text.now ≡ self.old.text.now }
         ensures same { self.new.replacer.text.now ≡ self.old.replacer.text.now }
-        ensures step { Tells (λ _. seen self.new) (spec.replaces self.old.text.now (seen self.old) token) result }
+        ensures step { Tells (λ _. seen self.new)
+            (spec.replaces self.old.text.now (seen self.old) token) result }
     {
         self.replacer.replace(name_of(self.text, token), token.at)?;
         Ok(())
@@ -168,7 +174,8 @@ impl<'a> Reader<'a> {
         requires { self.old.replacer.text.now ≡ self.old.text.now }
         ensures text { self.new.text.now ≡ self.old.text.now }
         ensures same { self.new.replacer.text.now ≡ self.old.replacer.text.now }
-        ensures step { Tells (λ _. seen self.new) (spec.acts known self.old.text.now rest.now (seen self.old) token) result }
+        ensures step { Tells (λ _. seen self.new)
+            (spec.acts known self.old.text.now rest.now (seen self.old) token) result }
     {
         match known {
             Some(Known::Define) => self.define(token, rest),
@@ -187,7 +194,8 @@ impl<'a> Reader<'a> {
         requires { self.old.replacer.text.now ≡ self.old.text.now }
         ensures text { self.new.text.now ≡ self.old.text.now }
         ensures same { self.new.replacer.text.now ≡ self.old.replacer.text.now }
-        ensures step { Tells (λ _. seen self.new) (spec.acts_where_kept known self.old.text.now rest.now (seen self.old) token) result }
+        ensures step { Tells (λ _. seen self.new)
+            (spec.acts_where_kept known self.old.text.now rest.now (seen self.old) token) result }
     {
         if keeps(&self.chains) {
             self.act(known, token, rest)
@@ -202,7 +210,8 @@ impl<'a> Reader<'a> {
         requires { self.old.replacer.text.now ≡ self.old.text.now }
         ensures text { self.new.text.now ≡ self.old.text.now }
         ensures same { self.new.replacer.text.now ≡ self.old.replacer.text.now }
-        ensures step { Tells (λ _. seen self.new) (spec.directive self.old.text.now rest.now (seen self.old) token) result }
+        ensures step { Tells (λ _. seen self.new)
+            (spec.directive self.old.text.now rest.now (seen self.old) token) result }
     {
         let known = directive_of(name_of(self.text, token));
         match known {
@@ -230,7 +239,8 @@ impl<'a> Reader<'a> {
         requires { self.old.replacer.text.now ≡ self.old.text.now }
         ensures text { self.new.text.now ≡ self.old.text.now }
         ensures same { self.new.replacer.text.now ≡ self.old.replacer.text.now }
-        ensures step { Tells (λ _. seen self.new) (spec.met self.old.text.now rest.now (seen self.old) token) result }
+        ensures step { Tells (λ _. seen self.new)
+            (spec.met self.old.text.now rest.now (seen self.old) token) result }
     {
         if is_directive(token.kind) {
             self.directive(token, rest)
@@ -247,7 +257,8 @@ impl<'a> Reader<'a> {
         requires { self.old.replacer.text.now ≡ self.old.text.now }
         ensures text { self.new.text.now ≡ self.old.text.now }
         ensures same { self.new.replacer.text.now ≡ self.old.replacer.text.now }
-        ensures step { Tells (λ _. seen self.new) (spec.taken self.old.text.now rest.now (seen self.old) token) result }
+        ensures step { Tells (λ _. seen self.new)
+            (spec.taken self.old.text.now rest.now (seen self.old) token) result }
     {
         if self.passed == 0 {
             return self.meet(token, rest);
@@ -258,7 +269,8 @@ impl<'a> Reader<'a> {
 
     /// The group that the first directive of a chain begins.
     fn first_group(&self, token: Token, name: Token, wanted: bool) -> Result<Group, PrepFault>
-        ensures { Tells (λ g. g) (spec.first_group (spec.keeps self.now.chains) self.now.text.now (table self.now.replacer.macros) token name wanted) result }
+        ensures { Tells (λ g. g) (spec.first_group (spec.keeps self.now.chains) self.now.text.now
+            (table self.now.replacer.macros) token name wanted) result }
     {
         if keeps(&self.chains) {
             self.tested(token, name, wanted)
@@ -269,7 +281,8 @@ impl<'a> Reader<'a> {
 
     /// The group that an `elsif` begins.
     fn next_group(&self, group: Group, token: Token, name: Token) -> Result<Group, PrepFault>
-        ensures { Tells (λ g. g) (spec.next_group group self.now.text.now (table self.now.replacer.macros) token name) result }
+        ensures { Tells (λ g. g) (spec.next_group group self.now.text.now
+            (table self.now.replacer.macros) token name) result }
     {
         match group {
             Group::Before => self.tested(token, name, true),
@@ -279,7 +292,8 @@ impl<'a> Reader<'a> {
 
     #[tactic(auto, unfolding(crate::specs::Reading::tested))]
     fn tested(&self, token: Token, name: Token, wanted: bool) -> Result<Group, PrepFault>
-        ensures { Tells (λ g. g) (spec.tested self.now.text.now (table self.now.replacer.macros) token name wanted) result }
+        ensures { Tells (λ g. g) (spec.tested self.now.text.now
+            (table self.now.replacer.macros) token name wanted) result }
     {
         free(self.alloc, self.text, token, name)?;
         match self.replacer.macros.get(slice(self.text, name)) {

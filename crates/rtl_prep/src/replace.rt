@@ -53,7 +53,8 @@ impl<'a> Replacer<'a> {
     /// The macro whose replacement begins at the use of a name.
     #[tactic(auto, unfolding(crate::specs::Macros::begun))]
     fn begun(&self, name: &[u8], at: u32) -> Result<Macro<'a>, PrepFault>
-        ensures step { Tells seen_macro (spec.begun (table.table self.now.macros) name.now at (gained self.now)) result }
+        ensures step { Tells seen_macro
+            (spec.begun (table.table self.now.macros) name.now at (gained self.now)) result }
         ensures room { OnOk result (self.now.used < MAX_REPLACEMENTS) }
     {
         if directive_of(name).is_some() {
@@ -79,7 +80,8 @@ impl<'a> Replacer<'a> {
         at: u32,
     ) -> Result<(), PrepFault>
         ensures text { self.new.text.now ≡ self.old.text.now }
-        ensures step { Tells (λ _. held self.new frames.new) (table.begins (held self.old frames.old) name.now at) result }
+        ensures step { Tells (λ _. held self.new frames.new)
+            (table.begins (held self.old frames.old) name.now at) result }
     {
         let found = self.begun(name, at)?;
         self.macros.mark(name, true);
@@ -100,7 +102,9 @@ impl<'a> Replacer<'a> {
         at: u32,
     ) -> Result<(), PrepFault>
         ensures text { self.new.text.now ≡ self.old.text.now }
-        ensures step { Tells (λ _. held self.new frames.new) (table.goes_on self.old.text.now at frame.entry.rest.now frame.entry.name.now (held self.old frames.old)) result }
+        ensures step { Tells (λ _. held self.new frames.new)
+            (table.goes_on self.old.text.now at frame.entry.rest.now frame.entry.name.now
+            (held self.old frames.old)) result }
     {
         let [token, rest @ ..] = frame.rest else {
             self.macros.mark(frame.name, false);
@@ -139,7 +143,7 @@ impl<'a> Replacer<'a> {
     }
 }
 
-pub fn is_directive(kind: Tok) -> bool
+pub(crate) fn is_directive(kind: Tok) -> bool
     ensures { result ≡ spec.is_directive kind }
 {
     match kind {

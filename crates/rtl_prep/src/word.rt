@@ -45,7 +45,7 @@ pub fn is_word(word: &[u8], text: &[u8], token: Token) -> bool
     }
 }
 
-pub fn is_mark(mark: &[u8], text: &[u8], token: Token) -> bool
+pub(crate) fn is_mark(mark: &[u8], text: &[u8], token: Token) -> bool
     ensures { result ≡ words.is_mark mark.now text.now token }
 {
     match token.kind {

@@ -39,7 +39,8 @@ impl<'a> Lexer<'a> {
     /// Takes the next bytes as a token.
     fn take(&mut self, kind: Tok, size: usize) -> Result<(), LexFault>
         requires { size ≤ length self.old.rest.now }
-        ensures tokens { OnOk result (self.new.tokens.items ≡ self.old.tokens.items ++ token kind self.old.at size ∷ []) }
+        ensures tokens { OnOk result (self.new.tokens.items
+            ≡ self.old.tokens.items ++ token kind self.old.at size ∷ []) }
         ensures at { OnOk result (self.new.at ≡ self.old.at + size) }
         ensures rest { OnOk result (self.new.rest.now ≡ drop size self.old.rest.now) }
         ensures full { IfErr result (λ e. IsFull (length self.old.tokens.items) self.old.at e) }
@@ -62,7 +63,8 @@ impl<'a> Lexer<'a> {
     fn note(&mut self, pragma: Pragma, size: usize) -> Result<(), LexFault>
         requires there { 0 < length self.old.rest.now }
         requires found { front self.old.rest.now ≡ Front.Note pragma size }
-        ensures { Turn self.old.tokens.items self.old.at self.old.rest.now result self.new.tokens.items self.new.at self.new.rest.now }
+        ensures { Turn self.old.tokens.items self.old.at self.old.rest.now result
+            self.new.tokens.items self.new.at self.new.rest.now }
     {
         self.take(Tok::Pragma(pragma), size)
     }
@@ -71,7 +73,8 @@ impl<'a> Lexer<'a> {
     fn star(&mut self) -> Result<(), LexFault>
         requires there { 0 < length self.old.rest.now }
         requires found { front self.old.rest.now ≡ Front.Star }
-        ensures { Turn self.old.tokens.items self.old.at self.old.rest.now result self.new.tokens.items self.new.at self.new.rest.now }
+        ensures { Turn self.old.tokens.items self.old.at self.old.rest.now result
+            self.new.tokens.items self.new.at self.new.rest.now }
     {
         self.take(Tok::Mark, 1)?;
         self.take(Tok::Mark, 1)
@@ -81,7 +84,8 @@ impl<'a> Lexer<'a> {
     fn token(&mut self, kind: Tok, size: usize) -> Result<(), LexFault>
         requires there { 0 < length self.old.rest.now }
         requires found { front self.old.rest.now ≡ Front.One kind size }
-        ensures { Turn self.old.tokens.items self.old.at self.old.rest.now result self.new.tokens.items self.new.at self.new.rest.now }
+        ensures { Turn self.old.tokens.items self.old.at self.old.rest.now result
+            self.new.tokens.items self.new.at self.new.rest.now }
     {
         let text = self.rest;
         let at = self.at;
@@ -97,7 +101,8 @@ impl<'a> Lexer<'a> {
     fn gap(&mut self, size: usize) -> Result<(), LexFault>
         requires there { 0 < length self.old.rest.now }
         requires found { front self.old.rest.now ≡ Front.Gap size }
-        ensures { Turn self.old.tokens.items self.old.at self.old.rest.now result self.new.tokens.items self.new.at self.new.rest.now }
+        ensures { Turn self.old.tokens.items self.old.at self.old.rest.now result
+            self.new.tokens.items self.new.at self.new.rest.now }
     {
         self.skip(size);
         Ok(())
@@ -106,7 +111,8 @@ impl<'a> Lexer<'a> {
     /// Goes past the piece at the front.
     fn step(&mut self) -> Result<(), LexFault>
         requires { 0 < length self.old.rest.now }
-        ensures { Turn self.old.tokens.items self.old.at self.old.rest.now result self.new.tokens.items self.new.at self.new.rest.now }
+        ensures { Turn self.old.tokens.items self.old.at self.old.rest.now result
+            self.new.tokens.items self.new.at self.new.rest.now }
     {
         match front_of(self.rest) {
             Front::Gap(size) => self.gap(size),
@@ -127,7 +133,8 @@ pub fn lex(alloc: Global, text: &[u8]) -> Result<Tokens, LexFault>
     requires { length text.now ≤ MAX_BYTES }
     ensures tokens { IfOk result (λ tokens. Answers text.now (Ok tokens)) }
     ensures fault { IfErr result (λ fault. Refuses text.now fault) }
-    ensures only { (answer : Result (List Token) LexFault) → Answers text.now answer → Says answer result }
+    ensures only { (answer : Result (List Token) LexFault) → Answers text.now answer
+        → Says answer result }
 {
     let mut lexer = Lexer {
         rest: text,

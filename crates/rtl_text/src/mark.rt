@@ -44,7 +44,7 @@ fn is_triple(a: u8, b: u8, c: u8) -> bool
 
 #[tactic(auto, unfolding(crate::specs::Forms::mark_at))]
 /// How many bytes the longest mark has whose first byte is `a`.
-pub fn mark_len(a: u8, rest: &[u8]) -> usize
+pub(crate) fn mark_len(a: u8, rest: &[u8]) -> usize
     ensures { result ≡ spec.mark_at a rest.now }
 {
     let b = first(rest);

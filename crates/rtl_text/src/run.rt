@@ -85,7 +85,7 @@ pub fn blanks(text: &[u8]) -> usize
 }
 
 /// How many bytes at the front go on with a word.
-pub fn word_len(text: &[u8]) -> usize
+pub(crate) fn word_len(text: &[u8]) -> usize
     ensures value { result ≡ prefix_len form.is_in_word text.now }
     ensures within { result ≤ length text.now }
 {
@@ -93,7 +93,7 @@ pub fn word_len(text: &[u8]) -> usize
 }
 
 /// How many bytes at the front go on with a decimal.
-pub fn decimal_len(text: &[u8]) -> usize
+pub(crate) fn decimal_len(text: &[u8]) -> usize
     ensures value { result ≡ prefix_len form.is_in_decimal text.now }
     ensures within { result ≤ length text.now }
 {
@@ -101,7 +101,7 @@ pub fn decimal_len(text: &[u8]) -> usize
 }
 
 /// How many bytes at the front are digits of some base.
-pub fn digits_len(text: &[u8]) -> usize
+pub(crate) fn digits_len(text: &[u8]) -> usize
     ensures value { result ≡ prefix_len form.is_in_digits text.now }
     ensures within { result ≤ length text.now }
 {
@@ -117,7 +117,7 @@ pub fn line_len(text: &[u8]) -> usize
 }
 
 /// How many bytes at the front are ASCII.
-pub fn ascii_len(text: &[u8]) -> usize
+pub(crate) fn ascii_len(text: &[u8]) -> usize
     ensures value { result ≡ prefix_len form.is_ascii text.now }
     ensures within { result ≤ length text.now }
 {

@@ -5,3 +5,23 @@ pub mod ExprSteps
 pub mod StmtSteps
 pub mod ItemSteps
 pub mod Laws
+mod Gives
+mod Lists
+mod Operators
+mod References
+mod Operands
+pub mod Exprs
+mod Targets
+mod Stmts
+mod Events
+mod Each
+mod Arguments
+mod Heads
+mod Items
+mod Headers
+pub mod Modules
+pub mod Shallow
+mod Example
+mod Deep
+mod Rows
+pub mod Certain

@@ -6,3 +6,11 @@ pub mod ReadingModule
 pub mod References
 pub mod Built
 pub mod Told
+pub mod Sound
+pub mod Proper
+pub mod ProperModule
+pub mod Whole
+pub mod Shallow
+pub mod Ordinary
+pub mod Tests
+pub mod Certain

@@ -68,7 +68,7 @@ impl Marks {
     }
 
     /// With what pragmas say.
-    pub fn with_pragmas(self, full: bool, parallel: bool) -> Marks
+    pub(crate) fn with_pragmas(self, full: bool, parallel: bool) -> Marks
         ensures { result ≡ reading.with_pragmas self full parallel }
     {
         Marks {
@@ -99,9 +99,10 @@ impl<'a> Cursor<'a> {
 
     /// Passes over `=` and a value where they come next, and says whether they did.
     #[tactic(auto, unfolding(crate::specs::ReadingStmt::after_value))]
-    pub fn pass_value(&mut self) -> bool
+    pub(crate) fn pass_value(&mut self) -> bool
         ensures answer { result ≡ generic.starts symbol.Equals (map terminal self.old.rest.now) }
-        ensures left { map terminal self.new.rest.now ≡ reading.after_value (map terminal self.old.rest.now) }
+        ensures left { map terminal self.new.rest.now
+            ≡ reading.after_value (map terminal self.old.rest.now) }
     {
         if self.take_if(Symbol::Equals) {
             self.pass();
@@ -114,7 +115,8 @@ impl<'a> Cursor<'a> {
     /// One attribute after others.
     #[tactic(auto, unfolding(crate::specs::ReadingStmt::attribute))]
     fn attribute(&mut self, marks: Marks) -> Result<Marks, BuildFault>
-        ensures { Reads (λ m. m) (reading.attribute marks (map terminal self.old.rest.now)) result (map terminal self.new.rest.now) }
+        ensures { Reads (λ m. m) (reading.attribute marks (map terminal self.old.rest.now)) result
+            (map terminal self.new.rest.now) }
     {
         let word = self.token(Symbol::Name)?;
         self.pass_value();
@@ -122,7 +124,8 @@ impl<'a> Cursor<'a> {
     }
 
     fn attributes_in(&mut self, before: Marks) -> Result<Marks, BuildFault>
-        ensures { Reads (λ m. m) (generic.commas reading.attribute before (map terminal self.old.rest.now)) result (map terminal self.new.rest.now) }
+        ensures { Reads (λ m. m) (generic.commas reading.attribute before
+            (map terminal self.old.rest.now)) result (map terminal self.new.rest.now) }
     {
         let mut marks = before;
         // Each turn takes a token, so these are enough.
@@ -138,7 +141,8 @@ impl<'a> Cursor<'a> {
     /// The attributes in one pair of marks, after others.
     #[tactic(auto, unfolding(crate::specs::ReadingStmt::marked))]
     fn marked(&mut self, before: Marks) -> Result<Marks, BuildFault>
-        ensures { Reads (λ m. m) (reading.marked before (map terminal self.old.rest.now)) result (map terminal self.new.rest.now) }
+        ensures { Reads (λ m. m) (reading.marked before (map terminal self.old.rest.now)) result
+            (map terminal self.new.rest.now) }
     {
         self.advance()?;
         let marks = self.attributes_in(before)?;
@@ -148,7 +152,8 @@ impl<'a> Cursor<'a> {
 
     /// All attributes before an item or a statement.
     pub fn attributes(&mut self) -> Result<Marks, BuildFault>
-        ensures { Reads (λ m. m) (reading.attributes (map terminal self.old.rest.now)) result (map terminal self.new.rest.now) }
+        ensures { Reads (λ m. m) (reading.attributes (map terminal self.old.rest.now)) result
+            (map terminal self.new.rest.now) }
     {
         let mut marks = Marks {
             full: false,

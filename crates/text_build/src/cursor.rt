@@ -41,7 +41,7 @@ pub struct Cursor<'a> {
 
 impl<'a> Cursor<'a> {
     /// The symbol of the next token.
-    pub fn peek(&self) -> Option<Symbol>
+    pub(crate) fn peek(&self) -> Option<Symbol>
         ensures { result ≡ reading.symbol_at (map terminal self.now.rest.now) }
     {
         match self.rest {
@@ -61,9 +61,10 @@ impl<'a> Cursor<'a> {
     }
 
     /// Takes a token of this symbol if one comes next, and says whether it did.
-    pub fn take_if(&mut self, symbol: Symbol) -> bool
+    pub(crate) fn take_if(&mut self, symbol: Symbol) -> bool
         ensures answer { result ≡ reading.starts symbol (map terminal self.old.rest.now) }
-        ensures left { map terminal self.new.rest.now ≡ reading.after symbol (map terminal self.old.rest.now) }
+        ensures left { map terminal self.new.rest.now
+            ≡ reading.after symbol (map terminal self.old.rest.now) }
     {
         let [token, rest @ ..] = self.rest else {
             return false;
@@ -77,7 +78,8 @@ impl<'a> Cursor<'a> {
 
     /// Takes a token of this symbol.
     pub fn token(&mut self, symbol: Symbol) -> Result<Terminal<'a>, BuildFault>
-        ensures { Reads (λ t. terminal t) (reading.token symbol (map terminal self.old.rest.now)) result (map terminal self.new.rest.now) }
+        ensures { Reads (λ t. terminal t) (reading.token symbol (map terminal self.old.rest.now))
+            result (map terminal self.new.rest.now) }
     {
         let [token, rest @ ..] = self.rest else {
             return Err(BuildFault::NotSpelled);
@@ -91,7 +93,8 @@ impl<'a> Cursor<'a> {
 
     /// The place of the next token.
     pub fn place(&self) -> Result<u32, BuildFault>
-        ensures { Reads (λ at. at) (reading.place (map terminal self.now.rest.now)) result (map terminal self.now.rest.now) }
+        ensures { Reads (λ at. at) (reading.place (map terminal self.now.rest.now)) result
+            (map terminal self.now.rest.now) }
     {
         match self.rest {
             [token, ..] => Ok(token.at),
@@ -101,7 +104,8 @@ impl<'a> Cursor<'a> {
 
     /// Takes the next token, whose symbol was seen, and gives its place.
     pub fn advance(&mut self) -> Result<u32, BuildFault>
-        ensures { Reads (λ at. at) (reading.advance (map terminal self.old.rest.now)) result (map terminal self.new.rest.now) }
+        ensures { Reads (λ at. at) (reading.advance (map terminal self.old.rest.now)) result
+            (map terminal self.new.rest.now) }
     {
         let [token, rest @ ..] = self.rest else {
             return Err(BuildFault::NotSpelled);
@@ -113,7 +117,8 @@ impl<'a> Cursor<'a> {
     /// Takes a token of this symbol, and gives its place.
     #[tactic(auto, unfolding(crate::specs::Reading::mark))]
     pub fn mark(&mut self, symbol: Symbol) -> Result<u32, BuildFault>
-        ensures { Reads (λ at. at) (reading.mark symbol (map terminal self.old.rest.now)) result (map terminal self.new.rest.now) }
+        ensures { Reads (λ at. at) (reading.mark symbol (map terminal self.old.rest.now)) result
+            (map terminal self.new.rest.now) }
     {
         let token = self.token(symbol)?;
         Ok(token.at)
@@ -122,7 +127,8 @@ impl<'a> Cursor<'a> {
     /// Takes a name.
     #[tactic(auto, unfolding(crate::specs::Reading::name))]
     pub fn name(&mut self) -> Result<Name, BuildFault>
-        ensures { Reads identifier (reading.name (map terminal self.old.rest.now)) result (map terminal self.new.rest.now) }
+        ensures { Reads identifier (reading.name (map terminal self.old.rest.now)) result
+            (map terminal self.new.rest.now) }
     {
         let word = self.token(Symbol::Name)?;
         Ok(Name {
@@ -134,7 +140,8 @@ impl<'a> Cursor<'a> {
     /// Takes a number.
     #[tactic(auto, unfolding(crate::specs::Reading::literal))]
     pub fn literal(&mut self) -> Result<Literal, BuildFault>
-        ensures { Reads (λ value. value) (reading.literal (map terminal self.old.rest.now)) result (map terminal self.new.rest.now) }
+        ensures { Reads (λ value. value) (reading.literal (map terminal self.old.rest.now)) result
+            (map terminal self.new.rest.now) }
     {
         let number = self.token(Symbol::Number)?;
         match value_of(*number.kind) {

@@ -23,7 +23,7 @@ use rtl_tree::tree::nesting::MAX_NESTING;
 impl<'a> Cursor<'a> {
     /// Any expression that stands in an item.
     #[tactic(auto, unfolding(crate::specs::ReadingItem::any_expression))]
-    pub fn any_expression(&mut self) -> Result<Expr, BuildFault>
+    pub(crate) fn any_expression(&mut self) -> Result<Expr, BuildFault>
         ensures { Reads formula (reading.any_expression MAX_NESTING
             (map terminal self.old.rest.now)) result (map terminal self.new.rest.now) }
     {
@@ -32,7 +32,7 @@ impl<'a> Cursor<'a> {
 
     /// A range, where one comes next.
     #[tactic(auto, unfolding(crate::specs::ReadingItem::range, crate::specs::ReadingItem::any_expression, crate::specs::Reading::optional, crate::specs::Reading::either))]
-    pub fn optional_range(&mut self) -> Result<Option<Range>, BuildFault>
+    pub(crate) fn optional_range(&mut self) -> Result<Option<Range>, BuildFault>
         ensures { Reads (λ r. option_map bounds r)
             (reading.range MAX_NESTING (map terminal self.old.rest.now)) result
             (map terminal self.new.rest.now) }
@@ -57,7 +57,9 @@ impl<'a> Cursor<'a> {
 
     /// One or more names with commas between them.
     pub fn names(&mut self) -> Result<Vec<Name>, BuildFault>
-        ensures { Reads (λ all. map identifier all.items) (generic.listed generic.name (map terminal self.old.rest.now)) result (map terminal self.new.rest.now) }
+        ensures { Reads (λ all. map identifier all.items)
+            (generic.listed generic.name (map terminal self.old.rest.now)) result
+            (map terminal self.new.rest.now) }
     {
         let mut all = Vec::with_capacity(self.alloc, 1)?;
         // Each turn takes a token, so these are enough.
@@ -73,7 +75,8 @@ impl<'a> Cursor<'a> {
     /// The direction that comes next, which isn't taken.
     #[tactic(auto, unfolding(crate::specs::ReadingItem::direction_next))]
     fn direction_next(&self) -> Result<Direction, BuildFault>
-        ensures { Reads (λ d. d) (reading.direction_next (map terminal self.now.rest.now)) result (map terminal self.now.rest.now) }
+        ensures { Reads (λ d. d) (reading.direction_next (map terminal self.now.rest.now)) result
+            (map terminal self.now.rest.now) }
     {
         match self.peek() {
             Some(Symbol::Input) => Ok(Direction::Input),
@@ -85,7 +88,8 @@ impl<'a> Cursor<'a> {
     /// `wire` or `reg`, where one of them comes next.
     #[tactic(auto, unfolding(crate::specs::ReadingItem::port_kind))]
     fn port_kind(&mut self) -> Result<Option<PortKind>, BuildFault>
-        ensures { Reads (λ k. k) (reading.port_kind (map terminal self.old.rest.now)) result (map terminal self.new.rest.now) }
+        ensures { Reads (λ k. k) (reading.port_kind (map terminal self.old.rest.now)) result
+            (map terminal self.new.rest.now) }
     {
         match self.peek() {
             Some(Symbol::Wire) => {
@@ -102,7 +106,7 @@ impl<'a> Cursor<'a> {
 
     /// What stands before the names of ports.
     #[tactic(auto, unfolding(crate::specs::ReadingItem::port_head, crate::specs::ReadingItem::flag))]
-    pub fn port_head(&mut self) -> Result<PortHead, BuildFault>
+    pub(crate) fn port_head(&mut self) -> Result<PortHead, BuildFault>
         ensures { Reads head (reading.port_head MAX_NESTING (map terminal self.old.rest.now)) result
             (map terminal self.new.rest.now) }
     {
@@ -120,7 +124,7 @@ impl<'a> Cursor<'a> {
         })
     }
 
-    pub fn boxed_port_head(&mut self) -> Result<Box<PortHead>, BuildFault>
+    pub(crate) fn boxed_port_head(&mut self) -> Result<Box<PortHead>, BuildFault>
         ensures { Reads (λ h. head h.value)
             (reading.port_head MAX_NESTING (map terminal self.old.rest.now)) result
             (map terminal self.new.rest.now) }
@@ -211,7 +215,8 @@ impl<'a> Cursor<'a> {
     /// A name after `reg`; its initial value isn't kept.
     #[tactic(auto, unfolding(crate::specs::ReadingItem::variable, crate::specs::ReadingItem::initial))]
     fn reg(&mut self) -> Result<Reg, BuildFault>
-        ensures { Reads variable (reading.variable (map terminal self.old.rest.now)) result (map terminal self.new.rest.now) }
+        ensures { Reads variable (reading.variable (map terminal self.old.rest.now)) result
+            (map terminal self.new.rest.now) }
     {
         let name = self.name()?;
         let initial = self.pass_value();
@@ -219,7 +224,9 @@ impl<'a> Cursor<'a> {
     }
 
     fn listed_regs(&mut self) -> Result<Vec<Reg>, BuildFault>
-        ensures { Reads (λ all. map variable all.items) (generic.listed reading.variable (map terminal self.old.rest.now)) result (map terminal self.new.rest.now) }
+        ensures { Reads (λ all. map variable all.items)
+            (generic.listed reading.variable (map terminal self.old.rest.now)) result
+            (map terminal self.new.rest.now) }
     {
         let mut all = Vec::with_capacity(self.alloc, 1)?;
         // Each turn takes a token, so these are enough.
@@ -252,7 +259,8 @@ impl<'a> Cursor<'a> {
 
     #[tactic(auto, unfolding(crate::specs::ReadingItem::integers))]
     pub fn integers(&mut self) -> Result<Item, BuildFault>
-        ensures { Reads module_item (reading.integers (map terminal self.old.rest.now)) result (map terminal self.new.rest.now) }
+        ensures { Reads module_item (reading.integers (map terminal self.old.rest.now)) result
+            (map terminal self.new.rest.now) }
     {
         let at = self.advance()?;
         let names = self.names()?;

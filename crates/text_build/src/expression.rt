@@ -25,13 +25,14 @@ const LOOSEST: u32 = 11;
 impl<'a> Cursor<'a> {
     /// Any expression, nested at most `depth` deep.
     pub fn expression(&mut self, depth: u32) -> Result<Expr, BuildFault>
-        ensures { Reads formula (reading.expression depth (map terminal self.old.rest.now)) result (map terminal self.new.rest.now) }
+        ensures { Reads formula (reading.expression depth (map terminal self.old.rest.now)) result
+            (map terminal self.new.rest.now) }
     {
         self.climb(depth, LOOSEST)
     }
 
     /// The same in a box: what is held by value while more is read is dear to prove.
-    pub fn boxed_expression(&mut self, depth: u32) -> Result<Box<Expr>, BuildFault>
+    pub(crate) fn boxed_expression(&mut self, depth: u32) -> Result<Box<Expr>, BuildFault>
         ensures { Reads (λ e. formula e.value)
             (reading.expression depth (map terminal self.old.rest.now)) result
             (map terminal self.new.rest.now) }
@@ -42,7 +43,8 @@ impl<'a> Cursor<'a> {
     /// An expression whose operators outside parentheses bind at most this loosely.
     #[cycle(expression)]
     fn climb(&mut self, depth: u32, loosest: u32) -> Result<Expr, BuildFault>
-        ensures { Reads formula (reading.climb depth loosest (map terminal self.old.rest.now)) result (map terminal self.new.rest.now) }
+        ensures { Reads formula (reading.climb depth loosest (map terminal self.old.rest.now))
+            result (map terminal self.new.rest.now) }
     {
         if depth == 0 {
             return Err(BuildFault::NotSpelled);
@@ -63,7 +65,8 @@ impl<'a> Cursor<'a> {
     #[cycle(expression)]
     #[tactic(auto, unfolding(crate::specs::ReadingExpr::sequence))]
     fn sequence(&mut self, depth: u32, loosest: u32) -> Result<Expr, BuildFault>
-        ensures { Reads formula (reading.sequence depth loosest (reading.climb depth) (map terminal self.old.rest.now)) result (map terminal self.new.rest.now) }
+        ensures { Reads formula (reading.sequence depth loosest (reading.climb depth)
+            (map terminal self.old.rest.now)) result (map terminal self.new.rest.now) }
     {
         let first = self.operand(depth)?;
         self.chain(depth, loosest, first)
@@ -83,7 +86,8 @@ impl<'a> Cursor<'a> {
     /// What goes on after its first operand; the operators group to the left.
     #[cycle(expression)]
     fn chain(&mut self, depth: u32, loosest: u32, first: Expr) -> Result<Expr, BuildFault>
-        ensures { Reads formula (reading.chain depth loosest (reading.climb depth) (formula first) (map terminal self.old.rest.now)) result (map terminal self.new.rest.now) }
+        ensures { Reads formula (reading.chain depth loosest (reading.climb depth) (formula first)
+            (map terminal self.old.rest.now)) result (map terminal self.new.rest.now) }
     {
         let mut left = first;
         // Each operator makes what was read one deeper.
@@ -103,7 +107,8 @@ impl<'a> Cursor<'a> {
     #[cycle(expression)]
     #[tactic(auto, unfolding(crate::specs::ReadingExpr::link))]
     fn link(&mut self, depth: u32, left: Expr) -> Result<Expr, BuildFault>
-        ensures { Reads formula (reading.link (reading.climb depth) (formula left) (map terminal self.old.rest.now)) result (map terminal self.new.rest.now) }
+        ensures { Reads formula (reading.link (reading.climb depth) (formula left)
+            (map terminal self.old.rest.now)) result (map terminal self.new.rest.now) }
     {
         let left = Box::new(self.alloc, left)?;
         match self.peek() {
@@ -161,7 +166,8 @@ impl<'a> Cursor<'a> {
     #[cycle(expression)]
     #[tactic(auto, unfolding(crate::specs::ReadingExpr::operand))]
     fn operand(&mut self, depth: u32) -> Result<Expr, BuildFault>
-        ensures { Reads formula (reading.operand (reading.climb depth) (map terminal self.old.rest.now)) result (map terminal self.new.rest.now) }
+        ensures { Reads formula (reading.operand (reading.climb depth)
+            (map terminal self.old.rest.now)) result (map terminal self.new.rest.now) }
     {
         match self.peek() {
             Some(Symbol::Number) => self.number(),
@@ -177,7 +183,8 @@ impl<'a> Cursor<'a> {
 
     #[tactic(auto, unfolding(crate::specs::ReadingExpr::number))]
     fn number(&mut self) -> Result<Expr, BuildFault>
-        ensures { Reads formula (reading.number (map terminal self.old.rest.now)) result (map terminal self.new.rest.now) }
+        ensures { Reads formula (reading.number (map terminal self.old.rest.now)) result
+            (map terminal self.new.rest.now) }
     {
         let at = self.place()?;
         let value = self.literal()?;
@@ -187,7 +194,8 @@ impl<'a> Cursor<'a> {
     #[cycle(expression)]
     #[tactic(auto, unfolding(crate::specs::ReadingExpr::read))]
     fn read(&mut self, depth: u32) -> Result<Expr, BuildFault>
-        ensures { Reads formula (reading.read (reading.climb depth 11) (map terminal self.old.rest.now)) result (map terminal self.new.rest.now) }
+        ensures { Reads formula (reading.read (reading.climb depth 11)
+            (map terminal self.old.rest.now)) result (map terminal self.new.rest.now) }
     {
         let reference = self.reference(depth)?;
         Ok(reference.into_expr())
@@ -196,7 +204,8 @@ impl<'a> Cursor<'a> {
     #[cycle(expression)]
     #[tactic(auto, unfolding(crate::specs::ReadingExpr::parens))]
     fn parens(&mut self, depth: u32) -> Result<Expr, BuildFault>
-        ensures { Reads formula (reading.parens (reading.climb depth 11) (map terminal self.old.rest.now)) result (map terminal self.new.rest.now) }
+        ensures { Reads formula (reading.parens (reading.climb depth 11)
+            (map terminal self.old.rest.now)) result (map terminal self.new.rest.now) }
     {
         let at = self.advance()?;
         let inner = self.boxed(depth, LOOSEST)?;
@@ -207,7 +216,8 @@ impl<'a> Cursor<'a> {
     #[cycle(expression)]
     #[tactic(auto, unfolding(crate::specs::ReadingExpr::conversion))]
     fn conversion(&mut self, depth: u32, signedness: Signedness) -> Result<Expr, BuildFault>
-        ensures { Reads formula (reading.conversion signedness (reading.climb depth 11) (map terminal self.old.rest.now)) result (map terminal self.new.rest.now) }
+        ensures { Reads formula (reading.conversion signedness (reading.climb depth 11)
+            (map terminal self.old.rest.now)) result (map terminal self.new.rest.now) }
     {
         let at = self.advance()?;
         self.mark(Symbol::OpenParen)?;
@@ -220,7 +230,8 @@ impl<'a> Cursor<'a> {
     #[cycle(expression)]
     #[tactic(auto, unfolding(crate::specs::ReadingExpr::braces))]
     fn braces(&mut self, depth: u32) -> Result<Expr, BuildFault>
-        ensures { Reads formula (reading.braces (reading.climb depth 11) (map terminal self.old.rest.now)) result (map terminal self.new.rest.now) }
+        ensures { Reads formula (reading.braces (reading.climb depth 11)
+            (map terminal self.old.rest.now)) result (map terminal self.new.rest.now) }
     {
         let at = self.advance()?;
         let first = self.climb(depth, LOOSEST)?;
@@ -231,7 +242,10 @@ impl<'a> Cursor<'a> {
     #[cycle(expression)]
     #[tactic(auto, unfolding(crate::specs::Reading::either))]
     fn after_first(&mut self, depth: u32, at: u32, first: Expr) -> Result<Expr, BuildFault>
-        ensures { Reads formula (generic.either (generic.starts symbol.OpenBrace) (reading.replication (reading.climb depth 11) at (formula first)) (reading.concatenation (reading.climb depth 11) at (formula first)) (map terminal self.old.rest.now)) result (map terminal self.new.rest.now) }
+        ensures { Reads formula (generic.either (generic.starts symbol.OpenBrace)
+            (reading.replication (reading.climb depth 11) at (formula first))
+            (reading.concatenation (reading.climb depth 11) at (formula first))
+            (map terminal self.old.rest.now)) result (map terminal self.new.rest.now) }
     {
         if self.is_next(Symbol::OpenBrace) {
             self.replication(depth, at, first)
@@ -243,7 +257,8 @@ impl<'a> Cursor<'a> {
     #[cycle(expression)]
     #[tactic(auto, unfolding(crate::specs::ReadingExpr::replication))]
     fn replication(&mut self, depth: u32, at: u32, times: Expr) -> Result<Expr, BuildFault>
-        ensures { Reads formula (reading.replication (reading.climb depth 11) at (formula times) (map terminal self.old.rest.now)) result (map terminal self.new.rest.now) }
+        ensures { Reads formula (reading.replication (reading.climb depth 11) at (formula times)
+            (map terminal self.old.rest.now)) result (map terminal self.new.rest.now) }
     {
         let times = Box::new(self.alloc, times)?;
         self.advance()?;
@@ -256,7 +271,8 @@ impl<'a> Cursor<'a> {
     #[cycle(expression)]
     #[tactic(auto, unfolding(crate::specs::ReadingExpr::concatenation))]
     fn concatenation(&mut self, depth: u32, at: u32, first: Expr) -> Result<Expr, BuildFault>
-        ensures { Reads formula (reading.concatenation (reading.climb depth 11) at (formula first) (map terminal self.old.rest.now)) result (map terminal self.new.rest.now) }
+        ensures { Reads formula (reading.concatenation (reading.climb depth 11) at (formula first)
+            (map terminal self.old.rest.now)) result (map terminal self.new.rest.now) }
     {
         let parts = self.more_listed(depth, first)?;
         self.mark(Symbol::CloseBrace)?;
@@ -266,7 +282,9 @@ impl<'a> Cursor<'a> {
     #[cycle(expression)]
     #[tactic(auto, unfolding(crate::specs::ReadingExpr::more_listed, crate::specs::Reading::either))]
     fn more_listed(&mut self, depth: u32, first: Expr) -> Result<Vec<Expr>, BuildFault>
-        ensures { Reads (λ all. map formula all.items) (reading.more_listed (reading.climb depth 11) (formula first) (map terminal self.old.rest.now)) result (map terminal self.new.rest.now) }
+        ensures { Reads (λ all. map formula all.items)
+            (reading.more_listed (reading.climb depth 11) (formula first)
+            (map terminal self.old.rest.now)) result (map terminal self.new.rest.now) }
     {
         let mut all = Vec::new(self.alloc);
         all.push(first)?;
@@ -281,15 +299,19 @@ impl<'a> Cursor<'a> {
     /// One or more expressions with commas between them.
     #[cycle(expression)]
     #[tactic(auto, unfolding(crate::specs::Reading::listed))]
-    pub fn listed_expressions(&mut self, depth: u32) -> Result<Vec<Expr>, BuildFault>
-        ensures { Reads (λ all. map formula all.items) (generic.listed (reading.climb depth 11) (map terminal self.old.rest.now)) result (map terminal self.new.rest.now) }
+    pub(crate) fn listed_expressions(&mut self, depth: u32) -> Result<Vec<Expr>, BuildFault>
+        ensures { Reads (λ all. map formula all.items)
+            (generic.listed (reading.climb depth 11) (map terminal self.old.rest.now)) result
+            (map terminal self.new.rest.now) }
     {
         self.expressions_after(depth, Vec::with_capacity(self.alloc, 1)?)
     }
 
     #[cycle(expression)]
     fn expressions_after(&mut self, depth: u32, before: Vec<Expr>) -> Result<Vec<Expr>, BuildFault>
-        ensures { Reads (λ all. map formula all.items) (generic.commas (generic.add (reading.climb depth 11)) (map formula before.items) (map terminal self.old.rest.now)) result (map terminal self.new.rest.now) }
+        ensures { Reads (λ all. map formula all.items)
+            (generic.commas (generic.add (reading.climb depth 11)) (map formula before.items)
+            (map terminal self.old.rest.now)) result (map terminal self.new.rest.now) }
     {
         let mut all = before;
         // Each turn takes a token, so these are enough.
@@ -304,7 +326,8 @@ impl<'a> Cursor<'a> {
 
     #[cycle(expression)]
     fn prefixed(&mut self, depth: u32, operator: Option<UnaryOperator>) -> Result<Expr, BuildFault>
-        ensures { Reads formula (reading.prefix_by operator (reading.climb depth 0) (map terminal self.old.rest.now)) result (map terminal self.new.rest.now) }
+        ensures { Reads formula (reading.prefix_by operator (reading.climb depth 0)
+            (map terminal self.old.rest.now)) result (map terminal self.new.rest.now) }
     {
         match operator {
             Some(operator) => self.operation(depth, operator),
@@ -315,7 +338,8 @@ impl<'a> Cursor<'a> {
     #[cycle(expression)]
     #[tactic(auto, unfolding(crate::specs::ReadingExpr::operation))]
     fn operation(&mut self, depth: u32, operator: UnaryOperator) -> Result<Expr, BuildFault>
-        ensures { Reads formula (reading.operation operator (reading.climb depth 0) (map terminal self.old.rest.now)) result (map terminal self.new.rest.now) }
+        ensures { Reads formula (reading.operation operator (reading.climb depth 0)
+            (map terminal self.old.rest.now)) result (map terminal self.new.rest.now) }
     {
         let at = self.advance()?;
         let operand = self.boxed(depth, 0)?;
@@ -326,7 +350,8 @@ impl<'a> Cursor<'a> {
     #[cycle(expression)]
     #[tactic(auto, unfolding(crate::specs::ReadingExpr::reference))]
     pub fn reference(&mut self, depth: u32) -> Result<Reference, BuildFault>
-        ensures { Reads reference (reading.reference (reading.climb depth 11) (map terminal self.old.rest.now)) result (map terminal self.new.rest.now) }
+        ensures { Reads reference (reading.reference (reading.climb depth 11)
+            (map terminal self.old.rest.now)) result (map terminal self.new.rest.now) }
     {
         let name = self.name()?;
         self.selected(depth, name)
@@ -335,7 +360,8 @@ impl<'a> Cursor<'a> {
     #[cycle(expression)]
     #[tactic(auto, unfolding(crate::specs::ReadingExpr::selected, crate::specs::Reading::either))]
     fn selected(&mut self, depth: u32, name: Name) -> Result<Reference, BuildFault>
-        ensures { Reads reference (reading.selected (reading.climb depth 11) (identifier name) (map terminal self.old.rest.now)) result (map terminal self.new.rest.now) }
+        ensures { Reads reference (reading.selected (reading.climb depth 11) (identifier name)
+            (map terminal self.old.rest.now)) result (map terminal self.new.rest.now) }
     {
         if self.is_next(Symbol::OpenBracket) {
             self.selection(depth, name)
@@ -347,7 +373,8 @@ impl<'a> Cursor<'a> {
     #[cycle(expression)]
     #[tactic(auto, unfolding(crate::specs::ReadingExpr::selection))]
     fn selection(&mut self, depth: u32, name: Name) -> Result<Reference, BuildFault>
-        ensures { Reads reference (reading.selection (reading.climb depth 11) (identifier name) (map terminal self.old.rest.now)) result (map terminal self.new.rest.now) }
+        ensures { Reads reference (reading.selection (reading.climb depth 11) (identifier name)
+            (map terminal self.old.rest.now)) result (map terminal self.new.rest.now) }
     {
         self.mark(Symbol::OpenBracket)?;
         let first = self.boxed(depth, LOOSEST)?;
@@ -404,7 +431,8 @@ impl<'a> Cursor<'a> {
     /// `[msb:lsb]`
     #[tactic(auto, unfolding(crate::specs::ReadingExpr::bounds))]
     pub fn range(&mut self, depth: u32) -> Result<Range, BuildFault>
-        ensures { Reads bounds (reading.bounds (reading.climb depth 11) (map terminal self.old.rest.now)) result (map terminal self.new.rest.now) }
+        ensures { Reads bounds (reading.bounds (reading.climb depth 11)
+            (map terminal self.old.rest.now)) result (map terminal self.new.rest.now) }
     {
         let at = self.advance()?;
         let msb = self.boxed(depth, LOOSEST)?;

@@ -223,7 +223,7 @@ impl<'a> Cursor<'a> {
 
     /// An item after its attributes.
     #[tactic(auto, unfolding(crate::specs::ReadingItem::item_after))]
-    pub fn item_after(&mut self) -> Result<Item, BuildFault>
+    pub(crate) fn item_after(&mut self) -> Result<Item, BuildFault>
         ensures { Reads module_item (reading.item_after MAX_NESTING
             (map terminal self.old.rest.now)) result (map terminal self.new.rest.now) }
     {

@@ -189,7 +189,8 @@ impl<'a> Cursor<'a> {
 
     #[tactic(auto, unfolding(crate::specs::ReadingModule::named))]
     fn named_ports(&mut self) -> Result<PortList, BuildFault>
-        ensures { Reads header (reading.named (map terminal self.old.rest.now)) result (map terminal self.new.rest.now) }
+        ensures { Reads header (reading.named (map terminal self.old.rest.now)) result
+            (map terminal self.new.rest.now) }
     {
         let names = self.names()?;
         self.mark(Symbol::CloseParen)?;
@@ -198,7 +199,8 @@ impl<'a> Cursor<'a> {
 
     #[tactic(auto, unfolding(crate::specs::ReadingModule::empty))]
     fn no_ports(&mut self) -> Result<PortList, BuildFault>
-        ensures { Reads header (reading.empty (map terminal self.old.rest.now)) result (map terminal self.new.rest.now) }
+        ensures { Reads header (reading.empty (map terminal self.old.rest.now)) result
+            (map terminal self.new.rest.now) }
     {
         self.advance()?;
         Ok(PortList::Empty)

@@ -9,7 +9,7 @@ use rtl_tree::tree::operators::{BinaryOperator, UnaryOperator};
 
 /// The operator between operands that is written so.
 #[tactic(auto, unfolding(crate::specs::ReadingExpr::binary_of))]
-pub fn binary_of(symbol: Symbol) -> Option<BinaryOperator>
+pub(crate) fn binary_of(symbol: Symbol) -> Option<BinaryOperator>
     ensures { result ≡ reading.binary_of symbol }
 {
     match symbol {
@@ -42,7 +42,7 @@ pub fn binary_of(symbol: Symbol) -> Option<BinaryOperator>
 
 /// The operator before an operand that is written so.
 #[tactic(auto, unfolding(crate::specs::ReadingExpr::unary_of))]
-pub fn unary_of(symbol: Symbol) -> Option<UnaryOperator>
+pub(crate) fn unary_of(symbol: Symbol) -> Option<UnaryOperator>
     ensures { result ≡ reading.unary_of symbol }
 {
     match symbol {

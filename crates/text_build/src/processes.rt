@@ -17,7 +17,8 @@ use rtl_tree::tree::nesting::MAX_NESTING;
 impl<'a> Cursor<'a> {
     #[tactic(auto, unfolding(crate::specs::ReadingItem::edge_of))]
     fn edge(&mut self, edge: EventEdge) -> Result<Event, BuildFault>
-        ensures { Reads happening (reading.edge_of edge (map terminal self.old.rest.now)) result (map terminal self.new.rest.now) }
+        ensures { Reads happening (reading.edge_of edge (map terminal self.old.rest.now)) result
+            (map terminal self.new.rest.now) }
     {
         let at = self.advance()?;
         let name = self.name()?;
@@ -49,7 +50,8 @@ impl<'a> Cursor<'a> {
     #[tactic(auto, unfolding(crate::specs::ReadingItem::joins_events, crate::specs::ReadingItem::after_joint))]
     fn take_joint(&mut self) -> bool
         ensures answer { result ≡ reading.joins_events (map terminal self.old.rest.now) }
-        ensures left { map terminal self.new.rest.now ≡ reading.after_joint (map terminal self.old.rest.now) }
+        ensures left { map terminal self.new.rest.now
+            ≡ reading.after_joint (map terminal self.old.rest.now) }
     {
         if self.is_next(Symbol::Or) {
             self.take_if(Symbol::Or)
@@ -76,7 +78,8 @@ impl<'a> Cursor<'a> {
 
     #[tactic(auto, unfolding(crate::specs::ReadingItem::star))]
     fn star(&mut self) -> Result<EventControl, BuildFault>
-        ensures { Reads sensitivity (reading.star (map terminal self.old.rest.now)) result (map terminal self.new.rest.now) }
+        ensures { Reads sensitivity (reading.star (map terminal self.old.rest.now)) result
+            (map terminal self.new.rest.now) }
     {
         self.advance()?;
         Ok(EventControl::Star)
@@ -84,7 +87,8 @@ impl<'a> Cursor<'a> {
 
     #[tactic(auto, unfolding(crate::specs::ReadingItem::star_in_parens))]
     fn star_in_parens(&mut self) -> Result<EventControl, BuildFault>
-        ensures { Reads sensitivity (reading.star_in_parens (map terminal self.old.rest.now)) result (map terminal self.new.rest.now) }
+        ensures { Reads sensitivity (reading.star_in_parens (map terminal self.old.rest.now)) result
+            (map terminal self.new.rest.now) }
     {
         self.advance()?;
         self.mark(Symbol::CloseParen)?;

@@ -27,7 +27,7 @@ pub enum Reference {
 
 impl Reference {
     /// As an expression.
-    pub fn into_expr(self) -> Expr
+    pub(crate) fn into_expr(self) -> Expr
         ensures { formula result ≡ read_of (reference self) }
     {
         match self {
@@ -38,7 +38,7 @@ impl Reference {
     }
 
     /// As the target of an assignment.
-    pub fn into_target(self) -> Lvalue
+    pub(crate) fn into_target(self) -> Lvalue
         ensures { target result ≡ target_of (reference self) }
     {
         match self {
@@ -51,7 +51,7 @@ impl Reference {
     }
 
     /// As an event.
-    pub fn into_event(self) -> Event
+    pub(crate) fn into_event(self) -> Event
         ensures { happening result ≡ change_of (reference self) }
     {
         match self {

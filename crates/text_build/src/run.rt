@@ -46,7 +46,7 @@ impl<'a> Run<'a> {
     }
 
     /// Adds the regions that begin neither before one place nor after another.
-    pub fn add_between(
+    pub(crate) fn add_between(
         &self,
         all: &mut Vec<Dropped>,
         first: u32,
@@ -83,7 +83,7 @@ fn run_len(regions: &[Dropped]) -> usize
 }
 
 /// The longest run that begins a list of regions, and what follows it.
-pub fn first_run(regions: &[Dropped]) -> (Run, &[Dropped])
+pub(crate) fn first_run(regions: &[Dropped]) -> (Run, &[Dropped])
     ensures { result.0.regions.now ++ result.1.now ≡ regions.now }
 {
     let count = run_len(regions);

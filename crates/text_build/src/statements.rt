@@ -26,7 +26,8 @@ impl<'a> Cursor<'a> {
     /// A statement with its attributes, nested at most `depth` deep.
     #[cycle(statement)]
     pub fn statement(&mut self, depth: u32) -> Result<Stmt, BuildFault>
-        ensures { Reads action (reading.statement depth (map terminal self.old.rest.now)) result (map terminal self.new.rest.now) }
+        ensures { Reads action (reading.statement depth (map terminal self.old.rest.now)) result
+            (map terminal self.new.rest.now) }
     {
         if depth == 0 {
             return Err(BuildFault::NotSpelled);
@@ -48,7 +49,9 @@ impl<'a> Cursor<'a> {
     #[cycle(statement)]
     #[tactic(auto, unfolding(crate::specs::ReadingStmt::statement_within))]
     fn statement_within(&mut self, depth: u32) -> Result<Stmt, BuildFault>
-        ensures { Reads action (reading.statement_within (expression depth) (reading.target depth) (reading.statement depth) (map terminal self.old.rest.now)) result (map terminal self.new.rest.now) }
+        ensures { Reads action (reading.statement_within (expression depth) (reading.target depth)
+            (reading.statement depth) (map terminal self.old.rest.now)) result
+            (map terminal self.new.rest.now) }
     {
         let marks = self.attributes()?;
         self.action(depth, marks)
@@ -58,7 +61,9 @@ impl<'a> Cursor<'a> {
     #[cycle(statement)]
     #[tactic(auto, unfolding(crate::specs::ReadingStmt::action))]
     fn action(&mut self, depth: u32, marks: Marks) -> Result<Stmt, BuildFault>
-        ensures { Reads action (reading.action marks (expression depth) (reading.target depth) (reading.statement depth) (map terminal self.old.rest.now)) result (map terminal self.new.rest.now) }
+        ensures { Reads action (reading.action marks (expression depth) (reading.target depth)
+            (reading.statement depth) (map terminal self.old.rest.now)) result
+            (map terminal self.new.rest.now) }
     {
         match self.peek() {
             Some(Symbol::Semicolon) => self.null(),
@@ -75,7 +80,8 @@ impl<'a> Cursor<'a> {
 
     #[tactic(auto, unfolding(crate::specs::ReadingStmt::null))]
     fn null(&mut self) -> Result<Stmt, BuildFault>
-        ensures { Reads action (reading.null (map terminal self.old.rest.now)) result (map terminal self.new.rest.now) }
+        ensures { Reads action (reading.null (map terminal self.old.rest.now)) result
+            (map terminal self.new.rest.now) }
     {
         let at = self.advance()?;
         Ok(Stmt::Null(at))
@@ -84,7 +90,8 @@ impl<'a> Cursor<'a> {
     #[cycle(statement)]
     #[tactic(auto, unfolding(crate::specs::ReadingStmt::delayed))]
     fn delayed(&mut self, depth: u32) -> Result<Stmt, BuildFault>
-        ensures { Reads action (reading.delayed (expression depth) (reading.statement depth) (map terminal self.old.rest.now)) result (map terminal self.new.rest.now) }
+        ensures { Reads action (reading.delayed (expression depth) (reading.statement depth)
+            (map terminal self.old.rest.now)) result (map terminal self.new.rest.now) }
     {
         let delay = self.boxed_delay(depth)?;
         let body = self.boxed_statement(depth)?;
@@ -93,7 +100,8 @@ impl<'a> Cursor<'a> {
 
     #[tactic(auto, unfolding(crate::specs::ReadingStmt::assignment_kind))]
     fn assignment_kind(&mut self) -> Result<AssignmentKind, BuildFault>
-        ensures { Reads (λ k. k) (reading.assignment_kind (map terminal self.old.rest.now)) result (map terminal self.new.rest.now) }
+        ensures { Reads (λ k. k) (reading.assignment_kind (map terminal self.old.rest.now)) result
+            (map terminal self.new.rest.now) }
     {
         match self.peek() {
             Some(Symbol::Equals) => {
@@ -110,7 +118,8 @@ impl<'a> Cursor<'a> {
 
     #[tactic(auto, unfolding(crate::specs::ReadingStmt::assign))]
     fn assign(&mut self, depth: u32) -> Result<Stmt, BuildFault>
-        ensures { Reads action (reading.assign (expression depth) (reading.target depth) (map terminal self.old.rest.now)) result (map terminal self.new.rest.now) }
+        ensures { Reads action (reading.assign (expression depth) (reading.target depth)
+            (map terminal self.old.rest.now)) result (map terminal self.new.rest.now) }
     {
         let target = self.boxed_target(depth)?;
         let kind = self.assignment_kind()?;
@@ -128,7 +137,8 @@ impl<'a> Cursor<'a> {
     #[cycle(statement)]
     #[tactic(auto, unfolding(crate::specs::ReadingStmt::conditional))]
     fn conditional(&mut self, depth: u32) -> Result<Stmt, BuildFault>
-        ensures { Reads action (reading.conditional (expression depth) (reading.statement depth) (map terminal self.old.rest.now)) result (map terminal self.new.rest.now) }
+        ensures { Reads action (reading.conditional (expression depth) (reading.statement depth)
+            (map terminal self.old.rest.now)) result (map terminal self.new.rest.now) }
     {
         let at = self.advance()?;
         self.mark(Symbol::OpenParen)?;
@@ -182,7 +192,9 @@ impl<'a> Cursor<'a> {
     #[cycle(statement)]
     #[tactic(auto, unfolding(crate::specs::ReadingStmt::case_of))]
     fn case(&mut self, depth: u32, kind: CaseKind, marks: Marks) -> Result<Stmt, BuildFault>
-        ensures { Reads action (reading.case_of kind marks (expression depth) (reading.statement depth) (map terminal self.old.rest.now)) result (map terminal self.new.rest.now) }
+        ensures { Reads action (reading.case_of kind marks (expression depth)
+            (reading.statement depth) (map terminal self.old.rest.now)) result
+            (map terminal self.new.rest.now) }
     {
         let at = self.advance()?;
         self.mark(Symbol::OpenParen)?;
@@ -203,7 +215,10 @@ impl<'a> Cursor<'a> {
 
     #[cycle(statement)]
     fn case_items(&mut self, depth: u32) -> Result<Vec<CaseItem>, BuildFault>
-        ensures { Reads (λ all. map branch all.items) (generic.until symbol.Endcase (reading.branch (expression depth) (reading.statement depth)) (map terminal self.old.rest.now)) result (map terminal self.new.rest.now) }
+        ensures { Reads (λ all. map branch all.items)
+            (generic.until symbol.Endcase (reading.branch (expression depth)
+            (reading.statement depth)) (map terminal self.old.rest.now)) result
+            (map terminal self.new.rest.now) }
     {
         let mut all = Vec::new(self.alloc);
         // Each turn takes a token, so these are enough.
@@ -219,7 +234,8 @@ impl<'a> Cursor<'a> {
     #[cycle(statement)]
     #[tactic(auto, unfolding(crate::specs::ReadingStmt::branch, crate::specs::Reading::either))]
     fn case_item(&mut self, depth: u32) -> Result<CaseItem, BuildFault>
-        ensures { Reads branch (reading.branch (expression depth) (reading.statement depth) (map terminal self.old.rest.now)) result (map terminal self.new.rest.now) }
+        ensures { Reads branch (reading.branch (expression depth) (reading.statement depth)
+            (map terminal self.old.rest.now)) result (map terminal self.new.rest.now) }
     {
         if self.is_next(Symbol::Default) {
             self.default_item(depth)
@@ -231,7 +247,8 @@ impl<'a> Cursor<'a> {
     #[cycle(statement)]
     #[tactic(auto, unfolding(crate::specs::ReadingStmt::otherwise, crate::specs::ReadingStmt::no_colon))]
     fn default_item(&mut self, depth: u32) -> Result<CaseItem, BuildFault>
-        ensures { Reads branch (reading.otherwise (reading.statement depth) (map terminal self.old.rest.now)) result (map terminal self.new.rest.now) }
+        ensures { Reads branch (reading.otherwise (reading.statement depth)
+            (map terminal self.old.rest.now)) result (map terminal self.new.rest.now) }
     {
         let at = self.advance()?;
         self.take_if(Symbol::Colon);
@@ -242,7 +259,8 @@ impl<'a> Cursor<'a> {
     #[cycle(statement)]
     #[tactic(auto, unfolding(crate::specs::ReadingStmt::labelled))]
     fn labelled_item(&mut self, depth: u32) -> Result<CaseItem, BuildFault>
-        ensures { Reads branch (reading.labelled (expression depth) (reading.statement depth) (map terminal self.old.rest.now)) result (map terminal self.new.rest.now) }
+        ensures { Reads branch (reading.labelled (expression depth) (reading.statement depth)
+            (map terminal self.old.rest.now)) result (map terminal self.new.rest.now) }
     {
         let labels = self.listed_expressions(depth)?;
         self.mark(Symbol::Colon)?;
@@ -253,7 +271,8 @@ impl<'a> Cursor<'a> {
     /// `name = value` in the head of a `for`.
     #[tactic(auto, unfolding(crate::specs::ReadingStmt::step_of))]
     fn step(&mut self, depth: u32) -> Result<Step, BuildFault>
-        ensures { Reads step (reading.step_of (expression depth) (map terminal self.old.rest.now)) result (map terminal self.new.rest.now) }
+        ensures { Reads step (reading.step_of (expression depth) (map terminal self.old.rest.now))
+            result (map terminal self.new.rest.now) }
     {
         let name = self.name()?;
         self.mark(Symbol::Equals)?;
@@ -264,7 +283,8 @@ impl<'a> Cursor<'a> {
     #[cycle(statement)]
     #[tactic(auto, unfolding(crate::specs::ReadingStmt::loop_of))]
     fn loop_of(&mut self, depth: u32) -> Result<Stmt, BuildFault>
-        ensures { Reads action (reading.loop_of (expression depth) (reading.statement depth) (map terminal self.old.rest.now)) result (map terminal self.new.rest.now) }
+        ensures { Reads action (reading.loop_of (expression depth) (reading.statement depth)
+            (map terminal self.old.rest.now)) result (map terminal self.new.rest.now) }
     {
         let at = self.advance()?;
         self.mark(Symbol::OpenParen)?;
@@ -288,7 +308,8 @@ impl<'a> Cursor<'a> {
 
     #[tactic(auto, unfolding(crate::specs::ReadingStmt::label))]
     fn label(&mut self) -> Result<Name, BuildFault>
-        ensures { Reads identifier (reading.label (map terminal self.old.rest.now)) result (map terminal self.new.rest.now) }
+        ensures { Reads identifier (reading.label (map terminal self.old.rest.now)) result
+            (map terminal self.new.rest.now) }
     {
         self.advance()?;
         self.name()
@@ -296,7 +317,9 @@ impl<'a> Cursor<'a> {
 
     #[tactic(auto, unfolding(crate::specs::Reading::optional, crate::specs::Reading::either))]
     fn optional_label(&mut self) -> Result<Option<Name>, BuildFault>
-        ensures { Reads (λ l. option_map identifier l) (generic.optional symbol.Colon reading.label (map terminal self.old.rest.now)) result (map terminal self.new.rest.now) }
+        ensures { Reads (λ l. option_map identifier l)
+            (generic.optional symbol.Colon reading.label (map terminal self.old.rest.now)) result
+            (map terminal self.new.rest.now) }
     {
         if self.is_next(Symbol::Colon) {
             let label = self.label()?;
@@ -309,7 +332,8 @@ impl<'a> Cursor<'a> {
     #[cycle(statement)]
     #[tactic(auto, unfolding(crate::specs::ReadingStmt::block))]
     fn block(&mut self, depth: u32) -> Result<Stmt, BuildFault>
-        ensures { Reads action (reading.block (reading.statement depth) (map terminal self.old.rest.now)) result (map terminal self.new.rest.now) }
+        ensures { Reads action (reading.block (reading.statement depth)
+            (map terminal self.old.rest.now)) result (map terminal self.new.rest.now) }
     {
         let at = self.advance()?;
         let label = self.optional_label()?;
@@ -320,7 +344,9 @@ impl<'a> Cursor<'a> {
 
     #[cycle(statement)]
     fn statements(&mut self, depth: u32) -> Result<Vec<Stmt>, BuildFault>
-        ensures { Reads (λ all. map action all.items) (generic.until symbol.End (reading.statement depth) (map terminal self.old.rest.now)) result (map terminal self.new.rest.now) }
+        ensures { Reads (λ all. map action all.items)
+            (generic.until symbol.End (reading.statement depth) (map terminal self.old.rest.now))
+            result (map terminal self.new.rest.now) }
     {
         let mut all = Vec::new(self.alloc);
         // Each turn takes a token, so these are enough.

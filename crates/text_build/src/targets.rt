@@ -19,7 +19,8 @@ impl<'a> Cursor<'a> {
     /// A target, nested at most `depth` deep.
     #[cycle(target)]
     pub fn target(&mut self, depth: u32) -> Result<Lvalue, BuildFault>
-        ensures { Reads target (reading.target depth (map terminal self.old.rest.now)) result (map terminal self.new.rest.now) }
+        ensures { Reads target (reading.target depth (map terminal self.old.rest.now)) result
+            (map terminal self.new.rest.now) }
     {
         if depth == 0 {
             return Err(BuildFault::NotSpelled);
@@ -28,7 +29,7 @@ impl<'a> Cursor<'a> {
     }
 
     /// The same in a box: what is held by value while more is read is dear to prove.
-    pub fn boxed_target(&mut self, depth: u32) -> Result<Box<Lvalue>, BuildFault>
+    pub(crate) fn boxed_target(&mut self, depth: u32) -> Result<Box<Lvalue>, BuildFault>
         ensures { Reads (λ t. target t.value)
             (reading.target depth (map terminal self.old.rest.now)) result
             (map terminal self.new.rest.now) }
@@ -40,7 +41,9 @@ impl<'a> Cursor<'a> {
     #[cycle(target)]
     #[tactic(auto, unfolding(crate::specs::Reading::either))]
     fn target_within(&mut self, depth: u32) -> Result<Lvalue, BuildFault>
-        ensures { Reads target (generic.either (generic.starts symbol.OpenBrace) (reading.joined (reading.target depth)) (reading.part_target (expression depth)) (map terminal self.old.rest.now)) result (map terminal self.new.rest.now) }
+        ensures { Reads target (generic.either (generic.starts symbol.OpenBrace)
+            (reading.joined (reading.target depth)) (reading.part_target (expression depth))
+            (map terminal self.old.rest.now)) result (map terminal self.new.rest.now) }
     {
         if self.is_next(Symbol::OpenBrace) {
             self.joined(depth)
@@ -51,7 +54,8 @@ impl<'a> Cursor<'a> {
 
     #[tactic(auto, unfolding(crate::specs::ReadingStmt::part_target))]
     fn part_target(&mut self, depth: u32) -> Result<Lvalue, BuildFault>
-        ensures { Reads target (reading.part_target (expression depth) (map terminal self.old.rest.now)) result (map terminal self.new.rest.now) }
+        ensures { Reads target (reading.part_target (expression depth)
+            (map terminal self.old.rest.now)) result (map terminal self.new.rest.now) }
     {
         let reference = self.reference(depth)?;
         Ok(reference.into_target())
@@ -60,7 +64,8 @@ impl<'a> Cursor<'a> {
     #[cycle(target)]
     #[tactic(auto, unfolding(crate::specs::ReadingStmt::joined))]
     fn joined(&mut self, depth: u32) -> Result<Lvalue, BuildFault>
-        ensures { Reads target (reading.joined (reading.target depth) (map terminal self.old.rest.now)) result (map terminal self.new.rest.now) }
+        ensures { Reads target (reading.joined (reading.target depth)
+            (map terminal self.old.rest.now)) result (map terminal self.new.rest.now) }
     {
         let at = self.advance()?;
         let parts = self.listed_targets(depth)?;
@@ -70,7 +75,9 @@ impl<'a> Cursor<'a> {
 
     #[cycle(target)]
     fn listed_targets(&mut self, depth: u32) -> Result<Vec<Lvalue>, BuildFault>
-        ensures { Reads (λ all. map target all.items) (generic.listed (reading.target depth) (map terminal self.old.rest.now)) result (map terminal self.new.rest.now) }
+        ensures { Reads (λ all. map target all.items)
+            (generic.listed (reading.target depth) (map terminal self.old.rest.now)) result
+            (map terminal self.new.rest.now) }
     {
         let mut all = Vec::new(self.alloc);
         // Each turn takes a token, so these are enough.
@@ -85,7 +92,8 @@ impl<'a> Cursor<'a> {
 
     #[tactic(auto, unfolding(crate::specs::ReadingStmt::fixed))]
     fn fixed(&mut self) -> Result<Ticks, BuildFault>
-        ensures { Reads span (reading.fixed (map terminal self.old.rest.now)) result (map terminal self.new.rest.now) }
+        ensures { Reads span (reading.fixed (map terminal self.old.rest.now)) result
+            (map terminal self.new.rest.now) }
     {
         let value = self.literal()?;
         Ok(Ticks::Number(value))
@@ -93,7 +101,8 @@ impl<'a> Cursor<'a> {
 
     #[tactic(auto, unfolding(crate::specs::ReadingStmt::named))]
     fn named(&mut self) -> Result<Ticks, BuildFault>
-        ensures { Reads span (reading.named (map terminal self.old.rest.now)) result (map terminal self.new.rest.now) }
+        ensures { Reads span (reading.named (map terminal self.old.rest.now)) result
+            (map terminal self.new.rest.now) }
     {
         let name = self.name()?;
         Ok(Ticks::Name(name))
@@ -101,7 +110,8 @@ impl<'a> Cursor<'a> {
 
     #[tactic(auto, unfolding(crate::specs::ReadingStmt::valued))]
     fn valued(&mut self, depth: u32) -> Result<Ticks, BuildFault>
-        ensures { Reads span (reading.valued (expression depth) (map terminal self.old.rest.now)) result (map terminal self.new.rest.now) }
+        ensures { Reads span (reading.valued (expression depth) (map terminal self.old.rest.now))
+            result (map terminal self.new.rest.now) }
     {
         self.mark(Symbol::OpenParen)?;
         let value = self.boxed_expression(depth)?;
@@ -111,7 +121,8 @@ impl<'a> Cursor<'a> {
 
     #[tactic(auto, unfolding(crate::specs::ReadingStmt::span))]
     fn ticks(&mut self, depth: u32) -> Result<Ticks, BuildFault>
-        ensures { Reads span (reading.span (expression depth) (map terminal self.old.rest.now)) result (map terminal self.new.rest.now) }
+        ensures { Reads span (reading.span (expression depth) (map terminal self.old.rest.now))
+            result (map terminal self.new.rest.now) }
     {
         match self.peek() {
             Some(Symbol::Number) => self.fixed(),
@@ -122,14 +133,15 @@ impl<'a> Cursor<'a> {
 
     #[tactic(auto, unfolding(crate::specs::ReadingStmt::pause))]
     pub fn delay(&mut self, depth: u32) -> Result<Delay, BuildFault>
-        ensures { Reads pause (reading.pause (expression depth) (map terminal self.old.rest.now)) result (map terminal self.new.rest.now) }
+        ensures { Reads pause (reading.pause (expression depth) (map terminal self.old.rest.now))
+            result (map terminal self.new.rest.now) }
     {
         let at = self.advance()?;
         let ticks = self.ticks(depth)?;
         Ok(Delay { at, ticks })
     }
 
-    pub fn boxed_delay(&mut self, depth: u32) -> Result<Box<Delay>, BuildFault>
+    pub(crate) fn boxed_delay(&mut self, depth: u32) -> Result<Box<Delay>, BuildFault>
         ensures { Reads (λ d. pause d.value)
             (reading.pause (expression depth) (map terminal self.old.rest.now)) result
             (map terminal self.new.rest.now) }
@@ -140,7 +152,7 @@ impl<'a> Cursor<'a> {
 
     /// A delay in a box, where one comes next.
     #[tactic(auto, unfolding(crate::specs::Reading::optional, crate::specs::Reading::either))]
-    pub fn optional_delay(&mut self, depth: u32) -> Result<Box<Option<Delay>>, BuildFault>
+    pub(crate) fn optional_delay(&mut self, depth: u32) -> Result<Box<Option<Delay>>, BuildFault>
         ensures { Reads (λ d. option_map pause d.value)
             (generic.optional symbol.Hash (reading.pause (expression depth))
             (map terminal self.old.rest.now)) result (map terminal self.new.rest.now) }

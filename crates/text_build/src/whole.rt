@@ -30,7 +30,8 @@ pub fn build(
 ) -> Result<Vec<Module>, BuildFault>
     ensures built { (cs : List Circuit) → AreSpelled regions.now (map terminal tokens.now) cs
         → All (λ c. depth c ≤ MAX_NESTING) cs → IsBuilt cs result }
-    ensures read { IfOk result (λ modules. circuits MAX_NESTING regions.now (map terminal tokens.now)
+    ensures read { IfOk result (λ modules.
+        circuits MAX_NESTING regions.now (map terminal tokens.now)
         ≡ Some (map circuit modules.items, [])) }
 {
     let mut cursor = Cursor {

@@ -4,3 +4,8 @@ mod Numbers
 mod Pragmas
 mod Stacks
 pub mod Profiles
+mod Rows
+mod Keeps
+mod Runs
+mod Finish
+pub mod Least

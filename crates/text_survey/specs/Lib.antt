@@ -6,3 +6,4 @@ pub mod Rule
 pub mod Machine
 pub mod Surveys
 pub mod Depths
+pub mod Least

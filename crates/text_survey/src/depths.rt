@@ -31,7 +31,8 @@ struct Merged {
 
 /// The least places of the trees of both, in the time of the shallower one.
 fn merge(room: Profile, a: Profile, b: Profile) -> Result<Merged, Memory>
-    ensures { IfOk result (λ p. reverse p.profile.items ≡ spec.merged (reverse a.items) (reverse b.items)) }
+    ensures { IfOk result (λ p. reverse p.profile.items
+        ≡ spec.merged (reverse a.items) (reverse b.items)) }
 {
     let (mut deeper, mut other) = if a.len() < b.len() { (b, a) } else { (a, b) };
     let mut both = room;
@@ -91,7 +92,8 @@ impl Depths {
 
     /// Begins a node where one begins.
     pub fn begin(&mut self, taking: Taking, at: u32) -> Result<(), Memory>
-        ensures { IfOk result (λ _. (s : spec.Depths) → spec.IsKept self.old s → spec.IsKept self.new (spec.begun taking at s)) }
+        ensures { IfOk result (λ _. (s : spec.Depths) → spec.IsKept self.old s
+            → spec.IsKept self.new (spec.begun taking at s)) }
     {
         match taking {
             Taking::Nothing | Taking::Token => {}
@@ -107,7 +109,8 @@ impl Depths {
     }
 
     fn wrap(&mut self) -> Result<(), Memory>
-        ensures { IfOk result (λ _. (s : spec.Depths) → spec.IsKept self.old s → spec.IsKept self.new (spec.wrapped s.places s.top s.under)) }
+        ensures { IfOk result (λ _. (s : spec.Depths) → spec.IsKept self.old s
+            → spec.IsKept self.new (spec.wrapped s.places s.top s.under)) }
     {
         if let Some(at) = self.places.pop() {
             if let Some(mut last) = self.profiles.pop() {
@@ -120,7 +123,8 @@ impl Depths {
 
     /// Two profiles as one; their room serves again.
     fn merged(&mut self, one: Profile, other: Profile) -> Result<Profile, Memory>
-        ensures merged { IfOk result (λ p. reverse p.items ≡ spec.merged (reverse one.items) (reverse other.items)) }
+        ensures merged { IfOk result (λ p. reverse p.items
+            ≡ spec.merged (reverse one.items) (reverse other.items)) }
         ensures places { self.new.places ≡ self.old.places }
         ensures profiles { self.new.profiles ≡ self.old.profiles }
     {
@@ -132,7 +136,8 @@ impl Depths {
     }
 
     fn join(&mut self) -> Result<(), Memory>
-        ensures { IfOk result (λ _. (s : spec.Depths) → spec.IsKept self.old s → spec.IsKept self.new (spec.joined s.places s.top s.under)) }
+        ensures { IfOk result (λ _. (s : spec.Depths) → spec.IsKept self.old s
+            → spec.IsKept self.new (spec.joined s.places s.top s.under)) }
     {
         let Some(last) = self.profiles.pop() else {
             return Ok(());
@@ -147,7 +152,8 @@ impl Depths {
     }
 
     fn forget(&mut self)
-        ensures { (s : spec.Depths) → spec.IsKept self.old s → spec.IsKept self.new (spec.forgotten (spec.behind_place s.places) s.top s.under) }
+        ensures { (s : spec.Depths) → spec.IsKept self.old s
+            → spec.IsKept self.new (spec.forgotten (spec.behind_place s.places) s.top s.under) }
     {
         let _place = self.places.pop();
         if self.profiles.len() > 1 {
@@ -157,7 +163,8 @@ impl Depths {
 
     /// Does what a task says of depths.
     pub fn count(&mut self, task: Task) -> Result<(), Memory>
-        ensures { IfOk result (λ _. (s : spec.Depths) → spec.IsKept self.old s → spec.IsKept self.new (spec.counted task s)) }
+        ensures { IfOk result (λ _. (s : spec.Depths) → spec.IsKept self.old s
+            → spec.IsKept self.new (spec.counted task s)) }
     {
         match task {
             Task::Wrap => self.wrap(),
@@ -172,7 +179,8 @@ impl Depths {
 
     /// The least place of what is nested deeper than this, in what was read last, which is taken away.
     pub fn deeper(&mut self, limit: usize) -> Option<u32>
-        ensures { (s : spec.Depths) → spec.IsKept self.old s → result ≡ spec.least_of (spec.nest_deeper limit s.top) }
+        ensures { (s : spec.Depths) → spec.IsKept self.old s
+            → result ≡ spec.least_of (spec.nest_deeper limit s.top) }
     {
         let profile = self.profiles.pop()?;
         let levels = profile.len().saturating_sub(limit);

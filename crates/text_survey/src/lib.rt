@@ -2,6 +2,7 @@
 #![tactic(auto)]
 
 mod depths;
+pub mod law;
 mod machine;
 mod symbols;
 mod table;

@@ -68,7 +68,8 @@ impl<'a> Machine<'a> {
     }
 
     fn take(&mut self, taking: Taking)
-        ensures rest { map terminal self.new.rest.now ≡ spec.left taking (map terminal self.old.rest.now) }
+        ensures rest { map terminal self.new.rest.now
+            ≡ spec.left taking (map terminal self.old.rest.now) }
         ensures tasks { self.new.tasks ≡ self.old.tasks }
         ensures depths { self.new.depths ≡ self.old.depths }
     {
@@ -81,9 +82,17 @@ impl<'a> Machine<'a> {
 
     /// Does a task, unless the next token can't stand there.
     fn step(&mut self, task: Task) -> Result<bool, Memory>
-        ensures step { IfOk result (λ moved. spec.Moves (spec.moved (rules.rule task (spec.symbol_at (map terminal self.old.rest.now))) (reverse self.old.tasks.items) (map terminal self.old.rest.now)) moved (surveys.state self.new)) }
-        ensures kept { IfOk result (λ moved. moved ≡ false → self.new.rest.now ≡ self.old.rest.now) }
-        ensures read { IfOk result (λ moved. moved ≡ true → (s : depth.Depths) → depth.IsKept self.old.depths s → depth.IsKept self.new.depths (depth.read_by task (rules.rule task (spec.symbol_at (map terminal self.old.rest.now))) (depth.place (map terminal self.old.rest.now)) s)) }
+        ensures step { IfOk result (λ moved.
+            spec.Moves (spec.moved (rules.rule task
+            (spec.symbol_at (map terminal self.old.rest.now))) (reverse self.old.tasks.items)
+            (map terminal self.old.rest.now)) moved (surveys.state self.new)) }
+        ensures kept { IfOk result (λ moved. moved ≡ false
+            → self.new.rest.now ≡ self.old.rest.now) }
+        ensures read { IfOk result (λ moved. moved ≡ true → (s : depth.Depths)
+            → depth.IsKept self.old.depths s
+            → depth.IsKept self.new.depths
+            (depth.read_by task (rules.rule task (spec.symbol_at (map terminal self.old.rest.now)))
+            (depth.place (map terminal self.old.rest.now)) s)) }
     {
         let next = self.next();
         let place = self.place();

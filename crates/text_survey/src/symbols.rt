@@ -286,7 +286,8 @@ fn bucket(text: &[u8]) -> usize
 }
 
 fn lookup_in(buckets: &[&[(&[u8], Symbol)]], other: Symbol, text: &[u8]) -> Symbol
-    ensures { result ≡ here.lookup_in (map (λ bucket. map (λ k. (k.0.now, k.1)) bucket.now) buckets.now) other text.now }
+    ensures { result ≡ here.lookup_in
+        (map (λ bucket. map (λ k. (k.0.now, k.1)) bucket.now) buckets.now) other text.now }
 {
     match buckets.get(bucket(text)) {
         Some(rows) => lookup(rows, other, text),
@@ -334,7 +335,9 @@ fn terminal<'a>(text: &'a [u8], token: &'a Token) -> Terminal<'a>
 
 /// A terminal with what a pragma says that follows it directly.
 fn marked<'a>(last: Terminal<'a>, pragma: Pragma) -> Terminal<'a>
-    ensures { spec.terminal result ≡ here.marked (spec.terminal last.entry) (spec.says_full pragma) (spec.says_parallel pragma) }
+    ensures { spec.terminal result
+        ≡ here.marked (spec.terminal last.entry) (spec.says_full pragma)
+        (spec.says_parallel pragma) }
 {
     let mut last = last;
     if let Pragma::Case { full, parallel } = pragma {
@@ -349,7 +352,10 @@ fn add<'a>(
     text: &'a [u8],
     token: &'a Token,
 ) -> Result<(), Memory>
-    ensures { IfOk result (λ _. (after : spec.Sight) → here.joined (map spec.terminal terminals.new.items) after ≡ here.joined (map spec.terminal terminals.old.items) (spec.sight text.now token.entry.now (spec.pragma_of token.entry.now.kind) after)) }
+    ensures { IfOk result (λ _. (after : spec.Sight)
+        → here.joined (map spec.terminal terminals.new.items) after
+        ≡ here.joined (map spec.terminal terminals.old.items)
+        (spec.sight text.now token.entry.now (spec.pragma_of token.entry.now.kind) after)) }
 {
     match token.kind {
         Tok::Pragma(pragma) => {
@@ -383,7 +389,8 @@ pub fn terminals<'a>(
     text: &'a [u8],
     tokens: &'a [Token],
 ) -> Result<Vec<Terminal<'a>>, Memory>
-    ensures found { IfOk result (λ ts. map spec.terminal ts.items ≡ spec.terminals text.now tokens.now) }
+    ensures found { IfOk result (λ ts. map spec.terminal ts.items
+        ≡ spec.terminals text.now tokens.now) }
     ensures numbered { IfOk result (λ ts. surveys.AreNumbered (map spec.terminal ts.items)) }
 {
     gathered(alloc, text, tokens)

@@ -55,7 +55,8 @@ impl<O: Opener + Drop> FileShelf<O> {
 
 // Opens the file of this name, and reads it whole.
 fn read_file<O: Opener>(alloc: Global, opener: &O, name: &str) -> Result<Vec<u8>, ShelfFault>
-    ensures told { IfSome (O.files opener.now) (λ held. IsReading (reading (held name.now)) result) }
+    ensures told { IfSome (O.files opener.now)
+        (λ held. IsReading (reading (held name.now)) result) }
     ensures short { IfOk result (λ bytes. vec_len bytes ≤ MAX_FILE_BYTES) }
 {
     match opener.open(name) {
@@ -72,12 +73,15 @@ impl<O: Opener + Drop> Shelf for FileShelf<O> {
     /// The file of this name. Each failure is counted, and so is a missing file. Nothing else is. The answer is exact
     /// where the opener tells its files.
     fn read(&mut self, name: &str) -> Result<Vec<u8>, ShelfFault>
-        ensures exact { IfSome (O.files (opener_of self.old)) (λ held. IsReading (reading (held name.now)) result) }
+        ensures exact { IfSome (O.files (opener_of self.old))
+            (λ held. IsReading (reading (held name.now)) result) }
         ensures short { IfOk result (λ bytes. vec_len bytes ≤ MAX_FILE_BYTES) }
         ensures opener { opener_of self.new ≡ opener_of self.old }
         ensures later { fault_count self.old ≤ fault_count self.new }
-        ensures failed { IsErrOf result ShelfFault.Failed → Rose (fault_count self.old) (fault_count self.new) }
-        ensures missing { IsErrOf result ShelfFault.NoSuchFile → Rose (fault_count self.old) (fault_count self.new) }
+        ensures failed { IsErrOf result ShelfFault.Failed
+            → Rose (fault_count self.old) (fault_count self.new) }
+        ensures missing { IsErrOf result ShelfFault.NoSuchFile
+            → Rose (fault_count self.old) (fault_count self.new) }
         ensures still { result ≢ Err ShelfFault.Failed → result ≢ Err ShelfFault.NoSuchFile
             → fault_count self.new ≡ fault_count self.old }
     {

@@ -44,7 +44,8 @@ impl MemoryShelf {
 
     /// Adds a file of any length. It takes the place of one that has the name already. At an error nothing changes.
     pub fn add(&mut self, name: &str, bytes: &[u8]) -> Result<(), AllocError>
-        ensures ok { OnOk result (held_files self.new ≡ with_file (held_files self.old) name.now bytes.now) }
+        ensures ok { OnOk result (held_files self.new
+            ≡ with_file (held_files self.old) name.now bytes.now) }
         ensures err { OnErr result (held_files self.new ≡ held_files self.old) }
         ensures calls { schedule self.new ≡ schedule self.old }
         ensures faults { fault_count self.new ≡ fault_count self.old }
@@ -79,7 +80,8 @@ fn reading_of(
     files: &BTreeMap<String, Vec<u8>>,
     name: &str,
 ) -> Result<Vec<u8>, ShelfFault>
-    ensures reading { IsReading (reading (option_map vec_items (get_by_text files.now name.now))) result }
+    ensures reading { IsReading (reading (option_map vec_items (get_by_text files.now name.now)))
+        result }
     ensures short { IfOk result (λ bytes. vec_len bytes ≤ MAX_FILE_BYTES) }
     ensures found { result ≢ Err ShelfFault.Failed }
 {
@@ -105,7 +107,8 @@ impl Shelf for MemoryShelf {
         ensures counted { fault_count self.new ≡ (if next_fails (schedule self.old)
             then min (fault_count self.old + 1) (2 ^ 64 - 1) else fault_count self.old) }
         ensures later { fault_count self.old ≤ fault_count self.new }
-        ensures failed { IsErrOf result ShelfFault.Failed → Rose (fault_count self.old) (fault_count self.new) }
+        ensures failed { IsErrOf result ShelfFault.Failed
+            → Rose (fault_count self.old) (fault_count self.new) }
     {
         if self.calls.next_fails() {
             self.faults = self.faults.saturating_add(1);

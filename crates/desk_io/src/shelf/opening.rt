@@ -22,7 +22,8 @@ pub trait Opener {
         ensures opened { IfSome (files self.now)
             (λ held. IfOk result (λ file. (Self.File.remaining file ≡ held name.now)
             × IsSome (held name.now))) }
-        ensures missing { IfSome (files self.now) (λ held. result ≡ Err ShelfFault.NoSuchFile → held name.now ≡ None) }
+        ensures missing { IfSome (files self.now) (λ held. result ≡ Err ShelfFault.NoSuchFile
+            → held name.now ≡ None) }
         ensures unread { result ≢ Err ShelfFault.TooLong };
 }
 
@@ -46,7 +47,8 @@ impl<R: Files + Drop> SystemFiles<R> {
 
 // Why a file isn't opened.
 fn open_fault(error: &io::Error) -> ShelfFault
-    ensures missing { (result ≡ ShelfFault.NoSuchFile) ↔ (error_kind error.now ≡ ErrorKind.NotFound) }
+    ensures missing { (result ≡ ShelfFault.NoSuchFile)
+        ↔ (error_kind error.now ≡ ErrorKind.NotFound) }
     ensures unread { result ≢ ShelfFault.TooLong }
 {
     match error.kind() {

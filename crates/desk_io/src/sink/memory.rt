@@ -83,9 +83,11 @@ impl Sink for MemorySink {
     /// Takes the bytes, up to the most that one call takes. It fails where its turn has come to fail, where it would
     /// take none of a piece that isn't empty, and where there is no memory.
     fn write(&mut self, bytes: &[u8]) -> Result<usize, Failed>
-        ensures count { IfOk result (λ count. count ≡ min (length bytes.now) (most_bytes self.old)) }
+        ensures count { IfOk result (λ count. count
+            ≡ min (length bytes.now) (most_bytes self.old)) }
         ensures some { IfOk result (λ count. 0 < length bytes.now → 0 < count) }
-        ensures taken { IfOk result (λ count. taken_bytes self.new ≡ taken_bytes self.old ++ take count bytes.now) }
+        ensures taken { IfOk result (λ count. taken_bytes self.new
+            ≡ taken_bytes self.old ++ take count bytes.now) }
         ensures err { OnErr result (taken_bytes self.new ≡ taken_bytes self.old) }
         ensures fails { IsTrue (next_fails (schedule self.old)) → IsErr result }
 

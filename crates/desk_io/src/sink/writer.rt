@@ -53,7 +53,8 @@ impl<W: Write + Drop> Sink for WriterSink<W> {
     fn write(&mut self, bytes: &[u8]) -> Result<usize, Failed>
         ensures bound { WritesAtMost result bytes.now }
         ensures some { IfOk result (λ count. 0 < length bytes.now → 0 < count) }
-        ensures told { WriteAppends (W.contents (writer_of self.old)) (W.contents (writer_of self.new)) result bytes.now }
+        ensures told { WriteAppends (W.contents (writer_of self.old))
+            (W.contents (writer_of self.new)) result bytes.now }
         ensures cause { HasCause (fault_count self.old) (fault_count self.new) result }
         ensures calm { OnOk result (fault_count self.new ≡ fault_count self.old) }
     {

@@ -44,7 +44,8 @@ impl Expr {
 
     /// `{times{part, part}}`
     pub fn repeat(at: u32, times: Box<Expr>, parts: Vec<Expr>) -> Expr
-        ensures { formula result ≡ Repeat at (formula times.value) (formula_row (map formula parts.items)) }
+        ensures { formula result ≡ Repeat at (formula times.value)
+            (formula_row (map formula parts.items)) }
     {
         Expr::Repeat(at, times, parts)
     }

@@ -27,7 +27,8 @@ fn head_parameter_depth(parameter: &HeadParameter) -> u32
 }
 
 fn head_parameters_depth(all: &[HeadParameter]) -> u32
-    ensures { result ≡ min (greatest header_parameter_depth (map header_parameter all.now)) (2 ^ 32 - 1) }
+    ensures { result ≡ min (greatest header_parameter_depth (map header_parameter all.now))
+        (2 ^ 32 - 1) }
 {
     let mut most = 0;
     for parameter in all {

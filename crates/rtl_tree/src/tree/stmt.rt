@@ -146,7 +146,8 @@ impl Stmt {
         selector: Expr,
         items: Vec<CaseItem>,
     ) -> Stmt
-        ensures { action result ≡ Case at kind full parallel (formula selector) (branch_row (map branch items.items)) }
+        ensures { action result ≡ Case at kind full parallel (formula selector)
+            (branch_row (map branch items.items)) }
     {
         Stmt::Case {
             at,
@@ -160,7 +161,8 @@ impl Stmt {
 
     /// `begin : label statements end`
     pub fn block(at: u32, label: Option<Name>, body: Vec<Stmt>) -> Stmt
-        ensures { action result ≡ Block at (option_map identifier label) (action_row (map action body.items)) }
+        ensures { action result ≡ Block at (option_map identifier label)
+            (action_row (map action body.items)) }
     {
         Stmt::Block(at, label, body)
     }

@@ -2,8 +2,8 @@ use Rattle.std.proofs.Common.{◌≡◌, true, Some, [], map, ap, sym, ◌∙◌
 use Rattle.std.specs.List.{list_all}
 use Rattle.rtl_tree.specs.Symbols.{terminal}
 use Rattle.rtl_tree.specs.TreeModule.{circuit}
-use Rattle.text_sound.specs.Tests.{is_proper_circuit}
-use Rattle.text_sound.proofs.Certain.{certain}
+use Rattle.text_build.specs.Tests.{is_proper_circuit}
+use Rattle.text_build.proofs.Certain.{certain}
 use Rattle.rtl_parse.proofs.whole.certain.Goals as goal
 
 pub returns-then-are_proper-clause-spelled : goal.returns-then-are_proper-clause-spelled

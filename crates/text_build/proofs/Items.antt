@@ -1,0 +1,50 @@
+-- Items, if they are proper.
+use Rattle.std.proofs.Common.{◌≡◌, ℕ, List, [], ◌∷◌, Some, refl, sym, subst}
+use Rattle.rtl_tree.specs.declared.symbol.Symbol.{Symbol}
+use Rattle.rtl_tree.specs.declared.symbol.Symbol.TheVariants as symbol
+use Rattle.rtl_tree.specs.declared.tree.item.ParameterKind.TheVariants as parameter
+use Rattle.rtl_tree.specs.Symbols.{Terminal}
+use Rattle.rtl_tree.specs.GrammarItem.{IsItem, IsMarkedItem}
+use Rattle.text_build.specs.Reading.{and_then, symbol_at}
+use Rattle.text_build.specs.ReadingItem.{sensitivity, always, item_by, item_after}
+use Rattle.text_build.specs.ReadingModule.{item}
+use Rattle.text_build.specs.Sound.{IsPlain}
+use Rattle.text_build.specs.ProperModule.{IsProperItem}
+use Rattle.text_build.proofs.Gives.{Gives, Sound, bind, weaken, behind, next_gives}
+use Rattle.text_build.proofs.Each.{If}
+use Rattle.text_build.proofs.Targets.{no_attributes}
+use Rattle.text_build.proofs.Stmts.{statement_gives}
+use Rattle.text_build.proofs.Events.{sensitivity_gives}
+use Rattle.text_build.proofs.Arguments.{instances_give}
+use Rattle.text_build.proofs.Heads.{ports_give, nets_give, variables_give, integers_give, parameters_give, drives_give}
+
+always_gives : (d : ℕ) (ts : List Terminal) → IsPlain ts → symbol_at ts ≡ Some symbol.Always → Gives (always d ts) (λ i rest. If IsProperItem IsItem i ts rest × IsPlain rest)
+unfolding always
+always_gives d ts pl h =
+    bind (next_gives symbol.Always ts pl h)
+    (λ at m w. bind (behind symbol.At (sensitivity d) (sensitivity_gives d) m w.1)
+    (λ s m1 v. bind (statement_gives d m1 v.1) (λ body m2 u. record { given = (λ p. (m, w.0, (v.0.0, v.0.1, (m1, v.0.2, u.0.1 p))), u.1) })))
+
+item_from : (d : ℕ) (s : Symbol) (ts : List Terminal) → IsPlain ts → symbol_at ts ≡ Some s → Gives (item_by d (Some s) ts) (λ i rest. If IsProperItem IsItem i ts rest × IsPlain rest)
+item_from d symbol.Input ts pl h = weaken (ports_give d ts pl) (λ i rest w. (λ q. w.0, w.1))
+item_from d symbol.Output ts pl h = weaken (ports_give d ts pl) (λ i rest w. (λ q. w.0, w.1))
+item_from d symbol.Wire ts pl h = weaken (nets_give d ts pl h) (λ i rest w. (λ q. w.0, w.1))
+item_from d symbol.Reg ts pl h = variables_give d ts pl h
+item_from d symbol.Integer ts pl h = weaken (integers_give ts pl h) (λ i rest w. (λ q. w.0, w.1))
+item_from d symbol.Parameter ts pl h = weaken (parameters_give d parameter.Parameter ts pl h) (λ i rest w. (λ q. w.0, w.1))
+item_from d symbol.Localparam ts pl h = weaken (parameters_give d parameter.Local ts pl h) (λ i rest w. (λ q. w.0, w.1))
+item_from d symbol.Assign ts pl h = weaken (drives_give d ts pl h) (λ i rest w. (λ q. w.0, w.1))
+item_from d symbol.Always ts pl h = always_gives d ts pl h
+item_from d s ts pl h = instances_give d ts pl
+
+item_after_gives : (d : ℕ) → Sound (item_after d) (If IsProperItem IsItem)
+unfolding item_after
+item_after_gives d [] pl = instances_give d [] pl
+item_after_gives d (t ∷ ts) pl = item_from d t.symbol (t ∷ ts) pl refl
+
+-- an item with no attributes before it
+pub item_gives : (d : ℕ) → Sound (item d) (If IsProperItem IsMarkedItem)
+unfolding item
+item_gives d ts pl =
+    subst (λ o. Gives (and_then o (λ marks. item_after d)) (λ i rest. If IsProperItem IsMarkedItem i ts rest × IsPlain rest)) (sym (no_attributes ts pl))
+    (weaken (item_after_gives d ts pl) (λ i rest w. (λ p. ([], (ts, refl, w.0 p)), w.1)))

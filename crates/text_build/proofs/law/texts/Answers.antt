@@ -1,0 +1,5 @@
+use Rattle.text_build.proofs.Modules.{texts}
+use Rattle.text_build.proofs.law.texts.Goals as goal
+
+pub returns : goal.returns
+returns c = texts

@@ -1,0 +1,42 @@
+-- It serves laws; no answer of the program is stated by it.
+-- What the grammar asks of a module and the builder doesn't test.
+use Rattle.std.specs.Prelude.{◌≡◌, false, List, [], ◌∷◌}
+use Rattle.rtl_tree.specs.TreeItem.{Association, ByPosition, ByName, Variable, ModuleItem, Ports, Nets, Variables, Integers, Parameters, Drives, Always, Instances}
+use Rattle.rtl_tree.specs.TreeModule.{HeaderParameter, Circuit}
+use Rattle.rtl_tree.specs.GrammarItem.{IsMoreThanEmpty}
+use Rattle.rtl_tree.specs.GrammarModule.{IsThere}
+use Rattle.text_build.specs.Proper.{IsProper}
+
+-- this holds of each
+abbrev pub Each : {A : Type 0} → (A → Type 0) → List A → Type 0
+Each P [] = Unit {0}
+Each P (x ∷ xs) = P x × Each P xs
+
+-- parameters that an instance sets by position are more than one that is empty
+abbrev pub AreProperArguments : Association → Type 0
+AreProperArguments (ByPosition []) = Unit {0}
+AreProperArguments (ByPosition (argument ∷ arguments)) = IsMoreThanEmpty (argument ∷ arguments)
+AreProperArguments (ByName arguments) = Unit {0}
+
+-- no value that the builder passes over
+abbrev pub IsProperVariable : Variable → Type 0
+IsProperVariable v = v.initial ≡ false
+
+-- no variable has an initial value, cases are proper, and so are the parameters that an instance sets
+abbrev pub IsProperItem : ModuleItem → Type 0
+IsProperItem (Ports head names) = Unit {0}
+IsProperItem (Nets at signed bounds nets) = Unit {0}
+IsProperItem (Variables at signed bounds variables) = Each IsProperVariable variables
+IsProperItem (Integers at names) = Unit {0}
+IsProperItem (Parameters at kind bounds values) = Unit {0}
+IsProperItem (Drives at pause drives) = Unit {0}
+IsProperItem (Always at sensitivity body) = IsProper body
+IsProperItem (Instances child parameters instantiations) = AreProperArguments parameters
+
+-- the first parameter in the head of a module stands after `parameter`
+abbrev pub AreProperParameters : List HeaderParameter → Type 0
+AreProperParameters [] = Unit {0}
+AreProperParameters (parameter ∷ parameters) = IsThere parameter.heading
+
+abbrev pub IsProperCircuit : Circuit → Type 0
+IsProperCircuit c = AreProperParameters c.parameters × Each IsProperItem c.items

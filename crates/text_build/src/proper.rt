@@ -1,0 +1,172 @@
+// Modules that hold nothing that the builder reads and no text may have.
+
+ghost use Rattle.std.specs.Prelude.{◌≡◌, ◌&&◌, map, nat_le};
+ghost use Rattle.std.specs.List.{list_all};
+ghost use Rattle.rtl_tree.specs.GrammarStmt.{defaults};
+ghost use Rattle.rtl_tree.specs.TreeItem.{association, module_item, variable};
+ghost use Rattle.rtl_tree.specs.TreeModule.{circuit, header_parameter};
+ghost use Rattle.rtl_tree.specs.TreeStmt.{action, action_row, branch, branch_row};
+ghost use Rattle.text_build.specs.Tests.{are_proper, are_proper_arguments, are_proper_branches, has_first_heading, has_item, has_no_value, is_proper, is_proper_branch, is_proper_circuit, is_proper_item};
+
+use rtl_tree::tree::item::{Arguments, Item, Reg};
+use rtl_tree::tree::modules::{HeadParameter, Module};
+use rtl_tree::tree::nesting::{MAX_NESTING, depth};
+use rtl_tree::tree::stmt::{CaseItem, Stmt};
+
+/// Whether at most one of the items of a `case` is its default.
+fn has_one_default(items: &[CaseItem]) -> bool
+    ensures { result ≡ nat_le (defaults (branch_row (map branch items.now))) 1 }
+{
+    let mut found = false;
+    for item in items {
+        match item {
+            CaseItem::Labelled(_, _) => {}
+            CaseItem::Default(_, _) => {
+                if found {
+                    return false;
+                }
+                found = true;
+            }
+        }
+    }
+    true
+}
+
+/// Whether a `case` may have these items: at least one, and at most one default.
+fn may_be_items(items: &[CaseItem]) -> bool
+    ensures { let all = branch_row (map branch items.now) in
+        result ≡ (has_item all && nat_le (defaults all) 1) }
+{
+    !items.is_empty() && has_one_default(items)
+}
+
+/// Whether each `case` in a statement has an item, and at most one default.
+#[cycle(proper)]
+#[tactic(auto, using(crate::proofs::Rows::proper_block))]
+fn is_proper(stmt: &Stmt) -> bool
+    ensures { result ≡ is_proper (action stmt.now) }
+{
+    match stmt {
+        Stmt::Null(_) | Stmt::Assign(_, _, _, _) => true,
+        Stmt::Delayed(_, body) | Stmt::If(_, _, body) => is_proper(body),
+        Stmt::IfElse(_, _, taken, otherwise) => is_proper(taken) && is_proper(otherwise),
+        Stmt::Case { items, .. } => may_be_items(items) && are_proper_branches(items),
+        Stmt::For { body, .. } => is_proper(body),
+        Stmt::Block(_, _, body) => are_all_proper(body),
+    }
+}
+
+#[cycle(proper)]
+fn are_all_proper(all: &[Stmt]) -> bool
+    ensures { result ≡ are_proper (action_row (map action all.now)) }
+{
+    for stmt in all {
+        if !is_proper(stmt) {
+            return false;
+        }
+    }
+    true
+}
+
+#[cycle(proper)]
+fn is_proper_branch(item: &CaseItem) -> bool
+    ensures { result ≡ is_proper_branch (branch item.now) }
+{
+    match item {
+        CaseItem::Labelled(_, body) | CaseItem::Default(_, body) => is_proper(body),
+    }
+}
+
+#[cycle(proper)]
+fn are_proper_branches(items: &[CaseItem]) -> bool
+    ensures { result ≡ are_proper_branches (branch_row (map branch items.now)) }
+{
+    for item in items {
+        if !is_proper_branch(item) {
+            return false;
+        }
+    }
+    true
+}
+
+/// Whether no variable has an initial value.
+fn have_no_values(regs: &[Reg]) -> bool
+    ensures { result ≡ list_all has_no_value (map variable regs.now) }
+{
+    for reg in regs {
+        if reg.initial {
+            return false;
+        }
+    }
+    true
+}
+
+/// Whether parameters that an instance sets by position are more than one that is empty.
+fn are_proper_arguments(parameters: &Arguments) -> bool
+    ensures { result ≡ are_proper_arguments (association parameters.now) }
+{
+    match parameters {
+        Arguments::Ordered(all) => match all.as_slice() {
+            [only] => only.value.is_some(),
+            _ => true,
+        },
+        Arguments::Named(_) => true,
+    }
+}
+
+fn is_proper_item(item: &Item) -> bool
+    ensures { result ≡ is_proper_item (module_item item.now) }
+{
+    match item {
+        Item::Regs { regs, .. } => have_no_values(regs),
+        Item::Always(_, _, body) => is_proper(body),
+        Item::Instances { parameters, .. } => are_proper_arguments(parameters),
+        Item::Ports(_, _)
+        | Item::Wires { .. }
+        | Item::Integers(_, _)
+        | Item::Parameters { .. }
+        | Item::Assigns(_, _, _) => true,
+    }
+}
+
+fn are_proper_items(items: &[Item]) -> bool
+    ensures { result ≡ list_all is_proper_item (map module_item items.now) }
+{
+    for item in items {
+        if !is_proper_item(item) {
+            return false;
+        }
+    }
+    true
+}
+
+/// Whether the first parameter in the head of a module stands after `parameter`.
+fn has_first_heading(parameters: &[HeadParameter]) -> bool
+    ensures { result ≡ has_first_heading (map header_parameter parameters.now) }
+{
+    match parameters {
+        [first, ..] => first.head.is_some(),
+        [] => true,
+    }
+}
+
+fn is_proper_module(written: &Module) -> bool
+    ensures { result ≡ is_proper_circuit (circuit written.now) }
+{
+    depth(written) <= MAX_NESTING
+        && has_first_heading(&written.parameters)
+        && are_proper_items(&written.items)
+}
+
+/// Whether modules hold nothing that the builder reads and no text may have: an initial value, a `case` without items or with two
+/// defaults, one empty parameter of an instance, a first parameter without `parameter`, or what is nested more than 200 deep.
+pub fn are_proper(modules: &[Module]) -> bool
+    ensures { result ≡ list_all is_proper_circuit (map circuit modules.now) }
+{
+    for module in modules {
+        if !is_proper_module(module) {
+            return false;
+        }
+    }
+    true
+}

@@ -1,5 +1,0 @@
-mod Rows
-mod Keeps
-mod Runs
-mod Finish
-pub mod Least
