@@ -3,8 +3,7 @@ use Rattle.std.specs.Prelude.{ℕ, suc, ◌+◌, Bool, List, [], ◌∷◌, ◌+
 use Rattle.std.proofs.Common.{◌≡◌, ◌∙◌, ap, arith, length-append, refl}
 use Rattle.rtl_const.specs.Constant.{Outcome, constant}
 use Rattle.rtl_tree.specs.TreeExpr.{Formula, Number, Read, ReadBit, ReadPart, Parens, Convert, Concat, Repeat, Unary, Binary, Choose, Formulas, no_formulas, more_formulas}
-use Rattle.rtl_flat.specs.Expression.{Tree}
-use Rattle.rtl_rule.specs.Parts.{nodes}
+use Rattle.rtl_flat.specs.Expression.{Tree, nodes}
 use Rattle.elab_body.specs.elab_scope.declared.context.Context.{Context}
 use Rattle.elab_body.specs.elab_scope.declared.known.Known.{Known}
 use Rattle.elab_body.specs.elab_scope.declared.known.Known.TheVariants as known

@@ -8,13 +8,12 @@ use Rattle.rtl_tree.specs.TreeItem.{Happening, Listed, Sensitivity}
 use Rattle.rtl_flat.specs.declared.signal.Kind.TheVariants.{Net, Var}
 use Rattle.rtl_flat.specs.declared.signal.Signal.{Signal}
 use Rattle.rtl_flat.specs.declared.instance.Instance.{Instance}
-use Rattle.rtl_flat.specs.Expression.{Sized}
+use Rattle.rtl_flat.specs.Expression.{Sized, nodes}
 use Rattle.rtl_flat.specs.Expression as tree
 use Rattle.rtl_flat.specs.Process.{Assign, Comb, Edge', Whole, body_of}
 use Rattle.rtl_flat.specs.Signs.{Has, IsExpression, width_in}
 use Rattle.rtl_flat.specs.Sizing.{HaveBits, signed_in, sized}
 use Rattle.rtl_flat.specs.WellFormed.{IsAssignment, IsBody, IsList, IsProcess, IsSignal, IsWatched, has_edge, statements_of}
-use Rattle.rtl_rule.specs.Parts.{nodes}
 use Rattle.elab_body.specs.elab_scope.declared.context.Context.{Context}
 use Rattle.elab_body.specs.elab_scope.declared.rules.Writer.TheVariants.{Continuous, Procedural}
 use Rattle.elab_body.specs.elab_scope.declared.widths.Breadth.{Breadth}

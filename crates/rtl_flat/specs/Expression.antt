@@ -1,6 +1,6 @@
 -- The plain form of sized expressions: lists for vectors, a tree for boxes.
 -- Worked examples: crates/event_laws/proofs/Example.antt.
-use Rattle.std.specs.Prelude.{ℕ, ℤ, Bool, List, [], ◌∷◌}
+use Rattle.std.specs.Prelude.{ℕ, ℤ, Bool, List, [], ◌∷◌, ◌++◌}
 use Rattle.rtl_bits.specs.declared.Bit.{Bit}
 use Rattle.rtl_tree.specs.declared.text.Spot.{Spot}
 use Rattle.rtl_flat.specs.declared.expr.Turn.{Turn}
@@ -83,3 +83,23 @@ tree e = Sized e.width e.signed e.spot (form e.node)
 abbrev pub beside : List Tree → Tree
 beside [] = Empty
 beside (first ∷ others) = Beside first (beside others)
+
+-- all sized expressions in an expression, itself and the indices of its selects among them
+abbrev pub nodes : Tree → List Tree
+nodes (Sized width signed spot e) = Sized width signed spot e ∷ nodes e
+nodes (Literal bits) = []
+nodes (Whole i) = []
+nodes (BitAt i low index) = []
+nodes (BitBy i low signed index) = nodes index
+nodes (Part i low width) = []
+nodes (Turned operator a) = nodes a
+nodes (Joined operator signed a b) = nodes a ++ nodes b
+nodes (Compared operator signed a b) = nodes a ++ nodes b
+nodes (Linked operator a b) = nodes a ++ nodes b
+nodes (Folded operator a) = nodes a
+nodes (Shifted operator signed a amount) = nodes a ++ nodes amount
+nodes (Chosen c a b) = nodes c ++ nodes a ++ nodes b
+nodes Empty = []
+nodes (Beside a others) = nodes a ++ nodes others
+nodes (Repeated times a) = nodes a
+nodes (Recast a) = nodes a

@@ -11,6 +11,8 @@ use Rattle.rtl_flat.specs.declared.instance.Delay.{Delay}
 use Rattle.rtl_flat.specs.declared.instance.DroppedRegion.{DroppedRegion}
 use Rattle.rtl_flat.specs.declared.signal.Signal.{Signal}
 use Rattle.rtl_flat.specs.Expression.{Tree, Sized, Literal, Whole, BitAt, BitBy, Part, Turned, Joined, Compared, Linked, Folded, Shifted, Chosen, Empty, Beside, Repeated, Recast}
+-- `nodes` is passed on
+pub use Rattle.rtl_flat.specs.Expression.{nodes}
 use Rattle.rtl_flat.specs.Flats.{Flat, widths}
 use Rattle.rtl_flat.specs.Flows.{flow_of, labels_of}
 use Rattle.rtl_flat.specs.Paths.{BitSet, may_write}
@@ -115,26 +117,6 @@ least_place otherwise (one ∷ next ∷ others) =
 abbrev pub place_of : Spot → Tree → Spot
 place_of otherwise (Sized width signed spot e) = spot
 place_of otherwise _ = otherwise
-
--- all sized expressions in an expression, itself and the indices of its selects among them
-abbrev pub nodes : Tree → List Tree
-nodes (Sized width signed spot e) = Sized width signed spot e ∷ nodes e
-nodes (Literal bits) = []
-nodes (Whole i) = []
-nodes (BitAt i low index) = []
-nodes (BitBy i low signed index) = nodes index
-nodes (Part i low width) = []
-nodes (Turned operator a) = nodes a
-nodes (Joined operator signed a b) = nodes a ++ nodes b
-nodes (Compared operator signed a b) = nodes a ++ nodes b
-nodes (Linked operator a b) = nodes a ++ nodes b
-nodes (Folded operator a) = nodes a
-nodes (Shifted operator signed a amount) = nodes a ++ nodes amount
-nodes (Chosen c a b) = nodes c ++ nodes a ++ nodes b
-nodes Empty = []
-nodes (Beside a others) = nodes a ++ nodes others
-nodes (Repeated times a) = nodes a
-nodes (Recast a) = nodes a
 
 -- the signal that an expression without its operands reads
 abbrev pub named : Tree → Option ℕ
