@@ -23,7 +23,7 @@ use Rattle.text_build.specs.Ordinary.{is_ordinary_in}
 use Rattle.text_build.specs.declared.ordinary.TheConstants.{MOST_TOKENS}
 use Rattle.text_build.specs.Tests.{has_item, is_proper, are_proper, is_proper_branch, are_proper_branches, has_value, are_proper_arguments, has_no_value, is_proper_item, has_heading, has_first_heading, is_proper_circuit}
 use Rattle.text_build.specs.Certain.{ReadingsAreCertain}
-use Rattle.text_build.proofs.Modules.{texts}
+use Rattle.text_build.proofs.CertainModules.{texts}
 use Rattle.text_build.proofs.Shallow.{all_shallow}
 
 left : (a b : Bool) → (a && b) ≡ true → a ≡ true

@@ -11,7 +11,7 @@ use Rattle.text_build.specs.ReadingExpr.{binary_of, looseness, goes, choice, joi
 use Rattle.text_build.proofs.Laws.Follows.{level_is, operator_goes, goes_mono}
 use Rattle.text_build.specs.Sound.{IsPlain, ExpressionsAreSound}
 use Rattle.text_build.proofs.Gives.{Gives, Sound, bind, choose, behind, next_gives}
-use Rattle.text_build.proofs.Operators.{IsLink, link_is, goes_is, looser, wider}
+use Rattle.text_build.proofs.CertainOperators.{IsLink, link_is, goes_is, looser, wider}
 use Rattle.text_build.proofs.Operands.{Levels, all_levels, operand_gives}
 
 -- what was read so far is an expression, and what goes on binds no tighter, nor is it part of a `?:`

@@ -20,7 +20,7 @@ use Rattle.text_build.proofs.Lists.{listed_gives}
 use Rattle.text_build.proofs.Each.{If, each_listed}
 use Rattle.text_build.proofs.References.{bounds_gives}
 use Rattle.text_build.proofs.Exprs.{expression_gives}
-use Rattle.text_build.proofs.Targets.{target_gives, pause_gives}
+use Rattle.text_build.proofs.CertainTargets.{target_gives, pause_gives}
 
 pub range_gives : (d : ℕ) → Sound (range d) (IsOptional IsBounds)
 unfolding range any_expression

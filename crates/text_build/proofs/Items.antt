@@ -12,7 +12,7 @@ use Rattle.text_build.specs.Sound.{IsPlain}
 use Rattle.text_build.specs.ProperModule.{IsProperItem}
 use Rattle.text_build.proofs.Gives.{Gives, Sound, bind, weaken, behind, next_gives}
 use Rattle.text_build.proofs.Each.{If}
-use Rattle.text_build.proofs.Targets.{no_attributes}
+use Rattle.text_build.proofs.CertainTargets.{no_attributes}
 use Rattle.text_build.proofs.Stmts.{statement_gives}
 use Rattle.text_build.proofs.Events.{sensitivity_gives}
 use Rattle.text_build.proofs.Arguments.{instances_give}

@@ -7,11 +7,11 @@ pub mod ItemSteps
 pub mod Laws
 mod Gives
 mod Lists
-mod Operators
+mod CertainOperators
 mod References
 mod Operands
 pub mod Exprs
-mod Targets
+mod CertainTargets
 mod Stmts
 mod Events
 mod Each
@@ -19,7 +19,7 @@ mod Arguments
 mod Heads
 mod Items
 mod Headers
-pub mod Modules
+pub mod CertainModules
 pub mod Shallow
 mod Example
 mod Deep

@@ -14,7 +14,7 @@ use Rattle.text_build.specs.ReadingExpr.{unary_of, goes, Reference, whole, bit, 
 use Rattle.text_build.specs.Sound.{IsPlain}
 use Rattle.text_build.proofs.Gives.{Gives, Sound, bind, weaken, either_gives, behind, behind_found, a_gives, a_of, next_gives, found_gives, literal_gives, starts_symbol}
 use Rattle.text_build.proofs.Lists.{links_gives, more_joins, listed_gives}
-use Rattle.text_build.proofs.Operators.{IsPrefix, prefix_is}
+use Rattle.text_build.proofs.CertainOperators.{IsPrefix, prefix_is}
 use Rattle.text_build.proofs.References.{IsReference, reference_gives}
 
 -- a row of expressions is spelled as their list is

@@ -19,7 +19,7 @@ use Rattle.text_build.specs.Proper.{HasItem, IsProper, AreProper, IsProperBranch
 use Rattle.text_build.proofs.Gives.{Gives, Sound, bind, weaken, either_gives, behind, behind_found, a_gives, a_of, token_gives, next_gives, found_gives, name_gives, optional_gives, starts_symbol, after_found}
 use Rattle.text_build.proofs.Lists.{listed_gives, until_gives}
 use Rattle.text_build.proofs.Exprs.{expression_gives}
-use Rattle.text_build.proofs.Targets.{no_attributes, target_gives, pause_gives}
+use Rattle.text_build.proofs.CertainTargets.{no_attributes, target_gives, pause_gives}
 
 -- a statement that an `else` follows doesn't end in an `if` that would take it
 abbrev Closed : Action → List Terminal → Type 0

@@ -1,4 +1,4 @@
-use Rattle.text_build.proofs.Modules.{texts}
+use Rattle.text_build.proofs.CertainModules.{texts}
 use Rattle.text_build.proofs.law.texts.Goals as goal
 
 pub returns : goal.returns

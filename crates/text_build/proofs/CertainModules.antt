@@ -13,7 +13,7 @@ use Rattle.text_build.specs.Whole.{TextsAreSound}
 use Rattle.text_build.proofs.Gives.{Gives, Sound, bind, weaken, behind, mark_gives, name_gives}
 use Rattle.text_build.proofs.Lists.{until_gives, repeat_gives}
 use Rattle.text_build.proofs.Each.{If, each_all}
-use Rattle.text_build.proofs.Targets.{no_attributes}
+use Rattle.text_build.proofs.CertainTargets.{no_attributes}
 use Rattle.text_build.proofs.Items.{item_gives}
 use Rattle.text_build.proofs.Headers.{parameters_give, header_gives}
 
