@@ -15,7 +15,7 @@ use Rattle.rtl_bits.specs.Bits.{has_unknown, same_bit, truth_bit}
 use Rattle.rtl_flat.specs.Expression.{Tree}
 use Rattle.rtl_flat.specs.Flows.{body_flow, reads}
 use Rattle.rtl_flat.specs.Paths.{ReadsOutside}
-use Rattle.net_model.specs.Control.{InCone}
+use Rattle.net_model.specs.Control.{InClockCone}
 use Rattle.rtl_flat.specs.Process.{Watched, If, Actions, Done, Then, With}
 use Rattle.rtl_flat.specs.WellFormed.{has_edge}
 use Rattle.event_model.specs.Writes.{Values}
@@ -125,7 +125,7 @@ reads_of d test i k = reads (widths d) test i k ≡ true
 -- what is done at the clock's edge reads no clock and no reset
 abbrev IsApart : Flat → Actions → Type 0
 IsApart d part =
-    (i k : ℕ) → ReadsOutside (body_flow (widths d) part) i k → InCone d i → ⊥
+    (i k : ℕ) → ReadsOutside (body_flow (widths d) part) i k → InClockCone d i → ⊥
 
 -- both are one `if`
 record AreAlike (one other : Guard) (part part' : Actions) : Type 0 where

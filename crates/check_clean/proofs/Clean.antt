@@ -15,18 +15,19 @@ use Rattle.rtl_flat.specs.WellFormed.{has_edge}
 use Rattle.rtl_flat.specs.Expression.{Tree}
 use Rattle.rtl_flat.proofs.Paths.{decided}
 use Rattle.event_model.specs.Queue.{doing_at, doing_of, is_input, is_input_kind, is_input_of}
-use Rattle.event_ending.specs.event_laws.Steady.{AreLawful}
-use Rattle.event_ending.specs.event_runs.Writers.{IsSole}
+use Rattle.check_laws.specs.event_laws.Steady.{AreLawful}
+use Rattle.check_laws.specs.event_runs.Writers.{IsSole}
 use Rattle.std.proofs.lemmas.Bool.{and_from, eq-eqb, false≢true}
 use Rattle.sign_cycles.proofs.event_edges_proofs.Hearing.{passing}
 use Rattle.check_laws.specs.check_chains.Chains.{chain_of}
 use Rattle.sign_cycles.specs.event_edges.Synchronous.{IsItem, IsSynchronous}
-use Rattle.net_model.specs.Control.{IsControl, IsFromTop, IsReached, waits_for}
+use Rattle.net_model.proofs.Gates.{clock_cone, clock_control}
+use Rattle.net_model.specs.Control.{IsClockOrReset, IsFromTop, IsReached, waits_for}
 use Rattle.net_model.specs.Cycle.{AreChains, Chain, IsChain}
 use Rattle.net_model.specs.Solution.{IsLasting, IsRegisterBit}
-use Rattle.sign_cycles.specs.net_rest.Rest.{IsComputed, IsGate, IsSolvable}
+use Rattle.sign_cycles.specs.net_rest.Rest.{IsComputed, IsComputing, IsSolvable}
 use Rattle.sign_cycles.specs.Formed.{IsFormed}
-use Rattle.sign_cycles.specs.sign_rounds.BringUp.{CanAllWake}
+use Rattle.sign_cycles.specs.PowerUp.{CanAllWake}
 use Rattle.rtl_flat.specs.Flats.{Flat, Parts, widths}
 use Rattle.check_laws.specs.Cases.{Does, IsBodyOf}
 use Rattle.check_laws.specs.Designs.{IsEdge}
@@ -72,8 +73,8 @@ module _ (d : Flat) (lawful : AreLawful d) (marked : AreMarked d) (none : HasNoF
   does_comb : (does : Doing) (list : Option (List Watched)) (body : Actions) → does ≡ Comb list body → Does does body
   does_comb does list body is = subst (λ x. Does x body) (sym is) refl
 
-  gate : (p : ℕ) (list : Option (List Watched)) (body : Actions) → doing_at d p ≡ Some (Comb list body) → IsGate d p list body
-  gate p list body is =
+  computing : (p : ℕ) (list : Option (List Watched)) (body : Actions) → doing_at d p ≡ Some (Comb list body) → IsComputing d p list body
+  computing p list body is =
       let at = task_of d p (Comb list body) is in
       let of_body : IsBodyOf d p body = record { task = at.task; there = at.there; does = does_comb at.task.does list body at.is } in
       record {
@@ -104,7 +105,7 @@ module _ (d : Flat) (lawful : AreLawful d) (marked : AreMarked d) (none : HasNoF
         sourced = sourced;
         firm = firm_assigns d lawful marked no_doubt;
         sole = λ p target e is i k may. sole p (Assign target e) is i k (target_may target e i k may);
-        gates = gate;
+        computing = computing;
       }
 
   -- ---- clocks and resets
@@ -130,7 +131,7 @@ module _ (d : Flat) (lawful : AreLawful d) (marked : AreMarked d) (none : HasNoF
 
   once : (p : ℕ) (events : List Watched) (body : Actions) (a b : Watched) → IsItem d p events body a → IsItem d p events body b → (c : ℕ) → IsTrue (is_input d c) → IsReached d c a.signal → IsReached d c b.signal → a.signal ≡ b.signal
   once p events body a b first second c input reached reached' =
-      let control : IsControl d c = record {
+      let clock : IsClockOrReset d c = record {
         input = input;
         signal = a.signal;
         reached = reached;
@@ -142,7 +143,7 @@ module _ (d : Flat) (lawful : AreLawful d) (marked : AreMarked d) (none : HasNoF
           waits = passing (waits_for a.signal) events first.place a first.there (and_from (a.signal == a.signal) _ (eq-eqb a.signal a.signal refl) (edge_of p events body a first));
         };
       } in
-      let same = derived_clock_once d none.a7 p events body first.does first.place second.place a b first.there second.there c (record { input = top_input c input; goes = goes d lawful marked none.a8 c control a.signal reached }) (record { input = top_input c input; goes = goes d lawful marked none.a8 c control b.signal reached' }) in
+      let same = derived_clock_once d none.a7 p events body first.does first.place second.place a b first.there second.there c (record { input = top_input c input; goes = goes d lawful marked none.a8 c (clock_control d c clock) a.signal reached }) (record { input = top_input c input; goes = goes d lawful marked none.a8 c (clock_control d c clock) b.signal reached' }) in
       let both : Some a ≡ Some b = sym first.there ∙ ap (slice_get events) same ∙ second.there in
       ap (λ (x : Watched). x.signal) (some_same a b both)
     where
@@ -159,7 +160,7 @@ module _ (d : Flat) (lawful : AreLawful d) (marked : AreMarked d) (none : HasNoF
         edges = edge_of;
         clocks = λ p events body item is. item_of (λ one. IsFromTop d one.signal) p events body item is (derived_clock d (sources_decided d) none.a7 p events body is.does);
         once = once;
-        heard = heard d lawful marked none.a8;
+        heard = λ p does is i k cone. heard d lawful marked none.a8 p does is i k (clock_cone d i cone);
         tests = λ p events body is. tests d lawful marked none p events body is;
       }
 

@@ -15,10 +15,10 @@ use Rattle.rtl_flat.specs.Process.{Selection, Piece, Watched, Action, Set, If, C
 use Rattle.rtl_flat.specs.Process as part
 use Rattle.rtl_flat.specs.Signs.{Has}
 use Rattle.rtl_flat.specs.WellFormed.{has_edge}
-use Rattle.event_ending.proofs.event_laws_proofs.Within.{reads_inside}
+use Rattle.check_laws.proofs.event_laws_proofs.Within.{reads_inside}
 use Rattle.event_model.specs.Queue.{doing_at}
-use Rattle.event_ending.specs.event_laws.Steady.{AreLawful}
-use Rattle.sign_cycles.specs.event_edges.Synchronous.{IsPort, MayHear, sensitive}
+use Rattle.check_laws.specs.event_laws.Steady.{AreLawful}
+use Rattle.sign_cycles.specs.event_edges.Synchronous.{IsPort, MayHear, NoSignal, sensitive}
 use Rattle.net_model.specs.Control.{InCone, IsControl, IsReached, Itself, Through}
 use Rattle.rtl_rule.specs.Parts.{all_of, body_trees, index_of, is_named, items_of, labels, named, nodes, own_labels, own_trees, place_of, spot_if, trees, within}
 use Rattle.rtl_flat.specs.Flats.{Flat, widths}
@@ -222,7 +222,7 @@ module _ (d : Flat) (lawful : AreLawful d) (marked : AreMarked d) (none : AreClo
   items_other (item ∷ items) i h k =
       or_from _ _ (other_select (widths d) i item.signal item.selection h.0 k) (items_other items i h.1 k)
 
-  pub heard : (p : ℕ) (does : Doing) → doing_at d p ≡ Some does → (i k : ℕ) → InCone d i → sensitive (widths d) does i k ≡ true → MayHear d does i
+  pub heard : (p : ℕ) (does : Doing) → doing_at d p ≡ Some does → (i k : ℕ) → InCone d i → sensitive (widths d) does i k ≡ true → MayHear NoSignal d does i
   heard p (Assign target e) is i k cone read =
       let at = task_of d p (Assign target e) is in
       let (passed, same) = passing_at p at.task at.there target e at.is i k cone read in

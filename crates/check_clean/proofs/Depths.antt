@@ -4,7 +4,7 @@ use Rattle.std.specs.List.{slice_get}
 use Rattle.std.proofs.lemmas.Bool.{cases_eq}
 use Rattle.rtl_flat.specs.Levels.{Chain, HasNoEdge, IsArrow, IsDepth, IsLevel, IsNode}
 use Rattle.rtl_flat.specs.Levels as level
-use Rattle.event_ending.specs.event_laws.Steady.{AreLawful}
+use Rattle.check_laws.specs.event_laws.Steady.{AreLawful}
 use Rattle.rtl_flat.specs.Flats.{Flat}
 use Rattle.check_all.specs.check_assign.Assigned.{AreCombLoop}
 use Rattle.check_laws.proofs.Decisions.{Decided, both, some_of, there_decided}

@@ -9,9 +9,9 @@ use Rattle.net_model.specs.Cycle.{given_after}
 use Rattle.event_model.specs.Queue.{State, offer, power_up, run}
 use Rattle.rtl_flat.specs.Flats.{Flat, Parts, widths}
 use Rattle.event_model.specs.Writes.{Values}
-use Rattle.event_ending.specs.event_settling.Settling.{Fits}
-use Rattle.event_ending.specs.Ending.{AllEnd, Held, IsReached, PowerUp, Stepped}
-use Rattle.sign_cycles.specs.Agree.{offered}
+use Rattle.check_laws.specs.event_settling.Settling.{Fits}
+use Rattle.check_laws.specs.event_settling.Ending.{AllEnd, Held, IsReached, PowerUp, Stepped}
+use Rattle.sign_cycles.specs.Agree.{after_offer}
 use Rattle.sign_cycles.specs.BringUp.{SetsInput}
 use Rattle.check_clean.specs.Ending.{FulfilledByRules, HasRuns, HasRunsByRules, SettledAreReached}
 use Rattle.check_clean.proofs.Promise.{promised}
@@ -39,7 +39,7 @@ module _ (d : Flat) where
   has_runs end s reached (step ∷ steps) set =
       let fit = fits step (All-head (All (IsSetting d)) step steps set) in
       let rest = (end s (map (λ (setting : Setting). (setting.input, setting.number)) step) reached fit).further [] tt in
-      let t : State = run d (offered s step) rest.events in
+      let t : State = run d (after_offer s step) rest.events in
       let others = has_runs end t (Stepped s t (map (λ (setting : Setting). (setting.input, setting.number)) step) rest.events reached fit rest.can refl rest.rest)
       steps (All-tail (All (IsSetting d)) step steps set) in
       (t ∷ others.0, (record { reaches = record { events = rest.events; can = rest.can; leads = refl }; rest = rest.rest }, others.1))

@@ -14,9 +14,10 @@ use Rattle.rtl_flat.specs.Process as part
 use Rattle.rtl_flat.specs.Signs.{Has, width_in}
 use Rattle.rtl_flat.specs.WellFormed.{IsWatched, IsWhole, has_edge}
 use Rattle.rtl_flat.proofs.Paths.{decided}
-use Rattle.event_ending.proofs.event_laws_proofs.Within.{may_read_outside, outside_inside, write_inside}
-use Rattle.event_ending.specs.event_laws.Steady.{AreLawful}
-use Rattle.net_model.specs.Control.{InCone}
+use Rattle.check_laws.proofs.event_laws_proofs.Within.{may_read_outside, outside_inside, write_inside}
+use Rattle.check_laws.specs.event_laws.Steady.{AreLawful}
+use Rattle.net_model.proofs.Gates.{clock_cone}
+use Rattle.net_model.specs.Control.{InClockCone, InCone}
 use Rattle.net_model.specs.Cycle.{Chain, Guard, IsChain, IsChained, Tests, opened}
 use Rattle.net_model.specs.Solution.{IsLasting}
 use Rattle.sign_cycles.specs.Formed.{IsConstant, IsFormed, TestsAlone}
@@ -320,16 +321,16 @@ module _ (d : Flat) (lawful : AreLawful d) (marked : AreMarked d) (none : HasNoF
             each_both IsReset (λ (guard : Guard). some (reads_bit i k) (body_flow (widths d) guard.branch) ≡ false) (λ guard. Unread (widths d) i k guard.test × (some (reads_bit i k) (body_flow (widths d) guard.branch) ≡ false))
             (λ guard reset quiet. (test_unread missing guard reset, quiet)) chain.resets resets (branches_unread k)
 
-  pub tests : (i k : ℕ) → InCone d i → ReadsOutside (body_flow (widths d) body) i k → items_list (widths d) events i k ≡ true
+  pub tests : (i k : ℕ) → InClockCone d i → ReadsOutside (body_flow (widths d) body) i k → items_list (widths d) events i k ≡ true
   tests i k cone outside =
       let within = outside_inside d.signals body (edge_body d lawful p events body is) i k outside in
-      among_events i cone (signal_there d.signals i k within) k within ((decided (body_flow (widths d) body) i k).reads.1 (may_read_outside (body_flow (widths d) body) i k outside))
+      among_events i (clock_cone d i cone) (signal_there d.signals i k within) k within ((decided (body_flow (widths d) body) i k).reads.1 (may_read_outside (body_flow (widths d) body) i k outside))
 
-  apart : (i k : ℕ) → ReadsOutside (body_flow (widths d) chain.part) i k → InCone d i → ⊥
+  apart : (i k : ℕ) → ReadsOutside (body_flow (widths d) chain.part) i k → InClockCone d i → ⊥
   apart i k outside cone =
       let lawful_part = (chain_lawful d.signals chain.resets chain.part body found.chained (edge_body d lawful p events body is)).1 in
       let within = outside_inside d.signals chain.part lawful_part i k outside in
-      true≢false (sym ((decided (body_flow (widths d) chain.part) i k).reads.1 (may_read_outside (body_flow (widths d) chain.part) i k outside)) ∙ part_unread i cone (signal_there d.signals i k within) k)
+      true≢false (sym ((decided (body_flow (widths d) chain.part) i k).reads.1 (may_read_outside (body_flow (widths d) chain.part) i k outside)) ∙ part_unread i (clock_cone d i cone) (signal_there d.signals i k within) k)
 
   -- ---- all of it
 

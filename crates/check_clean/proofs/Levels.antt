@@ -13,7 +13,7 @@ use Rattle.rtl_flat.specs.Process.{Doing, Assign, Comb, Edge', Task}
 use Rattle.rtl_flat.specs.Signs.{width_in}
 use Rattle.rtl_flat.proofs.Paths.{decided}
 use Rattle.event_model.specs.Queue.{doing_of}
-use Rattle.event_ending.specs.event_laws.Steady.{AreLawful}
+use Rattle.check_laws.specs.event_laws.Steady.{AreLawful}
 use Rattle.rtl_flat.specs.Flats.{Flat, widths}
 use Rattle.check_all.specs.check_assign.Assigned.{AreCombLoop}
 use Rattle.check_laws.proofs.Decisions.{Decided, both, by_test, either_of, neither, some_of, told, told_from, told_not, told_true}

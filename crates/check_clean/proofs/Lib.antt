@@ -19,8 +19,7 @@ mod Runs
 pub use Rattle.check_all.proofs as check_all_proofs
 pub use Rattle.check_all.proofs.check_found_proofs
 pub use Rattle.check_laws.proofs as check_laws_proofs
-pub use Rattle.event_ending.proofs.event_laws_proofs
+pub use Rattle.check_laws.proofs.event_laws_proofs
 pub use Rattle.check_laws.proofs.net_laws_proofs
 pub use Rattle.sign_cycles.proofs.net_rest_proofs
 pub use Rattle.sign_cycles.proofs as sign_cycles_proofs
-pub use Rattle.sign_cycles.proofs.sign_rounds_proofs

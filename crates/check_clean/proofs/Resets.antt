@@ -12,7 +12,7 @@ use Rattle.rtl_flat.specs.Process.{Piece, Action, Set, If, Case, Block, Actions,
 use Rattle.rtl_flat.specs.Process as part
 use Rattle.rtl_flat.proofs.Flows.{every_action, some_action}
 use Rattle.rtl_flat.proofs.Paths.{decided}
-use Rattle.event_ending.proofs.event_laws_proofs.Within.{may_read_outside}
+use Rattle.check_laws.proofs.event_laws_proofs.Within.{may_read_outside}
 use Rattle.net_model.specs.Solution.{IsLasting}
 use Rattle.sign_cycles.specs.Formed.{IsConstant}
 use Rattle.rtl_rule.specs.Parts.{all_in, all_of, indices, is_named, is_some_name, named, nodes, reads_signal}

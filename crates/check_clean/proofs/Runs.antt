@@ -3,10 +3,10 @@ use Rattle.std.proofs.Common.{ℕ, [], Option, Some, subst, sym, refl}
 use Rattle.std.specs.Prelude.{◌≡◌, List}
 use Rattle.rtl_flat.specs.Process.{Watched, Actions, Comb}
 use Rattle.event_model.specs.Queue.{doing_at, offer}
-use Rattle.event_ending.specs.event_settling.Conditions.{AllSelectIn}
-use Rattle.event_ending.proofs.event_settling_proofs.Conditions.{rules_settle}
-use Rattle.event_ending.proofs.Ends as every
-use Rattle.net_model.specs.Control.{InCone}
+use Rattle.check_laws.specs.event_settling.Conditions.{AllSelectIn}
+use Rattle.check_laws.proofs.event_settling_proofs.Conditions.{rules_settle}
+use Rattle.check_laws.proofs.event_settling_proofs.Ends as every
+use Rattle.net_model.specs.Control.{InClockCone}
 use Rattle.rtl_flat.specs.Flats.{Parts, widths}
 use Rattle.check_all.specs.check_xprop.Unknowns.{AreSelectRange}
 use Rattle.check_laws.specs.Cases.{Does, IsBodyOf}
@@ -46,5 +46,5 @@ ends d lawful findings are is s step reached fits =
     let loops = (no_finding d findings are is).a6 in
     let level = levels d.flat lawful loops in
     let kept = settles d lawful findings are is level (are_levels d.flat lawful loops) in
-    every.ends d.flat lawful level (InCone d.flat) (rules_settle d.flat lawful level kept) (offer s step)
+    every.ends d.flat lawful level (InClockCone d.flat) (rules_settle d.flat lawful level kept) (offer s step)
     (every.steps_start d.flat lawful s step reached fits)

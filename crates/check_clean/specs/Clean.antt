@@ -1,9 +1,9 @@
 -- What a design without a finding of the first grade is.
 use Rattle.std.specs.Prelude.{ℕ, List}
-use Rattle.event_ending.specs.event_laws.Steady.{AreLawful}
+use Rattle.check_laws.specs.event_laws.Steady.{AreLawful}
 use Rattle.net_model.specs.Cycle.{AreChains, Chain}
 use Rattle.sign_cycles.specs.Formed.{IsCleanClocked}
-use Rattle.sign_cycles.specs.sign_rounds.BringUp.{CanAllWake}
+use Rattle.sign_cycles.specs.PowerUp.{CanAllWake}
 use Rattle.rtl_rule.specs.declared.finding.Finding.{Finding}
 use Rattle.rtl_flat.specs.Flats.{Flat, Parts}
 use Rattle.check_all.specs.Findings.{AreAllFindings, IsClean}

@@ -5,8 +5,8 @@ use Rattle.std.specs.List.{All}
 use Rattle.event_model.specs.Queue.{State, power_up}
 use Rattle.rtl_flat.specs.Flats.{Flat, Parts}
 use Rattle.event_model.specs.Writes.{Values}
-use Rattle.event_ending.specs.event_laws.Steady.{AreLawful}
-use Rattle.event_ending.specs.Ending.{IsReached, RunsEnd}
+use Rattle.check_laws.specs.event_laws.Steady.{AreLawful}
+use Rattle.check_laws.specs.event_settling.Ending.{IsReached, RunsEnd}
 use Rattle.net_model.specs.declared.fill.Fill.{Fill}
 use Rattle.net_model.specs.Cycle.{AreChains, Chain, Setting, Step, settings}
 use Rattle.net_model.specs.Lawful.{AreLawfulSteps, IsSetting}

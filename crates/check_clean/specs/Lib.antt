@@ -12,9 +12,8 @@ pub use Rattle.check_laws.specs.check_clocks
 pub use Rattle.check_laws.specs as check_laws
 pub use Rattle.check_all.specs.check_sense
 pub use Rattle.check_all.specs.check_xprop
-pub use Rattle.event_ending.specs as event_ending
-pub use Rattle.event_ending.specs.event_laws
+pub use Rattle.check_laws.specs.event_settling
+pub use Rattle.check_laws.specs.event_laws
 pub use Rattle.check_laws.specs.net_laws
 pub use Rattle.sign_cycles.specs.net_rest
 pub use Rattle.sign_cycles.specs as sign_cycles
-pub use Rattle.sign_cycles.specs.sign_rounds

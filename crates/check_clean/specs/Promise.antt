@@ -3,9 +3,9 @@
 use Rattle.std.specs.Prelude.{◌<◌, ℕ, List, length, Option}
 use Rattle.rtl_flat.specs.Levels.{IsLevel}
 use Rattle.rtl_flat.specs.Flats.{Flat, Parts}
-use Rattle.event_ending.specs.event_laws.Steady.{AreLawful}
-use Rattle.event_ending.specs.event_settling.Conditions.{AreRulesKept}
-use Rattle.event_ending.specs.Ending.{RunsEnd}
+use Rattle.check_laws.specs.event_laws.Steady.{AreLawful}
+use Rattle.check_laws.specs.event_settling.Conditions.{AreRulesKept}
+use Rattle.check_laws.specs.event_settling.Ending.{RunsEnd}
 use Rattle.net_model.specs.declared.fill.Fill.{Fill}
 use Rattle.net_model.specs.Cycle.{AreChains, Chain}
 use Rattle.sign_cycles.specs.Agree.{Agree}

@@ -17,6 +17,7 @@ use Rattle.rtl_flat.specs.declared.act.Process.{Process}
 use Rattle.rtl_flat.specs.Process.{Watched, Doing, Assign, Comb, Edge', Task, doing, task}
 use Rattle.rtl_flat.specs.WellFormed.{has_edge}
 use Rattle.event_model.specs.Queue.{doing_at, doing_of, is_input_kind, is_input_of}
+use Rattle.net_model.proofs.Gates.{clock_control, clock_or_reset, control_input}
 use Rattle.net_model.specs.Control.{InCone, IsControl, IsEdgeSignal, IsPassedOn, IsReached, Itself, Through, waits_for}
 use Rattle.rtl_flat.specs.Flats.{Flat, flat}
 use Rattle.check_chains.proofs.check_found_proofs.Sites.{task_count}
@@ -287,7 +288,7 @@ module _ (d : Flat) where
     where
       less : (s : ℕ) → IsConed d (n + 1) s → IsConed d n s
       less s is = elim (cases_eq is.control n) [
-        | inl same ↦ absurd (both_ways (is_top (slice_get d.signals n)) other (input_of (slice_get d.signals n) ∙ ap (λ c. is_input_of (slice_get d.signals c)) (sym same) ∙ is.is_control.input))
+        | inl same ↦ absurd (both_ways (is_top (slice_get d.signals n)) other (input_of (slice_get d.signals n) ∙ ap (λ c. is_input_of (slice_get d.signals c)) (sym same) ∙ control_input d is.control is.is_control))
         | inr apart ↦ let under = is.below in record { control = is.control; below = omega (arith, under, apart); is_control = is.is_control; reached = is.reached }
       ]
 
@@ -298,12 +299,12 @@ module _ (d : Flat) where
       where
         control : ReachesMarked rows edges n → IsControl d n
         control it =
-            record {
+            clock_control d n (record {
               input = sym (input_of (slice_get d.signals n)) ∙ top;
               signal = it.signal;
               reached = reached_from d links rows are all n it.signal it.reached;
               edges = ((marked.each it.signal).0 it.marked).1;
-            }
+            })
 
         to : (s : ℕ) → (get_or old s false ≡ true) ⊎ ((s < length old) × Reaches rows n s × ReachesMarked rows edges n) → (s < length d.signals) × IsConed d (n + 1) s
         to s (inl h) = let is = (before.each s).0 h in (is.0, more n s is.1)
@@ -313,7 +314,8 @@ module _ (d : Flat) where
         )
 
         reaches : (c : ℕ) → c ≡ n → IsControl d c → ReachesMarked rows edges n
-        reaches c same is =
+        reaches c same control' =
+            let is = clock_or_reset d c control' in
             let inside = input_below d.signals c is.input in
             record {
               signal = is.signal;
@@ -351,7 +353,7 @@ module _ (d : Flat) where
 
       from : InCone d s → slice_get marks s ≡ Some true
       from is =
-          let inside = input_below d.signals is.control is.is_control.input in
+          let inside = input_below d.signals is.control (control_input d is.control is.is_control) in
           marked_there marks s ((are.each s).1 (
             reached_below is.control s inside is.reached,
             record { control = is.control; below = inside; is_control = is.is_control; reached = is.reached },

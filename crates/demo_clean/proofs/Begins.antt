@@ -17,8 +17,8 @@ use Rattle.net_model.specs.Solution.{IsLasting, IsSolution}
 use Rattle.check_clean.specs.net_rest.Rest.{AreAlike, AreGiven, IsIdle, IsSolvable, numbers_of}
 use Rattle.check_clean.proofs.net_rest_proofs.Numbers.{are_numbers}
 use Rattle.check_clean.proofs.net_rest_proofs.Rest.{known_at_rest, register_inside, solution_rests, solved}
-use Rattle.check_clean.specs.sign_rounds.Round.{IsSettled}
-use Rattle.check_clean.proofs.sign_rounds_proofs.Settled.{input_lasts}
+use Rattle.check_clean.specs.sign_cycles.Round.{IsSettled}
+use Rattle.check_clean.proofs.sign_cycles_proofs.Settled.{input_lasts}
 use Rattle.check_clean.specs.sign_cycles.Agree.{AreReset, AreSame, IsSettledKnown}
 use Rattle.check_clean.specs.sign_cycles.Formed.{IsCleanClocked}
 use Rattle.check_clean.proofs.sign_cycles_proofs.Chains.{strongest_same}

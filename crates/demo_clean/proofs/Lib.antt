@@ -8,9 +8,9 @@ pub mod Unshown
 -- passed on to the crates above
 pub use Rattle.demo_replay.proofs.chain_laws_proofs
 pub use Rattle.check_clean.proofs.event_laws_proofs
-pub use Rattle.demo_replay.proofs.net_cycles_proofs
 pub use Rattle.check_clean.proofs.net_laws_proofs
 pub use Rattle.demo_replay.proofs.net_list_proofs
 pub use Rattle.check_clean.proofs.net_rest_proofs
+pub use Rattle.demo_replay.proofs.net_settle_proofs
 pub use Rattle.demo_replay.proofs.net_solve_proofs
 pub use Rattle.demo_replay.proofs.net_start_proofs

@@ -10,13 +10,14 @@ use Rattle.event_model.specs.Queue.{IsAtRest, State, is_input, offer}
 use Rattle.rtl_flat.specs.Flats.{Flat}
 use Rattle.event_model.specs.Writes.{Values, put}
 use Rattle.event_model.proofs.Runs.{policy_reaches, policy_ready, policy_rests}
+use Rattle.net_model.proofs.Gates.{control_input}
 use Rattle.net_model.specs.declared.fill.Fill.{Fill}
 use Rattle.net_model.specs.Cycle as cycle
 use Rattle.net_model.specs.Cycle.{Chain, Data, IsCycle, Step, Turn, settings}
 use Rattle.net_model.specs.Lawful.{IsLawfulStep}
 use Rattle.net_model.specs.Numbers.{AreNumbers}
-use Rattle.check_clean.proofs.sign_rounds_proofs.Settled.{input_lasts}
-use Rattle.check_clean.specs.sign_cycles.Agree.{AreSame, IsNext, offered}
+use Rattle.check_clean.proofs.sign_cycles_proofs.Settled.{input_lasts}
+use Rattle.check_clean.specs.sign_cycles.Agree.{AreSame, IsNext, after_offer}
 use Rattle.check_clean.specs.sign_cycles.Formed.{IsCleanClocked}
 use Rattle.check_clean.proofs.sign_cycles_proofs.Alone.{steps_alone}
 use Rattle.check_clean.proofs.sign_cycles_proofs.Steps.{steps_follow}
@@ -29,12 +30,12 @@ offer_delayed s [] = refl
 offer_delayed s ((i, bits) ∷ others) = offer_delayed (record s { offered = put s.offered i (Some bits) }) others
 
 -- where a policy's run finds nothing more to take, a step came to rest
-pub next : (d : Flat) (policy : Policy) (order : ℕ → Option ℕ) (s t : State) (all : List cycle.Setting) (spent : ℕ) → IsAtRest d s → PolicyRun policy order d (offered s all) spent t → IsDone policy order d t → IsNext d s all t
+pub next : (d : Flat) (policy : Policy) (order : ℕ → Option ℕ) (s t : State) (all : List cycle.Setting) (spent : ℕ) → IsAtRest d s → PolicyRun policy order d (after_offer s all) spent t → IsDone policy order d t → IsNext d s all t
 next d policy order s t all spent rest run done =
     record {
-      reaches = policy_reaches policy order d (offered s all) t spent run;
+      reaches = policy_reaches policy order d (after_offer s all) t spent run;
       rest = policy_rests policy order d t
-          (policy_ready policy order d (offered s all) t spent (λ none. offer_delayed s (map (λ (setting : cycle.Setting). (setting.input, setting.number)) all) ∙ rest.no_delayed) run) done;
+          (policy_ready policy order d (after_offer s all) t spent (λ none. offer_delayed s (map (λ (setting : cycle.Setting). (setting.input, setting.number)) all) ∙ rest.no_delayed) run) done;
     }
 
 -- ---- one step
@@ -52,7 +53,7 @@ module _ (d : Flat) (chains : ℕ → Chain) (level : ℕ → ℕ) (clean : IsCl
       record {
         control = lawful.control;
         can_be = lawful.can_be;
-        other = λ e. lawful.other (e ∙ input_same n m are are' same setting.input lawful.control.input);
+        other = λ e. lawful.other (e ∙ input_same n m are are' same setting.input (control_input d setting.input lawful.control));
       }
 
   pub goes_on :

@@ -19,7 +19,7 @@ use Rattle.net_model.specs.Lawful.{IsLawfulStep}
 use Rattle.net_model.specs.Solution.{IsLasting}
 use Rattle.demo_replay.specs.net_list.Chosen.{chains_of}
 use Rattle.demo_replay.specs.netlist_eval.Steps.{step_view}
-use Rattle.check_clean.specs.sign_cycles.Agree.{offered}
+use Rattle.check_clean.specs.sign_cycles.Agree.{after_offer}
 use Rattle.check_clean.specs.sign_cycles.Formed.{IsCleanClocked}
 use Rattle.check_clean.specs.check_laws.Designs.{AreTemporariesDecided}
 use Rattle.demo_told.specs.Same.{are_same}
@@ -111,7 +111,7 @@ module _ (design : Design) (level : ℕ → ℕ) (clean : IsCleanClocked (flat d
       IsKept (moments ++ record { simulated = t.value; synthesised = m } ∷ []) t m
   stepped moments s t n m order settings kept rests cycles lawful =
       let same = offers d settings cycles.step cycles.is_step in
-      let run : PolicyRun (policy_of trial) order d (offered s (cycle.settings (step_view cycles.step))) rests.spent t = subst (λ (all : List (ℕ × List Bit)). PolicyRun (policy_of trial) order d (offer s all) rests.spent t) (sym same) rests.run in
+      let run : PolicyRun (policy_of trial) order d (after_offer s (cycle.settings (step_view cycles.step))) rests.spent t = subst (λ (all : List (ℕ × List Bit)). PolicyRun (policy_of trial) order d (offer s all) rests.spent t) (sym same) rests.run in
       let there = next d (policy_of trial) order s t (cycle.settings (step_view cycles.step)) rests.spent kept.showing.settled.rest run rests.done in
       let showing = goes_on d chains level clean f s t n m kept.showing (step_view cycles.step) lawful there cycles.cycle in
       record {

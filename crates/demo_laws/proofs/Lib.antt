@@ -12,3 +12,5 @@ pub mod Replays
 pub mod Stable
 pub mod Sure
 pub mod Trials
+-- passed on to the crates above
+pub use Rattle.demo_clean.proofs.event_laws_proofs

@@ -25,7 +25,7 @@ use Rattle.demo_clean.proofs.event_laws_proofs.Lengths.{have_written}
 use Rattle.demo_clean.proofs.event_laws_proofs.Targets.{IsOver, same_count}
 use Rattle.demo_clean.proofs.event_laws_proofs.Written.{written_in, written_out}
 use Rattle.net_model.specs.declared.fill.Fill.{Fill}
-use Rattle.net_model.specs.Block.{Maps, act, act_arms, act_first, act_other, acts, arm_bits, arms_late, arms_write, begun, bit_after, block_bit, digit_writes, filled_case, fresh, item_meets, joined_arms, some_meets, with_bits, write_each, write_next, write_now}
+use Rattle.net_model.specs.Block.{Maps, act, act_arms, act_first, act_other, acts, arm_bits, arms_late, arms_write, first_maps, bit_after, block_bit, digit_writes, filled_case, fresh, item_meets, joined_arms, some_meets, with_bits, write_each, write_next, write_now}
 use Rattle.net_model.specs.Numbers.{AreNumbers, bit, digits, fill_bit}
 use Rattle.demo_clean.proofs.net_laws_proofs.Depends.{with_wide, writes_within}
 use Rattle.demo_clean.proofs.net_laws_proofs.Digits.{digits_size}
@@ -546,7 +546,7 @@ module _ (d : Flat) (f : Fill) (P : ℕ → ℕ → Type 0) where
       Reads P (body_flow ws body) → Gives may_write_late P (body_flow ws body) → (i k : ℕ) → P i k →
       block_bit ws f n body i k ≡ block_bit ws f m body i k
   same_bit n m are wide same body lawful read late i k p =
-      let start : IsAlike d P P Never (begun n) (begun m)
+      let start : IsAlike d P P Never (first_maps n) (first_maps m)
       = record { wide = are.wide; wide' = wide; now = same; new = λ i k none. absurd none; done = λ i k none. absurd none; next = λ i k. refl; wrote = λ i k. refl; late = λ i k. refl; few = λ i k none. absurd (false≢true none) } in
-      same_after d P P (Or Never (SureOf (body_flow ws body))) (acts ws f (begun n) body) (acts ws f (begun m) body) i k (inl p)
-      (body_alike P Never (λ i k p. p) (begun n) (begun m) start (record { now = are; next = λ i k b inside e. absurd (cc) }) body lawful (λ i k h. inl (read i k h)) late)
+      same_after d P P (Or Never (SureOf (body_flow ws body))) (acts ws f (first_maps n) body) (acts ws f (first_maps m) body) i k (inl p)
+      (body_alike P Never (λ i k p. p) (first_maps n) (first_maps m) start (record { now = are; next = λ i k b inside e. absurd (cc) }) body lawful (λ i k h. inl (read i k h)) late)

@@ -12,8 +12,8 @@ use Rattle.event_model.specs.Policies.{PolicyRun}
 use Rattle.event_model.specs.Queue.{State, offer, settled_at}
 use Rattle.rtl_flat.specs.Flats.{Flat}
 use Rattle.event_model.specs.Writes.{Values}
-use Rattle.event_once.specs.Laws.{AgreeBelow}
-use Rattle.event_once.proofs.Laws.{end_or_stop, one_end, one_level}
+use Rattle.demo_clean.specs.event_laws.Once.{AgreeBelow}
+use Rattle.demo_clean.proofs.event_laws_proofs.Once.{end_or_stop, one_end, one_level}
 use Rattle.demo_clean.specs.event_queue.Offers.{set_of}
 use Rattle.net_model.specs.Cycle as cycle
 use Rattle.net_model.specs.Solution.{IsLasting}

@@ -12,8 +12,8 @@ pub mod Showing
 pub mod Skipping
 pub mod Starting
 -- passed on to the crates above
-pub use Rattle.infer_latches.proofs.chain_laws_proofs
-pub use Rattle.netlist_eval.proofs.net_cycles_proofs
-pub use Rattle.infer_latches.proofs.net_list_proofs
+pub use Rattle.netlist_eval.proofs.chain_laws_proofs
+pub use Rattle.netlist_eval.proofs.net_list_proofs
+pub use Rattle.netlist_eval.proofs.net_settle_proofs
 pub use Rattle.netlist_eval.proofs.net_solve_proofs
 pub use Rattle.netlist_eval.proofs.net_start_proofs

@@ -13,8 +13,8 @@ use Rattle.event_queue.specs.event_write.QueueState.{design_of as design_in}
 use Rattle.event_queue.specs.declared.sim.EventSim.{EventSim}
 use Rattle.event_queue.specs.Offers.{set_of}
 use Rattle.event_queue.specs.Sims.{IsSame, Runs, flat_of, left_of, level_of, state_of}
-use Rattle.infer_latches.specs.net_list.declared.netlist.Netlist.{Netlist}
-use Rattle.infer_latches.specs.net_list.Chosen.{chains_of}
+use Rattle.netlist_eval.specs.net_list.declared.netlist.Netlist.{Netlist}
+use Rattle.netlist_eval.specs.net_list.Chosen.{chains_of}
 use Rattle.net_model.specs.declared.fill.Fill.{Fill}
 use Rattle.net_model.specs.Cycle.{IsCycle}
 use Rattle.net_model.specs.Numbers.{AreNumbers}

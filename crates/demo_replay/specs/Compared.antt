@@ -9,8 +9,8 @@ use Rattle.rtl_rule.specs.declared.finding.Finding.{Finding}
 use Rattle.rtl_rule.specs.declared.rule.Rule.{Rule}
 use Rattle.rtl_rule.specs.declared.rule.Rule.TheVariants.{NeverWakes}
 use Rattle.rtl_flat.specs.Flats.{Flat}
-use Rattle.infer_latches.specs.check_assign.Assigned.{is_clocked}
-use Rattle.infer_latches.specs.check_chains.Chains.{IsRegisterOf}
+use Rattle.netlist_eval.specs.check_assign.Assigned.{is_clocked}
+use Rattle.netlist_eval.specs.check_chains.Chains.{IsRegisterOf}
 
 -- a finding on a list that never wakes its process: nothing but power-up shows it
 abbrev pub is_unwoken : Rule → Bool

@@ -7,7 +7,7 @@ pub mod Runs
 pub mod Tables
 -- passed on to the crates above
 pub use Rattle.event_queue.specs as event_queue
-pub use Rattle.infer_latches.specs.net_list
+pub use Rattle.netlist_eval.specs.net_list
 pub use Rattle.netlist_eval.specs.net_order
 pub use Rattle.netlist_eval.specs.net_settle
 pub use Rattle.netlist_eval.specs.net_solve

@@ -15,7 +15,7 @@ use Rattle.event_queue.specs.Offers.{set_of}
 use Rattle.net_model.specs.Cycle.{Chain, IsCycle}
 use Rattle.net_model.specs.Solution.{IsLasting}
 use Rattle.net_model.specs.declared.fill.Fill.{Fill}
-use Rattle.infer_latches.specs.net_list.Chosen.{chains_of}
+use Rattle.netlist_eval.specs.net_list.Chosen.{chains_of}
 use Rattle.netlist_eval.specs.declared.step.Step.{Step}
 use Rattle.netlist_eval.specs.Steps.{IsBegun, IsStepOf, step_view}
 use Rattle.demo_trials.specs.Steps.{Input, step_of}

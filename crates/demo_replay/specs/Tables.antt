@@ -12,13 +12,13 @@ use Rattle.rtl_flat.specs.Process.{Task, task}
 use Rattle.rtl_flat.specs.Flats.{flat, Flat, widths}
 use Rattle.net_model.specs.declared.fill.Fill.{Fill}
 use Rattle.net_model.specs.declared.fill.Fill.TheVariants as fill
-use Rattle.infer_latches.specs.net_list.declared.netlist.Netlist.{Netlist}
-use Rattle.infer_latches.specs.net_list.Faults.{AreAlone, AreFormed}
+use Rattle.netlist_eval.specs.net_list.declared.netlist.Netlist.{Netlist}
+use Rattle.netlist_eval.specs.net_list.Faults.{AreAlone, AreFormed}
 use Rattle.netlist_eval.specs.net_start.Stored.{places}
 use Rattle.netlist_eval.specs.Basis.{IsBasisOf}
 use Rattle.rtl_rule.specs.declared.finding.Finding.{Finding}
 use Rattle.rtl_rule.specs.Parts.{has_some, written}
-use Rattle.infer_latches.specs.check_assign.Assigned.{is_clocked}
+use Rattle.netlist_eval.specs.check_assign.Assigned.{is_clocked}
 use Rattle.demo_replay.specs.declared.compare.Difference.{Difference}
 use Rattle.demo_told.specs.declared.demo.Demo.{Demo}
 use Rattle.demo_told.specs.declared.demo.Shown.{Shown as Values}

@@ -7,9 +7,9 @@ ghost use Rattle.demo_replay.specs.Tables.{AreClocked, AreClockedBelow, MarksWri
 
 use crate::setup::{Setup, is_marked};
 use demo_told::Shown;
-use infer_latches::check_found::sets::written;
-use infer_latches::net_list::clocked::waits;
 use netlist_eval::check_clocks::tops::mark_all;
+use netlist_eval::net_list::check_found::sets::written;
+use netlist_eval::net_list::clocked::waits;
 use rtl_flat::act::ProcId;
 use rtl_flat::design::Design;
 use rtl_flat::expr::SigId;

@@ -2,19 +2,19 @@
 
 ghost use Rattle.std.specs.Prelude.{◌≡◌, IfOk, IfSome, MatchOption};
 ghost use Rattle.rtl_flat.specs.Flats.{flat};
-ghost use Rattle.infer_latches.specs.net_list.Faults.{AreAlone, AreFormed};
+ghost use Rattle.netlist_eval.specs.net_list.Faults.{AreAlone, AreFormed};
 ghost use Rattle.netlist_eval.specs.Basis.{IsBasisOf};
 ghost use Rattle.demo_replay.specs.Setups.{LacksNetlist};
 ghost use Rattle.demo_replay.specs.Tables.{IsNetlistOf, is_marked};
 
 use event_queue::rtl_scan::{levels, temporaries};
-use infer_latches::blocks;
-use infer_latches::net_list::fault::InferFault;
-use infer_latches::net_list::netlist::Netlist;
 use net_model::fill::Fill;
 use netlist_eval::basis::Basis;
 use netlist_eval::fault::NetFault;
 use netlist_eval::infer_regs::registers;
+use netlist_eval::net_list::alone::blocks;
+use netlist_eval::net_list::fault::InferFault;
+use netlist_eval::net_list::netlist::Netlist;
 use rtl_flat::design::Design;
 use rtl_flat::expr::SigId;
 use rtl_tree::memory::Memory;

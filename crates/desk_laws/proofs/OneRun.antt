@@ -9,8 +9,8 @@ use Rattle.rtl_flat.specs.Flats.{Flat}
 use Rattle.desk_steps.specs.Steps.{Setting, Steps}
 use Rattle.desk_runs.specs.Lines.{rested_line}
 use Rattle.desk_runs.specs.Runs.{Ended, IsRun, IsSimulated, Rested, Shown, Stopped, behind, offered}
-use Rattle.event_once.proofs.OneLevel.{level_once, same_choice}
-use Rattle.event_once.proofs.Runs.{moved, one_rest, rests_or_stops}
+use Rattle.demo_laws.proofs.event_laws_proofs.OneLevel.{level_once, same_choice}
+use Rattle.demo_laws.proofs.event_laws_proofs.OneRun.{moved, one_rest, rests_or_stops}
 
 -- ---- by other levels that agree
 

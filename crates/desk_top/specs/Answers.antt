@@ -7,7 +7,7 @@ use Rattle.rtl_tree.specs.TreeModule.{Circuit}
 use Rattle.rtl_flat.specs.Flats.{DesignParts}
 use Rattle.desk_build.specs.rtl_elab.Designs.{library_of}
 use Rattle.desk_build.specs.rtl_elab.Elaborated.{elaborated}
-use Rattle.desk_verdict.specs.event_ending.Ending.{RunsEnd}
+use Rattle.desk_verdict.specs.event_settling.Ending.{RunsEnd}
 use Rattle.net_model.specs.declared.fill.Fill.{Fill}
 use Rattle.net_model.specs.Cycle.{AreChains, Chain}
 use Rattle.desk_verdict.specs.sign_cycles.Agree.{Agree}

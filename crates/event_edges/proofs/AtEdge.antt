@@ -16,7 +16,7 @@ use Rattle.rtl_flat.specs.Flats.{Flat, widths}
 use Rattle.event_model.specs.Traces.{FollowsPath, Same}
 use Rattle.event_model.specs.Writes.{Values}
 use Rattle.event_runs.specs.event_laws.Steady.{HaveWidths}
-use Rattle.net_model.specs.Control.{InCone, IsReached}
+use Rattle.net_model.specs.Control.{InClockCone, IsReached}
 use Rattle.net_model.specs.Numbers.{bit}
 use Rattle.net_model.specs.Solution.{IsLasting}
 use Rattle.event_runs.proofs.event_laws_proofs.Laws.{depends, outside_inside}
@@ -57,9 +57,9 @@ module _ (d : Flat) (sync : IsSynchronous d) (c : ℕ) (a b : Bit) where
     has_turned x item reached =
         let came = find (item_fires old s.value) list (h.fired p list body is ∙ or_left (s.woken p) (ran p) woken) in
         let first : IsItem d p list body came.item = record { does = is; place = came.place; there = came.there } in
-        elim (item_reached d sync p list body came.item first c turn.control.input) [
+        elim (item_reached d sync p list body came.item first c turn.clock.input) [
           | inl r ↦
-              let same = sync.once p list body came.item x first item c turn.control.input r reached in
+              let same = sync.once p list body came.item x first item c turn.clock.input r reached in
               elim (h.behind came.item.signal r) [
                 | inl e ↦
                     absurd (false≢true (sym (fires_between old s.value came.item a a (turn.before came.item.signal r) e ∙ happens_same came.item.edge a) ∙ came.passes))
@@ -79,7 +79,7 @@ module _ (d : Flat) (sync : IsSynchronous d) (c : ℕ) (a b : Bit) where
           let one : widths d i ≡ 1 = ap (widths d) same ∙ item_width d sync p list body x item in
           let first : k ≡ 0 = omega (arith, inside, one) in
           let at_first : Same new s.value x.signal 0 =
-          elim (item_reached d sync p list body x item c turn.control.input) [
+          elim (item_reached d sync p list body x item c turn.clock.input) [
             | inl r ↦ turned x.signal r ∙ sym (ap (λ l. get_or l 0 X) (has_turned x item r))
             | inr apart ↦
                 others x item apart ∙ sym (h.kept x.signal 0 apart (λ t. item_fixed d sync p list body x item t.of_process.variable))
@@ -88,7 +88,7 @@ module _ (d : Flat) (sync : IsSynchronous d) (c : ℕ) (a b : Bit) where
 
       apart : items_list (widths d) list i 0 ≡ false → IsReached d c i → ⊥
       apart none reached =
-          let one = listed_item (widths d) list i k (sync.tests p list body is i k (record { control = c; is_control = turn.control; reached = reached }) reads) in
+          let one = listed_item (widths d) list i k (sync.tests p list body is i k (record { clock = c; is_clock = turn.clock; reached = reached }) reads) in
           let item : IsItem d p list body one.item = record { does = is; place = one.place; there = one.there } in
           false≢true (sym none
           ∙ items_at (widths d) list one.place one.item i 0 one.there
@@ -114,7 +114,7 @@ module _ (d : Flat) (sync : IsSynchronous d) (c : ℕ) (a b : Bit) where
       behind =
           subst (IsQuietRun d parts.next) parts.leads (quiet_run d sync parts.next parts.events parts.order parts.quiet parts.can)
 
-      pub cone_same : (i k : ℕ) → InCone d i → Same t.value parts.last.value i k
+      pub cone_same : (i k : ℕ) → InClockCone d i → Same t.value parts.last.value i k
       cone_same i k cone =
           behind.cone i k cone ∙ ap (λ (v : Values). get_or (v i) k X) parts.value
 
@@ -123,7 +123,7 @@ module _ (d : Flat) (sync : IsSynchronous d) (c : ℕ) (a b : Bit) where
 
       pub turned : (i : ℕ) → IsReached d c i → bit t.value i 0 ≡ b
       turned i reached =
-          cone_same i 0 (record { control = c; is_control = start.control; reached = reached })
+          cone_same i 0 (record { clock = c; is_clock = start.clock; reached = reached })
           ∙ ap (λ l. get_or l 0 X) (all_turned d sync c a b s0.value (is_turn d sync c a b s0 start) parts.ran parts.last parts.going parts.still i reached)
 
       module _ (p : ℕ) (list : List Watched) (body : Actions) (is : doing_at d p ≡ Some (Edge' list body)) where
@@ -192,7 +192,7 @@ module _ (d : Flat) (sync : IsSynchronous d) (c : ℕ) (a b : Bit) where
             (parts : IsSplit d sync c a b s0.value (is_turn d sync c a b s0 start) Asked t) → IsAtRest d t → IsLasting d i →
             bit t.value i k ≡ (if fires s0.value t.value list then made (bit s0.value i k) else bit s0.value i k)
         comes parts rest lasting =
-            let before = parts.going.turning.kept i k (λ reached. reached_apart d sync c start.control.input i reached (of_body d sync p list body is i k may)) (λ m. lasting (record { process = m.process; of_process = m.of_process })) in
+            let before = parts.going.turning.kept i k (λ reached. reached_apart d sync c start.clock.input i reached (of_body d sync p list body is i k may)) (λ m. lasting (record { process = m.process; of_process = m.of_process })) in
             sym (due_rest t i k rest.no_active.updates rest.no_delayed)
             ∙ ap (λ u. due_bit u i k) (sym parts.leads)
             ∙ due_run d sync p list body is i k may parts.next parts.events parts.order parts.quiet parts.can
@@ -222,7 +222,7 @@ module _ (d : Flat) (sync : IsSynchronous d) (c : ℕ) (a b : Bit) where
             (turned s start t (λ ran u. Unit {0}) parts i reached);
         others = λ i k cone apart.
             cone_same s start t (λ ran u. Unit {0}) parts i k cone
-            ∙ parts.going.turning.kept i k apart (λ m. reached_apart d sync cone.control cone.is_control.input i cone.reached m.of_process.variable);
+            ∙ parts.going.turning.kept i k apart (λ m. reached_apart d sync cone.clock cone.is_clock.input i cone.reached m.of_process.variable);
       }
 
   pub at_edge :

@@ -19,7 +19,7 @@ use Rattle.rtl_flat.specs.WellFormed.{IsWatched, IsWhole}
 use Rattle.rtl_flat.proofs.Paths.{decided}
 use Rattle.event_model.specs.Queue.{doing_at, doing_of, is_input, is_input_of}
 use Rattle.rtl_flat.specs.Flats.{Flat, widths}
-use Rattle.net_model.specs.Control.{IsControl, IsPassedOn, IsReached, InCone, Itself, Through, waits_for, whole_of}
+use Rattle.net_model.specs.Control.{IsClockOrReset, IsPassedOn, IsReached, InClockCone, Itself, Through, waits_for, whole_of}
 use Rattle.event_runs.proofs.event_laws_proofs.Within.{may_read_outside}
 use Rattle.event_edges.specs.Synchronous.{IsItem, IsSynchronous}
 use Rattle.event_edges.proofs.Hearing.{passing}
@@ -207,9 +207,9 @@ module _ (d : Flat) (sync : IsSynchronous d) where
         let top = sync.clocks p events body item is in
         reached_apart top.top top.input item.signal top.reached
 
-    -- the input from which it comes is a control input
-    pub item_control : (c : ℕ) → IsTrue (is_input d c) → IsReached d c item.signal → IsControl d c
-    item_control c input reached =
+    -- the input from which it comes is a clock or a reset
+    pub item_clock : (c : ℕ) → IsTrue (is_input d c) → IsReached d c item.signal → IsClockOrReset d c
+    item_clock c input reached =
         record {
           input = input;
           signal = item.signal;
@@ -233,7 +233,7 @@ module _ (d : Flat) (sync : IsSynchronous d) where
           | inr other ↦ inr (λ reached. other (one_start top.top c item.signal item.signal top.input input refl top.reached reached))
         ]
 
-    pub item_in_cone : InCone d item.signal
+    pub item_in_cone : InClockCone d item.signal
     item_in_cone =
         let top = sync.clocks p events body item is in
-        record { control = top.top; is_control = item_control top.top top.input top.reached; reached = top.reached }
+        record { clock = top.top; is_clock = item_clock top.top top.input top.reached; reached = top.reached }

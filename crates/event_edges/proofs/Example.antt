@@ -29,14 +29,14 @@ use Rattle.rtl_flat.specs.Flats.{Flat, widths}
 use Rattle.event_model.specs.Writes.{Values}
 use Rattle.event_runs.specs.event_laws.Steady.{AreLawful, HaveWidths}
 use Rattle.event_runs.proofs.event_laws_proofs.Steady.{steady_settled}
-use Rattle.net_model.specs.Control.{InCone, IsFromTop, IsPassedOn, IsReached, Itself, Through, waits_for, whole_of}
+use Rattle.net_model.specs.Control.{InClockCone, IsFromTop, IsPassedOn, IsReached, Itself, Through, waits_for, whole_of}
 use Rattle.net_model.specs.Numbers.{bit}
 use Rattle.event_runs.proofs.event_laws_proofs.Laws.{outside_inside, writes_variables}
 use Rattle.event_runs.specs.Effects.{laters}
 use Rattle.event_runs.proofs.Laws.{late_none}
 use Rattle.event_edges.specs.Registers.{updates_bit}
 use Rattle.event_edges.specs.Reset.{IsReset}
-use Rattle.event_edges.specs.Synchronous.{IsItem, IsSynchronous, MayHear}
+use Rattle.event_edges.specs.Synchronous.{IsItem, IsSynchronous, MayHear, NoSignal}
 use Rattle.event_edges.specs.Turned.{IsEdgeStart}
 use Rattle.event_edges.proofs.Hearing.{find}
 use Rattle.event_edges.proofs.Ports.{one_bit}
@@ -155,13 +155,13 @@ here : (c i : ℕ) → IsReached design c i → c ≡ i
 here c _ Itself = refl
 here c _ (Through k j reached passed) = absurd (no_connection k j passed)
 
--- the control cone is clk and rst
-in_cone : (i : ℕ) → InCone design i → (i ≡ 0) ⊎ (i ≡ 1)
+-- the clock cone is clk and rst
+in_cone : (i : ℕ) → InClockCone design i → (i ≡ 0) ⊎ (i ≡ 1)
 in_cone i cone =
-    let control = cone.is_control in
-    let same : control.signal ≡ i = sym (here cone.control control.signal control.reached) ∙ here cone.control i cone.reached in
-    let one = find (waits_for control.signal) list (ap (list_any (waits_for control.signal)) (sym (own control.edges.process control.edges.events control.edges.body control.edges.does).0) ∙ control.edges.waits) in
-    let at : one.item.signal ≡ control.signal = eqb-true one.item.signal control.signal (and_parts (one.item.signal == control.signal) (has_edge one.item.edge) one.passes).0 in
+    let clock = cone.is_clock in
+    let same : clock.signal ≡ i = sym (here cone.clock clock.signal clock.reached) ∙ here cone.clock i cone.reached in
+    let one = find (waits_for clock.signal) list (ap (list_any (waits_for clock.signal)) (sym (own clock.edges.process clock.edges.events clock.edges.body clock.edges.does).0) ∙ clock.edges.waits) in
+    let at : one.item.signal ≡ clock.signal = eqb-true one.item.signal clock.signal (and_parts (one.item.signal == clock.signal) (has_edge one.item.edge) one.passes).0 in
     elim (items one.place one.item one.there) [
       | inl first ↦ inl (sym same ∙ sym at ∙ ap (λ (x : Watched). x.signal) first)
       | inr second ↦ inr (sym same ∙ sym at ∙ ap (λ (x : Watched). x.signal) second)
@@ -203,7 +203,7 @@ synchronous =
       edges = λ p events b x is. edged x (item p events b x is);
       clocks = λ p events b x is. from_top x.signal (signal_of x (item p events b x is));
       once = λ p events b x y is is' c input r r'. sym (here c x.signal r) ∙ here c y.signal r';
-      heard = λ p does is i k cone h. subst (λ x. MayHear design x i) (sym (one_process p does is).1) tt;
+      heard = λ p does is i k cone h. subst (λ x. MayHear NoSignal design x i) (sym (one_process p does is).1) tt;
       tests = λ p events b is i k cone h.
           let place = in_cone i cone in
           let outside : ReadsOutside (body_flow (widths design) body) i k = subst (λ x. ReadsOutside (body_flow (widths design) x) i k) (own p events b is).1 h in
@@ -279,7 +279,7 @@ start =
       };
       order = record { steady = steady_settled design before wide; late = late_none design (settled_at design before) refl refl };
       resolved = λ p target e is. let kinds : Assign target e ≡ Edge' list body = (one_process p (Assign target e) is).1 in absurd (cc (kinds));
-      control = record {
+      clock = record {
         input = refl;
         signal = 0;
         reached = Itself;

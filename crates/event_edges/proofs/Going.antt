@@ -55,10 +55,10 @@ module _ (d : Flat) (sync : IsSynchronous d) (c : ℕ) (a b : Bit) where
     pub is_turn : IsTurn d c a b s.value
     is_turn =
         record {
-          control = start.control;
+          clock = start.clock;
           other = start.other;
           wide = start.order.steady.widths;
-          before = follows d sync s start.order ((driven_resolved d sync.lawful).alone s start.resolved) start.rest.no_active c start.control a start.before;
+          before = follows d sync s start.order ((driven_resolved d sync.lawful).alone s start.resolved) start.rest.no_active c start.clock a start.before;
         }
 
     not_woken : (p : ℕ) → IsSome (doing_at d p) → s.woken p ≡ false
@@ -135,9 +135,9 @@ module _ (d : Flat) (sync : IsSynchronous d) (c : ℕ) (a b : Bit) where
     pub all_turned :
         (ran : ℕ → Bool) (s : State) → IsGoing d c a b old ran s → HasNoActive d s → (i : ℕ) → IsReached d c i → s.value i ≡ b ∷ []
     all_turned ran s going still =
-        follows d sync s going.order ((driven_resolved d sync.lawful).alone s going.shown) still c turn.control b
-        (ap (λ o. unwrap_or o (s.value c)) (sym (still.inputs c turn.control.input))
-        ∙ going.given.comes c turn.control.input ∙ put_at old c c (b ∷ []) refl)
+        follows d sync s going.order ((driven_resolved d sync.lawful).alone s going.shown) still c turn.clock b
+        (ap (λ o. unwrap_or o (s.value c)) (sym (still.inputs c turn.clock.input))
+        ∙ going.given.comes c turn.clock.input ∙ put_at old c c (b ∷ []) refl)
 
     -- where the turn ends, and the quiet run behind it
     pub record IsSplit (Inv : (ℕ → Bool) → State → Type 0) (t : State) : Type 0 where

@@ -9,7 +9,7 @@ use Rattle.rtl_flat.specs.Flats.{Flat}
 use Rattle.event_model.specs.Writes.{put}
 use Rattle.event_runs.specs.event_laws.Steady.{AreLawful}
 use Rattle.event_runs.proofs.event_laws_proofs.Lengths.{put_at, put_other}
-use Rattle.net_model.specs.Control.{InCone, IsControl, IsReached, Itself, Through}
+use Rattle.net_model.specs.Control.{InClockCone, IsClockOrReset, IsReached, Itself, Through}
 use Rattle.event_runs.specs.Nets.{offered_after}
 use Rattle.event_runs.specs.Plain.{ran_after, ran_by}
 use Rattle.event_runs.proofs.Laws.{offer_leaves}
@@ -80,21 +80,21 @@ set_at_rest d lawful p r active i k constant is s rest set now =
 -- ---- steps of data
 
 module _ (d : Flat) (sync : IsSynchronous d) where
-  -- an input of the cone is a control input
-  input_control : (i : ℕ) → IsTrue (is_input d i) → InCone d i → IsControl d i
-  input_control i input cone = by i cone.control cone.is_control cone.reached input
+  -- an input of the cone is a clock or a reset
+  input_clock : (i : ℕ) → IsTrue (is_input d i) → InClockCone d i → IsClockOrReset d i
+  input_clock i input cone = by i cone.clock cone.is_clock cone.reached input
     where
-      by : (i c : ℕ) → IsControl d c → IsReached d c i → IsTrue (is_input d i) → IsControl d i
-      by _ c control Itself input = control
-      by _ c control (Through k j reached passed) input = absurd (net_input d j (port_net d sync k j passed) input)
+      by : (i c : ℕ) → IsClockOrReset d c → IsReached d c i → IsTrue (is_input d i) → IsClockOrReset d i
+      by _ c clock Itself input = clock
+      by _ c clock (Through k j reached passed) input = absurd (net_input d j (port_net d sync k j passed) input)
 
   -- what is offered by a step of data to an input of the cone, nothing was offered to before
-  no_offer : (offered : ℕ → Option (List Bit)) (step : List (ℕ × List Bit)) → SetData d step → (i : ℕ) → IsTrue (is_input d i) → InCone d i → offered i ≡ None → offered_after offered step i ≡ None
+  no_offer : (offered : ℕ → Option (List Bit)) (step : List (ℕ × List Bit)) → SetData d step → (i : ℕ) → IsTrue (is_input d i) → InClockCone d i → offered i ≡ None → offered_after offered step i ≡ None
   no_offer offered [] set i input cone none = none
   no_offer offered ((j, bits) ∷ step) set i input cone none =
       no_offer (put offered j (Some bits)) step set.2 i input cone
       (elim (cases_eq i j) [
-        | inl same ↦ absurd (set.0.no_control (subst (IsControl d) same (input_control i input cone)))
+        | inl same ↦ absurd (set.0.no_clock (subst (IsClockOrReset d) same (input_clock i input cone)))
         | inr other ↦ put_other offered j i (Some bits) other ∙ none
       ])
 

@@ -14,7 +14,7 @@ use Rattle.event_model.specs.Queue.{State, HasNoActive, doing_at, is_assignment,
 use Rattle.rtl_flat.specs.Flats.{Flat, widths}
 use Rattle.event_model.specs.Writes.{driven, no_drive}
 use Rattle.event_runs.proofs.event_laws_proofs.Lengths.{put_at}
-use Rattle.net_model.specs.Control.{IsControl, IsLink, IsPassedOn, IsReached, Itself, Through, whole_of}
+use Rattle.net_model.specs.Control.{IsClockOrReset, IsLink, IsPassedOn, IsReached, Itself, Through, whole_of}
 use Rattle.event_runs.specs.Nets.{AreDriven}
 use Rattle.event_runs.specs.Writers.{IsOrderly, IsSole}
 use Rattle.event_runs.proofs.Laws.{sole_driver}
@@ -65,15 +65,15 @@ module _ (d : Flat) (sync : IsSynchronous d) where
           ∙ ap (λ l. get_or l 0 X) (driven_port (widths d) j link.target_spot b link.target_bit)
 
   at_port :
-      (s : State) → IsOrderly d s → AreDriven d s → HasNoActive d s → (c : ℕ) → IsControl d c → (b : Bit) →
+      (s : State) → IsOrderly d s → AreDriven d s → HasNoActive d s → (c : ℕ) → IsClockOrReset d c → (b : Bit) →
       (k j : ℕ) → IsReached d c k → IsPassedOn d k j → s.value k ≡ b ∷ [] → s.value j ≡ b ∷ []
-  at_port s order shown still c control b k j reached passed source =
+  at_port s order shown still c clock b k j reached passed source =
       let p = passed.process in
       let spot = passed.connection.spot in
       let e = passed.value in
       let is = connection_does d sync k j passed in
       let may = whole_bit (widths d) j spot passed.port_bit in
-      let port = sync.heard p (Assign (whole_of j spot) e) is k passed.alone.bit (record { control = c; is_control = control; reached = reached }) passed.alone.read in
+      let port = sync.heard p (Assign (whole_of j spot) e) is k passed.alone.bit (record { clock = c; is_clock = clock; reached = reached }) passed.alone.read in
       let there : IsSome (doing_at d p) = ap is_some is in
       let assigns : IsTrue (is_assignment (doing_at d p)) = ap is_assignment is in
       let driver : s.driver p ≡ b ∷ [] =
@@ -85,10 +85,10 @@ module _ (d : Flat) (sync : IsSynchronous d) where
       ∙ ap (λ l. get_or (driven (widths d) (whole_of j spot) l j) 0 X) driver
       ∙ ap (λ l. get_or l 0 X) (driven_port (widths d) j spot b passed.port_bit))
 
-  -- where no event is active all that is reached from a control input has its value
+  -- where no event is active all that is reached from a clock or a reset has its value
   pub follows :
-      (s : State) → IsOrderly d s → AreDriven d s → HasNoActive d s → (c : ℕ) → IsControl d c → (b : Bit) → s.value c ≡ b ∷ [] →
+      (s : State) → IsOrderly d s → AreDriven d s → HasNoActive d s → (c : ℕ) → IsClockOrReset d c → (b : Bit) → s.value c ≡ b ∷ [] →
       (i : ℕ) → IsReached d c i → s.value i ≡ b ∷ []
-  follows s order shown still c control b here _ Itself = here
-  follows s order shown still c control b here _ (Through k j reached passed) =
-      at_port s order shown still c control b k j reached passed (follows s order shown still c control b here k reached)
+  follows s order shown still c clock b here _ Itself = here
+  follows s order shown still c clock b here _ (Through k j reached passed) =
+      at_port s order shown still c clock b k j reached passed (follows s order shown still c clock b here k reached)

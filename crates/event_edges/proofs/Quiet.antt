@@ -15,11 +15,11 @@ use Rattle.event_model.specs.Traces.{Same, covers}
 use Rattle.event_model.specs.Writes.{Values, Write, written}
 use Rattle.event_runs.specs.event_laws.Steady.{HaveWidths, IsWithin}
 use Rattle.event_runs.proofs.event_laws_proofs.Lengths.{have_written}
-use Rattle.net_model.specs.Control.{InCone, IsControl, IsReached, Itself, Through, whole_of}
+use Rattle.net_model.specs.Control.{InClockCone, IsClockOrReset, IsReached, Itself, Through, whole_of}
 use Rattle.event_runs.proofs.event_laws_proofs.Laws.{may_late}
 use Rattle.event_runs.proofs.event_laws_proofs.Targets.{IsOver}
 use Rattle.event_runs.proofs.event_laws_proofs.Within.{target_inside}
-use Rattle.event_runs.specs.Effects.{IsEffect, delayed_after, evaluates, event_writes, heard, laters, run_made, runs, takes, updates}
+use Rattle.event_runs.specs.Effects.{IsEffect, delayed_after, evaluates, event_writes, is_heard, laters, run_made, runs, takes, updates}
 use Rattle.event_runs.specs.Writers.{CanWrite, IsOrderly, are_over}
 use Rattle.event_runs.proofs.Laws.{effect, untouched}
 use Rattle.event_runs.proofs.May.{process_now}
@@ -57,11 +57,11 @@ record IsSomeHeard (d : Flat) (us : List Write) (does : Doing) : Type 0 where
 
 some_heard :
     (d : Flat) (does : Doing) (v : Values) (us : List Write) → HaveWidths d v → All (IsWithin (widths d)) us →
-    heard d v us (Some does) ≡ true → IsSomeHeard d us does
+    is_heard d v us (Some does) ≡ true → IsSomeHeard d us does
 some_heard d does v [] have inside h = absurd (false≢true h)
 some_heard d does v (w ∷ us) have inside h =
     let here = All-head (IsWithin (widths d)) w us inside in
-    elim (or_cases (hears (widths d) w.signal (v w.signal) (written v w w.signal) (Some does)) (heard d (written v w) us (Some does)) h) [
+    elim (or_cases (hears (widths d) w.signal (v w.signal) (written v w w.signal) (Some does)) (is_heard d (written v w) us (Some does)) h) [
       | inl now ↦
           let one = hearing d v w does have here now in
           record { signal = w.signal; bit = one.bit; over = or_left (covers w.signal one.bit w) _ one.over; listened = one.listened }
@@ -71,19 +71,19 @@ some_heard d does v (w ∷ us) have inside h =
     ]
 
 module _ (d : Flat) (sync : IsSynchronous d) where
-  no_variable : (i : ℕ) → InCone d i → IsVariable d i → ⊥
-  no_variable i cone = reached_apart d sync cone.control cone.is_control.input i cone.reached
+  no_variable : (i : ℕ) → InClockCone d i → IsVariable d i → ⊥
+  no_variable i cone = reached_apart d sync cone.clock cone.is_clock.input i cone.reached
 
   -- who drives the cone reads the cone alone
   reads_cone :
-      (q : ℕ) (target : List Piece) (e : Tree) → doing_at d q ≡ Some (Assign target e) → (j k : ℕ) → InCone d j → may_target (widths d) target j k ≡ true →
-      (i n : ℕ) → reads (widths d) e i n ≡ true → InCone d i
-  reads_cone q target e is j k cone may i n reading = by j cone.control cone.is_control cone.reached may
+      (q : ℕ) (target : List Piece) (e : Tree) → doing_at d q ≡ Some (Assign target e) → (j k : ℕ) → InClockCone d j → may_target (widths d) target j k ≡ true →
+      (i n : ℕ) → reads (widths d) e i n ≡ true → InClockCone d i
+  reads_cone q target e is j k cone may i n reading = by j cone.clock cone.is_clock cone.reached may
     where
-      by : (j c : ℕ) → IsControl d c → IsReached d c j → may_target (widths d) target j k ≡ true → InCone d i
-      by _ c control Itself may = absurd (net_input d c (target_net d sync.lawful q target e is c k may) control.input)
-      by _ c control (Through m j reached passed) may =
-          record { control = c; is_control = control; reached = subst (IsReached d c) (sym same) reached }
+      by : (j c : ℕ) → IsClockOrReset d c → IsReached d c j → may_target (widths d) target j k ≡ true → InClockCone d i
+      by _ c clock Itself may = absurd (net_input d c (target_net d sync.lawful q target e is c k may) clock.input)
+      by _ c clock (Through m j reached passed) may =
+          record { clock = c; is_clock = clock; reached = subst (IsReached d c) (sym same) reached }
         where
           first : k ≡ 0
           first = let below : k < widths d j = target_inside (widths d) target j k may in let one = passed.port_bit in omega (arith, below, one)
@@ -103,9 +103,9 @@ module _ (d : Flat) (sync : IsSynchronous d) where
 
   module _ (s : State) (order : IsOrderly d s) (quiet : IsQuiet d s) where
     -- no event may write a bit of the cone
-    pub leaves_cone : (event : Event) → IsThere d s event → (i k : ℕ) → CanWrite d event i k → InCone d i → ⊥
+    pub leaves_cone : (event : Event) → IsThere d s event → (i k : ℕ) → CanWrite d event i k → InClockCone d i → ⊥
     leaves_cone (Input j) there i k same cone =
-        quiet.offered j there.0 there.1 (subst (InCone d) same cone)
+        quiet.offered j there.0 there.1 (subst (InClockCone d) same cone)
     leaves_cone (Evaluate p) there i k can cone = can
     leaves_cone (Update p) there i k can cone = by (doing_at d p) refl there.0
       where
@@ -123,7 +123,7 @@ module _ (d : Flat) (sync : IsSynchronous d) where
     leaves_cone Activate there i k can cone = can
 
     -- so it leaves the cone
-    pub cone_kept : (event : Event) → IsThere d s event → (i k : ℕ) → InCone d i → Same (after d s event).value s.value i k
+    pub cone_kept : (event : Event) → IsThere d s event → (i k : ℕ) → InClockCone d i → Same (after d s event).value s.value i k
     cone_kept event there i k cone =
         untouched d sync.lawful s event i k there order (λ can. leaves_cone event there i k can cone)
 
@@ -131,22 +131,22 @@ module _ (d : Flat) (sync : IsSynchronous d) where
       made : IsEffect d s event (event_writes d s event) (after d s event)
       made = effect d s event there
 
-      not_heard : (q : ℕ) (does : Doing) → doing_at d q ≡ Some does → ((i k : ℕ) → sensitive (widths d) does i k ≡ true → InCone d i) → heard d s.value (event_writes d s event) (doing_at d q) ≡ false
+      not_heard : (q : ℕ) (does : Doing) → doing_at d q ≡ Some does → ((i k : ℕ) → sensitive (widths d) does i k ≡ true → InClockCone d i) → is_heard d s.value (event_writes d s event) (doing_at d q) ≡ false
       not_heard q does is listens =
-          falsely (heard d s.value (event_writes d s event) (doing_at d q))
+          falsely (is_heard d s.value (event_writes d s event) (doing_at d q))
           (λ h.
-          let one = some_heard d does s.value (event_writes d s event) order.steady.widths (event_within d sync.lawful s order event there) (ap (heard d s.value (event_writes d s event)) (sym is) ∙ h) in
+          let one = some_heard d does s.value (event_writes d s event) order.steady.widths (event_within d sync.lawful s order event there) (ap (is_heard d s.value (event_writes d s event)) (sym is) ∙ h) in
           leaves_cone event there one.signal one.bit (event_over d sync.lawful s order event one.signal one.bit one.over) (listens one.signal one.bit one.listened))
 
-      waits : (q : ℕ) (does : Doing) → doing_at d q ≡ Some does → ((i k : ℕ) → sensitive (widths d) does i k ≡ true → InCone d i) → s.woken q ≡ false → (after d s event).woken q ≡ false
+      waits : (q : ℕ) (does : Doing) → doing_at d q ≡ Some does → ((i k : ℕ) → sensitive (widths d) does i k ≡ true → InClockCone d i) → s.woken q ≡ false → (after d s event).woken q ≡ false
       waits q does is listens still =
           made.woken q
-          ∙ if_false (evaluates event q || runs event q) _ (ap (λ x. x || heard d s.value (event_writes d s event) (doing_at d q)) still ∙ not_heard q does is listens)
+          ∙ if_false (evaluates event q || runs event q) _ (ap (λ x. x || is_heard d s.value (event_writes d s event) (doing_at d q)) still ∙ not_heard q does is listens)
 
-      listens_block : (q : ℕ) (events : List Watched) (body : Actions) → doing_at d q ≡ Some (Edge' events body) → (i k : ℕ) → sensitive (widths d) (Edge' events body) i k ≡ true → InCone d i
+      listens_block : (q : ℕ) (events : List Watched) (body : Actions) → doing_at d q ≡ Some (Edge' events body) → (i k : ℕ) → sensitive (widths d) (Edge' events body) i k ≡ true → InClockCone d i
       listens_block q events body is i k h =
           let one = listed_item (widths d) events i k h in
-          subst (InCone d) (sym one.same) (item_in_cone d sync q events body one.item (record { does = is; place = one.place; there = one.there }))
+          subst (InClockCone d) (sym one.same) (item_in_cone d sync q events body one.item (record { does = is; place = one.place; there = one.there }))
 
       evaluated : (event' : Event) → IsThere d s event' → (q : ℕ) → s.woken q ≡ false → evaluates event' q ≡ false
       evaluated (Input i) there' q still = refl

@@ -22,7 +22,7 @@ use Rattle.event_runs.specs.event_laws.Steady.{AreLawful, HaveWidths, IsWithin}
 use Rattle.event_runs.proofs.event_laws_proofs.Lengths.{fits, have_written, put_other, written_length}
 use Rattle.event_runs.proofs.event_laws_proofs.Unheard.{same_bits, unheard_from}
 use Rattle.net_model.specs.Numbers.{bit}
-use Rattle.event_runs.specs.Effects.{evaluates, event_writes, heard, laters, run_made, runs}
+use Rattle.event_runs.specs.Effects.{evaluates, event_writes, is_heard, laters, run_made, runs}
 use Rattle.event_runs.specs.Writers.{IsOrderly}
 use Rattle.event_runs.proofs.Laws.{effect, offer_leaves, orderly_after, untouched}
 use Rattle.event_runs.proofs.May.{process_now}
@@ -84,12 +84,12 @@ module _ (d : Flat) (lawful : AreLawful d) (p r : ℕ) (active : Bit) (i k : ℕ
       ]
 
   all_unheard :
-      (v : Values) (us : List Write) → HaveWidths d v → All (IsWithin (widths d)) us → heard d v us (Some does) ≡ false →
+      (v : Values) (us : List Write) → HaveWidths d v → All (IsWithin (widths d)) us → is_heard d v us (Some does) ≡ false →
       bit (all_written v us) r 0 ≡ active → bit v r 0 ≡ active
   all_unheard v [] have inside deaf now = now
   all_unheard v (w ∷ us) have inside deaf now =
       let here = All-head (IsWithin (widths d)) w us inside in
-      let parts = or_parts (hears (widths d) w.signal (v w.signal) (written v w w.signal) (Some does)) (heard d (written v w) us (Some does)) deaf in
+      let parts = or_parts (hears (widths d) w.signal (v w.signal) (written v w w.signal) (Some does)) (is_heard d (written v w) us (Some does)) deaf in
       one_unheard v w have here parts.0
       (all_unheard (written v w) us (have_written d v w have here) (All-tail (IsWithin (widths d)) w us inside) parts.1 now)
 
@@ -116,9 +116,9 @@ module _ (d : Flat) (lawful : AreLawful d) (p r : ℕ) (active : Bit) (i k : ℕ
     waits : (event : Event) → IsThere d s event → evaluates event p ≡ false → runs event p ≡ false → IsSet d p r active i k constant (after d s event)
     waits event there no_evaluation no_run still now =
         let made = effect d s event there in
-        let unwoken : (s.woken p || heard d s.value (event_writes d s event) (doing_at d p)) ≡ false = taken (evaluates event p || runs event p) _ (ap (λ x. x || runs event p) no_evaluation ∙ no_run) (sym (made.woken p) ∙ still) in
-        let parts = or_parts (s.woken p) (heard d s.value (event_writes d s event) (doing_at d p)) unwoken in
-        let before = all_unheard s.value (event_writes d s event) order.steady.widths (event_within d lawful s order event there) (ap (heard d s.value (event_writes d s event)) (sym reset.does) ∙ parts.1) (ap (λ v. bit v r 0) (sym made.value) ∙ now) in
+        let unwoken : (s.woken p || is_heard d s.value (event_writes d s event) (doing_at d p)) ≡ false = taken (evaluates event p || runs event p) _ (ap (λ x. x || runs event p) no_evaluation ∙ no_run) (sym (made.woken p) ∙ still) in
+        let parts = or_parts (s.woken p) (is_heard d s.value (event_writes d s event) (doing_at d p)) unwoken in
+        let before = all_unheard s.value (event_writes d s event) order.steady.widths (event_within d lawful s order event there) (ap (is_heard d s.value (event_writes d s event)) (sym reset.does) ∙ parts.1) (ap (λ v. bit v r 0) (sym made.value) ∙ now) in
         due_after d lawful p reset.list reset.body reset.does i k reset.variable reset.sole s order event there no_run ∙ set parts.0 before
 
     by_run : (q : ℕ) → IsThere d s (Run q) → IsSet d p r active i k constant (after d s (Run q))

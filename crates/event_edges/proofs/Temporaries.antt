@@ -33,7 +33,7 @@ module _ (d : Flat) (sync : IsSynchronous d) (c : ℕ) (a b : Bit) (old : Values
   module _ (s : State) (h : IsTurning d c a b old ran s) (w : Write) (inside : IsWithin (widths d) w) (own : (i k : ℕ) → covers i k w ≡ true → OfBody i) where
     fixed : (i : ℕ) → IsReached d c i → written s.value w i ≡ s.value i
     fixed i reached =
-        signal_kept d s.value w h.wide inside i (λ k over. reached_apart d sync c turn.control.input i reached (own i k over).variable)
+        signal_kept d s.value w h.wide inside i (λ k over. reached_apart d sync c turn.clock.input i reached (own i k over).variable)
 
     abbrev heard : ℕ → Bool
     heard q = hears (widths d) w.signal (s.value w.signal) (written s.value w w.signal) (doing_at d q)

@@ -13,7 +13,7 @@ use Rattle.rtl_flat.specs.Flats.{Flat, widths}
 use Rattle.event_model.specs.Writes.{Values, Write, written}
 use Rattle.event_runs.specs.event_laws.Steady.{IsWithin}
 use Rattle.event_runs.proofs.event_laws_proofs.Lengths.{have_written, put_at, put_other}
-use Rattle.net_model.specs.Control.{InCone, IsReached}
+use Rattle.net_model.specs.Control.{InClockCone, IsReached}
 use Rattle.net_model.specs.Numbers.{bit}
 use Rattle.event_edges.specs.Synchronous.{IsItem, IsSynchronous}
 use Rattle.event_edges.specs.Turned.{IsTurn, IsTurnedPort, IsTurning, fires, item_fires}
@@ -45,8 +45,8 @@ fires_between old new x a b before after =
     ∙ ap (λ l. happens x.edge a (get_or l 0 X)) after
 
 module _ (d : Flat) (sync : IsSynchronous d) (c : ℕ) (a b : Bit) (old : Values) (turn : IsTurn d c a b old) where
-  cone : (i : ℕ) → IsReached d c i → InCone d i
-  cone i reached = record { control = c; is_control = turn.control; reached = reached }
+  cone : (i : ℕ) → IsReached d c i → InClockCone d i
+  cone i reached = record { clock = c; is_clock = turn.clock; reached = reached }
 
   -- the events of a block whose signals aren't reached, or haven't turned, haven't come
   pub unfired :
@@ -206,8 +206,8 @@ module _ (d : Flat) (sync : IsSynchronous d) (c : ℕ) (a b : Bit) (old : Values
           at_j =
               let two = listed_item (widths d) events j it.bit it.listened in
               let second : IsItem d q events body two.item = record { does = is; place = two.place; there = two.there } in
-              elim (item_reached d sync q events body came.item first c turn.control.input) [
-                | inl r ↦ sync.once q events body came.item two.item first second c turn.control.input r (subst (IsReached d c) two.same reached) ∙ sym two.same
+              elim (item_reached d sync q events body came.item first c turn.clock.input) [
+                | inl r ↦ sync.once q events body came.item two.item first second c turn.clock.input r (subst (IsReached d c) two.same reached) ∙ sym two.same
                 | inr apart ↦
                     absurd (false≢true (sym (unfired ran s h q events body came.item first apart) ∙ came.passes))
               ]

@@ -7,20 +7,20 @@ use Rattle.rtl_flat.specs.Process.{Piece, Watched, Actions, Assign, Edge'}
 use Rattle.event_model.specs.Queue.{State, doing_at, is_input}
 use Rattle.rtl_flat.specs.Flats.{Flat, widths}
 use Rattle.event_model.specs.Traces.{Same}
-use Rattle.net_model.specs.Control.{InCone, IsDataInput}
+use Rattle.net_model.specs.Control.{InClockCone, IsUnclocked}
 use Rattle.event_runs.specs.Writers.{IsOrderly, are_over}
 
--- a target with a bit of the control cone
+-- a target with a bit of the clock cone
 pub record IsInCone (d : Flat) (target : List Piece) : Type 0 where
   pub signal : ℕ
   pub bit : ℕ
-  pub in_cone : InCone d signal
+  pub in_cone : InClockCone d signal
   pub may : may_target (widths d) target signal bit ≡ true
 
 -- no clock or reset is offered or is on its way through ports, no body that waits for edges is woken, and no nonblocking
 -- update of some bit is still to become active
 pub record IsQuiet (d : Flat) (s : State) : Type 0 where
-  pub offered : (i : ℕ) → IsTrue (is_input d i) → IsSome (s.offered i) → InCone d i → ⊥
+  pub offered : (i : ℕ) → IsTrue (is_input d i) → IsSome (s.offered i) → InClockCone d i → ⊥
   pub blocks :
       (p : ℕ) (events : List Watched) (body : Actions) → doing_at d p ≡ Some (Edge' events body) → s.woken p ≡ false
   pub ports :
@@ -35,9 +35,9 @@ pub record IsQuiet (d : Flat) (s : State) : Type 0 where
 pub record IsQuietRun (d : Flat) (s t : State) : Type 0 where
   pub order : IsOrderly d t
   pub quiet : IsQuiet d t
-  pub cone : (i k : ℕ) → InCone d i → Same t.value s.value i k
+  pub cone : (i k : ℕ) → InClockCone d i → Same t.value s.value i k
 
 -- data inputs with values of their widths
 abbrev pub SetData : Flat → List (ℕ × List Bit) → Type 0
 SetData d [] = Unit {0}
-SetData d ((i, bits) ∷ others) = IsDataInput d i × (length bits ≡ widths d i) × SetData d others
+SetData d ((i, bits) ∷ others) = IsUnclocked d i × (length bits ≡ widths d i) × SetData d others

@@ -10,7 +10,7 @@ use Rattle.rtl_flat.specs.WellFormed.{has_edge}
 use Rattle.event_model.specs.Queue.{doing_at, is_input}
 use Rattle.rtl_flat.specs.Flats.{Flat, widths}
 use Rattle.event_runs.specs.event_laws.Steady.{AreLawful}
-use Rattle.net_model.specs.Control.{InCone, IsFromTop, IsLink, IsPassedOn, IsReached}
+use Rattle.net_model.specs.Control.{InClockCone, IsFromTop, IsLink, IsPassedOn, IsReached}
 
 -- the bits to which a process is sensitive: those that an assignment reads, and those that a body lists
 abbrev pub sensitive : (ℕ → ℕ) → Doing → BitSet
@@ -24,11 +24,16 @@ pub record IsPort (d : Flat) (target : List Piece) (e : Tree) (i : ℕ) : Type 0
   pub link : IsLink d target e i port
   pub passed : IsPassedOn d i port
 
--- who may be sensitive to a clock or a reset: ports to which it goes on, and bodies that wait for edges
-abbrev pub MayHear : Flat → Doing → ℕ → Type 0
-MayHear d (Assign target e) i = IsPort d target e i
-MayHear d (Comb list body) i = ⊥
-MayHear d (Edge' events body) i = Unit {0}
+-- who may be sensitive to a signal of the control cone: ports to which it goes on, bodies that wait for edges, and a body
+-- without edges where the signal is in the part of the cone that gates it
+abbrev pub MayHear : (ℕ → Type 0) → Flat → Doing → ℕ → Type 0
+MayHear IsGating d (Assign target e) i = IsPort d target e i
+MayHear IsGating d (Comb list body) i = IsGating i
+MayHear IsGating d (Edge' events body) i = Unit {0}
+
+-- the empty part: clocks and resets gate nothing
+abbrev pub NoSignal : ℕ → Type 0
+NoSignal i = ⊥
 
 -- an item of the events of a process
 pub record IsItem (d : Flat) (p : ℕ) (events : List Watched) (body : Actions) (item : Watched) : Type 0 where
@@ -67,9 +72,10 @@ pub record IsSynchronous (d : Flat) : Type 0 where
   -- clocks and resets are used in events and in connections of ports alone (A8)
   pub heard :
       (p : ℕ) (does : Doing) → doing_at d p ≡ Some does →
-      (i k : ℕ) → InCone d i → sensitive (widths d) does i k ≡ true → MayHear d does i
+      (i k : ℕ) → InClockCone d i → sensitive (widths d) does i k ≡ true →
+      MayHear NoSignal d does i
   -- but for the tests of resets, which are among the events of the process (A8)
   pub tests :
       (p : ℕ) (events : List Watched) (body : Actions) → doing_at d p ≡ Some (Edge' events body) →
-      (i k : ℕ) → InCone d i → ReadsOutside (body_flow (widths d) body) i k →
+      (i k : ℕ) → InClockCone d i → ReadsOutside (body_flow (widths d) body) i k →
       items_list (widths d) events i k ≡ true

@@ -10,7 +10,7 @@ use Rattle.rtl_flat.specs.Flats.{Flat}
 use Rattle.event_model.specs.Traces.{Same}
 use Rattle.event_model.specs.Writes.{Values}
 use Rattle.event_runs.specs.event_laws.Steady.{HaveWidths}
-use Rattle.net_model.specs.Control.{InCone, IsControl, IsLink, IsPassedOn, IsReached}
+use Rattle.net_model.specs.Control.{InClockCone, IsClockOrReset, IsLink, IsPassedOn, IsReached}
 use Rattle.net_model.specs.Numbers.{bit}
 use Rattle.event_runs.specs.Nets.{AreResolved}
 use Rattle.event_runs.specs.Writers.{IsOrderly}
@@ -37,7 +37,7 @@ pub record IsClockedTemporary (d : Flat) (i : ℕ) : Type 0 where
 
 -- an input that is to go from one bit to another, where all that is reached from it has the first
 pub record IsTurn (d : Flat) (c : ℕ) (a b : Bit) (old : Values) : Type 0 where
-  pub control : IsControl d c
+  pub clock : IsClockOrReset d c
   pub other : a ≢ b
   pub wide : HaveWidths d old
   pub before : (i : ℕ) → IsReached d c i → old i ≡ a ∷ []
@@ -90,7 +90,7 @@ pub record IsEdgeStart (d : Flat) (c : ℕ) (a b : Bit) (s : State) : Type 0 whe
   pub rest : IsAtRest d s
   pub order : IsOrderly d s
   pub resolved : AreResolved d s
-  pub control : IsControl d c
+  pub clock : IsClockOrReset d c
   pub before : s.value c ≡ a ∷ []
   pub other : a ≢ b
 
@@ -102,7 +102,7 @@ set_to s c b = offer s ((c, b ∷ []) ∷ [])
 abbrev pub found_at : (ℕ → ℕ) → List Watched → Values → Values → Values
 found_at ws events old new i = if items_list ws events i 0 then new i else old i
 
--- after it all that is reached from the input has the other bit, and the rest of the control cone is as it was
+-- after it all that is reached from the input has the other bit, and the rest of the clock cone is as it was
 pub record IsTurnedAt (d : Flat) (c : ℕ) (b : Bit) (s t : State) : Type 0 where
   pub turned : (i : ℕ) → IsReached d c i → t.value i ≡ b ∷ []
-  pub others : (i k : ℕ) → InCone d i → (IsReached d c i → ⊥) → Same t.value s.value i k
+  pub others : (i k : ℕ) → InClockCone d i → (IsReached d c i → ⊥) → Same t.value s.value i k

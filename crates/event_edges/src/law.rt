@@ -41,7 +41,7 @@ pub fn quiet_run()
     ensures { (d : Flat) → IsSynchronous d → RunsAreQuiet d }
 {}
 
-/// At rest after a step of one clock or reset all that is reached from it has turned, and the rest of the control cone is
+/// At rest after a step of one clock or reset all that is reached from it has turned, and the rest of the clock cone is
 /// as it was.
 pub fn cone_turns()
     ensures { (d : Flat) → IsSynchronous d → TurnsCone d }

@@ -9,6 +9,9 @@ pub mod Unheard
 pub mod Alike
 mod BodyExample
 pub mod Laws
+pub mod Once
+pub mod OneLevel
+pub mod OneRun
 pub mod Sizes
 pub mod Sure
 pub mod Targets

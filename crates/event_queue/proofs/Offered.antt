@@ -13,7 +13,7 @@ use Rattle.event_model.specs.Queue.{is_input, is_input_of}
 use Rattle.rtl_flat.specs.Flats.{Flat}
 use Rattle.event_model.specs.Writes.{put}
 use Rattle.event_tables.specs.event_write.declared.queue_state.QueueState.{QueueState}
-use Rattle.event_tables.specs.event_write.QueueState.{IsQueueState, held, state}
+use Rattle.event_tables.specs.event_write.QueueState.{IsQueueState, flagged_value, state}
 use Rattle.event_tables.specs.event_write.Stored.{AreStored}
 use Rattle.event_take.proofs.Taking.{held_more}
 
@@ -46,7 +46,7 @@ offered_state d m values i bits is within are =
     let there : i < length m.offered = omega (arith, within, flagged) in
     let kept : i < length m.offered_values.items = omega (arith, within, stored) in
     ap (λ (q : ℕ → Option (List Bit)). record (state m) { offered = q })
-    (ap (held (set m.offered i true)) are ∙ fun_ext (held_more m.offered m.offered_values.items i bits there kept))
+    (ap (flagged_value (set m.offered i true)) are ∙ fun_ext (held_more m.offered m.offered_values.items i bits there kept))
 
 pub offered_queue : (d : Flat) (m : QueueState) (values : Vec (List Bit) Global) (i : ℕ) (bits : List Bit) → IsQueueState d m → i < length d.signals → length bits ≡ width_in d.signals i → values.items ≡ set m.offered_values.items i bits → IsQueueState d (record m { offered = set m.offered i true; offered_values = values })
 offered_queue d m values i bits is within width are =

@@ -23,7 +23,7 @@ use Rattle.event_model.specs.Queue.{doing_at, doing_of, drive_now, first_bits, f
 use Rattle.rtl_flat.specs.Flats.{Flat}
 use Rattle.event_tables.specs.event_write.declared.queue_state.QueueState.{QueueState}
 use Rattle.event_tables.specs.event_write.Entries.{entry, updates}
-use Rattle.event_tables.specs.event_write.QueueState.{HasWidth, driver_of, held, state}
+use Rattle.event_tables.specs.event_write.QueueState.{HasWidth, driver_of, flagged_value, state}
 use Rattle.event_tables.specs.event_write.Stored.{AreStored}
 use Rattle.event_queue.specs.First.{blank, driver_in, first_driver, first_value, now_driver, quiet}
 
@@ -104,15 +104,15 @@ blank_widths ws (x ∷ processes) (suc p) = blank_widths ws processes p
 
 -- ---- states
 
-none_held : (n : ℕ) (values : List (List Bit)) (k : ℕ) → held (replicate n false) values k ≡ None
+none_held : (n : ℕ) (values : List (List Bit)) (k : ℕ) → flagged_value (replicate n false) values k ≡ None
 none_held n values k = ap (λ (b : Bool). if b then Some (store values k) else None) (flag-replicate n k)
 
 pub quiet_state : (m : QueueState) (w n k : ℕ) → m.woken.flags ≡ replicate w false → m.pending ≡ replicate n false → m.offered ≡ replicate k false → m.next ≡ 0 → m.active.items ≡ [] → m.waiting.items ≡ [] → state m ≡ quiet (store m.values.items) (λ p. false) (driver_in m.drivers.items)
 quiet_state m w n k woken pending offered next active waiting =
     let s = state m in
     ap (λ (x : ℕ → Bool). record s { woken = x }) (ap flag woken ∙ fun_ext (flag-replicate w))
-    ∙ ap (λ (q : ℕ → Option (List Bit)). record s { woken = λ p. false; pending = q }) (ap (λ (flags : List Bool). held flags m.pending_values.items) pending ∙ fun_ext (none_held n m.pending_values.items))
-    ∙ ap (λ (q : ℕ → Option (List Bit)). record s { woken = λ p. false; pending = λ p. None; offered = q }) (ap (λ (flags : List Bool). held flags m.offered_values.items) offered ∙ fun_ext (none_held k m.offered_values.items))
+    ∙ ap (λ (q : ℕ → Option (List Bit)). record s { woken = λ p. false; pending = q }) (ap (λ (flags : List Bool). flagged_value flags m.pending_values.items) pending ∙ fun_ext (none_held n m.pending_values.items))
+    ∙ ap (λ (q : ℕ → Option (List Bit)). record s { woken = λ p. false; pending = λ p. None; offered = q }) (ap (λ (flags : List Bool). flagged_value flags m.offered_values.items) offered ∙ fun_ext (none_held k m.offered_values.items))
     ∙ ap (λ us. record s { woken = λ p. false; pending = λ p. None; offered = λ p. None; activated = us }) (ap (λ j. updates (drop j (map entry m.active.items))) next ∙ ap (λ es. updates (map entry es)) active)
     ∙ ap (λ us. record s { woken = λ p. false; pending = λ p. None; offered = λ p. None; activated = []; delayed = us }) (ap (λ es. updates (map entry es)) waiting)
 

@@ -9,7 +9,7 @@ use Rattle.event_model.specs.Bodies.{Made, Now, Later}
 use Rattle.event_model.specs.Queue.{State, Event, Input, Evaluate, Update, Run, Delayed, Activate, IsThere, after, after_delayed, after_evaluate, after_input, after_run, after_update, doing_at, drive, drive_now, hears, is_assignment, is_body, net_writes, perform_all, resolved, wait, write, write_all}
 use Rattle.rtl_flat.specs.Flats.{Flat, widths}
 use Rattle.event_model.specs.Writes.{Write, all_written, put, written}
-use Rattle.event_runs.specs.Effects.{IsEffect, drive_writes, event_writes, first_update, heard, input_writes, laters, nows, other_updates, run_made, update_writes}
+use Rattle.event_runs.specs.Effects.{IsEffect, drive_writes, event_writes, first_update, is_heard, input_writes, laters, nows, other_updates, run_made, update_writes}
 
 -- ---- several writes, and all that a body makes
 
@@ -24,13 +24,13 @@ or_after false b c = refl
 -- a state with other values, and who is woken by writes besides
 abbrev pub moved : Flat → State → List Write → State
 moved d s us =
-    record s { value = all_written s.value us; woken = λ q. s.woken q || heard d s.value us (doing_at d q) }
+    record s { value = all_written s.value us; woken = λ q. s.woken q || is_heard d s.value us (doing_at d q) }
 
 -- a write, and then others
 one_more : (d : Flat) (s : State) (w : Write) (us : List Write) → moved d (write d s w) us ≡ moved d s (w ∷ us)
 one_more d s w us =
     ap (λ (woken : ℕ → Bool). record s { value = all_written s.value (w ∷ us); woken = woken })
-    (λ i q. or_after (s.woken q) (hears (widths d) w.signal (s.value w.signal) (written s.value w w.signal) (doing_at d q)) (heard d (written s.value w) us (doing_at d q)) i)
+    (λ i q. or_after (s.woken q) (hears (widths d) w.signal (s.value w.signal) (written s.value w w.signal) (doing_at d q)) (is_heard d (written s.value w) us (doing_at d q)) i)
 
 none_more : (d : Flat) (s : State) → s ≡ moved d s []
 none_more d s = ap (λ (woken : ℕ → Bool). record s { woken = woken }) (λ i q. or_none (s.woken q) i)

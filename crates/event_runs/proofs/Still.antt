@@ -17,7 +17,7 @@ use Rattle.event_model.specs.Writes.{Values, all_written}
 use Rattle.event_laws.specs.Steady.{AreLawful, HaveWidths, IsWithin}
 use Rattle.event_laws.specs.Laws.{AgreeOutside, RunAlike, after_body}
 use Rattle.event_laws.proofs.Laws.{depends, have_made, made_alike, made_out, may_now, writes_variables}
-use Rattle.event_runs.specs.Effects.{evaluates, event_writes, heard, nows, run_made, runs}
+use Rattle.event_runs.specs.Effects.{evaluates, event_writes, is_heard, nows, run_made, runs}
 use Rattle.event_runs.specs.Plain.{AreStill, AreUnheard, IsConsistent, IsPlain, ran_after, ran_by}
 use Rattle.event_runs.specs.Writers.{CanWrite, IsOrderly}
 use Rattle.event_runs.proofs.Effects.{effect}
@@ -55,7 +55,7 @@ module _ (d : Flat) (lawful : AreLawful d) (p : ℕ) (list : Option (List Watche
 
     -- writes that it doesn't hear and that aren't over its bits
     still_write :
-        (v : Values) (us : List writes.Write) → HaveWidths d v → All (IsWithin (widths d)) us → heard d v us (Some (Comb list body)) ≡ false →
+        (v : Values) (us : List writes.Write) → HaveWidths d v → All (IsWithin (widths d)) us → is_heard d v us (Some (Comb list body)) ≡ false →
         ((i k : ℕ) → MayWrite (body_flow (widths d) body) i k → list_any (covers i k) us ≡ false) →
         (FollowsPath (widths d) v body → IsConsistent d v body) →
         FollowsPath (widths d) (all_written v us) body → IsConsistent d (all_written v us) body
@@ -119,14 +119,14 @@ module _ (d : Flat) (lawful : AreLawful d) (p : ℕ) (list : Option (List Watche
   -- where it waits after an event that isn't its own, it waited before, and heard nothing
   waited :
       (s : State) (event : Event) → IsThere d s event → runs event p ≡ false → (after d s event).woken p ≡ false →
-      (s.woken p ≡ false) × (heard d s.value (event_writes d s event) (Some (Comb list body)) ≡ false)
+      (s.woken p ≡ false) × (is_heard d s.value (event_writes d s event) (Some (Comb list body)) ≡ false)
   waited s event there other waits =
       let us = event_writes d s event in
-      let heard' = heard d s.value us (doing_at d p) in
+      let heard' = is_heard d s.value us (doing_at d p) in
       let turn = or_from (evaluates event p) (runs event p) (no_evaluation s event there) other in
       let now = ap (λ b. if b then false else (s.woken p || heard')) (sym turn) ∙ sym ((effect d s event there).woken p) ∙ waits in
       let parts = or_parts (s.woken p) heard' now in
-      (parts.0, ap (heard d s.value us) (sym here) ∙ parts.1)
+      (parts.0, ap (is_heard d s.value us) (sym here) ∙ parts.1)
 
   -- the values after its own run
   own_run : (s : State) (event : Event) → IsThere d s event → runs event p ≡ true → (after d s event).value ≡ after_body d s.value body

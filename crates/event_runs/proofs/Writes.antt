@@ -16,7 +16,7 @@ use Rattle.event_laws.proofs.Lengths.{have_written}
 use Rattle.event_laws.proofs.Made.{IsMadeWithin}
 use Rattle.event_laws.proofs.Unheard.{unheard_list}
 use Rattle.event_laws.proofs.Written.{written_out}
-use Rattle.event_runs.specs.Effects.{heard, laters, nows}
+use Rattle.event_runs.specs.Effects.{is_heard, laters, nows}
 use Rattle.event_runs.specs.Writers.{are_over}
 
 module _ (d : Flat) where
@@ -46,12 +46,12 @@ module _ (d : Flat) where
   -- writes that a block without edges doesn't hear leave what it lists
   pub unheard_all :
       (list : Option (List Watched)) (body : Actions) → IsList d.signals list → (v : Values) (us : List Write) → HaveWidths d v →
-      All (IsWithin (widths d)) us → heard d v us (Some (Comb list body)) ≡ false →
+      All (IsWithin (widths d)) us → is_heard d v us (Some (Comb list body)) ≡ false →
       (i k : ℕ) → listed (widths d) (Comb list body) i k ≡ true → Same (all_written v us) v i k
   unheard_all list body lawful v [] have inside deaf i k is = refl
   unheard_all list body lawful v (w ∷ us) have inside deaf i k is =
       let here = first_within w us inside in
-      let parts = or_parts (hears (widths d) w.signal (v w.signal) (written v w w.signal) (Some (Comb list body))) (heard d (written v w) us (Some (Comb list body))) deaf in
+      let parts = or_parts (hears (widths d) w.signal (v w.signal) (written v w w.signal) (Some (Comb list body))) (is_heard d (written v w) us (Some (Comb list body))) deaf in
       unheard_all list body lawful (written v w) us (have_written d v w have here) (others_within w us inside) parts.1 i k is
       ∙ unheard_list d v w list body have here lawful parts.0 i k is
 

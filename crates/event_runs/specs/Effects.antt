@@ -23,10 +23,10 @@ laters (Now w ∷ others) = laters others
 laters (Later us ∷ others) = us ∷ laters others
 
 -- whether a process hears one of some writes that are made in their order
-abbrev pub heard : Flat → Values → List Write → Option Doing → Bool
-heard d v [] does = false
-heard d v (w ∷ us) does =
-    hears (widths d) w.signal (v w.signal) (written v w w.signal) does || heard d (written v w) us does
+abbrev pub is_heard : Flat → Values → List Write → Option Doing → Bool
+is_heard d v [] does = false
+is_heard d v (w ∷ us) does =
+    hears (widths d) w.signal (v w.signal) (written v w w.signal) does || is_heard d (written v w) us does
 
 -- what a body makes from given values, where a process has one
 abbrev pub run_made : Flat → Values → Option Doing → List Made
@@ -136,7 +136,7 @@ pub record IsEffect (d : Flat) (s : State) (event : Event) (us : List Write) (t 
   -- whose event it is waits, and who hears a write is woken
   pub woken :
       (q : ℕ) →
-      t.woken q ≡ (if evaluates event q || runs event q then false else (s.woken q || heard d s.value us (doing_at d q)))
+      t.woken q ≡ (if evaluates event q || runs event q then false else (s.woken q || is_heard d s.value us (doing_at d q)))
   -- an input takes what is offered to it
   pub offered : (i : ℕ) → t.offered i ≡ (if takes event i then None else s.offered i)
   -- a driver takes what is pending for it

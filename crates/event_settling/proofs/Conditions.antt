@@ -14,7 +14,7 @@ use Rattle.rtl_flat.specs.WellFormed.{has_edge}
 use Rattle.rtl_flat.proofs.Paths.{decided}
 use Rattle.event_model.specs.Queue.{doing_at, doing_of, is_assignment, is_body, is_input}
 use Rattle.rtl_flat.specs.Flats.{Flat, widths}
-use Rattle.net_model.specs.Control.{InCone, IsControl, IsFromTop, IsReached, Itself, Through, waits_for, whole_of}
+use Rattle.net_model.specs.Control.{InClockCone, IsClockOrReset, IsFromTop, IsReached, Itself, Through, waits_for, whole_of}
 use Rattle.event_runs.specs.event_laws.Steady.{AreLawful}
 use Rattle.event_runs.proofs.event_laws_proofs.Laws.{writes_inside}
 use Rattle.event_runs.proofs.event_laws_proofs.Within.{may_read_outside, target_inside}
@@ -54,12 +54,12 @@ listed_edge d (item ∷ others) edges clocks i k is =
 module _ (d : Flat) (lawful : AreLawful d) (level : ℕ → Option ℕ) (h : AreRulesKept d level) where
   item_in_cone :
       (p : ℕ) (events : List Watched) (body : Actions) → doing_at d p ≡ Some (Edge' events body) → (i k : ℕ) →
-      items_list (widths d) events i k ≡ true → InCone d i
+      items_list (widths d) events i k ≡ true → InClockCone d i
   item_in_cone p events body e i k is =
       let (waits, top) = listed_edge d events (h.edges p events body e) (h.clocks p events body e) i k is in
       record {
-        control = top.top;
-        is_control = record {
+        clock = top.top;
+        is_clock = record {
           input = top.input;
           signal = i;
           reached = top.reached;
@@ -98,29 +98,29 @@ module _ (d : Flat) (lawful : AreLawful d) (level : ℕ → Option ℕ) (h : Are
 
   -- a connection reads the cone alone, where what it reads is there
   connection_drives :
-      (c a i q : ℕ) (spot : Spot) (value : Tree) → IsControl d c → IsReached d c a → doing_at d q ≡ Some (Assign (whole_of i spot) value) →
-      ((j l : ℕ) → reads (widths d) value j l ≡ true → j ≡ a) → IsConeDriver d (InCone d) q
-  connection_drives c a i q spot value control before e alone =
+      (c a i q : ℕ) (spot : Spot) (value : Tree) → IsClockOrReset d c → IsReached d c a → doing_at d q ≡ Some (Assign (whole_of i spot) value) →
+      ((j l : ℕ) → reads (widths d) value j l ≡ true → j ≡ a) → IsConeDriver d (InClockCone d) q
+  connection_drives c a i q spot value clock before e alone =
       record {
         assigns = ap is_assignment e;
         reads = λ j l outside.
             let outside' = from_process ReadsOutside d q j l (Assign (whole_of i spot) value) e outside in
             let same = alone j l (alone_or (reads (widths d) value j l) ((decided (flow_of (widths d) (Assign (whole_of i spot) value)) j l).reads.1 (may_read_outside _ j l outside'))) in
-            record { control = c; is_control = control; reached = subst (IsReached d c) (sym same) before };
+            record { clock = c; is_clock = clock; reached = subst (IsReached d c) (sym same) before };
       }
 
-  cone_driver : (p c i k : ℕ) → OfProcess MayWrite d.signals d.tasks p i k → IsControl d c → IsReached d c i → IsConeDriver d (InCone d) p
-  cone_driver p c i k may control Itself = absurd (no_input p c k may control.input)
-  cone_driver p c i k may control (Through a j before passed) =
+  cone_driver : (p c i k : ℕ) → OfProcess MayWrite d.signals d.tasks p i k → IsClockOrReset d c → IsReached d c i → IsConeDriver d (InClockCone d) p
+  cone_driver p c i k may clock Itself = absurd (no_input p c k may clock.input)
+  cone_driver p c i k may clock (Through a j before passed) =
       let (does, e, written) = of_process MayWrite d p j k may in
       let connection = passed.connection in
       let spot = connection.spot in
       let other : doing_at d passed.process ≡ Some (Assign (whole_of j spot) passed.value) = ap doing_of connection.there ∙ ap Some connection.does in
       let own = assign_may (widths d) (whole_of j spot) passed.value j k (whole_has j k spot (inside p j k does e written)) in
       let same = h.alone p passed.process does (Assign (whole_of j spot) passed.value) e other j k written own in
-      subst (IsConeDriver d (InCone d)) (sym same) (connection_drives c a j passed.process spot passed.value control before other passed.alone.alone)
+      subst (IsConeDriver d (InClockCone d)) (sym same) (connection_drives c a j passed.process spot passed.value clock before other passed.alone.alone)
 
-  pub rules_settle : IsSettling d level (InCone d)
+  pub rules_settle : IsSettling d level (InClockCone d)
   rules_settle =
       record {
         levels = h.levels;
@@ -128,5 +128,5 @@ module _ (d : Flat) (lawful : AreLawful d) (level : ℕ → Option ℕ) (h : Are
         blocking = λ p list body e. none_in (widths d) body (h.select p list body e) (λ i k late. h.no_late p list body e i k ((decided (body_flow (widths d) body) i k).late.0 late));
         temporaries = h.temporaries;
         items = item_in_cone;
-        drivers = λ p i k may cone. cone_driver p cone.control i k may cone.is_control cone.reached;
+        drivers = λ p i k may cone. cone_driver p cone.clock i k may cone.is_clock cone.reached;
       }

@@ -22,7 +22,7 @@ use Rattle.rtl_flat.specs.WellFormed.{AreApart, IsAssignment, IsFixed, IsProcess
 use Rattle.rtl_flat.proofs.Paths.{decided}
 use Rattle.event_model.specs.Queue.{doing_at}
 use Rattle.rtl_flat.specs.Flats.{Flat, widths}
-use Rattle.net_model.specs.Control.{InCone, IsFromTop, Itself}
+use Rattle.net_model.specs.Control.{InClockCone, IsFromTop, Itself}
 use Rattle.event_runs.specs.event_laws.Steady.{AreLawful}
 use Rattle.event_runs.proofs.event_laws_proofs.Steady.{lawful_processes}
 use Rattle.event_runs.proofs.event_laws_proofs.Within.{may_read_outside}
@@ -239,9 +239,9 @@ kept =
       clocks = λ p events b e. subst (All IsClock) (edge_is p events b e).0 clocks;
     }
 
-pub settling : IsSettling design level (InCone design)
+pub settling : IsSettling design level (InClockCone design)
 settling = rules_settle design lawful level kept
 
 -- no step of it is ever stopped
 always : AlwaysSettles design level
-always = always_settled design lawful level (InCone design) settling
+always = always_settled design lawful level (InClockCone design) settling

@@ -8,7 +8,7 @@ use Rattle.event_model.specs.Policies.{is_below}
 use Rattle.event_model.specs.Queue.{State, Run, Update, IsThere, doing_at, is_assignment}
 use Rattle.rtl_flat.specs.Flats.{Flat, widths}
 use Rattle.event_runs.specs.event_laws.Steady.{AreLawful}
-use Rattle.event_runs.specs.Effects.{event_writes, heard}
+use Rattle.event_runs.specs.Effects.{event_writes, is_heard}
 use Rattle.event_runs.specs.Writers.{IsOrderly}
 use Rattle.event_runs.proofs.May.{now_may}
 use Rattle.event_runs.proofs.Writers.{event_over, event_within, of_process}
@@ -22,11 +22,11 @@ module _ (d : Flat) (level : ℕ → Option ℕ) (cone : ℕ → Type 0) (h : Is
 
   -- who hears an update of a driver
   pub hears_update :
-      (p q : ℕ) → IsThere d s (Update p) → q < length d.tasks → heard d s.value (event_writes d s (Update p)) (doing_at d q) ≡ true →
+      (p q : ℕ) → IsThere d s (Update p) → q < length d.tasks → is_heard d s.value (event_writes d s (Update p)) (doing_at d q) ≡ true →
       Above p q
   hears_update p q there inside hears =
       let it = some_doing d q inside in
-      let at = reached d s.value (event_writes d s (Update p)) it.0 orderly.steady.widths (event_within d lawful s orderly (Update p) there) (sym (ap (heard d s.value (event_writes d s (Update p))) it.1) ∙ hears) in
+      let at = reached d s.value (event_writes d s (Update p)) it.0 orderly.steady.widths (event_within d lawful s orderly (Update p) there) (sym (ap (is_heard d s.value (event_writes d s (Update p))) it.1) ∙ hears) in
       let may = event_over d lawful s orderly (Update p) at.signal at.bit at.over in
       let one = of_process MayWrite d p at.signal at.bit may in
       by_kind one.0 one.1 (ap is_assignment (sym one.1) ∙ there.0) it.0 it.1 at.signal at.bit one.2 at.attended
@@ -44,11 +44,11 @@ module _ (d : Flat) (level : ℕ → Option ℕ) (cone : ℕ → Type 0) (h : Is
 
   -- who hears a body
   pub hears_run :
-      (p q : ℕ) → IsThere d s (Run p) → q < length d.tasks → heard d s.value (event_writes d s (Run p)) (doing_at d q) ≡ true →
+      (p q : ℕ) → IsThere d s (Run p) → q < length d.tasks → is_heard d s.value (event_writes d s (Run p)) (doing_at d q) ≡ true →
       (q ≡ p) ⊎ Above p q
   hears_run p q there inside hears =
       let it = some_doing d q inside in
-      let at = reached d s.value (event_writes d s (Run p)) it.0 orderly.steady.widths (event_within d lawful s orderly (Run p) there) (sym (ap (heard d s.value (event_writes d s (Run p))) it.1) ∙ hears) in
+      let at = reached d s.value (event_writes d s (Run p)) it.0 orderly.steady.widths (event_within d lawful s orderly (Run p) there) (sym (ap (is_heard d s.value (event_writes d s (Run p))) it.1) ∙ hears) in
       let may = event_over d lawful s orderly (Run p) at.signal at.bit at.over in
       let one = of_process MayWriteNow d p at.signal at.bit may in
       by_kind one.0 one.1 it.0 it.1 at.signal at.bit one.2 at.attended

@@ -1,14 +1,20 @@
 mod Budget
 pub mod Conditions
+mod EndingExample
+pub mod Ends
 pub mod Example
 pub mod Facts
+mod Falls
+mod Few
 pub mod Going
 pub mod Hears
 mod Inner
 mod Orders
+pub mod Policies
 pub mod Quiet
 mod Rests
 mod Selecting
+mod Shares
 pub mod Totals
 mod Waking
 mod Wave

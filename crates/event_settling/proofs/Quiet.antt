@@ -12,7 +12,7 @@ use Rattle.rtl_flat.proofs.Paths.{decided}
 use Rattle.event_model.specs.Queue.{State, Event, Input, Evaluate, Update, Run, Delayed, Activate, IsThere, HasNoActive, after, doing_at, drive_now, is_assignment, is_input}
 use Rattle.rtl_flat.specs.Flats.{Flat, widths}
 use Rattle.event_runs.specs.event_laws.Steady.{AreLawful}
-use Rattle.event_runs.specs.Effects.{delayed_after, evaluates, event_writes, heard, laters, run_made, runs, takes, updates}
+use Rattle.event_runs.specs.Effects.{delayed_after, evaluates, event_writes, is_heard, laters, run_made, runs, takes, updates}
 use Rattle.event_runs.specs.Writers.{CanWrite, IsOrderly}
 use Rattle.event_runs.proofs.May.{process_late, process_now}
 use Rattle.event_runs.proofs.Writers.{event_over, event_within, of_process, to_process}
@@ -64,9 +64,9 @@ module _ (d : Flat) (lawful : AreLawful d) (level : ℕ → Option ℕ) (cone : 
   -- who listens to the cone alone hears nothing
   deaf :
       (event : Event) → IsThere d s event → (does : Doing) → ((i k : ℕ) → attends (widths d) does i k ≡ true → cone i) →
-      heard d s.value (event_writes d s event) (Some does) ≡ false
+      is_heard d s.value (event_writes d s event) (Some does) ≡ false
   deaf event there does lies =
-      elim (cases_Bool (heard d s.value (event_writes d s event) (Some does))) [
+      elim (cases_Bool (is_heard d s.value (event_writes d s event) (Some does))) [
         | inl is ↦
             let it = reached d s.value (event_writes d s event) does orderly.steady.widths (event_within d lawful s orderly event there) is in
             absurd (never_cone event there it.signal it.bit (event_over d lawful s orderly event it.signal it.bit it.over) (lies it.signal it.bit it.attended))
@@ -78,8 +78,8 @@ module _ (d : Flat) (lawful : AreLawful d) (level : ℕ → Option ℕ) (cone : 
       ((i k : ℕ) → attends (widths d) does i k ≡ true → cone i) → s.woken p ≡ false → (after d s event).woken p ≡ false
   stays event there p does e lies waits =
       (effect d s event there).woken p
-      ∙ still (evaluates event p || runs event p) (s.woken p) (heard d s.value (event_writes d s event) (doing_at d p)) waits
-      (ap (heard d s.value (event_writes d s event)) e ∙ deaf event there does lies)
+      ∙ still (evaluates event p || runs event p) (s.woken p) (is_heard d s.value (event_writes d s event) (doing_at d p)) waits
+      (ap (is_heard d s.value (event_writes d s event)) e ∙ deaf event there does lies)
     where
       still : (b woken hears : Bool) → woken ≡ false → hears ≡ false → (if b then false else (woken || hears)) ≡ false
       still true woken hears a c = refl

@@ -18,7 +18,7 @@ use Rattle.event_model.specs.Writes.{Values, Write, written}
 use Rattle.event_runs.specs.event_laws.Steady.{HaveWidths, IsWithin}
 use Rattle.event_runs.proofs.event_laws_proofs.Lengths.{have_written}
 use Rattle.event_runs.proofs.event_laws_proofs.Written.{written_out}
-use Rattle.event_runs.specs.Effects.{heard}
+use Rattle.event_runs.specs.Effects.{is_heard}
 
 -- the bits that a process listens to
 abbrev pub attends : (ℕ → ℕ) → Doing → BitSet
@@ -118,11 +118,11 @@ one_reached d v w us does have inside h =
 
 pub reached :
     (d : Flat) (v : Values) (us : List Write) (does : Doing) → HaveWidths d v → All (IsWithin (widths d)) us →
-    heard d v us (Some does) ≡ true → IsReached d does us
+    is_heard d v us (Some does) ≡ true → IsReached d does us
 reached d v [] does have inside h = absurd (false≢true h)
 reached d v (w ∷ us) does have inside h =
     let here = All-head (IsWithin (widths d)) w us inside in
-    elim (or_cases (hears (widths d) w.signal (v w.signal) (written v w w.signal) (Some does)) (heard d (written v w) us (Some does)) h) [
+    elim (or_cases (hears (widths d) w.signal (v w.signal) (written v w w.signal) (Some does)) (is_heard d (written v w) us (Some does)) h) [
       | inl first ↦ one_reached d v w us does have here first
       | inr later ↦
           let it = reached d (written v w) us does (have_written d v w have here) (All-tail (IsWithin (widths d)) w us inside) later in

@@ -6,7 +6,7 @@ use Rattle.rtl_bits.specs.declared.Bit.{Bit}
 use Rattle.event_model.specs.Queue.{State, Event, Input, Evaluate, Update, Run, Delayed, Activate, IsThere, after, doing_at, drive_now, is_assignment, is_input}
 use Rattle.rtl_flat.specs.Flats.{Flat}
 use Rattle.event_runs.specs.event_laws.Steady.{AreLawful}
-use Rattle.event_runs.specs.Effects.{evaluates, event_writes, heard, runs, updates, IsEffect}
+use Rattle.event_runs.specs.Effects.{evaluates, event_writes, is_heard, runs, updates, IsEffect}
 use Rattle.event_runs.specs.Writers.{IsOrderly}
 use Rattle.event_settling.specs.Settling.{IsSettling}
 use Rattle.event_runs.proofs.Effects.{effect}
@@ -47,7 +47,7 @@ woken_from false woken hears h = (refl, or_cases woken hears h)
 module _ (d : Flat) (lawful : AreLawful d) (level : ℕ → Option ℕ) (cone : ℕ → Type 0) (h : IsSettling d level cone) (s : State) (orderly : IsOrderly d s) where
   -- who hears a body comes after it, or is that block
   after_run :
-      (p q : ℕ) → IsThere d s (Run p) → q < length d.tasks → heard d s.value (event_writes d s (Run p)) (doing_at d q) ≡ true →
+      (p q : ℕ) → IsThere d s (Run p) → q < length d.tasks → is_heard d s.value (event_writes d s (Run p)) (doing_at d q) ≡ true →
       (q ≡ p) ⊎ Before level p q
   after_run p q there inside hears =
       elim (hears_run d level cone h lawful s orderly p q there inside hears) [
@@ -101,7 +101,7 @@ module _ (d : Flat) (lawful : AreLawful d) (level : ℕ → Option ℕ) (cone : 
   wave_update p done there w =
       record {
         after = λ r q is inside woken.
-            elim (woken_from false (s.woken q) (heard d s.value (event_writes d s (Update p)) (doing_at d q)) (sym (e.woken q) ∙ woken)).1 [
+            elim (woken_from false (s.woken q) (is_heard d s.value (event_writes d s (Update p)) (doing_at d q)) (sym (e.woken q) ∙ woken)).1 [
               | inl before ↦ w.after r q (taken r is) inside before
               | inr hears ↦
                   let after = before_above level p q (hears_update d level cone h lawful s orderly p q there inside hears) in
@@ -132,7 +132,7 @@ module _ (d : Flat) (lawful : AreLawful d) (level : ℕ → Option ℕ) (cone : 
   -- a process is taken that comes before all other woken ones
   wave_taken :
       (event : Event) (p : ℕ) (done : ℕ → Bool) → IsThere d s event → IsLeast level d s p → ((q : ℕ) → (evaluates event q || runs event q) ≡ (q == p)) →
-      ((q : ℕ) → q < length d.tasks → heard d s.value (event_writes d s event) (doing_at d q) ≡ true → (q ≡ p) ⊎ Before level p q) →
+      ((q : ℕ) → q < length d.tasks → is_heard d s.value (event_writes d s event) (doing_at d q) ≡ true → (q ≡ p) ⊎ Before level p q) →
       ((q : ℕ) → IsSome ((after d s event).pending q) → (q ≡ p) ⊎ IsSome (s.pending q)) →
       ((i : ℕ) → (after d s event).offered i ≡ s.offered i) → (after d s event).activated ≡ s.activated →
       IsWave d level s done → IsWave d level (after d s event) (done_by done event)
@@ -168,7 +168,7 @@ module _ (d : Flat) (lawful : AreLawful d) (level : ℕ → Option ℕ) (cone : 
 
       after_it :
           (q : ℕ) → q < length d.tasks → (q ≡ p → ⊥) →
-          (s.woken q ≡ true) ⊎ (heard d s.value (event_writes d s event) (doing_at d q) ≡ true) → Before level p q
+          (s.woken q ≡ true) ⊎ (is_heard d s.value (event_writes d s event) (doing_at d q) ≡ true) → Before level p q
       after_it q inside other (inl before) =
           elim (least.least q inside before) [ inl same ↦ absurd (other same) | inr after ↦ after ]
       after_it q inside other (inr hears') =
@@ -176,13 +176,13 @@ module _ (d : Flat) (lawful : AreLawful d) (level : ℕ → Option ℕ) (cone : 
 
       later :
           (r q : ℕ) → (done r ≡ true) ⊎ (r ≡ p) → q < length d.tasks →
-          (if evaluates event q || runs event q then false else (s.woken q || heard d s.value (event_writes d s event) (doing_at d q))) ≡ true → Before level r q
+          (if evaluates event q || runs event q then false else (s.woken q || is_heard d s.value (event_writes d s event) (doing_at d q))) ≡ true → Before level r q
       later r q (inl before) inside woken =
-          let parts = woken_from (evaluates event q || runs event q) (s.woken q) (heard d s.value (event_writes d s event) (doing_at d q)) woken in
+          let parts = woken_from (evaluates event q || runs event q) (s.woken q) (is_heard d s.value (event_writes d s event) (doing_at d q)) woken in
           let other : q ≡ p → ⊥ = λ same. true≢false (sym (one q ∙ eq-eqb q p same) ∙ parts.0) in
           before_then level r p q (w.after r p before least.inside least.woken) (after_it q inside other parts.1)
       later r q (inr same) inside woken =
-          let parts = woken_from (evaluates event q || runs event q) (s.woken q) (heard d s.value (event_writes d s event) (doing_at d q)) woken in
+          let parts = woken_from (evaluates event q || runs event q) (s.woken q) (is_heard d s.value (event_writes d s event) (doing_at d q)) woken in
           let other : q ≡ p → ⊥ = λ same. true≢false (sym (one q ∙ eq-eqb q p same) ∙ parts.0) in
           subst (λ (j : ℕ). Before level j q) (sym same) (after_it q inside other parts.1)
 

@@ -1,4 +1,5 @@
 pub mod Conditions
+pub mod Ending
 pub mod Settling
 -- passed on to the crates above
 pub use Rattle.event_runs.specs.event_laws

@@ -1,5 +1,5 @@
 -- By level every step of a clean design comes to rest within its budget.
--- Worked examples: crates/event_ending/proofs/Example.antt.
+-- Worked examples: proofs/Example.antt, proofs/EndingExample.antt.
 use Rattle.std.specs.Prelude.{◌≡◌, ◌+◌, ◌<◌, ◌≤◌, ℕ, true, List, [], ◌∷◌, length, None, Some, Option, IsTrue}
 use Rattle.std.specs.List.{All}
 use Rattle.rtl_bits.specs.declared.Bit.{Bit}

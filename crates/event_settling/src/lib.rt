@@ -1,4 +1,5 @@
-//! By level every step of a clean design comes to rest within its budget.
+//! Every run of the event queue of a clean design comes to rest, in whatever order events are taken, and by level every step
+//! does so within its budget.
 #![tactic(auto)]
 
 pub mod law;

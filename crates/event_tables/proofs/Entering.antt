@@ -15,7 +15,7 @@ use Rattle.event_model.specs.Queue.{doing_of, doing_at}
 use Rattle.rtl_flat.specs.Flats.{Flat}
 use Rattle.event_write.specs.QueueState.{row}
 use Rattle.event_write.specs.event_tally.Targets.{names, drives_of}
-use Rattle.event_tables.specs.Driving.{drives, ends_in, entered, Enters}
+use Rattle.event_tables.specs.Driving.{drives, ends_in, list_with, Enters}
 use Rattle.event_tables.proofs.Ears.{row_set, row_other}
 
 -- the last one that is seen
@@ -32,16 +32,16 @@ push_ends (x ∷ []) p = eq-eqb p.0 p.0 refl
 push_ends (x ∷ y ∷ xs) p = push_ends (y ∷ xs) p
 
 -- who is entered twice is entered once
-entered_twice : (p : ProcId) (xs : List ProcId) → entered p (entered p xs) ≡ entered p xs
+entered_twice : (p : ProcId) (xs : List ProcId) → list_with p (list_with p xs) ≡ list_with p xs
 entered_twice p xs =
     elim (cases_Bool (ends_in xs p.0)) [
-      | inl e ↦ ap (entered p) (cond-true (ends_in xs p.0) xs (xs ++ p ∷ []) e)
+      | inl e ↦ ap (list_with p) (cond-true (ends_in xs p.0) xs (xs ++ p ∷ []) e)
       | inr e ↦
-          let is : entered p xs ≡ xs ++ p ∷ [] = cond-false (ends_in xs p.0) xs (xs ++ p ∷ []) e in
-          ap (entered p) is ∙ cond-true (ends_in (xs ++ p ∷ []) p.0) (xs ++ p ∷ []) ((xs ++ p ∷ []) ++ p ∷ []) (push_ends xs p) ∙ sym is
+          let is : list_with p xs ≡ xs ++ p ∷ [] = cond-false (ends_in xs p.0) xs (xs ++ p ∷ []) e in
+          ap (list_with p) is ∙ cond-true (ends_in (xs ++ p ∷ []) p.0) (xs ++ p ∷ []) ((xs ++ p ∷ []) ++ p ∷ []) (push_ends xs p) ∙ sym is
     ]
 
-joined : (p : ProcId) (a b : Bool) (xs : List ProcId) → cond b (entered p (cond a (entered p xs) xs)) (cond a (entered p xs) xs) ≡ cond (a || b) (entered p xs) xs
+joined : (p : ProcId) (a b : Bool) (xs : List ProcId) → cond b (list_with p (cond a (list_with p xs) xs)) (cond a (list_with p xs) xs) ≡ cond (a || b) (list_with p xs) xs
 joined p true true xs = entered_twice p xs
 joined p true false xs = refl
 joined p false true xs = refl
@@ -50,7 +50,7 @@ joined p false false xs = refl
 pub enters_nothing : (p : ProcId) (which : ℕ → Bool) (rows : List (Vec ProcId Global)) → ((i : ℕ) → i < length rows → which i ≡ false) → Enters p which rows rows
 enters_nothing p which rows none = record {
   same_length = refl;
-  rows = λ i within. sym (cond-false (which i) (entered p (row rows i)) (row rows i) (none i within));
+  rows = λ i within. sym (cond-false (which i) (list_with p (row rows i)) (row rows i) (none i within));
 }
 
 pub enters_then : (p : ProcId) (f g h : ℕ → Bool) (x y z : List (Vec ProcId Global)) → ((i : ℕ) → h i ≡ (f i || g i)) → Enters p f x y → Enters p g y z → Enters p h x z
@@ -58,15 +58,15 @@ enters_then p f g h x y z is one two = record {
   same_length = two.same_length ∙ one.same_length;
   rows = λ i within.
       two.rows i (let same = one.same_length in omega (arith, within, same))
-      ∙ ap (λ xs. cond (g i) (entered p xs) xs) (one.rows i within)
+      ∙ ap (λ xs. cond (g i) (list_with p xs) xs) (one.rows i within)
       ∙ joined p (f i) (g i) (row x i)
-      ∙ ap (λ b. cond b (entered p (row x i)) (row x i)) (sym (is i));
+      ∙ ap (λ b. cond b (list_with p (row x i)) (row x i)) (sym (is i));
 }
 
 pub enters_same : (p : ProcId) (f g : ℕ → Bool) (x y : List (Vec ProcId Global)) → ((i : ℕ) → f i ≡ g i) → Enters p f x y → Enters p g x y
 enters_same p f g x y is one = record {
   same_length = one.same_length;
-  rows = λ i within. one.rows i within ∙ ap (λ b. cond b (entered p (row x i)) (row x i)) (is i);
+  rows = λ i within. one.rows i within ∙ ap (λ b. cond b (list_with p (row x i)) (row x i)) (is i);
 }
 
 -- a row that isn't there
@@ -79,8 +79,8 @@ pub enters_again : (p : ProcId) (signal : ℕ) (rows : List (Vec ProcId Global))
 enters_again p signal rows ends = record {
   same_length = refl;
   rows = λ i within. elim (cases_eq i signal) [
-    | inl e ↦ sym (ap (λ b. cond b (entered p (row rows i)) (row rows i)) (eq-eqb i signal e) ∙ cond-true (ends_in (row rows i) p.0) (row rows i) (row rows i ++ p ∷ []) (ap (λ j. ends_in (row rows j) p.0) e ∙ ends))
-    | inr apart ↦ sym (ap (λ b. cond b (entered p (row rows i)) (row rows i)) (ne_eqb i signal apart))
+    | inl e ↦ sym (ap (λ b. cond b (list_with p (row rows i)) (row rows i)) (eq-eqb i signal e) ∙ cond-true (ends_in (row rows i) p.0) (row rows i) (row rows i ++ p ∷ []) (ap (λ j. ends_in (row rows j) p.0) e ∙ ends))
+    | inr apart ↦ sym (ap (λ b. cond b (list_with p (row rows i)) (row rows i)) (ne_eqb i signal apart))
   ];
 }
 
@@ -92,11 +92,11 @@ enters_pushed p signal old v within ends is = record {
     | inl e ↦
         ap (row (set old signal v)) e ∙ row_set old signal v within ∙ is
         ∙ sym (cond-false (ends_in (row old signal) p.0) (row old signal) (row old signal ++ p ∷ []) ends)
-        ∙ ap (λ j. entered p (row old j)) (sym e)
-        ∙ sym (ap (λ b. cond b (entered p (row old i)) (row old i)) (eq-eqb i signal e))
+        ∙ ap (λ j. list_with p (row old j)) (sym e)
+        ∙ sym (ap (λ b. cond b (list_with p (row old i)) (row old i)) (eq-eqb i signal e))
     | inr apart ↦
         row_other old signal v i apart
-        ∙ sym (ap (λ b. cond b (entered p (row old i)) (row old i)) (ne_eqb i signal apart))
+        ∙ sym (ap (λ b. cond b (list_with p (row old i)) (row old i)) (ne_eqb i signal apart))
   ];
 }
 

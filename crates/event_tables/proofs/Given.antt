@@ -15,7 +15,7 @@ use Rattle.rtl_flat.specs.Flats.{Flat, widths}
 use Rattle.event_write.specs.event_tally.Targets.{drives_of}
 use Rattle.event_write.proofs.event_tally_proofs.Lengths.{resolved_length, undriven}
 use Rattle.event_write.specs.QueueState.{row, driven_with, resolved_by}
-use Rattle.event_tables.specs.Driving.{drives, ends_in, entered, Enters, given_by, AreDriven}
+use Rattle.event_tables.specs.Driving.{drives, ends_in, list_with, Enters, given_by, AreDriven}
 use Rattle.event_tables.proofs.Ears.{row_past}
 
 -- the process with a number
@@ -63,12 +63,12 @@ module _ (d : Flat) (n : ℕ) (old new : List (Vec ProcId Global)) (was : AreDri
 
   row_more : (i : ℕ) → i < length d.signals → drives d n i ≡ true → row new i ≡ row old i ++ number n ∷ []
   row_more i within e =
-      more.rows i (within_old i within) ∙ cond-true (drives d n i) (entered (number n) (row old i)) (row old i) e
+      more.rows i (within_old i within) ∙ cond-true (drives d n i) (list_with (number n) (row old i)) (row old i) e
       ∙ cond-false (ends_in (row old i) n) (row old i) (row old i ++ number n ∷ []) (not_last (row old i) n (was.below i))
 
   row_same : (i : ℕ) → i < length d.signals → drives d n i ≡ false → row new i ≡ row old i
   row_same i within e =
-      more.rows i (within_old i within) ∙ cond-false (drives d n i) (entered (number n) (row old i)) (row old i) e
+      more.rows i (within_old i within) ∙ cond-false (drives d n i) (list_with (number n) (row old i)) (row old i) e
 
   below_next : (xs : List ProcId) → All (λ p. p.0 < n) xs → All (λ p. p.0 < n + 1) xs
   below_next xs h = All-weaker (λ p. p.0 < n) (λ p. p.0 < n + 1) (λ p less. omega (arith, less)) xs h

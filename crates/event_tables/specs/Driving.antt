@@ -22,13 +22,13 @@ ends_in (x ∷ []) p = x.0 == p
 ends_in (x ∷ y ∷ ys) p = ends_in (y ∷ ys) p
 
 -- a list with a process at its end
-abbrev pub entered : ProcId → List ProcId → List ProcId
-entered p xs = cond (ends_in xs p.0) xs (xs ++ p ∷ [])
+abbrev pub list_with : ProcId → List ProcId → List ProcId
+list_with p xs = cond (ends_in xs p.0) xs (xs ++ p ∷ [])
 
 -- a process is put into the rows of some signals
 pub record Enters (process : ProcId) (which : ℕ → Bool) (old new : List (Vec ProcId Global)) : Type 0 where
   pub same_length : length new ≡ length old
-  pub rows : (i : ℕ) → i < length old → row new i ≡ cond (which i) (entered process (row old i)) (row old i)
+  pub rows : (i : ℕ) → i < length old → row new i ≡ cond (which i) (list_with process (row old i)) (row old i)
 
 -- what the processes in a row give to a net together with the others
 abbrev pub given_by : Flat → List ProcId → (ℕ → List Bit) → ℕ → List Bit → List Bit

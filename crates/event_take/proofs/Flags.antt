@@ -12,11 +12,11 @@ use Rattle.event_model.specs.Order.{first_delayed}
 use Rattle.event_write.specs.declared.queue_state.QueueState.{QueueState}
 use Rattle.event_write.specs.declared.entries.Entry.{Entry as Code}
 use Rattle.event_write.specs.Entries.{Entry, entry, updates}
-use Rattle.event_write.specs.QueueState.{IsQueueState, held, state}
+use Rattle.event_write.specs.QueueState.{IsQueueState, flagged_value, state}
 use Rattle.event_write.proofs.Entering.{some_update}
 use Rattle.event_take.specs.Lawful.{IsFlagged}
 
-held_flag : (flags : List Bool) (values : List (List Bit)) (k : ℕ) → is_some (held flags values k) ≡ flag flags k
+held_flag : (flags : List Bool) (values : List (List Bit)) (k : ℕ) → is_some (flagged_value flags values k) ≡ flag flags k
 held_flag flags values k = by_flag (flag flags k)
   where
     by_flag : (b : Bool) → is_some (if b then Some (store values k) else None) ≡ b

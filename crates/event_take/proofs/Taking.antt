@@ -12,7 +12,7 @@ use Rattle.rank_set.specs.Ranks.{flag}
 use Rattle.rank_set.proofs.Law.{flag-set_same, flag-set_other}
 use Rattle.event_model.specs.Queue.{doing_of}
 use Rattle.event_model.specs.Writes.{put}
-use Rattle.event_write.specs.QueueState.{HasWidth, held}
+use Rattle.event_write.specs.QueueState.{HasWidth, flagged_value}
 use Rattle.event_write.proofs.Writing.{put_at, put_other, store_set}
 
 -- a flag that is set
@@ -24,27 +24,27 @@ flag_put flags i b within k =
     ]
 
 -- a value that is taken away
-pub held_less : (flags : List Bool) (values : List (List Bit)) (i : ℕ) → i < length flags → (k : ℕ) → held (set flags i false) values k ≡ put (held flags values) i None k
+pub held_less : (flags : List Bool) (values : List (List Bit)) (i : ℕ) → i < length flags → (k : ℕ) → flagged_value (set flags i false) values k ≡ put (flagged_value flags values) i None k
 held_less flags values i within k =
     ap (λ (b : Bool). if b then Some (store values k) else None) (flag_put flags i false within k) ∙ by_place (k == i)
   where
-    by_place : (b : Bool) → (if (if b then false else flag flags k) then Some (store values k) else None) ≡ (if b then None else held flags values k)
+    by_place : (b : Bool) → (if (if b then false else flag flags k) then Some (store values k) else None) ≡ (if b then None else flagged_value flags values k)
     by_place true = refl
     by_place false = refl
 
 -- a value that is put
-pub held_more : (flags : List Bool) (values : List (List Bit)) (i : ℕ) (bits : List Bit) → i < length flags → i < length values → (k : ℕ) → held (set flags i true) (set values i bits) k ≡ put (held flags values) i (Some bits) k
+pub held_more : (flags : List Bool) (values : List (List Bit)) (i : ℕ) (bits : List Bit) → i < length flags → i < length values → (k : ℕ) → flagged_value (set flags i true) (set values i bits) k ≡ put (flagged_value flags values) i (Some bits) k
 held_more flags values i bits within there k =
     ap (λ (b : Bool). if b then Some (store (set values i bits) k) else None) (flag_put flags i true within k)
     ∙ ap (λ (bs : List Bit). if (if k == i then true else flag flags k) then Some bs else None) (store_set values i bits there k)
     ∙ by_place (k == i)
   where
-    by_place : (b : Bool) → (if (if b then true else flag flags k) then Some (if b then bits else store values k) else None) ≡ (if b then Some bits else held flags values k)
+    by_place : (b : Bool) → (if (if b then true else flag flags k) then Some (if b then bits else store values k) else None) ≡ (if b then Some bits else flagged_value flags values k)
     by_place true = refl
     by_place false = refl
 
 -- a value that is held
-pub held_here : (flags : List Bool) (values : List (List Bit)) (i : ℕ) → flag flags i ≡ true → held flags values i ≡ Some (store values i)
+pub held_here : (flags : List Bool) (values : List (List Bit)) (i : ℕ) → flag flags i ≡ true → flagged_value flags values i ≡ Some (store values i)
 held_here flags values i e = ap (λ (b : Bool). if b then Some (store values i) else None) e
 
 -- what a process does

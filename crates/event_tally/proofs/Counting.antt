@@ -13,7 +13,7 @@ use Rattle.event_model.specs.Queue.{doing_of, doing_at, drive_with, resolved_fro
 use Rattle.rtl_flat.specs.Flats.{Flat, widths}
 use Rattle.event_model.specs.Writes.{driven, no_drive, put}
 use Rattle.event_tally.specs.declared.tally.Tally.{Tally}
-use Rattle.event_tally.specs.Given.{AreCounted, bit_given, given, given_from}
+use Rattle.event_tally.specs.Given.{AreCounted, bit_given, given_bits, given_from}
 use Rattle.event_tally.specs.Tallies.{IsTalliedAt, IsTalliedWith, times}
 use Rattle.event_tally.specs.Targets.{drives_of}
 use Rattle.event_tally.proofs.Lengths.{driven_long, resolved_length, unwritten}
@@ -104,7 +104,7 @@ counted_with d driver p does net row k is few counted tally there =
     record {
       others = parts.others;
       few = omega (arith, less, few);
-      tally_is = tally_same (given d driver net k) (bit_given (widths d) does (driver p) net k ∷ parts.others) tally parts.old (counted.each k tally there);
+      tally_is = tally_same (given_bits d driver net k) (bit_given (widths d) does (driver p) net k ∷ parts.others) tally parts.old (counted.each k tally there);
     }
 
 pub counted_moved : (d : Flat) (driver : ℕ → List Bit) (p : ℕ) (does : Doing) (net : ℕ) (bits : List Bit) (old new : List Tally) → doing_at d p ≡ Some does → length new ≡ length old
@@ -116,8 +116,8 @@ counted_moved d driver p does net bits old new is size moved counted =
       each = λ k tally there.
           let parts = split (widths d) 0 p d.tasks driver p does net k (omega arith) is in
           let within = slice_get_within new k tally there in
-          let here = moved k parts.others within (λ t was. tally_same (given d driver net k) (bit_given (widths d) does (driver p) net k ∷ parts.others) t parts.old (counted.each k t was)) in
-          tally_same (bit_given (widths d) does bits net k ∷ parts.others) (given d (put driver p bits) net k) tally (λ b. sym (parts.new bits b)) (here tally there);
+          let here = moved k parts.others within (λ t was. tally_same (given_bits d driver net k) (bit_given (widths d) does (driver p) net k ∷ parts.others) t parts.old (counted.each k t was)) in
+          tally_same (bit_given (widths d) does bits net k ∷ parts.others) (given_bits d (put driver p bits) net k) tally (λ b. sym (parts.new bits b)) (here tally there);
     }
 
 -- a net that a process drives no part of
@@ -155,5 +155,5 @@ column_gives ws n (one ∷ others) driver net k within =
     ∙ ap (resolve_bit (bit_given ws one.does (driver n) net k)) (column_gives ws (n + 1) others driver net k within)
 
 -- the drivers of a net give to a bit what the column of their bits does
-pub resolved_at : (d : Flat) (driver : ℕ → List Bit) (net k : ℕ) → k < widths d net → slice_index_or (resolved d driver net) k Z ≡ reduced resolve_bit Z (given d driver net k)
+pub resolved_at : (d : Flat) (driver : ℕ → List Bit) (net k : ℕ) → k < widths d net → slice_index_or (resolved d driver net) k Z ≡ reduced resolve_bit Z (given_bits d driver net k)
 resolved_at d driver net k within = column_gives (widths d) 0 d.tasks driver net k within

@@ -21,10 +21,10 @@ given_from ws number [] driver net k = []
 given_from ws number (one ∷ others) driver net k =
     bit_given ws one.does (driver number) net k ∷ given_from ws (number + 1) others driver net k
 
-abbrev pub given : Flat → (ℕ → List Bit) → ℕ → ℕ → List Bit
-given d driver net k = given_from (widths d) 0 d.tasks driver net k
+abbrev pub given_bits : Flat → (ℕ → List Bit) → ℕ → ℕ → List Bit
+given_bits d driver net k = given_from (widths d) 0 d.tasks driver net k
 
 -- whether tallies count the drivers of the bits of a net
 pub record AreCounted (d : Flat) (driver : ℕ → List Bit) (net : ℕ) (row : List Tally) : Type 0 where
   pub inside : length row ≤ widths d net
-  pub each : (k : ℕ) → IsTalliedAt row k (given d driver net k)
+  pub each : (k : ℕ) → IsTalliedAt row k (given_bits d driver net k)

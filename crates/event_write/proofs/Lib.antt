@@ -1,7 +1,6 @@
 mod Places
 mod Heard
 mod Widths
-mod Indices
 mod Parts
 mod Woken
 pub mod Writing

@@ -24,8 +24,8 @@ use Rattle.event_write.specs.Listeners.{AreBelow, heard_by}
 use Rattle.event_write.specs.Stored.{AreStored}
 
 -- the value of a flagged number
-abbrev pub held : List Bool → List (List Bit) → ℕ → Option (List Bit)
-held flags values k = if flag flags k then Some (store values k) else None
+abbrev pub flagged_value : List Bool → List (List Bit) → ℕ → Option (List Bit)
+flagged_value flags values k = if flag flags k then Some (store values k) else None
 
 -- what a continuous assignment drives
 abbrev pub driver_of : Option (Option (List Bit)) → List Bit
@@ -40,8 +40,8 @@ state m =
       value = store m.values.items;
       woken = flag m.woken.flags;
       driver = λ p. driver_of (slice_get m.drivers.items p);
-      pending = held m.pending m.pending_values.items;
-      offered = held m.offered m.offered_values.items;
+      pending = flagged_value m.pending m.pending_values.items;
+      offered = flagged_value m.offered m.offered_values.items;
       activated = updates (drop m.next (map entry m.active.items));
       delayed = updates (map entry m.waiting.items);
     }

@@ -15,3 +15,7 @@ pub record AreStored (signals : List Signal) (values : List (List Bit)) : Type 0
 
 abbrev pub span : Span → model.Span
 span bits = record { at = bits.at; count = bits.count }
+
+-- one bit, at a place
+abbrev pub bit_span : ℕ → model.Span
+bit_span k = record { at = k; count = 1 }

@@ -8,6 +8,7 @@ use Rattle.rtl_flat.specs.declared.signal.Kind.{Kind}
 use Rattle.rtl_flat.specs.declared.signal.Kind.TheVariants.{TopInput, Net, Var}
 use Rattle.rtl_flat.specs.declared.signal.Signal.{Signal}
 use Rattle.event_model.specs.Queue.{is_input_kind, is_input_of}
+use Rattle.net_model.proofs.Gates.{clock_control, clock_or_reset, control_input}
 use Rattle.net_model.specs.Control.{IsControl, IsReached, Itself, Through}
 use Rattle.rtl_flat.specs.Flats.{Flat}
 use Rattle.net_list.specs.rtl_scan.Arrows.{Among, AreRising}
@@ -110,7 +111,7 @@ module _ (d : Flat) where
 
   pub all_controls : (n : ℕ) (found : List ℕ) → AreBelow d n found → length d.signals ≤ n → AreControls d found
   all_controls n found are past =
-      record { rising = are.rising; each = λ s. (λ h. ((are.each s).0 h).1, λ is. let below = input_below d.signals s is.input in (are.each s).1 (omega (arith, below, past), is)) }
+      record { rising = are.rising; each = λ s. (λ h. ((are.each s).0 h).1, λ is. let below = input_below d.signals s (control_input d s is) in (are.each s).1 (omega (arith, below, past), is)) }
 
   reached_below : (c s : ℕ) → c < length d.signals → IsReached d c s → s < length d.signals
   reached_below c s inside Itself = inside
@@ -118,20 +119,21 @@ module _ (d : Flat) where
 
   pub no_top : (n : ℕ) → is_top (slice_get d.signals n) ≡ false → IsControl d n → ⊥
   no_top n other is =
-      both_ways (is_top (slice_get d.signals n)) other (input_of (slice_get d.signals n) ∙ is.input)
+      both_ways (is_top (slice_get d.signals n)) other (input_of (slice_get d.signals n) ∙ control_input d n is)
 
   module _ (links : List Link) (rows : List (Vec ℕ Global)) (are : AreRows (length d.signals) links rows) (all : ArePassing d (length d.tasks) links) (edges : List Bool) (marked : AreEdgeMarks d edges) where
     pub control_is : (n : ℕ) → is_top (slice_get d.signals n) ≡ true → ReachesMarked rows edges n → IsControl d n
     control_is n top it =
-        record {
+        clock_control d n (record {
           input = sym (input_of (slice_get d.signals n)) ∙ top;
           signal = it.signal;
           reached = reached_from d links rows are all n it.signal it.reached;
           edges = ((marked.each it.signal).0 it.marked).1;
-        }
+        })
 
     pub control_reaches : (n : ℕ) → IsControl d n → ReachesMarked rows edges n
-    control_reaches n is =
+    control_reaches n control =
+        let is = clock_or_reset d n control in
         let inside = input_below d.signals n is.input in
         record {
           signal = is.signal;

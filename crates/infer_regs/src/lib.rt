@@ -1,4 +1,5 @@
-//! Registers with their clocks and resets, as synthesis infers them.
+//! Registers with their clocks and resets, as synthesis infers them; the form of one process that waits for edges; and the
+//! inputs that are clocks or resets.
 #![tactic(auto)]
 
 mod broken;

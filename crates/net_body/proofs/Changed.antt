@@ -6,7 +6,7 @@ use Rattle.rtl_bits.specs.declared.Bit.TheVariants.{Zero, One, X, Z}
 use Rattle.rtl_bits.specs.Bit.{xor_bit}
 use Rattle.rtl_bits.specs.Bits.{zip_with}
 use Rattle.net_number.proofs.net_laws_proofs.Known.{KnownBit}
-use Rattle.net_body.specs.Ends.{changed}
+use Rattle.net_body.specs.Ends.{changed_digits}
 
 zip_length : (g : Bit → Bit → Bit) (a b : List Bit) → length a ≡ length b → length (zip_with g a b) ≡ length a
 zip_length g [] b e = refl
@@ -19,12 +19,12 @@ zip_at g (x ∷ a) [] k below e = absurd (omega (arith, e))
 zip_at g (x ∷ a) (y ∷ b) zero below e = refl
 zip_at g (x ∷ a) (y ∷ b) (suc k) below e = zip_at g a b k (omega (arith, below)) (omega (arith, e))
 
-pub changed_length : (old ran after : List Bit) → length ran ≡ length old → length after ≡ length old → length (changed old ran after) ≡ length after
+pub changed_length : (old ran after : List Bit) → length ran ≡ length old → length after ≡ length old → length (changed_digits old ran after) ≡ length after
 changed_length old ran after e e' =
     let inner = zip_length xor_bit old ran (sym e) in
     zip_length xor_bit after (zip_with xor_bit old ran) (omega (arith, inner, e'))
 
-pub changed_at : (old ran after : List Bit) (k : ℕ) → k < length after → length ran ≡ length old → length after ≡ length old → get_or (changed old ran after) k X ≡ xor_bit (get_or after k X) (xor_bit (get_or old k X) (get_or ran k X))
+pub changed_at : (old ran after : List Bit) (k : ℕ) → k < length after → length ran ≡ length old → length after ≡ length old → get_or (changed_digits old ran after) k X ≡ xor_bit (get_or after k X) (xor_bit (get_or old k X) (get_or ran k X))
 changed_at old ran after k below e e' =
     let inner = zip_length xor_bit old ran (sym e) in
     zip_at xor_bit after (zip_with xor_bit old ran) k below (omega (arith, inner, e'))

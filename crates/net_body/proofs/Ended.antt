@@ -17,13 +17,13 @@ use Rattle.net_number.proofs.event_laws_proofs.Lengths.{put_at, put_other}
 use Rattle.rtl_flat.specs.Flats.{Flat, widths}
 use Rattle.event_model.specs.Writes.{Values, put}
 use Rattle.net_model.specs.declared.fill.Fill.{Fill}
-use Rattle.net_model.specs.Block.{Maps, acts, begun, bit_after, block_bit}
+use Rattle.net_model.specs.Block.{Maps, acts, first_maps, bit_after, block_bit}
 use Rattle.net_model.specs.Numbers.{AreNumbers, bit}
 use Rattle.net_number.proofs.net_laws_proofs.Known.{Known, known_at, known_each}
 use Rattle.net_number.proofs.net_laws_proofs.Laws.{block_known}
 use Rattle.net_body.specs.declared.mark.Mark.{Mark}
-use Rattle.net_body.specs.Ends.{Ending, bits_after, changed, ending, ending_after, ending_after_one}
-use Rattle.net_body.specs.Marks.{maps, next_bit, seen}
+use Rattle.net_body.specs.Ends.{Ending, bits_after, changed_digits, ending, ending_after, ending_after_one}
+use Rattle.net_body.specs.Marks.{maps, next_bit, view_at}
 use Rattle.net_body.specs.Named.{body_signals, is_among}
 use Rattle.net_body.proofs.Changed.{changed_at, changed_length, xor_known, xor_left}
 use Rattle.net_body.proofs.Ending.{clear_maps}
@@ -44,9 +44,9 @@ ended_more aside before e e' xs ys is =
 
 -- ---- one signal in the lists
 
-seen_put : {A B : Type 0} → (f : B → A) (none : A) (marks : List B) (i : ℕ) (m : B) (a : A) → i < length marks → f m ≡ a → seen f none (set marks i m) ≡ put (seen f none marks) i a
+seen_put : {A B : Type 0} → (f : B → A) (none : A) (marks : List B) (i : ℕ) (m : B) (a : A) → i < length marks → f m ≡ a → view_at f none (set marks i m) ≡ put (view_at f none marks) i a
 seen_put f none marks i m a there is =
-    put_is (seen f none marks) (seen f none (set marks i m)) i a (seen_same f none marks i m there ∙ is) (λ j apart. seen_other f none marks i m j apart)
+    put_is (view_at f none marks) (view_at f none (set marks i m)) i a (seen_same f none marks i m there ∙ is) (λ j apart. seen_other f none marks i m j apart)
 
 pub cleared_is : (numbers : List (List Bit)) (marks : List Mark) (i : ℕ) (bits bits' : List Bit) (n : Mark) → i < length numbers → i < length marks → bits ≡ bits' →
     ((k : ℕ) → next_bit n k ≡ None) → ((k : ℕ) → is_one_at n.wrote k ≡ false) → ((k : ℕ) → is_one_at n.late k ≡ false) →
@@ -72,7 +72,7 @@ pub number_read : (numbers : List (List Bit)) (i : ℕ) (bits : List Bit) → i 
 number_read numbers i bits there is = is ∙ get_or_default numbers i bits [] there
 
 -- digits of which a run's are put aside
-pub beside_is : (old run after ran kept both outcome : List Bit) → old ≡ kept → ran ≡ run → both ≡ zip_with xor_bit old ran → outcome ≡ zip_with xor_bit after both → outcome ≡ changed kept run after
+pub beside_is : (old run after ran kept both outcome : List Bit) → old ≡ kept → ran ≡ run → both ≡ zip_with xor_bit old ran → outcome ≡ zip_with xor_bit after both → outcome ≡ changed_digits kept run after
 beside_is old run after ran kept both outcome same same' inner outer =
     outer ∙ ap (zip_with xor_bit after) (inner ∙ ap (λ (x : List Bit). zip_with xor_bit x ran) same ∙ ap (zip_with xor_bit kept) same')
 
@@ -84,27 +84,27 @@ pub record Fits (w : ℕ) (bits : List Bit) : Type 0 where
   pub known : Known bits
 
 -- what a run changed of a signal
-pub changed_number : (w : ℕ) (old ran after : List Bit) → length old ≡ w → length ran ≡ w → length after ≡ w → Known old → Known ran → Known after → (length (changed old ran after) ≡ w) × Known (changed old ran after)
+pub changed_number : (w : ℕ) (old ran after : List Bit) → length old ≡ w → length ran ≡ w → length after ≡ w → Known old → Known ran → Known after → (length (changed_digits old ran after) ≡ w) × Known (changed_digits old ran after)
 changed_number w old ran after wide wide' wide'' known known' known'' =
     let size = changed_length old ran after (wide' ∙ sym wide) (wide'' ∙ sym wide) in (
       size ∙ wide'',
-      known_each (changed old ran after) (λ k below.
+      known_each (changed_digits old ran after) (λ k below.
           let inside : k < length after = omega (arith, below, size) in
           ap is_unknown (changed_at old ran after k inside (wide' ∙ sym wide) (wide'' ∙ sym wide))
           ∙ xor_known (get_or after k X) (xor_bit (get_or old k X) (get_or ran k X)) (known_at after k known'' inside)
           (xor_known (get_or old k X) (get_or ran k X) (known_at old k known (omega (arith, inside, wide, wide''))) (known_at ran k known' (omega (arith, inside, wide', wide''))))),
     )
 
-fits_changed : (w : ℕ) (old ran after : List Bit) → Fits w old → Fits w ran → Fits w after → Fits w (changed old ran after)
+fits_changed : (w : ℕ) (old ran after : List Bit) → Fits w old → Fits w ran → Fits w after → Fits w (changed_digits old ran after)
 fits_changed w old ran after o r a =
     let both = changed_number w old ran after o.wide r.wide a.wide o.known r.known a.known in
     record { wide = both.0; known = both.1 }
 
 -- nothing was changed
-changed_none : (w : ℕ) (old after : List Bit) → Fits w old → Fits w after → changed old old after ≡ after
+changed_none : (w : ℕ) (old after : List Bit) → Fits w old → Fits w after → changed_digits old old after ≡ after
 changed_none w old after o a =
     let size = changed_length old old after refl (a.wide ∙ sym o.wide) in
-    ext_get_or X (changed old old after) after size (λ k below.
+    ext_get_or X (changed_digits old old after) after size (λ k below.
     let inside : k < length after = omega (arith, below, size) in
     let wide = o.wide in
     let wide' = a.wide in
@@ -233,7 +233,7 @@ module _ (before : Values) (i : ℕ) where
 
   module _ (w : ℕ) (old : Fits w (before i)) where
     abbrev made : Ending → List Bit
-    made e = changed (before i) (bits_after e.maps i) (e.after i)
+    made e = changed_digits (before i) (bits_after e.maps i) (e.after i)
 
     record AreFit (e : Ending) : Type 0 where
       pub ran : Fits w (bits_after e.maps i)
@@ -241,12 +241,12 @@ module _ (before : Values) (i : ℕ) where
 
     after_here : (e : Ending) (j : ℕ) → i ≡ j → (ending_after_one true before e j).after i ≡ made e
     after_here e j here =
-        put_at e.after j i (changed (before j) (bits_after e.maps j) (e.after j)) here
-        ∙ ap (λ s. changed (before s) (bits_after e.maps s) (e.after s)) (sym here)
+        put_at e.after j i (changed_digits (before j) (bits_after e.maps j) (e.after j)) here
+        ∙ ap (λ s. changed_digits (before s) (bits_after e.maps s) (e.after s)) (sym here)
 
     after_there : (e : Ending) (j : ℕ) → i ≢ j → (ending_after_one true before e j).after i ≡ e.after i
     after_there e j apart =
-        put_other e.after j i (changed (before j) (bits_after e.maps j) (e.after j)) apart
+        put_other e.after j i (changed_digits (before j) (bits_after e.maps j) (e.after j)) apart
 
     fit_one : (e : Ending) (j : ℕ) → AreFit e → AreFit (ending_after_one true before e j)
     fit_one e j are =
@@ -265,12 +265,12 @@ module _ (before : Values) (i : ℕ) where
     made_one e j are =
         elim (cases_eq i j) as (λ _. made (ending_after_one true before e j) ≡ made e) [
           | inl here ↦
-              ap (λ (ran : List Bit). changed (before i) ran ((ending_after_one true before e j).after i)) (settled_here true before e i j here)
-              ∙ ap (changed (before i) (before i)) (after_here e j here)
+              ap (λ (ran : List Bit). changed_digits (before i) ran ((ending_after_one true before e j).after i)) (settled_here true before e i j here)
+              ∙ ap (changed_digits (before i) (before i)) (after_here e j here)
               ∙ changed_none w (before i) (made e) old (fits_changed w (before i) (bits_after e.maps i) (e.after i) old are.ran are.after)
           | inr apart ↦
-              ap (λ (ran : List Bit). changed (before i) ran ((ending_after_one true before e j).after i)) (settled_there true before e i j apart)
-              ∙ ap (changed (before i) (bits_after e.maps i)) (after_there e j apart)
+              ap (λ (ran : List Bit). changed_digits (before i) ran ((ending_after_one true before e j).after i)) (settled_there true before e i j apart)
+              ∙ ap (changed_digits (before i) (bits_after e.maps i)) (after_there e j apart)
         ]
 
     all_fit : (e : Ending) (xs : List ℕ) → AreFit e → AreFit (ending_after true before e xs)
@@ -282,26 +282,26 @@ module _ (before : Values) (i : ℕ) where
     all_made e (j ∷ xs) are =
         all_made (ending_after_one true before e j) xs (fit_one e j are) ∙ made_one e j are
 
-    pub put_beside : (e : Ending) (xs : List ℕ) → Fits w (bits_after e.maps i) → Fits w (e.after i) → IsClear i (ending_after true before e xs).maps → (ending_after true before e xs).maps.now i ≡ before i → (ending_after true before e xs).after i ≡ changed (before i) (bits_after e.maps i) (e.after i)
+    pub put_beside : (e : Ending) (xs : List ℕ) → Fits w (bits_after e.maps i) → Fits w (e.after i) → IsClear i (ending_after true before e xs).maps → (ending_after true before e xs).maps.now i ≡ before i → (ending_after true before e xs).after i ≡ changed_digits (before i) (bits_after e.maps i) (e.after i)
     put_beside e xs ran after clear back =
         let are : AreFit e = record { ran = ran; after = after } in
         let last = ending_after true before e xs in
         sym (changed_none w (before i) (last.after i) old (all_fit e xs are).after)
-        ∙ ap (λ (bits : List Bit). changed (before i) bits (last.after i)) (sym (clear_settled i last.maps clear ∙ back))
+        ∙ ap (λ (bits : List Bit). changed_digits (before i) bits (last.after i)) (sym (clear_settled i last.maps clear ∙ back))
         ∙ all_made e xs are
 
 -- ---- a whole body
 
-module _ (ws : ℕ → ℕ) (f : Fill) (n : Values) (body : Actions) (e : Ending) (ran : e.maps ≡ acts ws f (begun n) body) (i : ℕ) where
+module _ (ws : ℕ → ℕ) (f : Fill) (n : Values) (body : Actions) (e : Ending) (ran : e.maps ≡ acts ws f (first_maps n) body) (i : ℕ) where
   -- what isn't named is as it was
   named_or_clear : (is_among i (body_signals body) ≡ true) ⊎ IsClear i e.maps
   named_or_clear =
       elim (cases_Bool (is_among i (body_signals body))) as (λ _. (is_among i (body_signals body) ≡ true) ⊎ IsClear i e.maps) [
         | inl there ↦ inl there
         | inr none ↦ inr (subst (IsClear i) (sym ran) (record {
-          next = (body_stays ws f i (begun n) body none).next;
-          wrote = (body_stays ws f i (begun n) body none).wrote;
-          late = (body_stays ws f i (begun n) body none).late;
+          next = (body_stays ws f i (first_maps n) body none).next;
+          wrote = (body_stays ws f i (first_maps n) body none).wrote;
+          late = (body_stays ws f i (first_maps n) body none).late;
         }))
       ]
 
@@ -309,7 +309,7 @@ module _ (ws : ℕ → ℕ) (f : Fill) (n : Values) (body : Actions) (e : Ending
   named_or_same before same =
       elim (cases_Bool (is_among i (body_signals body))) as (λ _. (is_among i (body_signals body) ≡ true) ⊎ (e.maps.now i ≡ before i)) [
         | inl there ↦ inl there
-        | inr none ↦ inr (ap (λ (m : Maps). m.now i) ran ∙ (body_stays ws f i (begun n) body none).now ∙ same)
+        | inr none ↦ inr (ap (λ (m : Maps). m.now i) ran ∙ (body_stays ws f i (first_maps n) body none).now ∙ same)
       ]
 
   pub settled_block : length (e.maps.now i) ≡ ws i → bits_after e.maps i ≡ tabulate (ws i) (block_bit ws f n body i)
@@ -328,12 +328,12 @@ module _ (ws : ℕ → ℕ) (f : Fill) (n : Values) (body : Actions) (e : Ending
   pub ended_back : (before : Values) → n i ≡ before i → (ending_after true before e (body_signals body)).maps.now i ≡ before i
   ended_back before same = all_back before i e (body_signals body) (named_or_same before same)
 
-  pub ended_aside : (before : Values) (w : ℕ) → n i ≡ before i → Fits w (before i) → Fits w (bits_after e.maps i) → Fits w (e.after i) → (ending_after true before e (body_signals body)).after i ≡ changed (before i) (bits_after e.maps i) (e.after i)
+  pub ended_aside : (before : Values) (w : ℕ) → n i ≡ before i → Fits w (before i) → Fits w (bits_after e.maps i) → Fits w (e.after i) → (ending_after true before e (body_signals body)).after i ≡ changed_digits (before i) (bits_after e.maps i) (e.after i)
   ended_aside before w same old run after =
       put_beside before i w old e (body_signals body) run after (ended_clear true before) (ended_back before same)
 
 -- maps at their end
-pub all_ended : (ws : ℕ → ℕ) (f : Fill) (n : Values) (body : Actions) (e : Ending) → e.maps ≡ acts ws f (begun n) body → (aside : Bool) (before : Values) (numbers : List (List Bit)) (marks : List Mark) (after : List (List Bit)) → ending numbers marks after ≡ ending_after aside before e (body_signals body) → maps numbers marks ≡ begun (store numbers)
+pub all_ended : (ws : ℕ → ℕ) (f : Fill) (n : Values) (body : Actions) (e : Ending) → e.maps ≡ acts ws f (first_maps n) body → (aside : Bool) (before : Values) (numbers : List (List Bit)) (marks : List Mark) (after : List (List Bit)) → ending numbers marks after ≡ ending_after aside before e (body_signals body) → maps numbers marks ≡ first_maps (store numbers)
 all_ended ws f n body e ran aside before numbers marks after is =
     clear_maps numbers marks
     (λ i k. ap (λ (x : Ending). x.maps.next i k) is ∙ (ended_clear ws f n body e ran i aside before).next k)

@@ -9,9 +9,9 @@ use Rattle.rtl_bits.specs.declared.Bit.TheVariants.{X}
 use Rattle.rtl_bits.specs.Bits.{is_one_at, tabulate}
 use Rattle.rtl_bits.proofs.Lists.{tabulate-congr}
 use Rattle.rtl_flat.specs.Value.{store, widths}
-use Rattle.net_model.specs.Block.{Maps, begun, bit_after}
+use Rattle.net_model.specs.Block.{Maps, first_maps, bit_after}
 use Rattle.net_body.specs.declared.mark.Mark.{Mark}
-use Rattle.net_body.specs.Marks.{maps, next_bit, seen}
+use Rattle.net_body.specs.Marks.{maps, next_bit, view_at}
 use Rattle.net_body.proofs.Seen.{same_maps, seen_other, seen_read, seen_same}
 
 pub unwrap_pick : (h : Bool) (x y : Bit) → cond h x y ≡ unwrap_or (cond h (Some x) None) y
@@ -34,7 +34,7 @@ store_past [] i past = refl
 store_past (x ∷ numbers) zero past = absurd (omega (arith, past))
 store_past (x ∷ numbers) (suc i) past = store_past numbers i (omega (arith, past))
 
-pub seen_past : {A B : Type 0} → (f : B → A) (none : A) (xs : List B) (i : ℕ) → length xs ≤ i → seen f none xs i ≡ none
+pub seen_past : {A B : Type 0} → (f : B → A) (none : A) (xs : List B) (i : ℕ) → length xs ≤ i → view_at f none xs i ≡ none
 seen_past f none [] i past = refl
 seen_past f none (x ∷ xs) zero past = absurd (omega (arith, past))
 seen_past f none (x ∷ xs) (suc i) past = seen_past f none xs i (omega (arith, past))
@@ -49,30 +49,30 @@ set_more P f g place a before here fact other i below =
 
 -- ---- marks that are cleared
 
-pub cleared_more : {A : Type 0} (f : Mark → ℕ → A) (a : A) (marks : List Mark) (place : ℕ) (m : Mark) → place < length marks → ((k : ℕ) → f m k ≡ a) → ((i : ℕ) → i < place → (k : ℕ) → seen f (λ j. a) marks i k ≡ a) → (i : ℕ) → i < place + 1 → (k : ℕ) → seen f (λ j. a) (set marks place m) i k ≡ a
+pub cleared_more : {A : Type 0} (f : Mark → ℕ → A) (a : A) (marks : List Mark) (place : ℕ) (m : Mark) → place < length marks → ((k : ℕ) → f m k ≡ a) → ((i : ℕ) → i < place → (k : ℕ) → view_at f (λ j. a) marks i k ≡ a) → (i : ℕ) → i < place + 1 → (k : ℕ) → view_at f (λ j. a) (set marks place m) i k ≡ a
 cleared_more f a marks place m there clear before i below k =
-    elim (cases_eq i place) as (λ _. seen f (λ j. a) (set marks place m) i k ≡ a) [
-      | inl same ↦ ap (λ j. seen f (λ x. a) (set marks place m) j k) same ∙ ap (λ (g : ℕ → _). g k) (seen_same f (λ j. a) marks place m there) ∙ clear k
+    elim (cases_eq i place) as (λ _. view_at f (λ j. a) (set marks place m) i k ≡ a) [
+      | inl same ↦ ap (λ j. view_at f (λ x. a) (set marks place m) j k) same ∙ ap (λ (g : ℕ → _). g k) (seen_same f (λ j. a) marks place m there) ∙ clear k
       | inr apart ↦ ap (λ (g : ℕ → _). g k) (seen_other f (λ j. a) marks place m i apart) ∙ before i (omega (arith, below, apart)) k
     ]
 
-pub cleared_all : {A : Type 0} (f : Mark → ℕ → A) (a : A) (marks : List Mark) (place : ℕ) → length marks ≤ place → ((i : ℕ) → i < place → (k : ℕ) → seen f (λ j. a) marks i k ≡ a) → (i k : ℕ) → seen f (λ j. a) marks i k ≡ a
+pub cleared_all : {A : Type 0} (f : Mark → ℕ → A) (a : A) (marks : List Mark) (place : ℕ) → length marks ≤ place → ((i : ℕ) → i < place → (k : ℕ) → view_at f (λ j. a) marks i k ≡ a) → (i k : ℕ) → view_at f (λ j. a) marks i k ≡ a
 cleared_all f a marks place all before i k =
-    elim (cases_lt i (length marks)) as (λ _. seen f (λ j. a) marks i k ≡ a) [
+    elim (cases_lt i (length marks)) as (λ _. view_at f (λ j. a) marks i k ≡ a) [
       | inl below ↦ before i (omega (arith, below, all)) k
       | inr past ↦ ap (λ (g : ℕ → _). g k) (seen_past f (λ j. a) marks i past)
     ]
 
 -- maps in which nothing is written
-pub clear_maps : (numbers : List (List Bit)) (marks : List Mark) → ((i k : ℕ) → seen next_bit (λ j. None) marks i k ≡ None) → ((i k : ℕ) → seen (λ mark. is_one_at mark.wrote) (λ j. false) marks i k ≡ false) → ((i k : ℕ) → seen (λ mark. is_one_at mark.late) (λ j. false) marks i k ≡ false) → maps numbers marks ≡ begun (store numbers)
+pub clear_maps : (numbers : List (List Bit)) (marks : List Mark) → ((i k : ℕ) → view_at next_bit (λ j. None) marks i k ≡ None) → ((i k : ℕ) → view_at (λ mark. is_one_at mark.wrote) (λ j. false) marks i k ≡ false) → ((i k : ℕ) → view_at (λ mark. is_one_at mark.late) (λ j. false) marks i k ≡ false) → maps numbers marks ≡ first_maps (store numbers)
 clear_maps numbers marks next wrote late =
-    same_maps (maps numbers marks) (begun (store numbers)) refl
+    same_maps (maps numbers marks) (first_maps (store numbers)) refl
     (fun_ext (λ i. fun_ext (next i))) (fun_ext (λ i. fun_ext (wrote i))) (fun_ext (λ i. fun_ext (late i)))
 
 -- so it stays with other digits
-pub clear_with : (numbers new : List (List Bit)) (marks : List Mark) → maps numbers marks ≡ begun (store numbers) → maps new marks ≡ begun (store new)
+pub clear_with : (numbers new : List (List Bit)) (marks : List Mark) → maps numbers marks ≡ first_maps (store numbers) → maps new marks ≡ first_maps (store new)
 clear_with numbers new marks clear =
-    same_maps (maps new marks) (begun (store new)) refl
+    same_maps (maps new marks) (first_maps (store new)) refl
     (ap (λ (m : Maps). m.next) clear) (ap (λ (m : Maps). m.wrote) clear) (ap (λ (m : Maps). m.late) clear)
 
 -- a vector whose slice was written is that slice

@@ -16,3 +16,6 @@ pub mod Sides
 pub mod Siding
 pub mod Targets
 pub mod Untouched
+-- passed on to the crates above
+pub use Rattle.net_number.proofs.event_laws_proofs
+pub use Rattle.net_number.proofs.net_laws_proofs

@@ -11,10 +11,10 @@ use Rattle.rtl_flat.specs.Process.{Task, doing, task}
 use Rattle.rtl_flat.specs.WellFormed.{process_statements}
 use Rattle.net_body.specs.declared.mark.Mark.{Mark}
 use Rattle.net_body.specs.Levels.{process_levels}
-use Rattle.net_body.specs.Marks.{HaveMarks, seen}
+use Rattle.net_body.specs.Marks.{HaveMarks, view_at}
 
 -- one mark more in which nothing is written
-pub seen_more : {A : Type 0} (f : Mark → ℕ → A) (a : A) (marks : List Mark) (m : Mark) → ((i k : ℕ) → seen f (λ j. a) marks i k ≡ a) → ((k : ℕ) → f m k ≡ a) → (i k : ℕ) → seen f (λ j. a) (marks ++ m ∷ []) i k ≡ a
+pub seen_more : {A : Type 0} (f : Mark → ℕ → A) (a : A) (marks : List Mark) (m : Mark) → ((i k : ℕ) → view_at f (λ j. a) marks i k ≡ a) → ((k : ℕ) → f m k ≡ a) → (i k : ℕ) → view_at f (λ j. a) (marks ++ m ∷ []) i k ≡ a
 seen_more f a [] m before here zero k = here k
 seen_more f a [] m before here (suc i) k = refl
 seen_more f a (x ∷ marks) m before here zero k = before zero k

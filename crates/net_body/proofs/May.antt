@@ -17,7 +17,7 @@ use Rattle.net_model.specs.declared.fill.Fill.{Fill}
 use Rattle.net_model.specs.Block.{filled_case, with_bits}
 use Rattle.net_model.specs.Numbers.{bit, fill_bit}
 use Rattle.net_body.specs.declared.mark.Mark.{Mark}
-use Rattle.net_body.specs.Marks.{maps, next_bit, seen}
+use Rattle.net_body.specs.Marks.{maps, next_bit, view_at}
 use Rattle.net_body.proofs.Filled.{or_none, tabulate_own, with_none}
 use Rattle.net_body.proofs.Merging.{pick_filled}
 use Rattle.net_body.proofs.Seen.{same_maps, seen_kept, seen_other, seen_read, seen_same}
@@ -91,9 +91,9 @@ abbrev give : Bit → Bool → Option Bit → Option Bit
 give new b a = cond b (Some new) a
 
 module _ (numbers : List (List Bit)) (marks : List Mark) (i mask : ℕ) (f : Fill) (may : BitSet) (may_is : (j k : ℕ) → may j k ≡ ((j == i) && is_one_at mask k)) (m n : Mark) (marked : i < length marks) (is : m ≡ get_or marks i m) where
-  seen_mask : (g : Mark → ℕ → Bool) → ((k : ℕ) → g n k ≡ (is_one_at mask k || g m k)) → (j k : ℕ) → seen g (λ x. false) (set marks i n) j k ≡ (may j k || seen g (λ x. false) marks j k)
+  seen_mask : (g : Mark → ℕ → Bool) → ((k : ℕ) → g n k ≡ (is_one_at mask k || g m k)) → (j k : ℕ) → view_at g (λ x. false) (set marks i n) j k ≡ (may j k || view_at g (λ x. false) marks j k)
   seen_mask g here =
-      at_mask add (seen g (λ x. false) marks) (seen g (λ x. false) (set marks i n)) i mask may (λ a. refl)
+      at_mask add (view_at g (λ x. false) marks) (view_at g (λ x. false) (set marks i n)) i mask may (λ a. refl)
       (λ k. ap (λ (h : ℕ → Bool). h k) (seen_same g (λ x. false) marks i n marked) ∙ here k
       ∙ ap (λ (h : ℕ → Bool). is_one_at mask k || h k) (seen_read g (λ x. false) marks i m marked is))
       (λ j apart. seen_other g (λ x. false) marks i n j apart) may_is
@@ -106,7 +106,7 @@ module _ (numbers : List (List Bit)) (marks : List Mark) (i mask : ℕ) (f : Fil
   fill_next_is next wrote late =
       same_maps (maps numbers (set marks i n)) (filled_case f (λ j k. not true && may j k) (λ j k. true && may j k) (maps numbers marks))
       (sym (with_none (store numbers) (λ j k. fill_bit f)))
-      (fun_ext (λ j. fun_ext (λ k. at_mask (give (fill_bit f)) (seen next_bit (λ x. None) marks) (seen next_bit (λ x. None) (set marks i n)) i mask may (λ a. refl)
+      (fun_ext (λ j. fun_ext (λ k. at_mask (give (fill_bit f)) (view_at next_bit (λ x. None) marks) (view_at next_bit (λ x. None) (set marks i n)) i mask may (λ a. refl)
       (λ l. ap (λ (h : ℕ → Option Bit). h l) (seen_same next_bit (λ x. None) marks i n marked) ∙ next l
       ∙ ap (λ (h : ℕ → Option Bit). cond (is_one_at mask l) (Some (fill_bit f)) (h l)) (seen_read next_bit (λ x. None) marks i m marked is))
       (λ l apart. seen_other next_bit (λ x. None) marks i n l apart) may_is j k)))
@@ -140,6 +140,6 @@ module _ (numbers : List (List Bit)) (marks : List Mark) (i mask : ℕ) (f : Fil
       (fun_ext (λ k. ap (λ (h : ℕ). cond (is_one_at h k) (Some (get_or n.next k X)) None) has_next ∙ ap (λ (xs : List Bit). cond (is_one_at m.has_next k) (Some (get_or xs k X)) None) next)
       ∙ seen_read next_bit (λ k. None) marks i m marked is))
       (fun_ext (λ j. fun_ext (λ k. seen_mask (λ mark. is_one_at mark.wrote) wrote j k
-      ∙ sym (ap (λ b. b || seen (λ mark. is_one_at mark.wrote) (λ x. false) marks j k) (or_none (may j k))))))
+      ∙ sym (ap (λ b. b || view_at (λ mark. is_one_at mark.wrote) (λ x. false) marks j k) (or_none (may j k))))))
       (seen_kept (λ mark. is_one_at mark.late) (λ k. false) marks i n marked
       (ap is_one_at late ∙ seen_read (λ mark. is_one_at mark.late) (λ k. false) marks i m marked is))

@@ -15,7 +15,7 @@ use Rattle.event_model.specs.Writes.{Values, Write, put}
 use Rattle.net_number.proofs.event_laws_proofs.Lengths.{put_at, put_other}
 use Rattle.net_model.specs.Block.{Maps, write_next, write_now}
 use Rattle.net_body.specs.declared.mark.Mark.{Mark}
-use Rattle.net_body.specs.Marks.{AreKept, AreStored, is_over, maps, next_bit, seen}
+use Rattle.net_body.specs.Marks.{AreKept, AreStored, is_over, maps, next_bit, view_at}
 
 -- ---- maps from their parts
 
@@ -36,12 +36,12 @@ put_is f g i a here other =
 
 -- ---- one that is set
 
-pub seen_same : {A B : Type 0} → (f : B → A) (none : A) (marks : List B) (i : ℕ) (m : B) → i < length marks → seen f none (set marks i m) i ≡ f m
+pub seen_same : {A B : Type 0} → (f : B → A) (none : A) (marks : List B) (i : ℕ) (m : B) → i < length marks → view_at f none (set marks i m) i ≡ f m
 seen_same f none [] i m h = absurd (omega (arith, h))
 seen_same f none (x ∷ marks) zero m h = refl
 seen_same f none (x ∷ marks) (suc i) m h = seen_same f none marks i m (omega (arith, h))
 
-pub seen_other : {A B : Type 0} → (f : B → A) (none : A) (marks : List B) (i : ℕ) (m : B) (j : ℕ) → j ≢ i → seen f none (set marks i m) j ≡ seen f none marks j
+pub seen_other : {A B : Type 0} → (f : B → A) (none : A) (marks : List B) (i : ℕ) (m : B) (j : ℕ) → j ≢ i → view_at f none (set marks i m) j ≡ view_at f none marks j
 seen_other f none [] i m j apart = refl
 seen_other f none (x ∷ marks) zero m zero apart = absurd (apart refl)
 seen_other f none (x ∷ marks) zero m (suc j) apart = refl
@@ -49,7 +49,7 @@ seen_other f none (x ∷ marks) (suc i) m zero apart = refl
 seen_other f none (x ∷ marks) (suc i) m (suc j) apart =
     seen_other f none marks i m j (λ e. apart (ap suc e))
 
-pub seen_read : {A B : Type 0} → (f : B → A) (none : A) (marks : List B) (i : ℕ) (m : B) → i < length marks → m ≡ get_or marks i m → f m ≡ seen f none marks i
+pub seen_read : {A B : Type 0} → (f : B → A) (none : A) (marks : List B) (i : ℕ) (m : B) → i < length marks → m ≡ get_or marks i m → f m ≡ view_at f none marks i
 seen_read f none [] i m h is = absurd (omega (arith, h))
 seen_read f none (x ∷ marks) zero m h is = ap f is
 seen_read f none (x ∷ marks) (suc i) m h is = seen_read f none marks i m (omega (arith, h)) is
@@ -59,10 +59,10 @@ store_set numbers i bits h =
     put_is (store numbers) (store (set numbers i bits)) i bits (get_or-set_same numbers i bits [] h) (λ j apart. get_or-set_other numbers i j bits [] apart)
 
 -- nothing is seen to change
-pub seen_kept : {A B : Type 0} → (f : B → A) (none : A) (marks : List B) (i : ℕ) (m : B) → i < length marks → f m ≡ seen f none marks i → seen f none (set marks i m) ≡ seen f none marks
+pub seen_kept : {A B : Type 0} → (f : B → A) (none : A) (marks : List B) (i : ℕ) (m : B) → i < length marks → f m ≡ view_at f none marks i → view_at f none (set marks i m) ≡ view_at f none marks
 seen_kept f none marks i m h is =
-    fun_ext (λ j. elim (cases_eq j i) as (λ _. seen f none (set marks i m) j ≡ seen f none marks j) [
-      | inl same ↦ ap (seen f none (set marks i m)) same ∙ seen_same f none marks i m h ∙ is ∙ sym (ap (seen f none marks) same)
+    fun_ext (λ j. elim (cases_eq j i) as (λ _. view_at f none (set marks i m) j ≡ view_at f none marks j) [
+      | inl same ↦ ap (view_at f none (set marks i m)) same ∙ seen_same f none marks i m h ∙ is ∙ sym (ap (view_at f none marks) same)
       | inr apart ↦ seen_other f none marks i m j apart
     ])
 
@@ -87,9 +87,9 @@ abbrev give_bit : Write → Bool → ℕ → Option Bit → Option Bit
 give_bit w b k a = cond b (Some (get_or w.bits (k - w.at) X)) a
 
 module _ (numbers : List (List Bit)) (marks : List Mark) (w : Write) (m n : Mark) (marked : w.signal < length marks) (is : m ≡ get_or marks w.signal m) where
-  wrote_is : (f : Mark → ℕ → Bool) → ((k : ℕ) → f n k ≡ (is_over w.at (length w.bits) k || f m k)) → seen f (λ k. false) (set marks w.signal n) ≡ either (λ i k. covers i k w) (seen f (λ k. false) marks)
+  wrote_is : (f : Mark → ℕ → Bool) → ((k : ℕ) → f n k ≡ (is_over w.at (length w.bits) k || f m k)) → view_at f (λ k. false) (set marks w.signal n) ≡ either (λ i k. covers i k w) (view_at f (λ k. false) marks)
   wrote_is f here =
-      at_write add_bit (seen f (λ k. false) marks) (seen f (λ k. false) (set marks w.signal n)) w (λ k a. refl)
+      at_write add_bit (view_at f (λ k. false) marks) (view_at f (λ k. false) (set marks w.signal n)) w (λ k a. refl)
       (λ k. ap (λ (h : ℕ → Bool). h k) (seen_same f (λ k. false) marks w.signal n marked) ∙ here k
       ∙ ap (λ (h : ℕ → Bool). is_over w.at (length w.bits) k || h k) (seen_read f (λ k. false) marks w.signal m marked is))
       (λ j apart. seen_other f (λ k. false) marks w.signal n j apart)
@@ -115,7 +115,7 @@ module _ (numbers : List (List Bit)) (marks : List Mark) (w : Write) (m n : Mark
       maps numbers (set marks w.signal n) ≡ write_next (maps numbers marks) w
   next_is next wrote late =
       same_maps (maps numbers (set marks w.signal n)) (write_next (maps numbers marks) w) refl
-      (at_write (give_bit w) (seen next_bit (λ k. None) marks) (seen next_bit (λ k. None) (set marks w.signal n)) w (λ k a. refl)
+      (at_write (give_bit w) (view_at next_bit (λ k. None) marks) (view_at next_bit (λ k. None) (set marks w.signal n)) w (λ k a. refl)
       (λ k. ap (λ (h : ℕ → Option Bit). h k) (seen_same next_bit (λ k. None) marks w.signal n marked) ∙ next k
       ∙ ap (λ (h : ℕ → Option Bit). give_bit w (is_over w.at (length w.bits) k) k (h k)) (seen_read next_bit (λ k. None) marks w.signal m marked is))
       (λ j apart. seen_other next_bit (λ k. None) marks w.signal n j apart))
@@ -146,8 +146,8 @@ kept_mark signals numbers marks i m kept there wide =
       stored = kept.stored;
       marked = all ∙ sym same;
       each = kept.each;
-      next = λ j. elim (cases_eq j i) as (λ _. width_in signals j ≡ seen (λ mark. length mark.next) 0 (set marks i m) j) [
-        | inl here ↦ ap (width_in signals) here ∙ sym wide ∙ sym (ap (seen (λ mark. length mark.next) 0 (set marks i m)) here ∙ seen_same (λ mark. length mark.next) 0 marks i m (omega (arith, there, all)))
+      next = λ j. elim (cases_eq j i) as (λ _. width_in signals j ≡ view_at (λ mark. length mark.next) 0 (set marks i m) j) [
+        | inl here ↦ ap (width_in signals) here ∙ sym wide ∙ sym (ap (view_at (λ mark. length mark.next) 0 (set marks i m)) here ∙ seen_same (λ mark. length mark.next) 0 marks i m (omega (arith, there, all)))
         | inr apart ↦ kept.next j ∙ sym (seen_other (λ mark. length mark.next) 0 marks i m j apart)
       ];
     }

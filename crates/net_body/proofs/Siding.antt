@@ -15,7 +15,7 @@ use Rattle.net_model.specs.Block.{Maps, arm_bits, arms_late, arms_write, bit_aft
 use Rattle.net_body.specs.declared.arms.Aside.{Aside}
 use Rattle.net_body.specs.declared.mark.Mark.{Mark}
 use Rattle.net_body.specs.Asides.{AreAside, IsBounded}
-use Rattle.net_body.specs.Marks.{maps, next_bit, seen}
+use Rattle.net_body.specs.Marks.{maps, next_bit, view_at}
 use Rattle.net_body.proofs.Ending.{seen_past, store_past}
 use Rattle.net_body.proofs.Merging.{past_end}
 use Rattle.net_body.proofs.Seen.{seen_read}
@@ -33,16 +33,16 @@ each_set P xs place x there fact before i a below is =
       | inr apart ↦ before i a (omega (arith, below, apart)) (is ∙ get_or-set_other xs place i x a apart)
     ]
 
-pub seen_each : {A B : Type 0} (f : B → A) (none : A) (g : ℕ → A) (xs : List B) → EachBelow (λ i a. f a ≡ g i) (length xs) xs → (i : ℕ) → i < length xs → seen f none xs i ≡ g i
+pub seen_each : {A B : Type 0} (f : B → A) (none : A) (g : ℕ → A) (xs : List B) → EachBelow (λ i a. f a ≡ g i) (length xs) xs → (i : ℕ) → i < length xs → view_at f none xs i ≡ g i
 seen_each f none g [] h i below = absurd (omega (arith, below))
 seen_each f none g (x ∷ xs) h zero below = h zero x below refl
 seen_each f none g (x ∷ xs) h (suc i) below =
     seen_each f none (λ j. g (suc j)) xs (λ j a b e. h (suc j) a (omega (arith, b)) e) i (omega (arith, below))
 
 -- for every place, where past the end there is nothing
-pub seen_all : {A B : Type 0} (f : B → A) (none : A) (g : ℕ → A) (xs : List B) → EachBelow (λ i a. f a ≡ g i) (length xs) xs → ((i : ℕ) → length xs ≤ i → g i ≡ none) → (i : ℕ) → seen f none xs i ≡ g i
+pub seen_all : {A B : Type 0} (f : B → A) (none : A) (g : ℕ → A) (xs : List B) → EachBelow (λ i a. f a ≡ g i) (length xs) xs → ((i : ℕ) → length xs ≤ i → g i ≡ none) → (i : ℕ) → view_at f none xs i ≡ g i
 seen_all f none g xs h past i =
-    elim (cases_lt i (length xs)) as (λ _. seen f none xs i ≡ g i) [
+    elim (cases_lt i (length xs)) as (λ _. view_at f none xs i ≡ g i) [
       | inl below ↦ seen_each f none g xs h i below
       | inr over ↦ seen_past f none xs i over ∙ sym (past i over)
     ]
@@ -142,20 +142,20 @@ give_x : (has : Bool) (b : Bit) → b ≡ X → unwrap_or (cond has (Some b) Non
 give_x true b is = is
 give_x false b is = refl
 
-next_past : (marks : List Mark) (i k : ℕ) → seen (λ mark. length mark.next) 0 marks i ≤ k → unwrap_or (seen next_bit (λ j. None) marks i k) X ≡ X
+next_past : (marks : List Mark) (i k : ℕ) → view_at (λ mark. length mark.next) 0 marks i ≤ k → unwrap_or (view_at next_bit (λ j. None) marks i k) X ≡ X
 next_past [] i k past = refl
 next_past (x ∷ marks) zero k past = give_x (is_one_at x.has_next k) (get_or x.next k X) (past_end x.next k past)
 next_past (x ∷ marks) (suc i) k past = next_past marks i k past
 
-after_past : (numbers : List (List Bit)) (marks : List Mark) (i k : ℕ) → widths numbers i ≡ seen (λ mark. length mark.next) 0 marks i → widths numbers i ≤ k → bit_after (maps numbers marks) i k ≡ X
+after_past : (numbers : List (List Bit)) (marks : List Mark) (i k : ℕ) → widths numbers i ≡ view_at (λ mark. length mark.next) 0 marks i → widths numbers i ≤ k → bit_after (maps numbers marks) i k ≡ X
 after_past numbers marks i k same past =
-    ap (unwrap_or (seen next_bit (λ j. None) marks i k)) (past_end (store numbers i) k past)
+    ap (unwrap_or (view_at next_bit (λ j. None) marks i k)) (past_end (store numbers i) k past)
     ∙ next_past marks i k (subst (λ n. n ≤ k) same past)
 
 pub bounded_none : (m : Maps) → IsBounded m []
 bounded_none m = record { nothing = λ i k past. refl; late = λ i k past h. absurd (false≢true h) }
 
-pub bounded_more : (m : Maps) (arms : List Maps) (numbers : List (List Bit)) (marks : List Mark) → IsBounded m arms → ((i : ℕ) → widths numbers i ≡ seen (λ mark. length mark.next) 0 marks i) → ((i : ℕ) → widths numbers i ≡ length (m.now i)) → IsBounded m (maps numbers marks ∷ arms)
+pub bounded_more : (m : Maps) (arms : List Maps) (numbers : List (List Bit)) (marks : List Mark) → IsBounded m arms → ((i : ℕ) → widths numbers i ≡ view_at (λ mark. length mark.next) 0 marks i) → ((i : ℕ) → widths numbers i ≡ length (m.now i)) → IsBounded m (maps numbers marks ∷ arms)
 bounded_more m arms numbers marks bounded same wide =
     let after : (i k : ℕ) → length (m.now i) ≤ k → bit_after (maps numbers marks) i k ≡ X = λ i k past. after_past numbers marks i k (same i) (subst (λ n. n ≤ k) (sym (wide i)) past) in
     let all : (i k : ℕ) → length (m.now i) ≤ k → arm_bits (maps numbers marks ∷ arms) i k ≡ X = λ i k past. ap (λ b. or_bit b (arm_bits arms i k)) (after i k past) ∙ bounded.nothing i k past in
@@ -227,8 +227,8 @@ over_more m arms numbers marks n same over =
       next = over.next;
       wrote = over.wrote;
       late = over.late;
-      arms_wrote = λ i past. fun_ext (λ k. or_none_left (seen (λ x. is_one_at x.wrote) (λ j. false) marks i k) (ap (λ (h : ℕ → Bool). h k) (seen_past (λ x. is_one_at x.wrote) (λ j. false) marks i (subst (λ l. l ≤ i) (sym same) past))) (arms_write arms i k) (ap (λ (h : ℕ → Bool). h k) (over.arms_wrote i past)));
-      arms_late = λ i past. fun_ext (λ k. or_none_left (seen (λ x. is_one_at x.late) (λ j. false) marks i k) (ap (λ (h : ℕ → Bool). h k) (seen_past (λ x. is_one_at x.late) (λ j. false) marks i (subst (λ l. l ≤ i) (sym same) past))) (arms_late arms i k) (ap (λ (h : ℕ → Bool). h k) (over.arms_late i past)));
+      arms_wrote = λ i past. fun_ext (λ k. or_none_left (view_at (λ x. is_one_at x.wrote) (λ j. false) marks i k) (ap (λ (h : ℕ → Bool). h k) (seen_past (λ x. is_one_at x.wrote) (λ j. false) marks i (subst (λ l. l ≤ i) (sym same) past))) (arms_write arms i k) (ap (λ (h : ℕ → Bool). h k) (over.arms_wrote i past)));
+      arms_late = λ i past. fun_ext (λ k. or_none_left (view_at (λ x. is_one_at x.late) (λ j. false) marks i k) (ap (λ (h : ℕ → Bool). h k) (seen_past (λ x. is_one_at x.late) (λ j. false) marks i (subst (λ l. l ≤ i) (sym same) past))) (arms_late arms i k) (ap (λ (h : ℕ → Bool). h k) (over.arms_late i past)));
     }
 
 -- ---- past the end
@@ -255,7 +255,7 @@ joined_late_past m arms asides are i past =
     let h : (ℕ → Bool) → ℕ → Bool = λ bits k. bits k || m.late i k in
     ap h (over.arms_late i past) ∙ over.late i past
 
-pub length_seen : {B : Type 0} (f : B → List Bit) (xs : List B) (i : ℕ) → length (seen f [] xs i) ≡ seen (λ x. length (f x)) 0 xs i
+pub length_seen : {B : Type 0} (f : B → List Bit) (xs : List B) (i : ℕ) → length (view_at f [] xs i) ≡ view_at (λ x. length (f x)) 0 xs i
 length_seen f [] i = refl
 length_seen f (x ∷ xs) zero = refl
 length_seen f (x ∷ xs) (suc i) = length_seen f xs i

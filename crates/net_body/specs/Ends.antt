@@ -12,8 +12,8 @@ use Rattle.net_body.specs.declared.mark.Mark.{Mark}
 use Rattle.net_body.specs.Marks.{AreStored, maps}
 
 -- digits where those that a run changed are as it made them
-abbrev pub changed : List Bit → List Bit → List Bit → List Bit
-changed old ran after = zip_with xor_bit after (zip_with xor_bit old ran)
+abbrev pub changed_digits : List Bit → List Bit → List Bit → List Bit
+changed_digits old ran after = zip_with xor_bit after (zip_with xor_bit old ran)
 
 -- the digits of a signal at the end
 abbrev pub bits_after : Maps → ℕ → List Bit
@@ -37,7 +37,7 @@ ending_after_one aside before e i =
         wrote = put e.maps.wrote i (λ k. false);
         late = put e.maps.late i (λ k. false);
       };
-      after = cond aside (put e.after i (changed (before i) (bits_after e.maps i) (e.after i))) e.after;
+      after = cond aside (put e.after i (changed_digits (before i) (bits_after e.maps i) (e.after i))) e.after;
     }
 
 -- one signal after another

@@ -19,18 +19,18 @@ abbrev pub next_bit : Mark → ℕ → Option Bit
 next_bit mark k = cond (is_one_at mark.has_next k) (Some (slice_index_or mark.next k X)) None
 
 -- what is seen of one of a list, where `none` is seen past its end
-abbrev pub seen : {A B : Type 0} → (B → A) → A → List B → ℕ → A
-seen f none [] i = none
-seen f none (x ∷ xs) zero = f x
-seen f none (x ∷ xs) (suc i) = seen f none xs i
+abbrev pub view_at : {A B : Type 0} → (B → A) → A → List B → ℕ → A
+view_at f none [] i = none
+view_at f none (x ∷ xs) zero = f x
+view_at f none (x ∷ xs) (suc i) = view_at f none xs i
 
 abbrev pub maps : List (List Bit) → List Mark → Maps
 maps numbers marks =
     record {
       now = store numbers;
-      next = seen next_bit (λ k. None) marks;
-      wrote = seen (λ mark. is_one_at mark.wrote) (λ k. false) marks;
-      late = seen (λ mark. is_one_at mark.late) (λ k. false) marks;
+      next = view_at next_bit (λ k. None) marks;
+      wrote = view_at (λ mark. is_one_at mark.wrote) (λ k. false) marks;
+      late = view_at (λ mark. is_one_at mark.late) (λ k. false) marks;
     }
 
 -- digits of its width for each signal
@@ -43,8 +43,8 @@ pub record AreKept (signals : List Signal) (numbers : List (List Bit)) (marks : 
   pub stored : length signals ≡ length numbers
   pub marked : length signals ≡ length marks
   pub each : (i : ℕ) → width_in signals i ≡ widths numbers i
-  pub next : (i : ℕ) → width_in signals i ≡ seen (λ mark. length mark.next) 0 marks i
+  pub next : (i : ℕ) → width_in signals i ≡ view_at (λ mark. length mark.next) 0 marks i
 
 -- marks of the width of digits
 abbrev pub HaveMarks : List (List Bit) → List Mark → Type 0
-HaveMarks numbers marks = (i : ℕ) → widths numbers i ≡ seen (λ mark. length mark.next) 0 marks i
+HaveMarks numbers marks = (i : ℕ) → widths numbers i ≡ view_at (λ mark. length mark.next) 0 marks i

@@ -7,7 +7,7 @@ ghost use Rattle.rtl_bits.specs.Bits.{is_one_at, tabulate, zip_with};
 ghost use Rattle.net_model.specs.Block.{Maps, fresh, joined_arms};
 ghost use Rattle.rtl_flat.specs.Value.{store};
 ghost use Rattle.net_body.specs.Asides.{AreAside, HaveSums, IsBounded};
-ghost use Rattle.net_body.specs.Marks.{HaveMarks, maps, next_bit, seen};
+ghost use Rattle.net_body.specs.Marks.{HaveMarks, maps, next_bit, view_at};
 
 use crate::bits::merged;
 use crate::mark::Mark;
@@ -167,7 +167,7 @@ fn add(numbers: &[Vec4], marks: &[Mark], asides: &mut [Aside])
 /// Goes back to the digits before the case.
 fn restore_numbers(numbers: &mut [Vec4], asides: &[Aside])
     requires { length asides.now ≡ length numbers.old }
-    ensures { (i : ℕ) → store numbers.new i ≡ seen (λ aside. aside.number) [] asides.now i }
+    ensures { (i : ℕ) → store numbers.new i ≡ view_at (λ aside. aside.number) [] asides.now i }
 {
     for place in 0..asides.len() {
         let aside = asides[place];
@@ -178,10 +178,10 @@ fn restore_numbers(numbers: &mut [Vec4], asides: &[Aside])
 /// Goes back to the marks before the case, with nothing written.
 fn restore_marks(marks: &mut [Mark], asides: &[Aside])
     requires { length asides.now ≡ length marks.old }
-    ensures next { (i : ℕ) → seen next_bit (λ j. None) marks.new i ≡ seen (λ aside. next_bit aside.mark) (λ j. None) asides.now i }
-    ensures wrote { (i : ℕ) → seen (λ mark. is_one_at mark.wrote) (λ j. false) marks.new i ≡ (λ k. false) }
-    ensures late { (i : ℕ) → seen (λ mark. is_one_at mark.late) (λ j. false) marks.new i ≡ (λ k. false) }
-    ensures widths { (i : ℕ) → seen (λ mark. length mark.next) 0 marks.new i ≡ seen (λ aside. length aside.mark.next) 0 asides.now i }
+    ensures next { (i : ℕ) → view_at next_bit (λ j. None) marks.new i ≡ view_at (λ aside. next_bit aside.mark) (λ j. None) asides.now i }
+    ensures wrote { (i : ℕ) → view_at (λ mark. is_one_at mark.wrote) (λ j. false) marks.new i ≡ (λ k. false) }
+    ensures late { (i : ℕ) → view_at (λ mark. is_one_at mark.late) (λ j. false) marks.new i ≡ (λ k. false) }
+    ensures widths { (i : ℕ) → view_at (λ mark. length mark.next) 0 marks.new i ≡ view_at (λ aside. length aside.mark.next) 0 asides.now i }
 {
     for place in 0..asides.len() {
         let aside = asides[place];
@@ -221,9 +221,9 @@ fn join_numbers(numbers: &mut [Vec4], asides: &[Aside])
 fn join_marks(numbers: &[Vec4], marks: &mut [Mark], asides: &[Aside])
     requires asides { length asides.now ≡ length marks.old }
     requires same { HaveSums numbers.now asides.now }
-    ensures next { (m : Maps) (arms : List Maps) → AreAside m arms asides.now → IsBounded m arms → (i k : ℕ) → seen next_bit (λ j. None) marks.new i k ≡ (joined_arms m arms).next i k }
-    ensures wrote { (m : Maps) (arms : List Maps) → AreAside m arms asides.now → (i k : ℕ) → seen (λ mark. is_one_at mark.wrote) (λ j. false) marks.new i k ≡ (joined_arms m arms).wrote i k }
-    ensures late { (m : Maps) (arms : List Maps) → AreAside m arms asides.now → (i k : ℕ) → seen (λ mark. is_one_at mark.late) (λ j. false) marks.new i k ≡ (joined_arms m arms).late i k }
+    ensures next { (m : Maps) (arms : List Maps) → AreAside m arms asides.now → IsBounded m arms → (i k : ℕ) → view_at next_bit (λ j. None) marks.new i k ≡ (joined_arms m arms).next i k }
+    ensures wrote { (m : Maps) (arms : List Maps) → AreAside m arms asides.now → (i k : ℕ) → view_at (λ mark. is_one_at mark.wrote) (λ j. false) marks.new i k ≡ (joined_arms m arms).wrote i k }
+    ensures late { (m : Maps) (arms : List Maps) → AreAside m arms asides.now → (i k : ℕ) → view_at (λ mark. is_one_at mark.late) (λ j. false) marks.new i k ≡ (joined_arms m arms).late i k }
     ensures widths { HaveMarks numbers.now marks.new }
 {
     for place in 0..asides.len() {

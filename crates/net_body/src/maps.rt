@@ -11,11 +11,11 @@ ghost use Rattle.rtl_flat.specs.Value.{store};
 ghost use Rattle.rtl_flat.specs.WellFormed.{IsBody, IsProcess, process_statements};
 ghost use Rattle.rtl_flat.specs.Flats.{flat};
 ghost use Rattle.event_model.specs.Writes.{driven, put};
-ghost use Rattle.net_model.specs.Block.{begun, block_bit};
+ghost use Rattle.net_model.specs.Block.{first_maps, block_bit};
 ghost use Rattle.net_model.specs.Numbers.{AreNumbers, bit, digits};
-ghost use Rattle.net_body.specs.Ends.{changed};
+ghost use Rattle.net_body.specs.Ends.{changed_digits};
 ghost use Rattle.net_body.specs.Levels.{levels_of, process_levels};
-ghost use Rattle.net_body.specs.Marks.{AreKept, AreStored, HaveMarks, maps, next_bit, seen};
+ghost use Rattle.net_body.specs.Marks.{AreKept, AreStored, HaveMarks, maps, next_bit, view_at};
 ghost use Rattle.net_body.specs.Ready.{HasRoom, IsReady};
 
 use crate::arms::Aside;
@@ -48,9 +48,9 @@ pub struct Maps<'d> {
 /// Marks in which nothing is written.
 fn clear_marks(alloc: Global, numbers: &[Vec4]) -> Result<Vec<Mark>, Memory>
     ensures count { IfOk result (λ marks. length marks.items ≡ length numbers.now) }
-    ensures next { IfOk result (λ marks. (i k : ℕ) → seen next_bit (λ j. None) marks.items i k ≡ None) }
-    ensures wrote { IfOk result (λ marks. (i k : ℕ) → seen (λ mark. is_one_at mark.wrote) (λ j. false) marks.items i k ≡ false) }
-    ensures late { IfOk result (λ marks. (i k : ℕ) → seen (λ mark. is_one_at mark.late) (λ j. false) marks.items i k ≡ false) }
+    ensures next { IfOk result (λ marks. (i k : ℕ) → view_at next_bit (λ j. None) marks.items i k ≡ None) }
+    ensures wrote { IfOk result (λ marks. (i k : ℕ) → view_at (λ mark. is_one_at mark.wrote) (λ j. false) marks.items i k ≡ false) }
+    ensures late { IfOk result (λ marks. (i k : ℕ) → view_at (λ mark. is_one_at mark.late) (λ j. false) marks.items i k ≡ false) }
     ensures widths { IfOk result (λ marks. HaveMarks numbers.now marks.items) }
 {
     let mut marks = Vec::new(alloc);
@@ -85,12 +85,12 @@ fn run_body(
 )
     requires body { IsBody design.now.signals.items (body_of (map action body.now)) }
     requires kept { AreKept design.now.signals.items numbers.old marks.old }
-    requires clear { maps numbers.old marks.old ≡ begun (store numbers.old) }
+    requires clear { maps numbers.old marks.old ≡ first_maps (store numbers.old) }
     requires entries { 128 ≤ length entries.old }
     requires room { levels_of (body_of (map action body.now)) * length design.now.signals.items ≤ length room.old }
     ensures numbers { (i : ℕ) → store numbers.new i ≡ tabulate (width_in design.now.signals.items i) (λ k. block_bit (width_in design.now.signals.items) fill (store numbers.old) (body_of (map action body.now)) i k) }
     ensures kept { AreKept design.now.signals.items numbers.new marks.new }
-    ensures clear { maps numbers.new marks.new ≡ begun (store numbers.new) }
+    ensures clear { maps numbers.new marks.new ≡ first_maps (store numbers.new) }
 {
     run_all(design, body, fill, numbers, marks, entries, room);
     end_all(&design.signals, body, false, &[], numbers, marks, &mut []);
@@ -110,7 +110,7 @@ fn run_beside(
 )
     requires body { IsBody design.now.signals.items (body_of (map action body.now)) }
     requires kept { AreKept design.now.signals.items numbers.old marks.old }
-    requires clear { maps numbers.old marks.old ≡ begun (store numbers.old) }
+    requires clear { maps numbers.old marks.old ≡ first_maps (store numbers.old) }
     requires entries { 128 ≤ length entries.old }
     requires room { levels_of (body_of (map action body.now)) * length design.now.signals.items
         ≤ length room.old }
@@ -123,10 +123,10 @@ fn run_beside(
         let old = store before.now in
         let body = body_of (map action body.now) in
         (i : ℕ) → store after.new i
-        ≡ changed (old i) (tabulate (ws i) (block_bit ws fill old body i)) (store after.old i) }
+        ≡ changed_digits (old i) (tabulate (ws i) (block_bit ws fill old body i)) (store after.old i) }
     ensures numbers { (i : ℕ) → store numbers.new i ≡ store before.now i }
     ensures kept { AreKept design.now.signals.items numbers.new marks.new }
-    ensures clear { maps numbers.new marks.new ≡ begun (store numbers.new) }
+    ensures clear { maps numbers.new marks.new ≡ first_maps (store numbers.new) }
 {
     run_all(design, body, fill, numbers, marks, entries, room);
     end_all(&design.signals, body, true, before, numbers, marks, after);
@@ -238,7 +238,7 @@ impl<'d> Maps<'d> {
             let old = store before.now in
             let body = body_of (map action body.now) in
             (i : ℕ) → store after.new i
-            ≡ changed (old i) (tabulate (ws i) (block_bit ws fill old body i)) (store after.old i) }
+            ≡ changed_digits (old i) (tabulate (ws i) (block_bit ws fill old body i)) (store after.old i) }
         ensures numbers { (i : ℕ) → store self.new.numbers.items i ≡ store before.now i }
         ensures ready { IsReady self.new }
         ensures design { self.new.design ≡ self.old.design }

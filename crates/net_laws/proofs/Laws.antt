@@ -17,7 +17,7 @@ use Rattle.event_laws.proofs.Made.{body_within}
 use Rattle.event_laws.proofs.Sure.{may_late}
 use Rattle.net_model.specs.declared.fill.Fill.{Fill}
 use Rattle.net_model.specs.declared.fill.Fill.TheVariants as fill
-use Rattle.net_model.specs.Block.{acts, begun}
+use Rattle.net_model.specs.Block.{acts, first_maps}
 use Rattle.net_model.specs.Numbers.{AreNumbers, bit}
 use Rattle.net_model.specs.Solution.{start}
 use Rattle.net_laws.specs.Laws.{AreCovered, AreExact, BlockDepends, BlockIs, BlocksAreKnown, ClockedIs, DigitsAreKnown, FillsAgree, LateIs, LeaveNumbers, StartDepends, TakePaths, TameDepends, at_last, last_late, late_writes}
@@ -63,14 +63,14 @@ by_way d body split =
 
 all_is :
     (d : Flat) (f : Fill) (v : Values) (body : Actions) → AreNumbers d v → IsBody d.signals body → AreTame d body → AreSplit d body →
-    IsAfter (begun v) (body_made (widths d) v body) (acts (widths d) f (begun v) body)
+    IsAfter (first_maps v) (body_made (widths d) v body) (acts (widths d) f (first_maps v) body)
 all_is d f v body are lawful tame split =
-    body_is d f (may_write_delayed (body_flow (widths d) body)) (begun v) are (λ i k not_late. refl) body lawful tame split.exclusive (by_way d body split)
+    body_is d f (may_write_delayed (body_flow (widths d) body)) (first_maps v) are (λ i k not_late. refl) body lawful tame split.exclusive (by_way d body split)
 
 pub late_is : (d : Flat) → LateIs d
 late_is d f v body i k are lawful tame split =
     let is = all_is d f v body are lawful tame split in
-    ap (λ o. unwrap_or o (bit (acts (widths d) f (begun v) body).now i k)) (is.next i k)
+    ap (λ o. unwrap_or o (bit (acts (widths d) f (first_maps v) body).now i k)) (is.next i k)
     ∙ ap (λ (u : Values). unwrap_or (last_late d v body i k) (bit u i k)) is.now
 
 -- the values after late writes
@@ -102,8 +102,8 @@ digits_known d f n e are lawful =
 
 pub block_known : (d : Flat) → BlocksAreKnown d
 block_known d f n body i k are lawful below =
-    numeric_bit d (acts (widths d) f (begun n) body)
-    (body_numeric d f (begun n) (record { now = are; next = λ j l b inside e. absurd (cc) }) body lawful) i k below
+    numeric_bit d (acts (widths d) f (first_maps n) body)
+    (body_numeric d f (first_maps n) (record { now = are; next = λ j l b inside e. absurd (cc) }) body lawful) i k below
 
 pub fills_agree : (d : Flat) → FillsAgree d
 fills_agree d v body i k are lawful tame split =
@@ -113,9 +113,9 @@ pub block_depends : (d : Flat) → BlockDepends d
 block_depends d f n m body wide wide' lawful outside inside i k here =
     let read : Gives reads_bit (Same n m) (body_flow (widths d) body)
     = λ j l h. elim (read_or_written (widths d) j l body h) [ inl reads ↦ outside j l reads | inr writes ↦ inside j l writes ] in
-    let start : AreAlike d (Same n m) (begun n) (begun m)
+    let start : AreAlike d (Same n m) (first_maps n) (first_maps m)
     = record { wide = wide; wide' = wide'; now = λ j l same. same; next = λ j l same. refl; wrote = λ j l same. refl; late = λ j l same. refl } in
-    same_after d (Same n m) (acts (widths d) f (begun n) body) (acts (widths d) f (begun m) body) i k here (body_alike d f (Same n m) (begun n) (begun m) start body lawful read)
+    same_after d (Same n m) (acts (widths d) f (first_maps n) body) (acts (widths d) f (first_maps m) body) i k here (body_alike d f (Same n m) (first_maps n) (first_maps m) start body lawful read)
 
 pub start_depends : (d : Flat) → StartDepends d
 start_depends d f held held' n n' body lawful own others i k written =

@@ -1,4 +1,5 @@
 pub mod Apart
+pub mod Below
 pub mod Meeting
 pub mod Formed
 -- passed on to the crates above

@@ -1,6 +1,7 @@
 //! What inference finds in a design: registers with their clocks and resets, and the blocks between them.
 #![tactic(auto)]
 
+pub mod alone;
 pub mod blocks;
 pub mod clocked;
 pub mod drivers;

@@ -1,6 +1,6 @@
 -- A clock that goes through an input port: `module top (input clk, d, output q); part p (.c(clk), .d(d), .q(q));` over
 -- `module part (input c, d, output reg q); always @(posedge c) q <= d;`.
-use Rattle.std.proofs.Common.{◌≡◌, ◌≢◌, ◌==◌, ℕ, true, false, [], ◌∷◌, refl, ap, arith}
+use Rattle.std.proofs.Common.{◌≡◌, ◌≢◌, ◌==◌, ℕ, true, false, [], ◌∷◌, refl, ap, inl, arith}
 use Rattle.std.proofs.lemmas.Bool.{and_parts, eqb-true}
 use Rattle.rtl_bits.specs.declared.Edge.TheVariants as edge
 use Rattle.rtl_tree.specs.declared.text.Spot.{Spot}
@@ -11,7 +11,7 @@ use Rattle.rtl_flat.specs.Expression.{Tree, Sized}
 use Rattle.rtl_flat.specs.Expression as tree
 use Rattle.rtl_flat.specs.Process.{Whole, Watched, Set, Actions, Done, Then, Doing, Assign, Edge', Task}
 use Rattle.rtl_flat.specs.Flats.{Flat}
-use Rattle.net_model.specs.Control.{InCone, IsControl, IsInputConnection, IsLink, IsPassedOn, Itself, Through, whole_of}
+use Rattle.net_model.specs.Control.{InCone, IsClockOrReset, IsInputConnection, IsLink, IsPassedOn, Itself, Through, whole_of}
 
 spot : Spot
 spot = record { file = 0; at = 0 }
@@ -55,7 +55,7 @@ clock_passed =
     }
 
 -- clk is a clock, and it and the port are the control cone
-clock : IsControl design 0
+clock : IsClockOrReset design 0
 clock =
     record {
       input = refl;
@@ -65,7 +65,7 @@ clock =
     }
 
 port_in_cone : InCone design 3
-port_in_cone = record { control = 0; is_control = clock; reached = Through 0 3 Itself clock_passed }
+port_in_cone = record { control = 0; is_control = inl clock; reached = Through 0 3 Itself clock_passed }
 
 -- the output's connection is a link, and no connection of an input
 output_link : IsLink design (whole_of 2 spot) (bit_of 5) 5 2

@@ -1,2 +1,3 @@
 mod Clocks
 mod Examples
+pub mod Gates

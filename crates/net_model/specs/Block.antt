@@ -54,8 +54,8 @@ abbrev pub fresh : Maps → Maps
 fresh m = record m { wrote = no_bit; late = no_bit }
 
 -- where a body begins
-abbrev pub begun : Values → Maps
-begun n = record { now = n; next = λ i k. None; wrote = no_bit; late = no_bit }
+abbrev pub first_maps : Values → Maps
+first_maps n = record { now = n; next = λ i k. None; wrote = no_bit; late = no_bit }
 
 -- a bit's digit at the end
 abbrev pub bit_after : Maps → ℕ → ℕ → Bit
@@ -177,4 +177,4 @@ abbrev mutual
 
 -- the function of a body: the digit that it gives to a bit from given numbers
 abbrev pub block_bit : (ℕ → ℕ) → Fill → Values → Actions → ℕ → ℕ → Bit
-block_bit ws f n body i k = bit_after (acts ws f (begun n) body) i k
+block_bit ws f n body i k = bit_after (acts ws f (first_maps n) body) i k

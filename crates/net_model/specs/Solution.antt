@@ -34,7 +34,7 @@ start d body held n i =
     tabulate (widths d i) (λ k. cond (may_write (body_flow (widths d) body) i k) (bit held i k) (bit n i k))
 
 -- numbers that solve a design's equations, where `held` is what latches had, and `given` what inputs and registers are.
--- Temporaries may have any numbers
+-- A bit of a temporary that its process may write may have any digit
 pub record IsSolution (d : Flat) (f : Fill) (held given n : Values) : Type 0 where
   pub numbers : AreNumbers d n
   -- inputs are as given

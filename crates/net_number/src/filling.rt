@@ -7,7 +7,7 @@ use net_model::fill::Fill;
 use rtl_bits::{Bit, Vec4};
 
 /// The digit that a fill stands for.
-pub(crate) fn fill_bit(fill: Fill) -> Bit
+fn fill_bit(fill: Fill) -> Bit
     ensures { result ≡ fill_bit fill }
 {
     match fill {

@@ -4,8 +4,6 @@
 
 mod filling;
 mod labels;
-mod operators;
-mod selects;
 mod spans;
 mod targets;
 mod walk;

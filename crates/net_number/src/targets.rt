@@ -9,13 +9,14 @@ ghost use Rattle.rtl_flat.specs.Sizes.{IsSized};
 ghost use Rattle.rtl_flat.specs.Value.{index_number, store, widths};
 ghost use Rattle.net_model.specs.Block.{span_by};
 ghost use Rattle.net_model.specs.Numbers.{digits};
-ghost use Rattle.net_number.specs.Spans.{span};
+ghost use Rattle.net_number.specs.Spans.{bit_span, span};
 
 use crate::filling::filled;
-use crate::spans::{Span, bit_at, bit_by};
+use crate::spans::Span;
 use crate::walk::number;
 use net_model::fill::Fill;
 use rtl_bits::Vec4;
+use rtl_expr::places::{computed_place, fixed_place};
 use rtl_flat::act::TargetPart;
 use rtl_flat::expr::{Index, Select, SizedExpr};
 
@@ -26,6 +27,13 @@ fn known_number(index: &SizedExpr, fill: Fill, numbers: &[Vec4]) -> Vec4
     ensures number { (signed : Bool) → index_number signed result ≡ index_number signed (digits fill (store numbers.now) (tree index.now)) }
 {
     filled(number(index, fill, numbers), Fill::Zero)
+}
+
+/// The bit at a place.
+fn one_bit(place: Option<u8>) -> Option<Span>
+    ensures { option_map span result ≡ option_map bit_span place }
+{
+    place.map(|at| Span { at, count: 1 })
 }
 
 /// The bits that are selected of a signal by a part of a target; none where an index is outside.
@@ -41,10 +49,10 @@ pub fn span(part: &TargetPart, fill: Fill, numbers: &[Vec4]) -> Option<Span>
             count: width,
         }),
         Select::Bit { low, index } => match index {
-            Index::Fixed(index) => bit_at(width, *low, *index),
+            Index::Fixed(index) => one_bit(fixed_place(width, *low, *index)),
             Index::Computed(index) => {
                 let place = known_number(index, fill, numbers);
-                bit_by(width, *low, index.signed, place)
+                one_bit(computed_place(width, *low, index.signed, place))
             }
         },
         Select::Part { low, width } => Some(Span {

@@ -6,11 +6,11 @@ ghost use Rattle.rtl_flat.specs.Sizes.{IsSized, width_of};
 ghost use Rattle.rtl_flat.specs.Value.{store, widths};
 ghost use Rattle.net_model.specs.Numbers.{digits};
 
-use crate::filling::filled;
-use crate::operators::{choose, compare, fold, join, link, shift, turn};
-use crate::selects::{computed_bit, fixed_bit};
+use crate::filling::{filled, filled_bit};
 use net_model::fill::Fill;
 use rtl_bits::Vec4;
+use rtl_expr::operators::{choose, compare, fold, join, link, shift, turn};
+use rtl_expr::selects::{computed_bit, fixed_bit};
 use rtl_flat::expr::{Index, Node, Select, SigId, SizedExpr};
 
 /// The number of an expression, where `numbers` has that of each signal. It takes no memory.
@@ -87,13 +87,16 @@ fn read_number(signal: SigId, select: &Select, fill: Fill, numbers: &[Vec4]) -> 
     let signal = signal.0 as usize;
     match select {
         Select::Whole => numbers[signal],
-        Select::Bit { low, index } => Vec4::of_bit(match index {
-            Index::Fixed(index) => fixed_bit(numbers[signal], *low, *index, fill),
-            Index::Computed(index) => {
-                let place = number(index, fill, numbers);
-                computed_bit(numbers[signal], *low, index.signed, place, fill)
-            }
-        }),
+        Select::Bit { low, index } => {
+            let bit = match index {
+                Index::Fixed(index) => fixed_bit(numbers[signal], *low, *index),
+                Index::Computed(index) => {
+                    let place = number(index, fill, numbers);
+                    computed_bit(numbers[signal], *low, index.signed, place)
+                }
+            };
+            Vec4::of_bit(filled_bit(bit, fill))
+        }
         Select::Part { low, width } => numbers[signal].select(*low, *width),
     }
 }

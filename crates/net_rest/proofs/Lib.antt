@@ -1,4 +1,4 @@
-pub mod Gates
+pub mod Computing
 pub mod Laws
 pub mod Levels
 pub mod Numbers

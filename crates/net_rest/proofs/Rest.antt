@@ -30,7 +30,7 @@ use Rattle.event_runs.proofs.Signals.{net_variable, target_may, target_net}
 use Rattle.event_runs.proofs.Writers.{to_process}
 use Rattle.net_laws.proofs.Known.{KnownBit, known_at}
 use Rattle.net_rest.specs.Rest.{AreAlike, AreGiven, AreGivenAlike, IsIdle, IsSolvable, is_written, numbers_of}
-use Rattle.net_rest.proofs.Gates.{after_known, after_same, driven_known, gate_bit, others_stay, takes_path, value_digits, value_known, value_same}
+use Rattle.net_rest.proofs.Computing.{after_known, after_same, computed_bit, driven_known, others_stay, takes_path, value_digits, value_known, value_same}
 use Rattle.net_rest.proofs.Levels.{assign_reads, by_level, read_inside, read_lasts}
 use Rattle.net_rest.proofs.Numbers.{are_numbers, has_source, number_fill, number_same, past_ends, writer_of}
 
@@ -77,13 +77,13 @@ module _ (d : Flat) (level : ℕ → ℕ) (solvable : IsSolvable d level) where
       let known = ap has_unknown same ∙ value_known d level solvable p target e here fill.Zero (numbers_of d fill.Zero v) numbers in
       ap is_unknown has ∙ driven_known d level solvable p target e here v wide known i k is
 
-  -- a gate's bit is known where it is consistent and reads known bits
-  pub gate_known :
+  -- a block's bit is known where it is consistent and reads known bits
+  pub computed_known :
       (v : Values) → HaveWidths d v → (p : ℕ) (list : Option (List Watched)) (body : Actions) → (here : doing_at d p ≡ Some (Comb list body)) →
       ((j l : ℕ) → ReadsOutside (flow_of (widths d) (Comb list body)) j l → KnownBit (bit v j l)) →
       (FollowsPath (widths d) v body → IsConsistent d v body) →
       (i k : ℕ) → MayWrite (body_flow (widths d) body) i k → IsLasting d i → KnownBit (bit v i k)
-  gate_known v wide p list body here before consistent i k may lasts =
+  computed_known v wide p list body here before consistent i k may lasts =
       let agree = same_outside v p (Comb list body) here before in
       let numbers = are_numbers d fill.Zero v in
       let follows = takes_path d level solvable p list body here (numbers_of d fill.Zero v) v numbers wide agree in
@@ -109,7 +109,7 @@ module _ (d : Flat) (level : ℕ → ℕ) (solvable : IsSolvable d level) where
         let is = its_target p target e here i k may in
         assign_known v idle.wide p target e here before i k is (idle.driven p target e here i k is)
     known_step p (Comb list body) here node before i k may lasts =
-        gate_known v idle.wide p list body here before (idle.consistent p list body here) i k may lasts
+        computed_known v idle.wide p list body here before (idle.consistent p list body here) i k may lasts
 
     all_known : (i k : ℕ) → k < widths d i → IsLasting d i → KnownBit (bit v i k)
     all_known = by_level d level solvable (λ i k. KnownBit (bit v i k)) input_known register_known known_step
@@ -156,7 +156,7 @@ module _ (d : Flat) (level : ℕ → ℕ) (solvable : IsSolvable d level) where
           let follows = takes_path d level solvable p list body here n v numbers idle.wide agree in
           sym (known_at_rest f i k lasts)
           ∙ sym (idle.consistent p list body here follows i k lasts)
-          ∙ sym (gate_bit d level solvable p list body here held n held_are numbers f v idle.wide agree i k may lasts)
+          ∙ sym (computed_bit d level solvable p list body here held n held_are numbers f v idle.wide agree i k may lasts)
 
       pub solved : IsSolution d f held given n
       solved =
@@ -176,12 +176,12 @@ module _ (d : Flat) (level : ℕ → ℕ) (solvable : IsSolvable d level) where
   -- ---- solutions
 
   module _ (f : Fill) (held given n : Values) (held_are : AreNumbers d held) (solution : IsSolution d f held given n) where
-    -- a gate leaves its bits
-    gate_stays :
+    -- a block leaves its bits
+    computed_stays :
         (p : ℕ) (list : Option (List Watched)) (body : Actions) → doing_at d p ≡ Some (Comb list body) →
         (i k : ℕ) → MayWrite (body_flow (widths d) body) i k → IsLasting d i → Same (after_body d n body) n i k
-    gate_stays p list body here i k may lasts =
-        sym (gate_bit d level solvable p list body here held n held_are solution.numbers f n solution.numbers.wide (λ j l outside. refl) i k may lasts)
+    computed_stays p list body here i k may lasts =
+        sym (computed_bit d level solvable p list body here held n held_are solution.numbers f n solution.numbers.wide (λ j l outside. refl) i k may lasts)
         ∙ sym (solution.blocks p list body here i k may lasts)
 
     -- a net has the value of its expression
@@ -199,7 +199,7 @@ module _ (d : Flat) (level : ℕ → ℕ) (solvable : IsSolvable d level) where
           driven = net_has;
           consistent = λ p list body here follows i k lasts.
               elim (cases_Bool (may_write (body_flow (widths d) body) i k)) [
-                | inl may ↦ gate_stays p list body here i k ((decided (body_flow (widths d) body) i k).writes.0 may) lasts
+                | inl may ↦ computed_stays p list body here i k ((decided (body_flow (widths d) body) i k).writes.0 may) lasts
                 | inr cannot ↦ others_stay d level solvable p list body here n solution.numbers.wide i k cannot
               ];
         }
@@ -219,9 +219,9 @@ module _ (d : Flat) (level : ℕ → ℕ) (solvable : IsSolvable d level) where
         ∙ ap (λ bits. bit (driven (widths d) target bits) i k) same
         ∙ sym (net_has g held' given' m held_are' other p target e here i k is)
     same_step p (Comb list body) here node before i k may lasts =
-        sym (gate_stays f held given n held_are one p list body here i k may lasts)
+        sym (computed_stays f held given n held_are one p list body here i k may lasts)
         ∙ after_same d level solvable p list body here n m one.numbers other.numbers.wide before i k may lasts
-        ∙ gate_stays g held' given' m held_are' other p list body here i k may lasts
+        ∙ computed_stays g held' given' m held_are' other p list body here i k may lasts
 
     pub alone : AreAlike d n m
     alone i k lasts =

@@ -41,7 +41,7 @@ abbrev pub IsFromOutside : Flat → ℕ → ℕ → ℕ → Type 0
 IsFromOutside d p i k = IsTrue (is_input d i) ⊎ IsOthers d p i k
 
 -- a block without edges that computes its variables as synthesis does, and holds none of them
-pub record IsGate (d : Flat) (p : ℕ) (list : Option (List Watched)) (body : Actions) : Type 0 where
+pub record IsComputing (d : Flat) (p : ℕ) (list : Option (List Watched)) (body : Actions) : Type 0 where
   pub plain : IsPlain d p list body
   pub tame : AreTame d body
   pub exclusive : AreExclusive d body
@@ -64,9 +64,9 @@ pub record IsSolvable (d : Flat) (level : ℕ → ℕ) : Type 0 where
   -- and drives its bits alone
   pub sole : HaveSoleDrivers d
   -- blocks without edges compute
-  pub gates :
+  pub computing :
       (p : ℕ) (list : Option (List Watched)) (body : Actions) →
-      doing_at d p ≡ Some (Comb list body) → IsGate d p list body
+      doing_at d p ≡ Some (Comb list body) → IsComputing d p list body
 
 -- ---- values
 

@@ -13,15 +13,15 @@ use Rattle.rtl_flat.specs.Sizes.{width_of}
 use Rattle.rtl_flat.specs.WellFormed.{IsFixed, IsProcess}
 use Rattle.rtl_flat.specs.Flats.{Flat, widths}
 use Rattle.event_model.specs.Writes.{Span, Values, count_of, counts, driven, no_drive, span_of, write_at, writes}
-use Rattle.net_cycles.proofs.event_laws_proofs.Inside.{writes_within}
-use Rattle.net_cycles.proofs.event_laws_proofs.Targets.{same_count, target_over}
-use Rattle.net_cycles.proofs.event_laws_proofs.Written.{covered}
+use Rattle.net_body.proofs.event_laws_proofs.Inside.{writes_within}
+use Rattle.net_body.proofs.event_laws_proofs.Targets.{same_count, target_over}
+use Rattle.net_body.proofs.event_laws_proofs.Written.{covered}
 use Rattle.net_model.specs.declared.fill.Fill.{Fill}
 use Rattle.net_model.specs.Numbers.{AreNumbers, bit, digits}
 use Rattle.net_solve.proofs.event_runs_proofs.Resolved.{GivesSo, over_so}
-use Rattle.net_cycles.specs.net_laws.Laws.{IsNumber}
-use Rattle.net_cycles.proofs.net_laws_proofs.Known.{Known, KnownBit, known_at, selected_known}
-use Rattle.net_cycles.proofs.net_laws_proofs.Laws.{digits_known}
+use Rattle.net_body.specs.net_laws.Laws.{IsNumber}
+use Rattle.net_body.proofs.net_laws_proofs.Known.{Known, KnownBit, known_at, selected_known}
+use Rattle.net_body.proofs.net_laws_proofs.Laws.{digits_known}
 
 part_gives : (signal i k : ℕ) (span : Option Span) (bits : List Bit) → Known bits → All (GivesSo KnownBit i k) (write_at signal span bits)
 part_gives signal i k None bits known = All-nil (GivesSo KnownBit i k)

@@ -17,14 +17,14 @@ use Rattle.event_model.specs.Queue.{is_input, is_input_of}
 use Rattle.rtl_flat.specs.Flats.{Flat, widths}
 use Rattle.event_model.specs.Traces.{Same}
 use Rattle.event_model.specs.Writes.{Values, put}
-use Rattle.net_cycles.specs.event_laws.Steady.{AreLawful}
+use Rattle.net_body.specs.event_laws.Steady.{AreLawful}
 use Rattle.net_solve.proofs.event_runs_proofs.Writers.{to_process}
-use Rattle.net_cycles.proofs.event_laws_proofs.Lengths.{put_at, put_other}
+use Rattle.net_body.proofs.event_laws_proofs.Lengths.{put_at, put_other}
 use Rattle.net_model.specs.declared.fill.Fill.{Fill}
 use Rattle.net_model.specs.Cycle.{Data, Setting, given_after}
 use Rattle.net_model.specs.Numbers.{AreNumbers}
 use Rattle.net_model.specs.Solution.{IsSolution}
-use Rattle.net_cycles.proofs.Cycles.{cycle}
+use Rattle.net_settle.proofs.Cycles.{cycle}
 use Rattle.net_solve.specs.Laws.{IsBeginning}
 use Rattle.net_solve.proofs.Worked.{no_input_written}
 use Rattle.net_settle.specs.Settle.{IsSolved, MakesCycle, SetsInput, setting_view}

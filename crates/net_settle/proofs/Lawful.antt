@@ -7,7 +7,7 @@ use Rattle.rtl_flat.specs.Process.{Task}
 use Rattle.rtl_flat.specs.WellFormed.{IsProcess}
 use Rattle.event_model.specs.Queue.{doing_of}
 use Rattle.rtl_flat.specs.Flats.{flat}
-use Rattle.net_cycles.specs.event_laws.Steady.{AreLawful}
+use Rattle.net_body.specs.event_laws.Steady.{AreLawful}
 
 pub lawful_flat : (design : Design) → AreLawful (flat design)
 lawful_flat design p does here = by (slice_get (flat design).tasks p) refl here

@@ -14,14 +14,14 @@ use Rattle.rtl_flat.specs.Process.{Actions, Assign, Comb, Doing, Piece, Watched}
 use Rattle.event_model.specs.Queue.{doing_at}
 use Rattle.rtl_flat.specs.Flats.{Flat, widths}
 use Rattle.event_model.specs.Writes.{Values, driven}
-use Rattle.net_cycles.specs.event_laws.Steady.{AreLawful}
-use Rattle.net_cycles.proofs.event_laws_proofs.Within as within
+use Rattle.net_body.specs.event_laws.Steady.{AreLawful}
+use Rattle.net_body.proofs.event_laws_proofs.Within as within
 use Rattle.net_solve.proofs.event_runs_proofs.Writers.{assign_may, to_process}
 use Rattle.net_model.specs.declared.fill.Fill.{Fill}
 use Rattle.net_model.specs.Block.{block_bit}
 use Rattle.net_model.specs.Numbers.{AreNumbers, bit, digits}
-use Rattle.net_cycles.proofs.net_laws_proofs.Known.{KnownBit, known_at, known_each}
-use Rattle.net_cycles.proofs.net_laws_proofs.Laws.{block_known}
+use Rattle.net_body.proofs.net_laws_proofs.Known.{KnownBit, known_at, known_each}
+use Rattle.net_body.proofs.net_laws_proofs.Laws.{block_known}
 use Rattle.net_solve.proofs.net_rest_proofs.Numbers.{past_ends}
 use Rattle.net_solve.specs.Laws.{IsWorked}
 use Rattle.net_settle.proofs.Driven.{driven_known}

@@ -22,17 +22,17 @@ use Rattle.rtl_flat.proofs.Paths.{decided}
 use Rattle.rtl_flat.specs.Flats.{Flat, widths}
 use Rattle.event_model.specs.Traces.{Same, covers}
 use Rattle.event_model.specs.Writes.{Span, Values, Write, count_of, counts, write_at}
-use Rattle.net_cycles.specs.event_laws.Steady.{HaveWidths, IsWithin}
-use Rattle.net_cycles.proofs.event_laws_proofs.Inside.{at_most}
-use Rattle.net_cycles.proofs.event_laws_proofs.Lengths.{have_written}
-use Rattle.net_cycles.proofs.event_laws_proofs.Targets.{left_within, part_may, right_within}
-use Rattle.net_cycles.proofs.event_laws_proofs.Written.{covered, written_out}
+use Rattle.net_body.specs.event_laws.Steady.{HaveWidths, IsWithin}
+use Rattle.net_body.proofs.event_laws_proofs.Inside.{at_most}
+use Rattle.net_body.proofs.event_laws_proofs.Lengths.{have_written}
+use Rattle.net_body.proofs.event_laws_proofs.Targets.{left_within, part_may, right_within}
+use Rattle.net_body.proofs.event_laws_proofs.Written.{covered, written_out}
 use Rattle.net_solve.proofs.event_runs_proofs.May.{late_may, now_may}
 use Rattle.net_model.specs.declared.fill.Fill.{Fill}
-use Rattle.net_model.specs.Block.{Maps, act, act_arms, act_first, act_other, acts, arm_bits, arms_late, arms_write, begun, block_bit, digit_writes, filled_case, fresh, item_meets, joined_arms, some_meets, span_by, with_bits, write_each, write_next, write_now}
+use Rattle.net_model.specs.Block.{Maps, act, act_arms, act_first, act_other, acts, arm_bits, arms_late, arms_write, first_maps, block_bit, digit_writes, filled_case, fresh, item_meets, joined_arms, some_meets, span_by, with_bits, write_each, write_next, write_now}
 use Rattle.net_model.specs.Numbers.{bit, digits, fill_bit}
-use Rattle.net_cycles.proofs.net_laws_proofs.Depends.{writes_within}
-use Rattle.net_cycles.proofs.net_laws_proofs.Parts.{Gives, GivesItems, fallback_gives, first_gives, item_gives, items_give, later_give, other_gives, others_give, taken_gives}
+use Rattle.net_body.proofs.net_laws_proofs.Depends.{writes_within}
+use Rattle.net_body.proofs.net_laws_proofs.Parts.{Gives, GivesItems, fallback_gives, first_gives, item_gives, items_give, later_give, other_gives, others_give, taken_gives}
 
 none_of : (a b : Bool) → (a || b) ≡ false → (a ≡ false) × (b ≡ false)
 none_of true b h = absurd (true≢false h)
@@ -272,8 +272,8 @@ module _ (d : Flat) (f : Fill) (i k : ℕ) where
 
   pub block_stays : (n : Values) → HaveWidths d n → (body : Actions) → IsBody d.signals body → (MayWrite (body_flow ws body) i k → ⊥) → block_bit ws f n body i k ≡ bit n i k
   block_stays n wide body lawful none =
-      let stays = body_stays (begun n) wide body lawful gives in
-      ap (λ o. unwrap_or o (bit (acts ws f (begun n) body).now i k)) stays.next ∙ stays.now
+      let stays = body_stays (first_maps n) wide body lawful gives in
+      ap (λ o. unwrap_or o (bit (acts ws f (first_maps n) body).now i k)) stays.next ∙ stays.now
     where
       gives : Gives may_write_bit Other (body_flow ws body)
       gives j l is (here, there) =

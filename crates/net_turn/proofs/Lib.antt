@@ -7,4 +7,4 @@ pub mod Numbered
 pub mod Parted
 pub mod Sourced
 -- passed on to the crates above
-pub use Rattle.net_settle.proofs.net_cycles_proofs
+pub use Rattle.net_settle.proofs as net_settle_proofs

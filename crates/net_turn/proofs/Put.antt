@@ -29,7 +29,7 @@ use Rattle.net_settle.proofs.net_rest_proofs.Numbers.{past_ends}
 use Rattle.net_settle.specs.net_solve.Laws.{AreApart}
 use Rattle.net_settle.proofs.net_solve_proofs.Same.{its_target}
 use Rattle.net_settle.proofs.Stays.{block_stays}
-use Rattle.net_settle.specs.net_body.Ends.{changed}
+use Rattle.net_settle.specs.net_body.Ends.{changed_digits}
 use Rattle.net_settle.proofs.net_body_proofs.Changed.{changed_at, xor_left, xor_taken}
 use Rattle.net_settle.proofs.net_body_proofs.Ended.{changed_number}
 use Rattle.net_turn.specs.Runs.{ArePut, AreRuns, Run, run_at, run_bit}
@@ -101,7 +101,7 @@ module _ (d : Flat) (f : Fill) (old : Values) (are : AreNumbers d old) where
         let inside : k < ws i = omega (arith, below, size) in
         ap is_unknown (ran_at i k inside) ∙ run_known i k inside)
 
-    module _ (after new : Values) (have : AreNumbers d after) (is : (i : ℕ) → new i ≡ changed (old i) (ran i) (after i)) where
+    module _ (after new : Values) (have : AreNumbers d after) (is : (i : ℕ) → new i ≡ changed_digits (old i) (ran i) (after i)) where
       pub new_numbers : AreNumbers d new
       new_numbers = record {
         wide = λ i. ap length (is i) ∙ (changed_number (ws i) (old i) (ran i) (after i) (are.wide i) (ran_wide i) (have.wide i) (are.known i) (ran_known i) (have.known i)).0;
@@ -129,9 +129,9 @@ module _ (d : Flat) (f : Fill) (old : Values) (are : AreNumbers d old) where
           ∙ xor_taken (bit old i k) (run_bit ws f old o i k) (bit_known d old are i k inside) (run_known i k inside))
 
   -- nothing runs
-  pub none_new : (after : Values) → AreNumbers d after → (i : ℕ) → after i ≡ changed (old i) (tabulate (ws i) (run_bit ws f old None i)) (after i)
+  pub none_new : (after : Values) → AreNumbers d after → (i : ℕ) → after i ≡ changed_digits (old i) (tabulate (ws i) (run_bit ws f old None i)) (after i)
   none_new after have i =
-      let new : Values = λ j. changed (old j) (tabulate (ws j) (run_bit ws f old None j)) (after j) in
+      let new : Values = λ j. changed_digits (old j) (tabulate (ws j) (run_bit ws f old None j)) (after j) in
       let no_body : (body : Actions) → None ≡ Some body → IsBody d.signals body = λ body e. absurd (cc) in
       let size = (new_numbers None no_body after new have (λ j. refl)).wide i in
       let size' = have.wide i in
@@ -145,7 +145,7 @@ module _ (d : Flat) (f : Fill) (old : Values) (are : AreNumbers d old) where
     others = λ i k none. refl;
   }
 
-  module _ (lawful : AreLawful d) (apart : AreApart d) (runs : List Run) (are_runs : AreRuns d runs) (j : ℕ) (inside : j < length runs) (after new : Values) (have : AreNumbers d after) (is : (i : ℕ) → new i ≡ changed (old i) (tabulate (ws i) (run_bit ws f old (run_at runs j).body i)) (after i)) (before : ArePut d f old runs j after) where
+  module _ (lawful : AreLawful d) (apart : AreApart d) (runs : List Run) (are_runs : AreRuns d runs) (j : ℕ) (inside : j < length runs) (after new : Values) (have : AreNumbers d after) (is : (i : ℕ) → new i ≡ changed_digits (old i) (tabulate (ws i) (run_bit ws f old (run_at runs j).body i)) (after i)) (before : ArePut d f old runs j after) where
     abbrev o : Option Actions
     o = (run_at runs j).body
 

@@ -29,13 +29,13 @@ use Rattle.net_model.specs.Numbers.{AreNumbers, bit, fill_bit}
 use Rattle.net_model.specs.Solution.{IsSolution}
 use Rattle.net_list.specs.check_chains.Views.{chain_view}
 use Rattle.net_list.specs.declared.clocked.Clocked.{Clocked}
-use Rattle.net_settle.proofs.net_cycles_proofs.Carried.{carried}
-use Rattle.net_settle.proofs.net_cycles_proofs.Cycles as cycles
+use Rattle.net_settle.proofs.Carried.{carried}
+use Rattle.net_settle.proofs.Cycles as cycles
 use Rattle.net_settle.specs.Settle.{SetsInput, setting_view}
 use Rattle.net_settle.proofs.Given.{given_numbers, given_other}
 use Rattle.net_settle.specs.net_solve.Laws.{AreApart, IsBeginning, place}
 use Rattle.net_settle.proofs.net_solve_proofs.Worked.{no_input_written}
-use Rattle.net_turn.specs.Runs.{ArePut, AreRuns, Run, active_of, numbers_of, run_at, run_bit, run_from, runs_of, settings_of, turned}
+use Rattle.net_turn.specs.Runs.{ArePut, AreRuns, Run, active_of, numbers_of, run_at, run_bit, run_from, runs_of, settings_of, numbers_with}
 use Rattle.net_turn.specs.Sources.{AreSources, IsSource, processes_of}
 use Rattle.net_turn.proofs.Chosen.{run_gives, run_part, strongest_is}
 
@@ -89,22 +89,22 @@ module _ (d : Flat) (f : Fill) (old : Values) (chains : ℕ → Chain) (all : Li
   ws = widths d
 
   abbrev runs : List Run
-  runs = runs_of old (turned old turn) all
+  runs = runs_of old (numbers_with old turn) all
 
   as_many : length runs ≡ length all
-  as_many = length-map all (run_from old (turned old turn))
+  as_many = length-map all (run_from old (numbers_with old turn))
 
   -- the process at a place
   record At (t : ℕ) : Type 0 where
     one : Clocked
-    run : run_at runs t ≡ run_from old (turned old turn) one
+    run : run_at runs t ≡ run_from old (numbers_with old turn) one
     process : place (processes_of all) t ≡ one.process.0
     source : IsSource d chains one
 
   at : (t : ℕ) → t < length all → At t
   at t below =
       let (one, there) = some_at all t below in
-      record { one = one; run = run_is old (turned old turn) all t one there; process = process_is all t one there; source = all_at (IsSource d chains) all t one sources.each there }
+      record { one = one; run = run_is old (numbers_with old turn) all t one there; process = process_is all t one there; source = all_at (IsSource d chains) all t one sources.each there }
 
   pub are_runs : AreRuns d runs
   are_runs = record {
@@ -116,17 +116,17 @@ module _ (d : Flat) (f : Fill) (old : Values) (chains : ℕ → Chain) (all : Li
         (first.process ∙ (sym (ap (λ (r : Run). r.process) first.run) ∙ (same ∙ (ap (λ (r : Run). r.process) later.run ∙ sym later.process))));
     lawful = λ t below body e.
         let here = at t (omega (arith, below, as_many)) in
-        here.source.lawful body (run_part old (turned old turn) here.one body (sym (ap (λ (r : Run). r.body) here.run) ∙ e));
+        here.source.lawful body (run_part old (numbers_with old turn) here.one body (sym (ap (λ (r : Run). r.body) here.run) ∙ e));
     own = λ t below body e i k may.
         let here = at t (omega (arith, below, as_many)) in
         subst (λ (p : ℕ). OfProcess MayWrite d.signals d.tasks p i k) (sym (ap (λ (r : Run). r.process) here.run))
-        (here.source.own body (run_part old (turned old turn) here.one body (sym (ap (λ (r : Run). r.body) here.run) ∙ e)) i k may);
+        (here.source.own body (run_part old (numbers_with old turn) here.one body (sym (ap (λ (r : Run). r.body) here.run) ∙ e)) i k may);
   }
 
   module _ (lawful : AreLawful d) (apart : AreApart d) (are : AreNumbers d old) (sets : All (SetsInput d) (settings_of turn)) (kept : Values) (numbers : AreNumbers d kept) (put_all : ArePut d f old runs (length runs) kept) where
     -- the numbers with the input that is set
     abbrev given : Values
-    given = turned kept turn
+    given = numbers_with kept turn
 
     -- what no process writes that waits for an edge
     stays : (i k : ℕ) → ((p : ℕ) (events : List Watched) (body : Actions) → doing_at d p ≡ Some (Edge' events body) → OfProcess MayWrite d.signals d.tasks p i k → ⊥) → Same kept old i k
@@ -143,7 +143,7 @@ module _ (d : Flat) (f : Fill) (old : Values) (chains : ℕ → Chain) (all : Li
         ext_get_or X (kept i) (old i) (size ∙ sym size') (λ k below.
         stays i k (λ p events body here may. no_input_written d lawful p i k may input))
 
-    pub input_given : (i : ℕ) → IsTrue (is_input d i) → given i ≡ turned old turn i
+    pub input_given : (i : ℕ) → IsTrue (is_input d i) → given i ≡ numbers_with old turn i
     input_given i input = given_same kept old (settings_of turn) i (input_stays i input)
 
     -- what is no input is as it was kept
@@ -176,7 +176,7 @@ module _ (d : Flat) (f : Fill) (old : Values) (chains : ℕ → Chain) (all : Li
     -- ---- what registers have
 
     module _ (new : Values) (solution : IsSolution d f old given new) where
-      carried_new : (top i : ℕ) → IsTrue (is_input d top) → IsBehind d top i → bit new i 0 ≡ bit (turned old turn) top 0
+      carried_new : (top i : ℕ) → IsTrue (is_input d top) → IsBehind d top i → bit new i 0 ≡ bit (numbers_with old turn) top 0
       carried_new top i input behind =
           carried d f old given new solution top i behind
           ∙ ap (λ bits. get_or bits 0 X) (solution.inputs top input ∙ input_given top input)
@@ -186,7 +186,7 @@ module _ (d : Flat) (f : Fill) (old : Values) (chains : ℕ → Chain) (all : Li
         one : Clocked
         chain : chains p ≡ chain_view one.chain
         source : IsSource d chains one
-        is : bit given i k ≡ reset_bit ws f old (strongest new (chain_view one.chain).resets) (cond (happens (chain_view one.chain).clock.edge (bit old one.clock.0 0) (bit (turned old turn) one.clock.0 0)) (block_bit ws f old (chain_view one.chain).part i k) (bit old i k)) i k
+        is : bit given i k ≡ reset_bit ws f old (strongest new (chain_view one.chain).resets) (cond (happens (chain_view one.chain).clock.edge (bit old one.clock.0 0) (bit (numbers_with old turn) one.clock.0 0)) (block_bit ws f old (chain_view one.chain).part i k) (bit old i k)) i k
 
       ran : (p : ℕ) (events : List Watched) (body : Actions) → doing_at d p ≡ Some (Edge' events body) → (i k : ℕ) → MayWrite (body_flow ws body) i k → Ran p i k
       ran p events body here i k may =
@@ -197,8 +197,8 @@ module _ (d : Flat) (f : Fill) (old : Values) (chains : ℕ → Chain) (all : Li
           let own = subst (λ (q : ℕ). OfProcess MayWrite d.signals d.tasks q i k) (same ∙ sym (ap (λ (r : Run). r.process) there.run)) may' in
           let tops = numbers_of there.one.resets.items in
           let chain = chain_view there.one.chain in
-          let edge = happens chain.clock.edge (bit old there.one.clock.0 0) (bit (turned old turn) there.one.clock.0 0) in
-          let resets = strongest_is d new (turned old turn) carried_new tops chain.resets there.source.resets in
+          let edge = happens chain.clock.edge (bit old there.one.clock.0 0) (bit (numbers_with old turn) there.one.clock.0 0) in
+          let resets = strongest_is d new (numbers_with old turn) carried_new tops chain.resets there.source.resets in
           record {
             one = there.one;
             chain = ap chains same ∙ there.source.chain;
@@ -206,7 +206,7 @@ module _ (d : Flat) (f : Fill) (old : Values) (chains : ℕ → Chain) (all : Li
             is = ap (λ bits. get_or bits k X) (other_given i (λ input. no_input_written d lawful p i k may' input))
                 ∙ (put_all.taken t (omega (arith, below, as_many)) i k own
                 ∙ (ap (λ (r : Run). run_bit ws f old r.body i k) there.run
-                ∙ (run_gives ws f old (active_of (turned old turn) chain.resets tops) edge chain.part i k
+                ∙ (run_gives ws f old (active_of (numbers_with old turn) chain.resets tops) edge chain.part i k
                 ∙ ap (λ o. reset_bit ws f old o (cond edge (block_bit ws f old chain.part i k) (bit old i k)) i k) (sym resets))));
           }
 
@@ -216,20 +216,20 @@ module _ (d : Flat) (f : Fill) (old : Values) (chains : ℕ → Chain) (all : Li
           let it = ran p events body here i k may in
           let chain = chain_view it.one.chain in
           let before : bit old chain.clock.signal 0 ≡ bit old it.one.clock.0 0 = carried_old it.one.clock.0 chain.clock.signal it.source.clock.behind in
-          let after : bit new chain.clock.signal 0 ≡ bit (turned old turn) it.one.clock.0 0 = carried_new it.one.clock.0 chain.clock.signal it.source.clock.input it.source.clock.behind in
-          let clocked : cond (happens chain.clock.edge (bit old it.one.clock.0 0) (bit (turned old turn) it.one.clock.0 0)) (block_bit ws f old chain.part i k) (bit old i k) ≡ clocked_bit ws f old new chain.clock chain.part i k
-          = ap (λ b. cond (happens chain.clock.edge b (bit (turned old turn) it.one.clock.0 0)) (block_bit ws f old chain.part i k) (bit old i k)) (sym before)
+          let after : bit new chain.clock.signal 0 ≡ bit (numbers_with old turn) it.one.clock.0 0 = carried_new it.one.clock.0 chain.clock.signal it.source.clock.input it.source.clock.behind in
+          let clocked : cond (happens chain.clock.edge (bit old it.one.clock.0 0) (bit (numbers_with old turn) it.one.clock.0 0)) (block_bit ws f old chain.part i k) (bit old i k) ≡ clocked_bit ws f old new chain.clock chain.part i k
+          = ap (λ b. cond (happens chain.clock.edge b (bit (numbers_with old turn) it.one.clock.0 0)) (block_bit ws f old chain.part i k) (bit old i k)) (sym before)
           ∙ ap (λ b. cond (happens chain.clock.edge (bit old chain.clock.signal 0) b) (block_bit ws f old chain.part i k) (bit old i k)) (sym after) in
           it.is
           ∙ (ap (λ b. reset_bit ws f old (strongest new chain.resets) b i k) clocked
           ∙ ap (λ (c : Chain). register_bit ws f old new c i k) (sym it.chain))
 
       -- where no input is set
-      pub begun_is : turned old turn ≡ old → (p : ℕ) (events : List Watched) (body : Actions) → doing_at d p ≡ Some (Edge' events body) → (i k : ℕ) → MayWrite (body_flow ws body) i k → bit given i k ≡ reset_bit ws f old (strongest new (chains p).resets) (bit old i k) i k
+      pub begun_is : numbers_with old turn ≡ old → (p : ℕ) (events : List Watched) (body : Actions) → doing_at d p ≡ Some (Edge' events body) → (i k : ℕ) → MayWrite (body_flow ws body) i k → bit given i k ≡ reset_bit ws f old (strongest new (chains p).resets) (bit old i k) i k
       begun_is unset p events body here i k may =
           let it = ran p events body here i k may in
           let chain = chain_view it.one.chain in
-          let quiet : happens chain.clock.edge (bit old it.one.clock.0 0) (bit (turned old turn) it.one.clock.0 0) ≡ false
+          let quiet : happens chain.clock.edge (bit old it.one.clock.0 0) (bit (numbers_with old turn) it.one.clock.0 0) ≡ false
           = ap (λ (n : Values). happens chain.clock.edge (bit old it.one.clock.0 0) (bit n it.one.clock.0 0)) unset
           ∙ happens_same chain.clock.edge (bit old it.one.clock.0 0) in
           it.is
@@ -241,10 +241,10 @@ module _ (d : Flat) (f : Fill) (old : Values) (chains : ℕ → Chain) (all : Li
 pub turn_cycle :
     (d : Flat) (f : Fill) (held old : Values) (chains : ℕ → Chain) (all : List Clocked) (setting : Setting) → AreSources d chains all →
     AreLawful d → AreApart d → IsSolution d f held old old → All (SetsInput d) (settings_of (Some setting)) → (kept : Values) → AreNumbers d kept →
-    ArePut d f old (runs_of old (turned old (Some setting)) all) (length (runs_of old (turned old (Some setting)) all)) kept →
-    (new : Values) → IsSolution d f old (turned kept (Some setting)) new → IsCycle d chains f old (Turn (setting_view setting)) new
+    ArePut d f old (runs_of old (numbers_with old (Some setting)) all) (length (runs_of old (numbers_with old (Some setting)) all)) kept →
+    (new : Values) → IsSolution d f old (numbers_with kept (Some setting)) new → IsCycle d chains f old (Turn (setting_view setting)) new
 turn_cycle d f held old chains all setting sources lawful apart solved sets kept numbers put_all new solution =
-    cycles.cycle d chains f old (Turn (setting_view setting)) (turned kept (Some setting)) new
+    cycles.cycle d chains f old (Turn (setting_view setting)) (numbers_with kept (Some setting)) new
     (record {
       inputs = λ i input. input_given d f old chains all sources (Some setting) lawful apart solved.numbers sets kept numbers put_all i input;
       registers = λ p events body here i k may lasts.

@@ -34,8 +34,8 @@ settings_of None = []
 settings_of (Some setting) = setting_view setting ∷ []
 
 -- the numbers with it
-abbrev pub turned : Values → Option Setting → Values
-turned n turn = given_after n (settings_of turn)
+abbrev pub numbers_with : Values → Option Setting → Values
+numbers_with n turn = given_after n (settings_of turn)
 
 -- ---- one process
 

@@ -10,7 +10,7 @@ ghost use Rattle.event_model.specs.Queue.{happens};
 ghost use Rattle.net_model.specs.Cycle.{level};
 ghost use Rattle.net_model.specs.Numbers.{bit};
 ghost use Rattle.net_list.specs.check_chains.Views.{guard_view};
-ghost use Rattle.net_turn.specs.Runs.{active_of, branch_of, numbers_of, run_of, turned, view_of};
+ghost use Rattle.net_turn.specs.Runs.{active_of, branch_of, numbers_of, run_of, numbers_with, view_of};
 
 use event_model::setting::Setting;
 use net_list::check_chains::chain::Guard;
@@ -29,7 +29,7 @@ fn first_bit(number: Vec4) -> Bit
 /// The first bit of a top input, which may be set.
 fn bit_after(before: &[Vec4], turn: &Option<Setting>, top: SigId) -> Bit
     requires { top.0 < length before.now }
-    ensures { result ≡ bit (turned (store before.now) turn.now) top.0 0 }
+    ensures { result ≡ bit (numbers_with (store before.now) turn.now) top.0 0 }
 {
     if let Some(setting) = turn {
         if top.0 == setting.signal.0 {
@@ -71,7 +71,7 @@ fn active_branch<'a>(
     requires as_many { length tops.now ≡ length resets.now }
     requires tops { All (λ top. top.0 < length before.now) tops.now }
     ensures { option_map (λ branch. view_of branch.now) result
-        ≡ branch_of (active_of (turned (store before.now) turn.now) (map guard_view resets.now)
+        ≡ branch_of (active_of (numbers_with (store before.now) turn.now) (map guard_view resets.now)
         (numbers_of tops.now)) }
 {
     for place in 0..resets.len() {
@@ -94,7 +94,7 @@ pub(crate) fn chosen<'a>(
     requires as_many { length one.now.resets.items ≡ length one.now.chain.resets.items }
     requires tops { All (λ top. top.0 < length before.now) one.now.resets.items }
     ensures { option_map (λ body. view_of body.now) result
-        ≡ run_of (store before.now) (turned (store before.now) turn.now) one.now }
+        ≡ run_of (store before.now) (numbers_with (store before.now) turn.now) one.now }
 {
     let branch = active_branch(&one.chain.resets, &one.resets, before, turn);
     if branch.is_some() {

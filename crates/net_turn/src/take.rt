@@ -6,10 +6,10 @@ ghost use Rattle.rtl_bits.specs.Bits.{tabulate};
 ghost use Rattle.rtl_flat.specs.Value.{store};
 ghost use Rattle.rtl_flat.specs.Flats.{flat, widths};
 ghost use Rattle.net_model.specs.Numbers.{AreNumbers};
-ghost use Rattle.net_settle.specs.net_body.Ends.{changed};
+ghost use Rattle.net_settle.specs.net_body.Ends.{changed_digits};
 ghost use Rattle.net_settle.specs.net_solve.Laws.{AreApart};
 ghost use Rattle.net_settle.specs.Work.{IsAble};
-ghost use Rattle.net_turn.specs.Runs.{ArePut, AreRuns, run_bit, run_of, runs_of, turned};
+ghost use Rattle.net_turn.specs.Runs.{ArePut, AreRuns, run_bit, run_of, runs_of, numbers_with};
 ghost use Rattle.net_turn.specs.Sources.{CanRun};
 
 use crate::choice::chosen;
@@ -38,9 +38,9 @@ fn take_one(
     requires after { AreNumbers (flat maps.old.design.now) (store after.old) }
     ensures after { let d = flat maps.old.design.now in
         let old = store before.now in
-        let run = run_of old (turned old turn.now) one.now in
+        let run = run_of old (numbers_with old turn.now) one.now in
         (i : ℕ) → store after.new i
-        ≡ changed (old i) (tabulate (widths d i) (run_bit (widths d) fill old run i))
+        ≡ changed_digits (old i) (tabulate (widths d i) (run_bit (widths d) fill old run i))
         (store after.old i) }
     ensures same { (i : ℕ) → store maps.new.numbers.items i ≡ store before.now i }
     ensures able { IsAble maps.new }
@@ -68,7 +68,7 @@ fn take_all(
     requires begun { after.old ≡ before.now }
     ensures put { let d = flat maps.old.design.now in
         let old = store before.now in
-        let runs = runs_of old (turned old turn.now) clocked.now in
+        let runs = runs_of old (numbers_with old turn.now) clocked.now in
         AreRuns d runs → ArePut d fill old runs (length runs) (store after.new) }
     ensures after { AreNumbers (flat maps.old.design.now) (store after.new) }
     ensures able { IsAble maps.new }
@@ -109,7 +109,7 @@ pub(crate) fn take(
     requires many_after { length after.old ≡ length maps.old.design.now.signals.items }
     ensures put { let d = flat maps.old.design.now in
         let old = store maps.old.numbers.items in
-        let runs = runs_of old (turned old turn.now) clocked.now in
+        let runs = runs_of old (numbers_with old turn.now) clocked.now in
         AreRuns d runs → ArePut d fill old runs (length runs) (store maps.new.numbers.items) }
     ensures able { IsAble maps.new }
     ensures design { maps.new.design ≡ maps.old.design }

@@ -11,6 +11,7 @@ use Rattle.rtl_flat.specs.declared.design.Design.{Design}
 use Rattle.rtl_flat.specs.Value.{store}
 use Rattle.rtl_flat.specs.Flats.{Flat, flat, widths}
 use Rattle.event_model.specs.Writes.{Values}
+use Rattle.net_model.proofs.Gates.{control_input}
 use Rattle.net_model.specs.Control.{IsControl}
 use Rattle.net_model.specs.Cycle as cycle
 use Rattle.net_model.specs.Cycle.{Chain, IsCycle, Setting}
@@ -98,7 +99,7 @@ module _ (netlist : Netlist) (order : List ProcId) (m : Maps) (before after : Li
       ∥∥₁_elim kept (sets_one (flat m.design.now) setting)
       (λ s. ∥∥₁_elim lawful (sets_one (flat m.design.now) setting)
       (λ turns. subst (λ (d : Design). SetsInput (flat d) setting) (sym s.design)
-      (record { input = turns.control.input; wide = turns.can_be.wide; known = turns.can_be.known })))
+      (record { input = control_input (flat_in netlist) setting.input turns.control; wide = turns.can_be.wide; known = turns.can_be.known })))
 
   abbrev old : Values
   old = store m.numbers.items

@@ -4,6 +4,8 @@ pub mod Netlists
 pub mod Sims
 pub mod Steps
 -- passed on to the crates above
+pub use Rattle.infer_regs.specs.check_assign
+pub use Rattle.infer_regs.specs.check_chains
 pub use Rattle.infer_regs.specs.check_clocks
 pub use Rattle.infer_regs.specs.net_list
 pub use Rattle.net_order.specs as net_order

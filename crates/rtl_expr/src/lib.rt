@@ -3,8 +3,9 @@
 #![tactic(auto)]
 
 mod labels;
-mod operators;
-mod selects;
+pub mod operators;
+pub mod places;
+pub mod selects;
 mod walk;
 
 pub use labels::is_match;

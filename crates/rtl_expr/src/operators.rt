@@ -1,4 +1,4 @@
-//! The operators, by the calls of vectors.
+//! The operators, by the calls of vectors; on digits, which are known bits, they are those of hardware too.
 
 ghost use Rattle.std.specs.Prelude.{◌≡◌, [], ◌∷◌, length};
 ghost use Rattle.rtl_bits.specs.Bits.{truth_bit};
@@ -7,7 +7,8 @@ ghost use Rattle.rtl_flat.specs.Value.{turned, joined, compared, linked, folded,
 use rtl_bits::{Bit, Vec4};
 use rtl_flat::expr::{Compare, Fold, Join, Link, Shift, Turn};
 
-pub(crate) fn turn(operator: Turn, a: Vec4) -> Vec4
+/// A unary operator that gives as many bits.
+pub fn turn(operator: Turn, a: Vec4) -> Vec4
     ensures bits { result ≡ turned operator a }
     ensures width { length result ≡ length a }
 {
@@ -24,7 +25,8 @@ pub(crate) fn turn(operator: Turn, a: Vec4) -> Vec4
     }
 }
 
-pub(crate) fn join(operator: Join, signed: bool, a: Vec4, b: Vec4) -> Vec4
+/// An arithmetic or a bitwise operator.
+pub fn join(operator: Join, signed: bool, a: Vec4, b: Vec4) -> Vec4
     requires { length a ≡ length b }
     ensures bits { result ≡ joined operator signed a b }
     ensures width { length result ≡ length a }
@@ -42,7 +44,8 @@ pub(crate) fn join(operator: Join, signed: bool, a: Vec4, b: Vec4) -> Vec4
     }
 }
 
-pub(crate) fn compare(operator: Compare, signed: bool, a: Vec4, b: Vec4) -> Vec4
+/// A relation or an equality.
+pub fn compare(operator: Compare, signed: bool, a: Vec4, b: Vec4) -> Vec4
     requires { length a ≡ length b }
     ensures { result ≡ compared operator signed a b ∷ [] }
 {
@@ -58,7 +61,8 @@ pub(crate) fn compare(operator: Compare, signed: bool, a: Vec4, b: Vec4) -> Vec4
     }
 }
 
-pub(crate) fn link(operator: Link, a: Vec4, b: Vec4) -> Vec4
+/// A logical operator.
+pub fn link(operator: Link, a: Vec4, b: Vec4) -> Vec4
     ensures { result ≡ linked operator a b ∷ [] }
 {
     match operator {
@@ -67,7 +71,8 @@ pub(crate) fn link(operator: Link, a: Vec4, b: Vec4) -> Vec4
     }
 }
 
-pub(crate) fn fold(operator: Fold, a: Vec4) -> Vec4
+/// Logical negation or a reduction.
+pub fn fold(operator: Fold, a: Vec4) -> Vec4
     ensures { result ≡ folded operator a ∷ [] }
 {
     match operator {
@@ -81,7 +86,8 @@ pub(crate) fn fold(operator: Fold, a: Vec4) -> Vec4
     }
 }
 
-pub(crate) fn shift(operator: Shift, signed: bool, a: Vec4, amount: Vec4) -> Vec4
+/// A shift.
+pub fn shift(operator: Shift, signed: bool, a: Vec4, amount: Vec4) -> Vec4
     ensures bits { result ≡ shifted operator signed a amount }
     ensures width { length result ≡ length a }
 {
@@ -93,7 +99,7 @@ pub(crate) fn shift(operator: Shift, signed: bool, a: Vec4, amount: Vec4) -> Vec
 }
 
 /// One of two arms, or where the condition is unknown what they have in common.
-pub(crate) fn choose(condition: Vec4, taken: Vec4, otherwise: Vec4) -> Vec4
+pub fn choose(condition: Vec4, taken: Vec4, otherwise: Vec4) -> Vec4
     requires { length taken ≡ length otherwise }
     ensures bits { result ≡ chosen (truth_bit condition) taken otherwise }
     ensures width { length result ≡ length taken }

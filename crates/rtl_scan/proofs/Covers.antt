@@ -10,8 +10,6 @@ use Rattle.rtl_flat.specs.declared.expr.Node.{Node}
 use Rattle.rtl_flat.specs.declared.expr.Node.TheVariants as node
 use Rattle.rtl_tree.specs.declared.text.Spot.{Spot}
 use Rattle.rtl_flat.specs.declared.expr.Node.{Row_of-SizedExpr, end_of-SizedExpr, more_of-SizedExpr}
-use Rattle.std.specs.List.{list_any}
-use Rattle.rtl_bits.specs.Bits.{bits_of, extended}
 use Rattle.rtl_flat.specs.Expression.{Tree, Sized, form, row}
 use Rattle.std.proofs.Common.{◌*◌, ◌%◌, drop, map}
 use Rattle.std.proofs.lemmas.Nat.{shl_whole}
@@ -20,7 +18,7 @@ use Rattle.rtl_flat.specs.declared.act.CaseItem.{CaseItem}
 use Rattle.rtl_flat.specs.Expression.{tree}
 use Rattle.rtl_flat.specs.Flows.{labels_of}
 use Rattle.rtl_scan.specs.Bodies.{branches_of}
-use Rattle.rtl_flat.specs.Flows.{literal, literals, literal_matches, each_below, cover}
+use Rattle.rtl_flat.specs.Flows.{literal, literals, each_below, cover}
 
 pub literals_append : (xs ys : List Tree) → literals (xs ++ ys) ≡ literals xs ++ literals ys
 literals_append [] ys = refl

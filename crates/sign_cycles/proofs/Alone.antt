@@ -14,17 +14,17 @@ use Rattle.event_model.specs.Writes.{Values, driven, no_drive}
 use Rattle.event_edges.proofs.event_laws_proofs.Lengths.{put_at}
 use Rattle.net_model.specs.declared.fill.Fill.{Fill}
 use Rattle.net_model.specs.Block.{block_bit}
-use Rattle.net_model.specs.Control.{IsControl, IsPassedOn, IsReached, Itself, Through, whole_of}
+use Rattle.net_model.specs.Control.{IsClockOrReset, IsPassedOn, IsReached, Itself, Through, whole_of}
 use Rattle.net_model.specs.Cycle.{Chain, Data, Guard, IsCycle, Step, Turn, clocked_bit, item_bit, register_bit, reset_bit, settings, stepped_bit, strongest}
 use Rattle.net_model.specs.Numbers.{AreNumbers, bit, digits}
 use Rattle.net_model.specs.Solution.{IsLasting, IsSolution}
-use Rattle.sign_rounds.proofs.net_laws_proofs.Laws.{tame_depends}
-use Rattle.sign_rounds.specs.net_rest.Rest.{AreGivenAlike}
-use Rattle.sign_rounds.proofs.net_rest_proofs.Levels.{read_lasts}
-use Rattle.sign_rounds.proofs.net_rest_proofs.Laws.{alone}
-use Rattle.sign_rounds.proofs.Settled.{input_lasts}
+use Rattle.net_rest.proofs.net_laws_proofs.Laws.{tame_depends}
+use Rattle.net_rest.specs.Rest.{AreGivenAlike}
+use Rattle.net_rest.proofs.Levels.{read_lasts}
+use Rattle.net_rest.proofs.Laws.{alone}
+use Rattle.sign_cycles.proofs.Settled.{input_lasts}
 use Rattle.event_edges.specs.Synchronous.{IsItem, IsSynchronous}
-use Rattle.event_edges.proofs.Cone.{connection_does, item_control, whole_bit}
+use Rattle.event_edges.proofs.Cone.{connection_does, item_clock, whole_bit}
 use Rattle.event_edges.proofs.Ports.{one_bit}
 use Rattle.sign_cycles.specs.Agree.{AreSame}
 use Rattle.sign_cycles.specs.Formed.{IsCleanClocked}
@@ -43,23 +43,23 @@ driven_port ws j spot b one =
 
 module _ (d : Flat) (sync : IsSynchronous d) (f : Fill) (held given v : Values) (solution : IsSolution d f held given v) where
   -- the port to which a clock or a reset goes on has its number
-  port_number : (c : ℕ) → IsControl d c → (k j : ℕ) → IsReached d c k → IsPassedOn d k j → bit v j 0 ≡ bit v k 0
-  port_number c control k j reached passed =
+  port_number : (c : ℕ) → IsClockOrReset d c → (k j : ℕ) → IsReached d c k → IsPassedOn d k j → bit v j 0 ≡ bit v k 0
+  port_number c clock k j reached passed =
       let p = passed.process in
       let spot = passed.connection.spot in
       let is = connection_does d sync k j passed in
-      let port = sync.heard p (Assign (whole_of j spot) passed.value) is k passed.alone.bit (record { control = c; is_control = control; reached = reached }) passed.alone.read in
+      let port = sync.heard p (Assign (whole_of j spot) passed.value) is k passed.alone.bit (record { clock = c; is_clock = clock; reached = reached }) passed.alone.read in
       let source : v k ≡ bit v k 0 ∷ [] = one_bit (v k) (bit v k 0) (solution.numbers.wide k ∙ passed.one_bit) refl in
       solution.assigns p (whole_of j spot) passed.value is j 0 (whole_bit (widths d) j spot passed.port_bit)
       ∙ ap (λ e. bit (driven (widths d) (whole_of j spot) (digits f v e)) j 0) port.link.copy
       ∙ ap (λ l. bit (driven (widths d) (whole_of j spot) (extended 1 port.link.signed l)) j 0) source
       ∙ ap (λ l. get_or l 0 X) (driven_port (widths d) j spot (bit v k 0) passed.port_bit)
 
-  -- all that is reached from a control input has its number
-  reached_number : (c : ℕ) → IsControl d c → (i : ℕ) → IsReached d c i → bit v i 0 ≡ bit v c 0
-  reached_number c control _ Itself = refl
-  reached_number c control _ (Through k j reached passed) =
-      port_number c control k j reached passed ∙ reached_number c control k reached
+  -- all that is reached from a clock or a reset has its number
+  reached_number : (c : ℕ) → IsClockOrReset d c → (i : ℕ) → IsReached d c i → bit v i 0 ≡ bit v c 0
+  reached_number c clock _ Itself = refl
+  reached_number c clock _ (Through k j reached passed) =
+      port_number c clock k j reached passed ∙ reached_number c clock k reached
 
 -- ---- steps
 
@@ -76,10 +76,10 @@ module _ (d : Flat) (chains : ℕ → Chain) (level : ℕ → ℕ) (clean : IsCl
     item_new : (item : Watched) → IsItem d p events body item → item_bit next item ≡ item_bit other item
     item_new item here =
         let top = clean.synchronous.clocks p events body item here in
-        let control = item_control d clean.synchronous p events body item here top.top top.input top.reached in
-        reached_number d clean.synchronous f n next next one.rest top.top control item.signal top.reached
+        let top_clock = item_clock d clean.synchronous p events body item here top.top top.input top.reached in
+        reached_number d clean.synchronous f n next next one.rest top.top top_clock item.signal top.reached
         ∙ ap (λ l. get_or l 0 X) (new_inputs top.top top.input)
-        ∙ sym (reached_number d clean.synchronous f m other other two.rest top.top control item.signal top.reached)
+        ∙ sym (reached_number d clean.synchronous f m other other two.rest top.top top_clock item.signal top.reached)
 
     item_old : (item : Watched) → IsItem d p events body item → item_bit n item ≡ item_bit m item
     item_old item here = same item.signal 0 (item_lasts d chains level clean p events body is item here)

@@ -23,17 +23,17 @@ use Rattle.event_edges.specs.event_runs.Writers.{IsOrderly}
 use Rattle.event_edges.proofs.event_runs_proofs.Inputs.{offer_is, offered_offer, offered_run, orderly_offer}
 use Rattle.event_edges.proofs.event_runs_proofs.Late.{orderly_power_up, orderly_run}
 use Rattle.event_edges.proofs.event_runs_proofs.Nets.{driven_from, resolved_power_up, resolved_run}
-use Rattle.sign_rounds.proofs.net_laws_proofs.Laws.{block_known}
-use Rattle.sign_rounds.specs.net_rest.Rest.{numbers_of}
-use Rattle.sign_rounds.proofs.net_rest_proofs.Numbers.{are_numbers}
-use Rattle.sign_rounds.proofs.net_rest_proofs.Rest.{register_inside}
-use Rattle.sign_rounds.specs.BringUp.{AreRounds, CanAllWake, after_rounds}
-use Rattle.sign_rounds.specs.BringUp as up
-use Rattle.sign_rounds.specs.Round.{AreSettings, IsSettled, Round}
-use Rattle.sign_rounds.proofs.Laws as round
-use Rattle.sign_rounds.proofs.Settled.{are_wide}
+use Rattle.net_rest.proofs.net_laws_proofs.Laws.{block_known}
+use Rattle.net_rest.specs.Rest.{numbers_of}
+use Rattle.net_rest.proofs.Numbers.{are_numbers}
+use Rattle.net_rest.proofs.Rest.{register_inside}
+use Rattle.sign_cycles.specs.PowerUp.{AreRounds, CanAllWake, after_rounds}
+use Rattle.sign_cycles.specs.PowerUp as up
+use Rattle.sign_cycles.specs.Round.{AreSettings, IsSettled, Round}
+use Rattle.sign_cycles.proofs.RoundLaws as round
+use Rattle.sign_cycles.proofs.Settled.{are_wide}
 use Rattle.event_edges.specs.Reset.{IsReset, IsSet}
-use Rattle.event_edges.proofs.Cone.{item_control}
+use Rattle.event_edges.proofs.Cone.{item_clock}
 use Rattle.event_edges.proofs.Laws.{resets_set, set_at_rest}
 use Rattle.event_edges.proofs.Ports.{follows, one_bit}
 use Rattle.sign_cycles.specs.Agree.{AreReset, AreRuns, IsSettledKnown}
@@ -42,7 +42,7 @@ use Rattle.sign_cycles.specs.Formed.{IsCleanClocked}
 use Rattle.sign_cycles.specs.Laws.{BringsUpClean}
 use Rattle.sign_cycles.proofs.Chains.{strongest_is}
 use Rattle.sign_cycles.proofs.DataSteps.{given_pairs, pairs}
-use Rattle.sign_cycles.proofs.Edges.{control_bit, settled_known}
+use Rattle.sign_cycles.proofs.Edges.{clock_bit, settled_known}
 use Rattle.sign_cycles.proofs.Resets as reset
 
 -- ---- what inputs are set to
@@ -205,14 +205,14 @@ module _ (d : Flat) (chains : ℕ → Chain) (level_of : ℕ → ℕ) (clean : I
       at_level =
           let item = reset.item d chains level_of clean f p register.events register.body register.does guard guarded.1 in
           let top = clean.synchronous.clocks p register.events register.body guard.item item in
-          let control = item_control d clean.synchronous p register.events register.body guard.item item top.top top.input top.reached in
+          let top_clock = item_clock d clean.synchronous p register.events register.body guard.item item top.top top.input top.reached in
           let there = All-head (IsAtLevel d given) guard [] (subst (All (IsAtLevel d given)) guarded.1 (levels p register.events register.body register.does)) in
           let value_is : t.value top.top ≡ given top.top = ap (λ (o : Option (List Bit)). unwrap_or o (t.value top.top)) (sym (rest.no_active.inputs top.top top.input)) ∙ rising.offered.comes top.top top.input in
           let start : t.value top.top ≡ level guard.item.edge ∷ [] =
-          one_bit (t.value top.top) (level guard.item.edge) (rising.orderly.steady.widths top.top ∙ control_bit d clean.synchronous top.top control)
+          one_bit (t.value top.top) (level guard.item.edge) (rising.orderly.steady.widths top.top ∙ clock_bit d clean.synchronous top.top top_clock)
           (ap (λ (bits : List Bit). get_or bits 0 X) value_is ∙ there top.top top.input top.reached) in
           ap (λ (bits : List Bit). get_or bits 0 X)
-          (follows d clean.synchronous t rising.orderly drivers rest.no_active top.top control (level guard.item.edge) start guard.item.signal top.reached)
+          (follows d clean.synchronous t rising.orderly drivers rest.no_active top.top top_clock (level guard.item.edge) start guard.item.signal top.reached)
 
       -- so it has its constant
       has_constant : (n : Values) → AreNumbers d n → bit t.value i k ≡ block_bit (widths d) f n guard.branch i k

@@ -21,12 +21,12 @@ use Rattle.event_model.specs.Queue.{happens}
 use Rattle.rtl_flat.specs.Flats.{Flat, widths}
 use Rattle.event_model.specs.Writes.{Values}
 use Rattle.net_model.specs.declared.fill.Fill.{Fill}
-use Rattle.net_model.specs.Block.{Maps, acts, begun, bit_after, block_bit}
+use Rattle.net_model.specs.Block.{Maps, acts, first_maps, bit_after, block_bit}
 use Rattle.net_model.specs.Cycle.{Guard, IsChained, Tests, clocked_bit, is_active, item_bit, level, opened, reset_bit, strongest}
 use Rattle.net_model.specs.Numbers.{AreNumbers, bit, digits}
 use Rattle.net_model.specs.Solution.{IsLasting}
-use Rattle.sign_rounds.specs.net_laws.Tame.{AreExclusive, AreSplit, AreTame}
-use Rattle.sign_rounds.proofs.net_laws_proofs.Laws.{tame_depends}
+use Rattle.net_rest.specs.net_laws.Tame.{AreExclusive, AreSplit, AreTame}
+use Rattle.net_rest.proofs.net_laws_proofs.Laws.{tame_depends}
 use Rattle.sign_cycles.specs.Formed.{IsConstant}
 
 -- a body whose run from numbers is as synthesis takes it
@@ -193,7 +193,7 @@ module _ (d : Flat) where
   module _ (f : Fill) (n : Values) (are : AreNumbers d n) (i k : ℕ) where
     abbrev chosen : Actions → Actions → Bool → Bit
     chosen taken other b =
-        bit_after (if b then acts (widths d) f (begun n) taken else acts (widths d) f (begun n) other) i k
+        bit_after (if b then acts (widths d) f (first_maps n) taken else acts (widths d) f (first_maps n) other) i k
 
     abbrev by_strongest : Actions → Option Guard → Bit
     by_strongest part o = reset_bit (widths d) f n o (block_bit (widths d) f n part i k) i k
@@ -204,7 +204,7 @@ module _ (d : Flat) where
     chain_bit [] part body chained tests = ap (λ b. block_bit (widths d) f n b i k) chained
     chain_bit (guard ∷ others) part body (other, spot, is, rest) tests =
         let test : is_one (truth_bit (digits f n guard.test)) ≡ is_active n guard.item = All-head (Tests d) guard others tests f n are in
-        ap (λ (m : Maps). bit_after m i k) (sym (opened_acts (widths d) f (begun n) body) ∙ ap (acts (widths d) f (begun n)) is)
+        ap (λ (m : Maps). bit_after m i k) (sym (opened_acts (widths d) f (first_maps n) body) ∙ ap (acts (widths d) f (first_maps n)) is)
         ∙ elim (cases_Bool (is_active n guard.item)) [
           | inl on ↦
               ap (chosen guard.branch other) (test ∙ on)

@@ -23,12 +23,12 @@ use Rattle.event_edges.specs.event_laws.Steady.{AreLawful}
 use Rattle.event_edges.proofs.event_laws_proofs.Laws.{outside_inside}
 use Rattle.event_edges.proofs.event_laws_proofs.Within.{may_read_outside}
 use Rattle.net_model.specs.declared.fill.Fill.{Fill}
-use Rattle.net_model.specs.Control.{InCone, IsFromTop, Itself, waits_for}
+use Rattle.net_model.specs.Control.{InClockCone, IsFromTop, Itself, waits_for}
 use Rattle.net_model.specs.Cycle.{Guard}
 use Rattle.net_model.specs.Solution.{IsLasting, IsRegisterBit}
-use Rattle.sign_rounds.specs.net_laws.Tame.{AreTame, HasFirmIndex, IsFirm}
-use Rattle.sign_rounds.specs.net_rest.Rest.{IsComputed, IsSolvable}
-use Rattle.event_edges.specs.Synchronous.{IsItem, IsSynchronous, MayHear}
+use Rattle.net_rest.specs.net_laws.Tame.{AreTame, HasFirmIndex, IsFirm}
+use Rattle.net_rest.specs.Rest.{IsComputed, IsSolvable}
+use Rattle.event_edges.specs.Synchronous.{IsItem, IsSynchronous, MayHear, NoSignal}
 use Rattle.event_edges.proofs.Hearing.{find}
 use Rattle.sign_cycles.specs.Agree.{Agree}
 use Rattle.sign_cycles.specs.BringUp.{BringsUp}
@@ -109,13 +109,13 @@ item : (p : ℕ) (events : List Watched) (b : Actions) (x : Watched) → IsItem 
 item p events b x is =
     items is.place x (ap (λ l. slice_get l is.place) (sym (own p events b is.does).0) ∙ is.there)
 
--- the control cone is clk and rst
-in_cone : (i : ℕ) → InCone design i → (i ≡ 0) ⊎ (i ≡ 1)
+-- the clock cone is clk and rst
+in_cone : (i : ℕ) → InClockCone design i → (i ≡ 0) ⊎ (i ≡ 1)
 in_cone i cone =
-    let control = cone.is_control in
-    let same : control.signal ≡ i = sym (itself cone.control control.signal control.reached) ∙ itself cone.control i cone.reached in
-    let one = find (waits_for control.signal) list (ap (list_any (waits_for control.signal)) (sym (own control.edges.process control.edges.events control.edges.body control.edges.does).0) ∙ control.edges.waits) in
-    let at : one.item.signal ≡ control.signal = eqb-true one.item.signal control.signal (and_parts (one.item.signal == control.signal) (has_edge one.item.edge) one.passes).0 in
+    let clock = cone.is_clock in
+    let same : clock.signal ≡ i = sym (itself cone.clock clock.signal clock.reached) ∙ itself cone.clock i cone.reached in
+    let one = find (waits_for clock.signal) list (ap (list_any (waits_for clock.signal)) (sym (own clock.edges.process clock.edges.events clock.edges.body clock.edges.does).0) ∙ clock.edges.waits) in
+    let at : one.item.signal ≡ clock.signal = eqb-true one.item.signal clock.signal (and_parts (one.item.signal == clock.signal) (has_edge one.item.edge) one.passes).0 in
     elim (items one.place one.item one.there) [
       | inl first ↦ inl (sym same ∙ sym at ∙ ap (λ (x : Watched). x.signal) first)
       | inr second ↦ inr (sym same ∙ sym at ∙ ap (λ (x : Watched). x.signal) second)
@@ -156,7 +156,7 @@ synchronous =
       edges = λ p events b x is. edged x (item p events b x is);
       clocks = λ p events b x is. from_top x.signal (signal_of x (item p events b x is));
       once = λ p events b x y is is' c input r r'. sym (itself c x.signal r) ∙ itself c y.signal r';
-      heard = λ p does is i k cone h. subst (λ x. MayHear design x i) (sym (one_process p does is).1) tt;
+      heard = λ p does is i k cone h. subst (λ x. MayHear NoSignal design x i) (sym (one_process p does is).1) tt;
       tests = λ p events b is i k cone h.
           let place = in_cone i cone in
           let outside : ReadsOutside (body_flow (widths design) body) i k = subst (λ x. ReadsOutside (body_flow (widths design) x) i k) (own p events b is).1 h in
@@ -199,7 +199,7 @@ solvable =
       sourced = sourced;
       firm = λ p target e is. absurd (no_assign p target e is);
       sole = λ p target e is. absurd (no_assign p target e is);
-      gates = λ p l b is. absurd (no_comb p l b is);
+      computing = λ p l b is. absurd (no_comb p l b is);
     }
 
 -- ---- its block is a register with a reset

@@ -14,9 +14,10 @@ use Rattle.event_model.specs.Traces.{Same}
 use Rattle.event_model.specs.Writes.{Values, put}
 use Rattle.event_edges.proofs.event_laws_proofs.Lengths.{put_other}
 use Rattle.net_model.specs.declared.fill.Fill.{Fill}
-use Rattle.net_model.specs.Control.{InCone}
+use Rattle.net_model.specs.Control.{InClockCone}
 use Rattle.net_model.specs.Cycle.{Chain, Setting, given_after}
 use Rattle.net_model.specs.Lawful.{SetsData}
+use Rattle.net_model.proofs.Gates.{data_unclocked}
 use Rattle.net_model.specs.Numbers.{bit}
 use Rattle.net_model.specs.Solution.{IsRegisterBit}
 use Rattle.event_edges.specs.event_runs.Nets.{AreWide, given_with}
@@ -24,13 +25,13 @@ use Rattle.event_edges.specs.event_runs.Writers.{IsOrderly}
 use Rattle.event_edges.proofs.event_runs_proofs.Inputs.{offer_is, orderly_offer}
 use Rattle.event_edges.proofs.event_runs_proofs.Signals.{body_variable, variable_input}
 use Rattle.event_edges.proofs.event_runs_proofs.Writers.{to_process}
-use Rattle.sign_rounds.specs.net_rest.Rest.{AreGiven, IsSolvable, numbers_of}
-use Rattle.sign_rounds.proofs.net_laws_proofs.Known.{known_at}
-use Rattle.sign_rounds.proofs.net_rest_proofs.Numbers.{past_ends}
-use Rattle.sign_rounds.proofs.net_rest_proofs.Rest.{register_inside}
-use Rattle.sign_rounds.specs.Round.{AreSettings, IsArrived, IsFollowed, IsSettled}
-use Rattle.sign_rounds.proofs.Followed as followed
-use Rattle.sign_rounds.proofs.Settled.{arrive}
+use Rattle.net_rest.specs.Rest.{AreGiven, IsSolvable, numbers_of}
+use Rattle.net_rest.proofs.net_laws_proofs.Known.{known_at}
+use Rattle.net_rest.proofs.Numbers.{past_ends}
+use Rattle.net_rest.proofs.Rest.{register_inside}
+use Rattle.sign_cycles.specs.Round.{AreSettings, IsArrived, IsFollowed, IsSettled}
+use Rattle.sign_cycles.proofs.Followed as followed
+use Rattle.sign_cycles.proofs.Settled.{arrive}
 use Rattle.event_edges.specs.Quiet.{SetData}
 use Rattle.event_edges.specs.Synchronous.{IsSynchronous}
 use Rattle.event_edges.proofs.Laws.{at_data, data_quiet, quiet_run}
@@ -58,7 +59,7 @@ module _ (d : Flat) where
   set_data [] set = tt
   set_data (setting ∷ others) set =
       let one = All-head (SetsData d) setting others set in
-      (one.data_input, one.can_be.wide, set_data others (All-tail (SetsData d) setting others set))
+      (data_unclocked d setting.input one.data_input, one.can_be.wide, set_data others (All-tail (SetsData d) setting others set))
 
   are_wide : (step : List (ℕ × List Bit)) → SetData d step → AreWide d step
   are_wide [] set = tt
@@ -104,7 +105,7 @@ module _ (d : Flat) (level : ℕ → ℕ) (solvable : IsSolvable d level) (sync 
       (record { settings = are_settings d all set; can = next.reaches.can }) rests
 
   -- clocks and resets stay
-  here_cone : (i k : ℕ) → InCone d i → Same here.value s.value i k
+  here_cone : (i k : ℕ) → InClockCone d i → Same here.value s.value i k
   here_cone i k cone =
       let offers = offer_is s (pairs all) in
       (quiet_run d sync (offer s (pairs all)) next.reaches.events next.reaches.can
@@ -112,7 +113,7 @@ module _ (d : Flat) (level : ℕ → ℕ) (solvable : IsSolvable d level) (sync 
       (data_quiet d sync s (pairs all) settled.rest (set_data d all set))).cone i k cone
       ∙ ap (λ (u : State). bit u.value i k) offers
 
-  pub cone_stays : (i k : ℕ) → InCone d i → Same t.value s.value i k
+  pub cone_stays : (i k : ℕ) → InClockCone d i → Same t.value s.value i k
   cone_stays i k cone =
       ap (λ (u : State). bit u.value i k) (sym next.reaches.leads) ∙ here_cone i k cone
 

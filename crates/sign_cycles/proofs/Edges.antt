@@ -27,7 +27,7 @@ use Rattle.event_edges.specs.event_laws.Laws.{RunAlike, after_body}
 use Rattle.event_edges.proofs.event_laws_proofs.Laws.{depends, made_out, may_now, writes_variables}
 use Rattle.net_model.specs.declared.fill.Fill.{Fill}
 use Rattle.net_model.specs.Block.{block_bit}
-use Rattle.net_model.specs.Control.{InCone, IsControl, IsReached, Itself, Through, waits_for}
+use Rattle.net_model.specs.Control.{InClockCone, IsClockOrReset, IsReached, Itself, Through, waits_for}
 use Rattle.net_model.specs.Cycle.{Chain, Guard, IsChain, IsCycle, Setting, Turn, clocked_bit, item_bit, register_bit, reset_bit, strongest}
 use Rattle.net_model.specs.Lawful.{TurnsControl}
 use Rattle.net_model.specs.Numbers.{AreNumbers, bit}
@@ -35,17 +35,17 @@ use Rattle.net_model.specs.Solution.{IsLasting, IsRegisterBit}
 use Rattle.event_edges.specs.event_runs.Effects.{laters}
 use Rattle.event_edges.specs.event_runs.Nets.{given_with}
 use Rattle.event_edges.proofs.event_runs_proofs.Nets.{resolved_from}
-use Rattle.sign_rounds.specs.net_laws.Laws.{last_written, late_writes}
-use Rattle.sign_rounds.proofs.net_laws_proofs.Known.{known_at}
-use Rattle.sign_rounds.proofs.net_laws_proofs.Late.{last_append}
-use Rattle.sign_rounds.proofs.net_laws_proofs.Laws.{late_is, tame_depends, whole_path, block_known}
-use Rattle.sign_rounds.specs.net_rest.Rest.{AreGiven, numbers_of}
-use Rattle.sign_rounds.proofs.net_rest_proofs.Levels.{read_lasts}
-use Rattle.sign_rounds.proofs.net_rest_proofs.Numbers.{are_numbers, has_source, number_same, past_ends}
-use Rattle.sign_rounds.proofs.net_rest_proofs.Rest.{register_inside}
-use Rattle.sign_rounds.specs.Round.{IsArrived, IsFollowed, IsSettled}
-use Rattle.sign_rounds.proofs.Followed as followed
-use Rattle.sign_rounds.proofs.Settled.{arrive}
+use Rattle.net_rest.specs.net_laws.Laws.{last_written, late_writes}
+use Rattle.net_rest.proofs.net_laws_proofs.Known.{known_at}
+use Rattle.net_rest.proofs.net_laws_proofs.Late.{last_append}
+use Rattle.net_rest.proofs.net_laws_proofs.Laws.{late_is, tame_depends, whole_path, block_known}
+use Rattle.net_rest.specs.Rest.{AreGiven, numbers_of}
+use Rattle.net_rest.proofs.Levels.{read_lasts}
+use Rattle.net_rest.proofs.Numbers.{are_numbers, has_source, number_same, past_ends}
+use Rattle.net_rest.proofs.Rest.{register_inside}
+use Rattle.sign_cycles.specs.Round.{IsArrived, IsFollowed, IsSettled}
+use Rattle.sign_cycles.proofs.Followed as followed
+use Rattle.sign_cycles.proofs.Settled.{arrive}
 use Rattle.event_edges.specs.Registers.{update_bit, updates_bit}
 use Rattle.event_edges.specs.Synchronous.{IsItem, IsSynchronous}
 use Rattle.event_edges.specs.Turned.{IsEdgeStart, IsTurnedAt, fires, found_at, item_fires, set_to}
@@ -181,18 +181,18 @@ module _ (d : Flat) (chains : ℕ → Chain) (level : ℕ → ℕ) (clean : IsCl
       ∙ reset p events body is guard before i k may lasts
       ∙ strongest_constant p events body is f n n m are are' guard before i k may lasts
 
--- a control input has one bit
+-- a clock or a reset has one bit
 start_bit : (d : Flat) (c i : ℕ) → IsReached d c i → widths d i ≡ 1 → widths d c ≡ 1
 start_bit d c _ Itself one = one
 start_bit d c _ (Through k j reached passed) one = start_bit d c k reached passed.one_bit
 
-pub control_bit : (d : Flat) → IsSynchronous d → (c : ℕ) → IsControl d c → widths d c ≡ 1
-control_bit d sync c control =
-    let edges = control.edges in
-    let one = find (waits_for control.signal) edges.events edges.waits in
+pub clock_bit : (d : Flat) → IsSynchronous d → (c : ℕ) → IsClockOrReset d c → widths d c ≡ 1
+clock_bit d sync c is =
+    let edges = is.edges in
+    let one = find (waits_for is.signal) edges.events edges.waits in
     let item : IsItem d edges.process edges.events edges.body one.item = record { does = edges.does; place = one.place; there = one.there } in
-    start_bit d c control.signal control.reached
-    (ap (widths d) (sym (eqb-true one.item.signal control.signal (and_parts (one.item.signal == control.signal) (has_edge one.item.edge) one.passes).0))
+    start_bit d c is.signal is.reached
+    (ap (widths d) (sym (eqb-true one.item.signal is.signal (and_parts (one.item.signal == is.signal) (has_edge one.item.edge) one.passes).0))
     ∙ item_width d sync edges.process edges.events edges.body one.item item)
 
 -- a settled state whose registers keep their resets
@@ -215,7 +215,7 @@ settled_known d chains f t next settled reset =
 
 -- ---- a step of one clock or reset
 
-module _ (d : Flat) (chains : ℕ → Chain) (level : ℕ → ℕ) (clean : IsCleanClocked d chains level) (f : Fill) (s : State) (n : Values) (known : IsSettledKnown d chains f s n) (setting : Setting) (turns : TurnsControl d n setting) (t : State) (next : IsNext d s (setting ∷ []) t) where
+module _ (d : Flat) (chains : ℕ → Chain) (level : ℕ → ℕ) (clean : IsCleanClocked d chains level) (f : Fill) (s : State) (n : Values) (known : IsSettledKnown d chains f s n) (setting : Setting) (its_clock : IsClockOrReset d setting.input) (turns : TurnsControl d n setting) (t : State) (next : IsNext d s (setting ∷ []) t) where
   abbrev c : ℕ
   c = setting.input
 
@@ -233,7 +233,7 @@ module _ (d : Flat) (chains : ℕ → Chain) (level : ℕ → ℕ) (clean : IsCl
       arrive d level clean.solvable f s n settled (record { step = []; events = [] }) (record { settings = tt; can = tt }) settled.rest
 
   one_wide : widths d c ≡ 1
-  one_wide = control_bit d clean.synchronous c turns.control
+  one_wide = clock_bit d clean.synchronous c its_clock
 
   number_is : setting.number ≡ b ∷ []
   number_is = one_bit setting.number b (turns.can_be.wide ∙ one_wide) refl
@@ -252,10 +252,10 @@ module _ (d : Flat) (chains : ℕ → Chain) (level : ℕ → ℕ) (clean : IsCl
             (λ p target e here i k is sole.
             before.driven p target e here i k is
             ∙ ap (λ bits. bit (driven (widths d) target bits) i k) (sym (before.drivers p target e here)));
-        control = turns.control;
+        clock = its_clock;
         before = old_is;
         other = λ same.
-            turns.other (number_is ∙ ap (λ (x : Bit). x ∷ []) (sym same) ∙ sym old_is ∙ before.inputs c turns.control.input);
+            turns.other (number_is ∙ ap (λ (x : Bit). x ∷ []) (sym same) ∙ sym old_is ∙ before.inputs c its_clock.input);
       }
     where
       old_is : s.value c ≡ bit s.value c 0 ∷ []
@@ -288,7 +288,7 @@ module _ (d : Flat) (chains : ℕ → Chain) (level : ℕ → ℕ) (clean : IsCl
     item_known : (item : Watched) → IsItem d p events body item → is_unknown (item_bit t.value item) ≡ false
     item_known item here =
         let inside : 0 < widths d item.signal = let one = item_width d clean.synchronous p events body item here in omega (arith, one) in
-        elim (item_reached d clean.synchronous p events body item here c turns.control.input) [
+        elim (item_reached d clean.synchronous p events body item here c its_clock.input) [
           | inl reached ↦ ap (λ (bits : List Bit). is_unknown (get_or bits 0 X)) (turned.turned item.signal reached) ∙ new_known
           | inr apart ↦
               ap is_unknown (turned.others item.signal 0 (item_in_cone d clean.synchronous p events body item here) apart)
@@ -399,7 +399,7 @@ module _ (d : Flat) (chains : ℕ → Chain) (level : ℕ → ℕ) (clean : IsCl
           picked_second (items_list (widths d) events j 0) (new j) (n j) l (λ listed.
           let one = listed_item (widths d) events j 0 listed in
           formed.apart j l reads'
-          (subst (InCone d) (sym one.same) (item_in_cone d clean.synchronous p events body one.item (record { does = is; place = one.place; there = one.there })))))
+          (subst (InClockCone d) (sym one.same) (item_in_cone d clean.synchronous p events body one.item (record { does = is; place = one.place; there = one.there })))))
           (inl found_old)
 
       item_found : (item : Watched) → IsItem d p events body item → item_bit found item ≡ item_bit new item

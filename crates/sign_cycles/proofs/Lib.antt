@@ -4,11 +4,16 @@ pub mod Chains
 mod Clean
 pub mod DataSteps
 pub mod Edges
+pub mod Followed
 pub mod Lists
 mod Register
 pub mod Resets
+mod RoundExample
+pub mod RoundLaws
+pub mod Settled
 pub mod Steps
+pub mod Up
 -- passed on to the crates above
 pub use Rattle.event_edges.proofs as event_edges_proofs
-pub use Rattle.sign_rounds.proofs.net_rest_proofs
-pub use Rattle.sign_rounds.proofs as sign_rounds_proofs
+pub use Rattle.net_rest.proofs.net_laws_proofs
+pub use Rattle.net_rest.proofs as net_rest_proofs

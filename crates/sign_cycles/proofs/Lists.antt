@@ -11,6 +11,7 @@ use Rattle.event_model.specs.Writes.{Values, put}
 use Rattle.net_model.specs.declared.fill.Fill.{Fill}
 use Rattle.net_model.specs.Cycle.{Chain, Data, Setting, Step, Turn, given_after, settings}
 use Rattle.net_model.specs.Lawful.{AreLawfulSteps, IsLawfulStep}
+use Rattle.net_model.proofs.Gates.{control_input}
 use Rattle.net_model.specs.Numbers.{AreNumbers}
 use Rattle.net_model.specs.Solution.{IsLasting}
 use Rattle.sign_cycles.specs.Agree.{Agree, AreCycles, AreFollowed, AreRuns, AreSame, AreSameLists, IsOutput, IsSettledKnown, ShowsAll}
@@ -39,7 +40,7 @@ lawful_step_alike d n m alike (Turn setting) lawful =
     record {
       control = lawful.control;
       can_be = lawful.can_be;
-      other = λ same. lawful.other (same ∙ sym (alike setting.input lawful.control.input));
+      other = λ same. lawful.other (same ∙ sym (alike setting.input (control_input d setting.input lawful.control)));
     }
 
 lawful_alike : (d : Flat) (n m : Values) → GivesAlike d n m → (steps : List Step) → AreLawfulSteps d n steps → AreLawfulSteps d m steps

@@ -27,12 +27,13 @@ use Rattle.event_model.specs.Queue.{State, Event, Input, Run, Delayed, Activate,
 use Rattle.rtl_flat.specs.Flats.{Flat, widths}
 use Rattle.event_model.specs.Writes.{Values, Write}
 use Rattle.net_model.specs.declared.fill.Fill.{Fill}
-use Rattle.net_model.specs.Control.{IsControl, IsPassedOn, IsReached, Itself, Through, whole_of}
+use Rattle.net_model.proofs.Gates.{clock_control}
+use Rattle.net_model.specs.Control.{IsClockOrReset, IsPassedOn, IsReached, Itself, Through, whole_of}
 use Rattle.net_model.specs.Cycle.{Chain, Guard, IsChain, Setting, Tests, Turn, is_active}
 use Rattle.net_model.specs.Lawful.{AreLawfulSteps}
 use Rattle.net_model.specs.Numbers.{bit, digits}
 use Rattle.net_model.specs.Solution.{IsSolution}
-use Rattle.sign_cycles.specs.Agree.{IsNext, IsSettledKnown, offered}
+use Rattle.sign_cycles.specs.Agree.{IsNext, IsSettledKnown, after_offer}
 use Rattle.sign_cycles.specs.BringUp.{IsAtLevel, IsBringUp, SetsInput, given_by, sets}
 
 pub spot : Spot
@@ -187,7 +188,7 @@ settled f =
 
 -- ---- an edge of the clock, after which q is 1
 
-clock : IsControl design 0
+clock : IsClockOrReset design 0
 clock =
     record {
       input = refl;
@@ -205,7 +206,7 @@ one_zero h = true≢false (ap is_one h)
 lawful : AreLawfulSteps design first (Turn rises ∷ [])
 lawful = (
   record {
-    control = clock;
+    control = clock_control design 0 clock;
     can_be = record { wide = refl; known = refl };
     other = λ h. one_zero (ap (λ bits. slice_index_or bits 0 X) h);
   },
@@ -216,7 +217,7 @@ abbrev events : List Event
 events = Input 0 ∷ Run 0 ∷ Activate ∷ Delayed ∷ []
 
 abbrev high : State
-high = run design (offered low (rises ∷ [])) events
+high = run design (after_offer low (rises ∷ [])) events
 
 shows_one : bit high.value 3 0 ≡ One
 shows_one = refl
@@ -252,7 +253,7 @@ high_rests =
     }
 
 abbrev ran : State
-ran = run design (offered low (rises ∷ [])) (Input 0 ∷ Run 0 ∷ [])
+ran = run design (after_offer low (rises ∷ [])) (Input 0 ∷ Run 0 ∷ [])
 
 asked : HasNoActive design ran
 asked =

@@ -32,13 +32,13 @@ use Rattle.net_model.specs.Cycle.{Chain, Guard, IsChained, Tests, level, opened}
 use Rattle.net_model.specs.Numbers.{AreNumbers, bit}
 use Rattle.net_model.specs.Solution.{IsLasting}
 use Rattle.event_edges.specs.event_runs.Effects.{laters}
-use Rattle.sign_rounds.specs.net_laws.Laws.{last_late, late_writes}
-use Rattle.sign_rounds.proofs.net_laws_proofs.After.{made_either}
-use Rattle.sign_rounds.proofs.net_laws_proofs.Late.{any_late, late_known, some_last}
-use Rattle.sign_rounds.proofs.net_laws_proofs.Laws.{exact, late_is, whole_path}
-use Rattle.sign_rounds.proofs.net_laws_proofs.Numbers.{body_known}
-use Rattle.sign_rounds.specs.net_rest.Rest.{numbers_of}
-use Rattle.sign_rounds.proofs.net_rest_proofs.Numbers.{are_numbers, has_source, number_same}
+use Rattle.net_rest.specs.net_laws.Laws.{last_late, late_writes}
+use Rattle.net_rest.proofs.net_laws_proofs.After.{made_either}
+use Rattle.net_rest.proofs.net_laws_proofs.Late.{any_late, late_known, some_last}
+use Rattle.net_rest.proofs.net_laws_proofs.Laws.{exact, late_is, whole_path}
+use Rattle.net_rest.proofs.net_laws_proofs.Numbers.{body_known}
+use Rattle.net_rest.specs.Rest.{numbers_of}
+use Rattle.net_rest.proofs.Numbers.{are_numbers, has_source, number_same}
 use Rattle.event_edges.specs.Registers.{updates_bit}
 use Rattle.event_edges.specs.Reset.{IsReset}
 use Rattle.event_edges.specs.Synchronous.{IsItem}

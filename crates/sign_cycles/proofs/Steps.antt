@@ -10,10 +10,11 @@ use Rattle.net_model.specs.declared.fill.Fill.TheVariants as fill
 use Rattle.net_model.specs.Block.{block_bit}
 use Rattle.net_model.specs.Cycle.{Chain, Data, Guard, Turn, item_bit}
 use Rattle.net_model.specs.Numbers.{bit}
+use Rattle.net_model.proofs.Gates.{clock_or_reset}
 use Rattle.net_model.specs.Solution.{IsLasting, IsRegisterBit}
-use Rattle.sign_rounds.proofs.net_laws_proofs.Laws.{fills_agree}
-use Rattle.sign_rounds.specs.net_rest.Rest.{numbers_of}
-use Rattle.sign_rounds.specs.Round.{IsSettled}
+use Rattle.net_rest.proofs.net_laws_proofs.Laws.{fills_agree}
+use Rattle.net_rest.specs.Rest.{numbers_of}
+use Rattle.sign_cycles.specs.Round.{IsSettled}
 use Rattle.event_edges.specs.Synchronous.{IsItem}
 use Rattle.event_edges.proofs.Cone.{item_in_cone}
 use Rattle.sign_cycles.specs.Agree.{Agree, AreReset}
@@ -55,16 +56,17 @@ module _ (d : Flat) (chains : ℕ → Chain) (level : ℕ → ℕ) (clean : IsCl
 
   -- by a step of one clock or reset
   pub turns_follow : TurnsFollow d chains f
-  turns_follow s n known setting turns t next =
-      edge.turn_follows d chains level clean f s n known setting turns t next
+  turns_follow s n known setting clock turns t next =
+      edge.turn_follows d chains level clean f s n known setting clock turns t next
 
   pub register_is : RegistersAre d chains f
-  register_is s n known setting turns t next i k register =
-      edge.register_is d chains level clean f s n known setting turns t next i k register
+  register_is s n known setting clock turns t next i k register =
+      edge.register_is d chains level clean f s n known setting clock turns t next i k register
 
   pub steps_follow : StepsFollow d chains f
   steps_follow s n known (Data all) lawful t next = data_known s n known all lawful t next
-  steps_follow s n known (Turn setting) lawful t next = turns_follow s n known setting lawful t next
+  steps_follow s n known (Turn setting) lawful t next =
+      turns_follow s n known setting (clock_or_reset d setting.input lawful.control) lawful t next
 
   pub agreement : Agree d chains f
   agreement = agree_by_steps d chains f steps_follow (steps_alone d chains level clean f)

@@ -51,12 +51,12 @@ pub record IsSettledKnown (d : Flat) (chains : ℕ → Chain) (f : Fill) (s : St
 -- ---- runs
 
 -- the state in which inputs are offered what they are set to, all at once
-abbrev pub offered : State → List Setting → State
-offered s all = offer s (map (λ setting. (setting.input, setting.number)) all)
+abbrev pub after_offer : State → List Setting → State
+after_offer s all = offer s (map (λ setting. (setting.input, setting.number)) all)
 
 -- a state to which some run comes to rest after inputs were set, whichever event that is there is taken each time
 pub record IsNext (d : Flat) (s : State) (all : List Setting) (t : State) : Type 0 where
-  pub reaches : Reaches d (offered s all) t
+  pub reaches : Reaches d (after_offer s all) t
   pub rest : IsAtRest d t
 
 -- states each of which follows from the one before it

@@ -7,11 +7,11 @@ use Rattle.rtl_flat.specs.Paths.{IsSure, MayWrite, MayWriteNow, ReadsOutside}
 use Rattle.rtl_flat.specs.Process.{Watched, Actions, Edge'}
 use Rattle.event_model.specs.Queue.{doing_at}
 use Rattle.rtl_flat.specs.Flats.{Flat, widths}
-use Rattle.net_model.specs.Control.{InCone}
+use Rattle.net_model.specs.Control.{InClockCone}
 use Rattle.net_model.specs.Cycle.{Chain, Guard, IsChain}
 use Rattle.net_model.specs.Solution.{IsLasting}
-use Rattle.sign_rounds.specs.net_laws.Tame.{AreSplit, AreTame}
-use Rattle.sign_rounds.specs.net_rest.Rest.{IsSolvable}
+use Rattle.net_rest.specs.net_laws.Tame.{AreSplit, AreTame}
+use Rattle.net_rest.specs.Rest.{IsSolvable}
 use Rattle.event_edges.specs.Synchronous.{IsSynchronous}
 
 -- ---- resets
@@ -40,7 +40,7 @@ pub record IsFormed (d : Flat) (events : List Watched) (body : Actions) (chain :
   -- resets set constants (R4)
   pub constants : All (λ guard. IsConstant d body guard.branch) chain.resets
   -- what is done at the clock's edge reads no clock and no reset (A8)
-  pub apart : (i k : ℕ) → ReadsOutside (body_flow (widths d) chain.part) i k → InCone d i → ⊥
+  pub apart : (i k : ℕ) → ReadsOutside (body_flow (widths d) chain.part) i k → InClockCone d i → ⊥
   -- expressions have numbers (X1, Z1, X2, X3), and cases that are taken for complete are (C1)
   pub tame : AreTame d body
   -- no bit is written in both ways (A3), and items that are taken to exclude one another do (C2)

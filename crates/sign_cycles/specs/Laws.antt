@@ -6,12 +6,13 @@ use Rattle.rtl_flat.specs.Flats.{Flat, widths}
 use Rattle.event_model.specs.Writes.{Values}
 use Rattle.net_model.specs.declared.fill.Fill.{Fill}
 use Rattle.net_model.specs.Cycle.{Chain, Data, IsCycle, Setting, Step, Turn, register_bit, settings}
+use Rattle.net_model.specs.Control.{IsClockOrReset}
 use Rattle.net_model.specs.Lawful.{IsLawfulStep, SetsData, TurnsControl}
 use Rattle.net_model.specs.Numbers.{AreNumbers, bit}
 use Rattle.net_model.specs.Solution.{IsRegisterBit}
-use Rattle.sign_rounds.specs.net_rest.Rest.{numbers_of}
-use Rattle.sign_rounds.specs.BringUp.{CanAllWake}
-use Rattle.sign_rounds.specs.Round.{IsSettled}
+use Rattle.net_rest.specs.Rest.{numbers_of}
+use Rattle.sign_cycles.specs.PowerUp.{CanAllWake}
+use Rattle.sign_cycles.specs.Round.{IsSettled}
 use Rattle.sign_cycles.specs.Agree.{AreSame, IsNext, IsSettledKnown}
 use Rattle.sign_cycles.specs.BringUp.{BringsUp, HaveResets}
 use Rattle.sign_cycles.specs.Formed.{IsCleanClocked}
@@ -61,7 +62,7 @@ DataStaysKnown d chains f =
 abbrev pub RegistersAre : Flat → (ℕ → Chain) → Fill → Type 0
 RegistersAre d chains f =
     (s : State) (n : Values) → IsSettledKnown d chains f s n →
-    (setting : Setting) → TurnsControl d n setting →
+    (setting : Setting) → IsClockOrReset d setting.input → TurnsControl d n setting →
     (t : State) → IsNext d s (setting ∷ []) t →
     (i k : ℕ) (register : IsRegisterBit d i k) →
     bit t.value i k ≡ register_bit (widths d) f n (numbers_of d f t.value) (chains register.process) i k
@@ -70,7 +71,7 @@ RegistersAre d chains f =
 abbrev pub TurnsFollow : Flat → (ℕ → Chain) → Fill → Type 0
 TurnsFollow d chains f =
     (s : State) (n : Values) → IsSettledKnown d chains f s n →
-    (setting : Setting) → TurnsControl d n setting →
+    (setting : Setting) → IsClockOrReset d setting.input → TurnsControl d n setting →
     (t : State) → IsNext d s (setting ∷ []) t → IsFollowed d chains f n (Turn setting) t
 
 -- a state that is settled for one fill is settled for the other, at the numbers that its own values have. Those may differ

@@ -2,7 +2,10 @@ pub mod Agree
 pub mod BringUp
 pub mod Formed
 pub mod Laws
+pub mod PowerUp
+pub mod Round
+pub mod RoundLaws
 -- passed on to the crates above
 pub use Rattle.event_edges.specs as event_edges
-pub use Rattle.sign_rounds.specs.net_rest
-pub use Rattle.sign_rounds.specs as sign_rounds
+pub use Rattle.net_rest.specs.net_laws
+pub use Rattle.net_rest.specs as net_rest

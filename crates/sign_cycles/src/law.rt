@@ -4,7 +4,7 @@ ghost use Rattle.std.specs.Prelude.{ℕ};
 ghost use Rattle.rtl_flat.specs.Flats.{Flat};
 ghost use Rattle.net_model.specs.declared.fill.Fill.{Fill};
 ghost use Rattle.net_model.specs.Cycle.{Chain};
-ghost use Rattle.sign_rounds.specs.net_rest.Rest.{IsSolvable};
+ghost use Rattle.net_rest.specs.Rest.{IsSolvable};
 ghost use Rattle.sign_cycles.specs.Agree.{Agree};
 ghost use Rattle.sign_cycles.specs.Formed.{IsCleanClocked};
 ghost use Rattle.sign_cycles.specs.Laws.{BringsUpClean, DataFollows, DataStaysKnown, KnownForBoth, RegistersAre, SettlesBoth, StepsAreAlone, StepsFollow, TurnsFollow};

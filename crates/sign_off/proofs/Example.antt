@@ -27,12 +27,13 @@ use Rattle.event_model.specs.Queue.{State, Event, Input, Evaluate, Update, doing
 use Rattle.rtl_flat.specs.Flats.{Flat}
 use Rattle.event_model.specs.Writes.{Values, driven}
 use Rattle.net_model.specs.declared.fill.Fill.{Fill}
+use Rattle.net_model.proofs.Gates.{clock_or_reset}
 use Rattle.net_model.specs.Control.{whole_of}
 use Rattle.net_model.specs.Cycle.{Chain, Data, Setting}
 use Rattle.net_model.specs.Lawful.{SetsData}
 use Rattle.net_model.specs.Numbers.{bit, digits}
 use Rattle.net_model.specs.Solution.{IsLasting, IsSolution}
-use Rattle.check_clean.specs.sign_cycles.Agree.{Agree, AreCycles, AreRuns, IsSettledKnown, offered}
+use Rattle.check_clean.specs.sign_cycles.Agree.{Agree, AreCycles, AreRuns, IsSettledKnown, after_offer}
 use Rattle.check_clean.specs.sign_cycles.BringUp.{BringsUp, IsBringUp, SetsInput, sets}
 
 -- a signal of one bit, and where what stands at a place in the text does
@@ -72,9 +73,9 @@ abbrev up_events : List Event
 up_events = Input 0 ∷ Input 1 ∷ Evaluate 0 ∷ Update 0 ∷ []
 
 abbrev low : State
-low = run gate (offered (power_up gate) (both Zero)) up_events
+low = run gate (after_offer (power_up gate) (both Zero)) up_events
 
-up_runs : CanRun gate (offered (power_up gate) (both Zero)) up_events
+up_runs : CanRun gate (after_offer (power_up gate) (both Zero)) up_events
 up_runs = ((refl, refl), ((refl, refl), ((refl, refl), ((refl, refl), tt))))
 
 -- what is due at the inputs
@@ -137,13 +138,13 @@ early =
     Input 0 ∷ Evaluate 0 ∷ Input 1 ∷ Update 0 ∷ Evaluate 0 ∷ Update 0 ∷ []
 
 abbrev high : State
-high = run gate (offered low (both One)) early
+high = run gate (after_offer low (both One)) early
 
-early_runs : CanRun gate (offered low (both One)) early
+early_runs : CanRun gate (after_offer low (both One)) early
 early_runs = ((refl, refl), ((refl, refl), ((refl, refl), ((refl, refl), ((refl, refl), ((refl, refl), tt))))))
 
 -- after four events the output is 0 still, at rest it is 1
-early_glitch : (run gate (offered low (both One)) (take 4 early)).value 2 ≡ Zero ∷ []
+early_glitch : (run gate (after_offer low (both One)) (take 4 early)).value 2 ≡ Zero ∷ []
 early_glitch = refl
 
 early_shows : high.value 2 ≡ One ∷ []
@@ -160,7 +161,7 @@ high_lawful =
     one_set : (i : ℕ) → IsTrue (is_input gate i) → 1 ≡ width_in ports i → SetsData gate (set_to One i)
     one_set i input wide =
         record {
-          data_input = record { input = input; no_control = λ is. no_block is.edges.process is.edges.events is.edges.body is.edges.does };
+          data_input = record { input = input; no_control = λ control. let edges = (clock_or_reset gate i control).edges in no_block edges.process edges.events edges.body edges.does };
           can_be = record { wide = wide; known = refl };
         }
 
@@ -300,9 +301,9 @@ abbrev apart_events : List Event
 apart_events = Input 0 ∷ Evaluate 0 ∷ Update 0 ∷ []
 
 abbrev apart : State
-apart = run two_drivers (offered still (set_to One 0 ∷ [])) apart_events
+apart = run two_drivers (after_offer still (set_to One 0 ∷ [])) apart_events
 
-two_runs : CanRun two_drivers (offered still (set_to One 0 ∷ [])) apart_events
+two_runs : CanRun two_drivers (after_offer still (set_to One 0 ∷ [])) apart_events
 two_runs = ((refl, refl), ((refl, refl), ((refl, refl), tt)))
 
 two_shows : apart.value 2 ≡ X ∷ []
@@ -334,7 +335,7 @@ two_rests =
 apart_lawful : All (SetsData two_drivers) (set_to One 0 ∷ [])
 apart_lawful =
     All-cons (SetsData two_drivers) (set_to One 0) [] (record {
-      data_input = record { input = refl; no_control = λ is. no_edge is.edges.process is.edges.events is.edges.body is.edges.does };
+      data_input = record { input = refl; no_control = λ control. let edges = (clock_or_reset two_drivers 0 control).edges in no_edge edges.process edges.events edges.body edges.does };
       can_be = record { wide = refl; known = refl };
     }) (All-nil (SetsData two_drivers))
 
@@ -365,7 +366,7 @@ abbrev first_step : List Setting
 first_step = set_to One 0 ∷ []
 
 abbrev up : State
-up = run no_driver (offered (power_up no_driver) first_step) (Input 0 ∷ [])
+up = run no_driver (after_offer (power_up no_driver) first_step) (Input 0 ∷ [])
 
 up_rests : IsAtRest no_driver up
 up_rests =

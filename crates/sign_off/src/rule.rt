@@ -2,7 +2,7 @@
 
 ghost use Rattle.std.specs.Prelude.{◌≡◌, ◌↔◌, ℕ, [], IsTrue, IfOk};
 ghost use Rattle.rtl_flat.specs.Flats.{flat, parts};
-ghost use Rattle.check_clean.specs.event_ending.Ending.{RunsEnd};
+ghost use Rattle.check_clean.specs.event_settling.Ending.{RunsEnd};
 ghost use Rattle.net_model.specs.declared.fill.Fill.{Fill};
 ghost use Rattle.net_model.specs.Cycle.{AreChains, Chain};
 ghost use Rattle.check_clean.specs.sign_cycles.Agree.{Agree};

@@ -9,10 +9,10 @@ ghost use Rattle.tests_netlists.specs.declared.NoRun.TheVariants as no;
 
 use event_model::setting::Setting;
 use event_write::stores::width_of;
-use infer_latches::blocks;
-use infer_latches::net_list::netlist::Netlist;
 use net_model::fill::Fill;
 use netlist_eval::infer_regs::registers;
+use netlist_eval::net_list::alone::blocks;
+use netlist_eval::net_list::netlist::Netlist;
 use netlist_eval::net_start::stored::{stored, top_inputs};
 use netlist_eval::sim::NetSim;
 use rtl_bits::Vec4;
@@ -136,6 +136,5 @@ pub fn take(sim: &mut NetSim<'_>, settings: &[Setting]) -> Result<(), NoRun>
 }
 
 // Passed on to the crates above.
-pub use infer_latches::net_list;
 pub use netlist_eval;
-pub use netlist_eval::{infer_regs, net_start};
+pub use netlist_eval::{infer_regs, net_list, net_start};

@@ -2,7 +2,7 @@ use Rattle.std.proofs.Common.{◌∙◌, ◌<◌, ◌+◌, List, Bool, length, s
 use Rattle.rtl_flat.specs.Process.{task}
 use Rattle.rtl_flat.specs.Flats.{flat}
 use Rattle.netlist_eval.proofs.check_clocks_proofs.Coned.{written}
-use Rattle.infer_latches.proofs.check_found_proofs.Sites.{task_at}
+use Rattle.netlist_eval.proofs.check_found_proofs.Sites.{task_at}
 use Rattle.demo_replay.specs.Tables.{AreClockedBelow, MarksWritten}
 use Rattle.demo_replay.proofs.Marking.{clocked_next, unclocked_next}
 use Rattle.demo_replay.proofs.compare.clocked_signals.Goals as goal

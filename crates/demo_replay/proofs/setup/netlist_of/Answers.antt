@@ -1,8 +1,8 @@
 use Rattle.std.proofs.Common.{subst}
 use Rattle.rtl_flat.specs.declared.design.Design.{Design}
 use Rattle.rtl_flat.specs.Flats.{flat}
-use Rattle.infer_latches.specs.net_list.Failing.{IsFirst}
-use Rattle.infer_latches.specs.net_list.Faults.{AreFormed, IsContended, IsShapeless}
+use Rattle.netlist_eval.specs.net_list.Failing.{IsFirst}
+use Rattle.netlist_eval.specs.net_list.Faults.{AreFormed, IsContended, IsShapeless}
 use Rattle.demo_replay.specs.Setups.{Contended, Shapeless}
 use Rattle.demo_replay.proofs.setup.netlist_of.Goals as goal
 

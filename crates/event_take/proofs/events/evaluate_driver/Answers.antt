@@ -12,7 +12,7 @@ use Rattle.rank_set.specs.Ranks.{flag}
 use Rattle.agenda.specs.Agendas.{Numbered}
 use Rattle.event_model.specs.Queue.{after_evaluate, doing_at}
 use Rattle.event_model.specs.Writes.{put}
-use Rattle.event_write.specs.QueueState.{HasWidth, design_of, held, state}
+use Rattle.event_write.specs.QueueState.{HasWidth, design_of, flagged_value, state}
 use Rattle.event_take.proofs.Taking.{doing_here, flag_put, held_more, task_has, width_put}
 use Rattle.event_take.proofs.events.evaluate_driver.Goals as goal
 
@@ -43,11 +43,11 @@ returns-in-Assign-clause-state c =
     let bits : c.evaluate-bits.result ≡ value (store c.args.queue.now.values.items) e = c.evaluate-bits.ensures.bits ∙ ap (λ (vs : List (List Bit)). value (store vs) e) c.deref-in-Assign.ensures.value in
     let does : doing_at (design_of c.args.fanout.now) p ≡ Some (Assign (map piece c.in-Assign.target.parts.items) e) =
     doing_here processes p c.index.result.now there c.index.ensures ∙ ap (λ d. Some (doing d)) c.in-Assign.is in
-    let pending : held c.insert.new.self (set values p c.evaluate-bits.result) ≡ put (held flags values) p (Some (value (store c.args.queue.now.values.items) e)) =
-    ap (λ f. held f (set values p c.evaluate-bits.result)) c.insert.ensures
+    let pending : flagged_value c.insert.new.self (set values p c.evaluate-bits.result) ≡ put (flagged_value flags values) p (Some (value (store c.args.queue.now.values.items) e)) =
+    ap (λ f. flagged_value f (set values p c.evaluate-bits.result)) c.insert.ensures
     ∙ fun_ext (held_more flags values p c.evaluate-bits.result within kept)
-    ∙ ap (λ (bs : List Bit). put (held flags values) p (Some bs)) bits in
-    ap (λ (w : ℕ → Bool). record s { pending = held c.insert.new.self (set values p c.evaluate-bits.result); woken = w }) (ap (λ (a : Numbered). flag a.flags) c.remove.ensures ∙ fun_ext (flag_put woken p false known))
+    ∙ ap (λ (bs : List Bit). put (flagged_value flags values) p (Some bs)) bits in
+    ap (λ (w : ℕ → Bool). record s { pending = flagged_value c.insert.new.self (set values p c.evaluate-bits.result); woken = w }) (ap (λ (a : Numbered). flag a.flags) c.remove.ensures ∙ fun_ext (flag_put woken p false known))
     ∙ ap (λ (q : ℕ → Option (List Bit)). record s { pending = q; woken = put (flag woken) p false }) pending
     ∙ sym (ap (after_evaluate s p) does)
 

@@ -6,7 +6,7 @@ use Rattle.rtl_flat.specs.Value.{store}
 use Rattle.rank_set.proofs.Law.{member_within}
 use Rattle.event_model.specs.Queue.{after_input, write}
 use Rattle.event_model.specs.Writes.{put}
-use Rattle.event_write.specs.QueueState.{design_of, held, state}
+use Rattle.event_write.specs.QueueState.{design_of, flagged_value, state}
 use Rattle.event_take.proofs.Taking.{held_here, held_less}
 use Rattle.event_take.proofs.events.take_input.Goals as goal
 
@@ -22,7 +22,7 @@ returns-clause-state c =
     let stored = c.requires.queue.offered_values.count in
     let there : i < length values = omega (arith, within, flagged, stored) in
     let bits : c.index-bits.result.now ≡ store values i = c.index-bits.ensures ∙ get_or_default values i c.index-bits.result.now [] there in
-    let offered : held c.remove.new.self values ≡ put (held flags values) i None = ap (λ f. held f values) c.remove.ensures ∙ fun_ext (held_less flags values i within) in
+    let offered : flagged_value c.remove.new.self values ≡ put (flagged_value flags values) i None = ap (λ f. flagged_value f values) c.remove.ensures ∙ fun_ext (held_less flags values i within) in
     c.write.ensures.state
     ∙ ap (λ (o : ℕ → Option (List Bit)). write d (record s { offered = o }) (record { signal = i; at = 0; bits = c.index-bits.result.now })) offered
     ∙ ap (λ (bs : List Bit). write d (record s { offered = put s.offered i None }) (record { signal = i; at = 0; bits = bs })) bits

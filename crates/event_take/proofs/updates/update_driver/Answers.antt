@@ -14,7 +14,7 @@ use Rattle.event_model.specs.Queue.{State, after_update, doing_at, drive, net_wr
 use Rattle.rtl_flat.specs.Flats.{widths}
 use Rattle.event_model.specs.Writes.{put}
 use Rattle.event_write.specs.Entries.{AreSelected}
-use Rattle.event_write.specs.QueueState.{HasWidth, design_of, held, state}
+use Rattle.event_write.specs.QueueState.{HasWidth, design_of, flagged_value, state}
 use Rattle.event_write.proofs.Targets.{are_selected, some_bits}
 use Rattle.event_take.proofs.Taking.{doing_here, held_here, held_less, task_has}
 use Rattle.event_take.proofs.updates.update_driver.Goals as goal
@@ -84,7 +84,7 @@ returns-in-Assign-clause-state c =
     let parts = map piece c.in-Assign.target.parts.items in
     let does : doing_at d p ≡ Some (Assign parts (tree c.in-Assign.value)) =
     doing_here design.processes.items p c.index.result.now there c.index.ensures ∙ ap (λ x. Some (doing x)) c.in-Assign.is in
-    let pending : held c.remove.new.self values ≡ put (held flags values) p None = ap (λ f. held f values) c.remove.ensures ∙ fun_ext (held_less flags values p flagged) in
+    let pending : flagged_value c.remove.new.self values ≡ put (flagged_value flags values) p None = ap (λ f. flagged_value f values) c.remove.ensures ∙ fun_ext (held_less flags values p flagged) in
     let q2 = c.set_driver.new.queue in
     c.write_nets.ensures.state
     ∙ ap (λ (ps : List TargetPart). write_all d (state q2) (net_writes ws (resolved d (state q2).driver) (map piece ps))) c.deref.ensures.value

@@ -3,7 +3,7 @@ use mathlib.Core.Path.{fun_ext}
 use Rattle.rtl_bits.specs.declared.Bit.{Bit}
 use Rattle.rtl_bits.specs.Bits.{is_one_at}
 use Rattle.net_model.specs.Block.{arms_late, arms_write, joined_arms}
-use Rattle.net_body.specs.Marks.{next_bit, seen}
+use Rattle.net_body.specs.Marks.{next_bit, view_at}
 use Rattle.net_body.proofs.Ending.{seen_past}
 use Rattle.net_body.proofs.Places.{place_all, place_more}
 use Rattle.net_body.proofs.Seen.{seen_read}
@@ -47,7 +47,7 @@ loop-place-preserved c =
           place_more (λ mark. is_one_at mark.late) (λ j. false) (joined_arms m arms).late marks place n there
           (fun_ext (λ k. c.joined_mark.ensures.late k ∙ ap (λ b. b || is_one_at a.mark.late k) (at.arms_late k) ∙ ap (λ b. arms_late arms place k || b) (at.late k)))
           (c.loop-place.invariant.2 m arms are),
-      place_more (λ mark. length mark.next) 0 (seen (λ aside. length aside.mark.next) 0 asides) marks place n there
+      place_more (λ mark. length mark.next) 0 (view_at (λ aside. length aside.mark.next) 0 asides) marks place n there
           (c.joined_mark.ensures.width ∙ seen_read (λ aside. length aside.mark.next) 0 asides place a test c.index-asides-place.is) c.loop-place.invariant.3,
     )
 
@@ -88,5 +88,5 @@ returns-clause-widths c = λ i.
     let all = c.requires.asides in
     let same = c.loop-place.auto.marks in
     c.requires.same.next i
-    ∙ sym (place_all (λ mark. length mark.next) 0 (seen (λ aside. length aside.mark.next) 0 asides) c.loop-place.marks c.loop-place.place (omega (arith, test, all, same))
+    ∙ sym (place_all (λ mark. length mark.next) 0 (view_at (λ aside. length aside.mark.next) 0 asides) c.loop-place.marks c.loop-place.place (omega (arith, test, all, same))
     (λ j past. seen_past (λ aside. length aside.mark.next) 0 asides j (omega (arith, past, all, same))) c.loop-place.invariant.3 i)

@@ -7,7 +7,7 @@ use Rattle.net_model.specs.Block.{arm_bits}
 use Rattle.net_body.specs.declared.arms.Aside.{Aside}
 use Rattle.net_body.specs.declared.mark.Mark.{Mark}
 use Rattle.net_body.specs.Asides.{AreAside}
-use Rattle.net_body.specs.Marks.{maps, seen}
+use Rattle.net_body.specs.Marks.{maps, view_at}
 use Rattle.net_body.proofs.Ending.{seen_past}
 use Rattle.net_body.proofs.Places.{place_all, place_more}
 use Rattle.net_body.proofs.Seen.{seen_read}
@@ -31,7 +31,7 @@ loop-place-preserved c =
           (c.index-numbers-place.is ∙ get_or_default numbers place c.index-numbers-place.result [] stored) c.index-marks-place.is
           c.new.ensures.number c.new.ensures.mark c.new.ensures.sum c.new.ensures.wrote c.new.ensures.late)
           c.loop-place.invariant.0,
-      place_more (λ aside. length aside.mark.next) 0 (seen (λ mark. length mark.next) 0 marks) c.loop-place.asides place c.new.result there
+      place_more (λ aside. length aside.mark.next) 0 (view_at (λ mark. length mark.next) 0 marks) c.loop-place.asides place c.new.result there
           (ap (λ (x : Mark). length x.next) c.new.ensures.mark ∙ seen_read (λ mark. length mark.next) 0 marks place c.index-marks-place.result marked c.index-marks-place.is)
           c.loop-place.invariant.1,
     )
@@ -59,7 +59,7 @@ returns-clause-sums c =
     let are = asides_are numbers marks asides c.loop-place.place (omega (arith, test, same)) (same ∙ count) all c.loop-place.invariant.0 in
     record {
       number = λ i. sym (ap length (are.now i)) ∙ length_seen (λ aside. aside.number) asides i;
-      next = λ i. c.requires.widths i ∙ sym (place_all (λ aside. length aside.mark.next) 0 (seen (λ mark. length mark.next) 0 marks) asides c.loop-place.place (omega (arith, test, same))
+      next = λ i. c.requires.widths i ∙ sym (place_all (λ aside. length aside.mark.next) 0 (view_at (λ mark. length mark.next) 0 marks) asides c.loop-place.place (omega (arith, test, same))
           (λ j past. seen_past (λ mark. length mark.next) 0 marks j (omega (arith, past, same, all, count))) c.loop-place.invariant.1 i);
       sum = λ i. sym (ap length (are.sum i) ∙ length-tabulate (length (store numbers i)) (arm_bits [] i)) ∙ length_seen (λ aside. aside.sum) asides i;
     }

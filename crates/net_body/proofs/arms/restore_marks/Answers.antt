@@ -1,7 +1,7 @@
 use Rattle.std.proofs.Common.{◌∙◌, ◌<◌, false, length, None, refl, arith}
 use mathlib.Core.Path.{fun_ext}
 use Rattle.rtl_bits.specs.Bits.{is_one_at}
-use Rattle.net_body.specs.Marks.{next_bit, seen}
+use Rattle.net_body.specs.Marks.{next_bit, view_at}
 use Rattle.net_body.proofs.Ending.{seen_past}
 use Rattle.net_body.proofs.Places.{place_all, place_more}
 use Rattle.net_body.proofs.Seen.{seen_read}
@@ -19,11 +19,11 @@ loop-place-preserved c =
     let same = c.loop-place.auto.marks in
     let there : place < length marks = omega (arith, test, all, same) in
     let inside : place < length asides = omega (arith, test) in (
-      place_more next_bit (λ j. None) (seen (λ aside. next_bit aside.mark) (λ j. None) asides) marks place n there
+      place_more next_bit (λ j. None) (view_at (λ aside. next_bit aside.mark) (λ j. None) asides) marks place n there
           (fun_ext c.fresh_mark.ensures.next ∙ seen_read (λ aside. next_bit aside.mark) (λ j. None) asides place a inside c.index-asides-place.is) c.loop-place.invariant.0,
       place_more (λ mark. is_one_at mark.wrote) (λ j. false) (λ i k. false) marks place n there (fun_ext c.fresh_mark.ensures.wrote) c.loop-place.invariant.1,
       place_more (λ mark. is_one_at mark.late) (λ j. false) (λ i k. false) marks place n there (fun_ext c.fresh_mark.ensures.late) c.loop-place.invariant.2,
-      place_more (λ mark. length mark.next) 0 (seen (λ aside. length aside.mark.next) 0 asides) marks place n there
+      place_more (λ mark. length mark.next) 0 (view_at (λ aside. length aside.mark.next) 0 asides) marks place n there
           (c.fresh_mark.ensures.width ∙ seen_read (λ aside. length aside.mark.next) 0 asides place a inside c.index-asides-place.is) c.loop-place.invariant.3,
     )
 
@@ -34,7 +34,7 @@ returns-clause-next c =
     let test = c.loop-place-test.false in
     let all = c.requires in
     let same = c.loop-place.auto.marks in
-    place_all next_bit (λ j. None) (seen (λ aside. next_bit aside.mark) (λ j. None) asides) marks c.loop-place.place (omega (arith, test, all, same))
+    place_all next_bit (λ j. None) (view_at (λ aside. next_bit aside.mark) (λ j. None) asides) marks c.loop-place.place (omega (arith, test, all, same))
     (λ i past. seen_past (λ aside. next_bit aside.mark) (λ j. None) asides i (omega (arith, past, all, same))) c.loop-place.invariant.0
 
 pub returns-clause-wrote : goal.returns-clause-wrote
@@ -57,5 +57,5 @@ returns-clause-widths c =
     let test = c.loop-place-test.false in
     let all = c.requires in
     let same = c.loop-place.auto.marks in
-    place_all (λ mark. length mark.next) 0 (seen (λ aside. length aside.mark.next) 0 asides) c.loop-place.marks c.loop-place.place (omega (arith, test, all, same))
+    place_all (λ mark. length mark.next) 0 (view_at (λ aside. length aside.mark.next) 0 asides) c.loop-place.marks c.loop-place.place (omega (arith, test, all, same))
     (λ i past. seen_past (λ aside. length aside.mark.next) 0 asides i (omega (arith, past, all, same))) c.loop-place.invariant.3

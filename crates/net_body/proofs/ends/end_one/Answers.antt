@@ -1,7 +1,7 @@
 use Rattle.std.proofs.Common.{◌≡◌, ◌∙◌, ◌<◌, length, set, sym, ap, arith, true}
 use Rattle.rtl_flat.specs.Value.{store}
 use Rattle.event_model.specs.Writes.{put}
-use Rattle.net_body.specs.Ends.{Ending, bits_after, changed, ending, ending_after_one}
+use Rattle.net_body.specs.Ends.{Ending, bits_after, changed_digits, ending, ending_after_one}
 use Rattle.net_model.specs.Block.{Maps}
 use Rattle.net_body.proofs.Ended.{beside_is, cleared_is, number_read}
 use Rattle.net_body.proofs.Ending.{settled_one}
@@ -43,9 +43,9 @@ returns-then-aside-clause-ends c =
     let ran : c.merged-ran.result ≡ run = settled_one numbers marks i c.index-marks-place.result c.index-numbers-place.result c.merged-ran.result within c.index-marks-place.is number_is c.merged-ran.ensures.bits in
     let old_is = number_read before i c.index-before-place.result old_here c.index-before-place.is in
     let kept_is = number_read after i c.index-after-place.result after_here c.index-after-place.is in
-    let beside_number : c.xor-then-aside.result ≡ changed (store before i) run (store after i)
+    let beside_number : c.xor-then-aside.result ≡ changed_digits (store before i) run (store after i)
     = beside_is c.index-before-place.result run c.index-after-place.result c.merged-ran.result (store before i) c.xor.result c.xor-then-aside.result old_is ran c.xor.ensures.bits c.xor-then-aside.ensures.bits
-    ∙ ap (changed (store before i) run) kept_is in
+    ∙ ap (changed_digits (store before i) run) kept_is in
     ap (λ (m : Maps). record { maps = m; after = store (set after i c.xor-then-aside.result) })
     (cleared_is numbers marks i c.index-before-place.result (store before i) c.clear.result here within old_is c.clear.ensures.next c.clear.ensures.wrote c.clear.ensures.late)
     ∙ ap (λ n. record { maps = (ending_after_one true (store before) e i).maps; after = n })

@@ -1,6 +1,6 @@
 use Rattle.std.proofs.Common.{Option, subst}
 use Rattle.std.specs.Prelude.{MatchOption}
-use Rattle.infer_latches.specs.net_list.declared.netlist.Netlist.{Netlist}
+use Rattle.netlist_eval.specs.net_list.declared.netlist.Netlist.{Netlist}
 use Rattle.netlist_eval.specs.declared.basis.Basis.{Basis}
 use Rattle.netlist_eval.specs.Basis.{IsBasisOf}
 use Rattle.rtl_flat.specs.Flats.{flat}

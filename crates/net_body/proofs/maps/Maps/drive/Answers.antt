@@ -11,7 +11,7 @@ use Rattle.rtl_flat.specs.WellFormed.{IsSelection}
 use Rattle.rtl_flat.proofs.Bits.{have_bits}
 use Rattle.event_model.specs.Writes.{Values, all_written, counts}
 use Rattle.net_number.proofs.event_laws_proofs.Targets.{same_count}
-use Rattle.net_model.specs.Block.{begun, digit_writes}
+use Rattle.net_model.specs.Block.{first_maps, digit_writes}
 use Rattle.net_model.specs.Numbers.{digits}
 use Rattle.net_body.specs.Marks.{AreKept, AreStored, maps}
 use Rattle.net_body.proofs.Driving.{drives}
@@ -103,7 +103,7 @@ returns-clause-ready c =
     record {
       kept = subst (λ (ns : List (List Bit)). AreKept signals ns marks) (sym numbers)
           (record { stored = stored.stored; marked = ready.kept.marked; each = stored.each; next = ready.kept.next });
-      clear = subst (λ (ns : List (List Bit)). maps ns marks ≡ begun (store ns)) (sym numbers)
+      clear = subst (λ (ns : List (List Bit)). maps ns marks ≡ first_maps (store ns)) (sym numbers)
           (clear_with old.numbers.items c.connect.new.numbers marks ready.clear);
       entries = omega (arith, entries, ample, entries_same, entries_value);
     }

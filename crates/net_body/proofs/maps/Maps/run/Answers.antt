@@ -4,7 +4,7 @@ use Rattle.rtl_bits.specs.Bits.{tabulate}
 use Rattle.rtl_flat.specs.Process.{action, body_of}
 use Rattle.rtl_flat.specs.Signs.{width_in}
 use Rattle.rtl_flat.specs.Value.{store}
-use Rattle.net_model.specs.Block.{begun, block_bit}
+use Rattle.net_model.specs.Block.{first_maps, block_bit}
 use Rattle.net_body.specs.Marks.{AreKept, maps}
 use Rattle.net_body.proofs.Ending.{both_subst, kept_front}
 use Rattle.net_body.proofs.maps.Maps.run.Goals as goal
@@ -40,10 +40,10 @@ returns-clause-ready c =
     let ample = c.requires.ready.entries in
     record {
       kept = both_subst (AreKept signals) _ _ _ _ numbers marks c.run_body.ensures.kept;
-      clear = both_subst (λ ns ms. maps ns ms ≡ begun (store ns)) _ _ _ _ numbers marks c.run_body.ensures.clear;
+      clear = both_subst (λ ns ms. maps ns ms ≡ first_maps (store ns)) _ _ _ _ numbers marks c.run_body.ensures.clear;
       entries = omega (arith, entries, ample, entries_same, entries_value);
     }
 
 pub run_body-requires-clause-clear : goal.run_body-requires-clause-clear
 run_body-requires-clause-clear c =
-    both_subst (λ ns ms. maps ns ms ≡ begun (store ns)) _ _ _ _ c.deref_mut.ensures.value c.deref_mut-2.ensures.value c.requires.ready.clear
+    both_subst (λ ns ms. maps ns ms ≡ first_maps (store ns)) _ _ _ _ c.deref_mut.ensures.value c.deref_mut-2.ensures.value c.requires.ready.clear

@@ -1,6 +1,6 @@
 use Rattle.std.proofs.Common.{◌≡◌, drop, length, ap, arith}
 use Rattle.rtl_flat.specs.Value.{store}
-use Rattle.net_model.specs.Block.{begun}
+use Rattle.net_model.specs.Block.{first_maps}
 use Rattle.net_body.specs.Marks.{AreKept, maps}
 use Rattle.net_body.proofs.Ending.{both_subst, kept_front}
 use Rattle.net_body.proofs.maps.Maps.run_aside.Goals as goal
@@ -24,10 +24,10 @@ returns-clause-ready c =
     let ample = c.requires.ready.entries in
     record {
       kept = both_subst (AreKept signals) _ _ _ _ numbers marks c.run_beside.ensures.kept;
-      clear = both_subst (λ ns ms. maps ns ms ≡ begun (store ns)) _ _ _ _ numbers marks c.run_beside.ensures.clear;
+      clear = both_subst (λ ns ms. maps ns ms ≡ first_maps (store ns)) _ _ _ _ numbers marks c.run_beside.ensures.clear;
       entries = omega (arith, entries, ample, entries_same, entries_value);
     }
 
 pub run_beside-requires-clause-clear : goal.run_beside-requires-clause-clear
 run_beside-requires-clause-clear c =
-    both_subst (λ ns ms. maps ns ms ≡ begun (store ns)) _ _ _ _ c.deref_mut.ensures.value c.deref_mut-2.ensures.value c.requires.ready.clear
+    both_subst (λ ns ms. maps ns ms ≡ first_maps (store ns)) _ _ _ _ c.deref_mut.ensures.value c.deref_mut-2.ensures.value c.requires.ready.clear

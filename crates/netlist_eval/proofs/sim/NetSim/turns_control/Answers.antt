@@ -3,6 +3,7 @@ use Rattle.std.proofs.Math.Logic.{∥∥₁_elim}
 use Rattle.std.proofs.Props.{props}
 use Rattle.std.proofs.lemmas.Bool.{false≢true}
 use Rattle.net_turn.specs.net_settle.Settle.{SetsInput, setting_view}
+use Rattle.net_model.proofs.Gates.{control_input}
 use Rattle.net_model.specs.Control.{IsControl}
 use Rattle.netlist_eval.specs.Sims.{flat_of}
 use Rattle.netlist_eval.proofs.sim.NetSim.turns_control.Goals as goal
@@ -41,6 +42,6 @@ returns-else-is_control c = (
       elim c.if-fits.branch [
         | then-fits w ↦ w.value-is ∙ w.is_control.ensures.1 ∣ t.control ∣₁
         | else-fits w ↦
-            absurd (false≢true (sym w.if-fits.false ∙ c.fits.ensures.1 (record { input = t.control.input; wide = t.can_be.wide; known = t.can_be.known })))
+            absurd (false≢true (sym w.if-fits.false ∙ c.fits.ensures.1 (record { input = control_input (flat_of c.args.self.now) c.args.setting.now.signal.0 t.control; wide = t.can_be.wide; known = t.can_be.known })))
       ]),
 )

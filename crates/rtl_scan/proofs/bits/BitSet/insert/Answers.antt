@@ -1,4 +1,3 @@
-use Rattle.std.proofs.Common.{◌∙◌, sym, ap}
 use Rattle.std.proofs.lemmas.Result.{on_ok_weaker}
 use Rattle.rtl_scan.specs.Sets.{mask_of}
 use Rattle.rtl_scan.proofs.Masks.{covered, put_or}

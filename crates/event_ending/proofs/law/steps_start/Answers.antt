@@ -1,5 +1,0 @@
-use Rattle.event_ending.proofs.Ends.{steps_start}
-use Rattle.event_ending.proofs.law.steps_start.Goals as goal
-
-pub returns : goal.returns
-returns c = steps_start

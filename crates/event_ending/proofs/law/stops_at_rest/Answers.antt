@@ -1,5 +1,0 @@
-use Rattle.event_ending.proofs.Ends.{stops_at_rest}
-use Rattle.event_ending.proofs.law.stops_at_rest.Goals as goal
-
-pub returns : goal.returns
-returns c = stops_at_rest

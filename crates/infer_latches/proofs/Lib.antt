@@ -1,5 +1,0 @@
-pub mod Below
--- passed on to the crates above
-pub use Rattle.net_list.proofs.chain_laws_proofs
-pub use Rattle.net_list.proofs.check_found_proofs
-pub use Rattle.net_list.proofs as net_list_proofs

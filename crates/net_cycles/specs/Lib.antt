@@ -1,4 +1,0 @@
-pub mod Laws
--- passed on to the crates above
-pub use Rattle.net_laws.specs.event_laws
-pub use Rattle.net_laws.specs as net_laws
