@@ -31,7 +31,7 @@ no_step d trial step is isnt =
       | inr past ↦ let past' : step_count trial (length is.tops) < step = subst (λ (xs : List ℕ). step_count trial (length xs) < step) same past in absurd (omega (arith, last, past'))
     ]
 
-not_legal : (d : Flat) (demo : Demo) (it : Part) → IsIllegal d demo it → IsLegal d demo → ⊥
+pub not_legal : (d : Flat) (demo : Demo) (it : Part) → IsIllegal d demo it → IsLegal d demo → ⊥
 not_legal d demo part.Trial is legal = let small = legal.trial in absurd (omega (arith, is, small))
 not_legal d demo part.Step is legal = no_step d demo.trial demo.step legal.step is.1
 not_legal d demo part.Signal is legal =

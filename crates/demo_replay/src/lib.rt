@@ -13,7 +13,7 @@ mod start;
 
 pub use crate::fault::{Part, ReplayFault};
 pub use crate::firsts::{attach, attach_all};
-pub use crate::replays::replay;
+pub use crate::replays::{legal_trial, replay};
 pub use demo_told::{Demo, Shown};
 
 // Passed on to the crates above.

@@ -22,7 +22,9 @@ use rtl_tree::memory::Memory;
 use std::alloc::Global;
 
 /// The trial of a demonstration that names a step of it, and a signal of the design.
-fn legal_trial(alloc: Global, design: &Design, demo: &Demo) -> Result<Trial, ReplayFault>
+///
+/// Fails with `Illegal` of the first part that names nothing, and where memory runs out.
+pub fn legal_trial(alloc: Global, design: &Design, demo: &Demo) -> Result<Trial, ReplayFault>
     ensures legal { IfOk result (λ trial. IsLegal (flat design.now) demo.now) }
     ensures trial { IfOk result (λ trial. trial.number ≡ demo.now.trial) }
     ensures fault { IfErr result (IsReplayFault (flat design.now) demo.now) }

@@ -1,10 +1,8 @@
 -- Which answers are there, on small cases.
 use Rattle.std.proofs.Common.{◌≡◌, ℕ, List, [], ◌∷◌, codes, refl}
 use Rattle.std.specs.Prelude.{Option, Some, None}
-use Rattle.desk_files.specs.declared.files.SourceFile.{SourceFile}
-use Rattle.desk_memo.specs.declared.answer.Answer.{Answer}
-use Rattle.desk_memo.specs.Readings.{Reading}
-use Rattle.desk_memo.specs.Rulings.{Ruling}
+use Rattle.source_file.specs.declared.SourceFile.{SourceFile}
+use Rattle.design_db.specs.Answers.{Answer, Reading, Ruling}
 use Rattle.design_db.specs.Stores.{Store, answer_of, changed_in, lasting_answer}
 
 abbrev file : List ℕ → SourceFile

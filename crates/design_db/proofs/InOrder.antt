@@ -10,10 +10,11 @@ use Rattle.std.proofs.lemmas.Cmp.{nat_list_cmp_total}
 use Rattle.std.proofs.lemmas.List.Elements.{All-append, All-cons, All-drop, All-filter, All-nil, All-push, All-set, All-take, All-weaker}
 use Rattle.std.proofs.lemmas.Map.Text.{is_eq-slice_cmp}
 use Rattle.std.proofs.lemmas.Slice.Eq.{bytes_eq-Decides}
-use Rattle.rtl_tree.specs.declared.text.TheConstants.{MAX_BYTES}
+use Rattle.desk_files.specs.Limits.{MAX_BYTES}
 use Rattle.desk_files.specs.Sources.{is_before, is_named, place_of, with_file, with_file_at, with_file_by, without_file}
-use Rattle.desk_files.specs.declared.files.SourceFile.{SourceFile}
-use Rattle.desk_memo.specs.Orders.{AreInOrder, AreShort}
+use Rattle.source_file.specs.declared.SourceFile.{SourceFile}
+use Rattle.desk_memo.specs.Orders.{AreInOrder}
+use Rattle.source_file.specs.SourceFiles.{AreShort}
 
 -- ---- what holds of each file
 

@@ -9,15 +9,20 @@ use Rattle.std.proofs.lemmas.Slice.Eq.{bytes_eq-Decides}
 use Rattle.rtl_tree.specs.TreeModule.{Circuit}
 use Rattle.rtl_tree.specs.declared.tree.modules.Module.{Module}
 use Rattle.desk_memo.specs.elab_links.Modules.{circuits_of}
-use Rattle.desk_files.specs.declared.files.SourceFile.{SourceFile}
-use Rattle.desk_memo.specs.Fresh.{IsFresh}
-use Rattle.desk_memo.specs.declared.answer.Answer.{Answer}
-use Rattle.desk_memo.specs.Readings.{Reading, changed_count, first_refusal}
-use Rattle.desk_memo.specs.Rulings.{IsRuling, Ruling, current_of, is_current, is_of, others_of}
+use Rattle.source_file.specs.declared.SourceFile.{SourceFile}
+use Rattle.desk_answers.specs.desk_build.Building.{Faulty}
+use Rattle.desk_memo.specs.Readings.{IsFirstRefused, changed_count, first_refusal}
+use Rattle.desk_memo.specs.Rulings.{current_of, is_current, is_of, others_of}
+use Rattle.design_db.specs.Answers.{Answer, IsFresh, IsRuling, Reading, Ruling}
 use Rattle.design_db.specs.Stores.{Store, all_rulings, answer_of, changed_in, circuits_in, lasting_answer, refusal_or}
 use Rattle.design_db.proofs.Finds.{find_front, find_holds, find_kept, find_there, mapped_some, some_mapped}
 
 -- ---- an answer that is there is what the files say
+
+-- that of the first file that spells no modules
+pub unread_fresh : (files : List SourceFile) (top : List ℕ) (answer : Answer) → IsFirstRefused files answer → IsFresh files top answer
+unread_fresh files top answer refused =
+    record { front = Faulty refused.number refused.fault; is_front = refused.faulty; is = refused.told }
 
 both : (a b : Bool) → (a && b) ≡ true → (a ≡ true) × (b ≡ true)
 both true b all = (refl, all)

@@ -4,4 +4,4 @@ pub mod InOrder
 pub mod Kept
 pub mod Whole
 -- passed on to the crates above
-pub use Rattle.desk_memo.proofs.desk_verdict_proofs
+pub use Rattle.desk_verdict.proofs as desk_verdict_proofs

@@ -1,26 +1,28 @@
 -- What the desk keeps stays right when a file comes or goes.
 use Rattle.std.proofs.Common.{◌≡◌, ◌≤◌, ◌⊎◌, inl, inr, ℕ, List, [], ◌∷◌, ◌++◌, length, ap, subst, sym, ◌∙◌}
-use Rattle.std.specs.Prelude.{IsSome, OnErr, OnOk, Option, Result, Ok, Err, Vec, option_to_list}
+use Rattle.std.specs.Prelude.{IsSome, OnErr, OnOk, Option, Some, Result, Ok, Err, Vec, option_to_list, if◌then◌else◌}
 use Rattle.std.specs.List.{All, Contains}
 use Rattle.std.specs.declared.alloc.Global.{Global}
 use Rattle.std.proofs.lemmas.List.Elements.{All-contains, All-contains_itself, All-weaker, Contains-push_cases}
 use Rattle.rtl_tree.specs.TreeModule.{Circuit}
-use Rattle.rtl_tree.specs.declared.text.TheConstants.{MAX_BYTES}
+use Rattle.desk_files.specs.Limits.{MAX_BYTES}
 use Rattle.rtl_tree.specs.declared.tree.modules.Module.{Module}
 use Rattle.desk_memo.specs.elab_links.Modules.{circuits_of}
 use Rattle.desk_files.specs.Shown.{list_of}
 use Rattle.desk_files.specs.Sources.{with_file, without_file}
 use Rattle.desk_files.specs.declared.files.Files.{Files}
-use Rattle.desk_files.specs.declared.files.SourceFile.{SourceFile}
-use Rattle.desk_memo.specs.Orders.{AreInOrder, AreShort}
-use Rattle.desk_memo.specs.Readings.{AreReadings, Reading, changed_count}
+use Rattle.source_file.specs.declared.SourceFile.{SourceFile}
+use Rattle.desk_memo.specs.Orders.{AreInOrder}
+use Rattle.source_file.specs.SourceFiles.{AreShort}
+use Rattle.desk_memo.specs.Readings.{AreReadings, changed_count}
 use Rattle.desk_memo.specs.ShownReadings.{AreFlagged, IsBeside, are_as_read, flags_by, flags_of, held_modules_by, held_modules_of, modules_by, modules_of, readings_by, readings_of}
-use Rattle.desk_memo.specs.declared.aside.Aside.{Aside}
-use Rattle.desk_memo.specs.declared.readings.Readings.{Readings}
-use Rattle.desk_memo.specs.Rulings.{IsRuling, Ruling, current_of}
+use Rattle.desk_memo.specs.declared.aside.Aside as beside
+use Rattle.desk_memo.specs.Rulings.{current_of, is_absent, with_ruling}
 use Rattle.desk_memo.specs.Shown.{AreChecked, absent_of, all_of, rulings_of}
-use Rattle.desk_memo.specs.declared.memo.Memo.{Memo}
-use Rattle.design_db.specs.Shown.{IsWhole, store}
+use Rattle.desk_verdict.specs.declared.verdict.Verdict.{Verdict}
+use Rattle.design_db.specs.Answers.{IsRuling, Reading, Ruling}
+use Rattle.design_db.specs.Stores.{KeepsRulings, Puts}
+use Rattle.design_db.specs.Shown.{IsWhole, Memo, Readings, store}
 use Rattle.design_db.proofs.InOrder.{in_order_with, in_order_without, short_with, short_without}
 
 -- the rulings that are kept are right where they are as before
@@ -67,7 +69,7 @@ pub record IsReadNow (files : List SourceFile) (kept : Readings) : Type 0 where
   pub flagged : AreFlagged files kept
   pub unchanged : changed_count files (readings_of kept) ≡ 0
 
-pub is_read_now : (files seen : List SourceFile) (before after : Readings) (aside : Aside) → seen ≡ files → IsBeside seen before aside → readings_of after ≡ readings_by aside before → held_modules_of after ≡ held_modules_by aside before → flags_of after ≡ flags_by aside before → IsReadNow files after
+pub is_read_now : (files seen : List SourceFile) (before after : Readings) (aside : beside.Aside Verdict) → seen ≡ files → IsBeside seen before aside → readings_of after ≡ readings_by aside before → held_modules_of after ≡ held_modules_by aside before → flags_of after ≡ flags_by aside before → IsReadNow files after
 is_read_now files seen before after aside sees beside readings held flags =
     let modules : modules_of after ≡ modules_by aside before =
     ap (λ (it : List (Vec Module Global)). circuits_of it) held
@@ -106,3 +108,11 @@ rulings_kept old new kept (Ok done) from rulings absent all right =
     (all_of new) (All-contains_itself (all_of new))
 rulings_kept old new kept (Err error) from rulings absent all right =
     rulings_same old new rulings absent all
+
+-- a ruling that is kept takes the place of one at most
+pub kept_rulings : {T E : Type 0} (top : List ℕ) (old middle new : Memo) (kept : Ruling) (r : Result T E) → kept.top ≡ top → rulings_of middle ≡ rulings_of old → absent_of middle ≡ absent_of old → OnOk r (rulings_of new ≡ (if is_absent kept then rulings_of middle else with_ruling kept (rulings_of middle))) → OnOk r (absent_of new ≡ (if is_absent kept then Some kept else absent_of middle)) → OnOk r (KeepsRulings top (rulings_of old) (absent_of old) (rulings_of new) (absent_of new))
+kept_rulings top old middle new kept (Ok done) is rulings absent placed alone =
+    Puts kept is
+    (placed ∙ ap (λ (it : List Ruling). if is_absent kept then it else with_ruling kept it) rulings)
+    (alone ∙ ap (λ (it : Option Ruling). if is_absent kept then Some kept else it) absent)
+kept_rulings top old middle new kept (Err error) is rulings absent placed alone = tt

@@ -4,10 +4,19 @@ use Rattle.std.specs.Prelude.{min}
 use Rattle.desk_files.specs.Shown.{list_of, room}
 use Rattle.desk_files.specs.declared.files.Files.{Files}
 use Rattle.desk_memo.specs.ShownReadings.{AreFlagged, held_modules_of, modules_of, readings_of, room_of}
-use Rattle.desk_memo.specs.declared.readings.Readings.{Readings}
+use Rattle.desk_memo.specs.declared.readings.Readings as readings
 use Rattle.desk_memo.specs.Shown.{AreChecked, absent_of, rulings_of}
-use Rattle.desk_memo.specs.declared.memo.Memo.{Memo}
+use Rattle.desk_memo.specs.declared.memo.Memo as memo
+use Rattle.desk_verdict.specs.declared.verdict.Verdict.{Verdict}
 use Rattle.design_db.specs.Stores.{IsStore, Store}
+
+-- what was read of files, as the code holds it
+abbrev pub Readings : Type 0
+Readings = readings.Readings Verdict
+
+-- the rulings, as the code holds them
+abbrev pub Memo : Type 0
+Memo = memo.Memo Verdict
 
 abbrev pub store : Files → Readings → Memo → Store
 store files readings memo = record {

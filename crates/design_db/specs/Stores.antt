@@ -1,18 +1,17 @@
 -- The files of the desk with what was read of them and the rulings: what contracts see.
 -- Worked examples: proofs/Example.antt, crates/tests_desk/src/rows.rt.
-use Rattle.std.specs.Prelude.{ℕ, ◌==◌, List, ◌++◌, Option, Some, None, if◌then◌else◌, option_to_list, Vec}
+use Rattle.std.specs.Prelude.{ℕ, ◌≡◌, ◌==◌, List, ◌++◌, Option, Some, None, if◌then◌else◌, option_to_list, Vec}
 use Rattle.std.specs.List.{All}
-use Rattle.std.specs.Option.{option_and_then}
 use Rattle.std.specs.declared.alloc.Global.{Global}
 use Rattle.rtl_tree.specs.TreeModule.{Circuit}
 use Rattle.rtl_tree.specs.declared.tree.modules.Module.{Module}
 use Rattle.desk_memo.specs.elab_links.Modules.{circuits_of}
-use Rattle.desk_files.specs.declared.files.SourceFile.{SourceFile}
-use Rattle.desk_memo.specs.Orders.{AreInOrder, AreShort}
-use Rattle.desk_memo.specs.declared.answer.Answer.{Answer}
-use Rattle.desk_memo.specs.declared.answer.Answer.TheVariants.{Ruled, Refused}
-use Rattle.desk_memo.specs.Readings.{AreReadings, Reading, changed_count, first_refusal}
-use Rattle.desk_memo.specs.Rulings.{IsRuling, Ruling, current_answer}
+use Rattle.source_file.specs.declared.SourceFile.{SourceFile}
+use Rattle.desk_memo.specs.Orders.{AreInOrder}
+use Rattle.source_file.specs.SourceFiles.{AreShort}
+use Rattle.desk_memo.specs.Readings.{AreReadings, changed_count, first_refusal}
+use Rattle.desk_memo.specs.Rulings.{current_answer, is_absent, with_ruling}
+use Rattle.design_db.specs.Answers.{Answer, IsRuling, Reading, Ruling}
 
 -- the files in the order of their names, for how many more of them there is room, of each file what
 -- was read last and its modules, the rulings that are kept, and that of the last top that no module
@@ -63,10 +62,11 @@ answer_of store = answer_among (all_rulings store) store
 abbrev pub lasting_answer : Store → List ℕ → Option Answer
 lasting_answer store = answer_among store.rulings store
 
-abbrev pub reached_of : Answer → Option (List (List ℕ))
-reached_of (Ruled verdict reached) = Some reached.items
-reached_of (Refused line) = None
-
--- the names of the files that a top uses, where its answer has them
-abbrev pub reached_in : Store → List ℕ → Option (List (List ℕ))
-reached_in store top = option_and_then reached_of (answer_of store top)
+-- of the rulings, and that of the last absent top, nothing goes but what one of a top takes the place
+-- of: that of its top, or, where no module or more than one is named by it, the last such
+pub data KeepsRulings (top : List ℕ) (olds : List Ruling) (old : Option Ruling) (news : List Ruling) (new : Option Ruling) : Type 0 where
+  Stays : news ≡ olds → new ≡ old → KeepsRulings top olds old news new
+  Puts :
+      (ruling : Ruling) → ruling.top ≡ top →
+      news ≡ (if is_absent ruling then olds else with_ruling ruling olds) →
+      new ≡ (if is_absent ruling then Some ruling else old) → KeepsRulings top olds old news new

@@ -1,29 +1,36 @@
 // The files of the desk, what was read of them, and what they said of tops.
 ghost use Rattle.std.specs.Prelude.{◌≡◌, ◌≤◌, ◌+◌, ℕ, List, [], None, length, IfOk, IfSome, IsOk, IsSome, OnErr, OnOk, option_copied};
 ghost use Rattle.std.specs.List.{All};
-ghost use Rattle.std.specs.Option.{option_map};
 ghost use Rattle.rtl_tree.specs.TreeModule.{Circuit};
-ghost use Rattle.rtl_tree.specs.declared.text.TheConstants.{MAX_BYTES};
+ghost use Rattle.desk_files.specs.Limits.{MAX_BYTES};
 ghost use Rattle.desk_files.specs.Sources.{has_file, with_file, without_file};
-ghost use Rattle.desk_memo.specs.Fresh.{IsFresh, texts_in};
-ghost use Rattle.desk_memo.specs.Orders.{AreInOrder, AreShort};
+ghost use Rattle.source_file.specs.SourceFiles.{AreShort, texts_in};
+ghost use Rattle.desk_memo.specs.Orders.{AreInOrder};
 ghost use Rattle.desk_memo.specs.Readings.{AreDefined, AreReadings, changed_count, first_refusal, with_blank, without};
 ghost use Rattle.desk_memo.specs.ShownReadings.{modules_of, readings_of};
-ghost use Rattle.desk_memo.specs.Rulings.{IsRuling, current_answer, current_of, others_of};
+ghost use Rattle.desk_memo.specs.Rulings.{current_answer, current_of, others_of};
 ghost use Rattle.desk_memo.specs.Shown.{AreChecked, absent_of, all_of, rulings_of};
-ghost use Rattle.design_db.specs.Stores.{all_rulings, answer_of, changed_in, circuits_in, lasting_answer, reached_in, refusal_or};
+ghost use Rattle.design_db.specs.Answers.{IsFresh, IsRuling};
+ghost use Rattle.design_db.specs.Stores.{KeepsRulings, all_rulings, answer_of, changed_in, circuits_in, lasting_answer, refusal_or};
 
-use desk_files::{Files, Ready, SourceFile};
-use desk_memo::elab_links::module_set::ModuleSet;
-use desk_memo::law::still_fresh;
+use crate::rules::Rules;
+use desk_answers::elab_links::module_set::ModuleSet;
+use desk_answers::kept_of;
+use desk_answers::law::still_fresh;
+use desk_files::{Files, Ready};
 use desk_memo::reading_law::{all_refused, all_spelled, one_list};
-use desk_memo::{Answer, Kept, Memo, Readings};
+use desk_memo::{Memo, Readings};
+use desk_verdict::Verdict;
 use rtl_tree::memory::Memory;
 use rtl_tree::text::Text;
+use source_file::SourceFile;
 use std::alloc::Global;
 use std::marker::Model;
 use std::sync::ledger::Ledger;
 use steps::Steps;
+
+/// What files say of a top by the rules.
+pub type Answer = desk_memo::Answer<Verdict>;
 
 /// Files in the order of the bytes of their names, each of at most 1 MiB, with what was read of
 /// each last, and what the files said of tops, with all that it rests on: so an edit costs no more
@@ -32,8 +39,8 @@ use steps::Steps;
 pub struct Db {
     alloc: Global,
     files: Files,
-    readings: Readings,
-    memo: Memo,
+    readings: Readings<Verdict>,
+    memo: Memo<Verdict>,
 }
 
 impl Model for Db {
@@ -57,8 +64,8 @@ impl Model for Db {
 fn rule<L: Ledger>(
     alloc: Global,
     files: &[SourceFile],
-    readings: &Readings,
-    memo: &mut Memo,
+    readings: &Readings<Verdict>,
+    memo: &mut Memo<Verdict>,
     top: &Text,
     steps: &mut Steps<L>,
 ) -> Result<(), Memory>
@@ -75,6 +82,8 @@ fn rule<L: Ledger>(
         (current_answer files.now (modules_of readings.now) top.now (all_of memo.new)))) }
     ensures others { OnOk result
         (others_of top.now (rulings_of memo.new) ≡ others_of top.now (rulings_of memo.old)) }
+    ensures keeps { OnOk result (KeepsRulings top.now (rulings_of memo.old) (absent_of memo.old)
+        (rulings_of memo.new) (absent_of memo.new)) }
     ensures rulings { All IsRuling (all_of memo.new) }
     ensures same { OnErr result (rulings_of memo.new ≡ rulings_of memo.old) }
     ensures absent { OnErr result (absent_of memo.new ≡ absent_of memo.old) }
@@ -87,7 +96,7 @@ fn rule<L: Ledger>(
         return Ok(());
     }
     let set = ModuleSet::new(alloc, readings.modules())?;
-    let kept = Kept::of(alloc, files, readings, &set, top, steps)?;
+    let kept = kept_of::<Rules, L>(alloc, files, readings, &set, top, steps)?;
     memo.keep(kept)
 }
 
@@ -207,9 +216,11 @@ impl Db {
         ensures answered { OnOk result (IsSome (answer_of self.new top.now)) }
         ensures others { OnOk result
             (others_of top.now self.new.rulings ≡ others_of top.now self.old.rulings) }
+        ensures keeps { OnOk result (KeepsRulings top.now self.old.rulings self.old.absent
+            self.new.rulings self.new.absent) }
         ensures same { OnErr result (self.new ≡ self.old) }
     {
-        one_list();
+        one_list::<Verdict>();
         let mut aside = self.readings.read_changed(self.files.as_slice(), steps)?;
         self.readings.exchange(&mut aside);
         self.memo.doubt();
@@ -245,9 +256,11 @@ impl Db {
         ensures answered { OnOk result (IsSome (answer_of self.new top.now)) }
         ensures others { OnOk result
             (others_of top.now self.new.rulings ≡ others_of top.now self.old.rulings) }
+        ensures keeps { OnOk result (KeepsRulings top.now self.old.rulings self.old.absent
+            self.new.rulings self.new.absent) }
         ensures same { OnErr result (self.new ≡ self.old) }
     {
-        one_list();
+        one_list::<Verdict>();
         let files = self.files.as_slice();
         rule(
             self.alloc,
@@ -282,6 +295,10 @@ impl Db {
         ensures answered { OnOk result (IsSome (answer_of self.new top.now)) }
         ensures others { OnOk result
             (others_of top.now self.new.rulings ≡ others_of top.now self.old.rulings) }
+        // Of its own top the ruling goes that is kept, and where no module has the name, or more
+        // than one, the last such.
+        ensures keeps { OnOk result (KeepsRulings top.now self.old.rulings self.old.absent
+            self.new.rulings self.new.absent) }
         ensures lasting { (other : List ℕ) → IsSome (lasting_answer self.old other)
             → answer_of self.new other ≡ answer_of self.old other }
         ensures same { OnErr result (self.new ≡ self.old) }
@@ -316,9 +333,9 @@ impl Db {
         ensures is { option_copied result ≡ answer_of self.now top.now }
         ensures fresh { IfSome (answer_of self.now top.now) (IsFresh self.now.files top.now) }
     {
-        still_fresh();
-        all_refused();
-        all_spelled();
+        still_fresh::<Rules>();
+        all_refused::<Verdict>();
+        all_spelled::<Verdict>();
         let files = self.files.as_slice();
         if self.readings.changed(files) != 0 {
             return None;
@@ -326,16 +343,6 @@ impl Db {
         match self.readings.refusal() {
             Some(refusal) => Some(refusal),
             None => self.memo.answer(files, self.readings.modules(), top),
-        }
-    }
-
-    /// The names of the files that a top uses, where its answer is known and it has a design.
-    pub fn reached(&self, top: &Text) -> Option<&[Text]>
-        ensures { option_map (λ names. names.now) result ≡ reached_in self.now top.now }
-    {
-        match self.answer(top) {
-            Some(Answer::Ruled(_, reached)) => Some(reached),
-            Some(Answer::Refused(_)) | None => None,
         }
     }
 }

@@ -2,10 +2,10 @@
 #![tactic(auto)]
 
 mod db;
+mod rules;
 
-pub use db::Db;
-pub use desk_files::{Ready, SourceFile};
-pub use desk_memo::Answer;
+pub use db::{Answer, Db};
+pub use desk_files::Ready;
 
 // Passed on to the crates above.
-pub use desk_memo::desk_verdict;
+pub use desk_verdict;

@@ -8,5 +8,5 @@ mod waivers;
 
 pub use files::{edited_body, file_body, name_body};
 pub use refusals::{conflict, not_found, refused_with};
-pub use signoffs::{grade_text, granted_body, id_body, signoffs_body};
+pub use signoffs::{granted_body, id_body, signoffs_body};
 pub use waivers::waivers_body;

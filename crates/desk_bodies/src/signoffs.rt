@@ -10,7 +10,7 @@ use rtl_tree::memory::Memory;
 use std::alloc::Global;
 
 /// The grade of a sign-off as it is written.
-pub fn grade_text(grade: Grade) -> &'static [u8]
+fn grade_text(grade: Grade) -> &'static [u8]
     ensures { result.now ≡ grade_text grade }
 {
     match grade {

@@ -1,9 +1,8 @@
 //! The front end: what texts make of a top.
 
-ghost use Rattle.std.specs.Prelude.{◌≡◌, ◌≢◌, ◌≤◌, ◌<◌, List, IfErr, IfOk, Ok, Err, length, map, vec_len};
+ghost use Rattle.std.specs.Prelude.{◌≡◌, ◌<◌, List, IfErr, IfOk, IsSome, Ok};
 ghost use Rattle.rtl_tree.specs.TreeModule.{Circuit};
-ghost use Rattle.std.specs.List.{All};
-ghost use Rattle.rtl_tree.specs.declared.text.TheConstants.{MAX_BYTES};
+ghost use Rattle.source_file.specs.SourceFiles.{AreShort, texts_in};
 ghost use Rattle.desk_refusals.specs.elab_scope.Faults.{answer};
 ghost use Rattle.rtl_elab.specs.elab_links.Modules.{circuits_of};
 ghost use Rattle.rtl_elab.specs.elab_walk.Trails.{IsTold};
@@ -11,8 +10,9 @@ ghost use Rattle.rtl_elab.specs.Designs.{library_of};
 ghost use Rattle.rtl_flat.specs.Flats.{flat_in};
 ghost use Rattle.rtl_elab.specs.Elaborated.{elaborated, refused};
 ghost use Rattle.rtl_front.specs.Fronts.{AreRead, IsFirstFaulty};
-ghost use Rattle.desk_places.specs.Places.{sources_of};
-ghost use Rattle.desk_build.specs.Building.{IsBuilt, built, elaborated_or_not};
+ghost use Rattle.desk_refusals.specs.Notices.{design_notice};
+ghost use Rattle.desk_refusals.specs.Refusals.{design_line, source_line};
+ghost use Rattle.desk_build.specs.Building.{IsBuilt, Refused, built, elaborated_or_not};
 
 use desk_places::sources::Sources;
 use desk_refusals::elab_scope::fault::ElabFault;
@@ -20,10 +20,11 @@ use desk_refusals::{design_refusal, source_refusal};
 use rtl_elab::elab_links::module_set::ModuleSet;
 use rtl_elab::whole::elaborate;
 use rtl_flat::design::Design;
-use rtl_front::{SourceFault, read_files};
+use rtl_front::{FileFault, SourceFault, read_files};
 use rtl_tree::memory::Memory;
 use rtl_tree::text::Text;
 use rtl_tree::tree::modules::Module;
+use source_file::SourceFile;
 use std::alloc::Global;
 use std::marker::Brand;
 use std::sync::ledger::{Blank, Ledger};
@@ -38,22 +39,15 @@ pub enum Built {
     Refused(Vec<u8>),
 }
 
-/// The design of a top among the modules of texts, or the line that says why there is none.
-pub fn build(
-    alloc: Global,
-    top: &str,
-    sources: &Sources<'_>,
-    texts: &[Vec<u8>],
-) -> Result<Built, Memory>
-    requires { All (λ text. vec_len text ≤ MAX_BYTES) texts.now }
-    ensures { IfOk result (λ made. IsBuilt top.now (sources_of sources.now)
-        (map (λ text. text.items) texts.now) (built made)) }
+/// The design of a top among the modules of files, or the line that says why there is none.
+pub fn build(alloc: Global, top: &str, files: &[SourceFile]) -> Result<Built, Memory>
+    requires { AreShort files.now }
+    ensures { IfOk result (λ made.
+        IsBuilt top.now files.now (texts_in files.now) (built made)) }
 {
-    match modules_of(alloc, texts) {
-        Ok(modules) => build_modules(alloc, top, sources, &modules),
-        Err(SourceFault::Refused(file, fault)) => Ok(Built::Refused(source_refusal(
-            alloc, sources, file, &fault,
-        )?)),
+    match modules_of(alloc, files) {
+        Ok(modules) => build_modules(alloc, top, files, &modules),
+        Err(SourceFault::Refused(file, fault)) => refuse_file(alloc, files, file, &fault),
         Err(SourceFault::Memory) => Err(Memory),
     }
 }
@@ -61,46 +55,74 @@ pub fn build(
 fn build_modules(
     alloc: Global,
     top: &str,
-    sources: &Sources<'_>,
+    files: &[SourceFile],
     modules: &[Vec<Module>],
 ) -> Result<Built, Memory>
+    requires { AreShort files.now }
     ensures { IfOk result (λ made. built made
-        ≡ elaborated_or_not (sources_of sources.now)
+        ≡ elaborated_or_not files.now
         (elaborated (library_of (circuits_of modules.now)) top.now)) }
 {
     let name = name_of(alloc, top)?;
     match design_of(alloc, modules, &name) {
         Ok(design) => Ok(Built::Designed(design)),
         Err(ElabFault::Memory) => Err(Memory),
-        Err(fault) => Ok(Built::Refused(design_refusal(alloc, sources, &fault)?)),
+        Err(fault) => refuse_design(alloc, files, &fault),
     }
 }
 
-/// The modules that texts spell, file by file; or the first text that spells none, and why.
-pub fn modules_of(alloc: Global, texts: &[Vec<u8>]) -> Result<Vec<Vec<Module>>, SourceFault>
-    requires { All (λ text. vec_len text ≤ MAX_BYTES) texts.now }
-    ensures read { IfOk result (λ files. AreRead (map (λ text. text.items) texts.now) (circuits_of files.items)) }
-    ensures only { IfOk result (λ files. (others : List (List Circuit)) → AreRead (map (λ text. text.items) texts.now) others → others ≡ circuits_of files.items) }
-    ensures fault { IfErr result (λ fault. IsFirstFaulty (map (λ text. text.items) texts.now) fault) }
+/// The line that says why a file spells no modules. It has one place.
+fn refuse_file(
+    alloc: Global,
+    files: &[SourceFile],
+    file: usize,
+    fault: &FileFault,
+) -> Result<Built, Memory>
+    requires { AreShort files.now }
+    ensures { IfOk result (λ made. built made ≡ Refused (source_line files.now file fault.now)) }
 {
-    count_modules::<Brand>(alloc, texts, Blank::new(1))
+    let sources = Sources::seldom(alloc, files)?;
+    Ok(Built::Refused(source_refusal(alloc, &sources, file, fault)?))
+}
+
+/// The line that says why modules make no design. It has one place at most.
+fn refuse_design(alloc: Global, files: &[SourceFile], fault: &ElabFault) -> Result<Built, Memory>
+    requires { AreShort files.now }
+    ensures told { IfOk result (λ _. IsSome (design_notice (answer fault.now))) }
+    ensures line { IfOk result (λ made. built made
+        ≡ Refused (design_line files.now (answer fault.now))) }
+{
+    let sources = Sources::seldom(alloc, files)?;
+    Ok(Built::Refused(design_refusal(alloc, &sources, fault)?))
+}
+
+/// The modules that files spell, file by file; or the first file that spells none, and why.
+pub fn modules_of(alloc: Global, files: &[SourceFile]) -> Result<Vec<Vec<Module>>, SourceFault>
+    requires { AreShort files.now }
+    ensures read { IfOk result (λ made. AreRead (texts_in files.now) (circuits_of made.items)) }
+    ensures only { IfOk result (λ made. (others : List (List Circuit))
+        → AreRead (texts_in files.now) others → others ≡ circuits_of made.items) }
+    ensures fault { IfErr result (λ fault. IsFirstFaulty (texts_in files.now) fault) }
+{
+    count_modules::<Brand>(alloc, files, Blank::new(1))
 }
 
 fn count_modules<L: Ledger>(
     alloc: Global,
-    texts: &[Vec<u8>],
+    files: &[SourceFile],
     blank: Blank,
 ) -> Result<Vec<Vec<Module>>, SourceFault>
-    requires short { All (λ text. vec_len text ≤ MAX_BYTES) texts.now }
+    requires short { AreShort files.now }
     requires name { blank.name ≡ L.name }
     requires parts { blank.parts ≡ L.parts }
     requires some { 0 < L.parts }
-    ensures read { IfOk result (λ files. AreRead (map (λ text. text.items) texts.now) (circuits_of files.items)) }
-    ensures only { IfOk result (λ files. (others : List (List Circuit)) → AreRead (map (λ text. text.items) texts.now) others → others ≡ circuits_of files.items) }
-    ensures fault { IfErr result (λ fault. IsFirstFaulty (map (λ text. text.items) texts.now) fault) }
+    ensures read { IfOk result (λ made. AreRead (texts_in files.now) (circuits_of made.items)) }
+    ensures only { IfOk result (λ made. (others : List (List Circuit))
+        → AreRead (texts_in files.now) others → others ≡ circuits_of made.items) }
+    ensures fault { IfErr result (λ fault. IsFirstFaulty (texts_in files.now) fault) }
 {
     let mut steps = Steps::<L>::new(blank);
-    read_files(alloc, texts, &mut steps)
+    read_files(alloc, files, &mut steps)
 }
 
 /// The flat design of the module with a name, or why there is none.

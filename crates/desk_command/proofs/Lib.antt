@@ -3,3 +3,7 @@ pub mod Started
 pub mod Served
 pub mod Told
 pub mod Commanded
+mod Causes
+mod Few
+mod Headlines
+mod Statuses

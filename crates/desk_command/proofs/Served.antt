@@ -1,14 +1,18 @@
 -- How the links of a door are served.
-use Rattle.std.proofs.Common.{◌≡◌, ℕ, List, Option, None, Some, Ok, Err, refl, subst}
+use Rattle.std.proofs.Common.{◌≡◌, ℕ, List, Option, None, Some, Result, Ok, Err, refl, subst}
 use Rattle.std.specs.Prelude.{ℤ, IfSome}
 use Rattle.std.proofs.KnownBytes.{Appends-nil}
 use Rattle.desk_io.specs.declared.failed.Failed.{Failed}
 use Rattle.desk_tables.specs.Tables.{Kept}
 use Rattle.desk_links.specs.Doors.{IsSameVisits, Opens, Tells, Visits, with_port}
-use Rattle.desk_server.specs.desk_core.Machine.{Machine}
-use Rattle.desk_server.specs.desk_core.Starting.{IsStart}
+use Rattle.desk_core.specs.Machine.{Machine}
+use Rattle.desk_core.specs.Starting.{IsStart}
+use Rattle.desk_core.specs.Serving.{ServesRightly}
 use Rattle.desk_server.specs.Exchanges.{Around, around}
+use Rattle.desk_server.specs.Servings.{ServesCount}
 use Rattle.desk_command.specs.Commands.{IsLinked, IsServed, IsServing, Opened, taken_between}
+use Rattle.desk_command.specs.Servings.{DeskServes}
+use Rattle.desk_command.proofs.Few.{are_few}
 use Rattle.desk_command.proofs.Started.{over_tables}
 
 -- where the door fails to open its visits are the same
@@ -25,6 +29,13 @@ behind port done (Some before) (Some middle) None P opens holds = absurd holds
 behind port done (Some before) (Some middle) (Some after) P opens holds =
     let Q : Visits → Type 0 = λ (it : Visits). P it after in
     subst Q opens holds
+
+-- few of the links that the desk serves are told that it is unavailable
+pub desk_serves : (count : ℕ) (result : Result Unit Failed) (around around' : Around) (kept kept' : Kept) (visits visits' : Option Visits) → Tells visits visits' (ServesCount ServesRightly count result around around' kept kept') → Tells visits visits' (DeskServes count result around around' kept kept')
+desk_serves count result around around' kept kept' None visits' serves = tt
+desk_serves count result around around' kept kept' (Some before) None serves = absurd serves
+desk_serves count result around around' kept kept' (Some before) (Some after) serves =
+    record { serves = serves; few = are_few serves.served.inputs serves.served.links around around' kept kept' serves.served.run }
 
 -- nothing changes where nothing is done
 pub same_visits : (visits : Option Visits) → Tells visits visits IsSameVisits

@@ -1,10 +1,10 @@
 -- Where the desk starts, and where it doesn't.
-use Rattle.std.proofs.Common.{ℕ, Option, Ok, Err, subst}
+use Rattle.std.proofs.Common.{◌≡◌, ℕ, Option, Ok, Err, subst}
 use Rattle.desk_tables.specs.Tables.{Kept}
 use Rattle.desk_tables.specs.declared.rows.Table.{Table}
-use Rattle.desk_server.specs.desk_core.Machine.{Machine}
-use Rattle.desk_server.specs.desk_core.Starting.{IsStart}
-use Rattle.desk_server.specs.desk_core.declared.start.StartFault.TheVariants as fault
+use Rattle.desk_core.specs.Machine.{Machine}
+use Rattle.desk_core.specs.Starting.{IsStart}
+use Rattle.desk_core.specs.declared.start.StartFault.TheVariants as fault
 use Rattle.desk_command.specs.Commands.{BadTables, IsUnstarted, OverTables, Taken, Writes, bad_tables}
 
 -- what holds of a started desk's tables is over those that the keeper tells
@@ -18,6 +18,6 @@ over_tables told desk P start holds =
     }
 
 -- the line on a row that breaks a rule is written
-pub on_bad_tables : (told : Option Kept) (faults faults' : ℕ) (table : Table) (row status : ℕ) (taken : Taken) → IsStart told (Err (fault.BadTables table row)) → Writes (bad_tables table row) status taken → IsUnstarted told faults faults' status taken
-on_bad_tables told faults faults' table row status taken start writes =
-    BadTables start.held table row start.are_told start.over writes
+pub on_bad_tables : (told : Option Kept) (faults faults' : ℕ) (table : Table) (row status : ℕ) (taken : Taken) → IsStart told (Err (fault.BadTables table row)) → faults' ≡ faults → Writes (bad_tables table row) status taken → IsUnstarted told faults faults' status taken
+on_bad_tables told faults faults' table row status taken start calm writes =
+    BadTables start.held table row start.are_told start.over calm writes

@@ -2,7 +2,7 @@
 use Rattle.std.proofs.Common.{◌≡◌, ℕ, List, Option, None, Some, Ok, subst}
 use Rattle.std.specs.Prelude.{ℤ}
 use Rattle.desk_links.specs.Clocks.{GivesFirst}
-use Rattle.desk_server.specs.desk_core.Reports.{Telling}
+use Rattle.desk_core.specs.Reports.{Telling}
 use Rattle.desk_server.specs.Exchanges.{TakesDay}
 use Rattle.desk_top.specs.Delivery.{Delivers}
 use Rattle.desk_command.specs.Commands.{report_outcome}

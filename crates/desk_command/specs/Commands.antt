@@ -1,6 +1,6 @@
 -- What commands over the tables answer.
 -- Worked examples: examples/server.sh.
-use Rattle.std.specs.Prelude.{◌≡◌, ℕ, ℤ, List, [], ◌++◌, ◌==◌, codes, decimal, Option, None, Some, Result, Ok, Err, IfSome, if◌then◌else◌, ⊤}
+use Rattle.std.specs.Prelude.{◌≡◌, ℕ, ℤ, List, [], ◌++◌, ◌==◌, codes, decimal, Option, None, Some, Result, Ok, Err, IfSome, if◌then◌else◌}
 use Rattle.std.specs.Io.KnownBytes.{Appends}
 use Rattle.desk_io.specs.Causes.{Rose}
 use Rattle.desk_io.specs.declared.failed.Failed.{Failed}
@@ -8,14 +8,13 @@ use Rattle.desk_tables.specs.Rules.{broken_row}
 use Rattle.desk_tables.specs.Tables.{Kept}
 use Rattle.desk_tables.specs.declared.rows.Table.{Table}
 use Rattle.desk_records.specs.Machine.{table_name}
-use Rattle.desk_server.specs.desk_core.Reports.{IsTold, Telling}
+use Rattle.desk_core.specs.Reports.{IsTold, Telling}
 use Rattle.desk_links.specs.Doors.{Tells, Visits, IsSameVisits, with_port}
 use Rattle.desk_server.specs.Exchanges.{Around, TakesDay}
-use Rattle.desk_server.specs.Servings.{ServesCount}
 use Rattle.desk_top.specs.Delivery.{Delivers, Outcome}
-use Rattle.desk_top.specs.declared.deliver.TheConstants.{DONE, NO_MEMORY, OPEN, REFUSED}
+use Rattle.desk_command.specs.Statuses.{DONE, NO_MEMORY, OPEN, REFUSED, BAD_TABLES, NO_DAY, NO_DOOR, UNKEPT}
+use Rattle.desk_command.specs.Servings.{DeskServes}
 use Rattle.desk_command.specs.Words.{Order, Report, Serve}
-use Rattle.desk_command.specs.declared.ending.TheConstants.{BAD_TABLES, NO_DAY, NO_DOOR, UNKEPT}
 
 -- what a sink has taken, before and after
 pub record Taken : Type 0 where
@@ -57,11 +56,11 @@ pub record OverTables (told : Option Kept) (P : Kept → Type 0) : Type 0 where
 -- the tables couldn't be read, there was no memory, or a row breaks a rule
 pub data IsUnstarted (told : Option Kept) (faults faults' : ℕ) (status : ℕ) (taken : Taken) : Type 0 where
   Unkept : status ≡ UNKEPT → Rose faults faults' → Keeps taken → IsUnstarted told faults faults' status taken
-  NoMemory : status ≡ NO_MEMORY → Keeps taken → IsUnstarted told faults faults' status taken
+  NoMemory : status ≡ NO_MEMORY → faults' ≡ faults → Keeps taken → IsUnstarted told faults faults' status taken
   BadTables :
       (held : Kept) (table : Table) (row : ℕ) → IfSome told (λ tables. tables ≡ held) →
-      broken_row held ≡ Some (table, row) → Writes (bad_tables table row) status taken →
-      IsUnstarted told faults faults' status taken
+      broken_row held ≡ Some (table, row) → faults' ≡ faults →
+      Writes (bad_tables table row) status taken → IsUnstarted told faults faults' status taken
 
 -- what `report` answers over tables on a day: there was no memory, or the report of the day
 pub data IsReportOn (top : List ℕ) (kept : Kept) (today : ℤ) (status : ℕ) (taken : Taken) : Type 0 where
@@ -74,16 +73,20 @@ pub data IsReportOn (top : List ℕ) (kept : Kept) (today : ℤ) (status : ℕ) 
 -- gives
 pub data IsReport (top : List ℕ) (kept : Kept) (before after : Around) (status : ℕ) (taken : Taken) : Type 0 where
   NoDay :
-      status ≡ NO_DAY → Rose before.clock after.clock → Keeps taken →
+      status ≡ NO_DAY → Rose before.clock after.clock → after.keeper ≡ before.keeper → Keeps taken →
       IsReport top kept before after status taken
   OnDay :
-      (today : ℤ) → TakesDay before.days after.days today → IsReportOn top kept today status taken →
-      IsReport top kept before after status taken
+      (today : ℤ) → TakesDay before.days after.days today → after.clock ≡ before.clock →
+      after.keeper ≡ before.keeper → IsReportOn top kept today status taken → IsReport top kept before after status taken
+
+-- the clock isn't asked
+abbrev pub IsUnasked : Around → Around → Type 0
+IsUnasked before after = (after.days ≡ before.days) × (after.clock ≡ before.clock)
 
 -- what `report` answers: the desk didn't start, or what it answers over the tables
 pub data IsReported (top : List ℕ) (told : Option Kept) (before after : Around) (status : ℕ) (taken : Taken) : Type 0 where
   Unstarted :
-      IsUnstarted told before.keeper after.keeper status taken →
+      IsUnstarted told before.keeper after.keeper status taken → IsUnasked before after →
       IsReported top told before after status taken
   Started :
       OverTables told (λ held. IsReport top held before after status taken) →
@@ -91,7 +94,7 @@ pub data IsReported (top : List ℕ) (told : Option Kept) (before after : Around
 
 -- all links were served, or the door failed
 abbrev pub IsEnded : Result Unit Failed → ℕ → ℕ → ℕ → Type 0
-IsEnded (Ok done) door door' status = status ≡ DONE
+IsEnded (Ok done) door door' status = (status ≡ DONE) × (door' ≡ door)
 IsEnded (Err fault) door door' status = (status ≡ NO_DOOR) × Rose door door'
 
 -- the door failed to open and nothing changes; or it was opened at the port and no other, and then
@@ -102,7 +105,7 @@ pub data IsLinked (port count : ℕ) (visits visits' : Option Visits) (door door
       IsLinked port count visits visits' door door' before after status kept kept
   Linked :
       (kept' : Kept) (result : Result Unit Failed) →
-      Tells visits visits' (λ shut. ServesCount count result before after kept kept' (with_port port shut)) →
+      Tells visits visits' (λ shut. DeskServes count result before after kept kept' (with_port port shut)) →
       IsEnded result door door' status →
       IsLinked port count visits visits' door door' before after status kept kept'
 
@@ -116,17 +119,25 @@ pub record IsServing (port count : ℕ) (told' : Option Kept) (visits visits' : 
 -- what `serve` does: the desk didn't start and nothing changes, or what it does over the tables
 pub data IsServed (port count : ℕ) (told told' : Option Kept) (visits visits' : Option Visits) (door door' : ℕ) (before after : Around) (status : ℕ) (taken : Taken) : Type 0 where
   Unopened :
-      IsUnstarted told before.keeper after.keeper status taken →
-      told' ≡ told → Tells visits visits' IsSameVisits →
+      IsUnstarted told before.keeper after.keeper status taken → IsUnasked before after →
+      told' ≡ told → Tells visits visits' IsSameVisits → door' ≡ door →
       IsServed port count told told' visits visits' door door' before after status taken
   Opened :
       OverTables told (IsServing port count told' visits visits' door door' before after status taken) →
       IsServed port count told told' visits visits' door door' before after status taken
 
--- what the words ask for is done, where they are a command over the tables
+-- the tables, the door and the clock are left alone
+abbrev pub IsLeft : Option Kept → Option Kept → Option Visits → Option Visits → ℕ → ℕ → Around → Around → Type 0
+IsLeft told told' visits visits' door door' before after =
+    (told' ≡ told) × (visits' ≡ visits) × (door' ≡ door) × (after ≡ before)
+
+-- what the words ask for is done, where they are a command over the tables; else these, the door and
+-- the clock are left alone
 abbrev pub IsCommanded : Option Order → Option Kept → Option Kept → Option Visits → Option Visits → ℕ → ℕ → Around → Around → ℕ → Taken → Type 0
-IsCommanded None told told' visits visits' door door' before after status taken = ⊤
+IsCommanded None told told' visits visits' door door' before after status taken =
+    IsLeft told told' visits visits' door door' before after
 IsCommanded (Some (Report top)) told told' visits visits' door door' before after status taken =
-    IsReported top told before after status taken × (told' ≡ told)
+    IsReported top told before after status taken
+    × (told' ≡ told) × (visits' ≡ visits) × (door' ≡ door)
 IsCommanded (Some (Serve port count)) told told' visits visits' door door' before after status taken =
     IsServed port count told told' visits visits' door door' before after status taken

@@ -3,7 +3,7 @@ ghost use Rattle.std.specs.Prelude.{◌≡◌, ◌≢◌, ◌≤◌, ◌<◌, �
 ghost use Rattle.desk_io.specs.Causes.{Rose};
 ghost use Rattle.desk_server.specs.Exchanges.{around};
 ghost use Rattle.desk_top.specs.Answers.{IsAnswered, IsSignedClean, OverWorld};
-ghost use Rattle.desk_top.specs.declared.deliver.TheConstants.{DONE, NO_FILE, UNREAD, UNWRITTEN};
+ghost use Rattle.desk_command.specs.Statuses.{DONE, NO_DAY, NO_DOOR, NO_FILE, UNKEPT, UNREAD, UNWRITTEN};
 ghost use Rattle.desk_top.specs.Delivery.{gave_up};
 ghost use Rattle.desk_top.specs.Words.{is_sign, order as source_order, texts};
 ghost use Rattle.desk_command.specs.Commands.{IsReported, IsServed, taken_between};
@@ -40,6 +40,10 @@ pub fn desk<F: Shelf, K: Keeper, C: Clock, D: Door, S: Sink>(
 
     ensures still { order (texts words.now) ≡ None → K.tables keeper.new ≡ K.tables keeper.old }
     ensures unvisited { order (texts words.now) ≡ None → D.visits door.new ≡ D.visits door.old }
+    ensures unopened { order (texts words.now) ≡ None → D.faults door.new ≡ D.faults door.old }
+    ensures unasked { order (texts words.now) ≡ None
+        → around (C.days clock.new) (C.faults clock.new) (K.count keeper.new)
+        ≡ around (C.days clock.old) (C.faults clock.old) (K.count keeper.old) }
 
     // The headline: what is signed clean shows in every simulation what its hardware shows.
     ensures headline { is_sign (source_order (texts words.now)) ≡ true → result ≡ DONE
@@ -56,6 +60,8 @@ pub fn desk<F: Shelf, K: Keeper, C: Clock, D: Door, S: Sink>(
         → K.tables keeper.new ≡ K.tables keeper.old }
     ensures no_visits { (top : List ℕ) → order (texts words.now) ≡ Some (Report top)
         → D.visits door.new ≡ D.visits door.old }
+    ensures no_door { (top : List ℕ) → order (texts words.now) ≡ Some (Report top)
+        → D.faults door.new ≡ D.faults door.old }
     ensures served { (port count : ℕ) → order (texts words.now) ≡ Some (Serve port count)
         → IsServed port count (K.tables keeper.old) (K.tables keeper.new)
         (D.visits door.old) (D.visits door.new) (D.faults door.old) (D.faults door.new)
@@ -69,12 +75,18 @@ pub fn desk<F: Shelf, K: Keeper, C: Clock, D: Door, S: Sink>(
     ensures a_command { order (texts words.now) ≡ None → gave_up result ≡ true
         → IsSome (source_order (texts words.now)) }
 
-    // No failure is passed over. A shelf that tells nothing counts a missing file too.
+    // No failure is passed over. A shelf that tells nothing counts a missing file too. While links
+    // are served, the clock and the keeper count nothing but what a reply of the status 503 says.
     ensures read_failed { IsSome (F.files shelf.old)
         → F.faults shelf.old < F.faults shelf.new → result ≡ UNREAD }
     ensures untold_failed { F.faults shelf.old < F.faults shelf.new → result ≢ NO_FILE
         → result ≡ UNREAD }
     ensures write_failed { S.faults out.old < S.faults out.new → result ≡ UNWRITTEN }
+    ensures load_failed { (top : List ℕ) → order (texts words.now) ≡ Some (Report top)
+        → K.count keeper.old < K.count keeper.new → result ≡ UNKEPT }
+    ensures day_failed { (top : List ℕ) → order (texts words.now) ≡ Some (Report top)
+        → C.faults clock.old < C.faults clock.new → result ≡ NO_DAY }
+    ensures door_failed { D.faults door.old < D.faults door.new → result ≡ NO_DOOR }
     ensures shelf_later { F.faults shelf.old ≤ F.faults shelf.new }
     ensures sink_later { S.faults out.old ≤ S.faults out.new }
 {

@@ -3,6 +3,7 @@
 
 mod call;
 mod ending;
+pub mod law;
 mod line;
 mod report;
 mod serving;
@@ -10,11 +11,10 @@ mod starting;
 mod words;
 
 pub use call::desk;
-pub use ending::{BAD_TABLES, NO_DAY, NO_DOOR, UNKEPT};
 pub use line::start;
 
 // Passed on to the crates above.
+pub use desk_core;
 pub use desk_server;
-pub use desk_server::desk_core;
 pub use desk_top;
 pub use desk_top::{desk_build, event_queue};

@@ -1,15 +1,17 @@
 // Where the program starts: the words of its command line.
-ghost use Rattle.std.specs.Prelude.{◌≡◌, ◌≢◌, None, IfErr, IfOk, drop, true};
+ghost use Rattle.std.specs.Prelude.{◌≡◌, ◌≢◌, ◌≤◌, ◌<◌, ℕ, List, None, Some, IfErr, IfOk, IsSome, drop, true};
 ghost use Rattle.std.specs.IoError.{error_kind};
 ghost use Rattle.std.specs.Vec.Iter.{into_iter_items};
+ghost use Rattle.desk_io.specs.Causes.{Rose};
 ghost use Rattle.desk_server.specs.Exchanges.{around};
-ghost use Rattle.desk_top.specs.declared.deliver.TheConstants.{DONE, NO_COMMAND, NO_MEMORY};
+ghost use Rattle.desk_command.specs.Statuses.{DONE, NO_COMMAND, NO_DAY, NO_DOOR, NO_FILE};
+ghost use Rattle.desk_command.specs.Statuses.{NO_MEMORY, UNKEPT, UNREAD, UNWRITTEN};
 ghost use Rattle.desk_top.specs.Answers.{IsAnswered, IsSignedClean, OverWorld};
 ghost use Rattle.desk_top.specs.Delivery.{Delivers};
 ghost use Rattle.desk_top.specs.Outcome.{usage};
 ghost use Rattle.desk_top.specs.Words.{is_sign, order as source_order, texts};
-ghost use Rattle.desk_command.specs.Commands.{IsCommanded, taken_between};
-ghost use Rattle.desk_command.specs.Words.{order};
+ghost use Rattle.desk_command.specs.Commands.{IsCommanded, IsLeft, taken_between};
+ghost use Rattle.desk_command.specs.Words.{Report, order};
 
 use crate::call::desk;
 use desk_io::{Shelf, Sink};
@@ -59,6 +61,32 @@ pub fn start<F: Shelf, K: Keeper, C: Clock, D: Door, S: Sink>(
     ensures no_text { IfErr line (λ error. error_kind error ≢ ErrorKind.OutOfMemory
         → Delivers (record { status = NO_COMMAND; bytes = usage }) result
         (S.taken out.old) (S.taken out.new)) }
+    ensures no_line { IfErr line (λ _. IsLeft (K.tables keeper.old) (K.tables keeper.new)
+        (D.visits door.old) (D.visits door.new) (D.faults door.old) (D.faults door.new)
+        (around (C.days clock.old) (C.faults clock.old) (K.count keeper.old))
+        (around (C.days clock.new) (C.faults clock.new) (K.count keeper.new))) }
+
+    // Each failure has its cause.
+    ensures unread { result ≡ UNREAD → Rose (F.faults shelf.old) (F.faults shelf.new) }
+    ensures unwritten { result ≡ UNWRITTEN → Rose (S.faults out.old) (S.faults out.new) }
+    ensures a_command { IfOk line (λ all. order (texts (drop 1 (into_iter_items all))) ≡ None
+        → result ≡ UNREAD → IsSome (source_order (texts (drop 1 (into_iter_items all))))) }
+
+    // No failure is passed over, as in `desk`.
+    ensures read_failed { IsSome (F.files shelf.old)
+        → F.faults shelf.old < F.faults shelf.new → result ≡ UNREAD }
+    ensures untold_failed { F.faults shelf.old < F.faults shelf.new → result ≢ NO_FILE
+        → result ≡ UNREAD }
+    ensures write_failed { S.faults out.old < S.faults out.new → result ≡ UNWRITTEN }
+    ensures load_failed { IfOk line (λ all. (top : List ℕ)
+        → order (texts (drop 1 (into_iter_items all))) ≡ Some (Report top)
+        → K.count keeper.old < K.count keeper.new → result ≡ UNKEPT) }
+    ensures day_failed { IfOk line (λ all. (top : List ℕ)
+        → order (texts (drop 1 (into_iter_items all))) ≡ Some (Report top)
+        → C.faults clock.old < C.faults clock.new → result ≡ NO_DAY) }
+    ensures door_failed { D.faults door.old < D.faults door.new → result ≡ NO_DOOR }
+    ensures shelf_later { F.faults shelf.old ≤ F.faults shelf.new }
+    ensures sink_later { S.faults out.old ≤ S.faults out.new }
 {
     match line {
         Ok(all) => match words_of(alloc, all) {

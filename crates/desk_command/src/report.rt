@@ -1,16 +1,16 @@
 // The command `report TOP`.
 ghost use Rattle.std.specs.Prelude.{◌≡◌, ◌≢◌, ◌<◌, ◌≤◌, ℕ, IfOk};
 ghost use Rattle.desk_io.specs.Causes.{Rose};
-ghost use Rattle.desk_server.specs.desk_core.Reports.{IsTold, told_in};
+ghost use Rattle.desk_core.specs.Reports.{IsTold, told_in};
 ghost use Rattle.desk_server.specs.Exchanges.{around};
-ghost use Rattle.desk_top.specs.declared.deliver.TheConstants.{UNREAD, UNWRITTEN};
+ghost use Rattle.desk_command.specs.Statuses.{NO_DAY, UNKEPT, UNREAD, UNWRITTEN};
 ghost use Rattle.desk_command.specs.Commands.{IsReport, IsReportOn, IsReported, report_outcome, taken_between};
 
 use crate::ending::{NO_DAY, deliver};
 use crate::starting::refuse;
+use desk_core::{Desk, TopReport};
 use desk_io::{Failed, Sink};
 use desk_links::Clock;
-use desk_server::desk_core::{Desk, TopReport};
 use desk_tables::{Day, Keeper};
 use desk_top::deliver::{DONE, NO_MEMORY, OPEN, REFUSED};
 use rtl_tree::memory::Memory;
@@ -62,7 +62,7 @@ fn report_over<C: Clock, S: Sink>(
     clock: &mut C,
     out: &mut S,
 ) -> u8
-    ensures reported { (keeper keeper' : ℕ) → IsReport top.now desk.old.kept
+    ensures reported { (keeper keeper' : ℕ) → keeper' ≡ keeper → IsReport top.now desk.old.kept
         (around (C.days clock.old) (C.faults clock.old) keeper)
         (around (C.days clock.new) (C.faults clock.new) keeper')
         result (taken_between (S.taken out.old) (S.taken out.new)) }
@@ -70,6 +70,7 @@ fn report_over<C: Clock, S: Sink>(
     ensures read { result ≢ UNREAD }
     ensures failed { S.faults out.old < S.faults out.new → result ≡ UNWRITTEN }
     ensures later { S.faults out.old ≤ S.faults out.new }
+    ensures day_failed { C.faults clock.old < C.faults clock.new → result ≡ NO_DAY }
     ensures later_clock { C.faults clock.old ≤ C.faults clock.new }
 {
     match clock.today() {
@@ -92,6 +93,10 @@ pub(crate) fn report<K: Keeper, C: Clock, S: Sink>(
         (around (C.days clock.new) (C.faults clock.new) (K.count keeper.new))
         result (taken_between (S.taken out.old) (S.taken out.new)) }
     ensures tables { K.tables keeper.new ≡ K.tables keeper.old }
+    ensures load_failed { K.count keeper.old < K.count keeper.new → result ≡ UNKEPT }
+    ensures day_failed { C.faults clock.old < C.faults clock.new → result ≡ NO_DAY }
+    ensures later_keeper { K.count keeper.old ≤ K.count keeper.new }
+    ensures later_clock { C.faults clock.old ≤ C.faults clock.new }
     ensures unwritten { result ≡ UNWRITTEN → Rose (S.faults out.old) (S.faults out.new) }
     ensures read { result ≢ UNREAD }
     ensures failed { S.faults out.old < S.faults out.new → result ≡ UNWRITTEN }

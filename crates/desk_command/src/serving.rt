@@ -2,14 +2,14 @@
 ghost use Rattle.std.specs.Prelude.{◌≡◌, ◌≢◌, ◌≤◌, IfSome, ◌<◌};
 ghost use Rattle.desk_io.specs.Causes.{Rose};
 ghost use Rattle.desk_server.specs.Exchanges.{around};
-ghost use Rattle.desk_top.specs.declared.deliver.TheConstants.{UNREAD, UNWRITTEN};
+ghost use Rattle.desk_command.specs.Statuses.{NO_DOOR, UNREAD, UNWRITTEN};
 ghost use Rattle.desk_command.specs.Commands.{IsEnded, IsLinked, IsServed, taken_between};
 
 use crate::ending::NO_DOOR;
 use crate::starting::refuse;
+use desk_core::Desk;
 use desk_io::{Failed, Sink};
 use desk_links::{Clock, Door};
-use desk_server::desk_core::Desk;
 use desk_server::serve_links;
 use desk_tables::Keeper;
 use desk_top::deliver::DONE;
@@ -33,6 +33,8 @@ fn open<D: Door, K: Keeper, C: Clock>(
     ensures held { IfSome (K.tables keeper.new) (λ held. held ≡ desk.new.kept) }
     ensures read { result ≢ UNREAD }
     ensures written { result ≢ UNWRITTEN }
+    ensures door_failed { D.faults door.old < D.faults door.new → result ≡ NO_DOOR }
+    ensures later_door { D.faults door.old ≤ D.faults door.new }
 {
     match door.listen(port) {
         Ok(()) => match serve_links(alloc, desk, keeper, door, clock, count) {
@@ -61,7 +63,9 @@ pub(crate) fn serve<K: Keeper, C: Clock, D: Door, S: Sink>(
     ensures unwritten { result ≡ UNWRITTEN → Rose (S.faults out.old) (S.faults out.new) }
     ensures read { result ≢ UNREAD }
     ensures failed { S.faults out.old < S.faults out.new → result ≡ UNWRITTEN }
+    ensures door_failed { D.faults door.old < D.faults door.new → result ≡ NO_DOOR }
     ensures later { S.faults out.old ≤ S.faults out.new }
+    ensures later_door { D.faults door.old ≤ D.faults door.new }
 {
     match Desk::start(alloc, keeper) {
         Ok(mut desk) => open(alloc, &mut desk, port, count, keeper, door, clock),

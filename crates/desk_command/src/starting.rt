@@ -3,13 +3,13 @@ ghost use Rattle.std.specs.Prelude.{◌≡◌, ◌≢◌, ◌≤◌, ◌++◌, �
 ghost use Rattle.desk_io.specs.Causes.{Rose};
 ghost use Rattle.desk_tables.specs.Tables.{Kept};
 ghost use Rattle.desk_records.specs.Machine.{table_name};
-ghost use Rattle.desk_server.specs.desk_core.Starting.{IsStart};
-ghost use Rattle.desk_top.specs.declared.deliver.TheConstants.{UNREAD, UNWRITTEN};
+ghost use Rattle.desk_core.specs.Starting.{IsStart};
+ghost use Rattle.desk_command.specs.Statuses.{UNKEPT, UNREAD, UNWRITTEN};
 ghost use Rattle.desk_command.specs.Commands.{IsUnstarted, bad_tables, taken_between};
 
 use crate::ending::{BAD_TABLES, UNKEPT, deliver};
+use desk_core::StartFault;
 use desk_io::Sink;
-use desk_server::desk_core::StartFault;
 use desk_tables::Table;
 use desk_top::deliver::NO_MEMORY;
 use itoa::Buffer;
@@ -53,10 +53,12 @@ fn bad_line(alloc: Global, table: Table, row: usize) -> Result<Vec<u8>, Memory>
 pub(crate) fn refuse<S: Sink>(alloc: Global, fault: StartFault, out: &mut S) -> u8
     ensures refused { (told : Option Kept) (faults faults' : ℕ) → IsStart told (Err fault)
         → (fault ≡ StartFault.Keeper → Rose faults faults')
+        → (fault ≢ StartFault.Keeper → faults' ≡ faults)
         → IsUnstarted told faults faults' result
         (taken_between (S.taken out.old) (S.taken out.new)) }
     ensures unwritten { result ≡ UNWRITTEN → Rose (S.faults out.old) (S.faults out.new) }
     ensures read { result ≢ UNREAD }
+    ensures unkept { fault ≡ StartFault.Keeper → result ≡ UNKEPT }
     ensures failed { S.faults out.old < S.faults out.new → result ≡ UNWRITTEN }
     ensures later { S.faults out.old ≤ S.faults out.new }
 {

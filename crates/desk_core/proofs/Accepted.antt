@@ -9,8 +9,8 @@ use Rattle.desk_tables.specs.Tables.{Kept}
 use Rattle.desk_tables.specs.declared.change.Change.{Change}
 use Rattle.desk_tables.specs.declared.change.Change.TheVariants.{PutFile, DropFile, Grant, Revoke, SignOff}
 use Rattle.desk_tables.specs.declared.rows.ReplyRow.{ReplyRow}
-use Rattle.desk_core.specs.Machine.{AreAccepted, is_accepted}
-use Rattle.desk_core.specs.Serving.{is_answered}
+use Rattle.desk_service.specs.Service.{is_accepted, is_answered}
+use Rattle.desk_core.specs.Machine.{AreAccepted}
 use Rattle.desk_sound.proofs.Tables.{sound_from}
 
 -- a reply to what was accepted

@@ -5,14 +5,14 @@ use Rattle.std.proofs.lemmas.Bool.{and_parts, leb-true, not-false, or_parts}
 use Rattle.std.proofs.lemmas.List.{get_or_default, take_all, take_more}
 use Rattle.std.proofs.lemmas.Grind.{fold-append}
 use Rattle.std.proofs.lemmas.List.Elements.{All-nil}
-use Rattle.rtl_tree.specs.declared.text.TheConstants.{MAX_BYTES}
+use Rattle.desk_files.specs.Limits.{MAX_BYTES}
 use Rattle.desk_tables.specs.Changes as tables
 use Rattle.desk_tables.specs.Changes.{has_name}
 use Rattle.desk_tables.specs.Rules.{broken_row, file_breaks, has_file, is_sound_file}
 use Rattle.desk_tables.specs.Tables.{Kept}
 use Rattle.desk_tables.specs.declared.rows.FileRow.{FileRow}
 use Rattle.desk_files.specs.Sources.{with_file}
-use Rattle.desk_files.specs.declared.files.SourceFile.{SourceFile}
+use Rattle.source_file.specs.declared.SourceFile.{SourceFile}
 use Rattle.desk_core.specs.Files.{AreFilesOf, source_of}
 use Rattle.desk_sound.proofs.Placed.{row_put_past}
 use Rattle.desk_sound.proofs.Tables.{sound_from}

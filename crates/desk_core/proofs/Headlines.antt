@@ -1,6 +1,7 @@
 -- What is signed clean shows in every simulation what its hardware shows.
-use Rattle.std.proofs.Common.{◌≡◌, ◌∙◌, Bool, true, false, ℕ, List, Option, Some, None, get_or, refl, ap, subst, arith}
-use Rattle.std.specs.Prelude.{ℤ, nat_lt, Result, Ok, Err, if◌then◌else◌}
+use Rattle.std.proofs.Common.{◌≡◌, ◌∙◌, Bool, true, false, ℕ, List, [], ◌∷◌, Option, Some, None, drop, get_or, refl, sym, ap, subst, arith}
+use Rattle.std.specs.Prelude.{ℤ, nat_lt, Result, Ok, Err, ◌||◌, if◌then◌else◌}
+use Rattle.std.specs.List.{list_any}
 use Rattle.std.proofs.lemmas.Bool.{cond-true}
 use Rattle.json.specs.Print.{escape_byte}
 use Rattle.rtl_tree.specs.TreeModule.{Circuit}
@@ -10,8 +11,17 @@ use Rattle.design_db.specs.elab_names.Extracts.{extract}
 use Rattle.design_db.specs.elab_names.LookUps.{AreUsed}
 use Rattle.design_db.specs.rtl_elab.Designs.{library_of}
 use Rattle.design_db.specs.rtl_elab.Elaborated.{elaborated}
-use Rattle.design_db.specs.desk_build.Building.{AreSpelled, Front, IsFront, Modules, Faulty}
-use Rattle.desk_files.specs.declared.files.SourceFile.{SourceFile}
+use Rattle.rtl_front.specs.Fronts.{AreSpelled}
+use Rattle.design_db.specs.desk_build.Building.{Front, IsFront, Modules, Faulty}
+use Rattle.source_file.specs.declared.SourceFile.{SourceFile}
+use Rattle.rtl_flat.specs.declared.instance.Instance.{Instance}
+use Rattle.rtl_flat.specs.declared.signal.Signal.{Signal}
+use Rattle.rtl_rule.specs.Rows.{row_of}
+use Rattle.rtl_rule.specs.declared.finding.Finding.{Finding}
+use Rattle.demo_told.specs.declared.demo.Demo.{Demo}
+use Rattle.demo_told.specs.declared.demo.Shown.{Shown}
+use Rattle.desk_rows.specs.declared.Row.{Row}
+use Rattle.desk_report.specs.Tellings.{tellings}
 use Rattle.desk_tables.specs.Changes.{reply_of}
 use Rattle.desk_tables.specs.Tables.{Kept}
 use Rattle.desk_tables.specs.declared.rows.FileRow.{FileRow}
@@ -28,9 +38,10 @@ use Rattle.desk_records.specs.Machine.{by_tables, change_outcome, full_refusal, 
 use Rattle.desk_records.specs.Outcomes.{Outcome, Told, Done, Open, kept_said}
 use Rattle.desk_rulings.specs.Rulings.{Verdict, has_first_grade, left_of, standing_of}
 use Rattle.desk_rulings.specs.SignOffs.{accepted, edited_by, findings_stand, rows_of, signoff_outcome, signoff_row, unless_edited}
-use Rattle.design_db.specs.desk_memo.Fresh.{IsOfDesign, IsOfFront, sources_at, texts_in}
-use Rattle.design_db.specs.desk_memo.declared.answer.Answer.{Answer}
+use Rattle.source_file.specs.SourceFiles.{texts_in}
+use Rattle.design_db.specs.desk_answers.Fresh.{sources_at}
 use Rattle.design_db.specs.desk_memo.declared.answer.Answer.TheVariants.{Ruled, Refused}
+use Rattle.design_db.specs.Answers.{Answer, IsOfDesign, IsOfFront}
 use Rattle.desk_core.specs.Files.{AreFilesOf}
 use Rattle.desk_core.specs.Headline.{IsNewSignOff, IsSignedClean, SaysClean}
 use Rattle.desk_core.specs.Outcomes.{IsJudged, IsJudgedFor, IsOutcome, IsSettled, judged_with, top_of, with_answer}
@@ -71,18 +82,29 @@ signed_by : (stand : Bool) (left : ℕ) (found : Option FileRow) (row : SignOffR
 signed_by true left found row request says = absurd (let no : 409 ≡ 201 = says.accepted in omega (arith, no))
 signed_by false left found row request says = unedited_clean found row request says
 
-signed_clean : (top : List ℕ) (request : Request) (today : ℤ) (kept : Kept) (verdict : Verdict) → SaysCleanIn (signoff_outcome top request today kept verdict) → has_first_grade verdict.findings ≡ false
+signed_clean : (top : List ℕ) (request : Request) (today : ℤ) (kept : Kept) (verdict : Verdict) → SaysCleanIn (signoff_outcome top request today kept verdict) → has_first_grade verdict.rows ≡ false
 signed_clean top request today kept verdict says =
-    let left : ℕ = left_of verdict.findings (standing_of today kept verdict) in
-    first_clean (has_first_grade verdict.findings)
+    let left : ℕ = left_of (standing_of today kept verdict) in
+    first_clean (has_first_grade verdict.rows)
     (signed_by (nat_lt 0 left) left (edited_by request.user (rows_of kept.files verdict.reached))
     (signoff_row top request today kept verdict) request says)
 
 -- ---- the design of an answer
 
+-- whether a row is of the first grade is settled by its finding
+graded_rows : (signals : List Signal) (instances : List Instance) (found : List Finding) (shown : List (Option (Demo × Shown))) → has_first_grade (tellings signals instances found shown) ≡ list_any (λ finding. (row_of finding.rule).first_grade) found
+graded_rows signals instances [] shown = refl
+graded_rows signals instances (one ∷ others) shown =
+    ap (λ b. (row_of one.rule).first_grade || b) (graded_rows signals instances others (drop 1 shown))
+
+rows_clean : (signals : List Signal) (instances : List Instance) (found : List Finding) (shown : List (Option (Demo × Shown))) (rows : List Row) → rows ≡ tellings signals instances found shown → has_first_grade rows ≡ false → list_any (λ finding. (row_of finding.rule).first_grade) found ≡ false
+rows_clean signals instances found shown rows are clean =
+    sym (ap has_first_grade are ∙ graded_rows signals instances found shown) ∙ clean
+
 of_design : (kept : Kept) (top : List ℕ) (files : List SourceFile) → AreFilesOf kept.files files → (circuits : List (List Circuit)) → AreSpelled (texts_in files) circuits → (numbers : List ℕ) → AreUsed (library_of circuits) top numbers → (made : Result DesignParts Fault) → elaborated (extract numbers (library_of circuits)) top ≡ made → (answer : Answer) → IsOfDesign (sources_at numbers files) made answer → (request : Request) (today : ℤ) → SaysCleanIn (judged_with (ask.SignOff top) request today kept files answer) → IsSignedClean kept top
 of_design kept top files are circuits spelled numbers used (Ok flat) same (Ruled verdict reached) is request today says =
-    let clean : has_first_grade verdict.ruling.findings.items ≡ false = signed_clean top request today kept (verdict_in files verdict reached.items) says in
+    let graded : has_first_grade verdict.rows.items ≡ false = signed_clean top request today kept (verdict_in files verdict reached.items) says in
+    let clean = rows_clean flat.parts.flat.signals flat.instances is.0.found is.0.shown verdict.rows.items is.0.told_is graded in
     record {
       files = files;
       are_files = are;
@@ -92,7 +114,7 @@ of_design kept top files are circuits spelled numbers used (Ok flat) same (Ruled
       used = used;
       design = flat;
       flat = same;
-      findings = verdict.ruling.findings.items;
+      findings = is.0.found;
       found = is.0.are_all;
       clean = clean;
       promised = is.0.promised clean;
@@ -145,9 +167,9 @@ served_clean request today kept top kept' answer (Accepted change is) new says =
     outcome_clean request today kept top (Done change) new is says
 
 pub headline : (request : Request) (today : ℤ) (faults faults' : ℕ) (kept : Kept) (top : List ℕ) (kept' : Kept) (answer : Said) → Serves request today faults faults' kept kept' answer → IsNewSignOff request kept top → SaysClean answer → IsSignedClean kept top
-headline request today faults faults' kept top kept' answer (Served after told is) new says =
+headline request today faults faults' kept top kept' answer (Served after told is calm) new says =
     served_clean request today kept top after told is new says
 headline request today faults faults' kept top kept' answer (Unavailable rose) new says =
     absurd (let no : 503 ≡ 201 = says.accepted in omega (arith, no))
-headline request today faults faults' kept top kept' answer OutOfMemory new says =
+headline request today faults faults' kept top kept' answer (OutOfMemory calm) new says =
     absurd (let no : 507 ≡ 201 = says.accepted in omega (arith, no))

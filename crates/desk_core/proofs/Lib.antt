@@ -2,9 +2,9 @@ pub mod Accepted
 pub mod Files
 pub mod FirstFiles
 pub mod Headlines
+mod Known
 pub mod Made
 pub mod Named
-pub mod Paired
 pub mod Places
 pub mod Rules
 pub mod Same

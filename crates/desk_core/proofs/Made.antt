@@ -7,10 +7,10 @@ use Rattle.desk_tables.specs.Tables.{Kept}
 use Rattle.desk_tables.specs.declared.change.Change.{Change}
 use Rattle.desk_requests.specs.Replies.{Said}
 use Rattle.desk_requests.specs.declared.ask.Request.{Request}
+use Rattle.desk_service.specs.Service.{is_accepted, is_answered, no_memory, unavailable}
 use Rattle.desk_records.specs.Outcomes.{Told, Done, kept_said}
 use Rattle.desk_core.specs.Outcomes.{IsOutcome}
-use Rattle.desk_core.specs.Serving.{is_answered, Answered, Accepted, Serves, Served, Unavailable, OutOfMemory, no_memory, unavailable}
-use Rattle.desk_core.specs.Machine.{is_accepted}
+use Rattle.desk_core.specs.Serving.{Answered, Accepted, Serves, Served, Unavailable, OutOfMemory}
 use Rattle.desk_core.proofs.Accepted.{accepted_answered}
 use Rattle.desk_core.specs.Steps.{IsMade, Made, Unkept, NoMemory}
 
@@ -43,20 +43,20 @@ serves_made request today change faults faults' kept records kept' answer same i
   where
     by : (after : Kept) (says : Said) → IsMade change faults faults' records after says → Serves request today faults faults' records after says
     by after says (Made still) =
-        Served (changed change records) (kept_said (reply_of change)) (Accepted change is)
+        Served (changed change records) (kept_said (reply_of change)) (Accepted change is) still
     by after says (Unkept rose) = Unavailable rose
-    by after says (NoMemory still) = OutOfMemory
+    by after says (NoMemory still) = OutOfMemory still
 
-pub serves_told : (request : Request) (today : ℤ) (faults faults' : ℕ) (kept records : Kept) (answer : Said) → records ≡ kept → IsOutcome request today records (Told answer) → Serves request today faults faults' kept records answer
-serves_told request today faults faults' kept records answer same is =
+pub serves_told : (request : Request) (today : ℤ) (faults faults' : ℕ) (kept records : Kept) (answer : Said) → records ≡ kept → IsOutcome request today records (Told answer) → faults' ≡ faults → Serves request today faults faults' kept records answer
+serves_told request today faults faults' kept records answer same is calm =
     let P : Kept → Type 0 = λ it. Serves request today faults faults' it records answer in
-    subst P same (Served records answer (Answered answer is))
+    subst P same (Served records answer (Answered answer is) calm)
 
-pub serves_none : (request : Request) (today : ℤ) (faults faults' : ℕ) (kept records : Kept) (answer : Said) → records ≡ kept → answer ≡ no_memory → Serves request today faults faults' kept records answer
-serves_none request today faults faults' kept records answer same says =
+pub serves_none : (request : Request) (today : ℤ) (faults faults' : ℕ) (kept records : Kept) (answer : Said) → records ≡ kept → answer ≡ no_memory → faults' ≡ faults → Serves request today faults faults' kept records answer
+serves_none request today faults faults' kept records answer same says calm =
     let P : Kept → Type 0 = λ it. Serves request today faults faults' it records answer in
     let Q : Said → Type 0 = λ it. Serves request today faults faults' records records it in
-    subst P same (subst Q (sym says) OutOfMemory)
+    subst P same (subst Q (sym says) (OutOfMemory calm))
 
 -- ---- statuses
 

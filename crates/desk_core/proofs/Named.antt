@@ -3,12 +3,12 @@ use Rattle.std.proofs.Common.{◌≡◌, Bor, ℕ, ◌≤◌, Bool, true, false,
 use Rattle.std.specs.Prelude.{find, IfSome}
 use Rattle.std.specs.List.{All, cons_option}
 use Rattle.std.proofs.lemmas.List.Elements.{All-cons, All-head, All-nil, All-tail}
-use Rattle.rtl_tree.specs.declared.text.TheConstants.{MAX_BYTES}
+use Rattle.desk_files.specs.Limits.{MAX_BYTES}
 use Rattle.desk_files.specs.Sources.{is_named}
-use Rattle.desk_files.specs.declared.files.SourceFile.{SourceFile}
+use Rattle.source_file.specs.declared.SourceFile.{SourceFile}
 use Rattle.design_db.specs.desk_verdict.declared.verdict.Verdict.{Verdict as Made}
 use Rattle.desk_rulings.specs.Rulings.{Verdict}
-use Rattle.design_db.specs.desk_memo.Orders.{AreShort}
+use Rattle.source_file.specs.SourceFiles.{AreShort}
 use Rattle.desk_core.specs.Reports.{files_named, verdict_in}
 
 -- ---- they are short where all files are

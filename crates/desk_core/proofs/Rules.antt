@@ -4,7 +4,7 @@ use Rattle.std.specs.Prelude.{ℤ}
 use Rattle.desk_tables.specs.Rules.{broken_row}
 use Rattle.desk_tables.specs.Tables.{Kept}
 use Rattle.desk_tables.specs.declared.change.Change.{Change}
-use Rattle.desk_files.specs.declared.files.SourceFile.{SourceFile}
+use Rattle.source_file.specs.declared.SourceFile.{SourceFile}
 use Rattle.desk_requests.specs.Replies.{Said}
 use Rattle.desk_requests.specs.declared.ask.Ask.{Ask}
 use Rattle.desk_requests.specs.declared.ask.Ask.TheVariants as ask
@@ -14,8 +14,8 @@ use Rattle.desk_records.specs.Machine.{request_outcome}
 use Rattle.desk_records.specs.Outcomes.{Outcome, Told, Done, Open}
 use Rattle.desk_sound.specs.Lawful.{ByTables, IsAccepted, IsLawful, SignedOff, Waived}
 use Rattle.desk_sound.proofs.RulesKept.{rules_kept}
-use Rattle.design_db.specs.desk_memo.declared.answer.Answer.{Answer}
 use Rattle.design_db.specs.desk_memo.declared.answer.Answer.TheVariants.{Ruled, Refused}
+use Rattle.design_db.specs.Answers.{Answer}
 use Rattle.desk_core.specs.Reports.{verdict_in}
 use Rattle.desk_core.specs.Outcomes.{IsJudged, IsJudgedFor, IsOutcome, IsSettled, top_of, with_answer}
 use Rattle.desk_core.specs.Serving.{Accepted, Answered, IsServed, OutOfMemory, Served, Serves, Unavailable}
@@ -67,7 +67,7 @@ served_keeps request today kept kept' answer lawful none (Accepted change is) =
 
 -- whatever a request comes to, tables that break no rule break none after it
 pub serves_keeps : (request : Request) (today : ℤ) (faults faults' : ℕ) (kept kept' : Kept) (answer : Said) → IsLawful request → broken_row kept ≡ None → Serves request today faults faults' kept kept' answer → broken_row kept' ≡ None
-serves_keeps request today faults faults' kept kept' answer lawful none (Served kept'' said served) =
+serves_keeps request today faults faults' kept kept' answer lawful none (Served kept'' said served calm) =
     served_keeps request today kept kept'' said lawful none served
 serves_keeps request today faults faults' kept kept' answer lawful none (Unavailable rose) = none
-serves_keeps request today faults faults' kept kept' answer lawful none OutOfMemory = none
+serves_keeps request today faults faults' kept kept' answer lawful none (OutOfMemory calm) = none

@@ -11,7 +11,7 @@ use Rattle.desk_tables.specs.declared.rows.SignOffRow.{SignOffRow}
 use Rattle.desk_tables.specs.declared.rows.Table.{Table}
 use Rattle.desk_tables.specs.declared.rows.WaiverId.{WaiverId}
 use Rattle.desk_tables.specs.declared.rows.WaiverRow.{WaiverRow}
-use Rattle.desk_files.specs.declared.files.SourceFile.{SourceFile}
+use Rattle.source_file.specs.declared.SourceFile.{SourceFile}
 use Rattle.waiver_book.specs.declared.fault.RevokeFault.{RevokeFault}
 use Rattle.waiver_book.specs.declared.fault.RevokeFault.TheVariants.{NoSuchWaiver, NotOwner, Ended}
 use Rattle.waiver_book.specs.declared.fault.WaiveFault.{WaiveFault}
@@ -21,15 +21,16 @@ use Rattle.desk_requests.specs.declared.ask.Ask.{Ask}
 use Rattle.desk_requests.specs.declared.ask.Ask.TheVariants as ask
 use Rattle.desk_requests.specs.declared.ask.Request.{Request}
 use Rattle.desk_requests.specs.declared.ask.WaiverAsk.{WaiverAsk}
+use Rattle.desk_service.specs.Service.{is_accepted}
 use Rattle.desk_bodies.specs.Refusals.{conflict_with, word_line}
 use Rattle.desk_records.specs.Machine.{by_tables, change_outcome, drop_outcome, file_answer, full_table, is_to, request_outcome, revocation, revoke_outcome, revoke_refusal, unless_full, unless_kept}
 use Rattle.desk_records.specs.Outcomes.{Outcome, Told, Done, Open, kept_said}
 use Rattle.desk_rulings.specs.Grants.{asked_site, grant_unless, refused_at, waive_at, waive_outcome, waiver_row}
 use Rattle.desk_rulings.specs.Rulings.{Site, Verdict, left_of, standing_of}
 use Rattle.desk_rulings.specs.SignOffs.{accepted, edited_by, findings_stand, rows_of, signoff_outcome, signoff_row, unless_edited}
-use Rattle.design_db.specs.desk_memo.declared.answer.Answer.{Answer}
 use Rattle.design_db.specs.desk_memo.declared.answer.Answer.TheVariants.{Ruled, Refused}
-use Rattle.desk_core.specs.Machine.{AreAccepted, is_accepted}
+use Rattle.design_db.specs.Answers.{Answer}
+use Rattle.desk_core.specs.Machine.{AreAccepted}
 use Rattle.desk_core.specs.Outcomes.{IsJudgedFor, IsOutcome, IsSettled, top_of, with_answer}
 use Rattle.desk_core.specs.Reports.{telling, verdict_in}
 use Rattle.desk_core.proofs.Accepted.{found_accepted}
@@ -131,7 +132,7 @@ signed_by false left found row request = unedited found row request
 
 signed : (top : List ℕ) (request : Request) (today : ℤ) (kept : Kept) (verdict : Verdict) → Sound (signoff_outcome top request today kept verdict)
 signed top request today kept verdict =
-    let left : ℕ = left_of verdict.findings (standing_of today kept verdict) in
+    let left : ℕ = left_of (standing_of today kept verdict) in
     signed_by (nat_lt 0 left) left (edited_by request.user (rows_of kept.files verdict.reached))
     (signoff_row top request today kept verdict) request
 

@@ -2,13 +2,12 @@
 use Rattle.std.proofs.Common.{◌≡◌, ◌∙◌, ℕ, List, Option, Some, sym, ap, subst}
 use Rattle.std.specs.Prelude.{ℤ, IfOk, IfSome, Ok, Err, Result}
 use Rattle.rtl_tree.specs.declared.memory.Memory.{Memory}
-use Rattle.desk_files.specs.declared.files.SourceFile.{SourceFile}
+use Rattle.source_file.specs.declared.SourceFile.{SourceFile}
 use Rattle.desk_tables.specs.Tables.{Kept}
 use Rattle.desk_requests.specs.declared.ask.Request.{Request}
 use Rattle.desk_records.specs.Outcomes.{outcome}
 use Rattle.desk_records.specs.declared.decision.Decision.{Decision}
-use Rattle.design_db.specs.desk_memo.Fresh.{IsFresh}
-use Rattle.design_db.specs.desk_memo.declared.answer.Answer.{Answer}
+use Rattle.design_db.specs.Answers.{Answer, IsFresh}
 use Rattle.desk_core.specs.Files.{AreFilesOf}
 use Rattle.desk_core.specs.Outcomes.{IsJudgedFor, top_of, with_answer}
 use Rattle.desk_core.specs.Reports.{IsTold, telling, told_in}

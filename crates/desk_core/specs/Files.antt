@@ -7,8 +7,9 @@ use Rattle.desk_tables.specs.declared.change.Change.{Change}
 use Rattle.desk_tables.specs.declared.change.Change.TheVariants.{PutFile, DropFile, Grant, Revoke, SignOff}
 use Rattle.desk_tables.specs.declared.rows.FileRow.{FileRow}
 use Rattle.desk_files.specs.Sources.{is_named, with_file, without_file}
-use Rattle.desk_files.specs.declared.files.SourceFile.{SourceFile}
-use Rattle.design_db.specs.desk_memo.Orders.{AreInOrder, AreShort}
+use Rattle.source_file.specs.declared.SourceFile.{SourceFile}
+use Rattle.design_db.specs.desk_memo.Orders.{AreInOrder}
+use Rattle.source_file.specs.SourceFiles.{AreShort}
 
 -- the file of a row
 abbrev pub source_of : FileRow → SourceFile

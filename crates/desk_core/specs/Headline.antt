@@ -10,8 +10,8 @@ use Rattle.design_db.specs.elab_names.Extracts.{extract}
 use Rattle.design_db.specs.elab_names.LookUps.{AreUsed}
 use Rattle.design_db.specs.rtl_elab.Designs.{library_of}
 use Rattle.design_db.specs.rtl_elab.Elaborated.{elaborated}
-use Rattle.design_db.specs.desk_build.Building.{AreSpelled}
-use Rattle.desk_files.specs.declared.files.SourceFile.{SourceFile}
+use Rattle.rtl_front.specs.Fronts.{AreSpelled}
+use Rattle.source_file.specs.declared.SourceFile.{SourceFile}
 use Rattle.desk_tables.specs.Tables.{Kept}
 use Rattle.desk_tables.specs.declared.rows.Grade.TheVariants.{Clean}
 use Rattle.desk_requests.specs.Replies.{Said}
@@ -20,7 +20,7 @@ use Rattle.desk_requests.specs.declared.ask.Request.{Request}
 use Rattle.desk_requests.specs.declared.ask.Ask.TheVariants.{SignOff}
 use Rattle.desk_bodies.specs.Bodies.{granted_text}
 use Rattle.desk_records.specs.Machine.{is_to}
-use Rattle.design_db.specs.desk_memo.Fresh.{texts_in}
+use Rattle.source_file.specs.SourceFiles.{texts_in}
 use Rattle.desk_core.specs.Files.{AreFilesOf}
 
 -- the request asks for a sign-off of the module, and no reply is kept for it
@@ -51,3 +51,8 @@ pub record IsSignedClean (kept : Kept) (top : List ℕ) : Type 0 where
   pub found : AreAllFindings design.parts findings
   pub clean : IsClean findings
   pub promised : IsPromised design.parts.flat
+
+-- a reply that says that a new sign-off of a module is clean says so of a module that is
+abbrev pub IsTrustworthy : Request → Kept → Said → Type 0
+IsTrustworthy request kept answer =
+    (top : List ℕ) → IsNewSignOff request kept top → SaysClean answer → IsSignedClean kept top

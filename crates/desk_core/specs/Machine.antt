@@ -1,9 +1,13 @@
 -- The desk as contracts see it.
 -- Worked examples: crates/tests_desk/src/rows.rt.
-use Rattle.std.specs.Prelude.{◌≡◌, ◌==◌, ◌||◌, ℕ, Bool, true, List, IsSome}
+use Rattle.std.specs.Prelude.{◌≡◌, ℕ, ⊤, true, List, Option, Some, None, IsSome}
 use Rattle.std.specs.List.{All}
 use Rattle.desk_tables.specs.Tables.{Kept}
 use Rattle.desk_tables.specs.declared.rows.ReplyRow.{ReplyRow}
+use Rattle.desk_requests.specs.declared.ask.Ask.{Ask}
+use Rattle.desk_requests.specs.declared.ask.Ask.TheVariants as ask
+use Rattle.desk_service.specs.Service.{is_accepted}
+use Rattle.design_db.specs.desk_memo.Rulings.{others_of}
 use Rattle.design_db.specs.Stores.{Store, answer_of, lasting_answer}
 use Rattle.desk_core.specs.Files.{AreFilesOf}
 
@@ -11,10 +15,6 @@ use Rattle.desk_core.specs.Files.{AreFilesOf}
 pub record Machine : Type 0 where
   pub kept : Kept
   pub store : Store
-
--- the statuses of what is accepted
-abbrev pub is_accepted : ℕ → Bool
-is_accepted status = status == 200 || status == 201
 
 -- each reply that is kept says that its request was accepted
 abbrev pub AreAccepted : List ReplyRow → Type 0
@@ -24,6 +24,16 @@ AreAccepted replies = All (λ row. is_accepted row.status ≡ true) replies
 pub record IsMachine (machine : Machine) : Type 0 where
   pub are_files : AreFilesOf machine.kept.files machine.store.files
   pub accepted : AreAccepted machine.kept.replies
+
+-- where a ruling is asked for, the answer of its module is known
+abbrev pub IsKnown : Ask → Store → Type 0
+IsKnown (ask.Ruling top) store = IsSome (answer_of store top)
+IsKnown _ store = ⊤
+
+-- what is kept of the modules stays, but for that which is looked at
+abbrev pub KeepsOthers : Option (List ℕ) → Store → Store → Type 0
+KeepsOthers None old new = (new.rulings ≡ old.rulings) × (new.absent ≡ old.absent)
+KeepsOthers (Some top) old new = others_of top new.rulings ≡ others_of top old.rulings
 
 -- each answer that was there is as before, but for that of the last absent top
 abbrev pub KeepsAnswers : Store → Store → Type 0

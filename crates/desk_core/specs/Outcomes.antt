@@ -1,27 +1,21 @@
 -- What each request comes to, with what the files say where the tables alone don't settle it.
 -- Worked examples: crates/tests_desk/src/rows.rt.
 use Rattle.std.specs.Prelude.{◌≡◌, ℕ, ℤ, List, Option, Some, None, if◌then◌else◌}
-use Rattle.desk_files.specs.declared.files.SourceFile.{SourceFile}
+use Rattle.source_file.specs.declared.SourceFile.{SourceFile}
 use Rattle.desk_tables.specs.Tables.{Kept}
-use Rattle.desk_requests.specs.Replies.{Said}
 use Rattle.desk_requests.specs.declared.ask.Ask.{Ask}
 use Rattle.desk_requests.specs.declared.ask.Ask.TheVariants as ask
 use Rattle.desk_requests.specs.declared.ask.Request.{Request}
-use Rattle.desk_requests.specs.declared.reply.BodyKind.TheVariants.{Plain}
+use Rattle.desk_service.specs.Service.{plainly}
 use Rattle.desk_records.specs.Machine.{request_outcome}
 use Rattle.desk_records.specs.Outcomes.{Outcome, Told, Done, Open}
 use Rattle.desk_rulings.specs.Grants.{waive_outcome}
 use Rattle.desk_rulings.specs.Rulings.{Verdict}
 use Rattle.desk_rulings.specs.SignOffs.{signoff_outcome}
-use Rattle.design_db.specs.desk_memo.Fresh.{IsFresh}
-use Rattle.design_db.specs.desk_memo.declared.answer.Answer.{Answer}
 use Rattle.design_db.specs.desk_memo.declared.answer.Answer.TheVariants.{Ruled, Refused}
+use Rattle.design_db.specs.Answers.{Answer, IsFresh}
 use Rattle.desk_core.specs.Files.{AreFilesOf}
 use Rattle.desk_core.specs.Reports.{Telling, telling, verdict_in}
-
--- a text is answered
-abbrev pub plainly : ℕ → List ℕ → Said
-plainly status text = record { status = status; kind = Plain; body = text }
 
 -- the module has no design, and this line says why
 abbrev pub refusal : List ℕ → Outcome

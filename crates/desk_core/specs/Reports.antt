@@ -4,13 +4,12 @@ use Rattle.std.specs.Prelude.{◌≡◌, ℕ, ℤ, Bool, true, false, find, List
 use Rattle.std.specs.List.{filter_map}
 use Rattle.desk_report.specs.Reports.{report_text}
 use Rattle.desk_files.specs.Sources.{is_named}
-use Rattle.desk_files.specs.declared.files.SourceFile.{SourceFile}
+use Rattle.source_file.specs.declared.SourceFile.{SourceFile}
 use Rattle.desk_tables.specs.Tables.{Kept}
 use Rattle.design_db.specs.desk_verdict.declared.verdict.Verdict.{Verdict as Made}
 use Rattle.desk_rulings.specs.Rulings.{Verdict, left_of, standing_of}
-use Rattle.design_db.specs.desk_memo.Fresh.{IsFresh, sources_in}
-use Rattle.design_db.specs.desk_memo.declared.answer.Answer.{Answer}
 use Rattle.design_db.specs.desk_memo.declared.answer.Answer.TheVariants.{Ruled, Refused}
+use Rattle.design_db.specs.Answers.{Answer, IsFresh}
 use Rattle.desk_core.specs.Files.{AreFilesOf}
 use Rattle.desk_core.specs.declared.report.TopReport.{TopReport}
 
@@ -22,8 +21,7 @@ files_named names files = filter_map (λ name. find (is_named name) files) names
 -- among those that the module uses
 abbrev pub verdict_in : List SourceFile → Made → List (List ℕ) → Verdict
 verdict_in files made reached = record {
-  findings = made.ruling.findings.items;
-  told = made.told.items;
+  rows = made.rows.items;
   files = files_named reached files;
   reached = reached;
 }
@@ -39,12 +37,11 @@ pub record Telling : Type 0 where
 abbrev pub ruled_telling : List ℕ → ℤ → Kept → List SourceFile → Made → List (List ℕ) → Telling
 ruled_telling top today kept files made reached =
     let verdict = verdict_in files made reached in
-    let waivers = standing_of today kept verdict in
+    let rows = standing_of today kept verdict in
     record {
-      bytes = report_text top (sources_in verdict.files) verdict.findings verdict.told waivers
-          made.ruling.clean made.ruling.firm;
+      bytes = report_text top verdict.files rows made.clean made.firm;
       refused = false;
-      left = left_of verdict.findings waivers;
+      left = left_of rows;
     }
 
 -- the line of a refusal

@@ -1,20 +1,20 @@
 -- It serves inner contracts and proofs; no answer of the program is stated by it.
--- What the files do with a change, and what findings an answer has.
+-- What the files do with a change.
 use Rattle.std.specs.Prelude.{◌≡◌, ◌≤◌, ℕ, List, length, ⊤}
-use Rattle.rtl_tree.specs.declared.text.TheConstants.{MAX_BYTES}
+use Rattle.desk_files.specs.Limits.{MAX_BYTES}
 use Rattle.desk_io.specs.Causes.{Rose}
 use Rattle.desk_files.specs.Sources.{with_file, without_file}
-use Rattle.desk_files.specs.declared.files.SourceFile.{SourceFile}
+use Rattle.source_file.specs.declared.SourceFile.{SourceFile}
 use Rattle.desk_tables.specs.Changes.{changed, reply_of}
 use Rattle.desk_tables.specs.Tables.{Kept}
 use Rattle.desk_tables.specs.declared.change.Change.{Change}
 use Rattle.desk_tables.specs.declared.change.Change.TheVariants.{PutFile, DropFile, Grant, Revoke, SignOff}
 use Rattle.desk_requests.specs.Replies.{Said}
+use Rattle.desk_service.specs.Service.{no_memory, unavailable}
 use Rattle.desk_records.specs.Outcomes.{kept_said}
-use Rattle.design_db.specs.desk_memo.declared.answer.Answer.{Answer}
 use Rattle.design_db.specs.desk_memo.declared.answer.Answer.TheVariants.{Ruled, Refused}
 use Rattle.design_db.specs.Stores.{Store, answer_of}
-use Rattle.desk_core.specs.Serving.{no_memory, unavailable}
+use Rattle.design_db.specs.Answers.{Answer}
 use Rattle.desk_core.specs.declared.next.Next.{Next}
 use Rattle.desk_core.specs.declared.next.Next.TheVariants.{Puts, Drops, Stays}
 
@@ -38,15 +38,12 @@ CanFollow (Puts ready) room = (1 ≤ room) × (length ready.file.text ≤ MAX_BY
 CanFollow (Drops name) room = ⊤
 CanFollow Stays room = ⊤
 
--- the files stay, and so do all answers
+-- the files stay, and so do all answers and rulings
 pub record IsSameStore (old new : Store) : Type 0 where
   pub files : new.files ≡ old.files
   pub answers : (top : List ℕ) → answer_of new top ≡ answer_of old top
-
--- something is told of each finding
-abbrev pub IsPaired : Answer → Type 0
-IsPaired (Ruled made reached) = length made.ruling.findings.items ≡ length made.told.items
-IsPaired (Refused line) = ⊤
+  pub rulings : new.rulings ≡ old.rulings
+  pub absent : new.absent ≡ old.absent
 
 -- a change is made whole; or the keeper failed, or there was no memory, and then the tables stay
 pub data IsMade (change : Change) (faults faults' : ℕ) (kept : Kept) : Kept → Said → Type 0 where

@@ -1,5 +1,4 @@
 // The desk.
-ghost use Rattle.std.specs.Prelude.{◌≡◌};
 
 use design_db::Db;
 use desk_records::Records;
@@ -28,13 +27,4 @@ impl Model for Desk {
     ghost view = { λ desk. record { kept = desk.records; store = desk.db } };
 
     ghost invariant = { λ desk. IsMachine (record { kept = desk.records; store = desk.db }) };
-}
-
-impl Desk {
-    /// The desk's files, with what they said of modules.
-    pub fn db(&self) -> &Db
-        ensures { result.now ≡ self.now.store }
-    {
-        &self.db
-    }
 }

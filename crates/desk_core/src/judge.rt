@@ -4,23 +4,24 @@ ghost use Rattle.desk_tables.specs.Tables.{kept_of};
 ghost use Rattle.desk_records.specs.Machine.{request_outcome};
 ghost use Rattle.desk_records.specs.Outcomes.{Open, outcome};
 ghost use Rattle.desk_rulings.specs.Rulings.{verdict_of};
-ghost use Rattle.design_db.specs.desk_memo.Orders.{AreShort};
+ghost use Rattle.source_file.specs.SourceFiles.{AreShort};
+ghost use Rattle.design_db.specs.desk_memo.Rulings.{others_of};
 ghost use Rattle.design_db.specs.Stores.{answer_of};
 ghost use Rattle.desk_core.specs.Files.{AreFilesOf};
-ghost use Rattle.desk_core.specs.Machine.{KeepsAnswers};
+ghost use Rattle.desk_core.specs.Machine.{IsKnown, KeepsAnswers, KeepsOthers};
 ghost use Rattle.desk_core.specs.Outcomes.{IsJudgedFor, IsOutcome, judged_with, refusal, ruling_outcome, top_of, with_answer, with_ruling};
 ghost use Rattle.desk_core.specs.Reports.{told_in};
-ghost use Rattle.desk_core.specs.Steps.{IsPaired};
 
 use crate::replies::plainly;
 use crate::report::{TopReport, files_named, report_of, ruled_of};
-use design_db::{Answer, Db, SourceFile};
+use design_db::{Answer, Db};
 use desk_records::{Decision, Records};
 use desk_requests::{Ask, Request};
 use desk_rulings::{Ruled, sign_off, waive};
 use desk_tables::{Day, Tables};
 use rtl_tree::memory::Memory;
 use rtl_tree::text::Text;
+use source_file::SourceFile;
 use std::alloc::Global;
 use std::marker::Brand;
 use std::sync::ledger::{Blank, Ledger};
@@ -45,6 +46,7 @@ fn count_ruling<L: Ledger>(db: &mut Db, top: &Text, blank: Blank) -> Result<(), 
     ensures answered { OnOk result (IsSome (answer_of db.new top.now)) }
     ensures kept { IsSome (answer_of db.old top.now) → db.new ≡ db.old }
     ensures lasting { KeepsAnswers db.old db.new }
+    ensures others { others_of top.now db.new.rulings ≡ others_of top.now db.old.rulings }
     ensures same { OnErr result (db.new ≡ db.old) }
 {
     let mut steps = Steps::<L>::new(blank);
@@ -57,6 +59,7 @@ pub(crate) fn rule(db: &mut Db, top: &Text) -> Result<(), Memory>
     ensures answered { OnOk result (IsSome (answer_of db.new top.now)) }
     ensures kept { IsSome (answer_of db.old top.now) → db.new ≡ db.old }
     ensures lasting { KeepsAnswers db.old db.new }
+    ensures others { others_of top.now db.new.rulings ≡ others_of top.now db.old.rulings }
     ensures same { OnErr result (db.new ≡ db.old) }
 {
     count_ruling::<Brand>(db, top, Blank::new(1))
@@ -84,7 +87,6 @@ fn with_ruling(
     today: Day,
 ) -> Result<Decision, Memory>
     requires open { request_outcome request.now today (kept_of tables.now) ≡ Open }
-    requires as_many { length ruled.now.findings.now ≡ length ruled.now.told.now }
     requires short { AreShort (verdict_of ruled.now).files }
     ensures { IfOk result (λ made. outcome made ≡ with_ruling request.now.ask request.now today
         (kept_of tables.now) (verdict_of ruled.now)) }
@@ -106,7 +108,6 @@ fn judged_with(
     today: Day,
 ) -> Result<Decision, Memory>
     requires open { request_outcome request.now today (kept_of tables.now) ≡ Open }
-    requires paired { IsPaired answer.now }
     requires short { AreShort files.now }
     ensures { IfOk result (λ made. outcome made ≡ judged_with request.now.ask request.now today
         (kept_of tables.now) files.now answer.now) }
@@ -131,7 +132,6 @@ fn with_answer(
     today: Day,
 ) -> Result<Decision, Memory>
     requires open { request_outcome request.now today (kept_of tables.now) ≡ Open }
-    requires paired { IsPaired answer.now }
     requires short { AreShort files.now }
     ensures { IfOk result (λ made. outcome made ≡ with_answer request.now.ask request.now today
         (kept_of tables.now) files.now answer.now) }
@@ -157,8 +157,10 @@ fn judge(
     requires files { AreFilesOf records.now.files db.old.files }
     ensures is { IfOk result (λ made.
         IsJudgedFor request.now today records.now (top_of request.now.ask) (outcome made)) }
+    ensures known { OnOk result (IsKnown request.now.ask db.new) }
     ensures files { db.new.files ≡ db.old.files }
     ensures lasting { KeepsAnswers db.old db.new }
+    ensures others { KeepsOthers (top_of request.now.ask) db.old db.new }
 {
     // Only these requests look at a module.
     let Some(top) = top_of(&request.ask) else {
@@ -184,8 +186,10 @@ pub(crate) fn decide(
 ) -> Result<Decision, Memory>
     requires { AreFilesOf records.now.files db.old.files }
     ensures is { IfOk result (λ made. IsOutcome request.now today records.now (outcome made)) }
+    ensures known { OnOk result (IsKnown request.now.ask db.new) }
     ensures files { db.new.files ≡ db.old.files }
     ensures lasting { KeepsAnswers db.old db.new }
+    ensures others { KeepsOthers (top_of request.now.ask) db.old db.new }
 {
     match records.decide(request, today) {
         Ok(Decision::Open) => judge(alloc, records, db, request, today),

@@ -9,6 +9,7 @@ mod next;
 mod replies;
 mod report;
 mod serve;
+mod service;
 mod start;
 
 pub use desk::Desk;

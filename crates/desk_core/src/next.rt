@@ -1,6 +1,6 @@
 // What the files do with a change.
 ghost use Rattle.std.specs.Prelude.{◌≡◌, List, IfOk};
-ghost use Rattle.desk_files.specs.declared.files.SourceFile.{SourceFile};
+ghost use Rattle.source_file.specs.declared.SourceFile.{SourceFile};
 ghost use Rattle.desk_core.specs.Files.{files_changed};
 ghost use Rattle.desk_core.specs.Steps.{CanFollow, IsSameStore, IsShortChange, files_next};
 
@@ -36,7 +36,9 @@ pub(crate) fn next_of(alloc: Global, db: &mut Db, change: &Change) -> Result<Nex
 // Does it.
 pub(crate) fn follow(db: &mut Db, next: Next)
     requires { CanFollow next db.old.room }
-    ensures { db.new.files ≡ files_next next db.old.files }
+    ensures files { db.new.files ≡ files_next next db.old.files }
+    ensures rulings { db.new.rulings ≡ db.old.rulings }
+    ensures absent { db.new.absent ≡ db.old.absent }
 {
     match next {
         Next::Puts(ready) => db.put_ready(ready),

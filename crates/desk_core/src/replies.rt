@@ -1,8 +1,7 @@
 // Replies that are no answer of the machine, and plain ones.
 ghost use Rattle.std.specs.Prelude.{◌≡◌, IfOk};
 ghost use Rattle.desk_requests.specs.Replies.{said};
-ghost use Rattle.desk_core.specs.Outcomes.{plainly};
-ghost use Rattle.desk_core.specs.Serving.{no_memory, unavailable};
+ghost use Rattle.desk_service.specs.Service.{no_memory, plainly, unavailable};
 
 use desk_requests::{BodyKind, Reply};
 use rtl_tree::memory::Memory;

@@ -1,25 +1,24 @@
 // What is told of a module on a day.
 ghost use Rattle.std.specs.Prelude.{◌≡◌, ◌≤◌, ◌∷◌, ◌++◌, [], length, map, IfOk, List, OnOk};
-ghost use Rattle.rtl_tree.specs.declared.text.TheConstants.{MAX_BYTES};
+ghost use Rattle.desk_files.specs.Limits.{MAX_BYTES};
 ghost use Rattle.desk_places.specs.Places.{sources_of};
 ghost use Rattle.desk_tables.specs.Tables.{kept_of};
 ghost use Rattle.desk_rulings.specs.Rulings.{verdict_of};
-ghost use Rattle.desk_files.specs.declared.files.SourceFile.{SourceFile};
-ghost use Rattle.design_db.specs.desk_memo.Fresh.{sources_in};
-ghost use Rattle.design_db.specs.desk_memo.Orders.{AreShort};
+ghost use Rattle.source_file.specs.declared.SourceFile.{SourceFile};
+ghost use Rattle.source_file.specs.SourceFiles.{AreShort};
 ghost use Rattle.desk_core.specs.Reports.{files_named, refused_telling, ruled_telling, telling, told_in, verdict_in};
-ghost use Rattle.desk_core.specs.Steps.{IsPaired};
 
+use design_db::Answer;
 use design_db::desk_verdict::Verdict;
-use design_db::{Answer, SourceFile};
 use desk_files::file_named;
 use desk_places::sources::Sources;
 use desk_report::report;
+use desk_rows::Row;
 use desk_rulings::{Ruled, left, standing};
 use desk_tables::{Day, Tables};
-use rtl_rule::finding::Finding;
 use rtl_tree::memory::Memory;
 use rtl_tree::text::Text;
+use source_file::SourceFile;
 use std::alloc::Global;
 
 /// What is told of a module on a day.
@@ -34,12 +33,12 @@ pub struct TopReport {
 }
 
 // Of so many files whether a finding stands in them.
-fn told_files(alloc: Global, count: usize, findings: &[Finding]) -> Result<Vec<bool>, Memory>
+fn told_files(alloc: Global, count: usize, rows: &[Row]) -> Result<Vec<bool>, Memory>
     ensures { IfOk result (λ told. length told.items ≡ count) }
 {
     let mut told = vec![in alloc; false; count]?;
-    for finding in findings {
-        let number = finding.spot.file as usize;
+    for row in rows {
+        let number = row.finding.spot.file as usize;
         if number < told.len() {
             told[number] = true;
         }
@@ -50,15 +49,12 @@ fn told_files(alloc: Global, count: usize, findings: &[Finding]) -> Result<Vec<b
 // Puts a file behind others; its lines are looked for now where places of it are told.
 fn push_file<'d>(sources: &mut Sources<'d>, file: &'d SourceFile, told: bool) -> Result<(), Memory>
     requires { length file.now.text ≤ MAX_BYTES }
-    ensures { OnOk result (sources_of sources.new ≡ sources_of sources.old
-        ++ record { name = file.now.name; text = file.now.text } ∷ []) }
+    ensures { OnOk result (sources_of sources.new ≡ sources_of sources.old ++ file.now ∷ []) }
 {
-    let name = file.name.as_bytes();
-    let text = file.text.as_bytes();
     if told {
-        sources.push(name, text)
+        sources.push(file)
     } else {
-        sources.push_seldom(name, text)
+        sources.push_seldom(file)
     }
 }
 
@@ -67,13 +63,13 @@ fn push_file<'d>(sources: &mut Sources<'d>, file: &'d SourceFile, told: bool) ->
 fn sources_in<'d>(
     alloc: Global,
     files: &[&'d SourceFile],
-    findings: &[Finding],
+    rows: &[Row],
 ) -> Result<Sources<'d>, Memory>
     requires { AreShort (map (λ file. file.now) files.now) }
     ensures { IfOk result (λ sources.
-        sources_of sources ≡ sources_in (map (λ file. file.now) files.now)) }
+        sources_of sources ≡ map (λ file. file.now) files.now) }
 {
-    let told = told_files(alloc, files.len(), findings)?;
+    let told = told_files(alloc, files.len(), rows)?;
     let mut sources = Sources::empty(alloc);
     for (number, file) in files.iter().enumerate() {
         push_file(&mut sources, file, told[number])?;
@@ -110,8 +106,7 @@ pub(crate) fn ruled_of<'d>(
         → verdict_of result ≡ verdict_in files verdict.now reached.now }
 {
     Ruled {
-        findings: &verdict.ruling.findings,
-        told: &verdict.told,
+        rows: &verdict.rows,
         files: used,
         reached,
     }
@@ -126,23 +121,20 @@ fn ruled_report(
     top: &Text,
     today: Day,
 ) -> Result<TopReport, Memory>
-    requires findings { verdict.now.ruling.findings.items ≡ ruled.now.findings.now }
-    requires told { verdict.now.told.items ≡ ruled.now.told.now }
-    requires as_many { length ruled.now.findings.now ≡ length ruled.now.told.now }
-    requires short { AreShort (verdict_of ruled.now).files }
+    requires { AreShort (verdict_of ruled.now).files }
     ensures { IfOk result (λ report. (files : List SourceFile)
         → verdict_of ruled.now ≡ verdict_in files verdict.now ruled.now.reached.now
         → told_in report ≡ ruled_telling top.now today (kept_of tables.now) files verdict.now
         ruled.now.reached.now) }
 {
-    let waivers = standing(alloc, ruled, tables, today)?;
-    let sources = sources_in(alloc, ruled.files, ruled.findings)?;
+    let rows = standing(alloc, ruled, tables, today)?;
+    let sources = sources_in(alloc, ruled.files, ruled.rows)?;
     let top = top.as_bytes();
-    let bytes = report(alloc, top, &sources, &verdict.ruling, ruled.told, &waivers)?;
+    let bytes = report(alloc, top, &sources, verdict.clean, verdict.firm, &rows)?;
     Ok(TopReport {
         bytes,
         refused: false,
-        left: left(ruled.findings, &waivers),
+        left: left(&rows),
     })
 }
 
@@ -165,8 +157,7 @@ pub(crate) fn report_of(
     top: &Text,
     today: Day,
 ) -> Result<TopReport, Memory>
-    requires paired { IsPaired answer.now }
-    requires short { AreShort files.now }
+    requires { AreShort files.now }
     ensures { IfOk result (λ report. told_in report
         ≡ telling top.now today (kept_of tables.now) files.now answer.now) }
 {

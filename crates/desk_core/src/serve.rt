@@ -1,14 +1,16 @@
 // What a request is answered.
-ghost use Rattle.std.specs.Prelude.{◌≡◌, ◌≢◌, ◌≤◌, ℕ, true, List, IfOk, IfSome, IsSome, OnOk};
-ghost use Rattle.desk_files.specs.declared.files.SourceFile.{SourceFile};
+ghost use Rattle.std.specs.Prelude.{◌≡◌, ◌≢◌, ◌≤◌, ◌⊎◌, ℕ, true, List, IfOk, IfSome, IsSome, OnOk};
+ghost use Rattle.source_file.specs.declared.SourceFile.{SourceFile};
 ghost use Rattle.desk_tables.specs.Changes.{reply_of};
 ghost use Rattle.desk_requests.specs.Replies.{said};
+ghost use Rattle.desk_service.specs.Service.{is_accepted, is_answered, IsShort, unavailable};
 ghost use Rattle.design_db.specs.Stores.{answer_of};
 ghost use Rattle.desk_core.specs.Files.{AreFilesOf, files_changed};
 ghost use Rattle.desk_core.specs.Headline.{IsNewSignOff, IsSignedClean, SaysClean};
-ghost use Rattle.desk_core.specs.Machine.{AreAccepted, KeepsAnswers, is_accepted};
+ghost use Rattle.desk_core.specs.Machine.{AreAccepted, IsKnown, KeepsAnswers, KeepsOthers};
+ghost use Rattle.desk_core.specs.Outcomes.{top_of};
 ghost use Rattle.desk_core.specs.Reports.{IsTold, told_in};
-ghost use Rattle.desk_core.specs.Serving.{IsShort, Leaves, Serves, is_answered, unavailable};
+ghost use Rattle.desk_core.specs.Serving.{Leaves, Serves};
 ghost use Rattle.desk_core.specs.Steps.{CanFollow, IsMade, IsSameStore, IsShortChange, files_next};
 
 use crate::Desk;
@@ -70,6 +72,8 @@ fn commit<K: Keeper>(
     ensures files { AreFilesOf records.new.files db.new.files }
     ensures replies { AreAccepted records.new.replies }
     ensures left { Leaves (said result) → IsSameStore db.old db.new }
+    ensures rulings { db.new.rulings ≡ db.old.rulings }
+    ensures absent { db.new.absent ≡ db.old.absent }
 {
     let Plan { next, unkept } = plan;
     match records.make(keeper, change) {
@@ -93,6 +97,8 @@ impl Desk {
         ensures held { IfSome (K.tables keeper.new) (λ held. held ≡ self.new.kept) }
         ensures later { K.count keeper.old ≤ K.count keeper.new }
         ensures left { Leaves (said result) → IsSameStore self.old.store self.new.store }
+        ensures rulings { self.new.store.rulings ≡ self.old.store.rulings }
+        ensures absent { self.new.store.absent ≡ self.old.store.absent }
     {
         match plan_of(self.alloc, &mut self.db, &change) {
             Ok(plan) => commit(
@@ -124,6 +130,12 @@ impl Desk {
         // and so do the answers that were there.
         ensures lasting { Leaves (said result) → KeepsAnswers self.old.store self.new.store }
         ensures left { Leaves (said result) → self.new.store.files ≡ self.old.store.files }
+
+        // What is kept of other modules than that which is looked at stays, whatever is answered, and
+        // where a ruling was answered, the answer of its module is known from then on.
+        ensures others { KeepsOthers (top_of request.now.ask) self.old.store self.new.store }
+        ensures known { ((said result).status ≡ 200) ⊎ ((said result).status ≡ 422)
+            → IsKnown request.now.ask self.new.store }
 
         // What is signed clean shows in every simulation what its hardware shows.
         ensures headline { (top : List ℕ) → IsNewSignOff request.now self.old.kept top

@@ -1,7 +1,7 @@
 -- Days as dates (ISO 8601): the calendar of Gregory, for the years 0000 to 9999.
 -- Worked examples: crates/desk_dates/proofs/Example.antt.
 use Rattle.std.specs.Prelude.{ℕ, zero, suc, ◌+◌, ◌-◌, ◌*◌, ◌/◌, ◌%◌, Bool, ◌&&◌, ◌||◌, ◌==◌, not, nat_lt, ℤ, ◌-ℤ◌, nat_abs, codes, List, [], ◌∷◌, ◌++◌, if◌then◌else◌}
-use Rattle.desk_tables.specs.declared.day.TheConstants.{FIRST_DAY}
+use Rattle.desk_tables.specs.Limits.{FIRST_DAY}
 
 -- every fourth year, but of those that end a century only every fourth
 abbrev pub is_leap : ℕ → Bool

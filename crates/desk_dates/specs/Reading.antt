@@ -5,7 +5,7 @@ use Rattle.std.specs.List.{list_all}
 use Rattle.std.specs.Char.{is_ascii_digit}
 use Rattle.std.specs.Str.{byte}
 use Rattle.desk_tables.specs.Days.{day_of}
-use Rattle.desk_tables.specs.declared.day.TheConstants.{FIRST_DAY}
+use Rattle.desk_tables.specs.Limits.{FIRST_DAY}
 use Rattle.desk_dates.specs.Dates.{Date, month_days}
 
 -- what a digit counts

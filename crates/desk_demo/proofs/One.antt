@@ -1,4 +1,4 @@
--- A text tells one demonstration at most, or has one first line that is none.
+-- A text tells one demonstration at most, or why it tells none.
 use Rattle.std.proofs.Common.{◌≡◌, ◌∙◌, ℕ, None, Some, List, [], ◌++◌, refl, ap, sym, arith, append-nil, inl}
 use Rattle.std.specs.Prelude.{codes}
 use Rattle.std.proofs.lemmas.List.{append_cancel_left, append_cancel_right}
@@ -6,7 +6,7 @@ use Rattle.rtl_flat.specs.declared.signal.Signal.{Signal}
 use Rattle.demo_trials.proofs.Demos.{same_number}
 use Rattle.demo_trials.specs.Demos.{IsDemo, demo_text, signal_text, step_text}
 use Rattle.demo_told.specs.declared.demo.Demo.{Demo}
-use Rattle.desk_demo.specs.Files.{IsMalformed, IsTold, IsUnnamed, More, NoLine, NoSignal, signal_of}
+use Rattle.desk_demo.specs.Files.{IsTold, IsUnread, Leads, NoLine, NoSignal, signal_of}
 use Rattle.desk_demo.proofs.Feeds.{demo_is_line, first_line}
 
 -- ---- lines of demonstrations
@@ -55,34 +55,38 @@ one_told signals text one other first second =
     ∙ ap (λ k. demo_of other.trial k one.signal.0) same.step
     ∙ ap (demo_of other.trial other.step) signal
 
-unnamed_not : (signals : List Signal) (text rest : List ℕ) (t k : ℕ) (p : List ℕ) → IsUnnamed signals text → IsDemo t k p → text ≡ demo_text t k p ++ rest → rest ≡ []
-unnamed_not signals text rest t k p is one begins =
-    none_behind text rest is.trial t is.step k is.path p is.is_demo is.is_line one begins
+-- a text begins with one line of a demonstration at most
+begun_once : (text : List ℕ) (t u k l : ℕ) (p q r s : List ℕ) → IsDemo t k p → IsDemo u l q → text ≡ demo_text t k p ++ r → text ≡ demo_text u l q ++ s → AreSame t u k l p q
+begun_once text t u k l p q r s one other begins ends =
+    line_once t u k l p q one other
+    (first_line text (demo_text t k p) r (demo_text u l q) s begins (inl (demo_is_line t k p one)) (demo_is_line u l q other) ends).0
 
-pub one_malformed : (signals : List Signal) (text : List ℕ) (m n : ℕ) → IsMalformed signals text m → IsMalformed signals text n → m ≡ n
-one_malformed signals text m n (NoLine none) (NoLine never) = refl
-one_malformed signals text m n (NoLine none) (NoSignal is) = refl
-one_malformed signals text m n (NoSignal is) (NoLine none) = refl
-one_malformed signals text m n (NoSignal is) (NoSignal too) = refl
-one_malformed signals text m n (NoLine none) (More rest begins some) = absurd (none rest begins)
-one_malformed signals text m n (More rest begins some) (NoLine none) = absurd (none rest begins)
-one_malformed signals text m n (NoSignal is) (More rest begins some) =
-    absurd (some (unnamed_not signals text rest begins.trial begins.step begins.path is begins.is_demo begins.parts))
-one_malformed signals text m n (More rest begins some) (NoSignal is) =
-    absurd (some (unnamed_not signals text rest begins.trial begins.step begins.path is begins.is_demo begins.parts))
-one_malformed signals text m n (More rest begins some) (More others too more) = refl
+pub one_lead : (signals : List Signal) (text : List ℕ) (one other : Demo) → Leads signals text one → Leads signals text other → one ≡ other
+one_lead signals text one other first second =
+    let same = begun_once text one.trial other.trial one.step other.step first.path second.path first.rest second.rest first.is_demo second.is_demo first.parts second.parts in
+    let signal : one.signal.0 ≡ other.signal.0 = some_once _ _ (sym first.is_signal ∙ ap (signal_of signals) same.path ∙ second.is_signal) in
+    ap (λ t. demo_of t one.step one.signal.0) same.trial
+    ∙ ap (λ k. demo_of other.trial k one.signal.0) same.step
+    ∙ ap (demo_of other.trial other.step) signal
 
-pub never_both : (signals : List Signal) (text : List ℕ) (demo : Demo) (line : ℕ) → IsTold signals text demo → IsMalformed signals text line → ⊥
-never_both signals text demo line told (NoLine none) =
-    none [] (record {
-      trial = demo.trial;
-      step = demo.step;
-      path = told.path;
-      is_demo = told.is_demo;
-      parts = told.is_line ∙ sym (append-nil (demo_text demo.trial demo.step told.path));
-    })
-never_both signals text demo line told (NoSignal is) =
-    let same = line_once demo.trial is.trial demo.step is.step told.path is.path told.is_demo is.is_demo (sym told.is_line ∙ is.is_line) in
-    some_not _ (sym told.is_signal ∙ ap (signal_of signals) same.path ∙ is.no_signal)
-never_both signals text demo line told (More rest begins some) =
-    some (none_behind text rest demo.trial begins.trial demo.step begins.step told.path begins.path told.is_demo told.is_line begins.is_demo begins.parts)
+-- a text with a first line that is none has no line of a demonstration of a signal
+unread_begins : (signals : List Signal) (text rest : List ℕ) (t k n : ℕ) (p : List ℕ) → IsUnread signals text → IsDemo t k p → text ≡ demo_text t k p ++ rest → signal_of signals p ≡ Some n → ⊥
+unread_begins signals text rest t k n p (NoLine none) one parts named =
+    none rest (record { trial = t; step = k; path = p; is_demo = one; parts = parts })
+unread_begins signals text rest t k n p (NoSignal is) one parts named =
+    let begins = is.begins in
+    let same = begun_once text t begins.trial k begins.step p begins.path rest is.rest one begins.is_demo parts begins.parts in
+    some_not n (sym named ∙ ap (signal_of signals) same.path ∙ is.no_signal)
+
+pub told_or_unread : (signals : List Signal) (text : List ℕ) (demo : Demo) → IsTold signals text demo → IsUnread signals text → ⊥
+told_or_unread signals text demo told unread =
+    unread_begins signals text [] demo.trial demo.step demo.signal.0 told.path unread told.is_demo
+    (told.is_line ∙ sym (append-nil (demo_text demo.trial demo.step told.path))) told.is_signal
+
+pub leads_or_unread : (signals : List Signal) (text : List ℕ) (demo : Demo) → Leads signals text demo → IsUnread signals text → ⊥
+leads_or_unread signals text demo leads unread =
+    unread_begins signals text leads.rest demo.trial demo.step demo.signal.0 leads.path unread leads.is_demo leads.parts leads.is_signal
+
+pub told_or_leads : (signals : List Signal) (text : List ℕ) (demo other : Demo) → IsTold signals text demo → Leads signals text other → ⊥
+told_or_leads signals text demo other told leads =
+    leads.some (none_behind text leads.rest demo.trial other.trial demo.step other.step told.path leads.path told.is_demo told.is_line leads.is_demo leads.parts)

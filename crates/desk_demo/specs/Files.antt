@@ -1,5 +1,5 @@
 -- What a demonstration file tells of a design: a trial, a step and a signal, in one line that a line
--- feed ends; or which of its lines is the first that is none.
+-- feed ends; or why it tells none.
 -- Worked examples: crates/tests_demo/src/files.rt.
 use Rattle.std.specs.Prelude.{◌≡◌, ◌≢◌, ◌⊎◌, ◌==◌, ℕ, false, List, [], ◌∷◌, ◌++◌, Option, None, Some, position}
 use Rattle.std.specs.List.{list_any}
@@ -7,6 +7,8 @@ use Rattle.std.specs.Str.{bytes_eq}
 use Rattle.rtl_flat.specs.declared.signal.Signal.{Signal}
 use Rattle.demo_trials.specs.Demos.{IsDemo, demo_text}
 use Rattle.demo_told.specs.declared.demo.Demo.{Demo}
+use Rattle.desk_demo.specs.declared.file.Malformed.{Malformed}
+use Rattle.desk_demo.specs.declared.file.Malformed.TheVariants.{First, More}
 
 -- the first signal with a path
 abbrev pub signal_of : List Signal → List ℕ → Option ℕ
@@ -31,21 +33,29 @@ pub record Begins (text rest : List ℕ) : Type 0 where
   pub is_demo : IsDemo trial step path
   pub parts : text ≡ demo_text trial step path ++ rest
 
--- it is the line of a demonstration whose path is that of no signal
+-- a line of a demonstration is at its begin whose path is that of no signal
 pub record IsUnnamed (signals : List Signal) (text : List ℕ) : Type 0 where
-  pub trial : ℕ
-  pub step : ℕ
-  pub path : List ℕ
-  pub is_demo : IsDemo trial step path
-  pub is_line : text ≡ demo_text trial step path
-  pub no_signal : signal_of signals path ≡ None
+  pub rest : List ℕ
+  pub begins : Begins text rest
+  pub no_signal : signal_of signals begins.path ≡ None
 
--- the first line that is none: the first, where that isn't the line of a demonstration, or names no
--- signal; or the second, where something stands behind the line of one
-pub data IsMalformed (signals : List Signal) (text : List ℕ) : ℕ → Type 0 where
-  NoLine : ((rest : List ℕ) → Begins text rest → ⊥) → IsMalformed signals text 1
-  NoSignal : IsUnnamed signals text → IsMalformed signals text 1
-  More : (rest : List ℕ) → Begins text rest → rest ≢ [] → IsMalformed signals text 2
+-- its first line is none: not the line of a demonstration, or one that names no signal
+pub data IsUnread (signals : List Signal) (text : List ℕ) : Type 0 where
+  NoLine : ((rest : List ℕ) → Begins text rest → ⊥) → IsUnread signals text
+  NoSignal : IsUnnamed signals text → IsUnread signals text
+
+-- the line of this demonstration is at its begin, and something stands behind it
+pub record Leads (signals : List Signal) (text : List ℕ) (demo : Demo) : Type 0 where
+  pub path : List ℕ
+  pub rest : List ℕ
+  pub is_demo : IsDemo demo.trial demo.step path
+  pub parts : text ≡ demo_text demo.trial demo.step path ++ rest
+  pub is_signal : signal_of signals path ≡ Some demo.signal.0
+  pub some : rest ≢ []
+
+abbrev pub IsMalformed : List Signal → List ℕ → Malformed → Type 0
+IsMalformed signals text First = IsUnread signals text
+IsMalformed signals text (More demo) = Leads signals text demo
 
 -- ---- lines
 

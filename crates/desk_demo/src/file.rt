@@ -12,34 +12,36 @@ use rtl_flat::expr::SigId;
 use rtl_flat::signal::Signal;
 
 /// A file that is no demonstration of a design.
-#[derive(Clone, Copy, PartialEq, Eq, Debug)]
-pub struct Malformed {
-    /// The first line that is none, from 1.
-    pub line: u8,
+#[derive(Clone, Copy)]
+pub enum Malformed {
+    /// Its first line is none, or names no signal of the design.
+    First,
+    /// Its first line is the one of this demonstration, and something stands behind it.
+    More(Demo),
 }
 
 /// The demonstration that a file tells of a design: one line, `trial T step K signal PATH`, that a
 /// line feed ends.
 pub fn read_file(design: &Design, text: &[u8]) -> Result<Demo, Malformed>
     ensures told { IfOk result (IsTold design.now.signals.items text.now) }
-    ensures malformed { IfErr result (λ fault.
-        IsMalformed design.now.signals.items text.now fault.line) }
+    ensures malformed { IfErr result (IsMalformed design.now.signals.items text.now) }
 {
     let (line, rest) = split_line(text);
     let Some(told) = read_demo(line) else {
-        return Err(Malformed { line: 1 });
+        return Err(Malformed::First);
+    };
+    let Some(signal) = signal_of(design, told.path) else {
+        return Err(Malformed::First);
+    };
+    let demo = Demo {
+        trial: told.trial.number(),
+        step: told.step,
+        signal,
     };
     if !rest.is_empty() {
-        return Err(Malformed { line: 2 });
+        return Err(Malformed::More(demo));
     }
-    match signal_of(design, told.path) {
-        Some(signal) => Ok(Demo {
-            trial: told.trial.number(),
-            step: told.step,
-            signal,
-        }),
-        None => Err(Malformed { line: 1 }),
-    }
+    Ok(demo)
 }
 
 /// The first line with the line feed that ends it, and what is behind it.

@@ -1,7 +1,8 @@
 -- Files, on small cases.
-use Rattle.std.proofs.Common.{◌≡◌, List, ℕ, [], ◌∷◌, refl, codes}
+use Rattle.std.proofs.Common.{◌≡◌, ◌*◌, List, ℕ, [], ◌∷◌, refl, codes}
+use Rattle.desk_files.specs.Limits.{MAX_BYTES}
 use Rattle.desk_files.specs.Sources.{with_file, without_file}
-use Rattle.desk_files.specs.declared.files.SourceFile.{SourceFile}
+use Rattle.source_file.specs.declared.SourceFile.{SourceFile}
 
 abbrev file : List ℕ → List ℕ → SourceFile
 file its_name its_text = record { name = its_name; text = its_text }
@@ -17,3 +18,6 @@ a_new_file_stands_in_order = refl
 
 a_dropped_file_goes : without_file (codes "a.v") both ≡ file (codes "c.v") (codes "2") ∷ []
 a_dropped_file_goes = refl
+
+a_text_has_a_mebibyte : MAX_BYTES ≡ 1024 * 1024
+a_text_has_a_mebibyte = refl

@@ -2,7 +2,7 @@
 -- What files show: their list, and for how many more there is room.
 use Rattle.std.specs.Prelude.{ℕ, ◌-◌, List, vec_len, vec_capacity}
 use Rattle.desk_files.specs.declared.files.Files.{Files}
-use Rattle.desk_files.specs.declared.files.SourceFile.{SourceFile}
+use Rattle.source_file.specs.declared.SourceFile.{SourceFile}
 
 abbrev pub list_of : Files → List SourceFile
 list_of files = files.files.items

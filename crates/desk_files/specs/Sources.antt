@@ -4,7 +4,7 @@ use Rattle.std.specs.Prelude.{ℕ, Bool, bytes_eq, not, List, [], ◌∷◌, ◌
 use Rattle.std.specs.Cmp.Lexicographic.{slice_cmp}
 use Rattle.std.specs.List.{list_any}
 use Rattle.std.specs.Ordering.{is_lt, nat_cmp}
-use Rattle.desk_files.specs.declared.files.SourceFile.{SourceFile}
+use Rattle.source_file.specs.declared.SourceFile.{SourceFile}
 
 -- the file has the name
 abbrev pub is_named : List ℕ → SourceFile → Bool

@@ -5,15 +5,8 @@ ghost use Rattle.desk_files.specs.Sources.{has_file, is_before, is_named, place_
 
 use rtl_tree::memory::Memory;
 use rtl_tree::text::Text;
+use source_file::SourceFile;
 use std::alloc::Global;
-
-/// A file by its name and its text.
-#[derive(Drop)]
-pub struct SourceFile {
-    pub name: Text,
-    /// Its bytes.
-    pub text: Text,
-}
 
 /// Files in the order of the bytes of their names, each name once.
 #[derive(Drop)]

@@ -3,4 +3,4 @@
 
 mod files;
 
-pub use files::{Files, Ready, SourceFile, file_named, is_named, place_of};
+pub use files::{Files, Ready, file_named, is_named, place_of};

@@ -8,7 +8,7 @@ use Rattle.desk_http.specs.Lines.{Line, capped, lines_at, stated_length}
 use Rattle.desk_http.specs.declared.head.Head.{Head}
 use Rattle.desk_http.specs.declared.head.HeadState.{HeadState}
 use Rattle.desk_http.specs.declared.head.HeadState.TheVariants.{More, Bad, Ready}
-use Rattle.desk_http.specs.declared.head.TheConstants.{MAX_HEAD_BYTES, MAX_HEADER_LINES}
+use Rattle.desk_http.specs.Limits.{MAX_HEAD_BYTES, MAX_HEADER_LINES}
 
 -- what is heard of a head
 pub record Heard : Type 0 where

@@ -1,3 +1,4 @@
+pub mod Limits
 pub mod Aims
 pub mod Gives
 pub mod Heads

@@ -18,7 +18,7 @@ use sha2::{Digest as Hasher, Sha256};
 use std::alloc::Global;
 
 /// How many characters the name of a request may have.
-pub const MAX_LABEL_BYTES: usize = 64;
+const MAX_LABEL_BYTES: usize = 64;
 
 // What tells a request from another of the same user and name: its method, its target and its body.
 fn digest_of(method: &[u8], target: &[u8], body: &[u8]) -> Digest

@@ -1,7 +1,7 @@
 // Heads of requests.
 ghost use Rattle.std.specs.Prelude.{◌≡◌, ◌≤◌, ◌++◌, ℕ, List, length, option_map, take};
 ghost use Rattle.desk_http.specs.Heads.{HasNoHead, IsFramed, IsStateOf, Shows, heard, spans_of};
-ghost use Rattle.desk_http.specs.declared.head.TheConstants.{MAX_HEAD_BYTES};
+ghost use Rattle.desk_http.specs.Limits.{MAX_HEAD_BYTES};
 ghost use Rattle.desk_http.specs.Lines.{first_named};
 
 use crate::lines::{covered, first_named, stated_length};
@@ -12,7 +12,7 @@ use httparse::{Error, Status};
 pub const MAX_HEAD_BYTES: usize = 16_384;
 
 /// How many header lines a request may have.
-pub const MAX_HEADER_LINES: usize = 64;
+pub(crate) const MAX_HEADER_LINES: usize = 64;
 
 /// The head of a request: its method, its target, and its header lines, in the bytes that were read.
 #[derive(Drop)]

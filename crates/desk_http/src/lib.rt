@@ -12,9 +12,8 @@ mod reply;
 mod route;
 mod waiver;
 
-pub use checks::{MAX_LABEL_BYTES, request};
+pub use checks::request;
 pub use fault::BadRequest;
-pub use head::{Head, HeadState, MAX_HEAD_BYTES, MAX_HEADER_LINES, read_head};
+pub use head::{Head, HeadState, MAX_HEAD_BYTES, read_head};
 pub use lines::MAX_BODY_BYTES;
 pub use reply::{MAX_REPLY_HEAD_BYTES, NO_MEMORY, reply_head};
-pub use waiver::MAX_REASON_BYTES;

@@ -16,7 +16,7 @@ use serde_json::Value;
 use std::alloc::Global;
 
 /// How many characters a reason may have.
-pub const MAX_REASON_BYTES: usize = 200;
+const MAX_REASON_BYTES: usize = 200;
 
 // What the members say, as it is written.
 #[derive(Clone, Copy)]

@@ -5,7 +5,7 @@ use Rattle.desk_io.specs.declared.shelf.ShelfFault.{ShelfFault}
 use Rattle.desk_io.specs.Shelf.{Files, reading}
 use Rattle.rtl_flat.specs.Flats.{DesignParts}
 use Rattle.desk_top.proofs.check_all_proofs.Alone.{alone}
-use Rattle.desk_places.specs.Places.{Source}
+use Rattle.source_file.specs.declared.SourceFile.{SourceFile}
 use Rattle.desk_stages.specs.Stages.{stages_text}
 use Rattle.desk_steps.specs.Steps.{Steps, file_of}
 use Rattle.desk_top.specs.Answers.{IsAnswered, OverWorld}
@@ -13,7 +13,6 @@ use Rattle.rtl_rule.specs.declared.finding.Finding.{Finding}
 use Rattle.demo_laws.specs.demo_replay.Firsts.{AreFirsts, told}
 use Rattle.demo_laws.specs.Laws.{AreProcesses}
 use Rattle.desk_top.specs.desk_build.Building.{Built, Designed, IsBuilt, Refused}
-use Rattle.desk_top.specs.desk_verdict.declared.verdict.TheConstants.{MAX_SHOWN}
 use Rattle.desk_top.specs.Delivery.{Outcome}
 use Rattle.desk_top.specs.Outcome.{IsAnswer, IsDone, IsGenerated, IsJudged, IsOutcome, IsReplayIn, IsReplaying, IsRuled, IsRun, IsShownIn, IsSigned, IsSimulating, IsStaged, IsStepped, IsTried, World, generated_sources, generation_outcome, names_in, ruling_outcome, run}
 use Rattle.desk_top.specs.Texts.{named, texts_of}
@@ -25,22 +24,22 @@ use Rattle.desk_laws.proofs.OneRun.{one_run}
 
 -- ---- a ruling
 
-one_ruling : (top : List ℕ) (sources : List Source) (flat : DesignParts) → AreProcesses flat.parts.flat → (one other : Outcome) → IsRuled top sources flat one → IsRuled top sources flat other → one ≡ other
-one_ruling top sources flat lawful one other first second =
-    let d = flat.parts.flat in
-    let found : first.found ≡ second.found = alone d first.found second.found first.are_all second.are_all in
-    let shown : first.shown ≡ second.shown = firsts_once d lawful (take MAX_SHOWN second.found) first.shown second.shown
-    (subst (λ (fs : List Finding). AreFirsts d (take MAX_SHOWN fs) (map told first.shown)) found first.are_shown) second.are_shown in
+one_ruling : (top : List ℕ) (sources : List SourceFile) (design : DesignParts) → AreProcesses design.parts.flat → (one other : Outcome) → IsRuled top sources design one → IsRuled top sources design other → one ≡ other
+one_ruling top sources design lawful one other first second =
+    let d = design.parts.flat in
+    let found : first.found ≡ second.found = alone design.parts first.found second.found first.are_all second.are_all in
+    let shown : first.shown ≡ second.shown = firsts_once d lawful (take 64 second.found) first.shown second.shown
+    (subst (λ (fs : List Finding). AreFirsts d (take 64 fs) (map told first.shown)) found first.are_shown) second.are_shown in
     first.is
-    ∙ ap (λ (fs : List Finding). ruling_outcome top sources flat fs first.shown) found
-    ∙ ap (ruling_outcome top sources flat second.found) shown
+    ∙ ap (λ (fs : List Finding). ruling_outcome top sources design fs first.shown) found
+    ∙ ap (ruling_outcome top sources design second.found) shown
     ∙ sym second.is
 
-answer_once : (top : List ℕ) (sources : List Source) (texts : List (List ℕ)) (built : Built) (one other : Outcome) → IsBuilt top sources texts built → IsAnswer top sources built one → IsAnswer top sources built other → one ≡ other
-answer_once top sources texts (Designed flat) one other made first second = one_ruling top sources flat (processes_of top sources texts flat made) one other first second
+answer_once : (top : List ℕ) (sources : List SourceFile) (texts : List (List ℕ)) (built : Built) (one other : Outcome) → IsBuilt top sources texts built → IsAnswer top sources built one → IsAnswer top sources built other → one ≡ other
+answer_once top sources texts (Designed design) one other made first second = one_ruling top sources design (processes_of top sources texts design made) one other first second
 answer_once top sources texts (Refused line) one other made first second = first ∙ sym second
 
-judged_once : OneLine → (top : List ℕ) (sources : List Source) (texts : List (List ℕ)) (one other : Outcome) → IsJudged top sources texts one → IsJudged top sources texts other → one ≡ other
+judged_once : OneLine → (top : List ℕ) (sources : List SourceFile) (texts : List (List ℕ)) (one other : Outcome) → IsJudged top sources texts one → IsJudged top sources texts other → one ≡ other
 judged_once line top sources texts one other first second =
     let same : first.built ≡ second.built = one_built line top sources texts first.built second.built first.is_built second.is_built in
     answer_once top sources texts second.built one other second.is_built (subst (λ (built : Built). IsAnswer top sources built one) same first.is) second.is
@@ -51,16 +50,16 @@ signed_once line top files (Some texts) one other first second = judged_once lin
 
 -- ---- a simulation
 
-run_once : (flat : DesignParts) (read : Result Steps ℕ) (one other : Outcome) → IsRun flat read one → IsRun flat read other → one ≡ other
-run_once flat (Ok steps) one other first second =
-    first.2 ∙ ap run (one_run flat.parts.flat.signals flat.parts.flat.tasks flat.instances steps first.0 second.0 first.1 second.1) ∙ sym second.2
-run_once flat (Err number) one other first second = first ∙ sym second
+run_once : (design : DesignParts) (read : Result Steps ℕ) (one other : Outcome) → IsRun design read one → IsRun design read other → one ≡ other
+run_once design (Ok steps) one other first second =
+    first.2 ∙ ap run (one_run design.parts.flat.signals design.parts.flat.tasks design.instances steps first.0 second.0 first.1 second.1) ∙ sym second.2
+run_once design (Err number) one other first second = first ∙ sym second
 
 tried_once : (steps : List ℕ) (built : Built) (one other : Outcome) → IsTried steps built one → IsTried steps built other → one ≡ other
-tried_once steps (Designed flat) one other first second = run_once flat (file_of (names_in flat) steps) one other first second
+tried_once steps (Designed design) one other first second = run_once design (file_of (names_in design) steps) one other first second
 tried_once steps (Refused line) one other first second = first ∙ sym second
 
-stepped_once : OneLine → (top : List ℕ) (sources : List Source) (texts : List (List ℕ)) (steps : List ℕ) (one other : Outcome) → IsStepped top sources texts steps one → IsStepped top sources texts steps other → one ≡ other
+stepped_once : OneLine → (top : List ℕ) (sources : List SourceFile) (texts : List (List ℕ)) (steps : List ℕ) (one other : Outcome) → IsStepped top sources texts steps one → IsStepped top sources texts steps other → one ≡ other
 stepped_once line top sources texts steps one other first second =
     let same : first.built ≡ second.built = one_built line top sources texts first.built second.built first.is_built second.is_built in
     tried_once steps second.built one other (subst (λ (built : Built). IsTried steps built one) same first.is) second.is
@@ -73,11 +72,11 @@ simulating_once line top files (Ok steps) (Some texts) one other first second = 
 
 -- ---- a demonstration
 
-shown_once : (top : List ℕ) (sources : List Source) (texts : List (List ℕ)) (demo : List ℕ) (built : Built) (one other : Outcome) → IsBuilt top sources texts built → IsShownIn demo built one → IsShownIn demo built other → one ≡ other
-shown_once top sources texts demo (Designed flat) one other made first second = demo_once flat (processes_of top sources texts flat made) demo one other first second
+shown_once : (top : List ℕ) (sources : List SourceFile) (texts : List (List ℕ)) (demo : List ℕ) (built : Built) (one other : Outcome) → IsBuilt top sources texts built → IsShownIn demo built one → IsShownIn demo built other → one ≡ other
+shown_once top sources texts demo (Designed design) one other made first second = demo_once design (processes_of top sources texts design made) demo one other first second
 shown_once top sources texts demo (Refused line) one other made first second = first ∙ sym second
 
-replay_once : OneLine → (top : List ℕ) (sources : List Source) (texts : List (List ℕ)) (demo : List ℕ) (one other : Outcome) → IsReplayIn top sources texts demo one → IsReplayIn top sources texts demo other → one ≡ other
+replay_once : OneLine → (top : List ℕ) (sources : List SourceFile) (texts : List (List ℕ)) (demo : List ℕ) (one other : Outcome) → IsReplayIn top sources texts demo one → IsReplayIn top sources texts demo other → one ≡ other
 replay_once line top sources texts demo one other first second =
     let same : first.built ≡ second.built = one_built line top sources texts first.built second.built first.is_built second.is_built in
     shown_once top sources texts demo second.built one other second.is_built (subst (λ (built : Built). IsShownIn demo built one) same first.is) second.is
@@ -91,8 +90,8 @@ replaying_once line top files (Ok demo) (Some texts) one other first second = re
 -- ---- a generated design
 
 staged_once : (stages : ℕ) (built : Built) (one other : Outcome) → IsStaged stages built one → IsStaged stages built other → one ≡ other
-staged_once stages (Designed flat) one other first second =
-    first.is ∙ ap (generation_outcome stages flat) (alone flat.parts first.found second.found first.are_all second.are_all) ∙ sym second.is
+staged_once stages (Designed design) one other first second =
+    first.is ∙ ap (generation_outcome stages design) (alone design.parts first.found second.found first.are_all second.are_all) ∙ sym second.is
 staged_once stages (Refused line) one other first second = first ∙ sym second
 
 generated_once : OneLine → (stages : ℕ) (one other : Outcome) → IsGenerated stages one → IsGenerated stages other → one ≡ other

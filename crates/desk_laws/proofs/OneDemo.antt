@@ -13,22 +13,23 @@ use Rattle.demo_told.specs.declared.demo.Demo.{Demo}
 use Rattle.demo_told.specs.declared.demo.Shown.{Shown}
 use Rattle.demo_laws.specs.demo_replay.declared.fault.ReplayFault.{ReplayFault}
 use Rattle.demo_laws.specs.demo_replay.declared.fault.ReplayFault.TheVariants.{Memory}
+use Rattle.demo_laws.specs.demo_replay.Replays.{IsIllegal}
 use Rattle.demo_laws.specs.demo_replay.Firsts.{AreFirsts, Told, told}
 use Rattle.demo_laws.specs.Laws.{AreProcesses}
 use Rattle.demo_laws.proofs.Firsts.{one_first}
-use Rattle.demo_laws.proofs.Replays.{no_fault, one_fault, one_replay}
-use Rattle.desk_places.specs.Places.{Source}
-use Rattle.desk_demo.proofs.One.{never_both, one_malformed, one_told}
+use Rattle.demo_laws.proofs.Replays.{no_fault, not_legal, one_fault, one_replay}
+use Rattle.source_file.specs.declared.SourceFile.{SourceFile}
+use Rattle.desk_demo.proofs.One.{leads_or_unread, one_lead, one_told, told_or_leads, told_or_unread}
 use Rattle.desk_top.specs.desk_build.Building.{Built, Designed, Front, IsBuilt, Faulty, Modules, built_of, elaborated_or_not}
 use Rattle.desk_top.specs.Delivery.{Outcome}
-use Rattle.desk_top.specs.Outcome.{Differs, Fails, IsDemoRun, IsRerun, Read, Unread, fault_outcome, malformed, replay_outcome}
+use Rattle.desk_top.specs.Outcome.{Differs, Fails, IsDemoRun, IsRerun, Read, Unread, fault_outcome, replay_outcome, Misnamed, More}
 
 -- ---- designs that texts make
 
 flat_once : (one other : DesignParts) → Designed one ≡ Designed other → one ≡ other
 flat_once one other e = cc
 
-pub processes_of : (top : List ℕ) (sources : List Source) (texts : List (List ℕ)) (flat : DesignParts) → IsBuilt top sources texts (Designed flat) → AreProcesses flat.parts.flat
+pub processes_of : (top : List ℕ) (sources : List SourceFile) (texts : List (List ℕ)) (flat : DesignParts) → IsBuilt top sources texts (Designed flat) → AreProcesses flat.parts.flat
 processes_of top sources texts flat is = by_front is.front is.is
   where
     by_made : (circuits : List (List Circuit)) (made : Result DesignParts Answer) → elaborated (library_of circuits) top ≡ made → Designed flat ≡ elaborated_or_not sources made → AreProcesses flat.parts.flat
@@ -98,9 +99,23 @@ rerun_once flat lawful demo one other (Fails fault outcome why same) (Fails faul
     by (inr (inl memory)) = no_outcome fault outcome memory same
     by (inr (inr memory)) = no_outcome fault' outcome' memory same'
 
-pub demo_once : (flat : DesignParts) → AreProcesses flat.parts.flat → (text : List ℕ) (one other : Outcome) → IsDemoRun flat text one → IsDemoRun flat text other → one ≡ other
-demo_once flat lawful text one other (Read demo outcome is shows) (Read demo' outcome' is' shows') =
-    rerun_once flat lawful demo' outcome outcome' (subst (λ (d : Demo). IsRerun flat d outcome) (one_told flat.parts.flat.signals text demo demo' is is') shows) shows'
-demo_once flat lawful text one other (Read demo outcome is shows) (Unread line wrong) = absurd (never_both flat.parts.flat.signals text demo line is wrong)
-demo_once flat lawful text one other (Unread line wrong) (Read demo outcome is shows) = absurd (never_both flat.parts.flat.signals text demo line is wrong)
-demo_once flat lawful text one other (Unread line wrong) (Unread line' wrong') = ap malformed (one_malformed flat.parts.flat.signals text line line' wrong wrong')
+pub demo_once : (design : DesignParts) → AreProcesses design.parts.flat → (text : List ℕ) (one other : Outcome) → IsDemoRun design text one → IsDemoRun design text other → one ≡ other
+demo_once design lawful text one other (Read demo outcome is shows) (Read demo' outcome' is' shows') =
+    rerun_once design lawful demo' outcome outcome' (subst (λ (d : Demo). IsRerun design d outcome) (one_told design.parts.flat.signals text demo demo' is is') shows) shows'
+demo_once design lawful text one other (Read demo outcome is shows) (Unread wrong) = absurd (told_or_unread design.parts.flat.signals text demo is wrong)
+demo_once design lawful text one other (Read demo outcome is shows) (Misnamed demo' part leads isnt) = absurd (told_or_leads design.parts.flat.signals text demo demo' is leads)
+demo_once design lawful text one other (Read demo outcome is shows) (More demo' leads legal) = absurd (told_or_leads design.parts.flat.signals text demo demo' is leads)
+demo_once design lawful text one other (Unread wrong) (Read demo outcome is shows) = absurd (told_or_unread design.parts.flat.signals text demo is wrong)
+demo_once design lawful text one other (Unread wrong) (Unread wrong') = refl
+demo_once design lawful text one other (Unread wrong) (Misnamed demo part leads isnt) = refl
+demo_once design lawful text one other (Unread wrong) (More demo leads legal) = absurd (leads_or_unread design.parts.flat.signals text demo leads wrong)
+demo_once design lawful text one other (Misnamed demo part leads isnt) (Read demo' outcome is shows) = absurd (told_or_leads design.parts.flat.signals text demo' demo is leads)
+demo_once design lawful text one other (Misnamed demo part leads isnt) (Unread wrong) = refl
+demo_once design lawful text one other (Misnamed demo part leads isnt) (Misnamed demo' part' leads' isnt') = refl
+demo_once design lawful text one other (Misnamed demo part leads isnt) (More demo' leads' legal) =
+    absurd (not_legal design.parts.flat demo' part (subst (λ (d : Demo). IsIllegal design.parts.flat d part) (one_lead design.parts.flat.signals text demo demo' leads leads') isnt) legal)
+demo_once design lawful text one other (More demo leads legal) (Read demo' outcome is shows) = absurd (told_or_leads design.parts.flat.signals text demo' demo is leads)
+demo_once design lawful text one other (More demo leads legal) (Unread wrong) = absurd (leads_or_unread design.parts.flat.signals text demo leads wrong)
+demo_once design lawful text one other (More demo leads legal) (Misnamed demo' part leads' isnt) =
+    absurd (not_legal design.parts.flat demo part (subst (λ (d : Demo). IsIllegal design.parts.flat d part) (one_lead design.parts.flat.signals text demo' demo leads' leads) isnt) legal)
+demo_once design lawful text one other (More demo leads legal) (More demo' leads' legal') = refl

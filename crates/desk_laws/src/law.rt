@@ -5,7 +5,7 @@ ghost use Rattle.rtl_flat.specs.declared.instance.Instance.{Instance};
 ghost use Rattle.rtl_flat.specs.declared.signal.Signal.{Signal};
 ghost use Rattle.rtl_flat.specs.Process.{Task};
 ghost use Rattle.desk_io.specs.Shelf.{Files};
-ghost use Rattle.desk_places.specs.Places.{Source};
+ghost use Rattle.source_file.specs.declared.SourceFile.{SourceFile};
 ghost use Rattle.desk_steps.specs.Steps.{Steps};
 ghost use Rattle.desk_runs.specs.Runs.{IsSimulated, Shown};
 ghost use Rattle.desk_top.specs.Answers.{IsAnswered, OverWorld};
@@ -24,7 +24,7 @@ pub fn one_run()
 
 /// Texts make one thing of a top: one flat design, or one line that says why there is none.
 pub fn one_built()
-    ensures { (top : List ℕ) (sources : List Source) (texts : List (List ℕ)) (one other : Built) →
+    ensures { (top : List ℕ) (sources : List SourceFile) (texts : List (List ℕ)) (one other : Built) →
         IsBuilt top sources texts one → IsBuilt top sources texts other → one ≡ other }
 {
     one_line();

@@ -4,8 +4,8 @@ use Rattle.std.specs.Prelude.{Option, Some, slice_get, slice_index_or}
 use Rattle.std.specs.List.{All, Contains, cons_option, filter_map}
 use Rattle.rtl_tree.specs.TreeModule.{Circuit}
 use Rattle.rtl_front.specs.Fronts.{AreRead, IsRead}
-use Rattle.desk_files.specs.declared.files.SourceFile.{SourceFile}
-use Rattle.desk_memo.specs.Fresh.{texts_in}
+use Rattle.source_file.specs.declared.SourceFile.{SourceFile}
+use Rattle.source_file.specs.SourceFiles.{texts_in}
 
 -- ---- elements
 

@@ -2,14 +2,12 @@
 use Rattle.std.proofs.Common.{◌≡◌, ℕ, List, [], ◌∷◌, codes, refl}
 use Rattle.std.specs.Prelude.{true, false, None, Some}
 use Rattle.rtl_tree.specs.TreeModule.{Absent, Circuit}
-use Rattle.elab_names.specs.elab_links.Modules.{all_placed, found}
-use Rattle.elab_names.specs.elab_links.declared.module_set.Lookup.{Lookup}
-use Rattle.elab_names.specs.elab_links.declared.module_set.Lookup.TheVariants.{Missing, Found, Twice}
-use Rattle.elab_names.specs.elab_links.declared.module_set.Place.{Place}
-use Rattle.elab_names.specs.Extracts.{extract}
-use Rattle.elab_names.specs.declared.look_up.LookUp.{LookUp}
-use Rattle.elab_names.specs.rtl_elab.Designs.{library_of}
-use Rattle.desk_files.specs.declared.files.SourceFile.{SourceFile}
+use Rattle.elab_lookups.specs.elab_links.Modules.{all_placed, found}
+use Rattle.elab_lookups.specs.elab_links.declared.module_set.Lookup.{Lookup}
+use Rattle.elab_lookups.specs.elab_links.declared.module_set.Lookup.TheVariants.{Missing, Found, Twice}
+use Rattle.elab_lookups.specs.elab_links.declared.module_set.Place.{Place}
+use Rattle.elab_lookups.specs.declared.look_up.LookUp.{LookUp}
+use Rattle.source_file.specs.declared.SourceFile.{SourceFile}
 use Rattle.desk_memo.specs.declared.answer.Answer.{Answer}
 use Rattle.desk_memo.specs.Rulings.{Ruling, current_of, is_absent, is_current, is_meant, is_there, others_of, with_ruling}
 
@@ -86,10 +84,6 @@ two_files_have_it_still = refl
 its_number_among_all : found (all_placed modules) (codes "l") ≡ first_in 1
 its_number_among_all = refl
 
--- a top that uses that file alone has it in its first one
-its_number_among_the_used : (extract (1 ∷ []) (library_of modules)).lookups (codes "l") ≡ first_in 0
-its_number_among_the_used = refl
-
 it_is_kept_with_its_number_among_the_used : is_meant files modules (second ∷ []) (meant (codes "l") (first_in 0)) ≡ true
 it_is_kept_with_its_number_among_the_used = refl
 
@@ -116,7 +110,7 @@ it_is_gone = refl
 -- ---- rulings
 
 -- t, which holds l
-abbrev of_t : Answer → Ruling
+abbrev of_t : {V : Type 0} → Answer V → Ruling V
 of_t answer =
     record {
       top = codes "t";
@@ -126,7 +120,7 @@ of_t answer =
     }
 
 -- t, when no file had l
-abbrev of_t_alone : Answer → Ruling
+abbrev of_t_alone : {V : Type 0} → Answer V → Ruling V
 of_t_alone answer =
     record {
       top = codes "t";
@@ -136,42 +130,42 @@ of_t_alone answer =
     }
 
 -- m, which no file has
-abbrev of_m : Answer → Ruling
+abbrev of_m : {V : Type 0} → Answer V → Ruling V
 of_m answer =
     record { top = codes "m"; look_ups = meant (codes "m") Missing ∷ []; used = []; answer = answer }
 
-it_holds : (answer : Answer) → is_current files modules (of_t answer) ≡ true
+it_holds : {V : Type 0} (answer : Answer V) → is_current files modules (of_t answer) ≡ true
 it_holds answer = refl
 
-it_holds_no_more : (answer : Answer) → is_current files doubled (of_t answer) ≡ false
+it_holds_no_more : {V : Type 0} (answer : Answer V) → is_current files doubled (of_t answer) ≡ false
 it_holds_no_more answer = refl
 
-it_holds_with_a_file_before_the_used : (answer : Answer) → is_current more (more_modules (codes "x")) (of_t answer) ≡ true
+it_holds_with_a_file_before_the_used : {V : Type 0} (answer : Answer V) → is_current more (more_modules (codes "x")) (of_t answer) ≡ true
 it_holds_with_a_file_before_the_used answer = refl
 
-but_not_where_that_has_a_module_of_it : (answer : Answer) → is_current more (more_modules (codes "l")) (of_t answer) ≡ false
+but_not_where_that_has_a_module_of_it : {V : Type 0} (answer : Answer V) → is_current more (more_modules (codes "l")) (of_t answer) ≡ false
 but_not_where_that_has_a_module_of_it answer = refl
 
-it_holds_while_a_name_is_missing : (answer : Answer) → is_current (first ∷ []) ((module_of (codes "t") ∷ []) ∷ []) (of_t_alone answer) ≡ true
+it_holds_while_a_name_is_missing : {V : Type 0} (answer : Answer V) → is_current (first ∷ []) ((module_of (codes "t") ∷ []) ∷ []) (of_t_alone answer) ≡ true
 it_holds_while_a_name_is_missing answer = refl
 
-it_holds_no_more_where_the_name_is_supplied : (answer : Answer) → is_current files modules (of_t_alone answer) ≡ false
+it_holds_no_more_where_the_name_is_supplied : {V : Type 0} (answer : Answer V) → is_current files modules (of_t_alone answer) ≡ false
 it_holds_no_more_where_the_name_is_supplied answer = refl
 
-that_of_the_top_is_found : (one other : Answer) → current_of files modules (codes "t") (of_m one ∷ of_t other ∷ []) ≡ Some (of_t other)
+that_of_the_top_is_found : {V : Type 0} (one other : Answer V) → current_of files modules (codes "t") (of_m one ∷ of_t other ∷ []) ≡ Some (of_t other)
 that_of_the_top_is_found one other = refl
 
-one_that_holds_no_more_is_not : (one other : Answer) → current_of files doubled (codes "t") (of_m one ∷ of_t other ∷ []) ≡ None
+one_that_holds_no_more_is_not : {V : Type 0} (one other : Answer V) → current_of files doubled (codes "t") (of_m one ∷ of_t other ∷ []) ≡ None
 one_that_holds_no_more_is_not one other = refl
 
-others_are_of_other_tops : (one other : Answer) → others_of (codes "t") (of_m one ∷ of_t other ∷ []) ≡ of_m one ∷ []
+others_are_of_other_tops : {V : Type 0} (one other : Answer V) → others_of (codes "t") (of_m one ∷ of_t other ∷ []) ≡ of_m one ∷ []
 others_are_of_other_tops one other = refl
 
-it_goes_in_place_of_that_of_its_top : (one other new : Answer) → with_ruling (of_m new) (of_m one ∷ of_t other ∷ []) ≡ of_m new ∷ of_t other ∷ []
+it_goes_in_place_of_that_of_its_top : {V : Type 0} (one other new : Answer V) → with_ruling (of_m new) (of_m one ∷ of_t other ∷ []) ≡ of_m new ∷ of_t other ∷ []
 it_goes_in_place_of_that_of_its_top one other new = refl
 
-a_missing_top_is_absent : (answer : Answer) → is_absent (of_m answer) ≡ true
+a_missing_top_is_absent : {V : Type 0} (answer : Answer V) → is_absent (of_m answer) ≡ true
 a_missing_top_is_absent answer = refl
 
-a_top_with_a_module_is_not : (answer : Answer) → is_absent (of_t answer) ≡ false
+a_top_with_a_module_is_not : {V : Type 0} (answer : Answer V) → is_absent (of_t answer) ≡ false
 a_top_with_a_module_is_not answer = refl

@@ -6,22 +6,22 @@ use Rattle.rtl_tree.specs.TreeModule.{Circuit}
 use Rattle.rtl_text.specs.declared.fault.LexFault.TheVariants as lexing
 use Rattle.rtl_prep.specs.declared.fault.PrepFault.TheVariants as preparing
 use Rattle.rtl_parse.specs.declared.fault.ParseFault.TheVariants as parsing
-use Rattle.rtl_front.specs.Fronts.{AreRead, IsFirst, IsRead, is_memory}
+use Rattle.rtl_front.specs.Fronts.{AreRead, AreSpelled, IsFirst, IsRead, is_memory}
 use Rattle.rtl_front.specs.declared.fault.FileFault.{FileFault}
 use Rattle.rtl_front.specs.declared.fault.FileFault.TheVariants.{Lex, Prepare, Parse}
-use Rattle.desk_places.specs.Places.{Source, place_within}
+use Rattle.desk_places.specs.Places.{place_within}
 use Rattle.desk_refusals.specs.Notices.{in_file, told, token_text}
 use Rattle.desk_refusals.specs.Refusals.{line, source_line}
 use Rattle.desk_refusals.specs.Words.{word_part}
-use Rattle.desk_build.specs.Building.{AreSpelled, Faulty}
-use Rattle.desk_files.specs.declared.files.SourceFile.{SourceFile}
-use Rattle.desk_memo.specs.Fresh.{IsFresh, IsRefusal, sources_in, texts_in}
+use Rattle.source_file.specs.declared.SourceFile.{SourceFile}
+use Rattle.desk_memo.specs.Texts.{IsRefusal}
+use Rattle.source_file.specs.SourceFiles.{texts_in}
 use Rattle.desk_memo.specs.declared.answer.Answer.{Answer}
-use Rattle.desk_memo.specs.Readings.{AreDefined, AreReadings, Defines, IsFound, IsReading, Reading, Refuses, Spells, changed_count, first_refusal, is_as_read, or_later, refusal_of}
+use Rattle.desk_memo.specs.Readings.{AreDefined, AreReadings, Defines, IsFirstRefused, IsFound, IsReading, Reading, Refuses, Spells, changed_count, first_refusal, is_as_read, or_later, refusal_of}
 
 -- ---- a file that is as it was read
 
-record IsUnchanged (file : SourceFile) (reading : Option Reading) (others : ℕ) : Type 0 where
+record IsUnchanged {V : Type 0} (file : SourceFile) (reading : Option (Reading V)) (others : ℕ) : Type 0 where
   here : is_as_read file reading ≡ true
   rest : others ≡ 0
 
@@ -29,13 +29,13 @@ unchanged_by : (same : Bool) (others : ℕ) → (if same then 0 else 1) + others
 unchanged_by true others none = (refl, omega arith)
 unchanged_by false others none = absurd (omega arith)
 
-unchanged : (file : SourceFile) (reading : Option Reading) (others : ℕ) → (if is_as_read file reading then 0 else 1) + others ≡ 0 → IsUnchanged file reading others
+unchanged : {V : Type 0} (file : SourceFile) (reading : Option (Reading V)) (others : ℕ) → (if is_as_read file reading then 0 else 1) + others ≡ 0 → IsUnchanged file reading others
 unchanged file reading others none =
     let both = unchanged_by (is_as_read file reading) others none in
     record { here = both.0; rest = both.1 }
 
 -- a file's reading is there, and of its text
-record IsReadNow (file : SourceFile) (reading : Option Reading) (circuits : List Circuit) : Type 0 where
+record IsReadNow {V : Type 0} (file : SourceFile) (reading : Option (Reading V)) (circuits : List Circuit) : Type 0 where
   read : SourceFile
   same : read ≡ file
   found : IsFound read (refusal_of reading) circuits
@@ -45,7 +45,7 @@ same_file read file name text =
     ap (λ (it : List ℕ). let made : SourceFile = record { name = it; text = read.text } in made) name
     ∙ ap (λ (it : List ℕ). let made : SourceFile = record { name = file.name; text = it } in made) text
 
-read_now : (file : SourceFile) (reading : Option Reading) (circuits : List Circuit) → is_as_read file reading ≡ true → IsReading file reading circuits → IsReadNow file reading circuits
+read_now : {V : Type 0} (file : SourceFile) (reading : Option (Reading V)) (circuits : List Circuit) → is_as_read file reading ≡ true → IsReading file reading circuits → IsReadNow file reading circuits
 read_now file None circuits same right = absurd (cc)
 read_now file (Some reading) circuits same right = record {
   read = reading.file;
@@ -55,15 +55,15 @@ read_now file (Some reading) circuits same right = record {
 
 -- ---- files that spell modules
 
-record IsSpelled (file : SourceFile) (circuits : List Circuit) (rest : Option Answer) : Type 0 where
+record IsSpelled {V : Type 0} (file : SourceFile) (circuits : List Circuit) (rest : Option (Answer V)) : Type 0 where
   here : Spells file.text circuits
   none : rest ≡ None
 
-spelled_by : (read : SourceFile) (refusal rest : Option Answer) (circuits : List Circuit) → IsFound read refusal circuits → or_later refusal rest ≡ None → IsSpelled read circuits rest
+spelled_by : {V : Type 0} (read : SourceFile) (refusal rest : Option (Answer V)) (circuits : List Circuit) → IsFound read refusal circuits → or_later refusal rest ≡ None → IsSpelled read circuits rest
 spelled_by read None rest circuits found none = record { here = found; none = none }
 spelled_by read (Some answer) rest circuits found none = absurd (cc)
 
-spelled_one : (file : SourceFile) (reading : Option Reading) (rest : Option Answer) (circuits : List Circuit) → IsReadNow file reading circuits → or_later (refusal_of reading) rest ≡ None → IsSpelled file circuits rest
+spelled_one : {V : Type 0} (file : SourceFile) (reading : Option (Reading V)) (rest : Option (Answer V)) (circuits : List Circuit) → IsReadNow file reading circuits → or_later (refusal_of reading) rest ≡ None → IsSpelled file circuits rest
 spelled_one file reading rest circuits now none =
     subst (λ (it : SourceFile). IsSpelled it circuits rest) now.same
     (spelled_by now.read (refusal_of reading) rest circuits now.found none)
@@ -77,7 +77,7 @@ only_none : (others : List (List Circuit)) → AreRead [] others → others ≡ 
 only_none [] read = refl
 only_none (first ∷ others) read = absurd read
 
-pub all_spelled : (files : List SourceFile) (readings : List (Option Reading)) (modules : List (List Circuit)) → AreReadings files readings modules → changed_count files readings ≡ 0 → first_refusal readings ≡ None → AreSpelled (texts_in files) modules
+pub all_spelled : {V : Type 0} (files : List SourceFile) (readings : List (Option (Reading V))) (modules : List (List Circuit)) → AreReadings files readings modules → changed_count files readings ≡ 0 → first_refusal readings ≡ None → AreSpelled (texts_in files) modules
 all_spelled [] (reading ∷ readings) modules right same none = absurd right
 all_spelled [] [] (circuits ∷ modules) right same none = absurd right
 all_spelled [] [] [] right same none = record { read = tt; only = only_none }
@@ -95,11 +95,11 @@ all_spelled (file ∷ files) (reading ∷ readings) (circuits ∷ modules) right
 -- ---- the line of the first file that spells none
 
 -- the line goes by the file alone, and not by how many stand before it
-same_notice : (some others : List Source) (m n : ℕ) (name : List ℕ) (word : Option (List ℕ)) (at : ℕ) → slice_get some m ≡ slice_get others n → line some (told name word (in_file m at)) ≡ line others (told name word (in_file n at))
+same_notice : (some others : List SourceFile) (m n : ℕ) (name : List ℕ) (word : Option (List ℕ)) (at : ℕ) → slice_get some m ≡ slice_get others n → line some (told name word (in_file m at)) ≡ line others (told name word (in_file n at))
 same_notice some others m n name word at same =
     ap (λ it. codes "refused " ++ name ++ word_part word ++ (codes " at " ++ place_within it at) ++ codes "\n") same
 
-same_line : (some others : List Source) (m n : ℕ) (fault : FileFault) → slice_get some m ≡ slice_get others n → source_line some m fault ≡ source_line others n fault
+same_line : (some others : List SourceFile) (m n : ℕ) (fault : FileFault) → slice_get some m ≡ slice_get others n → source_line some m fault ≡ source_line others n fault
 same_line some others m n (Lex (lexing.NotAscii at)) same = same_notice some others m n (codes "NotAscii") None at same
 same_line some others m n (Lex (lexing.BadNumber at)) same = same_notice some others m n (codes "BadNumber") None at same
 same_line some others m n (Lex (lexing.BadCharacter at)) same = same_notice some others m n (codes "BadCharacter") None at same
@@ -118,39 +118,39 @@ same_line some others m n (Parse parsing.Memory) same = refl
 
 -- ---- the first file that spells none
 
-record IsRefusedFirst (files : List SourceFile) (answer : Answer) : Type 0 where
+record IsRefusedFirst {V : Type 0} (files : List SourceFile) (answer : Answer V) : Type 0 where
   number : ℕ
   fault : FileFault
   no_memory : is_memory fault ≡ false
   first : IsFirst (texts_in files) number fault
-  told : IsRefusal (source_line (sources_in files) number fault) answer
+  told : IsRefusal (source_line files number fault) answer
 
-refused_here : (file : SourceFile) (files : List SourceFile) (answer : Answer) → Refuses file answer → IsRefusedFirst (file ∷ files) answer
+refused_here : {V : Type 0} (file : SourceFile) (files : List SourceFile) (answer : Answer V) → Refuses file answer → IsRefusedFirst (file ∷ files) answer
 refused_here file files answer why = record {
   number = 0;
   fault = why.fault;
   no_memory = why.no_memory;
   first = why.faulty;
-  told = subst (λ (it : List ℕ). IsRefusal it answer) (same_line (sources_in (file ∷ [])) (sources_in (file ∷ files)) 0 0 why.fault refl) why.told;
+  told = subst (λ (it : List ℕ). IsRefusal it answer) (same_line (file ∷ []) (file ∷ files) 0 0 why.fault refl) why.told;
 }
 
-refused_later : (file : SourceFile) (files : List SourceFile) (circuits : List Circuit) (answer : Answer) → IsRead file.text circuits → IsRefusedFirst files answer → IsRefusedFirst (file ∷ files) answer
+refused_later : {V : Type 0} (file : SourceFile) (files : List SourceFile) (circuits : List Circuit) (answer : Answer V) → IsRead file.text circuits → IsRefusedFirst files answer → IsRefusedFirst (file ∷ files) answer
 refused_later file files circuits answer read later = record {
   number = suc later.number;
   fault = later.fault;
   no_memory = later.no_memory;
   first = (circuits, read, later.first);
-  told = subst (λ (it : List ℕ). IsRefusal it answer) (same_line (sources_in files) (sources_in (file ∷ files)) later.number (suc later.number) later.fault refl) later.told;
+  told = subst (λ (it : List ℕ). IsRefusal it answer) (same_line files (file ∷ files) later.number (suc later.number) later.fault refl) later.told;
 }
 
-refused_by : (read : SourceFile) (refusal rest : Option Answer) (circuits : List Circuit) (files : List SourceFile) (answer : Answer) → IsFound read refusal circuits → or_later refusal rest ≡ Some answer → (rest ≡ Some answer → IsRefusedFirst files answer) → IsRefusedFirst (read ∷ files) answer
+refused_by : {V : Type 0} (read : SourceFile) (refusal rest : Option (Answer V)) (circuits : List Circuit) (files : List SourceFile) (answer : Answer V) → IsFound read refusal circuits → or_later refusal rest ≡ Some answer → (rest ≡ Some answer → IsRefusedFirst files answer) → IsRefusedFirst (read ∷ files) answer
 refused_by read None rest circuits files answer found is later =
     refused_later read files circuits answer found.read (later is)
-refused_by read (Some other) rest circuits files answer found is later =
+refused_by {V} read (Some other) rest circuits files answer found is later =
     let same : other ≡ answer = cc in
-    refused_here read files answer (subst (λ (it : Answer). Refuses read it) same found.0)
+    refused_here read files answer (subst (λ (it : Answer V). Refuses read it) same found.0)
 
-first_refused : (files : List SourceFile) (readings : List (Option Reading)) (modules : List (List Circuit)) (answer : Answer) → AreReadings files readings modules → changed_count files readings ≡ 0 → first_refusal readings ≡ Some answer → IsRefusedFirst files answer
+first_refused : {V : Type 0} (files : List SourceFile) (readings : List (Option (Reading V))) (modules : List (List Circuit)) (answer : Answer V) → AreReadings files readings modules → changed_count files readings ≡ 0 → first_refusal readings ≡ Some answer → IsRefusedFirst files answer
 first_refused [] (reading ∷ readings) modules answer right same is = absurd right
 first_refused [] [] modules answer right same is = absurd (cc)
 first_refused (file ∷ files) [] modules answer right same is = absurd right
@@ -162,14 +162,10 @@ first_refused (file ∷ files) (reading ∷ readings) (circuits ∷ modules) ans
     (refused_by now.read (refusal_of reading) (first_refusal readings) circuits files answer now.found is
     (λ (later : first_refusal readings ≡ Some answer). first_refused files readings modules answer right.1 unchanged_all.rest later))
 
-pub all_refused : (files : List SourceFile) (readings : List (Option Reading)) (modules : List (List Circuit)) (answer : Answer) (top : List ℕ) → AreReadings files readings modules → changed_count files readings ≡ 0 → first_refusal readings ≡ Some answer → IsFresh files top answer
-all_refused files readings modules answer top right same is =
+pub all_refused : {V : Type 0} (files : List SourceFile) (readings : List (Option (Reading V))) (modules : List (List Circuit)) (answer : Answer V) → AreReadings files readings modules → changed_count files readings ≡ 0 → first_refusal readings ≡ Some answer → IsFirstRefused files answer
+all_refused files readings modules answer right same is =
     let first = first_refused files readings modules answer right same is in
-    record {
-      front = Faulty first.number first.fault;
-      is_front = (first.no_memory, first.first);
-      is = first.told;
-    }
+    record { number = first.number; fault = first.fault; faulty = (first.no_memory, first.first); told = first.told }
 
 -- ---- one list of modules
 
@@ -177,19 +173,19 @@ all_refused files readings modules answer top right same is =
 abbrev pub NeverBoth : Type 0
 NeverBoth = (texts : List (List ℕ)) (circuits : List (List Circuit)) (number : ℕ) (fault : FileFault) → is_memory fault ≡ false → AreRead texts circuits → IsFirst texts number fault → ⊥
 
-defined_by : NeverBoth → (read : SourceFile) (refusal : Option Answer) (circuits others : List Circuit) → IsFound read refusal circuits → Defines read.text others → others ≡ circuits
+defined_by : {V : Type 0} → NeverBoth → (read : SourceFile) (refusal : Option (Answer V)) (circuits others : List Circuit) → IsFound read refusal circuits → Defines read.text others → others ≡ circuits
 defined_by never read None circuits others found (inl spelled) = found.only others spelled
 defined_by never read None circuits others found (inr none) = absurd (none.1 circuits found.read)
 defined_by never read (Some answer) circuits others found (inl spelled) =
     absurd (never (read.text ∷ []) (others ∷ []) 0 found.0.fault found.0.no_memory (spelled, tt) found.0.faulty)
 defined_by never read (Some answer) circuits others found (inr none) = none.0 ∙ sym found.1
 
-defined_one : NeverBoth → (file : SourceFile) (reading : Option Reading) (circuits others : List Circuit) → IsReadNow file reading circuits → Defines file.text others → others ≡ circuits
+defined_one : {V : Type 0} → NeverBoth → (file : SourceFile) (reading : Option (Reading V)) (circuits others : List Circuit) → IsReadNow file reading circuits → Defines file.text others → others ≡ circuits
 defined_one never file reading circuits others now defined =
     defined_by never now.read (refusal_of reading) circuits others now.found
     (subst (λ (it : SourceFile). Defines it.text others) (sym now.same) defined)
 
-pub one_list : NeverBoth → (files : List SourceFile) (readings : List (Option Reading)) (modules others : List (List Circuit)) → AreReadings files readings modules → changed_count files readings ≡ 0 → AreDefined (texts_in files) others → others ≡ modules
+pub one_list : {V : Type 0} → NeverBoth → (files : List SourceFile) (readings : List (Option (Reading V))) (modules others : List (List Circuit)) → AreReadings files readings modules → changed_count files readings ≡ 0 → AreDefined (texts_in files) others → others ≡ modules
 one_list never [] (reading ∷ readings) modules others right same defined = absurd right
 one_list never [] [] (circuits ∷ modules) others right same defined = absurd right
 one_list never [] [] [] [] right same defined = refl

@@ -7,7 +7,7 @@ use Rattle.std.proofs.lemmas.Option.{slice_get-get_or}
 use Rattle.std.proofs.lemmas.Slice.Eq.{bytes_eq-Decides}
 use Rattle.rtl_tree.specs.TreeModule.{Circuit}
 use Rattle.desk_files.specs.Sources.{is_before, is_named, place_of, with_file, with_file_at, with_file_by, without_file}
-use Rattle.desk_files.specs.declared.files.SourceFile.{SourceFile}
+use Rattle.source_file.specs.declared.SourceFile.{SourceFile}
 use Rattle.desk_memo.specs.Readings.{AreReadings, IsReading, Reading, blank_at, blank_by, blank_in, is_as_read, with_blank, without}
 use Rattle.desk_memo.specs.ShownReadings.{are_as_read, flags_in, is_current, marked, reading_of, readings_in}
 use Rattle.desk_memo.specs.declared.reading.Reading.{Reading as Held}
@@ -21,7 +21,7 @@ map_blank f blank (Some zero) (x ∷ xs) = refl
 map_blank f blank (Some (suc place)) [] = refl
 map_blank f blank (Some (suc place)) (x ∷ xs) = ap (λ it. f x ∷ it) (map_blank f blank (Some place) xs)
 
-pub right_blank : (file : SourceFile) (place : Option ℕ) (files : List SourceFile) (readings : List (Option Reading)) (modules : List (List Circuit)) → AreReadings files readings modules → AreReadings (blank_in file place files) (blank_in None place readings) (blank_in [] place modules)
+pub right_blank : {V : Type 0} (file : SourceFile) (place : Option ℕ) (files : List SourceFile) (readings : List (Option (Reading V))) (modules : List (List Circuit)) → AreReadings files readings modules → AreReadings (blank_in file place files) (blank_in None place readings) (blank_in [] place modules)
 right_blank file place [] (reading ∷ readings) modules right = absurd right
 right_blank file place [] [] (circuits ∷ modules) right = absurd right
 right_blank file place (first ∷ files) [] modules right = absurd right
@@ -36,7 +36,7 @@ right_blank file (Some zero) (first ∷ files) (reading ∷ readings) (circuits 
 right_blank file (Some (suc place)) (first ∷ files) (reading ∷ readings) (circuits ∷ modules) right =
     (right.0, right_blank file (Some place) files readings modules right.1)
 
-pub flags_blank : (file : SourceFile) (place : Option ℕ) (files : List SourceFile) (readings : List (Option Reading)) (modules : List (List Circuit)) → AreReadings files readings modules → blank_in false place (are_as_read files readings) ≡ are_as_read (blank_in file place files) (blank_in None place readings)
+pub flags_blank : {V : Type 0} (file : SourceFile) (place : Option ℕ) (files : List SourceFile) (readings : List (Option (Reading V))) (modules : List (List Circuit)) → AreReadings files readings modules → blank_in false place (are_as_read files readings) ≡ are_as_read (blank_in file place files) (blank_in None place readings)
 flags_blank file place [] (reading ∷ readings) modules right = absurd right
 flags_blank file place (first ∷ files) [] modules right = absurd right
 flags_blank file place (first ∷ files) (reading ∷ readings) [] right = absurd right
@@ -93,21 +93,21 @@ file_stays file files place held is inside read same =
 
 -- ---- a file that is there gets another text
 
-same_reading : (file : SourceFile) (held : Option Held) → option_map reading_of (marked file held) ≡ option_map reading_of held
+same_reading : {V : Type 0} (file : SourceFile) (held : Option (Held V)) → option_map reading_of (marked file held) ≡ option_map reading_of held
 same_reading file None = refl
 same_reading file (Some held) = refl
 
-pub same_readings : (file : SourceFile) (place : ℕ) (helds : List (Option Held)) (d : Option Held) → readings_in (set helds place (marked file (get_or helds place d))) ≡ readings_in helds
+pub same_readings : {V : Type 0} (file : SourceFile) (place : ℕ) (helds : List (Option (Held V))) (d : Option (Held V)) → readings_in (set helds place (marked file (get_or helds place d))) ≡ readings_in helds
 same_readings file place [] d = refl
 same_readings file zero (held ∷ helds) d = ap (λ it. it ∷ readings_in helds) (same_reading file held)
 same_readings file (suc place) (held ∷ helds) d =
     ap (λ it. option_map reading_of held ∷ it) (same_readings file place helds d)
 
-other_name : (file first : SourceFile) (reading : Option Reading) (circuits : List Circuit) → first.name ≡ file.name → IsReading first reading circuits → IsReading file reading circuits
+other_name : {V : Type 0} (file first : SourceFile) (reading : Option (Reading V)) (circuits : List Circuit) → first.name ≡ file.name → IsReading first reading circuits → IsReading file reading circuits
 other_name file first None circuits same right = right
 other_name file first (Some reading) circuits same right = (right.0 ∙ same, right.1)
 
-pub right_marked : (file : SourceFile) (place : ℕ) (files : List SourceFile) (readings : List (Option Reading)) (modules : List (List Circuit)) (d : SourceFile) → place < length files → is_named file.name (get_or files place d) ≡ true → AreReadings files readings modules → AreReadings (set files place file) readings modules
+pub right_marked : {V : Type 0} (file : SourceFile) (place : ℕ) (files : List SourceFile) (readings : List (Option (Reading V))) (modules : List (List Circuit)) (d : SourceFile) → place < length files → is_named file.name (get_or files place d) ≡ true → AreReadings files readings modules → AreReadings (set files place file) readings modules
 right_marked file place [] readings modules d inside named right = absurd (omega arith)
 right_marked file place (first ∷ files) [] modules d inside named right = absurd right
 right_marked file place (first ∷ files) (reading ∷ readings) [] d inside named right = absurd right
@@ -116,21 +116,21 @@ right_marked file zero (first ∷ files) (reading ∷ readings) (circuits ∷ mo
 right_marked file (suc place) (first ∷ files) (reading ∷ readings) (circuits ∷ modules) d inside named right =
     (right.0, right_marked file place files readings modules d (omega arith) named right.1)
 
-marked_is : (file : SourceFile) (held : Option Held) → is_current (marked file held) ≡ is_as_read file (option_map reading_of held)
+marked_is : {V : Type 0} (file : SourceFile) (held : Option (Held V)) → is_current (marked file held) ≡ is_as_read file (option_map reading_of held)
 marked_is file None = refl
 marked_is file (Some held) = refl
 
-none_marked : (file : SourceFile) (place : ℕ) (helds : List (Option Held)) (d : Option Held) → flags_in helds ≡ [] → flags_in (set helds place (marked file (get_or helds place d))) ≡ []
+none_marked : {V : Type 0} (file : SourceFile) (place : ℕ) (helds : List (Option (Held V))) (d : Option (Held V)) → flags_in helds ≡ [] → flags_in (set helds place (marked file (get_or helds place d))) ≡ []
 none_marked file place [] d none = refl
 none_marked file place (held ∷ helds) d none = absurd (cc)
 
-absurd_or_same : (file : SourceFile) (place : ℕ) (first : SourceFile) (files : List SourceFile) → [] ≡ are_as_read (set (first ∷ files) place file) []
-absurd_or_same file zero first files = refl
-absurd_or_same file (suc place) first files = refl
+absurd_or_same : (V : Type 0) (file : SourceFile) (place : ℕ) (first : SourceFile) (files : List SourceFile) → [] ≡ are_as_read {V = V} (set (first ∷ files) place file) []
+absurd_or_same V file zero first files = refl
+absurd_or_same V file (suc place) first files = refl
 
-pub flags_marked : (file : SourceFile) (place : ℕ) (files : List SourceFile) (helds : List (Option Held)) (d : Option Held) → flags_in helds ≡ are_as_read files (readings_in helds) → flags_in (set helds place (marked file (get_or helds place d))) ≡ are_as_read (set files place file) (readings_in helds)
+pub flags_marked : {V : Type 0} (file : SourceFile) (place : ℕ) (files : List SourceFile) (helds : List (Option (Held V))) (d : Option (Held V)) → flags_in helds ≡ are_as_read files (readings_in helds) → flags_in (set helds place (marked file (get_or helds place d))) ≡ are_as_read (set files place file) (readings_in helds)
 flags_marked file place [] helds d flagged = none_marked file place helds d flagged
-flags_marked file place (first ∷ files) [] d flagged = absurd_or_same file place first files
+flags_marked {V} file place (first ∷ files) [] d flagged = absurd_or_same V file place first files
 flags_marked file zero (first ∷ files) (held ∷ helds) d flagged =
     let rest : flags_in helds ≡ are_as_read files (readings_in helds) = cc in
     ap (λ it. it ∷ flags_in helds) (marked_is file held)
@@ -147,17 +147,17 @@ map_if : {X Y : Type 0} (f : X → Y) (named : Bool) (x : X) (xs : List X) → m
 map_if f true x xs = refl
 map_if f false x xs = refl
 
-right_if : (named : Bool) (file : SourceFile) (reading : Option Reading) (circuits : List Circuit) (files : List SourceFile) (readings : List (Option Reading)) (modules : List (List Circuit)) → IsReading file reading circuits → AreReadings files readings modules → AreReadings (cond (not named) (file ∷ files) files) (if named then readings else reading ∷ readings) (if named then modules else circuits ∷ modules)
+right_if : {V : Type 0} (named : Bool) (file : SourceFile) (reading : Option (Reading V)) (circuits : List Circuit) (files : List SourceFile) (readings : List (Option (Reading V))) (modules : List (List Circuit)) → IsReading file reading circuits → AreReadings files readings modules → AreReadings (cond (not named) (file ∷ files) files) (if named then readings else reading ∷ readings) (if named then modules else circuits ∷ modules)
 right_if true file reading circuits files readings modules here rest = rest
 right_if false file reading circuits files readings modules here rest = (here, rest)
 
-flags_if : (named : Bool) (file : SourceFile) (reading : Option Reading) (files : List SourceFile) (readings : List (Option Reading)) → (if named then are_as_read files readings else is_as_read file reading ∷ are_as_read files readings) ≡ are_as_read (cond (not named) (file ∷ files) files) (if named then readings else reading ∷ readings)
+flags_if : {V : Type 0} (named : Bool) (file : SourceFile) (reading : Option (Reading V)) (files : List SourceFile) (readings : List (Option (Reading V))) → (if named then are_as_read files readings else is_as_read file reading ∷ are_as_read files readings) ≡ are_as_read (cond (not named) (file ∷ files) files) (if named then readings else reading ∷ readings)
 flags_if true file reading files readings = refl
 flags_if false file reading files readings = refl
 
-no_flags : (files : List SourceFile) → [] ≡ are_as_read files []
-no_flags [] = refl
-no_flags (file ∷ files) = refl
+no_flags : (V : Type 0) (files : List SourceFile) → [] ≡ are_as_read {V = V} files []
+no_flags V [] = refl
+no_flags V (file ∷ files) = refl
 
 pub map_without : {X Y : Type 0} (f : X → Y) (name : List ℕ) (files : List SourceFile) (xs : List X) → map f (without name files xs) ≡ without name files (map f xs)
 map_without f name [] xs = refl
@@ -166,7 +166,7 @@ map_without f name (file ∷ files) (x ∷ xs) =
     map_if f (is_named name file) x (without name files xs)
     ∙ ap (λ it. if is_named name file then it else f x ∷ it) (map_without f name files xs)
 
-pub right_without : (name : List ℕ) (files : List SourceFile) (readings : List (Option Reading)) (modules : List (List Circuit)) → AreReadings files readings modules → AreReadings (without_file name files) (without name files readings) (without name files modules)
+pub right_without : {V : Type 0} (name : List ℕ) (files : List SourceFile) (readings : List (Option (Reading V))) (modules : List (List Circuit)) → AreReadings files readings modules → AreReadings (without_file name files) (without name files readings) (without name files modules)
 right_without name [] (reading ∷ readings) modules right = absurd right
 right_without name [] [] (circuits ∷ modules) right = absurd right
 right_without name (file ∷ files) [] modules right = absurd right
@@ -176,9 +176,9 @@ right_without name (file ∷ files) (reading ∷ readings) (circuits ∷ modules
     right_if (is_named name file) file reading circuits (without_file name files) (without name files readings) (without name files modules)
     right.0 (right_without name files readings modules right.1)
 
-pub flags_without : (name : List ℕ) (files : List SourceFile) (readings : List (Option Reading)) → without name files (are_as_read files readings) ≡ are_as_read (without_file name files) (without name files readings)
+pub flags_without : {V : Type 0} (name : List ℕ) (files : List SourceFile) (readings : List (Option (Reading V))) → without name files (are_as_read files readings) ≡ are_as_read (without_file name files) (without name files readings)
 flags_without name [] readings = refl
-flags_without name (file ∷ files) [] = no_flags (without_file name (file ∷ files))
+flags_without {V} name (file ∷ files) [] = no_flags V (without_file name (file ∷ files))
 flags_without name (file ∷ files) (reading ∷ readings) =
     ap (λ it. if is_named name file then it else is_as_read file reading ∷ it) (flags_without name files readings)
     ∙ flags_if (is_named name file) file reading (without_file name files) (without name files readings)

@@ -4,11 +4,10 @@ use Rattle.std.specs.declared.alloc.Global.{Global}
 use Rattle.std.proofs.Common.{◌≡◌, ◌<◌, length, get_or, sym, subst, arith}
 use Rattle.rtl_tree.specs.TreeModule.{Circuit, circuit}
 use Rattle.rtl_tree.specs.declared.tree.modules.Module.{Module}
-use Rattle.rtl_front.specs.Fronts.{IsFaulty, IsFirstFaulty, IsRead}
+use Rattle.rtl_front.specs.Fronts.{AreSpelled, IsFaulty, IsFirstFaulty, IsRead}
 use Rattle.rtl_front.specs.declared.fault.FileFault.{FileFault}
 use Rattle.rtl_front.specs.declared.fault.SourceFault.TheVariants as source
-use Rattle.elab_names.specs.elab_links.Modules.{circuits_of}
-use Rattle.desk_build.specs.Building.{AreSpelled}
+use Rattle.elab_lookups.specs.elab_links.Modules.{circuits_of}
 use Rattle.desk_memo.specs.Readings.{Spells}
 
 -- the modules of one text are those of the list of that text alone

@@ -1,7 +1,7 @@
 -- Readings of two files.
 use Rattle.std.proofs.Common.{◌≡◌, ℕ, List, [], ◌∷◌, Option, None, Some, refl, codes}
 use Rattle.rtl_tree.specs.TreeModule.{Circuit}
-use Rattle.desk_files.specs.declared.files.SourceFile.{SourceFile}
+use Rattle.source_file.specs.declared.SourceFile.{SourceFile}
 use Rattle.desk_memo.specs.declared.answer.Answer.{Answer}
 use Rattle.desk_memo.specs.Exchanges.{put_in}
 use Rattle.desk_memo.specs.Readings.{AreReadings, Reading, Spells, changed_count, file_at, first_refusal, with_blank, without}
@@ -12,27 +12,27 @@ file its_name its_text = record { name = its_name; text = its_text }
 abbrev both : List SourceFile
 both = file (codes "a.v") (codes "1") ∷ file (codes "c.v") (codes "2") ∷ []
 
-abbrev read : SourceFile → Option Answer → Option Reading
+abbrev read : {V : Type 0} → SourceFile → Option (Answer V) → Option (Reading V)
 read its_file its_refusal = Some (record { file = its_file; refusal = its_refusal })
 
 -- ---- texts that have changed
 
-a_file_without_a_reading_counts : changed_count both (None ∷ read (file (codes "c.v") (codes "2")) None ∷ []) ≡ 1
-a_file_without_a_reading_counts = refl
+a_file_without_a_reading_counts : (V : Type 0) → changed_count {V = V} both (None ∷ read (file (codes "c.v") (codes "2")) None ∷ []) ≡ 1
+a_file_without_a_reading_counts V = refl
 
-another_text_counts : changed_count both (read (file (codes "a.v") (codes "1")) None ∷ read (file (codes "c.v") (codes "3")) None ∷ []) ≡ 1
-another_text_counts = refl
+another_text_counts : (V : Type 0) → changed_count {V = V} both (read (file (codes "a.v") (codes "1")) None ∷ read (file (codes "c.v") (codes "3")) None ∷ []) ≡ 1
+another_text_counts V = refl
 
-a_text_that_was_read_does_not : changed_count both (read (file (codes "a.v") (codes "1")) None ∷ read (file (codes "c.v") (codes "2")) None ∷ []) ≡ 0
-a_text_that_was_read_does_not = refl
+a_text_that_was_read_does_not : (V : Type 0) → changed_count {V = V} both (read (file (codes "a.v") (codes "1")) None ∷ read (file (codes "c.v") (codes "2")) None ∷ []) ≡ 0
+a_text_that_was_read_does_not V = refl
 
 -- ---- refusals
 
-the_first_refusal_is_told : (some other : Answer) → first_refusal (None ∷ read (file (codes "a.v") (codes "1")) (Some some) ∷ read (file (codes "c.v") (codes "2")) (Some other) ∷ []) ≡ Some some
+the_first_refusal_is_told : {V : Type 0} (some other : Answer V) → first_refusal (None ∷ read (file (codes "a.v") (codes "1")) (Some some) ∷ read (file (codes "c.v") (codes "2")) (Some other) ∷ []) ≡ Some some
 the_first_refusal_is_told some other = refl
 
-files_that_spell_modules_tell_none : first_refusal (None ∷ read (file (codes "c.v") (codes "2")) None ∷ []) ≡ None
-files_that_spell_modules_tell_none = refl
+files_that_spell_modules_tell_none : (V : Type 0) → first_refusal {V = V} (None ∷ read (file (codes "c.v") (codes "2")) None ∷ []) ≡ None
+files_that_spell_modules_tell_none V = refl
 
 -- ---- files that come and go
 
@@ -50,12 +50,12 @@ what_is_kept_of_a_dropped_file_goes = refl
 
 -- ---- readings that are right
 
-a_file_as_it_was_read : file_at (None ∷ read (file (codes "c.v") (codes "3")) None ∷ []) 1 ≡ Some (file (codes "c.v") (codes "3"))
-a_file_as_it_was_read = refl
+a_file_as_it_was_read : (V : Type 0) → file_at {V = V} (None ∷ read (file (codes "c.v") (codes "3")) None ∷ []) 1 ≡ Some (file (codes "c.v") (codes "3"))
+a_file_as_it_was_read V = refl
 
 -- a new file has no modules yet, and one whose text has changed has those of the text that was read
-modules_are_of_the_text_that_was_read : (circuits : List Circuit) → Spells (codes "3") circuits → AreReadings both (None ∷ read (file (codes "c.v") (codes "3")) None ∷ []) ([] ∷ circuits ∷ [])
-modules_are_of_the_text_that_was_read circuits spelled = (refl, ((refl, spelled), tt))
+modules_are_of_the_text_that_was_read : (V : Type 0) (circuits : List Circuit) → Spells (codes "3") circuits → AreReadings {V = V} both (None ∷ read (file (codes "c.v") (codes "3")) None ∷ []) ([] ∷ circuits ∷ [])
+modules_are_of_the_text_that_was_read V circuits spelled = (refl, ((refl, spelled), tt))
 
 -- ---- exchanges
 

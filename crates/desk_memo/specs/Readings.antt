@@ -2,48 +2,51 @@
 -- Worked examples: proofs/ReadingsExample.antt.
 use Rattle.std.specs.Prelude.{◌≡◌, ℕ, ◌+◌, ◌⊎◌, ⊤, Bool, false, bytes_eq, if◌then◌else◌, insert, List, [], ◌∷◌, ◌++◌, Option, None, Some, option_and_then, option_map, slice_get}
 use Rattle.rtl_tree.specs.TreeModule.{Circuit}
-use Rattle.rtl_front.specs.Fronts.{IsFaulty, IsRead, is_memory}
+use Rattle.rtl_front.specs.Fronts.{IsFaulty, IsFirstFaulty, IsRead, is_memory}
 use Rattle.rtl_front.specs.declared.fault.FileFault.{FileFault}
+use Rattle.rtl_front.specs.declared.fault.SourceFault.TheVariants as source
+use Rattle.desk_refusals.specs.Refusals.{source_line}
 use Rattle.desk_files.specs.Sources.{is_named, place_of}
-use Rattle.desk_files.specs.declared.files.SourceFile.{SourceFile}
-use Rattle.desk_memo.specs.Fresh.{IsRefusal, refusal_line}
+use Rattle.source_file.specs.declared.SourceFile.{SourceFile}
+use Rattle.desk_memo.specs.Texts.{IsRefusal, refusal_line}
+use Rattle.source_file.specs.SourceFiles.{texts_in}
 use Rattle.desk_memo.specs.declared.answer.Answer.{Answer}
 
 -- a file as it was read last, and the refusal of it where it spells no modules
-pub record Reading : Type 0 where
+pub record Reading (V : Type 0) : Type 0 where
   pub file : SourceFile
-  pub refusal : Option Answer
+  pub refusal : Option (Answer V)
 
 -- the file with a number, as it was read last
-abbrev pub file_at : List (Option Reading) → ℕ → Option SourceFile
+abbrev pub file_at : {V : Type 0} → List (Option (Reading V)) → ℕ → Option SourceFile
 file_at readings number =
     option_map (λ reading. reading.file) (option_and_then (λ reading. reading) (slice_get readings number))
 
 -- ---- the files whose texts have changed
 
 -- the file's text is the one that was read last
-abbrev pub is_as_read : SourceFile → Option Reading → Bool
+abbrev pub is_as_read : {V : Type 0} → SourceFile → Option (Reading V) → Bool
 is_as_read file None = false
 is_as_read file (Some reading) = bytes_eq reading.file.text file.text
 
 -- how many files are new, or have another text than the one that was read last
-abbrev pub changed_count : List SourceFile → List (Option Reading) → ℕ
+abbrev pub changed_count : {V : Type 0} → List SourceFile → List (Option (Reading V)) → ℕ
 changed_count (file ∷ files) (reading ∷ readings) =
     (if is_as_read file reading then 0 else 1) + changed_count files readings
 changed_count _ _ = 0
 
 -- ---- the first refusal
 
-abbrev pub refusal_of : Option Reading → Option Answer
+abbrev pub refusal_of : {V : Type 0} → Option (Reading V) → Option (Answer V)
 refusal_of None = None
 refusal_of (Some reading) = reading.refusal
 
-abbrev pub or_later : Option Answer → Option Answer → Option Answer
+abbrev pub or_later : {V : Type 0} → Option (Answer V) → Option (Answer V) → Option (Answer V)
 or_later (Some answer) later = Some answer
 or_later None later = later
 
 -- the refusal of the first file that was found to spell no modules
-abbrev pub first_refusal : List (Option Reading) → Option Answer
+abbrev pub first_refusal : {V : Type 0} → List (Option (Reading V)) → Option (Answer V)
 first_refusal [] = None
 first_refusal (reading ∷ readings) = or_later (refusal_of reading) (first_refusal readings)
 
@@ -55,26 +58,26 @@ pub record Spells (text : List ℕ) (circuits : List Circuit) : Type 0 where
   pub only : (others : List Circuit) → IsRead text others → others ≡ circuits
 
 -- the file spells no modules, and the answer says why
-pub record Refuses (file : SourceFile) (answer : Answer) : Type 0 where
+pub record Refuses {V : Type 0} (file : SourceFile) (answer : Answer V) : Type 0 where
   pub fault : FileFault
   pub no_memory : is_memory fault ≡ false
   pub faulty : IsFaulty file.text fault
   pub told : IsRefusal (refusal_line file fault) answer
 
 -- what a file was found to be: what its text spells, or why it spells none
-abbrev pub IsFound : SourceFile → Option Answer → List Circuit → Type 0
+abbrev pub IsFound : {V : Type 0} → SourceFile → Option (Answer V) → List Circuit → Type 0
 IsFound file None circuits = Spells file.text circuits
 IsFound file (Some answer) circuits = Refuses file answer × (circuits ≡ [])
 
 -- the modules that are kept of a file are those that its text spelled when it was read last; none
 -- where it spelled none, or was never read
-abbrev pub IsReading : SourceFile → Option Reading → List Circuit → Type 0
+abbrev pub IsReading : {V : Type 0} → SourceFile → Option (Reading V) → List Circuit → Type 0
 IsReading file None circuits = circuits ≡ []
 IsReading file (Some reading) circuits =
     (reading.file.name ≡ file.name) × IsFound reading.file reading.refusal circuits
 
 -- the readings of files, with their modules, file by file
-abbrev pub AreReadings : List SourceFile → List (Option Reading) → List (List Circuit) → Type 0
+abbrev pub AreReadings : {V : Type 0} → List SourceFile → List (Option (Reading V)) → List (List Circuit) → Type 0
 AreReadings [] [] [] = ⊤
 AreReadings (file ∷ files) (reading ∷ readings) (circuits ∷ modules) =
     IsReading file reading circuits × AreReadings files readings modules
@@ -89,6 +92,13 @@ abbrev pub AreDefined : List (List ℕ) → List (List Circuit) → Type 0
 AreDefined [] [] = ⊤
 AreDefined (text ∷ texts) (circuits ∷ modules) = Defines text circuits × AreDefined texts modules
 AreDefined _ _ = ⊥
+
+-- the first of files that spells no modules is refused, and the answer is its line
+pub record IsFirstRefused {V : Type 0} (files : List SourceFile) (answer : Answer V) : Type 0 where
+  pub number : ℕ
+  pub fault : FileFault
+  pub faulty : IsFirstFaulty (texts_in files) (source.Refused number fault)
+  pub told : IsRefusal (source_line files number fault) answer
 
 -- ---- files that come and go
 

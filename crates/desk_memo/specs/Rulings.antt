@@ -1,31 +1,25 @@
 -- Answers that are kept beside what they looked up, and when they still hold.
 -- Worked examples: proofs/Example.antt.
-use Rattle.std.specs.Prelude.{ℕ, ◌≡◌, ◌==◌, ◌&&◌, not, Bool, true, false, bytes_eq, find, if◌then◌else◌, List, [], ◌∷◌, Option, None, Some, filter, slice_get}
+use Rattle.std.specs.Prelude.{ℕ, ◌==◌, ◌&&◌, not, Bool, true, false, bytes_eq, find, if◌then◌else◌, List, [], ◌∷◌, Option, None, Some, filter, slice_get}
 use Rattle.std.specs.List.{list_all, list_any}
 use Rattle.std.specs.Option.{option_map}
 use Rattle.rtl_tree.specs.TreeModule.{Circuit}
-use Rattle.rtl_front.specs.Fronts.{AreRead}
-use Rattle.elab_names.specs.elab_links.Modules.{all_placed, found}
-use Rattle.elab_names.specs.elab_links.declared.module_set.Lookup.{Lookup}
-use Rattle.elab_names.specs.elab_links.declared.module_set.Lookup.TheVariants.{Missing, Found, Twice}
-use Rattle.elab_names.specs.Extracts.{extract}
-use Rattle.elab_names.specs.LookUps.{AreLookUps, AreUsed}
-use Rattle.elab_names.specs.declared.look_up.LookUp.{LookUp}
-use Rattle.elab_names.specs.rtl_elab.Designs.{library_of}
-use Rattle.elab_names.specs.rtl_elab.Elaborated.{elaborated}
+use Rattle.elab_lookups.specs.elab_links.Modules.{all_placed, found}
+use Rattle.elab_lookups.specs.elab_links.declared.module_set.Lookup.{Lookup}
+use Rattle.elab_lookups.specs.elab_links.declared.module_set.Lookup.TheVariants.{Missing, Found, Twice}
+use Rattle.elab_lookups.specs.declared.look_up.LookUp.{LookUp}
 use Rattle.desk_files.specs.Sources.{is_named}
-use Rattle.desk_files.specs.declared.files.SourceFile.{SourceFile}
-use Rattle.desk_memo.specs.Fresh.{IsOfDesign, sources_at, texts_in}
-use Rattle.desk_memo.specs.Orders.{AreInOrder}
+use Rattle.source_file.specs.declared.SourceFile.{SourceFile}
+use Rattle.source_file.specs.SourceFiles.{texts_in}
 use Rattle.desk_memo.specs.declared.answer.Answer.{Answer}
 
 -- an answer with its top, the names that it looked up, whose places number its files among themselves, and the files that it
 -- used, in the order of their names
-pub record Ruling : Type 0 where
+pub record Ruling (V : Type 0) : Type 0 where
   pub top : List ℕ
   pub look_ups : List LookUp
   pub used : List SourceFile
-  pub answer : Answer
+  pub answer : Answer V
 
 -- ---- when it still holds
 
@@ -54,35 +48,35 @@ abbrev pub is_there : List SourceFile → SourceFile → Bool
 is_there files used = is_same_text (find (is_named used.name) files) used
 
 -- each file that was used is there, and each name that was looked up means what it meant
-abbrev pub is_current : List SourceFile → List (List Circuit) → Ruling → Bool
+abbrev pub is_current : {V : Type 0} → List SourceFile → List (List Circuit) → Ruling V → Bool
 is_current files modules ruling =
     list_all (is_there files) ruling.used
     && list_all (is_meant files modules ruling.used) ruling.look_ups
 
-abbrev pub is_of : List ℕ → Ruling → Bool
+abbrev pub is_of : {V : Type 0} → List ℕ → Ruling V → Bool
 is_of top ruling = bytes_eq ruling.top top
 
-abbrev pub is_current_of : List SourceFile → List (List Circuit) → List ℕ → Ruling → Bool
+abbrev pub is_current_of : {V : Type 0} → List SourceFile → List (List Circuit) → List ℕ → Ruling V → Bool
 is_current_of files modules top ruling = is_of top ruling && is_current files modules ruling
 
 -- the ruling of a top that still holds
-abbrev pub current_of : List SourceFile → List (List Circuit) → List ℕ → List Ruling → Option Ruling
+abbrev pub current_of : {V : Type 0} → List SourceFile → List (List Circuit) → List ℕ → List (Ruling V) → Option (Ruling V)
 current_of files modules top rulings =
     find (is_current_of files modules top) rulings
 
 -- its answer
-abbrev pub current_answer : List SourceFile → List (List Circuit) → List ℕ → List Ruling → Option Answer
-current_answer files modules top rulings =
-    option_map (λ (ruling : Ruling). ruling.answer) (current_of files modules top rulings)
+abbrev pub current_answer : {V : Type 0} → List SourceFile → List (List Circuit) → List ℕ → List (Ruling V) → Option (Answer V)
+current_answer {V} files modules top rulings =
+    option_map (λ (ruling : Ruling V). ruling.answer) (current_of files modules top rulings)
 
 -- the rulings with this one: in place of the first of its top, or behind all
-abbrev pub with_ruling : Ruling → List Ruling → List Ruling
+abbrev pub with_ruling : {V : Type 0} → Ruling V → List (Ruling V) → List (Ruling V)
 with_ruling ruling [] = ruling ∷ []
 with_ruling ruling (first ∷ others) =
     if is_of ruling.top first then ruling ∷ others else first ∷ with_ruling ruling others
 
 -- the rulings of other tops
-abbrev pub others_of : List ℕ → List Ruling → List Ruling
+abbrev pub others_of : {V : Type 0} → List ℕ → List (Ruling V) → List (Ruling V)
 others_of top rulings = filter (λ ruling. not (is_of top ruling)) rulings
 
 -- ---- absent tops
@@ -96,20 +90,5 @@ abbrev pub is_own_module : List ℕ → LookUp → Bool
 is_own_module top look_up = bytes_eq look_up.name top && is_found look_up.meant
 
 -- no module, or more than one, had the top's own name
-abbrev pub is_absent : Ruling → Bool
+abbrev pub is_absent : {V : Type 0} → Ruling V → Bool
 is_absent ruling = not (list_any (is_own_module ruling.top) ruling.look_ups)
-
--- ---- what a ruling is
-
--- it is what some files said of its top, with all that was looked up among their modules, and the files that the top used
-pub record IsRuling (ruling : Ruling) : Type 0 where
-  pub files : List SourceFile
-  pub modules : List (List Circuit)
-  pub numbers : List ℕ
-  pub in_order : AreInOrder files
-  pub read : AreRead (texts_in files) modules
-  pub are_used : AreUsed (library_of modules) ruling.top numbers
-  pub used_is : ruling.used ≡ sources_at numbers files
-  pub looked_up : AreLookUps (extract numbers (library_of modules)) ruling.top ruling.look_ups
-  pub is :
-      IsOfDesign ruling.used (elaborated (extract numbers (library_of modules)) ruling.top) ruling.answer

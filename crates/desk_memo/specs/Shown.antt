@@ -4,7 +4,7 @@ use Rattle.std.specs.Prelude.{ℕ, ◌≡◌, Bool, true, find, List, ◌++◌, 
 use Rattle.std.specs.List.{All, filter_map}
 use Rattle.std.specs.Option.{option_map}
 use Rattle.rtl_tree.specs.TreeModule.{Circuit}
-use Rattle.desk_files.specs.declared.files.SourceFile.{SourceFile}
+use Rattle.source_file.specs.declared.SourceFile.{SourceFile}
 use Rattle.desk_memo.specs.Rulings.{Ruling, is_current}
 use Rattle.desk_memo.specs.declared.kept.Kept.{Kept}
 use Rattle.desk_memo.specs.declared.memo.Memo.{Memo}
@@ -13,7 +13,7 @@ use Rattle.desk_memo.specs.declared.used.Used.{Used}
 abbrev pub all_used : List Used → List SourceFile
 all_used held = map (λ used. used.file.value) held
 
-abbrev pub ruling_of : Kept → Ruling
+abbrev pub ruling_of : {V : Type 0} → Kept V → Ruling V
 ruling_of kept =
     record {
       top = kept.top;
@@ -23,37 +23,37 @@ ruling_of kept =
     }
 
 -- the rulings of tops that modules are named by, in the order in which they came first
-abbrev pub rulings_of : Memo → List Ruling
+abbrev pub rulings_of : {V : Type 0} → Memo V → List (Ruling V)
 rulings_of memo = map ruling_of memo.rulings.items
 
 -- that of the last top that no module, or more than one, is named by
-abbrev pub absent_of : Memo → Option Ruling
+abbrev pub absent_of : {V : Type 0} → Memo V → Option (Ruling V)
 absent_of memo = option_map ruling_of memo.absent
 
-abbrev pub all_of : Memo → List Ruling
+abbrev pub all_of : {V : Type 0} → Memo V → List (Ruling V)
 all_of memo = rulings_of memo ++ option_to_list (absent_of memo)
 
 -- ---- what is known to hold
 
 -- where the flag is set, the ruling holds among files and their modules
-abbrev pub IsChecked : List SourceFile → List (List Circuit) → Kept → Type 0
+abbrev pub IsChecked : {V : Type 0} → List SourceFile → List (List Circuit) → Kept V → Type 0
 IsChecked files modules kept =
     kept.is_checked ≡ true → is_current files modules (ruling_of kept) ≡ true
 
-abbrev pub AreAllChecked : List SourceFile → List (List Circuit) → List Kept → Type 0
+abbrev pub AreAllChecked : {V : Type 0} → List SourceFile → List (List Circuit) → List (Kept V) → Type 0
 AreAllChecked files modules kept = All (IsChecked files modules) kept
 
-pub record AreChecked (files : List SourceFile) (modules : List (List Circuit)) (memo : Memo) : Type 0 where
+pub record AreChecked {V : Type 0} (files : List SourceFile) (modules : List (List Circuit)) (memo : Memo V) : Type 0 where
   pub rulings : AreAllChecked files modules memo.rulings.items
   pub absent : IfSome memo.absent (IsChecked files modules)
 
 -- ---- places
 
 -- the place of the first ruling that passes a test
-abbrev pub IsPlaceOf : (Ruling → Bool) → List Ruling → Option ℕ → Type 0
+abbrev pub IsPlaceOf : {V : Type 0} → (Ruling V → Bool) → List (Ruling V) → Option ℕ → Type 0
 IsPlaceOf test rulings None = find test rulings ≡ None
-IsPlaceOf test rulings (Some place) =
-    (ruling : Ruling) × (slice_get rulings place ≡ Some ruling) × (test ruling ≡ true)
+IsPlaceOf {V} test rulings (Some place) =
+    (ruling : Ruling V) × (slice_get rulings place ≡ Some ruling) × (test ruling ≡ true)
     × (find test (take place rulings) ≡ None)
 
 -- ---- the files that a top uses

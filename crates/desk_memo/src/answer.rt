@@ -1,14 +1,32 @@
 // What is answered of a top.
+ghost use Rattle.std.specs.Prelude.{◌≡◌, IfOk};
 
-use desk_verdict::Verdict;
+use rtl_tree::memory::Memory;
 use rtl_tree::text::Text;
+use std::alloc::Global;
 
-/// What files say of a top.
+/// What files say of a top, where `V` is what is said of a design.
 #[derive(Drop)]
-pub enum Answer {
-    /// What the rules say of its design, with the names of the files that it uses, ascending: a
-    /// spot's number counts these.
-    Ruled(Verdict, Vec<Text>),
+pub enum Answer<V> {
+    /// What is said of its design, with the names of the files that it uses, ascending: a spot's
+    /// number counts these.
+    Ruled(V, Vec<Text>),
     /// The line that says why it has no design.
     Refused(Vec<u8>),
+}
+
+impl<V: Drop> Answer<V> {
+    /// The same in a box.
+    ///
+    /// # Errors
+    ///
+    /// Memory ran out.
+    pub fn boxed(self, alloc: Global) -> Result<Box<Answer<V>>, Memory>
+        ensures { IfOk result (λ made. made.value ≡ self) }
+    {
+        match Box::new(alloc, self) {
+            Ok(made) => Ok(made),
+            Err(_) => Err(Memory),
+        }
+    }
 }

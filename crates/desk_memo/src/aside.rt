@@ -9,13 +9,13 @@ use std::alloc::Global;
 /// For each file, in the order of the files: what changes places with what is kept of it, or
 /// nothing.
 #[derive(Drop)]
-pub struct Aside {
-    pub(crate) readings: Vec<Option<Option<Reading>>>,
+pub struct Aside<V> {
+    pub(crate) readings: Vec<Option<Option<Reading<V>>>>,
     pub(crate) modules: Vec<Option<Vec<Module>>>,
 }
 
-impl Aside {
-    pub(crate) fn new(alloc: Global) -> Aside
+impl<V: Drop> Aside<V> {
+    pub(crate) fn new(alloc: Global) -> Aside<V>
         ensures readings { result.readings.items ≡ [] }
         ensures modules { result.modules.items ≡ [] }
     {
@@ -37,7 +37,7 @@ impl Aside {
         Ok(())
     }
 
-    pub(crate) fn push(&mut self, fresh: Fresh) -> Result<(), Memory>
+    pub(crate) fn push(&mut self, fresh: Fresh<V>) -> Result<(), Memory>
         ensures readings { OnOk result
             (self.new.readings.items ≡ self.old.readings.items ++ Some (Some fresh.reading) ∷ []) }
         ensures modules { OnOk result

@@ -1,15 +1,16 @@
 // Whether what was looked up still means the same.
 ghost use Rattle.std.specs.Prelude.{◌≡◌, slice_get};
 ghost use Rattle.std.specs.List.{list_all};
-ghost use Rattle.elab_names.specs.elab_links.Modules.{circuits_of};
+ghost use Rattle.elab_lookups.specs.elab_links.Modules.{circuits_of};
 ghost use Rattle.desk_memo.specs.Rulings.{is_meant, is_same_lookup, is_same_name, is_there};
 ghost use Rattle.desk_memo.specs.Shown.{all_used};
 
 use crate::used::Used;
-use desk_files::{SourceFile, file_named};
-use elab_names::elab_links::module_set::Lookup;
-use elab_names::{LookUp, resolve};
+use desk_files::file_named;
+use elab_lookups::elab_links::module_set::Lookup;
+use elab_lookups::{LookUp, resolve};
 use rtl_tree::tree::modules::Module;
+use source_file::SourceFile;
 
 // Whether the file with a number has the name of the one that was used as the other.
 fn is_same_name(files: &[SourceFile], now: usize, used: &[Used], was: usize) -> bool

@@ -1,38 +1,32 @@
 // A ruling that is kept.
-ghost use Rattle.std.specs.Prelude.{◌≡◌, ◌≤◌, ◌+◌, IfOk, None, false, true};
+ghost use Rattle.std.specs.Prelude.{◌≡◌, IfOk};
 ghost use Rattle.std.specs.List.{list_any};
-ghost use Rattle.elab_names.specs.elab_links.Modules.{all_placed, circuits_of, found, lookups_of};
-ghost use Rattle.desk_memo.specs.Readings.{AreReadings, changed_count, first_refusal};
-ghost use Rattle.desk_memo.specs.ShownReadings.{modules_of, readings_of};
-ghost use Rattle.desk_memo.specs.Orders.{AreInOrder, AreShort};
-ghost use Rattle.desk_memo.specs.Rulings.{IsRuling, is_absent, is_current, is_of, is_own_module};
-ghost use Rattle.desk_memo.specs.Shown.{IsChecked, ruling_of};
+ghost use Rattle.elab_lookups.specs.elab_links.Modules.{circuits_of};
+ghost use Rattle.desk_memo.specs.Readings.{file_at};
+ghost use Rattle.desk_memo.specs.ShownReadings.{readings_of};
+ghost use Rattle.desk_memo.specs.Rulings.{is_absent, is_current, is_of, is_own_module};
+ghost use Rattle.desk_memo.specs.Shown.{IsChecked, ruling_of, used_among};
 
 use crate::answer::Answer;
 use crate::current::{are_meant, are_there};
-use crate::fresh::of_design;
-use crate::reading_law::all_spelled;
 use crate::readings::Readings;
 use crate::used::{Used, used_files};
-use desk_files::SourceFile;
-use elab_names::elab_links::module_set::{Lookup, ModuleSet};
-use elab_names::law::same_names;
-use elab_names::{LookUp, elaborate};
+use elab_lookups::LookUp;
+use elab_lookups::elab_links::module_set::Lookup;
 use rtl_tree::memory::Memory;
 use rtl_tree::text::Text;
 use rtl_tree::tree::modules::Module;
+use source_file::SourceFile;
 use std::alloc::Global;
-use std::sync::ledger::Ledger;
-use steps::Steps;
 
 /// An answer with its top, what it looked up, the files that it used, and whether it is known to
 /// hold.
 #[derive(Drop)]
-pub struct Kept {
+pub struct Kept<V> {
     pub(crate) top: Text,
     look_ups: Vec<LookUp>,
     used: Vec<Used>,
-    pub(crate) answer: Box<Answer>,
+    pub(crate) answer: Box<Answer<V>>,
     pub(crate) is_checked: bool,
 }
 
@@ -45,45 +39,32 @@ fn has_own_module(top: &[u8], look_ups: &[LookUp]) -> bool
     })
 }
 
-impl Kept {
-    /// What files say of a top, kept with what it looked up. The readings are of the files, whose
-    /// texts are as they were read; `set` is made of their modules. It takes at most one step.
+impl<V: Drop> Kept<V> {
+    /// An answer for a top that is known to hold, with what the top looked up and the files that it
+    /// used: of those that were read, the ones with these numbers.
     ///
     /// # Errors
     ///
     /// Memory ran out.
-    pub fn of<L: Ledger>(
+    pub fn new(
         alloc: Global,
-        files: &[SourceFile],
-        readings: &Readings,
-        set: &ModuleSet,
+        readings: &Readings<V>,
         top: &Text,
-        steps: &mut Steps<L>,
-    ) -> Result<Kept, Memory>
-        requires set { lookups_of set.now ≡ found (all_placed (modules_of readings.now)) }
-        requires right { AreReadings files.now (readings_of readings.now)
-            (modules_of readings.now) }
-        requires unchanged { changed_count files.now (readings_of readings.now) ≡ 0 }
-        requires spelled { first_refusal (readings_of readings.now) ≡ None }
-        requires in_order { AreInOrder files.now }
-        requires short { AreShort files.now }
-        ensures counted { steps.new ≤ steps.old + 1 }
-        ensures ruling { IfOk result (λ kept. IsRuling (ruling_of kept)) }
+        look_ups: Vec<LookUp>,
+        numbers: &[usize],
+        answer: Box<Answer<V>>,
+    ) -> Result<Kept<V>, Memory>
         ensures top { IfOk result (λ kept. (ruling_of kept).top ≡ top.now) }
-        ensures current { IfOk result (λ kept.
-            is_current files.now (modules_of readings.now) (ruling_of kept) ≡ true) }
+        ensures look_ups { IfOk result (λ kept. (ruling_of kept).look_ups ≡ look_ups.items) }
+        ensures used { IfOk result (λ kept. (ruling_of kept).used
+            ≡ used_among (file_at (readings_of readings.now)) numbers.now) }
+        ensures answer { IfOk result (λ kept. (ruling_of kept).answer ≡ answer.value) }
     {
-        // The laws say that the files spell the modules, and no others, and that a top looks up the
-        // same names in the files that it uses as among all.
-        all_spelled();
-        same_names();
-        let made = elaborate(alloc, readings.modules(), set, top, steps)?;
-        let used = used_files(alloc, readings, &made.files)?;
-        let answer = of_design(alloc, files, &made.files, &made.design)?;
-        let name = Text::from_bytes(alloc, top.as_bytes())?;
+        let used = used_files(alloc, readings, numbers)?;
+        let top = Text::from_bytes(alloc, top.as_bytes())?;
         Ok(Kept {
-            top: name,
-            look_ups: made.look_ups,
+            top,
+            look_ups,
             used,
             answer,
             is_checked: true,

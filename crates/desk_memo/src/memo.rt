@@ -3,8 +3,8 @@ ghost use Rattle.std.specs.Prelude.{◌≡◌, ◌++◌, ◌∷◌, [], if◌the
 ghost use Rattle.std.specs.Prelude.{map, None, OnErr, OnOk, option_copied, option_to_list, Some};
 ghost use Rattle.std.specs.List.{Contains};
 ghost use Rattle.rtl_tree.specs.TreeModule.{Circuit};
-ghost use Rattle.elab_names.specs.elab_links.Modules.{circuits_of};
-ghost use Rattle.desk_files.specs.declared.files.SourceFile.{SourceFile};
+ghost use Rattle.elab_lookups.specs.elab_links.Modules.{circuits_of};
+ghost use Rattle.source_file.specs.declared.SourceFile.{SourceFile};
 ghost use Rattle.desk_memo.specs.Rulings.{Ruling, current_answer, current_of, is_absent};
 ghost use Rattle.desk_memo.specs.Rulings.{is_current_of, is_of, others_of, with_ruling};
 ghost use Rattle.desk_memo.specs.Shown.{AreAllChecked, AreChecked, IsChecked, IsPlaceOf};
@@ -12,23 +12,23 @@ ghost use Rattle.desk_memo.specs.Shown.{absent_of, all_of, ruling_of, rulings_of
 
 use crate::answer::Answer;
 use crate::kept::Kept;
-use desk_files::SourceFile;
 use rtl_tree::memory::Memory;
 use rtl_tree::text::Text;
 use rtl_tree::tree::modules::Module;
+use source_file::SourceFile;
 use std::alloc::Global;
 
 /// The rulings of tops, one for each, and that of the last top that no module, or more than one, is
 /// named by: of such tops only the last is kept, so that requests for names that aren't there take
 /// no memory for good.
 #[derive(Drop)]
-pub struct Memo {
-    rulings: Vec<Kept>,
-    absent: Option<Kept>,
+pub struct Memo<V> {
+    rulings: Vec<Kept<V>>,
+    absent: Option<Kept<V>>,
 }
 
 // The place of the ruling of a top.
-fn place_of(rulings: &[Kept], top: &[u8]) -> Option<usize>
+fn place_of<V: Drop>(rulings: &[Kept<V>], top: &[u8]) -> Option<usize>
     ensures { IsPlaceOf (is_of top.now) (map ruling_of rulings.now) result }
 {
     for (place, kept) in rulings.iter().enumerate() {
@@ -40,8 +40,8 @@ fn place_of(rulings: &[Kept], top: &[u8]) -> Option<usize>
 }
 
 // The place of the ruling of a top that holds among files and their modules.
-fn current_place(
-    rulings: &[Kept],
+fn current_place<V: Drop>(
+    rulings: &[Kept<V>],
     files: &[SourceFile],
     modules: &[Vec<Module>],
     top: &[u8],
@@ -59,7 +59,7 @@ fn current_place(
 }
 
 // Keeps a ruling in place of that of its top, or behind all.
-fn keep_in(rulings: &mut Vec<Kept>, kept: Kept) -> Result<(), Memory>
+fn keep_in<V: Drop>(rulings: &mut Vec<Kept<V>>, kept: Kept<V>) -> Result<(), Memory>
     ensures rulings { OnOk result (map ruling_of rulings.new.items
         ≡ with_ruling (ruling_of kept) (map ruling_of rulings.old.items)) }
     ensures same { OnErr result (map ruling_of rulings.new.items
@@ -81,7 +81,7 @@ fn keep_in(rulings: &mut Vec<Kept>, kept: Kept) -> Result<(), Memory>
 }
 
 // None of the rulings is known to hold.
-fn doubt_all(rulings: &mut [Kept])
+fn doubt_all<V: Drop>(rulings: &mut [Kept<V>])
     ensures rulings { map ruling_of rulings.new ≡ map ruling_of rulings.old }
     ensures checked { (files : List SourceFile) (modules : List (List Circuit))
         → AreAllChecked files modules rulings.new }
@@ -91,9 +91,9 @@ fn doubt_all(rulings: &mut [Kept])
     }
 }
 
-impl Memo {
+impl<V: Drop> Memo<V> {
     /// No rulings.
-    pub fn new(alloc: Global) -> Memo
+    pub fn new(alloc: Global) -> Memo<V>
         ensures rulings { rulings_of result ≡ [] }
         ensures absent { absent_of result ≡ None }
         ensures checked { (files : List SourceFile) (modules : List (List Circuit))
@@ -124,7 +124,7 @@ impl Memo {
         files: &[SourceFile],
         modules: &[Vec<Module>],
         top: &Text,
-    ) -> Option<&Answer>
+    ) -> Option<&Answer<V>>
         requires { AreChecked files.now (circuits_of modules.now) self.now }
         ensures { option_copied result
             ≡ current_answer files.now (circuits_of modules.now) top.now (all_of self.now) }
@@ -141,7 +141,7 @@ impl Memo {
         files: &[SourceFile],
         modules: &[Vec<Module>],
         top: &Text,
-    ) -> Option<&Answer>
+    ) -> Option<&Answer<V>>
         requires { AreChecked files.now (circuits_of modules.now) self.now }
         ensures { option_copied result ≡ current_answer files.now (circuits_of modules.now) top.now
             (option_to_list (absent_of self.now)) }
@@ -201,7 +201,7 @@ impl Memo {
     /// # Errors
     ///
     /// Memory ran out. All rulings stay then.
-    pub fn keep(&mut self, kept: Kept) -> Result<(), Memory>
+    pub fn keep(&mut self, kept: Kept<V>) -> Result<(), Memory>
         ensures placed { OnOk result (rulings_of self.new
             ≡ if is_absent (ruling_of kept) then rulings_of self.old
             else with_ruling (ruling_of kept) (rulings_of self.old)) }
@@ -210,7 +210,7 @@ impl Memo {
         ensures others { OnOk result (others_of (ruling_of kept).top (rulings_of self.new)
             ≡ others_of (ruling_of kept).top (rulings_of self.old)) }
         ensures there { OnOk result (Contains (all_of self.new) (ruling_of kept)) }
-        ensures from { OnOk result ((ruling : Ruling) → Contains (all_of self.new) ruling
+        ensures from { OnOk result ((ruling : Ruling V) → Contains (all_of self.new) ruling
             → Contains (all_of self.old ++ ruling_of kept ∷ []) ruling) }
         ensures rulings { OnErr result (rulings_of self.new ≡ rulings_of self.old) }
         ensures absent { OnErr result (absent_of self.new ≡ absent_of self.old) }

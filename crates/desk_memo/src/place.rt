@@ -3,7 +3,8 @@ ghost use Rattle.std.specs.Prelude.{◌≡◌, ◌≤◌, ◌<◌, length, vec_c
 ghost use Rattle.desk_memo.specs.Readings.{blank_in, without};
 ghost use Rattle.desk_memo.specs.ShownReadings.{IsWithin};
 
-use desk_files::{SourceFile, is_named};
+use desk_files::is_named;
+use source_file::SourceFile;
 
 // A blank at a place, or behind all, where there is room for it.
 pub(crate) fn put_blank<T: Drop>(kept: &mut Vec<T>, place: Option<usize>, blank: T)

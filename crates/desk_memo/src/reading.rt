@@ -1,42 +1,44 @@
 // A file as it was read last.
 ghost use Rattle.std.specs.Prelude.{◌≡◌, ◌≤◌, ◌+◌, false, IfOk, [], ◌∷◌, length, option_copied, option_map};
-ghost use Rattle.rtl_tree.specs.declared.text.TheConstants.{MAX_BYTES};
-ghost use Rattle.rtl_front.specs.Fronts.{IsFaulty, is_memory, texts_of};
-ghost use Rattle.elab_names.specs.elab_links.Modules.{circuits_of};
-ghost use Rattle.desk_build.specs.Building.{AreSpelled};
+ghost use Rattle.desk_files.specs.Limits.{MAX_BYTES};
+ghost use Rattle.rtl_front.specs.Fronts.{AreSpelled, IsFaulty, is_memory};
+ghost use Rattle.elab_lookups.specs.elab_links.Modules.{circuits_of};
+ghost use Rattle.desk_memo.specs.Texts.{IsRefusal, refusal_line};
 ghost use Rattle.desk_memo.specs.Readings.{refusal_of};
 ghost use Rattle.desk_memo.specs.ShownReadings.{IsNew, is_current, marked, reading_of};
 
 use crate::answer::Answer;
-use crate::fresh::unread;
-use desk_files::SourceFile;
+use desk_places::sources::Sources;
+use desk_refusals::source_refusal;
 use rtl_front::{FileFault, SourceFault, read_files};
 use rtl_tree::memory::Memory;
 use rtl_tree::text::Text;
 use rtl_tree::tree::modules::Module;
+use source_file::SourceFile;
 use std::alloc::Global;
 use std::rc::Rc;
+use std::slice::from_ref;
 use std::sync::ledger::Ledger;
 use steps::Steps;
 
 /// A file as it was read last.
 #[derive(Drop)]
-pub(crate) struct Reading {
+pub(crate) struct Reading<V> {
     pub(crate) file: Rc<SourceFile>,
     /// Why it spells no modules, where it spells none.
-    pub(crate) refusal: Option<Box<Answer>>,
+    pub(crate) refusal: Option<Box<Answer<V>>>,
     /// Whether the file still has this text, so that asking compares no texts.
     pub(crate) is_current: bool,
 }
 
 /// A file as it was just read, with the modules that it spells.
 #[derive(Drop)]
-pub(crate) struct Fresh {
-    pub(crate) reading: Reading,
+pub(crate) struct Fresh<V> {
+    pub(crate) reading: Reading<V>,
     pub(crate) modules: Vec<Module>,
 }
 
-pub(crate) fn is_current(reading: &Option<Reading>) -> bool
+pub(crate) fn is_current<V: Drop>(reading: &Option<Reading<V>>) -> bool
     ensures { result ≡ is_current reading.now }
 {
     match reading {
@@ -45,7 +47,7 @@ pub(crate) fn is_current(reading: &Option<Reading>) -> bool
     }
 }
 
-pub(crate) fn refusal_of(reading: &Option<Reading>) -> Option<&Answer>
+pub(crate) fn refusal_of<V: Drop>(reading: &Option<Reading<V>>) -> Option<&Answer<V>>
     ensures { option_copied result ≡ refusal_of (option_map reading_of reading.now) }
 {
     match reading {
@@ -58,7 +60,7 @@ pub(crate) fn refusal_of(reading: &Option<Reading>) -> Option<&Answer>
 }
 
 // Sets the flag of a reading by the file as it is now.
-pub(crate) fn mark(reading: &mut Option<Reading>, file: &SourceFile)
+pub(crate) fn mark<V: Drop>(reading: &mut Option<Reading<V>>, file: &SourceFile)
     ensures { reading.new ≡ marked file.now reading.old }
 {
     if let Some(reading) = reading {
@@ -77,16 +79,11 @@ fn copied(alloc: Global, file: &SourceFile) -> Result<Rc<SourceFile>, Memory>
     }
 }
 
-// The text of a file alone, as the front end takes it.
-fn lone_text(alloc: Global, file: &SourceFile) -> Result<Vec<Vec<u8>>, Memory>
-    ensures { IfOk result (λ texts. texts_of texts.items ≡ file.now.text ∷ []) }
-{
-    let mut texts = Vec::new(alloc);
-    texts.push(Vec::from_slice(alloc, file.text.as_bytes())?)?;
-    Ok(texts)
-}
-
-fn spelled(alloc: Global, file: &SourceFile, mut files: Vec<Vec<Module>>) -> Result<Fresh, Memory>
+fn spelled<V: Drop>(
+    alloc: Global,
+    file: &SourceFile,
+    mut files: Vec<Vec<Module>>,
+) -> Result<Fresh<V>, Memory>
     requires { AreSpelled (file.now.text ∷ []) (circuits_of files.items) }
     ensures { IfOk result (λ fresh. IsNew file.now fresh.reading fresh.modules) }
 {
@@ -101,7 +98,21 @@ fn spelled(alloc: Global, file: &SourceFile, mut files: Vec<Vec<Module>>) -> Res
     })
 }
 
-fn refused(alloc: Global, file: &SourceFile, fault: &FileFault) -> Result<Fresh, Memory>
+/// The line that says why a file spells no modules.
+fn unread<V: Drop>(
+    alloc: Global,
+    file: &SourceFile,
+    fault: &FileFault,
+) -> Result<Box<Answer<V>>, Memory>
+    requires { length file.now.text ≤ MAX_BYTES }
+    ensures { IfOk result (λ made. IsRefusal (refusal_line file.now fault.now) made.value) }
+{
+    let sources = Sources::seldom(alloc, from_ref(file))?;
+    let line = source_refusal(alloc, &sources, 0, fault)?;
+    Answer::Refused(line).boxed(alloc)
+}
+
+fn refused<V: Drop>(alloc: Global, file: &SourceFile, fault: &FileFault) -> Result<Fresh<V>, Memory>
     requires short { length file.now.text ≤ MAX_BYTES }
     requires no_memory { is_memory fault.now ≡ false }
     requires faulty { IsFaulty file.now.text fault.now }
@@ -119,17 +130,16 @@ fn refused(alloc: Global, file: &SourceFile, fault: &FileFault) -> Result<Fresh,
 }
 
 /// Reads a file: one step at most.
-pub(crate) fn read<L: Ledger>(
+pub(crate) fn read<V: Drop, L: Ledger>(
     alloc: Global,
     file: &SourceFile,
     steps: &mut Steps<L>,
-) -> Result<Fresh, Memory>
+) -> Result<Fresh<V>, Memory>
     requires { length file.now.text ≤ MAX_BYTES }
     ensures counted { steps.new ≤ steps.old + 1 }
     ensures new { IfOk result (λ fresh. IsNew file.now fresh.reading fresh.modules) }
 {
-    let texts = lone_text(alloc, file)?;
-    match read_files(alloc, &texts, steps) {
+    match read_files(alloc, from_ref(file), steps) {
         Ok(files) => spelled(alloc, file, files),
         Err(SourceFault::Memory) => Err(Memory),
         Err(SourceFault::Refused(_, fault)) => refused(alloc, file, &fault),

@@ -1,9 +1,9 @@
 // The files of the desk as they were read last.
 ghost use Rattle.std.specs.Prelude.{◌≡◌, ◌≤◌, ◌+◌, [], None, IfOk, OnOk, option_copied};
 ghost use Rattle.std.specs.Option.{option_map};
-ghost use Rattle.elab_names.specs.elab_links.Modules.{circuits_of};
+ghost use Rattle.elab_lookups.specs.elab_links.Modules.{circuits_of};
 ghost use Rattle.desk_files.specs.Sources.{with_file, without_file};
-ghost use Rattle.desk_memo.specs.Orders.{AreShort};
+ghost use Rattle.source_file.specs.SourceFiles.{AreShort};
 ghost use Rattle.desk_memo.specs.Readings.{AreReadings, changed_count, file_at, first_refusal, with_blank, without};
 ghost use Rattle.desk_memo.specs.ShownReadings.{AreFlagged, IsBeside, down_count, flags_by, flags_in, flags_of, held_modules_by, held_modules_of, modules_of, readings_by, readings_in, readings_of, room_of};
 
@@ -12,9 +12,10 @@ use crate::aside::Aside;
 use crate::exchange::exchange;
 use crate::place::{put_blank, remove_named};
 use crate::reading::{Reading, is_current, mark, read, refusal_of};
-use desk_files::{SourceFile, is_named, place_of};
+use desk_files::{is_named, place_of};
 use rtl_tree::memory::Memory;
 use rtl_tree::tree::modules::Module;
+use source_file::SourceFile;
 use std::alloc::Global;
 use std::rc::Rc;
 use std::sync::ledger::Ledger;
@@ -23,14 +24,14 @@ use steps::Steps;
 /// Of each file, in the order of the files: the text that was read last, the modules that it spells
 /// or why it spells none, and whether the file still has that text.
 #[derive(Drop)]
-pub struct Readings {
+pub struct Readings<V> {
     alloc: Global,
-    readings: Vec<Option<Reading>>,
+    readings: Vec<Option<Reading<V>>>,
     modules: Vec<Vec<Module>>,
 }
 
 // How many readings aren't current.
-fn down(readings: &[Option<Reading>]) -> usize
+fn down<V: Drop>(readings: &[Option<Reading<V>>]) -> usize
     ensures { result ≡ down_count (flags_in readings.now) }
 {
     let mut count = 0;
@@ -43,7 +44,7 @@ fn down(readings: &[Option<Reading>]) -> usize
 }
 
 // The first refusal.
-fn refusal(readings: &[Option<Reading>]) -> Option<&Answer>
+fn refusal<V: Drop>(readings: &[Option<Reading<V>>]) -> Option<&Answer<V>>
     ensures { option_copied result ≡ first_refusal (readings_in readings.now) }
 {
     for reading in readings {
@@ -54,9 +55,9 @@ fn refusal(readings: &[Option<Reading>]) -> Option<&Answer>
     None
 }
 
-impl Readings {
+impl<V: Drop> Readings<V> {
     /// No files.
-    pub fn new(alloc: Global) -> Readings
+    pub fn new(alloc: Global) -> Readings<V>
         ensures readings { readings_of result ≡ [] }
         ensures modules { modules_of result ≡ [] }
         ensures flags { flags_of result ≡ [] }
@@ -139,7 +140,7 @@ impl Readings {
     }
 
     /// The refusal of the first file that spells no modules.
-    pub fn refusal(&self) -> Option<&Answer>
+    pub fn refusal(&self) -> Option<&Answer<V>>
         ensures { option_copied result ≡ first_refusal (readings_of self.now) }
     {
         refusal(&self.readings)
@@ -180,7 +181,7 @@ impl Readings {
         &self,
         files: &[SourceFile],
         steps: &mut Steps<L>,
-    ) -> Result<Aside, Memory>
+    ) -> Result<Aside<V>, Memory>
         requires right { AreReadings files.now (readings_of self.now) (modules_of self.now) }
         requires flagged { AreFlagged files.now self.now }
         requires short { AreShort files.now }
@@ -200,7 +201,7 @@ impl Readings {
 
     /// What was read beside changes places with what is kept. Doing it again undoes it. It takes no
     /// memory.
-    pub fn exchange(&mut self, aside: &mut Aside)
+    pub fn exchange(&mut self, aside: &mut Aside<V>)
         ensures readings { readings_of self.new ≡ readings_by aside.old self.old }
         ensures held { held_modules_of self.new ≡ held_modules_by aside.old self.old }
         ensures flags { flags_of self.new ≡ flags_by aside.old self.old }

@@ -5,8 +5,8 @@ ghost use Rattle.desk_memo.specs.ShownReadings.{readings_of};
 ghost use Rattle.desk_memo.specs.Shown.{all_used, used_among};
 
 use crate::readings::Readings;
-use desk_files::SourceFile;
 use rtl_tree::memory::Memory;
+use source_file::SourceFile;
 use std::alloc::Global;
 use std::rc::Rc;
 
@@ -17,7 +17,11 @@ pub(crate) struct Used {
 }
 
 // A file as it was read, behind others.
-fn push_used(readings: &Readings, number: usize, used: &mut Vec<Used>) -> Result<(), Memory>
+fn push_used<V: Drop>(
+    readings: &Readings<V>,
+    number: usize,
+    used: &mut Vec<Used>,
+) -> Result<(), Memory>
     ensures { OnOk result (all_used used.new.items
         ≡ all_used used.old.items
         ++ used_among (file_at (readings_of readings.now)) (number ∷ [])) }
@@ -33,9 +37,9 @@ fn push_used(readings: &Readings, number: usize, used: &mut Vec<Used>) -> Result
 }
 
 // The files with these numbers, as they were read.
-pub(crate) fn used_files(
+pub(crate) fn used_files<V: Drop>(
     alloc: Global,
-    readings: &Readings,
+    readings: &Readings<V>,
     numbers: &[usize],
 ) -> Result<Vec<Used>, Memory>
     ensures { IfOk result (λ used. all_used used.items

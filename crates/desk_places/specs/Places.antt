@@ -1,13 +1,13 @@
 -- Places in texts and files as an engineer reads them.
 -- Worked examples: crates/tests_lines/src/places.rt.
-use Rattle.std.specs.Prelude.{ℕ, ◌+◌, List, [], ◌∷◌, ◌++◌, map, take, not, count_by, codes, slice_get, string_bytes, Option, None, Some, String, Vec}
+use Rattle.std.specs.Prelude.{ℕ, ◌+◌, List, [], ◌++◌, map, take, not, count_by, codes, slice_get, Option, None, Some}
 use Rattle.std.specs.List.{suffix_len}
 use Rattle.std.specs.Fmt.{decimal}
-use Rattle.std.specs.declared.alloc.Global.{Global}
 use Rattle.rtl_tree.specs.declared.text.Spot.{Spot}
+use Rattle.source_file.specs.declared.SourceFile.{SourceFile}
 use Rattle.desk_places.specs.Lines.{is_line_feed}
 use Rattle.desk_places.specs.declared.lines.LineTable.{LineTable}
-use Rattle.desk_places.specs.declared.source_file.SourceFile.{SourceFile}
+use Rattle.desk_places.specs.declared.placed_file.PlacedFile.{PlacedFile}
 use Rattle.desk_places.specs.declared.sources.Sources.{Sources}
 
 -- the line of a place, from 1: one more than the line feeds before it
@@ -22,26 +22,12 @@ column_of text at = 1 + suffix_len (λ byte. not (is_line_feed byte)) (take at t
 abbrev pub place_text : List ℕ → List ℕ → ℕ → List ℕ
 place_text file text at = file ++ codes ":" ++ decimal (line_of text at) ++ codes ":" ++ decimal (column_of text at)
 
--- a file that was read
-pub record Source : Type 0 where
-  pub name : List ℕ
-  pub text : List ℕ
-
-abbrev pub source : String Global → Vec ℕ Global → Source
-source name text = record { name = string_bytes name; text = text.items }
-
--- the files with these names and texts
-abbrev pub sources : List (String Global) → List (Vec ℕ Global) → List Source
-sources [] texts = []
-sources (name ∷ names) [] = []
-sources (name ∷ names) (text ∷ texts) = source name text ∷ sources names texts
-
-abbrev pub place_within : Option Source → ℕ → List ℕ
+abbrev pub place_within : Option SourceFile → ℕ → List ℕ
 place_within None at = []
 place_within (Some file) at = place_text file.name file.text at
 
 -- a spot: the place in the file with its number, and nothing where there is no such file
-abbrev pub place_in : List Source → Spot → List ℕ
+abbrev pub place_in : List SourceFile → Spot → List ℕ
 place_in files spot = place_within (slice_get files spot.file) spot.at
 
 -- the text of a table
@@ -49,9 +35,9 @@ abbrev pub text_of : LineTable → List ℕ
 text_of table = table.text.now
 
 -- what a contract sees of a file
-abbrev pub file_of : SourceFile → Source
-file_of file = record { name = file.name.now; text = file.text.now }
+abbrev pub file_of : PlacedFile → SourceFile
+file_of placed = placed.file.now
 
 -- what a contract sees of the files that were read
-abbrev pub sources_of : Sources → List Source
+abbrev pub sources_of : Sources → List SourceFile
 sources_of sources = map file_of sources.files.items

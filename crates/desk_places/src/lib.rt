@@ -2,5 +2,5 @@
 #![tactic(auto)]
 
 pub mod lines;
-mod source_file;
+mod placed_file;
 pub mod sources;

@@ -1,55 +1,45 @@
 //! The files that were read.
 
-ghost use Rattle.std.specs.Prelude.{◌≡◌, ◌≤◌, ◌∷◌, ◌++◌, [], All, IfOk, length, OnErr, OnOk};
-ghost use Rattle.desk_places.specs.Places.{place_in, source, sources, sources_of};
+ghost use Rattle.std.specs.Prelude.{◌≡◌, ◌≤◌, ◌∷◌, ◌++◌, [], IfOk, length, OnErr, OnOk};
+ghost use Rattle.source_file.specs.SourceFiles.{AreShort};
+ghost use Rattle.desk_places.specs.Places.{place_in, sources_of};
 
-use crate::source_file::SourceFile;
+use crate::placed_file::PlacedFile;
 use rtl_tree::memory::Memory;
 use rtl_tree::text::Spot;
+use source_file::SourceFile;
 use std::alloc::Global;
 
 /// The files that were read, in their order: a spot names its file by the position there.
 #[derive(Drop)]
 pub struct Sources<'a> {
     alloc: Global,
-    files: Vec<SourceFile<'a>>,
+    files: Vec<PlacedFile<'a>>,
 }
 
 impl<'a> Sources<'a> {
-    /// The files with these names and texts, each text of at most 1 MiB.
-    pub fn new(
-        alloc: Global,
-        names: &'a [String],
-        texts: &'a [Vec<u8>],
-    ) -> Result<Sources<'a>, Memory>
-        requires as_many { length names.now ≡ length texts.now }
-        requires short { All (λ text. length text.items ≤ 1048576) texts.now }
-        ensures { IfOk result (λ made. sources_of made ≡ sources names.now texts.now) }
+    /// These files, each text of at most 1 MiB.
+    pub fn new(alloc: Global, files: &'a [SourceFile]) -> Result<Sources<'a>, Memory>
+        requires { AreShort files.now }
+        ensures { IfOk result (λ made. sources_of made ≡ files.now) }
     {
-        let mut files = Vec::new(alloc);
-        for number in 0..names.len() {
-            let name = names[number].as_bytes();
-            files.push(SourceFile::new(alloc, name, texts[number].as_slice())?)?;
+        let mut sources = Sources::empty(alloc);
+        for file in files {
+            sources.push(file)?;
         }
-        Ok(Sources { alloc, files })
+        Ok(sources)
     }
 
     /// The same files where few places of them are written: the lines are gone through anew for each, and not before.
-    pub fn seldom(
-        alloc: Global,
-        names: &'a [String],
-        texts: &'a [Vec<u8>],
-    ) -> Result<Sources<'a>, Memory>
-        requires as_many { length names.now ≡ length texts.now }
-        requires short { All (λ text. length text.items ≤ 1048576) texts.now }
-        ensures { IfOk result (λ made. sources_of made ≡ sources names.now texts.now) }
+    pub fn seldom(alloc: Global, files: &'a [SourceFile]) -> Result<Sources<'a>, Memory>
+        requires { AreShort files.now }
+        ensures { IfOk result (λ made. sources_of made ≡ files.now) }
     {
-        let mut files = Vec::new(alloc);
-        for number in 0..names.len() {
-            let name = names[number].as_bytes();
-            files.push(SourceFile::seldom(name, texts[number].as_slice()))?;
+        let mut sources = Sources::empty(alloc);
+        for file in files {
+            sources.push_seldom(file)?;
         }
-        Ok(Sources { alloc, files })
+        Ok(sources)
     }
 
     /// No file yet.
@@ -63,26 +53,24 @@ impl<'a> Sources<'a> {
     }
 
     /// Puts a file behind the others, its text of at most 1 MiB. At an error the files stay.
-    pub fn push(&mut self, name: &'a [u8], text: &'a [u8]) -> Result<(), Memory>
-        requires { length text.now ≤ 1048576 }
-        ensures ok { OnOk result (sources_of self.new
-            ≡ sources_of self.old ++ record { name = name.now; text = text.now } ∷ []) }
+    pub fn push(&mut self, file: &'a SourceFile) -> Result<(), Memory>
+        requires { length file.now.text ≤ 1048576 }
+        ensures ok { OnOk result (sources_of self.new ≡ sources_of self.old ++ file.now ∷ []) }
         ensures err { OnErr result (sources_of self.new ≡ sources_of self.old) }
     {
-        let file = SourceFile::new(self.alloc, name, text)?;
+        let file = PlacedFile::new(self.alloc, file)?;
         self.files.push(file)?;
         Ok(())
     }
 
     /// Puts a file behind the others of which few places are written: its lines are gone through anew for each, and not
     /// before. At an error the files stay.
-    pub fn push_seldom(&mut self, name: &'a [u8], text: &'a [u8]) -> Result<(), Memory>
-        requires { length text.now ≤ 1048576 }
-        ensures ok { OnOk result (sources_of self.new
-            ≡ sources_of self.old ++ record { name = name.now; text = text.now } ∷ []) }
+    pub fn push_seldom(&mut self, file: &'a SourceFile) -> Result<(), Memory>
+        requires { length file.now.text ≤ 1048576 }
+        ensures ok { OnOk result (sources_of self.new ≡ sources_of self.old ++ file.now ∷ []) }
         ensures err { OnErr result (sources_of self.new ≡ sources_of self.old) }
     {
-        self.files.push(SourceFile::seldom(name, text))?;
+        self.files.push(PlacedFile::seldom(file))?;
         Ok(())
     }
 

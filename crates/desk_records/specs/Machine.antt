@@ -12,7 +12,7 @@ use Rattle.desk_tables.specs.declared.rows.WaiverId.{WaiverId}
 use Rattle.desk_tables.specs.declared.rows.WaiverRow.{WaiverRow}
 use Rattle.desk_tables.specs.declared.rows.Table.{Table}
 use Rattle.desk_tables.specs.declared.rows.Table.TheVariants.{Meta, Files, Waivers, SignOffs, Replies}
-use Rattle.desk_tables.specs.declared.rules.TheConstants.{MAX_ALL_BYTES, MAX_FILES, MAX_REPLIES, MAX_SIGN_OFFS, MAX_WAIVERS}
+use Rattle.desk_tables.specs.Limits.{MAX_ALL_BYTES, MAX_FILES, MAX_REPLIES, MAX_SIGN_OFFS, MAX_WAIVERS}
 use Rattle.desk_dates.specs.Dates.{date_text}
 use Rattle.waiver_book.specs.Waivers.{end_by}
 use Rattle.waiver_book.specs.declared.fault.RevokeFault.{RevokeFault}

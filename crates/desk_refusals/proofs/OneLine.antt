@@ -12,7 +12,7 @@ use Rattle.rtl_front.specs.Fronts.{IsFirst, is_memory}
 use Rattle.rtl_front.specs.Reasons.{Reason, Unsplit, Unprepared, Unparsed, reason, stop_of}
 use Rattle.rtl_front.proofs.Apart.{one_first}
 use Rattle.rtl_front.proofs.Same.{one_fault}
-use Rattle.desk_places.specs.Places.{Source}
+use Rattle.source_file.specs.declared.SourceFile.{SourceFile}
 use Rattle.desk_refusals.specs.Notices.{Notice, told, in_file, lex_notice, prep_notice, token_text, parse_notice, file_notice}
 use Rattle.desk_refusals.specs.Refusals.{line, source_line}
 
@@ -55,10 +55,10 @@ by_reason file (Lex fault) = refl
 by_reason file (Prepare fault) = by_stop file fault
 by_reason file (Parse fault) = by_cause file fault
 
-same_line : (sources : List Source) (file : ℕ) (a b : FileFault) → reason a ≡ reason b → source_line sources file a ≡ source_line sources file b
+same_line : (sources : List SourceFile) (file : ℕ) (a b : FileFault) → reason a ≡ reason b → source_line sources file a ≡ source_line sources file b
 same_line sources file a b e = ap (line sources) (by_reason file a ∙ ap (reason_notice file) e ∙ sym (by_reason file b))
 
-pub one_line : (texts : List (List ℕ)) (sources : List Source) (m n : ℕ) (a b : FileFault) → is_memory a ≡ false → is_memory b ≡ false → IsFirst texts m a → IsFirst texts n b
+pub one_line : (texts : List (List ℕ)) (sources : List SourceFile) (m n : ℕ) (a b : FileFault) → is_memory a ≡ false → is_memory b ≡ false → IsFirst texts m a → IsFirst texts n b
     → source_line sources m a ≡ source_line sources n b
 one_line texts sources m n a b known sure first other =
     ap (λ file. source_line sources file a) (one_first texts m n a b first other known sure) ∙ same_line sources n a b (one_fault texts m n a b known sure first other)

@@ -3,7 +3,8 @@
 use Rattle.std.specs.Prelude.{ℕ, List, [], ◌++◌, codes, Option, None, Some}
 use Rattle.std.specs.Option.{option_map}
 use Rattle.rtl_tree.specs.declared.text.Spot.{Spot}
-use Rattle.desk_places.specs.Places.{Source, place_in}
+use Rattle.source_file.specs.declared.SourceFile.{SourceFile}
+use Rattle.desk_places.specs.Places.{place_in}
 use Rattle.rtl_front.specs.declared.fault.FileFault.{FileFault}
 use Rattle.elab_scope.specs.Faults.{Answer}
 use Rattle.desk_refusals.specs.Notices as notices
@@ -11,26 +12,26 @@ use Rattle.desk_refusals.specs.Notices.{Notice}
 use Rattle.desk_refusals.specs.Words.{word_part}
 use Rattle.desk_refusals.specs.declared.reason.Reason.{Reason}
 
-abbrev pub place_part : List Source → Option Spot → List ℕ
+abbrev pub place_part : List SourceFile → Option Spot → List ℕ
 place_part sources None = []
 place_part sources (Some spot) = codes " at " ++ place_in sources spot
 
 -- the name of a fault, its text and its place
-abbrev pub notice_line : List Source → Notice → List ℕ
+abbrev pub notice_line : List SourceFile → Notice → List ℕ
 notice_line sources notice =
     codes "refused " ++ notice.name ++ word_part notice.word ++ place_part sources notice.spot ++ codes "\n"
 
 -- nothing is written where nothing is told
-abbrev pub line : List Source → Option Notice → List ℕ
+abbrev pub line : List SourceFile → Option Notice → List ℕ
 line sources None = []
 line sources (Some notice) = notice_line sources notice
 
 -- a file has no modules
-abbrev pub source_line : List Source → ℕ → FileFault → List ℕ
+abbrev pub source_line : List SourceFile → ℕ → FileFault → List ℕ
 source_line sources file fault = line sources (notices.file_notice file fault)
 
 -- modules make no design
-abbrev pub design_line : List Source → Answer → List ℕ
+abbrev pub design_line : List SourceFile → Answer → List ℕ
 design_line sources answer = line sources (notices.design_notice answer)
 
 -- what the code tells

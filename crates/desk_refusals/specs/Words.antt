@@ -1,10 +1,7 @@
 -- Texts on one line.
 -- Worked examples: crates/tests_rows/stdin.
-use Rattle.std.specs.Prelude.{ℕ, ◌==◌, nat_le, nat_lt, List, [], ◌∷◌, ◌++◌, Bool, false, ◌&&◌, ◌||◌, if◌then◌else◌, codes, Option, None, Some}
-
--- a blank or a line end (section 3.2)
-abbrev pub is_blank : ℕ → Bool
-is_blank byte = byte == 32 || (nat_le 9 byte && nat_le byte 13)
+use Rattle.std.specs.Prelude.{ℕ, nat_lt, List, [], ◌∷◌, ◌++◌, Bool, false, ◌&&◌, if◌then◌else◌, codes, Option, None, Some}
+use Rattle.rtl_tree.specs.Lexemes.{is_blank}
 
 -- a byte as it is written: a printable one as it is, and any other as a question mark
 abbrev pub shown : ℕ → ℕ
@@ -15,7 +12,7 @@ abbrev pub byte_text : Bool → ℕ → List ℕ
 byte_text behind byte =
     if is_blank byte then (if behind then [] else 32 ∷ []) else shown byte ∷ []
 
--- a text behind a blank or behind none, each run of blanks and line ends as one space
+-- a text behind a blank or behind none, each run of blanks as one space
 abbrev pub on_one_line : Bool → List ℕ → List ℕ
 on_one_line behind [] = []
 on_one_line behind (byte ∷ bytes) = byte_text behind byte ++ on_one_line (is_blank byte) bytes

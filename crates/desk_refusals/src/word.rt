@@ -2,16 +2,10 @@
 
 ghost use Rattle.std.specs.Prelude.{◌≡◌, ◌++◌, OnOk, false};
 ghost use Rattle.std.specs.Option.{option_map};
-ghost use Rattle.desk_refusals.specs.Words.{is_blank, on_one_line, shown, word_part};
+ghost use Rattle.desk_refusals.specs.Words.{on_one_line, shown, word_part};
 
+use rtl_text::is_blank;
 use rtl_tree::memory::Memory;
-
-/// Whether a byte is a blank or ends a line.
-fn is_blank(byte: u8) -> bool
-    ensures { result ≡ is_blank byte }
-{
-    byte == b' ' || (9 <= byte && byte <= 13)
-}
 
 /// A byte as it is written: a printable one as it is.
 fn shown(byte: u8) -> u8
@@ -24,7 +18,7 @@ fn shown(byte: u8) -> u8
     }
 }
 
-/// Each run of blanks and line ends is one space, and each other byte that isn't printable a question mark.
+/// Each run of blanks is one space, and each other byte that isn't printable a question mark.
 fn push_text(text: &[u8], out: &mut Vec<u8>) -> Result<(), Memory>
     ensures { OnOk result (out.new.items ≡ out.old.items ++ on_one_line false text.now) }
 {

@@ -8,6 +8,7 @@ use Rattle.rtl_rule.specs.declared.finding.Finding.{Finding}
 use Rattle.demo_told.specs.declared.demo.Demo.{Demo}
 use Rattle.demo_told.specs.declared.demo.Shown.{Shown}
 use Rattle.demo_told.specs.declared.told.Told.{Told}
+use Rattle.desk_rows.specs.declared.Row.{Row}
 
 abbrev pub signal_path : Option Signal → List ℕ
 signal_path None = []
@@ -36,14 +37,19 @@ abbrev pub telling : List Signal → List Instance → Finding → Option (Demo 
 telling signals instances finding shown =
     record { target = target_in signals instances finding; demo = demo_in signals shown }
 
+-- a finding with what is told of it
+abbrev pub row_in : List Signal → List Instance → Finding → Option (Demo × Shown) → Row
+row_in signals instances finding shown =
+    record { finding = finding; told = telling signals instances finding shown }
+
 -- where the first of some shows
 abbrev pub first_shown : List (Option (Demo × Shown)) → Option (Demo × Shown)
 first_shown [] = None
 first_shown (one ∷ others) = one
 
--- what is told of findings, of which the first ones show
-abbrev pub tellings : List Signal → List Instance → List Finding → List (Option (Demo × Shown)) → List Told
+-- findings, of which the first ones show, each with what is told of it
+abbrev pub tellings : List Signal → List Instance → List Finding → List (Option (Demo × Shown)) → List Row
 tellings signals instances [] shown = []
 tellings signals instances (finding ∷ others) shown =
-    telling signals instances finding (first_shown shown)
+    row_in signals instances finding (first_shown shown)
     ∷ tellings signals instances others (drop 1 shown)

@@ -1,65 +1,71 @@
 //! The report of a ruling.
 
-ghost use Rattle.std.specs.Prelude.{◌≡◌, ◌++◌, codes, filter, is_some, length, IfOk, OnOk};
+ghost use Rattle.std.specs.Prelude.{◌≡◌, ◌++◌, codes, length, map, IfOk, OnOk};
 ghost use Rattle.rtl_rule.specs.Rows.{row_of};
 ghost use Rattle.desk_dates.specs.Dates.{date_text};
 ghost use Rattle.desk_places.specs.Places.{sources_of};
-ghost use Rattle.desk_report.specs.Reports.{finding_line, finding_text, findings_text, head_lines, line, report_text, shown_line, stages_report, waiver_text, yes_or_no};
+ghost use Rattle.desk_rows.specs.Rows.{waived};
+ghost use Rattle.desk_report.specs.Reports.{finding_line, finding_text, findings_text, head_lines, line, report_text, shown_line, stages_report, waived_count, waiver_text, yes_or_no};
 
 use crate::demos::push_demo;
 use demo_told::Told;
 use desk_dates::date_digits;
 use desk_places::sources::Sources;
+use desk_rows::{Row, WaivedRow};
 use desk_tables::{Day, WaiverId};
 use itoa::Buffer;
-use rtl_rule::finding::{Finding, Ruling};
+use rtl_rule::finding::Ruling;
 use rtl_tree::memory::Memory;
 use std::alloc::Global;
 
-/// The report of a top's ruling: its head, and for each finding a line with the rule, what it is
-/// about, the place and the waiver that stands, and below it one that shows it. For each finding
-/// there is what is told of it, and its waiver with the last day, where one stands.
+/// The report of a top: its head, whether its design is clean and firm, and for each row a line with
+/// the rule, what the finding is about, the place and the waiver that stands, and below it one that
+/// shows it.
 pub fn report(
     alloc: Global,
     top: &[u8],
     sources: &Sources<'_>,
-    ruling: &Ruling,
-    told: &[Told],
-    waivers: &[Option<(WaiverId, Day)>],
+    clean: bool,
+    firm: bool,
+    rows: &[WaivedRow<'_>],
 ) -> Result<Vec<u8>, Memory>
-    requires told { length told.now ≡ length ruling.now.findings.items }
-    requires waivers { length waivers.now ≡ length ruling.now.findings.items }
-    ensures { IfOk result (λ text. text.items ≡ report_text top.now (sources_of sources.now)
-        ruling.now.findings.items told.now waivers.now ruling.now.clean ruling.now.firm) }
+    ensures { IfOk result (λ text. text.items
+        ≡ report_text top.now (sources_of sources.now) (map waived rows.now) clean firm) }
 {
     let mut out = Vec::new(alloc);
-    push_head(&mut out, top, ruling, count_of(waivers))?;
-    push_findings(alloc, &mut out, sources, &ruling.findings, told, waivers)?;
+    push_head(&mut out, top, clean, firm, rows)?;
+    push_rows(alloc, &mut out, sources, rows)?;
     Ok(out)
 }
 
 /// How many waivers stand.
-fn count_of(waivers: &[Option<(WaiverId, Day)>]) -> usize
-    ensures { result ≡ length (filter is_some waivers.now) }
+fn waived_count(rows: &[WaivedRow<'_>]) -> usize
+    ensures { result ≡ waived_count (map waived rows.now) }
 {
-    waivers.iter().filter(|one| one.is_some()).count()
+    rows.iter().filter(|one| one.waiver.is_some()).count()
 }
 
 /// The top, whether its design is clean and firm, how many findings there are, and how many of them
 /// are waived.
-fn push_head(out: &mut Vec<u8>, top: &[u8], ruling: &Ruling, waived: usize) -> Result<(), Memory>
+fn push_head(
+    out: &mut Vec<u8>,
+    top: &[u8],
+    clean: bool,
+    firm: bool,
+    rows: &[WaivedRow<'_>],
+) -> Result<(), Memory>
     ensures { OnOk result (out.new.items ≡ out.old.items
-        ++ head_lines top.now ruling.now.clean ruling.now.firm
-        (length ruling.now.findings.items) waived) }
+        ++ head_lines top.now clean firm (length rows.now) (waived_count (map waived rows.now))) }
 {
     let mut digits = Buffer::new();
     push_line(out, b"module ", top)?;
-    push_line(out, b"clean ", yes_or_no(ruling.clean))?;
-    push_line(out, b"firm ", yes_or_no(ruling.firm))?;
-    let count = digits.format(ruling.findings.len());
+    push_line(out, b"clean ", yes_or_no(clean))?;
+    push_line(out, b"firm ", yes_or_no(firm))?;
+    let count = digits.format(rows.len());
     push_line(out, b"findings ", count.as_bytes())?;
     let mut digits = Buffer::new();
-    push_line(out, b"waived ", digits.format(waived).as_bytes())
+    let waived = digits.format(waived_count(rows));
+    push_line(out, b"waived ", waived.as_bytes())
 }
 
 /// What is told of the ruling of a design that was generated with so many stages, and has so many processes.
@@ -98,65 +104,44 @@ fn yes_or_no(answer: bool) -> &'static [u8]
     if answer { b"yes" } else { b"no" }
 }
 
-/// The lines of findings.
-fn push_findings(
+/// The lines of rows.
+fn push_rows(
     alloc: Global,
     out: &mut Vec<u8>,
     sources: &Sources<'_>,
-    findings: &[Finding],
-    told: &[Told],
-    waivers: &[Option<(WaiverId, Day)>],
+    rows: &[WaivedRow<'_>],
 ) -> Result<(), Memory>
-    requires told { length told.now ≡ length findings.now }
-    requires waivers { length waivers.now ≡ length findings.now }
     ensures { OnOk result (out.new.items ≡ out.old.items
-        ++ findings_text (sources_of sources.now) findings.now told.now waivers.now) }
+        ++ findings_text (sources_of sources.now) (map waived rows.now)) }
 {
-    for place in 0..findings.len() {
-        push_finding(
-            out,
-            sources,
-            &findings[place],
-            &told[place],
-            &waivers[place],
-        )?;
-        push_shown(alloc, out, &told[place])?;
+    for one in rows {
+        push_finding(out, sources, one)?;
+        push_shown(alloc, out, &one.row.told)?;
     }
     Ok(())
 }
 
 /// A finding's line, with the waiver that stands.
-fn push_finding(
-    out: &mut Vec<u8>,
-    sources: &Sources<'_>,
-    finding: &Finding,
-    told: &Told,
-    waiver: &Option<(WaiverId, Day)>,
-) -> Result<(), Memory>
+fn push_finding(out: &mut Vec<u8>, sources: &Sources<'_>, one: &WaivedRow<'_>) -> Result<(), Memory>
     ensures { OnOk result (out.new.items ≡ out.old.items
-        ++ finding_line (sources_of sources.now) finding.now told.now waiver.now) }
+        ++ finding_line (sources_of sources.now) (waived one.now)) }
 {
-    push_words(out, sources, finding, told)?;
-    push_waiver(out, waiver)?;
+    push_words(out, sources, one.row)?;
+    push_waiver(out, &one.waiver)?;
     out.push(b'\n')?;
     Ok(())
 }
 
 /// The rule by its code and its name, what the finding is about, and its place.
-fn push_words(
-    out: &mut Vec<u8>,
-    sources: &Sources<'_>,
-    finding: &Finding,
-    told: &Told,
-) -> Result<(), Memory>
+fn push_words(out: &mut Vec<u8>, sources: &Sources<'_>, row: &Row) -> Result<(), Memory>
     ensures { OnOk result (out.new.items ≡ out.old.items
-        ++ finding_text (sources_of sources.now) finding.now told.now) }
+        ++ finding_text (sources_of sources.now) row.now) }
 {
-    let row = finding.rule.row();
-    push_word(out, row.code.as_bytes())?;
-    push_word(out, row.name.as_bytes())?;
-    push_word(out, told.target.as_bytes())?;
-    sources.push_place(out, finding.spot)
+    let rule = row.finding.rule.row();
+    push_word(out, rule.code.as_bytes())?;
+    push_word(out, rule.name.as_bytes())?;
+    push_word(out, row.told.target.as_bytes())?;
+    sources.push_place(out, row.finding.spot)
 }
 
 /// A word and a space.

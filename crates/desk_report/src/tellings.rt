@@ -1,32 +1,33 @@
 //! What is told of findings.
 
 ghost use Rattle.std.specs.Prelude.{◌≡◌, IfOk, drop};
-ghost use Rattle.desk_report.specs.Tellings.{demo_in, first_shown, target_in, telling, tellings};
+ghost use Rattle.desk_report.specs.Tellings.{demo_in, first_shown, row_in, target_in, tellings};
 
 use demo_told::{Demo, Shown, Told};
+use desk_rows::Row;
 use rtl_flat::design::Design;
 use rtl_rule::finding::Finding;
 use rtl_tree::memory::Memory;
 use rtl_tree::text::Text;
 use std::alloc::Global;
 
-/// What is told of each of some findings of a design, of which the first ones show where this says
-/// so.
+/// Findings of a design, of which the first ones show where this says so, each with what is told of
+/// it.
 pub fn tell(
     alloc: Global,
     design: &Design,
     findings: &[Finding],
     shown: &[Option<(Demo, Shown)>],
-) -> Result<Vec<Told>, Memory>
-    ensures { IfOk result (λ told. told.items ≡ tellings design.now.signals.items
+) -> Result<Vec<Row>, Memory>
+    ensures { IfOk result (λ rows. rows.items ≡ tellings design.now.signals.items
         design.now.instances.items findings.now shown.now) }
 {
-    let mut told = Vec::new(alloc);
+    let mut rows = Vec::new(alloc);
     for (place, finding) in findings.iter().enumerate() {
         let one = shown_at(shown, place);
-        told.push(telling(alloc, design, finding, one)?)?;
+        rows.push(row_in(alloc, design, finding, one)?)?;
     }
-    Ok(told)
+    Ok(rows)
 }
 
 /// Where the finding at a place shows.
@@ -39,18 +40,21 @@ fn shown_at(shown: &[Option<(Demo, Shown)>], place: usize) -> Option<(Demo, Show
     }
 }
 
-fn telling(
+fn row_in(
     alloc: Global,
     design: &Design,
     finding: &Finding,
     shown: Option<(Demo, Shown)>,
-) -> Result<Told, Memory>
-    ensures { IfOk result (λ told. told ≡ telling design.now.signals.items
+) -> Result<Row, Memory>
+    ensures { IfOk result (λ row. row ≡ row_in design.now.signals.items
         design.now.instances.items finding.now shown) }
 {
     let target = Text::from_bytes(alloc, target_in(design, finding))?;
     let demo = demo_in(alloc, design, shown)?;
-    Ok(Told { target, demo })
+    Ok(Row {
+        finding: *finding,
+        told: Told { target, demo },
+    })
 }
 
 /// Where a finding shows, with the path of the signal there.

@@ -14,6 +14,8 @@ use Rattle.desk_requests.specs.declared.ask.Ask.TheVariants.{SignOff}
 use Rattle.desk_requests.specs.declared.ask.Request.{Request}
 use Rattle.desk_requests.specs.declared.ask.WaiverAsk.{WaiverAsk}
 use Rattle.desk_requests.specs.declared.reply.BodyKind.TheVariants.{Plain}
+use Rattle.desk_rows.specs.Rows.{Waived}
+use Rattle.desk_rows.specs.declared.Row.{Row}
 use Rattle.desk_records.specs.Outcomes.{Outcome, Told}
 use Rattle.desk_rulings.specs.Grants.{grant, waive_outcome, waiver_row}
 use Rattle.desk_rulings.specs.Rulings.{Site, Verdict, left_of, standing_of}
@@ -59,34 +61,39 @@ kept = kept_with (1 ∷ []) (waiver None ∷ [])
 abbrev finding : Rule → Finding
 finding its_rule = record { rule = its_rule; signal = None; instance = 0; spot = record { file = 0; at = 2 } }
 
+abbrev row : Rule → Row
+row its_rule = record { finding = finding its_rule; told = record { target = codes "top.q"; demo = None } }
+
+abbrev with : Rule → Option (WaiverId × ℤ) → List Waived
+with its_rule its_waiver = record { row = row its_rule; waiver = its_waiver } ∷ []
+
 -- one finding, at the second line of the file
 abbrev verdict : Rule → Verdict
 verdict its_rule = record {
-  findings = finding its_rule ∷ [];
-  told = record { target = codes "top.q"; demo = None } ∷ [];
+  rows = row its_rule ∷ [];
   files = record { name = codes "a.v"; text = codes "q\nif" } ∷ [];
   reached = codes "a.v" ∷ [];
 }
 
-a_waiver_stands_on_its_last_day : standing_of (pos 10) kept (verdict LatchInferred) ≡ Some (id, pos 10) ∷ []
+a_waiver_stands_on_its_last_day : standing_of (pos 10) kept (verdict LatchInferred) ≡ with LatchInferred (Some (id, pos 10))
 a_waiver_stands_on_its_last_day = refl
 
-it_stands_no_more_on_the_day_after : standing_of (pos 11) kept (verdict LatchInferred) ≡ None ∷ []
+it_stands_no_more_on_the_day_after : standing_of (pos 11) kept (verdict LatchInferred) ≡ with LatchInferred None
 it_stands_no_more_on_the_day_after = refl
 
-it_stands_no_more_once_its_file_changed : standing_of (pos 10) (kept_with (2 ∷ []) (waiver None ∷ [])) (verdict LatchInferred) ≡ None ∷ []
+it_stands_no_more_once_its_file_changed : standing_of (pos 10) (kept_with (2 ∷ []) (waiver None ∷ [])) (verdict LatchInferred) ≡ with LatchInferred None
 it_stands_no_more_once_its_file_changed = refl
 
-it_stands_no_more_once_it_is_revoked : standing_of (pos 10) (kept_with (1 ∷ []) (waiver (Some (pos 9)) ∷ [])) (verdict LatchInferred) ≡ None ∷ []
+it_stands_no_more_once_it_is_revoked : standing_of (pos 10) (kept_with (1 ∷ []) (waiver (Some (pos 9)) ∷ [])) (verdict LatchInferred) ≡ with LatchInferred None
 it_stands_no_more_once_it_is_revoked = refl
 
-it_is_of_its_rule : standing_of (pos 10) kept (verdict CombLoop) ≡ None ∷ []
+it_is_of_its_rule : standing_of (pos 10) kept (verdict CombLoop) ≡ with CombLoop None
 it_is_of_its_rule = refl
 
-a_finding_is_left : left_of (finding LatchInferred ∷ []) (None ∷ []) ≡ 1
+a_finding_is_left : left_of (with LatchInferred None) ≡ 1
 a_finding_is_left = refl
 
-one_of_the_second_grade_is_not : left_of (finding WildSelector ∷ []) (None ∷ []) ≡ 0
+one_of_the_second_grade_is_not : left_of (with WildSelector None) ≡ 0
 one_of_the_second_grade_is_not = refl
 
 -- ---- waivers

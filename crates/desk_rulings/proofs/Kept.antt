@@ -45,6 +45,6 @@ sign_keeps false left found row request = edited_keeps found row request
 
 pub signed_reply : (top : List ℕ) (request : Request) (today : ℤ) (kept : Kept) (verdict : Verdict) (change : Change) → signoff_outcome top request today kept verdict ≡ Done change → IsReplyTo request (reply_of change)
 signed_reply top request today kept verdict change is =
-    let left : ℕ = left_of verdict.findings (standing_of today kept verdict) in
+    let left : ℕ = left_of (standing_of today kept verdict) in
     subst (Keeps request) is
     (sign_keeps (nat_lt 0 left) left (edited_by request.user (rows_of kept.files verdict.reached)) (signoff_row top request today kept verdict) request)

@@ -18,16 +18,14 @@ use Rattle.desk_tables.specs.declared.rows.Table.{Table}
 use Rattle.desk_tables.specs.declared.rows.Table.TheVariants.{Meta, Waivers, SignOffs, Replies}
 use Rattle.desk_tables.specs.declared.rows.WaiverId.{WaiverId}
 use Rattle.desk_tables.specs.declared.rows.WaiverRow.{WaiverRow}
-use Rattle.desk_tables.specs.declared.rules.TheConstants.{MAX_WAIVERS}
-use Rattle.waiver_book.specs.Books.{id_at, refusal, standing, term}
+use Rattle.desk_tables.specs.Limits.{MAX_WAIVERS}
+use Rattle.waiver_book.specs.Books.{id_at, refusal, standing, term, MAX_TERM}
 use Rattle.waiver_book.specs.declared.fault.WaiveFault.{WaiveFault}
 use Rattle.waiver_book.specs.declared.fault.WaiveFault.TheVariants.{NotWaivable, NoSuchFinding, TermPast, TermTooLong, OwnerIsAsker, Already}
-use Rattle.waiver_book.specs.declared.waiver.TheConstants.{MAX_TERM}
 use Rattle.desk_requests.specs.declared.ask.Request.{Request}
 use Rattle.desk_requests.specs.declared.ask.WaiverAsk.{WaiverAsk}
 use Rattle.desk_rulings.specs.Grants.{refused_at, waiver_of}
-use Rattle.waiver_book.specs.Waivers.{covers as book_covers, has_key}
-use Rattle.waiver_book.specs.declared.waiver.Entry.{Entry}
+use Rattle.waiver_book.specs.Waivers.{covers as book_covers, has_key, Entry}
 use Rattle.desk_rulings.specs.Books.{book_of, entry_with}
 use Rattle.desk_rulings.specs.Rulings.{Site, covers, is_for, standing_in, stands}
 

@@ -1,5 +1,6 @@
 mod Example
 pub mod Indexed
+mod Keys
 pub mod Kept
 pub mod Least
 pub mod Loops

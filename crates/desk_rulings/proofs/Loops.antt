@@ -1,63 +1,48 @@
 -- Steps of loops over lists.
-use Rattle.std.proofs.Common.{◌≡◌, ◌∙◌, Bor, ℕ, suc, ◌<◌, ◌+◌, List, [], ◌∷◌, ◌++◌, length, map, take, drop, get_or, ap, sym, refl, arith}
-use Rattle.std.specs.Prelude.{ℤ, Option}
+use Rattle.std.proofs.Common.{◌≡◌, ◌∙◌, Bor, ℕ, suc, ◌<◌, ◌+◌, Bool, true, false, List, [], ◌∷◌, ◌++◌, length, map, take, drop, get_or, ap, sym, refl}
+use Rattle.std.specs.Prelude.{ℤ, Option, count_by, cond}
 use Rattle.std.specs.Option.{option_and_then}
 use Rattle.std.proofs.lemmas.List.{append_assoc, at_drop_more, map-append, take_more}
-use Rattle.desk_places.specs.Places.{Source}
-use Rattle.desk_files.specs.declared.files.SourceFile.{SourceFile}
-use Rattle.rtl_rule.specs.declared.finding.Finding.{Finding}
-use Rattle.demo_told.specs.declared.told.Told.{Told}
+use Rattle.source_file.specs.declared.SourceFile.{SourceFile}
 use Rattle.desk_tables.specs.Tables.{Kept}
 use Rattle.desk_tables.specs.declared.rows.FileRow.{FileRow}
 use Rattle.desk_tables.specs.declared.rows.WaiverId.{WaiverId}
 use Rattle.desk_tables.specs.declared.rows.WaiverRow.{WaiverRow}
-use Rattle.desk_rulings.specs.Grants.{sources_in}
-use Rattle.desk_rulings.specs.Rulings.{Site, site_of, standing_for, standing_in, standings}
-
-abbrev source_of : SourceFile → Source
-source_of file = record { name = file.name; text = file.text }
+use Rattle.desk_rows.specs.Rows.{Waived, waived}
+use Rattle.desk_rows.specs.declared.Row.{Row}
+use Rattle.desk_rows.specs.declared.WaivedRow.{WaivedRow}
+use Rattle.desk_rulings.specs.Rulings.{Site, is_open, site_of, standing_for, standing_in}
 
 abbrev seen : List (Bor SourceFile) → List SourceFile
 seen files = map (λ file. file.now) files
 
 -- one file more
-pub sources_more : (files : List (Bor SourceFile)) (place : ℕ) (file : Bor SourceFile) → place < length files → file ≡ get_or files place file → sources_in (seen (take (place + 1) files)) ≡ sources_in (seen (take place files)) ++ source_of file.now ∷ []
-sources_more files place file inside read =
-    ap (λ it. sources_in (seen it)) (take_more files place file inside)
-    ∙ ap sources_in (map-append (λ it. it.now) (take place files) (get_or files place file ∷ []))
-    ∙ map-append source_of (seen (take place files)) ((get_or files place file).now ∷ [])
-    ∙ ap (λ it. sources_in (seen (take place files)) ++ source_of it.now ∷ []) (sym read)
-
-pub sources_on : (files : List (Bor SourceFile)) (place : ℕ) (file : Bor SourceFile) (name text : List ℕ) (olds news : List Source) → place < length files → file ≡ get_or files place file → name ≡ file.now.name → text ≡ file.now.text → olds ≡ sources_in (seen (take place files)) → news ≡ olds ++ record { name = name; text = text } ∷ [] → news ≡ sources_in (seen (take (place + 1) files))
-sources_on files place file name text olds news inside read named spelled before made =
+pub sources_on : (files : List (Bor SourceFile)) (place : ℕ) (file : Bor SourceFile) (olds news : List SourceFile) → place < length files → file ≡ get_or files place file → olds ≡ seen (take place files) → news ≡ olds ++ file.now ∷ [] → news ≡ seen (take (place + 1) files)
+sources_on files place file olds news inside read before made =
     made
-    ∙ ap (λ it. it ++ record { name = name; text = text } ∷ []) before
-    ∙ ap (λ it. sources_in (seen (take place files)) ++ record { name = it; text = text } ∷ []) named
-    ∙ ap (λ it. sources_in (seen (take place files)) ++ record { name = file.now.name; text = it } ∷ []) spelled
-    ∙ sym (sources_more files place file inside read)
+    ∙ ap (λ it. it ++ file.now ∷ []) before
+    ∙ ap (λ it. seen (take place files) ++ it.now ∷ []) read
+    ∙ sym (ap seen (take_more files place file inside) ∙ map-append (λ it. it.now) (take place files) (get_or files place file ∷ []))
 
--- as many as there are findings
-pub standings_long : (today : ℤ) (kept : Kept) (files : List SourceFile) (findings : List Finding) (told : List Told) → length findings ≡ length told → length (standings today kept files findings told) ≡ length findings
-standings_long today kept files [] told same = refl
-standings_long today kept files (finding ∷ findings) [] same = absurd (omega (arith, same))
-standings_long today kept files (finding ∷ findings) (one ∷ told) same =
-    ap suc (standings_long today kept files findings told (omega (arith, same)))
+-- how many of the rows are open, with their waivers
+pub left_mapped : (rows : List WaivedRow) → count_by is_open (map waived rows) ≡ count_by (λ one. is_open (waived one)) rows
+left_mapped [] = refl
+left_mapped (one ∷ rows) = ap (λ n. cond (is_open (waived one)) (1 + n) n) (left_mapped rows)
 
 -- one finding more
-standings_more : (today : ℤ) (kept : Kept) (files : List SourceFile) (findings : List Finding) (told : List Told) (place : ℕ) (finding : Finding) (d : Finding) (one : Told) (e : Told) → place < length findings → length findings ≡ length told → finding ≡ get_or findings place d → one ≡ get_or told place e → standings today kept files (drop place findings) (drop place told) ≡ standing_for today kept files finding one ∷ standings today kept files (drop (place + 1) findings) (drop (place + 1) told)
-standings_more today kept files findings told place finding d one e inside same read read' =
-    let it : List (Option (WaiverId × ℤ)) = standings today kept files (drop (place + 1) findings) (drop (place + 1) told) in
-    at_drop_more (λ xs. standings today kept files xs (drop place told)) findings place d inside
-    ∙ at_drop_more (λ xs. standings today kept files (get_or findings place d ∷ drop (place + 1) findings) xs) told place e (omega (arith, inside, same))
-    ∙ ap (λ x. standing_for today kept files x (get_or told place e) ∷ it) (sym read)
-    ∙ ap (λ x. standing_for today kept files finding x ∷ it) (sym read')
-
-pub standings_on : (today : ℤ) (kept : Kept) (files : List SourceFile) (findings : List Finding) (told : List Told) (place : ℕ) (finding : Finding) (d : Finding) (one : Told) (e : Told) (waivers : List WaiverRow) (rows : List FileRow) (site : Option Site) (value : Option (WaiverId × ℤ)) (olds news whole : List (Option (WaiverId × ℤ))) → place < length findings → length findings ≡ length told → finding ≡ get_or findings place d → one ≡ get_or told place e → waivers ≡ kept.waivers → rows ≡ kept.files → site ≡ site_of rows files finding one → value ≡ option_and_then (standing_in today waivers) site → news ≡ olds ++ value ∷ [] → olds ++ standings today kept files (drop place findings) (drop place told) ≡ whole → news ++ standings today kept files (drop (place + 1) findings) (drop (place + 1) told) ≡ whole
-standings_on today kept files findings told place finding d one e waivers rows site value olds news whole inside same read read' kept_waivers kept_files its found made before =
-    let it : List (Option (WaiverId × ℤ)) = standings today kept files (drop (place + 1) findings) (drop (place + 1) told) in
-    let value_is : value ≡ standing_for today kept files finding one = found ∙ ap (option_and_then (standing_in today waivers)) its ∙ ap (λ ws. option_and_then (standing_in today ws) (site_of rows files finding one)) kept_waivers ∙ ap (λ rs. option_and_then (standing_in today kept.waivers) (site_of rs files finding one)) kept_files in
-    ap (λ xs. xs ++ it) made
-    ∙ append_assoc olds (value ∷ []) it
-    ∙ ap (λ x. olds ++ (x ∷ it)) value_is
-    ∙ ap (λ xs. olds ++ xs) (sym (standings_more today kept files findings told place finding d one e inside same read read'))
+pub standings_on : (today : ℤ) (kept : Kept) (files : List SourceFile) (rows : List Row) (place : ℕ) (row d : Row) (waivers : List WaiverRow) (kept_rows : List FileRow) (site : Option Site) (one : WaivedRow) (olds news : List WaivedRow) (whole : List Waived) → place < length rows → row ≡ get_or rows place d → waivers ≡ kept.waivers → kept_rows ≡ kept.files → site ≡ site_of kept_rows files row → waived one ≡ record { row = row; waiver = option_and_then (standing_in today waivers) site } → news ≡ olds ++ one ∷ [] → map waived olds ++ map (standing_for today kept files) (drop place rows) ≡ whole → map waived news ++ map (standing_for today kept files) (drop (place + 1) rows) ≡ whole
+standings_on today kept files rows place row d waivers kept_rows site one olds news whole inside read kept_waivers kept_files its is made before =
+    let it : List Waived = map (standing_for today kept files) (drop (place + 1) rows) in
+    let with_waiver : Option (WaiverId × ℤ) → Waived = λ waiver. record { row = row; waiver = waiver } in
+    let one_is : waived one ≡ standing_for today kept files (get_or rows place d) =
+    is
+    ∙ ap (λ s. with_waiver (option_and_then (standing_in today waivers) s)) its
+    ∙ ap (λ ws. with_waiver (option_and_then (standing_in today ws) (site_of kept_rows files row))) kept_waivers
+    ∙ ap (λ rs. with_waiver (option_and_then (standing_in today kept.waivers) (site_of rs files row))) kept_files
+    ∙ ap (standing_for today kept files) read in
+    ap (λ xs. map waived xs ++ it) made
+    ∙ ap (λ xs. xs ++ it) (map-append waived olds (one ∷ []))
+    ∙ append_assoc (map waived olds) (waived one ∷ []) it
+    ∙ ap (λ x. map waived olds ++ (x ∷ it)) one_is
+    ∙ ap (λ xs. map waived olds ++ xs) (sym (at_drop_more (λ xs. map (standing_for today kept files) xs) rows place d inside))
     ∙ before

@@ -5,7 +5,7 @@ use Rattle.std.proofs.lemmas.Bool.{leb-false}
 use Rattle.desk_tables.specs.Tables.{Kept}
 use Rattle.desk_tables.specs.declared.rows.Table.{Table}
 use Rattle.desk_tables.specs.declared.rows.Table.TheVariants.{Waivers, SignOffs}
-use Rattle.desk_tables.specs.declared.rules.TheConstants.{MAX_SIGN_OFFS, MAX_WAIVERS}
+use Rattle.desk_tables.specs.Limits.{MAX_SIGN_OFFS, MAX_WAIVERS}
 use Rattle.desk_requests.specs.declared.ask.Ask.TheVariants as ask
 use Rattle.desk_requests.specs.declared.ask.WaiverAsk.{WaiverAsk}
 use Rattle.desk_records.specs.Machine.{full_table}

@@ -5,7 +5,7 @@ use Rattle.std.specs.List.{filter_map}
 use Rattle.rtl_rule.specs.Rows.{rule_with}
 use Rattle.rtl_rule.specs.declared.rule.Rule.{Rule}
 use Rattle.desk_tables.specs.declared.rows.WaiverRow.{WaiverRow}
-use Rattle.waiver_book.specs.declared.waiver.Entry.{Entry}
+use Rattle.waiver_book.specs.Waivers.{Entry}
 
 abbrev pub entry_with : WaiverRow → Rule → Entry
 entry_with row rule = record {

@@ -1,12 +1,11 @@
 -- What a request for a waiver comes to, with what the rules say of its module.
 -- Worked examples: crates/desk_rulings/proofs/Example.antt.
-use Rattle.std.specs.Prelude.{ℕ, ◌+◌, ℤ, Bool, ◌&&◌, bytes_eq, codes, decimal, List, [], ◌∷◌, length, map, option_map, Option, Some, None, if◌then◌else◌}
+use Rattle.std.specs.Prelude.{ℕ, ◌+◌, ℤ, Bool, ◌&&◌, bytes_eq, codes, decimal, List, [], ◌∷◌, length, option_map, Option, Some, None, if◌then◌else◌}
 use Rattle.rtl_rule.specs.Rows.{row_of}
-use Rattle.rtl_rule.specs.declared.finding.Finding.{Finding}
 use Rattle.rtl_rule.specs.declared.rule.Rule.{Rule}
-use Rattle.demo_told.specs.declared.told.Told.{Told as About}
-use Rattle.desk_places.specs.Places.{Source, place_in}
-use Rattle.desk_files.specs.declared.files.SourceFile.{SourceFile}
+use Rattle.source_file.specs.declared.SourceFile.{SourceFile}
+use Rattle.desk_places.specs.Places.{place_in}
+use Rattle.desk_rows.specs.declared.Row.{Row}
 use Rattle.desk_dates.specs.Dates.{date_text}
 use Rattle.desk_tables.specs.Rules.{or_else}
 use Rattle.desk_tables.specs.Tables.{Kept}
@@ -16,7 +15,7 @@ use Rattle.desk_tables.specs.declared.rows.WaiverRow.{WaiverRow}
 use Rattle.waiver_book.specs.Books.{refusal}
 use Rattle.waiver_book.specs.declared.fault.WaiveFault.{WaiveFault}
 use Rattle.waiver_book.specs.declared.fault.WaiveFault.TheVariants.{NotWaivable, NoSuchFinding, TermPast, TermTooLong, OwnerIsAsker, Already, Memory}
-use Rattle.waiver_book.specs.declared.waiver.Waiver.{Waiver}
+use Rattle.waiver_book.specs.Waivers.{Waiver}
 use Rattle.desk_requests.specs.declared.ask.Request.{Request}
 use Rattle.desk_requests.specs.declared.ask.WaiverAsk.{WaiverAsk}
 use Rattle.desk_bodies.specs.Bodies.{id_text}
@@ -27,27 +26,21 @@ use Rattle.desk_rulings.specs.Rulings.{Site, Verdict, site_of, standing_in}
 
 -- ---- the finding that is asked for
 
--- files as places are written of them
-abbrev pub sources_in : List SourceFile → List Source
-sources_in files = map (λ file. record { name = file.name; text = file.text }) files
-
 -- the finding is the one that is asked for: its rule, its target, and its place as it is written
-abbrev pub is_asked : List Source → WaiverAsk → Finding → About → Bool
-is_asked sources ask finding told =
-    bytes_eq (row_of finding.rule).code (row_of ask.rule).code && bytes_eq told.target ask.target
-    && bytes_eq (place_in sources finding.spot) ask.place
+abbrev pub is_asked : List SourceFile → WaiverAsk → Row → Bool
+is_asked files ask one =
+    bytes_eq (row_of one.finding.rule).code (row_of ask.rule).code
+    && bytes_eq one.told.target ask.target
+    && bytes_eq (place_in files one.finding.spot) ask.place
 
-abbrev pub asked_in : List FileRow → List SourceFile → WaiverAsk → List Finding → List About
-    → Option Site
-asked_in rows files ask (finding ∷ findings) (told ∷ others) =
-    if is_asked (sources_in files) ask finding told then site_of rows files finding told
-    else asked_in rows files ask findings others
-asked_in rows files ask _ _ = None
+abbrev pub asked_in : List FileRow → List SourceFile → WaiverAsk → List Row → Option Site
+asked_in rows files ask [] = None
+asked_in rows files ask (one ∷ others) =
+    if is_asked files ask one then site_of rows files one else asked_in rows files ask others
 
 -- the site of the first finding that is the one that is asked for
 abbrev pub asked_site : Kept → Verdict → WaiverAsk → Option Site
-asked_site kept verdict ask =
-    asked_in kept.files verdict.files ask verdict.findings verdict.told
+asked_site kept verdict ask = asked_in kept.files verdict.files ask verdict.rows
 
 -- ---- refusals
 

@@ -1,13 +1,13 @@
 -- Which waivers of the tables stand for the findings of a module on a day.
 -- Worked examples: crates/desk_rulings/proofs/Example.antt.
-use Rattle.std.specs.Prelude.{ℕ, ◌+◌, ℤ, int_le, Bool, ◌&&◌, ◌==◌, bytes_eq, List, [], ◌∷◌, find, is_none, map, option_map, slice_get, Option, if◌then◌else◌}
+use Rattle.std.specs.Prelude.{ℕ, ℤ, int_le, Bool, ◌&&◌, ◌==◌, bytes_eq, List, count_by, find, is_none, map, option_map, slice_get, Option}
 use Rattle.std.specs.List.{list_any}
 use Rattle.std.specs.Option.{option_and_then}
 use Rattle.rtl_rule.specs.Rows.{row_of}
-use Rattle.rtl_rule.specs.declared.finding.Finding.{Finding}
 use Rattle.rtl_rule.specs.declared.finding.Key.{Key}
-use Rattle.demo_told.specs.declared.told.Told.{Told}
-use Rattle.desk_files.specs.declared.files.SourceFile.{SourceFile}
+use Rattle.source_file.specs.declared.SourceFile.{SourceFile}
+use Rattle.desk_rows.specs.Rows.{Waived}
+use Rattle.desk_rows.specs.declared.Row.{Row}
 use Rattle.desk_tables.specs.Changes.{has_name}
 use Rattle.desk_tables.specs.Tables.{Kept}
 use Rattle.desk_tables.specs.declared.rows.FileRow.{FileRow}
@@ -15,19 +15,17 @@ use Rattle.desk_tables.specs.declared.rows.WaiverId.{WaiverId}
 use Rattle.desk_tables.specs.declared.rows.WaiverRow.{WaiverRow}
 use Rattle.desk_rulings.specs.declared.ruled.Ruled.{Ruled}
 
--- what the rules say of a module: its findings, what is told of each, the files that it uses in the
--- order of their names, and these names
+-- what the rules say of a module: its findings with what is told of each, the files that it uses in
+-- the order of their names, and these names
 pub record Verdict : Type 0 where
-  pub findings : List Finding
-  pub told : List Told
+  pub rows : List Row
   pub files : List SourceFile
   pub reached : List (List ℕ)
 
 -- what a contract sees of a ruling
 abbrev pub verdict_of : Ruled → Verdict
 verdict_of ruled = record {
-  findings = ruled.findings.now;
-  told = ruled.told.now;
+  rows = ruled.rows.now;
   files = map (λ file. file.now) ruled.files.now;
   reached = ruled.reached.now;
 }
@@ -41,19 +39,23 @@ pub record Site : Type 0 where
 abbrev pub digest_of : List FileRow → List ℕ → Option (List ℕ)
 digest_of rows name = option_map (λ row. row.digest) (find (has_name name) rows)
 
-abbrev pub key_in : Finding → Told → SourceFile → Key
-key_in finding told file =
-    record { rule = finding.rule; target = told.target; file = file.name; at = finding.spot.at }
+abbrev pub key_in : Row → SourceFile → Key
+key_in one file = record {
+  rule = one.finding.rule;
+  target = one.told.target;
+  file = file.name;
+  at = one.finding.spot.at;
+}
 
-abbrev pub site_in : List FileRow → Finding → Told → SourceFile → Option Site
-site_in rows finding told file =
-    option_map (λ digest. record { key = key_in finding told file; digest = digest })
+abbrev pub site_in : List FileRow → Row → SourceFile → Option Site
+site_in rows one file =
+    option_map (λ digest. record { key = key_in one file; digest = digest })
     (digest_of rows file.name)
 
 -- the site of a finding; none where its file isn't kept
-abbrev pub site_of : List FileRow → List SourceFile → Finding → Told → Option Site
-site_of rows files finding told =
-    option_and_then (site_in rows finding told) (slice_get files finding.spot.file)
+abbrev pub site_of : List FileRow → List SourceFile → Row → Option Site
+site_of rows files one =
+    option_and_then (site_in rows one) (slice_get files one.finding.spot.file)
 
 -- the waiver is of the finding at the site, in a file with the same digest
 abbrev pub is_for : Site → WaiverRow → Bool
@@ -75,31 +77,25 @@ abbrev pub standing_in : ℤ → List WaiverRow → Site → Option (WaiverId ×
 standing_in today rows site =
     option_map (λ row. (row.id, row.last_day)) (find (covers today site) rows)
 
--- the waiver of a finding that stands on a day, with its last day
-abbrev pub standing_for : ℤ → Kept → List SourceFile → Finding → Told → Option (WaiverId × ℤ)
-standing_for today kept files finding told =
-    option_and_then (standing_in today kept.waivers) (site_of kept.files files finding told)
+-- a finding with the waiver that stands on a day, and its last day
+abbrev pub standing_for : ℤ → Kept → List SourceFile → Row → Waived
+standing_for today kept files one = record {
+  row = one;
+  waiver = option_and_then (standing_in today kept.waivers) (site_of kept.files files one);
+}
 
-abbrev pub standings : ℤ → Kept → List SourceFile → List Finding → List Told
-    → List (Option (WaiverId × ℤ))
-standings today kept files (finding ∷ findings) (told ∷ others) =
-    standing_for today kept files finding told ∷ standings today kept files findings others
-standings today kept files _ _ = []
-
--- for each finding the waiver that stands on a day
-abbrev pub standing_of : ℤ → Kept → Verdict → List (Option (WaiverId × ℤ))
-standing_of today kept verdict = standings today kept verdict.files verdict.findings verdict.told
+-- each finding with the waiver that stands on a day
+abbrev pub standing_of : ℤ → Kept → Verdict → List Waived
+standing_of today kept verdict = map (standing_for today kept verdict.files) verdict.rows
 
 -- a finding of the first grade has no waiver
-abbrev pub is_open : Finding → Option (WaiverId × ℤ) → Bool
-is_open finding waiver = (row_of finding.rule).first_grade && is_none waiver
+abbrev pub is_open : Waived → Bool
+is_open one = (row_of one.row.finding.rule).first_grade && is_none one.waiver
 
 -- how many findings of the first grade have no waiver
-abbrev pub left_of : List Finding → List (Option (WaiverId × ℤ)) → ℕ
-left_of (finding ∷ findings) (waiver ∷ waivers) =
-    (if is_open finding waiver then 1 else 0) + left_of findings waivers
-left_of _ _ = 0
+abbrev pub left_of : List Waived → ℕ
+left_of rows = count_by is_open rows
 
 -- some finding is of the first grade
-abbrev pub has_first_grade : List Finding → Bool
-has_first_grade findings = list_any (λ finding. (row_of finding.rule).first_grade) findings
+abbrev pub has_first_grade : List Row → Bool
+has_first_grade rows = list_any (λ one. (row_of one.finding.rule).first_grade) rows

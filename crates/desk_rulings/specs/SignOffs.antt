@@ -4,7 +4,7 @@ use Rattle.std.specs.Prelude.{ℕ, ◌+◌, ℤ, nat_lt, bytes_eq, codes, decima
 use Rattle.std.specs.List.{filter_map}
 use Rattle.hex.specs.Hex.{encode_lower}
 use Rattle.sha2.specs.Sha256.{sha256}
-use Rattle.rtl_rule.specs.declared.finding.Finding.{Finding}
+use Rattle.desk_rows.specs.declared.Row.{Row}
 use Rattle.desk_tables.specs.Changes.{has_name}
 use Rattle.desk_tables.specs.Tables.{Kept}
 use Rattle.desk_tables.specs.declared.change.Change.TheVariants as change
@@ -36,8 +36,8 @@ abbrev pub reach_of : List FileRow → List ℕ
 reach_of rows = sha256 (flat_map reach_line rows)
 
 -- clean where no finding is of the first grade
-abbrev pub grade_of : List Finding → Grade
-grade_of findings = if has_first_grade findings then Waived else Clean
+abbrev pub grade_of : List Row → Grade
+grade_of rows = if has_first_grade rows then Waived else Clean
 
 -- the next row of the sign-offs
 abbrev pub signoff_row : List ℕ → Request → ℤ → Kept → Verdict → SignOffRow
@@ -46,7 +46,7 @@ signoff_row top request today kept verdict = record {
   top = top;
   who = request.user;
   day = today;
-  grade = grade_of verdict.findings;
+  grade = grade_of verdict.rows;
   reach = reach_of (rows_of kept.files verdict.reached);
 }
 
@@ -66,7 +66,7 @@ findings_stand left = Told (conflict_with (value_line (codes "FindingsStand") (d
 -- reaches, or it is accepted
 abbrev pub signoff_outcome : List ℕ → Request → ℤ → Kept → Verdict → Outcome
 signoff_outcome top request today kept verdict =
-    let left = left_of verdict.findings (standing_of today kept verdict) in
+    let left = left_of (standing_of today kept verdict) in
     if nat_lt 0 left then findings_stand left
     else unless_edited (edited_by request.user (rows_of kept.files verdict.reached))
     (accepted (signoff_row top request today kept verdict) request)

@@ -3,10 +3,9 @@
 use Rattle.std.specs.Prelude.{ℕ, ℤ, ◌-ℤ◌, not, int_lt, bytes_eq, List, Option, Some, None, if◌then◌else◌}
 use Rattle.rtl_rule.specs.Rows.{row_of}
 use Rattle.desk_tables.specs.declared.rows.FileRow.{FileRow}
-use Rattle.waiver_book.specs.Books.{term}
+use Rattle.waiver_book.specs.Books.{term, MAX_TERM}
 use Rattle.waiver_book.specs.declared.fault.WaiveFault.{WaiveFault}
 use Rattle.waiver_book.specs.declared.fault.WaiveFault.TheVariants.{NotWaivable, TermPast, TermTooLong, OwnerIsAsker}
-use Rattle.waiver_book.specs.declared.waiver.TheConstants.{MAX_TERM}
 use Rattle.desk_requests.specs.declared.ask.WaiverAsk.{WaiverAsk}
 use Rattle.desk_rulings.specs.Rulings.{Site}
 

@@ -1,10 +1,15 @@
-// Laws: what is accepted keeps a reply to its request; and what stands by the tables, stands by the
-// book.
-ghost use Rattle.std.specs.Prelude.{◌≡◌, ◌∷◌, [], ℕ, ℤ, List, None, option_map};
+// Laws: what is accepted keeps a reply to its request; what stands by the tables, stands by the book;
+// and sites have the keys of findings.
+ghost use Rattle.std.specs.Prelude.{◌≡◌, ◌∷◌, [], ℕ, ℤ, List, None, Some, option_map};
+ghost use Rattle.rtl_rule.specs.Keys.{IsKey};
+ghost use Rattle.source_file.specs.SourceFiles.{names_in};
+ghost use Rattle.source_file.specs.declared.SourceFile.{SourceFile};
+ghost use Rattle.desk_rows.specs.declared.Row.{Row};
 ghost use Rattle.desk_tables.specs.Changes.{reply_of};
 ghost use Rattle.desk_tables.specs.Rules.{broken_row};
 ghost use Rattle.desk_tables.specs.Tables.{Kept};
 ghost use Rattle.desk_tables.specs.declared.change.Change.{Change};
+ghost use Rattle.desk_tables.specs.declared.rows.FileRow.{FileRow};
 ghost use Rattle.waiver_book.specs.Books.{refusal, standing};
 ghost use Rattle.desk_requests.specs.declared.ask.Request.{Request};
 ghost use Rattle.desk_requests.specs.declared.ask.WaiverAsk.{WaiverAsk};
@@ -12,7 +17,7 @@ ghost use Rattle.desk_records.specs.Outcomes.{Done};
 ghost use Rattle.desk_records.specs.Repeats.{IsReplyTo};
 ghost use Rattle.desk_rulings.specs.Books.{book_of};
 ghost use Rattle.desk_rulings.specs.Grants.{refused_at, waive_outcome, waiver_of};
-ghost use Rattle.desk_rulings.specs.Rulings.{Site, Verdict, standing_in};
+ghost use Rattle.desk_rulings.specs.Rulings.{Site, Verdict, site_of, standing_in};
 ghost use Rattle.desk_rulings.specs.SignOffs.{signoff_outcome};
 
 /// A waiver that is granted keeps a reply to the request for it.
@@ -42,4 +47,11 @@ pub fn books_refusal()
     ensures { (kept : Kept) (site : Site) (ask : WaiverAsk) (request : Request) (today : ℤ)
         → broken_row kept ≡ None → refused_at site ask request today kept.waivers
         ≡ refusal (waiver_of ask site) (site.key ∷ []) today request.user (book_of kept.waivers) }
+{}
+
+/// The key of a site is the one by which its finding is known across edits.
+pub fn named_key()
+    ensures { (rows : List FileRow) (files : List SourceFile) (one : Row) (site : Site)
+        → site_of rows files one ≡ Some site
+        → IsKey one.told.target (names_in files) one.finding site.key }
 {}

@@ -3,7 +3,7 @@ ghost use Rattle.std.specs.Prelude.{◌≡◌, ◌<◌, ◌∷◌, ◌++◌, [],
 ghost use Rattle.desk_tables.specs.Changes.{has_name};
 ghost use Rattle.desk_rulings.specs.Steps.{edited_one};
 ghost use Rattle.desk_tables.specs.Tables.{kept_of};
-ghost use Rattle.desk_tables.specs.declared.rules.TheConstants.{MAX_SIGN_OFFS};
+ghost use Rattle.desk_tables.specs.Limits.{MAX_SIGN_OFFS};
 ghost use Rattle.desk_records.specs.Outcomes.{outcome};
 ghost use Rattle.desk_rulings.specs.Rulings.{has_first_grade, verdict_of};
 ghost use Rattle.desk_rulings.specs.SignOffs.{accepted, edited_by, findings_stand, grade_of, reach_line, reach_of, rows_of, signoff_outcome, signoff_row, unless_edited};
@@ -15,9 +15,9 @@ use desk_bodies::{granted_body, refused_with};
 use desk_json::{push_bytes, push_hex};
 use desk_records::{Decision, kept_row};
 use desk_requests::Request;
+use desk_rows::Row;
 use desk_tables::{Change, Day, Digest, FileRow, Grade, Name, SignOffRow, Tables};
 use itoa::Buffer;
-use rtl_rule::finding::Finding;
 use rtl_rule::rule::first_grade;
 use rtl_tree::memory::Memory;
 use rtl_tree::text::Text;
@@ -85,16 +85,16 @@ fn reach_of(alloc: Global, files: &[FileRow], reached: &[Text]) -> Result<Digest
     Ok(Sha256::digest(&lines))
 }
 
-fn has_first_grade(findings: &[Finding]) -> bool
-    ensures { result ≡ has_first_grade findings.now }
+fn has_first_grade(rows: &[Row]) -> bool
+    ensures { result ≡ has_first_grade rows.now }
 {
-    findings.iter().any(|finding| first_grade(finding.rule))
+    rows.iter().any(|one| first_grade(one.finding.rule))
 }
 
-fn grade_of(findings: &[Finding]) -> Grade
-    ensures { result ≡ grade_of findings.now }
+fn grade_of(rows: &[Row]) -> Grade
+    ensures { result ≡ grade_of rows.now }
 {
-    if has_first_grade(findings) {
+    if has_first_grade(rows) {
         return Grade::Waived;
     }
     Grade::Clean
@@ -126,7 +126,7 @@ fn signoff_row(
         top: Text::from_bytes(alloc, top.as_bytes())?,
         who: request.user.copied(),
         day: today,
-        grade: grade_of(ruled.findings),
+        grade: grade_of(ruled.rows),
         reach: reach_of(alloc, &tables.files, ruled.reached)?,
     })
 }
@@ -177,13 +177,12 @@ pub fn sign_off(
     top: &Text,
     today: Day,
 ) -> Result<Decision, Memory>
-    requires as_many { length ruled.now.findings.now ≡ length ruled.now.told.now }
-    requires room { length (kept_of tables.now).signoffs < MAX_SIGN_OFFS }
+    requires { length (kept_of tables.now).signoffs < MAX_SIGN_OFFS }
     ensures { IfOk result (λ made. outcome made ≡ signoff_outcome top.now request.now today
         (kept_of tables.now) (verdict_of ruled.now)) }
 {
     let found = standing(alloc, ruled, tables, today)?;
-    let left = left(ruled.findings, &found);
+    let left = left(&found);
     if left > 0 {
         return findings_stand(alloc, left);
     }

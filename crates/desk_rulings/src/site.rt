@@ -4,13 +4,12 @@ ghost use Rattle.desk_tables.specs.Changes.{has_name};
 ghost use Rattle.desk_rulings.specs.Index.{site_seen};
 ghost use Rattle.desk_rulings.specs.Rulings.{digest_of, key_in};
 
-use demo_told::Told;
-use desk_files::SourceFile;
+use desk_rows::Row;
 use desk_tables::{Digest, FileRow};
-use rtl_rule::finding::Finding;
 use rtl_rule::rule::Rule;
 use rtl_tree::memory::Memory;
 use rtl_tree::text::Text;
+use source_file::SourceFile;
 use std::alloc::Global;
 
 // What names a finding across edits, and the digest of its file.
@@ -60,23 +59,22 @@ pub(crate) fn digests_of(
 
 // The site of a finding in a file that has a digest.
 pub(crate) fn site_in<'r>(
-    finding: &Finding,
-    told: &'r Told,
+    one: &'r Row,
     file: &'r SourceFile,
     digest: Option<Digest>,
 ) -> Option<Site<'r>>
     ensures { option_map site_seen result ≡ option_map (λ it. record {
-      key = key_in finding.now told.now file.now;
+      key = key_in one.now file.now;
       digest = it;
     }) digest }
 {
     match digest {
         None => None,
         Some(digest) => Some(Site {
-            rule: finding.rule,
-            target: &told.target,
+            rule: one.finding.rule,
+            target: &one.told.target,
             file: &file.name,
-            at: finding.spot.at,
+            at: one.finding.spot.at,
             digest,
         }),
     }

@@ -1,12 +1,11 @@
 // Requests for waivers.
 ghost use Rattle.std.specs.Prelude.{◌≡◌, ◌≤◌, ◌<◌, All, length, map, option_map, IfOk};
-ghost use Rattle.rtl_tree.specs.declared.text.TheConstants.{MAX_BYTES};
+ghost use Rattle.desk_tables.specs.Limits.{MAX_BYTES, MAX_WAIVERS};
 ghost use Rattle.desk_places.specs.Places.{sources_of};
 ghost use Rattle.desk_tables.specs.Tables.{kept_of};
-ghost use Rattle.desk_tables.specs.declared.rules.TheConstants.{MAX_WAIVERS};
 ghost use Rattle.desk_bodies.specs.Refusals.{conflict_with};
 ghost use Rattle.desk_records.specs.Outcomes.{Told, outcome};
-ghost use Rattle.desk_rulings.specs.Grants.{asked_in, grant, is_asked, refusal_line, refused_at, sources_in, unfound, waive_at, waive_outcome, waiver_row};
+ghost use Rattle.desk_rulings.specs.Grants.{asked_in, grant, is_asked, refusal_line, refused_at, unfound, waive_at, waive_outcome, waiver_row};
 ghost use Rattle.desk_rulings.specs.Index.{site_seen};
 ghost use Rattle.desk_rulings.specs.Steps.{first_refusal};
 ghost use Rattle.desk_rulings.specs.Rulings.{is_for, site_of, standing_in, verdict_of};
@@ -14,31 +13,29 @@ ghost use Rattle.desk_rulings.specs.Rulings.{is_for, site_of, standing_in, verdi
 use crate::Ruled;
 use crate::index::stands;
 use crate::site::{Site, digest_of, site_in};
-use demo_told::Told as About;
 use desk_bodies::{conflict, id_body, refused_with};
 use desk_dates::date_digits;
-use desk_files::SourceFile;
 use desk_places::sources::Sources;
 use desk_records::{Decision, kept_row};
 use desk_requests::{Request, WaiverAsk};
+use desk_rows::Row;
 use desk_tables::{Change, Day, FileRow, Name, Tables, WaiverId, WaiverRow};
 use itoa::Buffer;
-use rtl_rule::finding::Finding;
 use rtl_rule::rule::{Rule, waivable};
 use rtl_tree::memory::Memory;
 use rtl_tree::text::Text;
+use source_file::SourceFile;
 use std::alloc::Global;
 use waiver_book::{MAX_TERM, WaiveFault};
 
 // The files, as places are written of them.
 fn sources_in<'r>(alloc: Global, files: &[&'r SourceFile]) -> Result<Sources<'r>, Memory>
     requires { All (λ file. length file.now.text ≤ MAX_BYTES) files.now }
-    ensures { IfOk result (λ sources.
-        sources_of sources ≡ sources_in (map (λ file. file.now) files.now)) }
+    ensures { IfOk result (λ sources. sources_of sources ≡ map (λ file. file.now) files.now) }
 {
     let mut sources = Sources::empty(alloc);
     for file in files {
-        sources.push(file.name.as_bytes(), file.text.as_bytes())?;
+        sources.push(*file)?;
     }
     Ok(sources)
 }
@@ -48,33 +45,27 @@ fn is_asked(
     alloc: Global,
     sources: &Sources<'_>,
     ask: &WaiverAsk,
-    finding: &Finding,
-    told: &About,
+    one: &Row,
 ) -> Result<bool, Memory>
-    ensures { IfOk result (λ it.
-        it ≡ is_asked (sources_of sources.now) ask.now finding.now told.now) }
+    ensures { IfOk result (λ it. it ≡ is_asked (sources_of sources.now) ask.now one.now) }
 {
-    let code = finding.rule.row().code.as_bytes();
-    if code != ask.rule.row().code.as_bytes() || told.target.as_bytes() != ask.target.as_bytes() {
+    let code = one.finding.rule.row().code.as_bytes();
+    let target = one.told.target.as_bytes();
+    if code != ask.rule.row().code.as_bytes() || target != ask.target.as_bytes() {
         return Ok(false);
     }
     let mut place = Vec::new(alloc);
-    sources.push_place(&mut place, finding.spot)?;
+    sources.push_place(&mut place, one.finding.spot)?;
     Ok(place.as_slice() == ask.place.as_bytes())
 }
 
 // The site of a finding, where its file is kept.
-fn site_of<'r>(
-    rows: &[FileRow],
-    files: &[&'r SourceFile],
-    finding: &Finding,
-    told: &'r About,
-) -> Option<Site<'r>>
+fn site_of<'r>(rows: &[FileRow], files: &[&'r SourceFile], one: &'r Row) -> Option<Site<'r>>
     ensures { option_map site_seen result
-        ≡ site_of rows.now (map (λ file. file.now) files.now) finding.now told.now }
+        ≡ site_of rows.now (map (λ file. file.now) files.now) one.now }
 {
-    match files.get(finding.spot.file as usize) {
-        Some(file) => site_in(finding, told, *file, digest_of(rows, &file.name)),
+    match files.get(one.finding.spot.file as usize) {
+        Some(file) => site_in(one, *file, digest_of(rows, &file.name)),
         None => None,
     }
 }
@@ -86,17 +77,15 @@ fn asked_site<'r>(
     ruled: &Ruled<'r>,
     ask: &WaiverAsk,
 ) -> Result<Option<Site<'r>>, Memory>
-    requires as_many { length ruled.now.findings.now ≡ length ruled.now.told.now }
-    requires short { All (λ file. length file.now.text ≤ MAX_BYTES) ruled.now.files.now }
+    requires { All (λ file. length file.now.text ≤ MAX_BYTES) ruled.now.files.now }
     ensures { IfOk result (λ site. option_map site_seen site ≡ asked_in rows.now
-        (verdict_of ruled.now).files ask.now ruled.now.findings.now ruled.now.told.now) }
+        (verdict_of ruled.now).files ask.now ruled.now.rows.now) }
 {
     let sources = sources_in(alloc, ruled.files)?;
-    for number in 0..ruled.findings.len() {
-        let finding = &ruled.findings[number];
-        let told = &ruled.told[number];
-        if is_asked(alloc, &sources, ask, finding, told)? {
-            return Ok(site_of(rows, ruled.files, finding, told));
+    for number in 0..ruled.rows.len() {
+        let one = &ruled.rows[number];
+        if is_asked(alloc, &sources, ask, one)? {
+            return Ok(site_of(rows, ruled.files, one));
         }
     }
     Ok(None)
@@ -271,7 +260,6 @@ pub fn waive(
     ask: &WaiverAsk,
     today: Day,
 ) -> Result<Decision, Memory>
-    requires as_many { length ruled.now.findings.now ≡ length ruled.now.told.now }
     requires short { All (λ file. length file.now.text ≤ MAX_BYTES) ruled.now.files.now }
     requires room { length (kept_of tables.now).waivers < MAX_WAIVERS }
     ensures { IfOk result (λ made. outcome made ≡ waive_outcome ask.now request.now today

@@ -5,6 +5,7 @@ use Rattle.desk_links.specs.Links.{Talk}
 use Rattle.desk_tables.specs.Tables.{Kept}
 use Rattle.desk_requests.specs.Replies.{Said}
 use Rattle.desk_requests.specs.declared.ask.Request.{Request}
+use Rattle.desk_service.specs.Service.{Serving}
 use Rattle.desk_server.specs.Connections.{Answered, IsConnected, IsDelivered, OverTalk, Unheard}
 use Rattle.desk_server.specs.Exchanges.{Around, IsReply}
 use Rattle.desk_server.specs.Hearing.{HearsInput, IsHeard, Says, left_of}
@@ -27,12 +28,12 @@ delivered_since Dropped before middle after answer written later it = record {
 }
 
 -- a reply is given to what was heard
-pub connected_reply : (a b c : Option Talk) (heard : Result Request Why) (served : Served)
+pub connected_reply : {serves : Serving} (a b c : Option Talk) (heard : Result Request Why) (served : Served)
     (faults faults' faults'' : ℕ) (before after : Around) (kept kept' : Kept) (answer : Said)
     → HearsInput a b (IsHeard heard) → faults ≤ faults'
-    → ((input : List ℕ) → IsHeard heard input → IsReply input before after kept kept' answer)
+    → ((input : List ℕ) → IsHeard heard input → IsReply serves input before after kept kept' answer)
     → Says b c (IsDelivered served faults' faults'' answer)
-    → OverTalk a c (λ input written. IsConnected input written faults faults'' before after kept kept' served)
+    → OverTalk a c (λ input written. IsConnected serves input written faults faults'' before after kept kept' served)
 connected_reply a b c heard served faults faults' faults'' before after kept kept' answer hears later reply says = record {
   input = hears.heard ++ left_of b;
   written = says.written;
@@ -42,9 +43,9 @@ connected_reply a b c heard served faults faults' faults'' before after kept kep
 }
 
 -- nothing was heard
-pub connected_none : (a b : Option Talk) (P : List ℕ → Type 0) (faults faults' : ℕ) (around : Around) (kept : Kept)
+pub connected_none : {serves : Serving} (a b : Option Talk) (P : List ℕ → Type 0) (faults faults' : ℕ) (around : Around) (kept : Kept)
     → HearsInput a b P → Rose faults faults'
-    → OverTalk a b (λ input written. IsConnected input written faults faults' around around kept kept Dropped)
+    → OverTalk a b (λ input written. IsConnected serves input written faults faults' around around kept kept Dropped)
 connected_none a b P faults faults' around kept hears rose = record {
   input = hears.heard ++ left_of b;
   written = [];

@@ -9,9 +9,8 @@ use Rattle.desk_requests.specs.declared.ask.Request.{Request}
 use Rattle.desk_http.specs.Refusals.{refusal_line, refusal_status}
 use Rattle.desk_http.specs.declared.fault.BadRequest.{BadRequest}
 use Rattle.desk_http.specs.declared.fault.BadRequest.TheVariants.{Malformed, Memory, NotFound}
-use Rattle.desk_core.specs.Outcomes.{plainly}
-use Rattle.desk_core.specs.Serving.{Serves, no_memory, unavailable}
-use Rattle.desk_server.specs.Exchanges.{Around, Asks, IsAsked, IsReply, IsTrustworthy, NoDay, OutOfMemory, Refused, Refuses, Served, TakesDay, TakesNoDay, refused_with}
+use Rattle.desk_service.specs.Service.{Serving, no_memory, plainly, unavailable}
+use Rattle.desk_server.specs.Exchanges.{Around, Asks, IsAsked, IsReply, NoDay, OutOfMemory, Refused, Refuses, Served, TakesDay, TakesNoDay, refused_with}
 use Rattle.desk_server.specs.Hearing.{IsHeard}
 use Rattle.desk_server.specs.declared.hear.Unheard.TheVariants as unheard
 
@@ -19,29 +18,29 @@ none_taken : (days : Option (List ℤ)) → TakesNoDay days days
 none_taken None = tt
 none_taken (Some days) = refl
 
-pub wanting : (input : List ℕ) (around : Around) (kept : Kept) → IsReply input around around kept kept no_memory
-wanting input around kept = OutOfMemory (none_taken around.days)
+pub wanting : {serves : Serving} (input : List ℕ) (around : Around) (kept : Kept) → IsReply serves input around around kept kept no_memory
+wanting input around kept = OutOfMemory (none_taken around.days) refl
 
-refusing : (input : List ℕ) (around : Around) (kept : Kept) (status : ℕ) (answer : Said)
+refusing : {serves : Serving} (input : List ℕ) (around : Around) (kept : Kept) (status : ℕ) (answer : Said)
     → (answer ≡ refused_with status) ⊎ (answer ≡ no_memory) → IsAsked input (Refuses status)
-    → IsReply input around around kept kept answer
-refusing input around kept status answer (inl is) asked =
-    subst (IsReply input around around kept kept) (sym is) (Refused status asked refl)
-refusing input around kept status answer (inr is) asked =
-    subst (IsReply input around around kept kept) (sym is) (wanting input around kept)
+    → IsReply serves input around around kept kept answer
+refusing {serves} input around kept status answer (inl is) asked =
+    subst (IsReply serves input around around kept kept) (sym is) (Refused status asked refl)
+refusing {serves} input around kept status answer (inr is) asked =
+    subst (IsReply serves input around around kept kept) (sym is) (wanting input around kept)
 
 -- the reply of a fault
-pub fault_answer : (input : List ℕ) (around : Around) (kept : Kept) (fault : BadRequest) (answer : Said)
+pub fault_answer : {serves : Serving} (input : List ℕ) (around : Around) (kept : Kept) (fault : BadRequest) (answer : Said)
     → (fault ≡ Memory → ⊥)
     → (answer ≡ plainly (refusal_status fault) (refusal_line fault)) ⊎ (answer ≡ no_memory)
-    → IsHeard (Err (unheard.Refused fault)) input → IsReply input around around kept kept answer
+    → IsHeard (Err (unheard.Refused fault)) input → IsReply serves input around around kept kept answer
 fault_answer input around kept Malformed answer other is asked = refusing input around kept 400 answer is asked
 fault_answer input around kept NotFound answer other is asked = refusing input around kept 404 answer is asked
 fault_answer input around kept Memory answer other is asked = absurd (other refl)
 
-pub long_reply : (input : List ℕ) (around : Around) (kept : Kept) (answer : Said)
+pub long_reply : {serves : Serving} (input : List ℕ) (around : Around) (kept : Kept) (answer : Said)
     → (answer ≡ plainly 413 (codes "Payload Too Large\n")) ⊎ (answer ≡ no_memory)
-    → IsHeard (Err unheard.TooLong) input → IsReply input around around kept kept answer
+    → IsHeard (Err unheard.TooLong) input → IsReply serves input around around kept kept answer
 long_reply input around kept answer is asked = refusing input around kept 413 answer is asked
 
 took_none : (days days' : Option (List ℤ)) (fault : Failed) → GivesFirst days days' (Err fault) → TakesNoDay days days'
@@ -55,21 +54,22 @@ took (Some days) None day gives = gives
 took (Some days) (Some days') day gives = gives
 
 -- the clock fails
-pub no_day : (input : List ℕ) (before after : Around) (kept : Kept) (request : Request) (fault : Failed) (answer : Said)
+pub no_day : {serves : Serving} (input : List ℕ) (before after : Around) (kept : Kept) (request : Request) (fault : Failed) (answer : Said)
     → (answer ≡ unavailable) ⊎ (answer ≡ no_memory) → IsAsked input (Asks request)
     → GivesFirst before.days after.days (Err fault) → Rose before.clock after.clock
-    → IsReply input before after kept kept answer
-no_day input before after kept request fault answer (inl is) asked gives rose =
-    subst (IsReply input before after kept kept) (sym is)
-    (NoDay request asked (took_none before.days after.days fault gives) rose)
-no_day input before after kept request fault answer (inr is) asked gives rose =
-    subst (IsReply input before after kept kept) (sym is)
-    (OutOfMemory (took_none before.days after.days fault gives))
+    → after.keeper ≡ before.keeper
+    → IsReply serves input before after kept kept answer
+no_day {serves} input before after kept request fault answer (inl is) asked gives rose still =
+    subst (IsReply serves input before after kept kept) (sym is)
+    (NoDay request asked (took_none before.days after.days fault gives) rose still)
+no_day {serves} input before after kept request fault answer (inr is) asked gives rose still =
+    subst (IsReply serves input before after kept kept) (sym is)
+    (OutOfMemory (took_none before.days after.days fault gives) still)
 
--- the desk serves a request
-pub on_day : (input : List ℕ) (before after : Around) (kept kept' : Kept) (request : Request) (day : ℤ) (answer : Said)
+-- a request is served
+pub on_day : {serves : Serving} (input : List ℕ) (before after : Around) (kept kept' : Kept) (request : Request) (day : ℤ) (answer : Said)
     → IsAsked input (Asks request) → GivesFirst before.days after.days (Ok day)
-    → Serves request day before.keeper after.keeper kept kept' answer → IsTrustworthy request kept answer
-    → IsReply input before after kept kept' answer
-on_day input before after kept kept' request day answer asked gives serves clean =
-    Served request day kept' answer asked (took before.days after.days day gives) serves clean
+    → serves request day before.keeper after.keeper kept kept' answer → after.clock ≡ before.clock
+    → IsReply serves input before after kept kept' answer
+on_day input before after kept kept' request day answer asked gives does calm =
+    Served request day kept' answer asked (took before.days after.days day gives) does calm

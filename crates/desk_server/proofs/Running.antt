@@ -5,17 +5,17 @@ use Rattle.desk_io.specs.declared.failed.Failed.{Failed}
 use Rattle.desk_tables.specs.Tables.{Kept}
 use Rattle.desk_links.specs.Doors.{Ended, GivesLink, IsSameVisits, TakesLink, Tells, Visits}
 use Rattle.desk_links.specs.Links.{Talk, fresh_talk, input_of}
+use Rattle.desk_service.specs.Service.{Serving}
 use Rattle.desk_server.specs.Connections.{IsConnected, OverTalk}
 use Rattle.desk_server.specs.Exchanges.{Around}
 use Rattle.desk_server.specs.Servings.{AreLater, Done, IsServedLink, Next, Run, ServesCount, ServesLinks}
 use Rattle.desk_server.specs.declared.exchange.Served.{Served}
-use Rattle.desk_server.proofs.Few.{are_few}
 
 -- one link more
-run_more : (inputs : List (List ℕ)) (links : List Ended) (before middle after : Around) (kept kept' kept'' : Kept)
+run_more : {serves : Serving} (inputs : List (List ℕ)) (links : List Ended) (before middle after : Around) (kept kept' kept'' : Kept)
     (input : List ℕ) (link : Ended)
-    → Run inputs links before middle kept kept' → IsServedLink input link middle after kept' kept''
-    → Run (inputs ++ input ∷ []) (links ++ link ∷ []) before after kept kept''
+    → Run serves inputs links before middle kept kept' → IsServedLink serves input link middle after kept' kept''
+    → Run serves (inputs ++ input ∷ []) (links ++ link ∷ []) before after kept kept''
 run_more _ _ _ _ after _ _ kept'' input link (Done around kept) served =
     Next input [] link [] around after after kept kept'' kept'' served (Done after kept'')
 run_more _ _ _ _ after _ _ kept'' input link (Next first inputs one links before between middle kept mid kept' it rest) served =
@@ -23,22 +23,21 @@ run_more _ _ _ _ after _ _ kept'' input link (Next first inputs one links before
     (run_more inputs links between middle after mid kept' kept'' input link rest served)
 
 -- so many links are served
-pub record IsRunning (count : ℕ) (around around' : Around) (kept kept' : Kept) (before after : Visits) : Type 0 where
-  pub serves : ServesLinks around around' kept kept' before after
-  pub counted : length serves.inputs ≡ count
+pub record IsRunning (serves : Serving) (count : ℕ) (around around' : Around) (kept kept' : Kept) (before after : Visits) : Type 0 where
+  pub linked : ServesLinks serves around around' kept kept' before after
+  pub counted : length linked.inputs ≡ count
 
-pub running_none : (visits : Option Visits) (around : Around) (kept : Kept)
-    → Tells visits visits (IsRunning 0 around around kept kept)
+pub running_none : {serves : Serving} (visits : Option Visits) (around : Around) (kept : Kept)
+    → Tells visits visits (IsRunning serves 0 around around kept kept)
 running_none None around kept = tt
 running_none (Some visits) around kept = record {
-  serves = record {
+  linked = record {
     inputs = [];
     links = [];
     ports = refl;
     given = sym (append-nil visits.given);
     ended = sym (append-nil visits.ended);
     run = Done around kept;
-    few = are_few [] [] around around kept kept (Done around kept);
   };
   counted = refl;
 }
@@ -66,44 +65,43 @@ heard_out input before after P fresh over =
     heard_fresh input after P (subst (λ talk. OverTalk talk after P) fresh over)
 
 -- one link more is given, served and taken back
-served_more : (v v' v'' v''' : Visits) (talk talk' : Option Talk) (faults faults' : ℕ)
+served_more : {serves : Serving} (v v' v'' v''' : Visits) (talk talk' : Option Talk) (faults faults' : ℕ)
     (a a' a'' : Around) (k k' k'' : Kept) (count : ℕ) (served : Served)
-    → IsRunning count a a' k k' v v' → GivesLink talk faults v' v'' → TakesLink talk' faults' v'' v'''
-    → OverTalk talk talk' (λ input written. IsConnected input written faults faults' a' a'' k' k'' served)
+    → IsRunning serves count a a' k k' v v' → GivesLink talk faults v' v'' → TakesLink talk' faults' v'' v'''
+    → OverTalk talk talk' (λ input written. IsConnected serves input written faults faults' a' a'' k' k'' served)
     → AreLater a' a''
-    → IsRunning (count + 1) a a'' k k'' v v'''
-served_more v v' v'' v''' talk talk' faults faults' a a' a'' k k' k'' count served it gives takes over later =
-    let P : List ℕ → List ℕ → Type 0 = λ input written. IsConnected input written faults faults' a' a'' k' k'' served in
+    → IsRunning serves (count + 1) a a'' k k'' v v'''
+served_more {serves} v v' v'' v''' talk talk' faults faults' a a' a'' k k' k'' count served it gives takes over later =
+    let P : List ℕ → List ℕ → Type 0 = λ input written. IsConnected serves input written faults faults' a' a'' k' k'' served in
     let out = heard_out gives.input talk talk' P gives.fresh over in
     let link : Ended = record { talk = out.told; faults = faults' } in
-    let one : IsServedLink gives.input link a' a'' k' k'' = record {
+    let one : IsServedLink serves gives.input link a' a'' k' k'' = record {
       heard = out.all;
       served = served;
-      connected = subst (λ n. IsConnected gives.input out.told.written n faults' a' a'' k' k'' served) gives.unharmed out.holds;
+      connected = subst (λ n. IsConnected serves gives.input out.told.written n faults' a' a'' k' k'' served) gives.unharmed out.holds;
       later = later;
     } in
-    let run : Run (it.serves.inputs ++ gives.input ∷ []) (it.serves.links ++ link ∷ []) a a'' k k'' =
-    run_more it.serves.inputs it.serves.links a a' a'' k k' k'' gives.input link it.serves.run one in
+    let run : Run serves (it.linked.inputs ++ gives.input ∷ []) (it.linked.links ++ link ∷ []) a a'' k k'' =
+    run_more it.linked.inputs it.linked.links a a' a'' k k' k'' gives.input link it.linked.run one in
     record {
-      serves = record {
-        inputs = it.serves.inputs ++ gives.input ∷ [];
-        links = it.serves.links ++ link ∷ [];
-        ports = takes.ports ∙ gives.ports ∙ it.serves.ports;
-        given = takes.given ∙ gives.given ∙ ap (λ l. l ++ gives.input ∷ []) it.serves.given ∙ append_assoc v.given it.serves.inputs (gives.input ∷ []);
-        ended = takes.ended out.told out.is ∙ ap (λ l. l ++ link ∷ []) gives.ended ∙ ap (λ l. l ++ link ∷ []) it.serves.ended ∙ append_assoc v.ended it.serves.links (link ∷ []);
+      linked = record {
+        inputs = it.linked.inputs ++ gives.input ∷ [];
+        links = it.linked.links ++ link ∷ [];
+        ports = takes.ports ∙ gives.ports ∙ it.linked.ports;
+        given = takes.given ∙ gives.given ∙ ap (λ l. l ++ gives.input ∷ []) it.linked.given ∙ append_assoc v.given it.linked.inputs (gives.input ∷ []);
+        ended = takes.ended out.told out.is ∙ ap (λ l. l ++ link ∷ []) gives.ended ∙ ap (λ l. l ++ link ∷ []) it.linked.ended ∙ append_assoc v.ended it.linked.links (link ∷ []);
         run = run;
-        few = are_few (it.serves.inputs ++ gives.input ∷ []) (it.serves.links ++ link ∷ []) a a'' k k'' run;
       };
-      counted = length_push it.serves.inputs gives.input ∙ ap (λ n. n + 1) it.counted;
+      counted = length_push it.linked.inputs gives.input ∙ ap (λ n. n + 1) it.counted;
     }
 
 -- the same, where the door tells it
-pub running_more : (v v' v'' v''' : Option Visits) (talk talk' : Option Talk) (faults faults' : ℕ)
+pub running_more : {serves : Serving} (v v' v'' v''' : Option Visits) (talk talk' : Option Talk) (faults faults' : ℕ)
     (a a' a'' : Around) (k k' k'' : Kept) (count : ℕ) (served : Served)
-    → Tells v v' (IsRunning count a a' k k') → Tells v' v'' (GivesLink talk faults)
+    → Tells v v' (IsRunning serves count a a' k k') → Tells v' v'' (GivesLink talk faults)
     → Tells v'' v''' (TakesLink talk' faults')
-    → OverTalk talk talk' (λ input written. IsConnected input written faults faults' a' a'' k' k'' served)
-    → AreLater a' a'' → Tells v v''' (IsRunning (count + 1) a a'' k k'')
+    → OverTalk talk talk' (λ input written. IsConnected serves input written faults faults' a' a'' k' k'' served)
+    → AreLater a' a'' → Tells v v''' (IsRunning serves (count + 1) a a'' k k'')
 running_more None v' v'' v''' talk talk' faults faults' a a' a'' k k' k'' count served it gives takes over later = tt
 running_more (Some v) None v'' v''' talk talk' faults faults' a a' a'' k k' k'' count served it gives takes over later = absurd it
 running_more (Some v) (Some v') None v''' talk talk' faults faults' a a' a'' k k' k'' count served it gives takes over later = absurd gives
@@ -112,23 +110,23 @@ running_more (Some v) (Some v') (Some v'') (Some v''') talk talk' faults faults'
     served_more v v' v'' v''' talk talk' faults faults' a a' a'' k k' k'' count served it gives takes over later
 
 -- all are served that were wanted
-pub served_all : (v v' : Option Visits) (a a' : Around) (k k' : Kept) (count wanted : ℕ)
-    → Tells v v' (IsRunning count a a' k k') → count ≡ wanted
-    → Tells v v' (ServesCount wanted (Ok tt) a a' k k')
+pub served_all : {serves : Serving} (v v' : Option Visits) (a a' : Around) (k k' : Kept) (count wanted : ℕ)
+    → Tells v v' (IsRunning serves count a a' k k') → count ≡ wanted
+    → Tells v v' (ServesCount serves wanted (Ok tt) a a' k k')
 served_all None v' a a' k k' count wanted it same = tt
 served_all (Some v) None a a' k k' count wanted it same = absurd it
 served_all (Some v) (Some v') a a' k k' count wanted it same =
-    let counted : length it.serves.inputs ≡ count = it.counted in
-    record { serves = it.serves; most = omega (arith, counted, same); all = counted ∙ same }
+    let counted : length it.linked.inputs ≡ count = it.counted in
+    record { served = it.linked; most = omega (arith, counted, same); all = counted ∙ same }
 
 -- the door gives no link more
-pub served_some : (v v' v'' : Option Visits) (a a' : Around) (k k' : Kept) (count wanted : ℕ) (fault : Failed)
-    → Tells v v' (IsRunning count a a' k k') → Tells v' v'' IsSameVisits → count ≤ wanted
-    → Tells v v'' (ServesCount wanted (Err fault) a a' k k')
+pub served_some : {serves : Serving} (v v' v'' : Option Visits) (a a' : Around) (k k' : Kept) (count wanted : ℕ) (fault : Failed)
+    → Tells v v' (IsRunning serves count a a' k k') → Tells v' v'' IsSameVisits → count ≤ wanted
+    → Tells v v'' (ServesCount serves wanted (Err fault) a a' k k')
 served_some None v' v'' a a' k k' count wanted fault it stays fits = tt
 served_some (Some v) None v'' a a' k k' count wanted fault it stays fits = absurd it
 served_some (Some v) (Some v') None a a' k k' count wanted fault it stays fits = absurd stays
-served_some (Some v) (Some v') (Some v'') a a' k k' count wanted fault it stays fits =
-    let counted : length it.serves.inputs ≡ count = it.counted in
-    subst (λ w. ServesCount wanted (Err fault) a a' k k' v w) (sym stays)
-    (record { serves = it.serves; most = omega (arith, counted, fits); all = tt })
+served_some {serves} (Some v) (Some v') (Some v'') a a' k k' count wanted fault it stays fits =
+    let counted : length it.linked.inputs ≡ count = it.counted in
+    subst (λ w. ServesCount serves wanted (Err fault) a a' k k' v w) (sym stays)
+    (record { served = it.linked; most = omega (arith, counted, fits); all = tt })

@@ -14,7 +14,7 @@ use Rattle.desk_http.specs.Requests.{ask_of, digest_of, label_of, request_of, us
 use Rattle.desk_http.specs.Routes.{Route, before, behind, change_route, delete_route, get_route, post_route, put_route, route}
 use Rattle.desk_http.specs.Waivers.{waiver_of}
 use Rattle.desk_http.specs.declared.fault.BadRequest.{BadRequest}
-use Rattle.desk_core.specs.Serving.{IsShort}
+use Rattle.desk_service.specs.Service.{IsShort}
 use Rattle.desk_server.specs.Exchanges.{Asks, Headed, Headless, IsAsked, Refuses, asked_of, framed}
 use Rattle.desk_server.specs.Hearing.{HearsInput, IsHeard}
 use Rattle.desk_server.specs.declared.hear.Unheard.{Unheard}

@@ -5,6 +5,7 @@ use Rattle.desk_io.specs.Causes.{Rose}
 use Rattle.desk_tables.specs.Tables.{Kept}
 use Rattle.desk_requests.specs.Replies.{Said}
 use Rattle.desk_links.specs.Links.{Talk}
+use Rattle.desk_service.specs.Service.{Serving}
 use Rattle.desk_server.specs.Exchanges.{Around, IsReply, reply_bytes}
 use Rattle.desk_server.specs.declared.exchange.Served.{Served}
 use Rattle.desk_server.specs.declared.exchange.Served.TheVariants.{Replied, Dropped}
@@ -24,15 +25,15 @@ IsDelivered Dropped faults faults' answer written =
 
 -- a connection with this input, to which this is written: a reply, or nothing where a call of the
 -- link failed before all was heard
-pub data IsConnected (input written : List ℕ) (faults faults' : ℕ) (before after : Around) (kept : Kept) : Kept → Served → Type 0 where
+pub data IsConnected (serves : Serving) (input written : List ℕ) (faults faults' : ℕ) (before after : Around) (kept : Kept) : Kept → Served → Type 0 where
   Answered :
       (kept' : Kept) (answer : Said) (served : Served) →
-      IsReply input before after kept kept' answer →
+      IsReply serves input before after kept kept' answer →
       IsDelivered served faults faults' answer written →
-      IsConnected input written faults faults' before after kept kept' served
+      IsConnected serves input written faults faults' before after kept kept' served
   Unheard :
       written ≡ [] → after ≡ before → Rose faults faults' →
-      IsConnected input written faults faults' before after kept kept Dropped
+      IsConnected serves input written faults faults' before after kept kept Dropped
 
 -- the talk of a link went on to the end of a connection: what was left is the input, and what was
 -- said is written behind what was; what isn't told is some input

@@ -12,10 +12,8 @@ use Rattle.desk_http.specs.Refusals.{refusal_status}
 use Rattle.desk_http.specs.Replies.{or_nothing, phrase, reply_head}
 use Rattle.desk_http.specs.Requests.{request_of}
 use Rattle.desk_http.specs.declared.fault.BadRequest.{BadRequest}
-use Rattle.desk_http.specs.declared.lines.TheConstants.{MAX_BODY_BYTES}
-use Rattle.desk_core.specs.Headline.{IsNewSignOff, IsSignedClean, SaysClean}
-use Rattle.desk_core.specs.Outcomes.{plainly}
-use Rattle.desk_core.specs.Serving.{Serves, no_memory, unavailable}
+use Rattle.desk_http.specs.Limits.{MAX_BODY_BYTES}
+use Rattle.desk_service.specs.Service.{Serving, no_memory, plainly, unavailable}
 
 -- a request, or the status that says why there is none
 pub data Asked : Type 0 where
@@ -82,25 +80,21 @@ pub record Around : Type 0 where
 abbrev pub around : Option (List ℤ) → ℕ → ℕ → Around
 around days clock keeper = record { days = days; clock = clock; keeper = keeper }
 
--- a reply that says that a new sign-off of a module is clean says so of a module that is
-abbrev pub IsTrustworthy : Request → Kept → Said → Type 0
-IsTrustworthy request kept answer =
-    (top : List ℕ) → IsNewSignOff request kept top → SaysClean answer → IsSignedClean kept top
-
--- the reply to an input, and the tables after it: the refusal of one that asks nothing; the desk's on
--- the day that the clock gives; or the clock failed, or there was no memory, and then the tables stay
-pub data IsReply (input : List ℕ) (before after : Around) (kept : Kept) : Kept → Said → Type 0 where
+-- the reply to an input, and the tables after it, by what serves requests: the refusal of an input
+-- that asks nothing; the service's on the day that the clock gives; or the clock failed, or there was no memory, and then the tables stay
+pub data IsReply (serves : Serving) (input : List ℕ) (before after : Around) (kept : Kept) : Kept → Said → Type 0 where
   Refused :
       (status : ℕ) → IsAsked input (Refuses status) → after ≡ before →
-      IsReply input before after kept kept (refused_with status)
+      IsReply serves input before after kept kept (refused_with status)
   Served :
       (request : Request) (today : ℤ) (kept' : Kept) (answer : Said) →
       IsAsked input (Asks request) → TakesDay before.days after.days today →
-      Serves request today before.keeper after.keeper kept kept' answer →
-      IsTrustworthy request kept answer → IsReply input before after kept kept' answer
+      serves request today before.keeper after.keeper kept kept' answer →
+      after.clock ≡ before.clock → IsReply serves input before after kept kept' answer
   NoDay :
       (request : Request) → IsAsked input (Asks request) →
       TakesNoDay before.days after.days → Rose before.clock after.clock →
-      IsReply input before after kept kept unavailable
+      after.keeper ≡ before.keeper → IsReply serves input before after kept kept unavailable
   OutOfMemory :
-      TakesNoDay before.days after.days → IsReply input before after kept kept no_memory
+      TakesNoDay before.days after.days → after.keeper ≡ before.keeper →
+      IsReply serves input before after kept kept no_memory

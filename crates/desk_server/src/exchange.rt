@@ -4,19 +4,18 @@ ghost use Rattle.desk_io.specs.Causes.{Rose};
 ghost use Rattle.desk_tables.specs.Tables.{Kept};
 ghost use Rattle.desk_requests.specs.Replies.{said};
 ghost use Rattle.desk_http.specs.Replies.{IsStatus};
-ghost use Rattle.desk_core.specs.Outcomes.{plainly};
-ghost use Rattle.desk_core.specs.Serving.{IsShort, no_memory};
+ghost use Rattle.desk_service.specs.Service.{IsShort, no_memory, plainly};
 ghost use Rattle.desk_server.specs.Connections.{IsConnected, OverTalk};
 ghost use Rattle.desk_server.specs.Exchanges.{Around, Asks, IsAsked, IsReply, around};
 ghost use Rattle.desk_server.specs.Hearing.{IsHeard};
 
 use crate::give::give;
 use crate::hear::{Unheard, hear_request};
-use desk_core::Desk;
 use desk_http::BadRequest;
 use desk_io::Failed;
 use desk_links::{Clock, Link};
 use desk_requests::{BodyKind, Reply, Request};
+use desk_service::Service;
 use desk_tables::Keeper;
 use std::alloc::Global;
 
@@ -58,10 +57,10 @@ fn line_reply(alloc: Global, status: u16, line: &[u8]) -> Reply
 }
 
 // The reply to a request that isn't served.
-fn fault_reply(alloc: Global, fault: BadRequest) -> Reply
+fn fault_reply<S: Service>(alloc: Global, fault: BadRequest) -> Reply
     ensures reply { (input : List ℕ) (around : Around) (kept : Kept)
         → IsHeard (Err (Unheard.Refused fault)) input
-        → IsReply input around around kept kept (said result) }
+        → IsReply S.serves input around around kept kept (said result) }
     ensures status { IsStatus result.status }
 {
     match fault {
@@ -71,40 +70,41 @@ fn fault_reply(alloc: Global, fault: BadRequest) -> Reply
 }
 
 // The reply where no request was heard; none where a call of the link failed.
-fn refusal_of(alloc: Global, unheard: Unheard) -> Option<Reply>
+fn refusal_of<S: Service>(alloc: Global, unheard: Unheard) -> Option<Reply>
     ensures reply { IfSome result (λ reply. (input : List ℕ) (around : Around) (kept : Kept)
-        → IsHeard (Err unheard) input → IsReply input around around kept kept (said reply)) }
+        → IsHeard (Err unheard) input → IsReply S.serves input around around kept kept (said reply)) }
     ensures status { IfSome result (λ reply. IsStatus reply.status) }
     ensures none { IfNone result (unheard ≡ Unheard.Failed) }
 {
     match unheard {
-        Unheard::Refused(fault) => Some(fault_reply(alloc, fault)),
+        Unheard::Refused(fault) => Some(fault_reply::<S>(alloc, fault)),
         Unheard::TooLong => Some(line_reply(alloc, 413, b"Payload Too Large\n")),
         Unheard::Failed => None,
     }
 }
 
 // The reply to a request on the day that the clock gives.
-fn serve_today<K: Keeper, C: Clock>(
+fn serve_today<S: Service, K: Keeper, C: Clock>(
     alloc: Global,
-    desk: &mut Desk,
+    service: &mut S,
     keeper: &mut K,
     clock: &mut C,
     request: &Request,
 ) -> Reply
-    requires held { IfSome (K.tables keeper.old) (λ held. held ≡ desk.old.kept) }
+    requires held { IfSome (K.tables keeper.old) (λ held. held ≡ S.kept service.old) }
     requires short { IsShort request.now.ask }
-    ensures reply { (input : List ℕ) → IsAsked input (Asks request.now) → IsReply input
+    ensures reply { (input : List ℕ) → IsAsked input (Asks request.now)
+        → IsReply S.serves input
         (around (C.days clock.old) (C.faults clock.old) (K.count keeper.old))
         (around (C.days clock.new) (C.faults clock.new) (K.count keeper.new))
-        desk.old.kept desk.new.kept (said result) }
+        (S.kept service.old) (S.kept service.new) (said result) }
     ensures status { IsStatus result.status }
-    ensures held { IfSome (K.tables keeper.new) (λ held. held ≡ desk.new.kept) }
+    ensures held { IfSome (K.tables keeper.new) (λ held. held ≡ S.kept service.new) }
     ensures later { K.count keeper.old ≤ K.count keeper.new }
     ensures later_clock { C.faults clock.old ≤ C.faults clock.new }
 {
     match clock.today() {
-        Ok(today) => desk.serve(keeper, request, today),
+        Ok(today) => service.reply(keeper, request, today),
         Err(Failed) => line_reply(alloc, 503, b"Service Unavailable\n"),
     }
 }
@@ -112,28 +112,28 @@ fn serve_today<K: Keeper, C: Clock>(
 /// Hears one request on a link, and says the reply. A request that isn't served gets a refusal of
 /// status 400, 404 or 413; where the clock fails the reply is a 503, and where memory is wanting a
 /// 507. Where a call of the link fails the connection is dropped, and what the request changed stays.
-pub fn connection<L: Link, K: Keeper, C: Clock>(
+pub fn connection<S: Service, L: Link, K: Keeper, C: Clock>(
     alloc: Global,
-    desk: &mut Desk,
+    service: &mut S,
     keeper: &mut K,
     link: &mut L,
     clock: &mut C,
 ) -> Served
-    requires { IfSome (K.tables keeper.old) (λ held. held ≡ desk.old.kept) }
+    requires { IfSome (K.tables keeper.old) (λ held. held ≡ S.kept service.old) }
     ensures connected { OverTalk (L.talk link.old) (L.talk link.new) (λ input written.
-        IsConnected input written (L.faults link.old) (L.faults link.new)
+        IsConnected S.serves input written (L.faults link.old) (L.faults link.new)
         (around (C.days clock.old) (C.faults clock.old) (K.count keeper.old))
         (around (C.days clock.new) (C.faults clock.new) (K.count keeper.new))
-        desk.old.kept desk.new.kept result) }
+        (S.kept service.old) (S.kept service.new) result) }
     ensures dropped { result ≡ Served.Dropped → Rose (L.faults link.old) (L.faults link.new) }
-    ensures held { IfSome (K.tables keeper.new) (λ held. held ≡ desk.new.kept) }
+    ensures held { IfSome (K.tables keeper.new) (λ held. held ≡ S.kept service.new) }
     ensures later { K.count keeper.old ≤ K.count keeper.new }
     ensures later_link { L.faults link.old ≤ L.faults link.new }
     ensures later_clock { C.faults clock.old ≤ C.faults clock.new }
 {
     match hear_request(alloc, link) {
-        Ok(request) => give(link, &serve_today(alloc, desk, keeper, clock, &request)),
-        Err(unheard) => match refusal_of(alloc, unheard) {
+        Ok(request) => give(link, &serve_today(alloc, service, keeper, clock, &request)),
+        Err(unheard) => match refusal_of::<S>(alloc, unheard) {
             Some(reply) => give(link, &reply),
             None => Served::Dropped,
         },

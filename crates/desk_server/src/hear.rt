@@ -4,9 +4,8 @@ ghost use Rattle.desk_io.specs.Causes.{HasCause, Rose};
 ghost use Rattle.desk_links.specs.Links.{IsAtEnd};
 ghost use Rattle.desk_http.specs.Heads.{HasNoHead, heard};
 ghost use Rattle.desk_http.specs.Requests.{request_of};
-ghost use Rattle.desk_http.specs.declared.head.TheConstants.{MAX_HEAD_BYTES};
-ghost use Rattle.desk_http.specs.declared.lines.TheConstants.{MAX_BODY_BYTES};
-ghost use Rattle.desk_core.specs.Serving.{IsShort};
+ghost use Rattle.desk_http.specs.Limits.{MAX_HEAD_BYTES, MAX_BODY_BYTES};
+ghost use Rattle.desk_service.specs.Service.{IsShort};
 ghost use Rattle.desk_server.specs.Exchanges.{asked_of, framed};
 ghost use Rattle.desk_server.specs.Hearing.{Grows, HeardAs, Hears, HearsFront, HearsInput, IsBody, IsHeard, IsSettled, IsStop};
 

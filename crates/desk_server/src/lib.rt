@@ -9,6 +9,3 @@ mod serve;
 
 pub use exchange::{Served, connection};
 pub use serve::serve_links;
-
-// Passed on to the crates above.
-pub use desk_core;

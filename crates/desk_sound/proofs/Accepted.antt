@@ -5,15 +5,13 @@ use Rattle.std.specs.Bool.{◌==◌}
 use Rattle.std.specs.Str.{is_utf8}
 use Rattle.std.proofs.lemmas.Bool.{and_from, cond-true, le-leb, leb-false, ltb-false, not_from_false, or_parts}
 use Rattle.std.proofs.lemmas.Slice.Eq.{bytes_eq-Decides}
-use Rattle.rtl_tree.specs.declared.text.TheConstants.{MAX_BYTES}
+use Rattle.desk_tables.specs.Limits.{MAX_BYTES, MAX_ALL_BYTES, MAX_FILES, MAX_REPLIES, MAX_SIGN_OFFS, MAX_WAIVERS}
 use Rattle.sha2.specs.Sha256.{sha256}
 use Rattle.rtl_rule.specs.Rows.{row_of, rule_with}
 use Rattle.rtl_rule.specs.declared.rule.Rule.{Rule}
 use Rattle.rtl_rule.specs.declared.rule.Rule.TheVariants as rule
-use Rattle.waiver_book.specs.Books.{refusal, standing, term}
-use Rattle.waiver_book.specs.Waivers.{has_key}
-use Rattle.waiver_book.specs.declared.waiver.TheConstants.{MAX_TERM}
-use Rattle.waiver_book.specs.declared.waiver.Waiver.{Waiver}
+use Rattle.waiver_book.specs.Books.{refusal, standing, term, MAX_TERM}
+use Rattle.waiver_book.specs.Waivers.{has_key, Waiver}
 use Rattle.waiver_book.specs.declared.fault.WaiveFault.TheVariants.{NotWaivable, NoSuchFinding, TermPast, TermTooLong, OwnerIsAsker, Already}
 use Rattle.waiver_book.specs.declared.fault.WaiveFault.{WaiveFault}
 use Rattle.waiver_book.specs.declared.fault.RevokeFault.{RevokeFault}
@@ -26,7 +24,6 @@ use Rattle.desk_tables.specs.declared.rows.FileRow.{FileRow}
 use Rattle.desk_tables.specs.declared.rows.ReplyRow.{ReplyRow}
 use Rattle.desk_tables.specs.declared.rows.Table.{Table}
 use Rattle.desk_tables.specs.declared.rows.WaiverId.{WaiverId}
-use Rattle.desk_tables.specs.declared.rules.TheConstants.{MAX_ALL_BYTES, MAX_FILES, MAX_REPLIES, MAX_SIGN_OFFS, MAX_WAIVERS}
 use Rattle.desk_requests.specs.Requests.{changes, label_of}
 use Rattle.desk_requests.specs.declared.ask.Ask.{Ask}
 use Rattle.desk_requests.specs.declared.ask.Ask.TheVariants as ask
@@ -231,7 +228,7 @@ waived_holds it request today kept (Some site) sound lawful room at =
 pub waive_holds : (it : WaiverAsk) (request : Request) (today : ℤ) (kept : Kept) (verdict : Verdict) → AreSound kept → IsLawfulWaiver it → length kept.waivers < MAX_WAIVERS → Holds kept request (waive_outcome it request today kept verdict)
 waive_holds it request today kept verdict sound lawful room =
     waived_holds it request today kept (asked_site kept verdict it) sound lawful room
-    (asked_kept kept.files verdict.files it verdict.findings verdict.told sound.files)
+    (asked_kept kept.files verdict.files it verdict.rows sound.files)
 
 -- ---- sign-offs
 
@@ -248,6 +245,6 @@ left_or_signed left false kept request it holds = holds
 
 pub signoff_holds : (top : List ℕ) (request : Request) (today : ℤ) (kept : Kept) (verdict : Verdict) → AreSound kept → is_utf8 top ≡ true → length kept.signoffs < MAX_SIGN_OFFS → Holds kept request (signoff_outcome top request today kept verdict)
 signoff_holds top request today kept verdict sound utf8 room =
-    let left : ℕ = left_of verdict.findings (standing_of today kept verdict) in
+    let left : ℕ = left_of (standing_of today kept verdict) in
     left_or_signed left (nat_lt 0 left) kept request _
     (signed_holds top request today kept verdict (edited_by request.user (rows_of kept.files verdict.reached)) sound utf8 room)

@@ -9,7 +9,7 @@ use Rattle.std.proofs.lemmas.Slice.Eq.{bytes_eq-Decides}
 use Rattle.desk_tables.specs.Changes.{has_name, with_file, without_file}
 use Rattle.desk_tables.specs.Rules.{all_bytes, file_breaks, first_broken, has_file, is_sound_file}
 use Rattle.desk_tables.specs.declared.rows.FileRow.{FileRow}
-use Rattle.desk_tables.specs.declared.rules.TheConstants.{MAX_ALL_BYTES, MAX_FILES}
+use Rattle.desk_tables.specs.Limits.{MAX_ALL_BYTES, MAX_FILES}
 use Rattle.desk_sound.proofs.Placed.{row_put_here, row_put_past}
 use Rattle.desk_sound.proofs.Unbroken.{first_sound, rest_sound, sound_behind}
 

@@ -12,7 +12,7 @@ use Rattle.desk_tables.specs.declared.rows.ReplyRow.{ReplyRow}
 use Rattle.desk_tables.specs.declared.rows.SignOffRow.{SignOffRow}
 use Rattle.desk_tables.specs.declared.rows.WaiverId.{WaiverId}
 use Rattle.desk_tables.specs.declared.rows.WaiverRow.{WaiverRow}
-use Rattle.desk_tables.specs.declared.rules.TheConstants.{MAX_REPLIES, MAX_SIGN_OFFS, MAX_WAIVERS}
+use Rattle.desk_tables.specs.Limits.{MAX_REPLIES, MAX_SIGN_OFFS, MAX_WAIVERS}
 use Rattle.desk_records.specs.Machine.{is_to}
 use Rattle.desk_sound.proofs.Unbroken.{first_sound, none_unless, rest_sound, sound_behind, unbroken_more}
 

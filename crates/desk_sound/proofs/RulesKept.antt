@@ -9,7 +9,7 @@ use Rattle.desk_tables.specs.Tables.{Kept}
 use Rattle.desk_tables.specs.declared.change.Change.{Change}
 use Rattle.desk_tables.specs.declared.rows.FileRow.{FileRow}
 use Rattle.desk_tables.specs.declared.rows.ReplyRow.{ReplyRow}
-use Rattle.desk_tables.specs.declared.rules.TheConstants.{MAX_SIGN_OFFS, MAX_WAIVERS}
+use Rattle.desk_tables.specs.Limits.{MAX_SIGN_OFFS, MAX_WAIVERS}
 use Rattle.desk_requests.specs.Requests.{changes, label_of}
 use Rattle.desk_requests.specs.declared.ask.Ask.{Ask}
 use Rattle.desk_requests.specs.declared.ask.Ask.TheVariants as ask

@@ -2,7 +2,7 @@
 -- Worked examples: crates/desk_sound/proofs/Example.antt.
 use Rattle.std.specs.Prelude.{◌≡◌, ◌≤◌, true, ℕ, ℤ, List, length, ⊤}
 use Rattle.std.specs.Str.{is_utf8}
-use Rattle.rtl_tree.specs.declared.text.TheConstants.{MAX_BYTES}
+use Rattle.desk_tables.specs.Limits.{MAX_BYTES}
 use Rattle.desk_tables.specs.Rules.{is_file_name}
 use Rattle.desk_tables.specs.Tables.{Kept}
 use Rattle.desk_tables.specs.declared.change.Change.{Change}

@@ -14,7 +14,7 @@ use Rattle.desk_tables.specs.declared.rows.FileRow.{FileRow}
 use Rattle.desk_tables.specs.declared.rows.ReplyRow.{ReplyRow}
 use Rattle.desk_tables.specs.declared.rows.SignOffRow.{SignOffRow}
 use Rattle.desk_tables.specs.declared.rows.WaiverRow.{WaiverRow}
-use Rattle.desk_tables.specs.declared.rules.TheConstants.{MAX_ALL_BYTES, MAX_FILES, MAX_REPLIES, MAX_SIGN_OFFS, MAX_WAIVERS}
+use Rattle.desk_tables.specs.Limits.{MAX_ALL_BYTES, MAX_FILES, MAX_REPLIES, MAX_SIGN_OFFS, MAX_WAIVERS}
 use Rattle.desk_tables.proofs.Broken.{Passed, front, passed_more}
 
 or_turned : (a b : Bool) → (a || (b || false)) ≡ (b || a)

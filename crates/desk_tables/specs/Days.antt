@@ -1,7 +1,7 @@
 -- Days, as numbers of days since 1970-01-01.
 -- Worked examples: crates/desk_tables/proofs/Example.antt.
 use Rattle.std.specs.Prelude.{ℤ, ◌≤ℤ◌, int_le, ◌&&◌, Option, Some, None, if◌then◌else◌}
-use Rattle.desk_tables.specs.declared.day.TheConstants.{FIRST_DAY, LAST_DAY}
+use Rattle.desk_tables.specs.Limits.{FIRST_DAY, LAST_DAY}
 
 -- the day is in the years 0000 to 9999
 abbrev pub IsDay : ℤ → Type 0

@@ -1,3 +1,4 @@
+pub mod Limits
 pub mod Days
 pub mod Names
 pub mod Tables

@@ -4,7 +4,7 @@ use Rattle.std.specs.Prelude.{ℕ, Bool, ◌&&◌, ◌||◌, ◌==◌, not, nat_
 use Rattle.std.specs.List.{list_all}
 use Rattle.std.specs.Char.{is_ascii_digit, is_ascii_lowercase}
 use Rattle.std.specs.Str.{byte}
-use Rattle.desk_tables.specs.declared.name.TheConstants.{MAX_NAME_BYTES}
+use Rattle.desk_tables.specs.Limits.{MAX_NAME_BYTES}
 
 -- a small letter, a digit, `_` or `-`
 abbrev pub is_name_letter : ℕ → Bool

@@ -6,7 +6,7 @@ use Rattle.std.specs.Char.{is_ascii_alphanumeric}
 use Rattle.std.specs.Str.{byte, is_utf8}
 use Rattle.sha2.specs.Sha256.{sha256}
 use Rattle.rtl_rule.specs.Rows.{rule_with}
-use Rattle.rtl_tree.specs.declared.text.TheConstants.{MAX_BYTES}
+use Rattle.desk_tables.specs.Limits.{MAX_BYTES, MAX_ALL_BYTES, MAX_FILES, MAX_FILE_NAME_BYTES, MAX_REPLIES, MAX_SIGN_OFFS, MAX_WAIVERS}
 use Rattle.desk_tables.specs.Tables.{Kept}
 use Rattle.desk_tables.specs.declared.rows.MetaRow.{MetaRow}
 use Rattle.desk_tables.specs.declared.rows.FileRow.{FileRow}
@@ -15,7 +15,6 @@ use Rattle.desk_tables.specs.declared.rows.SignOffRow.{SignOffRow}
 use Rattle.desk_tables.specs.declared.rows.ReplyRow.{ReplyRow}
 use Rattle.desk_tables.specs.declared.rows.Table.{Table}
 use Rattle.desk_tables.specs.declared.rows.Table.TheVariants.{Meta, Files, Waivers, SignOffs, Replies}
-use Rattle.desk_tables.specs.declared.rules.TheConstants.{MAX_ALL_BYTES, MAX_FILES, MAX_FILE_NAME_BYTES, MAX_REPLIES, MAX_SIGN_OFFS, MAX_WAIVERS}
 
 -- ---- files
 
@@ -51,7 +50,8 @@ file_breaks before row =
 -- the row keeps the rules of a waiver that look at no other row
 abbrev pub is_sound_waiver : WaiverRow → Bool
 is_sound_waiver row =
-    is_utf8 row.top && is_utf8 row.target && is_utf8 row.file && is_utf8 row.reason && is_some (rule_with row.rule) && not (bytes_eq row.owner row.asker)
+    is_utf8 row.top && is_utf8 row.target && is_file_name row.file && is_utf8 row.reason
+    && is_some (rule_with row.rule) && not (bytes_eq row.owner row.asker)
 
 abbrev pub waiver_breaks : List WaiverRow → WaiverRow → Bool
 waiver_breaks before row =

@@ -8,7 +8,7 @@ use std::marker::Model;
 pub const FIRST_DAY: i32 = -719_528;
 
 /// 9999-12-31, as a number of days since 1970-01-01.
-pub const LAST_DAY: i32 = 2_932_896;
+const LAST_DAY: i32 = 2_932_896;
 
 /// A day of the years 0000 to 9999, which contracts see as the number of days since 1970-01-01.
 #[derive(Clone, Copy, Debug)]

@@ -9,9 +9,9 @@ mod rows;
 mod rules;
 
 pub use change::Change;
-pub use day::{Day, FIRST_DAY, LAST_DAY};
+pub use day::{Day, FIRST_DAY};
 pub use keeper::{Keeper, KeeperFault, MemoryKeeper};
-pub use name::{MAX_NAME_BYTES, Name};
+pub use name::Name;
 pub use rows::{
     Digest, FileRow, Grade, MetaRow, ReplyRow, SignOffRow, Table, Tables, WaiverId, WaiverRow,
 };

@@ -6,7 +6,7 @@ ghost use Rattle.desk_tables.specs.Names.{is_name, is_name_letter, name_of};
 use std::marker::Model;
 
 /// How many bytes a name may have.
-pub const MAX_NAME_BYTES: usize = 32;
+pub(crate) const MAX_NAME_BYTES: usize = 32;
 
 /// The name of a user, 1 to 32 characters of `a-z 0-9 _ -`, which contracts see as the list of them.
 #[derive(Drop)]

@@ -14,7 +14,8 @@ use Rattle.desk_top.specs.declared.simulate.Plan.{Plan}
 use Rattle.desk_top.specs.declared.simulate.Plan.TheVariants.{Told, Run}
 use Rattle.desk_top.specs.Words.{Order, Sign, Simulate, Replay, Generate, is_sign, is_simulate, order}
 use Rattle.desk_top.specs.Delivery.{Outcome, Delivers, Finishes, IsCut, Front as Begun, Nothing, IsWork, gave_up, no_file, outcome_of}
-use Rattle.desk_build.specs.Building.{AreSpelled, Built, Front, Modules, Faulty, IsFront, built_of, elaborated_or_not}
+use Rattle.rtl_front.specs.Fronts.{AreSpelled}
+use Rattle.desk_build.specs.Building.{Built, Front, Modules, Faulty, IsFront, built_of, elaborated_or_not}
 use Rattle.desk_top.specs.Outcome.{World, IsAnswer, IsDone, IsOutcome, IsRuled, IsSigned, report_of}
 use Rattle.desk_top.specs.Plans.{IsPlan, Performs}
 use Rattle.desk_top.specs.Texts.{named, texts_of}

@@ -1,12 +1,12 @@
 -- Texts that are read one after the other.
-use Rattle.std.proofs.Common.{◌≡◌, ℕ, List, [], ◌∷◌, ◌++◌, map, Option, None, Some, Ok, Err, Vec, String, refl, sym, ap, append_assoc}
-use Rattle.std.specs.Prelude.{string_bytes}
-use Rattle.std.specs.declared.alloc.Global.{Global}
+use Rattle.std.proofs.Common.{◌≡◌, ◌∙◌, ℕ, suc, ◌≤◌, List, [], ◌∷◌, ◌++◌, length, Option, None, Some, Ok, Err, refl, sym, ap, append_assoc}
+use Rattle.std.specs.List.{All}
+use Rattle.std.proofs.lemmas.List.Elements.{All-nil, All-cons, All-head, All-tail}
+use Rattle.source_file.specs.SourceFiles.{AreShort, names_in, texts_in}
+use Rattle.source_file.specs.declared.SourceFile.{SourceFile}
 use Rattle.desk_io.specs.declared.shelf.ShelfFault.{ShelfFault}
 use Rattle.desk_io.specs.Shelf.{Files}
-use Rattle.desk_places.specs.Places.{Source, sources}
 use Rattle.desk_top.specs.Texts.{joined, named, texts_of, with_text}
-use Rattle.desk_top.specs.Words.{texts}
 
 append_none : (xs : List (List ℕ)) → xs ++ [] ≡ xs
 append_none [] = refl
@@ -30,9 +30,25 @@ one_read made text (Some others) = ap Some (sym (append_assoc made (text ∷ [])
 pub none_had : (made : List (List ℕ)) (fault : ShelfFault) (rest : Option (List (List ℕ))) → joined made (with_text (Err fault) rest) ≡ None
 none_had made fault rest = refl
 
--- the files of a place, and what they are named
-pub named_of : (names : List (String Global)) (made : List (Vec ℕ Global)) → sources names made ≡ named (texts names) (map (λ text. text.items) made)
-named_of [] made = refl
-named_of (name ∷ names) [] = refl
-named_of (name ∷ names) (text ∷ made) =
-    ap (λ (others : List Source). record { name = string_bytes name; text = text.items } ∷ others) (named_of names made)
+-- files by their names and texts are the files
+named_in : (files : List SourceFile) → named (names_in files) (texts_in files) ≡ files
+named_in [] = refl
+named_in (file ∷ files) = ap (λ (others : List SourceFile). file ∷ others) (named_in files)
+
+pub named_by : (names : List (List ℕ)) (files : List SourceFile) → names_in files ≡ names → named names (texts_in files) ≡ files
+named_by names files are = ap (λ (some : List (List ℕ)). named some (texts_in files)) (sym are) ∙ named_in files
+
+-- as many texts as names
+pub count_by : (names : List (List ℕ)) (files : List SourceFile) → names_in files ≡ names → length (texts_in files) ≡ length names
+count_by names files are = count files ∙ ap length are
+  where
+    count : (files : List SourceFile) → length (texts_in files) ≡ length (names_in files)
+    count [] = refl
+    count (file ∷ files) = ap suc (count files)
+
+pub short_by : (files : List SourceFile) → AreShort files → All (λ text. length text ≤ 1048576) (texts_in files)
+short_by [] short = All-nil (λ (t : List ℕ). length t ≤ 1048576)
+short_by (file ∷ files) short =
+    All-cons (λ (t : List ℕ). length t ≤ 1048576) file.text (texts_in files)
+    (All-head (λ (f : SourceFile). length f.text ≤ 1048576) file files short)
+    (short_by files (All-tail (λ (f : SourceFile). length f.text ≤ 1048576) file files short))

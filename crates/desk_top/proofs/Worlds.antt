@@ -4,9 +4,10 @@ use Rattle.std.specs.Prelude.{IfSome, bytes_eq, nat_le, ◌&&◌, ◌||◌}
 use Rattle.std.specs.List.{All, list_all, list_any}
 use Rattle.std.specs.declared.alloc.Global.{Global}
 use Rattle.std.proofs.lemmas.Bool.{and_parts}
-use Rattle.std.proofs.lemmas.List.Elements.{All-nil, All-cons, All-head, All-tail}
+use Rattle.std.proofs.lemmas.List.Elements.{All-head, All-tail}
 use Rattle.std.proofs.lemmas.Slice.Eq.{bytes_eq-Decides}
-use Rattle.desk_io.specs.declared.shelf.TheConstants.{MAX_FILE_BYTES}
+use Rattle.source_file.specs.SourceFiles.{AreShort, names_in, texts_in}
+use Rattle.source_file.specs.declared.SourceFile.{SourceFile}
 use Rattle.desk_io.specs.declared.shelf.ShelfFault.{ShelfFault}
 use Rattle.desk_io.specs.declared.shelf.ShelfFault.TheVariants.{Failed, Memory as NoMemory, NoSuchFile, TooLong}
 use Rattle.desk_io.specs.Shelf.{Files, IsReading, no_files, reading, with_file}
@@ -19,8 +20,9 @@ use Rattle.desk_top.specs.Answers.{Agrees, OverWorld}
 use Rattle.desk_top.specs.Delivery.{IsWork, stop_of}
 use Rattle.desk_top.specs.Outcome.{World, IsJudged, IsReplayIn, IsReplaying, IsSigned, IsSimulating, IsStepped}
 use Rattle.desk_top.specs.Plans.{IsPlan}
-use Rattle.desk_top.specs.Texts.{named, texts_of, with_text}
-use Rattle.desk_top.specs.Words.{all_different, are_files, is_name, texts}
+use Rattle.desk_top.specs.Texts.{texts_of, with_text}
+use Rattle.desk_top.specs.Words.{all_different, are_files, is_name}
+use Rattle.desk_top.proofs.Reading.{count_by, named_by, short_by}
 
 pub over_map : {P Q : World → Type 0} (files : Option Files) → OverWorld files P → ((world : World) → P world → Q world) → OverWorld files Q
 over_map files over more = record { world = over.world; agrees = over.agrees; agrees_before = over.agrees_before; holds = more over.world over.holds }
@@ -70,14 +72,14 @@ unchanged files name text (first ∷ names) other =
     ap (λ (b : Bool). with_text (reading (cond b (Some text) (files first))) (texts_of (with_file files name text) names)) parts.0
     ∙ ap (with_text (reading (files first))) (unchanged files name text names parts.1)
 
-read_short : (text : List ℕ) → length text ≤ MAX_FILE_BYTES → reading (Some text) ≡ Ok text
-read_short text short = by_test (nat_le (length text) MAX_FILE_BYTES) (grind (arith, short))
+read_short : (text : List ℕ) → length text ≤ 1048576 → reading (Some text) ≡ Ok text
+read_short text short = by_test (nat_le (length text) 1048576) (grind (arith, short))
   where
     by_test : (b : Bool) → b ≡ true → cond b (Ok text) (Err TooLong) ≡ Ok text
     by_test true is = refl
     by_test false is = absurd (cc)
 
-all_there : (names texts : List (List ℕ)) → all_different names ≡ true → length texts ≡ length names → All (λ text. length text ≤ MAX_FILE_BYTES) texts → texts_of (files_with names texts) names ≡ Some texts
+all_there : (names texts : List (List ℕ)) → all_different names ≡ true → length texts ≡ length names → All (λ text. length text ≤ 1048576) texts → texts_of (files_with names texts) names ≡ Some texts
 all_there [] [] different same short = refl
 all_there [] (text ∷ texts) different same short = absurd (omega (arith, same))
 all_there (name ∷ names) [] different same short = absurd (omega (arith, same))
@@ -85,13 +87,13 @@ all_there (name ∷ names) (text ∷ texts) different same short =
     let parts = and_parts (not (list_any (bytes_eq name) names)) (all_different names) different in
     let files = files_with names texts in
     ap (λ (b : Bool). with_text (reading (cond b (Some text) (files name))) (texts_of (with_file files name text) names)) ((bytes_eq-Decides name name).1 refl)
-    ∙ ap (λ (r : Result (List ℕ) ShelfFault). with_text r (texts_of (with_file files name text) names)) (read_short text (All-head (λ (t : List ℕ). length t ≤ MAX_FILE_BYTES) text texts short))
-    ∙ ap (with_text (Ok text)) (unchanged files name text names (is_false (list_any (bytes_eq name) names) parts.0) ∙ all_there names texts parts.1 (omega (arith, same)) (All-tail (λ (t : List ℕ). length t ≤ MAX_FILE_BYTES) text texts short))
+    ∙ ap (λ (r : Result (List ℕ) ShelfFault). with_text r (texts_of (with_file files name text) names)) (read_short text (All-head (λ (t : List ℕ). length t ≤ 1048576) text texts short))
+    ∙ ap (with_text (Ok text)) (unchanged files name text names (is_false (list_any (bytes_eq name) names) parts.0) ∙ all_there names texts parts.1 (omega (arith, same)) (All-tail (λ (t : List ℕ). length t ≤ 1048576) text texts short))
 
 -- ---- texts over the world
 
 pub over_texts : (files : Option Files) (names texts : List (List ℕ)) → IfSome files (λ held. texts_of held names ≡ Some texts)
-    → all_different names ≡ true → length texts ≡ length names → All (λ text. length text ≤ MAX_FILE_BYTES) texts → OverFiles files (λ held. texts_of held names ≡ Some texts)
+    → all_different names ≡ true → length texts ≡ length names → All (λ text. length text ≤ 1048576) texts → OverFiles files (λ held. texts_of held names ≡ Some texts)
 over_texts None names texts told different same short =
     record { held = files_with names texts; agrees = tt; holds = all_there names texts different same short }
 over_texts (Some held) names texts told different same short = record { held = held; agrees = refl; holds = told }
@@ -106,22 +108,6 @@ over_missing (Some held) names told some = record { held = held; agrees = refl; 
 
 -- ---- what a list of files gives
 
-pub count_texts : (words : List (String Global)) → length (texts words) ≡ length words
-count_texts [] = refl
-count_texts (word ∷ words) = omega (arith, count_texts words)
-
-abbrev items : List (Vec ℕ Global) → List (List ℕ)
-items made = map (λ (text : Vec ℕ Global). text.items) made
-
-short_items : (made : List (Vec ℕ Global)) → All (λ text. vec_len text ≤ MAX_FILE_BYTES) made → All (λ text. length text ≤ MAX_FILE_BYTES) (items made)
-short_items [] short = All-nil (λ (t : List ℕ). length t ≤ MAX_FILE_BYTES)
-short_items (text ∷ made) short =
-    All-cons (λ (t : List ℕ). length t ≤ MAX_FILE_BYTES) text.items (items made) (subst (λ (n : ℕ). n ≤ MAX_FILE_BYTES) text.ok.0 (All-head (λ (t : Vec ℕ Global). vec_len t ≤ MAX_FILE_BYTES) text made short)) (short_items made (All-tail (λ (t : Vec ℕ Global). vec_len t ≤ MAX_FILE_BYTES) text made short))
-
-count_items : (made : List (Vec ℕ Global)) → length (items made) ≡ length made
-count_items [] = refl
-count_items (text ∷ made) = omega (arith, count_items made)
-
 pub different_of : (files : List (List ℕ)) → are_files files ≡ true → all_different files ≡ true
 different_of files are =
     (and_parts (list_all is_name files) (all_different files) (and_parts (nat_le 1 (length files) && nat_le (length files) 64) (list_all is_name files && all_different files) are).1).1
@@ -131,13 +117,14 @@ some_of files are =
     (and_parts (nat_le 1 (length files)) (nat_le (length files) 64) (and_parts (nat_le 1 (length files) && nat_le (length files) 64) (list_all is_name files && all_different files) are).0).0
 
 -- files that were read are signed by their texts
-pub signed_texts : (files : Option Files) (top : List ℕ) (names : List (List ℕ)) (made : List (Vec ℕ Global)) (work : Result Work Stop)
-    → IfSome files (λ held. texts_of held names ≡ Some (items made)) → length made ≡ length names → All (λ text. vec_len text ≤ MAX_FILE_BYTES) made → are_files names ≡ true
-    → IsWork (IsJudged top (named names (items made)) (items made)) work → OverWorld files (λ world. IsWork (IsSigned top names (texts_of world.files names)) work)
-signed_texts files top names made work told count short are is =
-    over_map {P = λ world. texts_of world.files names ≡ Some (items made)} {Q = λ world. IsWork (IsSigned top names (texts_of world.files names)) work}
-    files (over_files files (over_texts files names (items made) told (different_of names are) (count_items made ∙ count) (short_items made short)))
-    (λ world read. subst (λ (o : Option (List (List ℕ))). IsWork (IsSigned top names o) work) (sym read) is)
+pub signed_texts : (files : Option Files) (top : List ℕ) (names : List (List ℕ)) (made : List SourceFile) (work : Result Work Stop)
+    → IfSome files (λ held. texts_of held names ≡ Some (texts_in made)) → names_in made ≡ names → AreShort made → are_files names ≡ true
+    → IsWork (IsJudged top made (texts_in made)) work → OverWorld files (λ world. IsWork (IsSigned top names (texts_of world.files names)) work)
+signed_texts files top names made work told called short are is =
+    over_map {P = λ world. texts_of world.files names ≡ Some (texts_in made)} {Q = λ world. IsWork (IsSigned top names (texts_of world.files names)) work}
+    files (over_files files (over_texts files names (texts_in made) told (different_of names are) (count_by names made called) (short_by made short)))
+    (λ world read. subst (λ (o : Option (List (List ℕ))). IsWork (IsSigned top names o) work) (sym read)
+    (subst (λ (all : List SourceFile). IsWork (IsJudged top all (texts_in made)) work) (sym (named_by names made called)) is))
 
 -- a file that isn't there is signed by that
 pub signed_missing : (files : Option Files) (top : List ℕ) (names : List (List ℕ)) → IfSome files (λ held. texts_of held names ≡ None) → are_files names ≡ true
@@ -154,7 +141,7 @@ signed_not files top names Unread other = over_any {P = λ world. IsWork (IsSign
 signed_not files top names Memory other = over_any {P = λ world. IsWork (IsSigned top names (texts_of world.files names)) (Err Memory)} files (λ world. tt)
 signed_not files top names NoFile other = absurd (other refl)
 
-abbrev pub gone : Stop → Result (Vec (Vec ℕ Global) Global) Stop
+abbrev pub gone : Stop → Result (Vec SourceFile Global) Stop
 gone stop = Err stop
 
 -- the stop of files that weren't read
@@ -172,7 +159,7 @@ signed_stop files top names Memory told are = signed_not files top names Memory 
 
 -- a file that was read, or why it wasn't
 over_reading : (files : Option Files) (name : List ℕ) (answer : Result (Vec ℕ Global) ShelfFault)
-    → IfSome files (λ held. IsReading (reading (held name)) answer) → IfOk answer (λ bytes. vec_len bytes ≤ MAX_FILE_BYTES)
+    → IfSome files (λ held. IsReading (reading (held name)) answer) → IfOk answer (λ bytes. vec_len bytes ≤ 1048576)
     → OverFiles files (λ held. IsReading (reading (held name)) answer)
 over_reading None name answer told short =
     let some = some_reading answer short in
@@ -180,13 +167,13 @@ over_reading None name answer told short =
 over_reading (Some held) name answer told short = record { held = held; agrees = refl; holds = told }
 
 -- it and the files were read
-over_ahead : (Q : Result (List ℕ) ShelfFault → Option (List (List ℕ)) → Type 0) (files : Option Files) (ahead : List ℕ) (names : List (List ℕ)) (text : Vec ℕ Global) (made : List (Vec ℕ Global))
-    → IfSome files (λ held. IsReading (reading (held ahead)) (Ok text)) → vec_len text ≤ MAX_FILE_BYTES
-    → IfSome files (λ held. texts_of held names ≡ Some (items made)) → length made ≡ length names → All (λ text. vec_len text ≤ MAX_FILE_BYTES) made → are_files names ≡ true
-    → Q (Ok text.items) (Some (items made)) → OverWorld files (λ world. Q (reading (world.before ahead)) (texts_of world.files names))
-over_ahead Q files ahead names text made had fits told count short are is =
-    over_map {P = λ world. IsReading (reading (world.before ahead)) (Ok text) × (texts_of world.files names ≡ Some (items made))} {Q = λ world. Q (reading (world.before ahead)) (texts_of world.files names)}
-    files (over_both files (over_reading files ahead (Ok text) had fits) (over_texts files names (items made) told (different_of names are) (count_items made ∙ count) (short_items made short)))
+over_ahead : (Q : Result (List ℕ) ShelfFault → Option (List (List ℕ)) → Type 0) (files : Option Files) (ahead : List ℕ) (names : List (List ℕ)) (text : Vec ℕ Global) (made : List SourceFile)
+    → IfSome files (λ held. IsReading (reading (held ahead)) (Ok text)) → vec_len text ≤ 1048576
+    → IfSome files (λ held. texts_of held names ≡ Some (texts_in made)) → names_in made ≡ names → AreShort made → are_files names ≡ true
+    → Q (Ok text.items) (Some (texts_in made)) → OverWorld files (λ world. Q (reading (world.before ahead)) (texts_of world.files names))
+over_ahead Q files ahead names text made had fits told called short are is =
+    over_map {P = λ world. IsReading (reading (world.before ahead)) (Ok text) × (texts_of world.files names ≡ Some (texts_in made))} {Q = λ world. Q (reading (world.before ahead)) (texts_of world.files names)}
+    files (over_both files (over_reading files ahead (Ok text) had fits) (over_texts files names (texts_in made) told (different_of names are) (count_by names made called) (short_by made short)))
     (λ world both. subst (λ (r : Result (List ℕ) ShelfFault). Q r (texts_of world.files names)) (sym both.0)
     (subst (λ (o : Option (List (List ℕ))). Q (Ok text.items) o) (sym both.1) is))
 
@@ -216,7 +203,7 @@ over_ahead_fault Q files ahead names fault had is =
 
 -- it was, and one of the files isn't there
 over_ahead_missing : (Q : Result (List ℕ) ShelfFault → Option (List (List ℕ)) → Type 0) (files : Option Files) (ahead : List ℕ) (names : List (List ℕ)) (text : Vec ℕ Global)
-    → IfSome files (λ held. IsReading (reading (held ahead)) (Ok text)) → vec_len text ≤ MAX_FILE_BYTES
+    → IfSome files (λ held. IsReading (reading (held ahead)) (Ok text)) → vec_len text ≤ 1048576
     → IfSome files (λ held. gone NoFile ≡ Err NoFile → texts_of held names ≡ None) → are_files names ≡ true
     → Q (Ok text.items) None → OverWorld files (λ world. Q (reading (world.before ahead)) (texts_of world.files names))
 over_ahead_missing Q files ahead names text had fits told are is =
@@ -231,13 +218,14 @@ over_ahead_missing Q files ahead names text had fits told are is =
 
 -- ---- simulations
 
-pub stepped_texts : (files : Option Files) (top steps : List ℕ) (names : List (List ℕ)) (text : Vec ℕ Global) (bytes : List ℕ) (made : List (Vec ℕ Global)) (plan : Result Plan Stop)
-    → IfSome files (λ held. IsReading (reading (held steps)) (Ok text)) → vec_len text ≤ MAX_FILE_BYTES → bytes ≡ text.items
-    → IfSome files (λ held. texts_of held names ≡ Some (items made)) → length made ≡ length names → All (λ text. vec_len text ≤ MAX_FILE_BYTES) made → are_files names ≡ true
-    → IsPlan (IsStepped top (named names (items made)) (items made) bytes) plan → OverWorld files (λ world. IsPlan (IsSimulating top names (reading (world.before steps)) (texts_of world.files names)) plan)
-stepped_texts files top steps names text bytes made plan had fits same told count short are is =
+pub stepped_texts : (files : Option Files) (top steps : List ℕ) (names : List (List ℕ)) (text : Vec ℕ Global) (bytes : List ℕ) (made : List SourceFile) (plan : Result Plan Stop)
+    → IfSome files (λ held. IsReading (reading (held steps)) (Ok text)) → vec_len text ≤ 1048576 → bytes ≡ text.items
+    → IfSome files (λ held. texts_of held names ≡ Some (texts_in made)) → names_in made ≡ names → AreShort made → are_files names ≡ true
+    → IsPlan (IsStepped top made (texts_in made) bytes) plan → OverWorld files (λ world. IsPlan (IsSimulating top names (reading (world.before steps)) (texts_of world.files names)) plan)
+stepped_texts files top steps names text bytes made plan had fits same told called short are is =
     over_ahead (λ r o. IsPlan (IsSimulating top names r o) plan) files steps names text made had fits told count short are
-    (subst (λ (all : List ℕ). IsPlan (IsStepped top (named names (items made)) (items made) all) plan) same is)
+    (subst (λ (all : List SourceFile). IsPlan (IsStepped top all (texts_in made) text.items) plan) (sym (named_by names made called))
+    (subst (λ (all : List ℕ). IsPlan (IsStepped top made (texts_in made) all) plan) same is))
 
 pub stepped_fault : (files : Option Files) (top steps : List ℕ) (names : List (List ℕ)) (fault : ShelfFault) → IfSome files (λ held. IsReading (reading (held steps)) (Err fault))
     → OverWorld files (λ world. IsPlan (IsSimulating top names (reading (world.before steps)) (texts_of world.files names)) (Err (stop_of fault)))
@@ -252,7 +240,7 @@ stepped_fault files top steps names fault had =
 
 -- the stop of files that weren't read
 pub stepped_stop : (files : Option Files) (top steps : List ℕ) (names : List (List ℕ)) (text : Vec ℕ Global) (stop : Stop)
-    → IfSome files (λ held. IsReading (reading (held steps)) (Ok text)) → vec_len text ≤ MAX_FILE_BYTES
+    → IfSome files (λ held. IsReading (reading (held steps)) (Ok text)) → vec_len text ≤ 1048576
     → IfSome files (λ held. gone stop ≡ Err NoFile → texts_of held names ≡ None) → are_files names ≡ true
     → OverWorld files (λ world. IsPlan (IsSimulating top names (reading (world.before steps)) (texts_of world.files names)) (Err stop))
 stepped_stop files top steps names text Unread had fits told are = over_any {P = λ world. IsPlan (IsSimulating top names (reading (world.before steps)) (texts_of world.files names)) (Err Unread)} files (λ world. tt)
@@ -262,13 +250,14 @@ stepped_stop files top steps names text NoFile had fits told are =
 
 -- ---- demonstrations
 
-pub replayed_texts : (files : Option Files) (top demo : List ℕ) (names : List (List ℕ)) (text : Vec ℕ Global) (bytes : List ℕ) (made : List (Vec ℕ Global)) (work : Result Work Stop)
-    → IfSome files (λ held. IsReading (reading (held demo)) (Ok text)) → vec_len text ≤ MAX_FILE_BYTES → bytes ≡ text.items
-    → IfSome files (λ held. texts_of held names ≡ Some (items made)) → length made ≡ length names → All (λ text. vec_len text ≤ MAX_FILE_BYTES) made → are_files names ≡ true
-    → IsWork (IsReplayIn top (named names (items made)) (items made) bytes) work → OverWorld files (λ world. IsWork (IsReplaying top names (reading (world.before demo)) (texts_of world.files names)) work)
-replayed_texts files top demo names text bytes made work had fits same told count short are is =
+pub replayed_texts : (files : Option Files) (top demo : List ℕ) (names : List (List ℕ)) (text : Vec ℕ Global) (bytes : List ℕ) (made : List SourceFile) (work : Result Work Stop)
+    → IfSome files (λ held. IsReading (reading (held demo)) (Ok text)) → vec_len text ≤ 1048576 → bytes ≡ text.items
+    → IfSome files (λ held. texts_of held names ≡ Some (texts_in made)) → names_in made ≡ names → AreShort made → are_files names ≡ true
+    → IsWork (IsReplayIn top made (texts_in made) bytes) work → OverWorld files (λ world. IsWork (IsReplaying top names (reading (world.before demo)) (texts_of world.files names)) work)
+replayed_texts files top demo names text bytes made work had fits same told called short are is =
     over_ahead (λ r o. IsWork (IsReplaying top names r o) work) files demo names text made had fits told count short are
-    (subst (λ (all : List ℕ). IsWork (IsReplayIn top (named names (items made)) (items made) all) work) same is)
+    (subst (λ (all : List SourceFile). IsWork (IsReplayIn top all (texts_in made) text.items) work) (sym (named_by names made called))
+    (subst (λ (all : List ℕ). IsWork (IsReplayIn top made (texts_in made) all) work) same is))
 
 pub replayed_fault : (files : Option Files) (top demo : List ℕ) (names : List (List ℕ)) (fault : ShelfFault) → IfSome files (λ held. IsReading (reading (held demo)) (Err fault))
     → OverWorld files (λ world. IsWork (IsReplaying top names (reading (world.before demo)) (texts_of world.files names)) (Err (stop_of fault)))
@@ -282,7 +271,7 @@ replayed_fault files top demo names fault had =
     by_fault TooLong = λ o. refl
 
 pub replayed_stop : (files : Option Files) (top demo : List ℕ) (names : List (List ℕ)) (text : Vec ℕ Global) (stop : Stop)
-    → IfSome files (λ held. IsReading (reading (held demo)) (Ok text)) → vec_len text ≤ MAX_FILE_BYTES
+    → IfSome files (λ held. IsReading (reading (held demo)) (Ok text)) → vec_len text ≤ 1048576
     → IfSome files (λ held. gone stop ≡ Err NoFile → texts_of held names ≡ None) → are_files names ≡ true
     → OverWorld files (λ world. IsWork (IsReplaying top names (reading (world.before demo)) (texts_of world.files names)) (Err stop))
 replayed_stop files top demo names text Unread had fits told are = over_any {P = λ world. IsWork (IsReplaying top names (reading (world.before demo)) (texts_of world.files names)) (Err Unread)} files (λ world. tt)

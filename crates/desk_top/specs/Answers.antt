@@ -14,9 +14,8 @@ use Rattle.desk_verdict.specs.sign_cycles.Agree.{Agree}
 use Rattle.desk_verdict.specs.sign_cycles.BringUp.{BringsUp, HaveResets}
 use Rattle.rtl_rule.specs.declared.finding.Finding.{Finding}
 use Rattle.desk_verdict.specs.check_all.Findings.{AreAllFindings, IsClean}
-use Rattle.desk_top.specs.declared.deliver.TheConstants.{UNREAD, NO_MEMORY}
 use Rattle.desk_top.specs.Delivery.{Outcome, Delivers, IsCut, gave_up}
-use Rattle.desk_build.specs.Building.{AreSpelled}
+use Rattle.rtl_front.specs.Fronts.{AreSpelled}
 use Rattle.demo_told.specs.declared.demo.Demo.{Demo}
 use Rattle.demo_told.specs.declared.demo.Shown.{Shown}
 use Rattle.desk_verdict.specs.Verdicts.{AreShown}
@@ -40,8 +39,8 @@ pub record OverWorld (files : Option Files) (P : World → Type 0) : Type 0 wher
 -- the outcome is, which is empty for every command but `simulate`
 pub record IsAnswered (words : List (List ℕ)) (status : ℕ) (before now : Option (List ℕ)) (world : World) : Type 0 where
   pub answered : gave_up status ≡ false → (wanted : Outcome) × IsOutcome words world wanted × Delivers wanted status before now
-  pub unread : status ≡ UNREAD → Appends before now []
-  pub no_memory : status ≡ NO_MEMORY → IsCut (λ wanted. (is_simulate (order words) ≡ true) × IsOutcome words world wanted) before now
+  pub unread : status ≡ 4 → Appends before now []
+  pub no_memory : status ≡ 20 → IsCut (λ wanted. (is_simulate (order words) ≡ true) × IsOutcome words world wanted) before now
 
 -- The headline. The words are `sign TOP FILE..`; the files hold texts that spell modules, and no others; of these
 -- the module with the top's name means a flat design; none of its findings, which the report tells, is of the first

@@ -5,7 +5,6 @@ use Rattle.std.specs.Io.KnownBytes.{Appends}
 use Rattle.desk_io.specs.declared.shelf.ShelfFault.{ShelfFault}
 use Rattle.desk_io.specs.declared.shelf.ShelfFault.TheVariants as fault
 use Rattle.desk_io.specs.Shelf.{Files}
-use Rattle.desk_top.specs.declared.deliver.TheConstants.{DONE, OPEN, REFUSED, NO_COMMAND, UNREAD, UNWRITTEN, NO_FILE, NO_DIFFERENCE, UNSETTLED, MALFORMED, NO_NETLIST, NO_MEMORY}
 use Rattle.desk_top.specs.declared.deliver.Ending.{Ending}
 use Rattle.desk_top.specs.declared.deliver.Ending.TheVariants.{Clean, Open, Refused, NoCommand, Settled, Unsettled, Malformed, Shown, Same, NoNetlist, Counted}
 use Rattle.desk_top.specs.declared.deliver.Stop.{Stop}
@@ -18,22 +17,22 @@ pub record Outcome : Type 0 where
   pub bytes : List ℕ
 
 abbrev pub status_of : Ending → ℕ
-status_of Clean = DONE
-status_of Open = OPEN
-status_of Refused = REFUSED
-status_of NoCommand = NO_COMMAND
-status_of Settled = DONE
-status_of Unsettled = UNSETTLED
-status_of Malformed = MALFORMED
-status_of Shown = DONE
-status_of Same = NO_DIFFERENCE
-status_of NoNetlist = NO_NETLIST
-status_of Counted = DONE
+status_of Clean = 0
+status_of Open = 1
+status_of Refused = 2
+status_of NoCommand = 3
+status_of Settled = 0
+status_of Unsettled = 11
+status_of Malformed = 12
+status_of Shown = 0
+status_of Same = 10
+status_of NoNetlist = 13
+status_of Counted = 0
 
 abbrev pub stop_status : Stop → ℕ
-stop_status Unread = UNREAD
-stop_status NoFile = NO_FILE
-stop_status Memory = NO_MEMORY
+stop_status Unread = 4
+stop_status NoFile = 9
+stop_status Memory = 20
 
 -- how a file that wasn't read stops the work
 abbrev pub stop_of : ShelfFault → Stop
@@ -48,7 +47,7 @@ outcome_of work = record { status = status_of work.ending; bytes = work.bytes.it
 
 -- the outcome where a file isn't there or is too long: nothing is written
 abbrev pub no_file : Outcome
-no_file = record { status = NO_FILE; bytes = [] }
+no_file = record { status = 9; bytes = [] }
 
 -- the work has this outcome, unless a read failed or memory ran out
 abbrev pub IsWork : (Outcome → Type 0) → Result Work Stop → Type 0
@@ -74,10 +73,10 @@ pub record FrontAppended (before now : Option (List ℕ)) (bytes : List ℕ) : T
 -- the outcome's status is answered and all its bytes were written, or a write failed, and a front of them was.
 -- No write can fail where there is nothing to be written
 pub record Delivers (wanted : Outcome) (status : ℕ) (before now : Option (List ℕ)) : Type 0 where
-  pub exact : status ≢ UNWRITTEN → status ≡ wanted.status
-  pub whole : status ≢ UNWRITTEN → Appends before now wanted.bytes
+  pub exact : status ≢ 5 → status ≡ wanted.status
+  pub whole : status ≢ 5 → Appends before now wanted.bytes
   pub front : FrontAppended before now wanted.bytes
-  pub some_bytes : status ≡ UNWRITTEN → wanted.bytes ≢ []
+  pub some_bytes : status ≡ 5 → wanted.bytes ≢ []
 
 -- nothing is written, or a front of what is wanted
 pub data IsCut (IsWanted : Outcome → Type 0) (before now : Option (List ℕ)) : Type 0 where
@@ -86,7 +85,7 @@ pub data IsCut (IsWanted : Outcome → Type 0) (before now : Option (List ℕ)) 
 
 -- the statuses where a read failed or memory ran out
 abbrev pub gave_up : ℕ → Bool
-gave_up status = status == UNREAD || status == NO_MEMORY
+gave_up status = status == 4 || status == 20
 
 -- the work is delivered, or nothing is written where it was given up
 abbrev pub Finishes : Result Work Stop → ℕ → Option (List ℕ) → Option (List ℕ) → Type 0

@@ -1,6 +1,6 @@
 -- What the desk answers to its words, over the files of a shelf.
 -- Worked examples: examples/stored/several_drivers.out, examples/stored/exchange.out.
-use Rattle.std.specs.Prelude.{◌≡◌, ℕ, List, [], ◌∷◌, ◌++◌, length, replicate, slice_get, Option, None, Some, Result, Ok, Err, if◌then◌else◌, codes}
+use Rattle.std.specs.Prelude.{◌≡◌, ℕ, List, [], ◌∷◌, ◌++◌, length, map, slice_get, Option, None, Some, Result, Ok, Err, if◌then◌else◌, codes}
 use Rattle.std.specs.Fmt.{decimal}
 use Rattle.desk_io.specs.declared.shelf.ShelfFault.{ShelfFault}
 use Rattle.desk_io.specs.Shelf.{Files, reading}
@@ -10,22 +10,23 @@ use Rattle.desk_verdict.specs.check_all.Findings.{AreAllFindings, IsClean}
 use Rattle.desk_verdict.specs.check_clean.Promise.{IsPromised}
 use Rattle.demo_told.specs.declared.demo.Demo.{Demo}
 use Rattle.demo_told.specs.declared.demo.Shown.{Shown as Values}
+use Rattle.desk_verdict.specs.demo_replay.declared.fault.Part.{Part}
 use Rattle.desk_verdict.specs.demo_replay.declared.fault.ReplayFault.{ReplayFault}
 use Rattle.desk_verdict.specs.demo_replay.declared.fault.ReplayFault.TheVariants.{Illegal, NoNetlist, Unsettled, Same, Memory}
-use Rattle.desk_verdict.specs.demo_replay.Replays.{IsReplayed, IsReplayFault}
-use Rattle.desk_demo.specs.Files.{IsMalformed, IsTold}
+use Rattle.desk_verdict.specs.demo_replay.Replays.{IsIllegal, IsLegal, IsReplayed, IsReplayFault}
+use Rattle.desk_demo.specs.Files.{IsTold, IsUnread, Leads}
 use Rattle.desk_verdict.specs.Verdicts.{AreShown, is_clean, is_firm}
 use Rattle.desk_steps.specs.Names.{Names, ahead, names_from}
 use Rattle.desk_steps.specs.Steps.{Steps, file_of}
 use Rattle.desk_runs.specs.Runs.{Shown, IsSimulated}
-use Rattle.desk_places.specs.Places.{Source}
+use Rattle.source_file.specs.declared.SourceFile.{SourceFile}
+use Rattle.desk_rows.specs.Rows.{unwaived}
 use Rattle.desk_report.specs.Demos.{replay_line}
 use Rattle.desk_report.specs.Reports.{report_text, stages_report}
 use Rattle.desk_report.specs.Tellings.{signal_path, tellings}
 use Rattle.desk_stages.specs.Stages.{stages_text}
 use Rattle.desk_build.specs.Building.{Built, Designed, Refused, IsBuilt}
 use Rattle.desk_top.specs.Delivery.{Outcome, no_file}
-use Rattle.desk_top.specs.declared.deliver.TheConstants.{DONE, OPEN, REFUSED, NO_COMMAND, NO_DIFFERENCE, UNSETTLED, MALFORMED, NO_NETLIST}
 use Rattle.desk_top.specs.Texts.{named, texts_of}
 use Rattle.desk_top.specs.Words.{Order, Sign, Simulate, Replay, Generate, order}
 
@@ -38,40 +39,41 @@ pub record World : Type 0 where
 -- ---- rulings
 
 -- the report of a design with these findings, of which the first ones show; no waivers stand
-abbrev pub report_of : List ℕ → List Source → DesignParts → List Finding → List (Option (Demo × Values)) → List ℕ
-report_of top sources flat found shown =
-    report_text top sources found (tellings flat.parts.flat.signals flat.instances found shown)
-    (replicate (length found) None) (is_clean found) (is_firm found)
+abbrev pub report_of : List ℕ → List SourceFile → DesignParts → List Finding → List (Option (Demo × Values)) → List ℕ
+report_of top sources design found shown =
+    report_text top sources
+    (map unwaived (tellings design.parts.flat.signals design.instances found shown))
+    (is_clean found) (is_firm found)
 
 -- the design is clean, or has a finding of the first grade
-abbrev pub ruling_outcome : List ℕ → List Source → DesignParts → List Finding → List (Option (Demo × Values)) → Outcome
-ruling_outcome top sources flat found shown =
+abbrev pub ruling_outcome : List ℕ → List SourceFile → DesignParts → List Finding → List (Option (Demo × Values)) → Outcome
+ruling_outcome top sources design found shown =
     record {
-      status = if is_clean found then DONE else OPEN;
-      bytes = report_of top sources flat found shown;
+      status = if is_clean found then 0 else 1;
+      bytes = report_of top sources design found shown;
     }
 
 -- the answer for a design: all its findings are told, the first of them with where they show; and
 -- where none of them is of the first grade, simulation agrees with synthesis
-pub record IsRuled (top : List ℕ) (sources : List Source) (flat : DesignParts) (outcome : Outcome) : Type 0 where
+pub record IsRuled (top : List ℕ) (sources : List SourceFile) (design : DesignParts) (outcome : Outcome) : Type 0 where
   pub found : List Finding
-  pub are_all : AreAllFindings flat.parts found
+  pub are_all : AreAllFindings design.parts found
   pub shown : List (Option (Demo × Values))
-  pub are_shown : AreShown flat found shown
-  pub is : outcome ≡ ruling_outcome top sources flat found shown
-  pub promised : IsClean found → IsPromised flat.parts.flat
+  pub are_shown : AreShown design found shown
+  pub is : outcome ≡ ruling_outcome top sources design found shown
+  pub promised : IsClean found → IsPromised design.parts.flat
 
 -- the source is refused
 abbrev pub refused : List ℕ → Outcome
-refused line = record { status = REFUSED; bytes = line }
+refused line = record { status = 2; bytes = line }
 
 -- a report of the design of the top, or a refusal
-abbrev pub IsAnswer : List ℕ → List Source → Built → Outcome → Type 0
-IsAnswer top sources (Designed flat) outcome = IsRuled top sources flat outcome
+abbrev pub IsAnswer : List ℕ → List SourceFile → Built → Outcome → Type 0
+IsAnswer top sources (Designed design) outcome = IsRuled top sources design outcome
 IsAnswer top sources (Refused line) outcome = outcome ≡ refused line
 
 -- the answer for texts
-pub record IsJudged (top : List ℕ) (sources : List Source) (texts : List (List ℕ)) (outcome : Outcome) : Type 0 where
+pub record IsJudged (top : List ℕ) (sources : List SourceFile) (texts : List (List ℕ)) (outcome : Outcome) : Type 0 where
   pub built : Built
   pub is_built : IsBuilt top sources texts built
   pub is : IsAnswer top sources built outcome
@@ -85,32 +87,32 @@ IsSigned top files (Some texts) outcome = IsJudged top (named files texts) texts
 
 -- a line of the steps is none
 abbrev pub malformed : ℕ → Outcome
-malformed number = record { status = MALFORMED; bytes = codes "malformed line " ++ decimal number ++ 10 ∷ [] }
+malformed number = record { status = 12; bytes = codes "malformed line " ++ decimal number ++ 10 ∷ [] }
 
 -- all steps came to rest, or one didn't
 abbrev pub run : Shown → Outcome
-run shown = record { status = if shown.settled then DONE else UNSETTLED; bytes = shown.bytes }
+run shown = record { status = if shown.settled then 0 else 11; bytes = shown.bytes }
 
 -- what a design shows of steps
 abbrev pub IsShowing : DesignParts → Steps → Outcome → Type 0
-IsShowing flat steps outcome =
-    (shown : Shown) × IsSimulated flat.parts.flat.signals flat.parts.flat.tasks flat.instances steps shown × (outcome ≡ run shown)
+IsShowing design steps outcome =
+    (shown : Shown) × IsSimulated design.parts.flat.signals design.parts.flat.tasks design.instances steps shown × (outcome ≡ run shown)
 
 -- the answer for the steps of a design
 abbrev pub IsRun : DesignParts → Result Steps ℕ → Outcome → Type 0
-IsRun flat (Ok steps) outcome = IsShowing flat steps outcome
-IsRun flat (Err number) outcome = outcome ≡ malformed number
+IsRun design (Ok steps) outcome = IsShowing design steps outcome
+IsRun design (Err number) outcome = outcome ≡ malformed number
 
 -- the inputs of a design's top by their names
 abbrev pub names_in : DesignParts → Names
-names_in flat = names_from (ahead flat.instances) 0 flat.parts.flat.signals
+names_in design = names_from (ahead design.instances) 0 design.parts.flat.signals
 
 abbrev pub IsTried : List ℕ → Built → Outcome → Type 0
-IsTried steps (Designed flat) outcome = IsRun flat (file_of (names_in flat) steps) outcome
+IsTried steps (Designed design) outcome = IsRun design (file_of (names_in design) steps) outcome
 IsTried steps (Refused line) outcome = outcome ≡ refused line
 
 -- the answer for texts and a text of steps
-pub record IsStepped (top : List ℕ) (sources : List Source) (texts : List (List ℕ)) (steps : List ℕ) (outcome : Outcome) : Type 0 where
+pub record IsStepped (top : List ℕ) (sources : List SourceFile) (texts : List (List ℕ)) (steps : List ℕ) (outcome : Outcome) : Type 0 where
   pub built : Built
   pub is_built : IsBuilt top sources texts built
   pub is : IsTried steps built outcome
@@ -125,44 +127,50 @@ IsSimulating top files (Ok steps) (Some texts) outcome = IsStepped top (named fi
 
 -- what a demonstration shows that is run again: two values that differ
 abbrev pub replay_outcome : DesignParts → Demo → Values → Outcome
-replay_outcome flat demo values =
+replay_outcome design demo values =
     record {
-      status = DONE;
-      bytes = replay_line demo (signal_path (slice_get flat.parts.flat.signals demo.signal.0)) values;
+      status = 0;
+      bytes = replay_line demo (signal_path (slice_get design.parts.flat.signals demo.signal.0)) values;
     }
 
 -- why it shows nothing; its one line is malformed where it names what the design doesn't have
 abbrev pub fault_outcome : ReplayFault → Option Outcome
 fault_outcome (Illegal part) = Some (malformed 1)
-fault_outcome NoNetlist = Some (record { status = NO_NETLIST; bytes = codes "no netlist\n" })
-fault_outcome (Unsettled step) = Some (record { status = UNSETTLED; bytes = codes "unsettled\n" })
+fault_outcome NoNetlist = Some (record { status = 13; bytes = codes "no netlist\n" })
+fault_outcome (Unsettled step) = Some (record { status = 11; bytes = codes "unsettled\n" })
 fault_outcome (Same value) =
-    Some (record { status = NO_DIFFERENCE; bytes = codes "no difference\n" })
+    Some (record { status = 10; bytes = codes "no difference\n" })
 fault_outcome Memory = None
 
 -- the answer for a demonstration
-pub data IsRerun (flat : DesignParts) (demo : Demo) : Outcome → Type 0 where
+pub data IsRerun (design : DesignParts) (demo : Demo) : Outcome → Type 0 where
   Differs :
-      (values : Values) → IsReplayed flat.parts.flat demo values →
-      IsRerun flat demo (replay_outcome flat demo values)
+      (values : Values) → IsReplayed design.parts.flat demo values →
+      IsRerun design demo (replay_outcome design demo values)
   Fails :
-      (fault : ReplayFault) (outcome : Outcome) → IsReplayFault flat.parts.flat demo fault →
-      fault_outcome fault ≡ Some outcome → IsRerun flat demo outcome
+      (fault : ReplayFault) (outcome : Outcome) → IsReplayFault design.parts.flat demo fault →
+      fault_outcome fault ≡ Some outcome → IsRerun design demo outcome
 
--- the answer for the text of a demonstration file
-pub data IsDemoRun (flat : DesignParts) (text : List ℕ) : Outcome → Type 0 where
+-- the answer for the text of a demonstration file: malformed at its first line where that is none or
+-- names a signal, a trial or a step that the design doesn't have; else at what stands behind it
+pub data IsDemoRun (design : DesignParts) (text : List ℕ) : Outcome → Type 0 where
   Read :
-      (demo : Demo) (outcome : Outcome) → IsTold flat.parts.flat.signals text demo →
-      IsRerun flat demo outcome → IsDemoRun flat text outcome
-  Unread :
-      (line : ℕ) → IsMalformed flat.parts.flat.signals text line → IsDemoRun flat text (malformed line)
+      (demo : Demo) (outcome : Outcome) → IsTold design.parts.flat.signals text demo →
+      IsRerun design demo outcome → IsDemoRun design text outcome
+  Unread : IsUnread design.parts.flat.signals text → IsDemoRun design text (malformed 1)
+  Misnamed :
+      (demo : Demo) (part : Part) → Leads design.parts.flat.signals text demo →
+      IsIllegal design.parts.flat demo part → IsDemoRun design text (malformed 1)
+  More :
+      (demo : Demo) → Leads design.parts.flat.signals text demo →
+      IsLegal design.parts.flat demo → IsDemoRun design text (malformed 2)
 
 abbrev pub IsShownIn : List ℕ → Built → Outcome → Type 0
-IsShownIn demo (Designed flat) outcome = IsDemoRun flat demo outcome
+IsShownIn demo (Designed design) outcome = IsDemoRun design demo outcome
 IsShownIn demo (Refused line) outcome = outcome ≡ refused line
 
 -- the answer for texts and the text of a demonstration file
-pub record IsReplayIn (top : List ℕ) (sources : List Source) (texts : List (List ℕ)) (demo : List ℕ) (outcome : Outcome) : Type 0 where
+pub record IsReplayIn (top : List ℕ) (sources : List SourceFile) (texts : List (List ℕ)) (demo : List ℕ) (outcome : Outcome) : Type 0 where
   pub built : Built
   pub is_built : IsBuilt top sources texts built
   pub is : IsShownIn demo built outcome
@@ -178,22 +186,22 @@ IsReplaying top files (Ok demo) (Some texts) outcome =
 -- ---- generated designs
 
 -- a generated text as a file, which has this name where it is told
-abbrev pub generated_sources : ℕ → List Source
+abbrev pub generated_sources : ℕ → List SourceFile
 generated_sources stages = record { name = codes "generated"; text = stages_text stages } ∷ []
 
 -- what is told of a design with these findings
 abbrev pub generation_outcome : ℕ → DesignParts → List Finding → Outcome
-generation_outcome stages flat found =
-    record { status = DONE; bytes = stages_report stages (length flat.parts.flat.tasks) (is_clean found) (length found) }
+generation_outcome stages design found =
+    record { status = 0; bytes = stages_report stages (length design.parts.flat.tasks) (is_clean found) (length found) }
 
 -- the answer for a design: all its findings are counted
-pub record IsCounted (stages : ℕ) (flat : DesignParts) (outcome : Outcome) : Type 0 where
+pub record IsCounted (stages : ℕ) (design : DesignParts) (outcome : Outcome) : Type 0 where
   pub found : List Finding
-  pub are_all : AreAllFindings flat.parts found
-  pub is : outcome ≡ generation_outcome stages flat found
+  pub are_all : AreAllFindings design.parts found
+  pub is : outcome ≡ generation_outcome stages design found
 
 abbrev pub IsStaged : ℕ → Built → Outcome → Type 0
-IsStaged stages (Designed flat) outcome = IsCounted stages flat outcome
+IsStaged stages (Designed design) outcome = IsCounted stages design outcome
 IsStaged stages (Refused line) outcome = outcome ≡ refused line
 
 -- the answer for a design of so many stages
@@ -209,7 +217,7 @@ usage =
 
 -- the outcome of a command, and the usage where the words are none
 abbrev pub IsDone : World → Option Order → Outcome → Type 0
-IsDone world None outcome = outcome ≡ record { status = NO_COMMAND; bytes = usage }
+IsDone world None outcome = outcome ≡ record { status = 3; bytes = usage }
 IsDone world (Some (Sign top files)) outcome = IsSigned top files (texts_of world.files files) outcome
 IsDone world (Some (Simulate top steps files)) outcome =
     IsSimulating top files (reading (world.before steps)) (texts_of world.files files) outcome

@@ -8,7 +8,6 @@ use Rattle.desk_steps.specs.Fitting.{AreFitting}
 use Rattle.desk_steps.specs.Steps.{Steps, steps as plain}
 use Rattle.desk_top.specs.declared.deliver.Stop.{Stop}
 use Rattle.desk_top.specs.declared.deliver.Stop.TheVariants.{Unread, NoFile, Memory}
-use Rattle.desk_top.specs.declared.deliver.TheConstants.{UNREAD, NO_MEMORY}
 use Rattle.desk_top.specs.declared.simulate.Plan.{Plan}
 use Rattle.desk_top.specs.declared.simulate.Plan.TheVariants.{Told, Run}
 use Rattle.desk_top.specs.Delivery.{Outcome, Delivers, IsCut, gave_up, no_file, outcome_of, stop_status}
@@ -31,10 +30,10 @@ HasFitting (Ok (Run design steps)) =
 HasFitting (Err stop) = ⊤
 
 -- the lines that steps show are delivered, or, where memory ran out, a front of them or nothing
-pub record IsStreamed (flat : DesignParts) (steps : Steps) (status : ℕ) (before now : Option (List ℕ)) : Type 0 where
-  pub read : status ≢ UNREAD
-  pub delivered : gave_up status ≡ false → (wanted : Outcome) × IsShowing flat steps wanted × Delivers wanted status before now
-  pub cut : status ≡ NO_MEMORY → IsCut (IsShowing flat steps) before now
+pub record IsStreamed (design : DesignParts) (steps : Steps) (status : ℕ) (before now : Option (List ℕ)) : Type 0 where
+  pub read : status ≢ 4
+  pub delivered : gave_up status ≡ false → (wanted : Outcome) × IsShowing design steps wanted × Delivers wanted status before now
+  pub cut : status ≡ 20 → IsCut (IsShowing design steps) before now
 
 -- the plan is carried out, or nothing is written where there is none
 abbrev pub Performs : Result Plan Stop → ℕ → Option (List ℕ) → Option (List ℕ) → Type 0

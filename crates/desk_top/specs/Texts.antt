@@ -3,7 +3,7 @@
 use Rattle.std.specs.Prelude.{ℕ, List, [], ◌∷◌, ◌++◌, Option, None, Some, Result, Ok, Err}
 use Rattle.desk_io.specs.declared.shelf.ShelfFault.{ShelfFault}
 use Rattle.desk_io.specs.Shelf.{Files, reading}
-use Rattle.desk_places.specs.Places.{Source}
+use Rattle.source_file.specs.declared.SourceFile.{SourceFile}
 
 -- a text before others, if all of them were read
 abbrev pub with_text : Result (List ℕ) ShelfFault → Option (List (List ℕ)) → Option (List (List ℕ))
@@ -22,7 +22,7 @@ joined texts None = None
 joined texts (Some others) = Some (texts ++ others)
 
 -- files by their names and texts
-abbrev pub named : List (List ℕ) → List (List ℕ) → List Source
+abbrev pub named : List (List ℕ) → List (List ℕ) → List SourceFile
 named [] texts = []
 named (name ∷ names) [] = []
 named (name ∷ names) (text ∷ texts) = record { name = name; text = text } ∷ named names texts

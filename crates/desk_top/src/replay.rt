@@ -1,31 +1,31 @@
 // The command `replay TOP DEMO FILE..`.
 
-ghost use Rattle.std.specs.Prelude.{◌≡◌, ◌≢◌, ◌≤◌, map, length, slice_get, true, vec_len, Err, Some};
-ghost use Rattle.std.specs.List.{All};
+ghost use Rattle.std.specs.Prelude.{◌≡◌, ◌≢◌, ◌≤◌, ℕ, List, slice_get, true, Err, Some};
+ghost use Rattle.source_file.specs.SourceFiles.{AreShort, texts_in};
 ghost use Rattle.desk_io.specs.Causes.{Rose};
 ghost use Rattle.desk_io.specs.Shelf.{reading};
-ghost use Rattle.desk_io.specs.declared.shelf.TheConstants.{MAX_FILE_BYTES};
 ghost use Rattle.desk_build.specs.rtl_elab.Designs.{flat_in};
+ghost use Rattle.desk_demo.specs.Files.{Leads};
 ghost use Rattle.desk_report.specs.Tellings.{signal_path};
 ghost use Rattle.desk_top.specs.Answers.{OverWorld};
 ghost use Rattle.desk_top.specs.Delivery.{IsCalmWork, IsWork, status_of};
 ghost use Rattle.desk_top.specs.Outcome.{IsDemoRun, IsReplayIn, IsReplaying, IsRerun, fault_outcome, replay_outcome};
-ghost use Rattle.desk_top.specs.Texts.{named, texts_of};
+ghost use Rattle.desk_top.specs.Texts.{texts_of};
 ghost use Rattle.desk_top.specs.Words.{are_files, texts};
 
 use crate::deliver::{Ending, Stop, Work};
-use crate::files::{read_texts, stop_of};
+use crate::files::{read_sources, stop_of};
 use crate::sign::refuse;
 use crate::simulate::malformed;
 use demo_told::{Demo, Shown};
 use desk_build::{Built, build};
-use desk_demo::read_file;
+use desk_demo::{Malformed, read_file};
 use desk_io::Shelf;
-use desk_places::sources::Sources;
 use desk_report::push_replay;
-use desk_verdict::demo_replay::{ReplayFault, replay as shown_by};
+use desk_verdict::demo_replay::{ReplayFault, legal_trial, replay as shown_by};
 use rtl_flat::design::Design;
 use rtl_tree::memory::Memory;
+use source_file::SourceFile;
 use std::alloc::Global;
 
 /// Runs the demonstration of a file again in the module of this name among those of these files, and
@@ -50,29 +50,19 @@ pub fn replay<F: Shelf>(
         Ok(text) => text,
         Err(fault) => return Err(stop_of(fault)),
     };
-    match read_texts(alloc, files, shelf) {
-        Ok(made) => run_in(alloc, top, &text, files, &made),
+    match read_sources(alloc, files, shelf) {
+        Ok(made) => run_in(alloc, top, &text, &made),
         Err(stop) => Err(stop),
     }
 }
 
 // What the demonstration shows in the top, or why it shows nothing.
-fn run_in(
-    alloc: Global,
-    top: &str,
-    demo: &[u8],
-    files: &[String],
-    made: &[Vec<u8>],
-) -> Result<Work, Stop>
-    requires count { length made.now ≡ length files.now }
-    requires short { All (λ text. vec_len text ≤ MAX_FILE_BYTES) made.now }
-    ensures work { IsWork (IsReplayIn top.now
-        (named (texts files.now) (map (λ text. text.items) made.now))
-        (map (λ text. text.items) made.now) demo.now) result }
+fn run_in(alloc: Global, top: &str, demo: &[u8], files: &[SourceFile]) -> Result<Work, Stop>
+    requires { AreShort files.now }
+    ensures work { IsWork (IsReplayIn top.now files.now (texts_in files.now) demo.now) result }
     ensures read { result ≢ Err Stop.Unread }
 {
-    let sources = Sources::new(alloc, files, made)?;
-    match build(alloc, top, &sources, made) {
+    match build(alloc, top, files) {
         Ok(Built::Designed(design)) => run_file(alloc, demo, &design),
         Ok(Built::Refused(line)) => refuse(line),
         Err(Memory) => Err(Stop::Memory),
@@ -86,7 +76,25 @@ fn run_file(alloc: Global, text: &[u8], design: &Design) -> Result<Work, Stop>
 {
     match read_file(design, text) {
         Ok(demo) => run_demo(alloc, design, &demo),
-        Err(fault) => Ok(malformed(alloc, u32::from(fault.line))?),
+        Err(Malformed::First) => Ok(malformed(alloc, 1)?),
+        Err(Malformed::More(demo)) => refuse_more(alloc, design, &demo),
+    }
+}
+
+// A file with something behind the line of a demonstration: its second line is malformed, unless the
+// first names what the design doesn't have.
+fn refuse_more(alloc: Global, design: &Design, demo: &Demo) -> Result<Work, Stop>
+    ensures work { (text : List ℕ) → Leads design.now.signals.items text demo.now
+        → IsWork (IsDemoRun (flat_in design.now) text) result }
+    ensures read { result ≢ Err Stop.Unread }
+{
+    match legal_trial(alloc, design, demo) {
+        Ok(_) => Ok(malformed(alloc, 2)?),
+        Err(ReplayFault::Illegal(_)) => Ok(malformed(alloc, 1)?),
+        Err(ReplayFault::Memory) => Err(Stop::Memory),
+        Err(ReplayFault::NoNetlist) => Ok(malformed(alloc, 2)?),
+        Err(ReplayFault::Unsettled(_)) => Ok(malformed(alloc, 2)?),
+        Err(ReplayFault::Same(_)) => Ok(malformed(alloc, 2)?),
     }
 }
 

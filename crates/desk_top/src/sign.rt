@@ -1,28 +1,29 @@
 // The command `sign TOP FILE..`.
 
-ghost use Rattle.std.specs.Prelude.{◌≡◌, ◌≢◌, ◌≤◌, IfOk, if◌then◌else◌, map, length, true, vec_len};
-ghost use Rattle.std.specs.List.{All};
+ghost use Rattle.std.specs.Prelude.{◌≡◌, ◌≢◌, ◌≤◌, IfOk, if◌then◌else◌, map, true};
+ghost use Rattle.source_file.specs.SourceFiles.{AreShort, texts_in};
 ghost use Rattle.desk_io.specs.Causes.{Rose};
-ghost use Rattle.desk_io.specs.declared.shelf.TheConstants.{MAX_FILE_BYTES};
 ghost use Rattle.desk_build.specs.rtl_elab.Designs.{flat_in};
-ghost use Rattle.desk_places.specs.Places.{sources, sources_of};
+ghost use Rattle.desk_places.specs.Places.{sources_of};
+ghost use Rattle.desk_report.specs.Reports.{report_text};
+ghost use Rattle.desk_rows.specs.Rows.{unwaived};
 ghost use Rattle.desk_top.specs.Answers.{OverWorld};
 ghost use Rattle.desk_top.specs.Delivery.{IsCalmWork, IsWork, status_of};
-ghost use Rattle.desk_top.specs.declared.deliver.TheConstants.{DONE, OPEN};
 ghost use Rattle.desk_top.specs.Outcome.{IsJudged, IsRuled, IsSigned, refused};
-ghost use Rattle.desk_top.specs.Texts.{named, texts_of};
+ghost use Rattle.desk_top.specs.Texts.{texts_of};
 ghost use Rattle.desk_top.specs.Words.{are_files, texts};
 
 use crate::deliver::{Ending, Stop, Work};
-use crate::files::read_texts;
+use crate::files::read_sources;
 use desk_build::{Built, build};
 use desk_io::Shelf;
 use desk_places::sources::Sources;
 use desk_report::report;
+use desk_rows::unwaived;
 use desk_verdict::Verdict;
 use rtl_flat::design::Design;
-use rtl_rule::finding::Ruling;
 use rtl_tree::memory::Memory;
+use source_file::SourceFile;
 use std::alloc::Global;
 
 /// Rules the module of this name among those of these files, and writes the report.
@@ -33,28 +34,27 @@ pub fn sign<F: Shelf>(
     shelf: &mut F,
 ) -> Result<Work, Stop>
     requires { are_files (texts files.now) ≡ true }
-    ensures work { OverWorld (F.files shelf.old) (λ world. IsWork (IsSigned top.now (texts files.now) (texts_of world.files (texts files.now))) result) }
+    ensures work { OverWorld (F.files shelf.old) (λ world.
+        IsWork (IsSigned top.now (texts files.now) (texts_of world.files (texts files.now)))
+        result) }
     ensures unread { result ≡ Err Stop.Unread → Rose (F.faults shelf.old) (F.faults shelf.new) }
     ensures later { F.faults shelf.old ≤ F.faults shelf.new }
     ensures calm { IsCalmWork (F.files shelf.old) result (F.faults shelf.old) (F.faults shelf.new) }
 {
-    match read_texts(alloc, files, shelf) {
-        Ok(made) => judge(alloc, top, files, &made),
+    match read_sources(alloc, files, shelf) {
+        Ok(made) => judge(alloc, top, &made),
         Err(stop) => Err(stop),
     }
 }
 
 // The report of the top, or why there is none.
-fn judge(alloc: Global, top: &str, files: &[String], made: &[Vec<u8>]) -> Result<Work, Stop>
-    requires count { length made.now ≡ length files.now }
-    requires short { All (λ text. vec_len text ≤ MAX_FILE_BYTES) made.now }
-    ensures work { IsWork (IsJudged top.now (named (texts files.now) (map (λ text. text.items) made.now)) (map (λ text. text.items) made.now)) result }
+fn judge(alloc: Global, top: &str, files: &[SourceFile]) -> Result<Work, Stop>
+    requires { AreShort files.now }
+    ensures work { IsWork (IsJudged top.now files.now (texts_in files.now)) result }
     ensures read { result ≢ Err Stop.Unread }
 {
-    // A refusal has one place.
-    let sources = Sources::seldom(alloc, files, made)?;
-    match build(alloc, top, &sources, made) {
-        Ok(Built::Designed(design)) => judge_design(alloc, top, files, made, &design),
+    match build(alloc, top, files) {
+        Ok(Built::Designed(design)) => judge_design(alloc, top, files, &design),
         Ok(Built::Refused(line)) => refuse(line),
         Err(Memory) => Err(Stop::Memory),
     }
@@ -63,18 +63,16 @@ fn judge(alloc: Global, top: &str, files: &[String], made: &[Vec<u8>]) -> Result
 // The files, whose places are written seldom where nothing is found.
 fn sources_for<'a>(
     alloc: Global,
-    files: &'a [String],
-    made: &'a [Vec<u8>],
-    ruling: &Ruling,
+    files: &'a [SourceFile],
+    firm: bool,
 ) -> Result<Sources<'a>, Memory>
-    requires count { length made.now ≡ length files.now }
-    requires short { All (λ text. vec_len text ≤ MAX_FILE_BYTES) made.now }
-    ensures { IfOk result (λ found. sources_of found ≡ sources files.now made.now) }
+    requires { AreShort files.now }
+    ensures { IfOk result (λ found. sources_of found ≡ files.now) }
 {
-    if ruling.findings.is_empty() {
-        Sources::seldom(alloc, files, made)
+    if firm {
+        Sources::seldom(alloc, files)
     } else {
-        Sources::new(alloc, files, made)
+        Sources::new(alloc, files)
     }
 }
 
@@ -82,34 +80,47 @@ fn sources_for<'a>(
 fn judge_design(
     alloc: Global,
     top: &str,
-    files: &[String],
-    made: &[Vec<u8>],
+    files: &[SourceFile],
     design: &Design,
 ) -> Result<Work, Stop>
-    requires count { length made.now ≡ length files.now }
-    requires short { All (λ text. vec_len text ≤ MAX_FILE_BYTES) made.now }
-    ensures work { IsWork (IsRuled top.now (sources files.now made.now) (flat_in design.now)) result }
+    requires { AreShort files.now }
+    ensures work { IsWork (IsRuled top.now files.now (flat_in design.now)) result }
     ensures read { result ≢ Err Stop.Unread }
 {
     let said = Verdict::of(alloc, design)?;
-    let sources = sources_for(alloc, files, made, &said.ruling)?;
-    let waivers = vec![in alloc; None; said.ruling.findings.len()]?;
-    let top = top.as_bytes();
-    let bytes = report(alloc, top, &sources, &said.ruling, &said.told, &waivers)?;
     Ok(Work {
-        ending: ending_of(&said.ruling),
-        bytes,
+        ending: ending_of(said.clean),
+        bytes: report_of(alloc, top, files, &said)?,
     })
 }
 
-fn ending_of(ruling: &Ruling) -> Ending
-    ensures { status_of result ≡ (if ruling.now.clean then DONE else OPEN) }
+// What is told of a verdict; no waivers stand.
+fn report_of(
+    alloc: Global,
+    top: &str,
+    files: &[SourceFile],
+    said: &Verdict,
+) -> Result<Vec<u8>, Memory>
+    requires { AreShort files.now }
+    ensures { IfOk result (λ bytes. bytes.items ≡ report_text top.now files.now
+        (map unwaived said.now.rows.items) said.now.clean said.now.firm) }
 {
-    if ruling.clean {
-        Ending::Clean
-    } else {
-        Ending::Open
-    }
+    let sources = sources_for(alloc, files, said.firm)?;
+    let rows = unwaived(alloc, &said.rows)?;
+    report(
+        alloc,
+        top.as_bytes(),
+        &sources,
+        said.clean,
+        said.firm,
+        &rows,
+    )
+}
+
+fn ending_of(clean: bool) -> Ending
+    ensures { status_of result ≡ (if clean then 0 else 1) }
+{
+    if clean { Ending::Clean } else { Ending::Open }
 }
 
 // The work that is done with a refusal.

@@ -1,28 +1,27 @@
 // The command `simulate TOP STEPS FILE..`, up to its run.
 
-ghost use Rattle.std.specs.Prelude.{◌≡◌, ◌≢◌, ◌≤◌, IfOk, map, length, true, vec_len};
-ghost use Rattle.std.specs.List.{All};
+ghost use Rattle.std.specs.Prelude.{◌≡◌, ◌≢◌, ◌≤◌, IfOk, true};
+ghost use Rattle.source_file.specs.SourceFiles.{AreShort, texts_in};
 ghost use Rattle.desk_io.specs.Causes.{Rose};
 ghost use Rattle.desk_io.specs.Shelf.{reading};
-ghost use Rattle.desk_io.specs.declared.shelf.TheConstants.{MAX_FILE_BYTES};
 ghost use Rattle.desk_build.specs.rtl_elab.Designs.{flat_in};
 ghost use Rattle.desk_steps.specs.Steps.{file_of};
 ghost use Rattle.desk_top.specs.Answers.{OverWorld};
 ghost use Rattle.desk_top.specs.Delivery.{IsCalmWork, outcome_of};
 ghost use Rattle.desk_top.specs.Outcome.{IsRun, IsSimulating, IsStepped, malformed, names_in, refused};
 ghost use Rattle.desk_top.specs.Plans.{HasFitting, IsPlan};
-ghost use Rattle.desk_top.specs.Texts.{named, texts_of};
+ghost use Rattle.desk_top.specs.Texts.{texts_of};
 ghost use Rattle.desk_top.specs.Words.{are_files, texts};
 
 use crate::deliver::{Ending, Stop, Work};
-use crate::files::{read_texts, stop_of};
+use crate::files::{read_sources, stop_of};
 use desk_build::{Built, build};
 use desk_io::Shelf;
-use desk_places::sources::Sources;
 use desk_steps::{Steps, StepsFault, read_steps};
 use itoa::Buffer;
 use rtl_flat::design::Design;
 use rtl_tree::memory::Memory;
+use source_file::SourceFile;
 use std::alloc::Global;
 
 /// What is to be done when all is read.
@@ -43,7 +42,9 @@ pub fn simulate<F: Shelf>(
     shelf: &mut F,
 ) -> Result<Plan, Stop>
     requires { are_files (texts files.now) ≡ true }
-    ensures plan { OverWorld (F.files shelf.old) (λ world. IsPlan (IsSimulating top.now (texts files.now) (reading (world.before steps.now)) (texts_of world.files (texts files.now))) result) }
+    ensures plan { OverWorld (F.files shelf.old) (λ world.
+        IsPlan (IsSimulating top.now (texts files.now) (reading (world.before steps.now))
+        (texts_of world.files (texts files.now))) result) }
     ensures fitting { HasFitting result }
     ensures unread { result ≡ Err Stop.Unread → Rose (F.faults shelf.old) (F.faults shelf.new) }
     ensures later { F.faults shelf.old ≤ F.faults shelf.new }
@@ -53,28 +54,20 @@ pub fn simulate<F: Shelf>(
         Ok(text) => text,
         Err(fault) => return Err(stop_of(fault)),
     };
-    match read_texts(alloc, files, shelf) {
-        Ok(made) => try_steps(alloc, top, &text, files, &made),
+    match read_sources(alloc, files, shelf) {
+        Ok(made) => try_steps(alloc, top, &text, &made),
         Err(stop) => Err(stop),
     }
 }
 
 // How the top is run through the steps, or why it isn't.
-fn try_steps(
-    alloc: Global,
-    top: &str,
-    steps: &[u8],
-    files: &[String],
-    made: &[Vec<u8>],
-) -> Result<Plan, Stop>
-    requires count { length made.now ≡ length files.now }
-    requires short { All (λ text. vec_len text ≤ MAX_FILE_BYTES) made.now }
-    ensures plan { IsPlan (IsStepped top.now (named (texts files.now) (map (λ text. text.items) made.now)) (map (λ text. text.items) made.now) steps.now) result }
+fn try_steps(alloc: Global, top: &str, steps: &[u8], files: &[SourceFile]) -> Result<Plan, Stop>
+    requires { AreShort files.now }
+    ensures plan { IsPlan (IsStepped top.now files.now (texts_in files.now) steps.now) result }
     ensures fitting { HasFitting result }
     ensures read { result ≢ Err Stop.Unread }
 {
-    let sources = Sources::new(alloc, files, made)?;
-    match build(alloc, top, &sources, made) {
+    match build(alloc, top, files) {
         Ok(Built::Designed(design)) => make_plan(alloc, steps, design),
         Ok(Built::Refused(line)) => Ok(Plan::Told(refused(line))),
         Err(Memory) => Err(Stop::Memory),

@@ -1,14 +1,9 @@
--- What a ruling says of its findings, and how many are told.
-use Rattle.std.proofs.Common.{◌≡◌, Bool, true, false, not, List, [], ◌∷◌, length, drop, suc, Option, refl, sym, ap}
+-- What a ruling says of its findings.
+use Rattle.std.proofs.Common.{◌≡◌, Bool, true, false, not, List, [], ◌∷◌, refl, sym, ap}
 use Rattle.std.specs.Prelude.{◌↔◌, IsTrue}
 use Rattle.std.proofs.lemmas.Bool.{false≢true}
-use Rattle.rtl_flat.specs.declared.instance.Instance.{Instance}
-use Rattle.rtl_flat.specs.declared.signal.Signal.{Signal}
 use Rattle.rtl_rule.specs.declared.finding.Finding.{Finding}
 use Rattle.sign_off.specs.check_all.Findings.{IsClean, has_first_grade}
-use Rattle.demo_told.specs.declared.demo.Demo.{Demo}
-use Rattle.demo_told.specs.declared.demo.Shown.{Shown}
-use Rattle.desk_report.specs.Tellings.{tellings}
 use Rattle.desk_verdict.specs.Verdicts.{is_clean, is_firm}
 
 truth : (r s : Bool) → (r ≡ true → s ≡ true) → (s ≡ true → r ≡ true) → r ≡ s
@@ -28,7 +23,3 @@ pub firm_is : (r : Bool) (found : List Finding) → (IsTrue r ↔ (found ≡ [])
 firm_is r [] is = is.1 refl
 firm_is true (one ∷ others) is = absurd (let none : one ∷ others ≡ [] = is.0 refl in cc)
 firm_is false (one ∷ others) is = refl
-
-pub count_told : (signals : List Signal) (instances : List Instance) (found : List Finding) (shown : List (Option (Demo × Shown))) → length (tellings signals instances found shown) ≡ length found
-count_told signals instances [] shown = refl
-count_told signals instances (one ∷ others) shown = ap suc (count_told signals instances others (drop 1 shown))

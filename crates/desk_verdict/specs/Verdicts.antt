@@ -9,7 +9,6 @@ use Rattle.demo_told.specs.declared.demo.Demo.{Demo}
 use Rattle.demo_told.specs.declared.demo.Shown.{Shown}
 use Rattle.demo_clean.specs.demo_replay.Firsts.{AreFirsts, told}
 use Rattle.desk_report.specs.Tellings.{tellings}
-use Rattle.desk_verdict.specs.declared.verdict.TheConstants.{MAX_SHOWN}
 use Rattle.desk_verdict.specs.declared.verdict.Verdict.{Verdict}
 
 -- whether no finding is of the first grade
@@ -21,19 +20,19 @@ abbrev pub is_firm : List Finding → Bool
 is_firm [] = true
 is_firm (finding ∷ others) = false
 
--- where the first findings show
+-- where the first 64 findings show
 abbrev pub AreShown : DesignParts → List Finding → List (Option (Demo × Shown)) → Type 0
-AreShown flat found shown = AreFirsts flat.parts.flat (take MAX_SHOWN found) (map told shown)
+AreShown design found shown = AreFirsts design.parts.flat (take 64 found) (map told shown)
 
 -- all findings are told, the first of them with where they show; and where none of them is of the
 -- first grade, simulation agrees with synthesis
-pub record IsVerdict (flat : DesignParts) (verdict : Verdict) : Type 0 where
-  pub are_all : AreAllFindings flat.parts verdict.ruling.findings.items
-  pub clean : verdict.ruling.clean ≡ is_clean verdict.ruling.findings.items
-  pub firm : verdict.ruling.firm ≡ is_firm verdict.ruling.findings.items
+pub record IsVerdict (design : DesignParts) (verdict : Verdict) : Type 0 where
+  pub found : List Finding
+  pub are_all : AreAllFindings design.parts found
+  pub clean : verdict.clean ≡ is_clean found
+  pub firm : verdict.firm ≡ is_firm found
   pub shown : List (Option (Demo × Shown))
-  pub are_shown : AreShown flat verdict.ruling.findings.items shown
+  pub are_shown : AreShown design found shown
   pub told_is :
-      verdict.told.items
-      ≡ tellings flat.parts.flat.signals flat.instances verdict.ruling.findings.items shown
-  pub promised : IsClean verdict.ruling.findings.items → IsPromised flat.parts.flat
+      verdict.rows.items ≡ tellings design.parts.flat.signals design.instances found shown
+  pub promised : IsClean found → IsPromised design.parts.flat

@@ -4,7 +4,7 @@
 
 mod verdict;
 
-pub use crate::verdict::{MAX_SHOWN, Verdict};
+pub use crate::verdict::Verdict;
 
 // Passed on to the crates above.
 pub use demo_clean::demo_replay;

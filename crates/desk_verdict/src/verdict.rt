@@ -9,23 +9,27 @@ ghost use Rattle.desk_verdict.specs.Verdicts.{IsVerdict};
 use demo_clean::demo_replay::attach_all;
 use demo_clean::has_needed;
 use demo_clean::law::none_shown;
-use demo_told::{Demo, Shown, Told};
+use demo_told::{Demo, Shown};
 use desk_report::tell;
+use desk_rows::Row;
 use rtl_flat::design::Design;
-use rtl_rule::finding::{Finding, Ruling};
+use rtl_rule::finding::Finding;
 use rtl_tree::memory::Memory;
 use sign_off::rule::rule;
 use std::alloc::Global;
 
 /// How many findings of a design are shown.
-pub const MAX_SHOWN: usize = 64;
+const MAX_SHOWN: usize = 64;
 
 /// What is said of a design.
 #[derive(Drop)]
 pub struct Verdict {
-    pub ruling: Ruling,
-    /// What is told of each finding.
-    pub told: Vec<Told>,
+    /// No rule of the first grade has a finding.
+    pub clean: bool,
+    /// No rule has a finding.
+    pub firm: bool,
+    /// All findings in their order, each with what is told of it.
+    pub rows: Vec<Row>,
 }
 
 impl Verdict {
@@ -34,15 +38,17 @@ impl Verdict {
     ///
     /// Fails where memory runs out.
     pub fn of(alloc: Global, design: &Design) -> Result<Verdict, Memory>
-        ensures said { IfOk result (IsVerdict (flat_in design.now)) }
-        ensures count { IfOk result (λ verdict.
-            length verdict.told.items ≡ length verdict.ruling.findings.items) }
+        ensures { IfOk result (IsVerdict (flat_in design.now)) }
     {
         let ruling = rule(alloc, design)?;
         let count = MAX_SHOWN.min(ruling.findings.len());
         let shown = shown_of(alloc, design, &ruling.findings, count)?;
-        let told = tell(alloc, design, &ruling.findings, &shown)?;
-        Ok(Verdict { ruling, told })
+        let rows = tell(alloc, design, &ruling.findings, &shown)?;
+        Ok(Verdict {
+            clean: ruling.clean,
+            firm: ruling.firm,
+            rows,
+        })
     }
 }
 

@@ -11,7 +11,7 @@ use Rattle.std.proofs.lemmas.List.Elements.{Contains-append_cases, Contains-appe
 use Rattle.std.proofs.lemmas.List.Sorted.{Contains-permutation, IsPermutation-insert, IsPermutation-sym, searched}
 use Rattle.rtl_elab.specs.elab_links.declared.module_set.Lookup.TheVariants.{Found}
 use Rattle.rtl_elab.specs.elab_links.declared.module_set.Place.{Place}
-use Rattle.elab_names.specs.declared.look_up.LookUp.{LookUp}
+use Rattle.elab_lookups.specs.declared.look_up.LookUp.{LookUp}
 use Rattle.elab_names.specs.Extracts.{place_in}
 use Rattle.elab_names.specs.Moves.{AreFilesOf, HasFile}
 use Rattle.elab_names.proofs.Naming.{only}

@@ -15,7 +15,7 @@ use Rattle.rtl_elab.specs.elab_links.declared.module_set.Lookup.{Lookup}
 use Rattle.rtl_elab.specs.elab_links.Modules.{Lookups}
 use Rattle.rtl_elab.specs.elab_walk.declared.trail.Placement.{Placement}
 use Rattle.rtl_elab.specs.elab_walk.Visits.{visit}
-use Rattle.elab_names.specs.declared.look_up.LookUp.{LookUp}
+use Rattle.elab_lookups.specs.declared.look_up.LookUp.{LookUp}
 use Rattle.elab_names.specs.declared.names.Asked.{Asked}
 use Rattle.elab_names.specs.Asking.{AreAsked, Asks, names_of}
 use Rattle.elab_names.specs.LookUps.{name_in_item, names_by, names_in}

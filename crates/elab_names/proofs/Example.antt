@@ -12,7 +12,7 @@ use Rattle.rtl_elab.specs.elab_links.declared.module_set.Place.{Place}
 use Rattle.rtl_elab.specs.elab_links.Modules.{circuit_at}
 use Rattle.rtl_elab.specs.elab_walk.Visits.{Library, all_visits}
 use Rattle.rtl_elab.specs.Designs.{library_of}
-use Rattle.elab_names.specs.declared.look_up.LookUp.{LookUp}
+use Rattle.elab_lookups.specs.declared.look_up.LookUp.{LookUp}
 use Rattle.elab_names.specs.Extracts.{IsStill, extract, files_at, number_at, place_in, renumbered}
 use Rattle.elab_names.specs.LookUps.{AreLookUps, AreUsed, IsUsed, looked_up, name_in_item, names_in}
 use Rattle.elab_names.proofs.Extracting.{looked_up_same}

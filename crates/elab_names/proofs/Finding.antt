@@ -10,7 +10,7 @@ use Rattle.rtl_elab.specs.elab_walk.Placements.{Placement, placements}
 use Rattle.rtl_elab.specs.elab_walk.Trails.{placement}
 use Rattle.rtl_elab.specs.elab_walk.Visits.{Library, Visit, visit}
 use Rattle.rtl_elab.specs.Elaborated.{visited}
-use Rattle.elab_names.specs.declared.look_up.LookUp.{LookUp}
+use Rattle.elab_lookups.specs.declared.look_up.LookUp.{LookUp}
 use Rattle.elab_names.specs.Asking.{AreFound, names_of}
 use Rattle.elab_names.specs.Extracts.{extract, place_in, renumbered}
 use Rattle.elab_names.specs.LookUps.{AreLookUps, AreUsed, IsUsed, looked_up, names_by}

@@ -10,6 +10,5 @@ mod Mapping
 mod Moving
 mod Naming
 mod Numbering
-pub mod Resolving
 mod Running
 mod Staying

@@ -5,7 +5,7 @@ use Rattle.std.specs.List.{All, Contains}
 use Rattle.std.specs.Option.{is_some}
 use Rattle.name_map.specs.Values.{values_of}
 use Rattle.rtl_elab.specs.elab_links.Modules.{Lookups}
-use Rattle.elab_names.specs.declared.look_up.LookUp.{LookUp}
+use Rattle.elab_lookups.specs.declared.look_up.LookUp.{LookUp}
 use Rattle.elab_names.specs.declared.names.Asked.{Asked}
 
 abbrev pub names_of : List LookUp → List (List ℕ)

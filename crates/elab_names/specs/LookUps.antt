@@ -7,7 +7,7 @@ use Rattle.rtl_tree.specs.TreeItem.{ModuleItem, Ports, Nets, Variables, Integers
 use Rattle.rtl_elab.specs.elab_links.declared.module_set.Lookup.TheVariants.{Found}
 use Rattle.rtl_elab.specs.elab_walk.Visits.{Library, Visit}
 use Rattle.rtl_elab.specs.Elaborated.{visited}
-use Rattle.elab_names.specs.declared.look_up.LookUp.{LookUp}
+use Rattle.elab_lookups.specs.declared.look_up.LookUp.{LookUp}
 
 -- the name of the module whose instances an item places
 abbrev pub name_in_item : ModuleItem → List (List ℕ)

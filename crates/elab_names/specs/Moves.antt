@@ -9,7 +9,7 @@ use Rattle.rtl_elab.specs.elab_links.declared.module_set.Place.{Place}
 use Rattle.rtl_elab.specs.elab_links.declared.module_set.Lookup.TheVariants.{Found}
 use Rattle.rtl_elab.specs.elab_walk.Placements.{Placement}
 use Rattle.rtl_elab.specs.elab_walk.Visits.{Visit}
-use Rattle.elab_names.specs.declared.look_up.LookUp.{LookUp}
+use Rattle.elab_lookups.specs.declared.look_up.LookUp.{LookUp}
 use Rattle.elab_names.specs.Extracts.{renumbered}
 
 abbrev pub moved_place : (ℕ → ℕ) → Place → Place

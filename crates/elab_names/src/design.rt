@@ -8,10 +8,10 @@ ghost use Rattle.rtl_elab.specs.Elaborated.{elaborated};
 ghost use Rattle.elab_names.specs.Extracts.{IsElaborated, extract};
 ghost use Rattle.elab_names.specs.LookUps.{AreLookUps, AreUsed};
 
-use crate::look_up::LookUp;
 use crate::moves::{move_look_ups, move_placements, moved_fault};
 use crate::names::look_ups;
 use crate::used::used_files;
+use elab_lookups::LookUp;
 use rtl_elab::elab_flat::flat::flat_of;
 use rtl_elab::elab_links::module_set::ModuleSet;
 use rtl_elab::elab_scope::fault::ElabFault;

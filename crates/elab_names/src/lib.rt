@@ -3,15 +3,12 @@
 
 mod design;
 pub mod law;
-mod look_up;
-mod meaning;
 mod moves;
 mod names;
 mod used;
 
 pub use design::{Elaborated, elaborate};
-pub use look_up::LookUp;
-pub use meaning::resolve;
+pub use elab_lookups::{LookUp, resolve};
 
 // Passed on to the crates above.
 pub use rtl_elab;

@@ -7,8 +7,8 @@ ghost use Rattle.rtl_elab.specs.elab_walk.Trails.{AreDeclared, IsDeclared, place
 ghost use Rattle.elab_names.specs.Extracts.{place_in, renumbered};
 ghost use Rattle.elab_names.specs.Moves.{moved_answer, moved_look_up, moved_place, moved_placement, moved_spot};
 
-use crate::look_up::LookUp;
 use crate::used::place_in;
+use elab_lookups::LookUp;
 use rtl_elab::elab_links::module_set::{Lookup, Place};
 use rtl_elab::elab_scope::fault::ElabFault;
 use rtl_elab::elab_walk::trail::Placement;

@@ -8,7 +8,7 @@ ghost use Rattle.rtl_elab.specs.elab_walk.Visits.{visit};
 ghost use Rattle.elab_names.specs.Asking.{AreFound, Asks};
 ghost use Rattle.elab_names.specs.LookUps.{name_in_item, names_by, names_in};
 
-use crate::look_up::LookUp;
+use elab_lookups::LookUp;
 use name_map::NameMap;
 use rtl_elab::elab_links::module_set::{Lookup, ModuleSet};
 use rtl_elab::elab_walk::trail::Placement;

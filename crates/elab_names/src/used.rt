@@ -6,7 +6,7 @@ ghost use Rattle.std.specs.List.Sorted.{IsStrictlyIncreasing};
 ghost use Rattle.elab_names.specs.Extracts.{place_in};
 ghost use Rattle.elab_names.specs.Moves.{AreFilesOf};
 
-use crate::look_up::LookUp;
+use elab_lookups::LookUp;
 use rtl_elab::elab_links::module_set::Lookup;
 use rtl_tree::memory::Memory;
 use std::alloc::Global;

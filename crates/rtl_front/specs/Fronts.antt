@@ -46,6 +46,11 @@ AreRead [] [] = Unit {0}
 AreRead (text ∷ texts) (circuits ∷ others) = IsRead text circuits × AreRead texts others
 AreRead _ _ = ⊥
 
+-- the modules that texts spell: these, and no others
+pub record AreSpelled (texts : List (List ℕ)) (circuits : List (List Circuit)) : Type 0 where
+  pub read : AreRead texts circuits
+  pub only : (others : List (List Circuit)) → AreRead texts others → others ≡ circuits
+
 -- the modules of all files before one, which has none
 abbrev pub IsFirst : List (List ℕ) → ℕ → FileFault → Type 0
 IsFirst [] number fault = ⊥
@@ -69,9 +74,6 @@ abbrev pub IsFirstFaulty : List (List ℕ) → SourceFault → Type 0
 IsFirstFaulty texts Memory = Unit {0}
 IsFirstFaulty texts (Refused file fault) = (is_memory fault ≡ false) × IsFirst texts file fault
 
--- what the code reads and makes: the texts of files, and the modules of each
-abbrev pub texts_of : List (Vec ℕ Global) → List (List ℕ)
-texts_of files = map (λ file. file.items) files
-
+-- what the code makes: the modules of files
 abbrev pub circuits_of : List (Vec Module Global) → List (List Circuit)
 circuits_of files = map (λ modules. map circuit modules.items) files

@@ -1,11 +1,10 @@
 //! The modules of files, in order.
 
 ghost use Rattle.std.specs.Prelude.{◌≡◌, ◌≤◌, ◌+◌, List, IfErr, IfOk, length, map};
-ghost use Rattle.std.specs.List.{All};
-ghost use Rattle.rtl_tree.specs.declared.text.TheConstants.{MAX_BYTES};
 ghost use Rattle.rtl_tree.specs.TreeModule.{Circuit, circuit};
 ghost use Rattle.rtl_tree.specs.Prepared.{Ready};
-ghost use Rattle.rtl_front.specs.Fronts.{AreRead, IsFaulty, IsFirstFaulty, IsPrepared, IsRead, circuits_of, is_memory, texts_of, told};
+ghost use Rattle.source_file.specs.SourceFiles.{AreShort, texts_in};
+ghost use Rattle.rtl_front.specs.Fronts.{AreRead, IsFaulty, IsFirstFaulty, IsPrepared, IsRead, circuits_of, is_memory, told};
 
 use crate::fault::{FileFault, SourceFault};
 use rtl_parse::{ParseFault, parse};
@@ -13,6 +12,7 @@ use rtl_prep::{PrepFault, prepare};
 use rtl_text::{LexFault, lex};
 use rtl_tree::prepared::Prepared;
 use rtl_tree::tree::modules::Module;
+use source_file::SourceFile;
 use std::alloc::Global;
 use std::sync::ledger::Ledger;
 use steps::Steps;
@@ -20,7 +20,7 @@ use text_build::spelled_once;
 
 /// A text whose directives are read, without what synthesis doesn't see.
 fn prepared(alloc: Global, text: &[u8]) -> Result<Prepared, FileFault>
-    requires { length text.now ≤ MAX_BYTES }
+    requires { length text.now ≤ 1048576 }
     ensures prepared { IfOk result (λ ready. IsPrepared text.now ready) }
     ensures only { IfOk result (λ ready. (other : Ready) → IsPrepared text.now other
         → other ≡ ready) }
@@ -41,7 +41,7 @@ fn read_file<L: Ledger>(
     text: &[u8],
     steps: &mut Steps<L>,
 ) -> Result<Vec<Module>, FileFault>
-    requires { length text.now ≤ MAX_BYTES }
+    requires { length text.now ≤ 1048576 }
     ensures counted { steps.new ≤ steps.old + 1 }
     ensures read { IfOk result (λ modules. IsRead text.now (map circuit modules.items)) }
     ensures only { IfOk result (λ modules. (circuits : List Circuit) → IsRead text.now circuits
@@ -88,19 +88,19 @@ fn told(file: usize, fault: FileFault) -> SourceFault
 /// tokens, else in its directives, else in its grammar. `Memory` where memory runs out.
 pub fn read_files<L: Ledger>(
     alloc: Global,
-    texts: &[Vec<u8>],
+    sources: &[SourceFile],
     steps: &mut Steps<L>,
 ) -> Result<Vec<Vec<Module>>, SourceFault>
-    requires { All (λ text. length text.items ≤ MAX_BYTES) texts.now }
-    ensures counted { steps.new ≤ steps.old + length texts.now }
-    ensures read { IfOk result (λ files. AreRead (texts_of texts.now) (circuits_of files.items)) }
+    requires { AreShort sources.now }
+    ensures counted { steps.new ≤ steps.old + length sources.now }
+    ensures read { IfOk result (λ files. AreRead (texts_in sources.now) (circuits_of files.items)) }
     ensures only { IfOk result (λ files. (made : List (List Circuit))
-        → AreRead (texts_of texts.now) made → made ≡ circuits_of files.items) }
-    ensures fault { IfErr result (λ fault. IsFirstFaulty (texts_of texts.now) fault) }
+        → AreRead (texts_in sources.now) made → made ≡ circuits_of files.items) }
+    ensures fault { IfErr result (λ fault. IsFirstFaulty (texts_in sources.now) fault) }
 {
     let mut files = Vec::new(alloc);
-    for (number, text) in texts.iter().enumerate() {
-        match read_file(alloc, text, steps) {
+    for (number, source) in sources.iter().enumerate() {
+        match read_file(alloc, source.text.as_bytes(), steps) {
             Ok(modules) => files.push(modules)?,
             Err(fault) => return Err(told(number, fault)),
         }

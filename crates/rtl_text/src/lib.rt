@@ -13,3 +13,4 @@ mod run;
 
 pub use fault::LexFault;
 pub use lexer::lex;
+pub use run::is_blank;

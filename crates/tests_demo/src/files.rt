@@ -39,7 +39,8 @@ fn malformed(alloc: Global, source: &[u8], file: &[u8]) -> Result<u8, Fail> {
     let design = design_of(alloc, source)?;
     match read_file(&design, file) {
         Ok(_) => Err(Fail::new("read")),
-        Err(Malformed { line }) => Ok(line),
+        Err(Malformed::First) => Ok(1),
+        Err(Malformed::More(_)) => Ok(2),
     }
 }
 
@@ -55,7 +56,7 @@ fn a_file_is_run_again(rt: HostRuntime) -> Result<(), Fail> {
 
 #[test]
 fn a_file_that_is_none(rt: HostRuntime) -> Result<(), Fail> {
-    let files: [(&[u8], u8); 7] = [
+    let files: [(&[u8], u8); 8] = [
         (b"", 1),
         (b"trial 0 step 2 signal top.y", 1),
         (b"trial 0 step 17 signal top.y\n", 1),
@@ -63,6 +64,7 @@ fn a_file_that_is_none(rt: HostRuntime) -> Result<(), Fail> {
         (b"trial 0 step 02 signal top.y\n", 1),
         (b"trial 0 step 2 signal top.z\n", 1),
         (b"trial 0 step 2 signal top.y\n\n", 2),
+        (b"trial 0 step 2 signal top.z\nx\n", 1),
     ];
     for (file, line) in files {
         assert_eq!(rt; malformed(rt.alloc(), SENSE, file)?, line);

@@ -2,7 +2,7 @@
 #![tactic(auto)]
 
 ghost use Rattle.std.specs.Prelude.{◌≡◌, ◌≤◌, IfOk, length};
-ghost use Rattle.std.specs.List.{All};
+ghost use Rattle.source_file.specs.SourceFiles.{AreShort};
 ghost use Rattle.tests_designs.specs.declared.NoDesign.TheVariants as no;
 
 mod transmitter;
@@ -10,7 +10,9 @@ mod transmitter;
 use desk_build::{design_of, modules_of};
 use rtl_elab::elab_scope::fault::ElabFault;
 use rtl_flat::design::Design;
+use rtl_tree::memory::Memory;
 use rtl_tree::text::Text;
+use source_file::SourceFile;
 use std::alloc::{AllocError, Global};
 use thiserror::Error;
 pub use transmitter::TRANSMITTER;
@@ -39,13 +41,22 @@ impl From<AllocError> for NoDesign {
     }
 }
 
-fn texts_of(alloc: Global, text: &[u8]) -> Result<Vec<Vec<u8>>, AllocError>
+impl From<Memory> for NoDesign {
+    ghost from_gives = { λ _ e. e ≡ no.Memory };
+
+    fn from(_error: Memory) -> NoDesign {
+        NoDesign::Memory
+    }
+}
+
+fn files_of(alloc: Global, text: &[u8]) -> Result<Vec<SourceFile>, Memory>
     requires { length text.now ≤ 1048576 }
-    ensures { IfOk result (λ texts. All (λ text. length text.items ≤ 1048576) texts.items) }
+    ensures { IfOk result (λ files. AreShort files.items) }
 {
-    let mut texts = Vec::new(alloc);
-    texts.push(Vec::from_slice(alloc, text)?)?;
-    Ok(texts)
+    let text = Vec::from_slice(alloc, text)?;
+    let mut files = Vec::new(alloc);
+    files.push(SourceFile::new(alloc, b"text.v", text)?)?;
+    Ok(files)
 }
 
 /// What elaboration makes of a module of a text, where the text is read.
@@ -57,8 +68,8 @@ pub fn elaborated(
     if text.len() > MOST_BYTES {
         return Err(NoDesign::TooLong);
     }
-    let texts = texts_of(alloc, text)?;
-    let Ok(modules) = modules_of(alloc, &texts) else {
+    let files = files_of(alloc, text)?;
+    let Ok(modules) = modules_of(alloc, &files) else {
         return Err(NoDesign::Unread);
     };
     let top = Text::from_bytes(alloc, top)?;

@@ -2,8 +2,8 @@
 ghost use Rattle.std.specs.Prelude.{◌≡◌, IfOk};
 ghost use Rattle.desk_tables.specs.MemoryKeeper.{held};
 
+use desk_core::Desk;
 use desk_links::{MemoryClock, MemoryLink};
-use desk_server::desk_core::Desk;
 use desk_server::{Served, connection};
 use desk_tables::{Day, Keeper, MemoryKeeper, Tables};
 use std::alloc::Global;

@@ -1,7 +1,7 @@
 // The names that a top looks up, the files that it uses, and what elaboration makes of these.
 
 ghost use Rattle.std.specs.Prelude.{◌≡◌, ◌≤◌, ◌<◌, OnOk, length};
-ghost use Rattle.std.specs.List.{All};
+ghost use Rattle.source_file.specs.SourceFiles.{AreShort};
 
 use crate::rows::{agree, say};
 use elab_names::elab_links::module_set::{Lookup, ModuleSet};
@@ -10,6 +10,7 @@ use elab_names::{Elaborated, LookUp, elaborate, resolve};
 use rtl_tree::memory::Memory;
 use rtl_tree::text::Text;
 use rtl_tree::tree::modules::Module;
+use source_file::SourceFile;
 use std::alloc::Global;
 use std::marker::Brand;
 use std::sync::ledger::{Blank, Ledger};
@@ -21,15 +22,16 @@ use tests_designs::desk_build::modules_of;
 /// what it means among these files; and its design, or why it has none.
 type Case<'a> = ([&'a [u8]; 4], &'a str);
 
-/// One text more.
-fn add(alloc: Global, texts: &mut Vec<Vec<u8>>, text: &[u8]) -> Result<(), Fail>
-    requires { All (λ text. length text.items ≤ 1048576) texts.old.items }
-    ensures { OnOk result (All (λ text. length text.items ≤ 1048576) texts.new.items) }
+/// One file more.
+fn add(alloc: Global, files: &mut Vec<SourceFile>, text: &[u8]) -> Result<(), Fail>
+    requires { AreShort files.old.items }
+    ensures { OnOk result (AreShort files.new.items) }
 {
     if text.len() > 1048576 {
         return Err(Fail::new("too long"));
     }
-    texts.push(Vec::from_slice(alloc, text)?)?;
+    let text = Vec::from_slice(alloc, text)?;
+    files.push(SourceFile::new(alloc, b"text.v", text)?)?;
     Ok(())
 }
 
@@ -81,12 +83,12 @@ fn put_fault(alloc: Global, out: &mut Vec<u8>, fault: &ElabFault) -> Result<(), 
 }
 
 /// What is told of the module `top` of some texts.
-fn told(alloc: Global, files: &[&[u8]]) -> Result<Vec<u8>, Fail> {
-    let mut texts = Vec::new(alloc);
-    for text in files {
-        add(alloc, &mut texts, text)?;
+fn told(alloc: Global, texts: &[&[u8]]) -> Result<Vec<u8>, Fail> {
+    let mut files = Vec::new(alloc);
+    for text in texts {
+        add(alloc, &mut files, text)?;
     }
-    let Ok(modules) = modules_of(alloc, &texts) else {
+    let Ok(modules) = modules_of(alloc, &files) else {
         return Err(Fail::new("not read"));
     };
     let top = Text::from_bytes(alloc, b"top")?;

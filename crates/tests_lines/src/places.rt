@@ -3,6 +3,7 @@
 use desk_places::lines::{LineTable, Position};
 use desk_places::sources::Sources;
 use rtl_tree::text::Spot;
+use source_file::SourceFile;
 use std::test::Fail;
 
 #[test]
@@ -30,14 +31,13 @@ fn places_are_found(rt: HostRuntime) -> Result<(), Fail> {
 
 #[test]
 fn spots_are_written_in_their_files(rt: HostRuntime) -> Result<(), Fail> {
-    let names = vec![in rt.alloc();
-        String::from_str(rt.alloc(), "top.v")?,
-        String::from_str(rt.alloc(), "cells/and.v")?,
-    ]?;
     let top = Vec::from_slice(rt.alloc(), b"module top;\nendmodule\n")?;
     let cell = Vec::from_slice(rt.alloc(), b"\n\n  module and2;")?;
-    let texts = vec![in rt.alloc(); top, cell]?;
-    let sources = Sources::new(rt.alloc(), &names, &texts)?;
+    let files = vec![in rt.alloc();
+        SourceFile::new(rt.alloc(), b"top.v", top)?,
+        SourceFile::new(rt.alloc(), b"cells/and.v", cell)?,
+    ]?;
+    let sources = Sources::new(rt.alloc(), &files)?;
     let rows: [(u32, u32, &[u8]); 4] = [
         (0, 7, b"at top.v:1:8"),
         (0, 12, b"at top.v:2:1"),

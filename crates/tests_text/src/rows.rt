@@ -1,7 +1,7 @@
 // Rows of texts, and what they should give.
 
 ghost use Rattle.std.specs.Prelude.{◌≡◌, ◌≤◌, ◌<◌, IfOk, length};
-ghost use Rattle.std.specs.List.{All};
+ghost use Rattle.source_file.specs.SourceFiles.{AreShort};
 ghost use Rattle.rtl_tree.specs.declared.text.TheConstants.{MAX_BYTES};
 
 use rtl_front::{FileFault, SourceFault, read_files};
@@ -9,9 +9,11 @@ use rtl_parse::ParseFault;
 use rtl_prep::{PrepFault, prepare};
 use rtl_text::lex;
 use rtl_tree::dropped::DropKind;
+use rtl_tree::memory::Memory;
 use rtl_tree::prepared::Prepared;
 use rtl_tree::text::MAX_BYTES;
 use rtl_tree::tree::modules::Module;
+use source_file::SourceFile;
 use std::alloc::{AllocError, Global};
 use std::marker::Brand;
 use std::sync::ledger::{Blank, Ledger};
@@ -23,33 +25,40 @@ pub type Row<'a> = (&'a [u8], &'a [u8]);
 
 fn counted<L: Ledger>(
     alloc: Global,
-    texts: &[Vec<u8>],
+    files: &[SourceFile],
     blank: Blank,
 ) -> Result<Vec<Vec<Module>>, SourceFault>
     requires name { blank.name ≡ L.name }
     requires parts { blank.parts ≡ L.parts }
     requires some { 0 < L.parts }
-    requires short { All (λ text. length text.items ≤ MAX_BYTES) texts.now }
+    requires short { AreShort files.now }
 {
     let mut steps = Steps::<L>::new(blank);
-    read_files(alloc, texts, &mut steps)
+    read_files(alloc, files, &mut steps)
 }
 
-fn read(alloc: Global, texts: &[Vec<u8>]) -> Result<Vec<Vec<Module>>, SourceFault>
-    requires { All (λ text. length text.items ≤ MAX_BYTES) texts.now }
+fn read(alloc: Global, files: &[SourceFile]) -> Result<Vec<Vec<Module>>, SourceFault>
+    requires { AreShort files.now }
 {
-    counted::<Brand>(alloc, texts, Blank::new(1))
+    counted::<Brand>(alloc, files, Blank::new(1))
 }
 
-fn two_texts(alloc: Global, first: &[u8], second: &[u8]) -> Result<Vec<Vec<u8>>, AllocError>
+fn file_of(alloc: Global, text: &[u8]) -> Result<SourceFile, Memory>
+    ensures { IfOk result (λ file. file.text ≡ text.now) }
+{
+    let text = Vec::from_slice(alloc, text)?;
+    SourceFile::new(alloc, b"text.v", text)
+}
+
+fn two_files(alloc: Global, first: &[u8], second: &[u8]) -> Result<Vec<SourceFile>, Memory>
     requires first { length first.now ≤ MAX_BYTES }
     requires second { length second.now ≤ MAX_BYTES }
-    ensures { IfOk result (λ texts. All (λ text. length text.items ≤ MAX_BYTES) texts.items) }
+    ensures { IfOk result (λ files. AreShort files.items) }
 {
-    let mut texts = Vec::new(alloc);
-    texts.push(Vec::from_slice(alloc, first)?)?;
-    texts.push(Vec::from_slice(alloc, second)?)?;
-    Ok(texts)
+    let mut files = Vec::new(alloc);
+    files.push(file_of(alloc, first)?)?;
+    files.push(file_of(alloc, second)?)?;
+    Ok(files)
 }
 
 fn named(alloc: Global, fault: &[u8], name: &[u8], at: u32) -> Result<Vec<u8>, AllocError> {
@@ -98,8 +107,8 @@ pub fn modules(alloc: Global, text: &[u8]) -> Result<Vec<u8>, Fail> {
     if text.len() > MAX_BYTES {
         return Err(Fail::new("a text that is too long"));
     }
-    let texts = two_texts(alloc, b"", text)?;
-    match read(alloc, texts.as_slice()) {
+    let files = two_files(alloc, b"", text)?;
+    match read(alloc, files.as_slice()) {
         Ok(files) => Ok(names(alloc, files.as_slice())?),
         Err(SourceFault::Refused(1, fault)) => Ok(faulty(alloc, &fault)?),
         Err(_) => Err(Fail::new("no fault of the second file")),

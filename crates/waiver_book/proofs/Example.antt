@@ -5,11 +5,9 @@ use Rattle.desk_tables.specs.declared.rows.WaiverId.{WaiverId}
 use Rattle.rtl_rule.specs.declared.finding.Key.{Key}
 use Rattle.rtl_rule.specs.declared.rule.Rule.{Rule}
 use Rattle.rtl_rule.specs.declared.rule.Rule.TheVariants.{CombLoop, LatchInferred}
-use Rattle.waiver_book.specs.Books.{refusal, revoke_refusal, standing, with_end}
-use Rattle.waiver_book.specs.declared.fault.RevokeFault.TheVariants.{Ended, NoSuchWaiver, NotOwner}
+use Rattle.waiver_book.specs.Books.{refusal, standing}
+use Rattle.waiver_book.specs.Waivers.{Entry, Waiver, end_by}
 use Rattle.waiver_book.specs.declared.fault.WaiveFault.TheVariants.{Already, NoSuchFinding, NotWaivable, OwnerIsAsker, TermPast, TermTooLong}
-use Rattle.waiver_book.specs.declared.waiver.Entry.{Entry}
-use Rattle.waiver_book.specs.declared.waiver.Waiver.{Waiver}
 
 abbrev key : Rule → Key
 key its_rule = record { rule = its_rule; target = codes "top.q"; file = codes "top.v"; at = 7 }
@@ -44,7 +42,7 @@ it_stands_no_more_on_the_day_after = refl
 none_stands_in_another_text : standing latch (2 ∷ []) (pos 10) book ≡ None
 none_stands_in_another_text = refl
 
-a_revoked_one_stands_no_more : standing latch (1 ∷ []) (pos 10) (with_end id (Some (pos 9)) book) ≡ Some next
+a_revoked_one_stands_no_more : standing latch (1 ∷ []) (pos 10) (entry (pos 10) (Some (pos 9)) ∷ entry (pos 20) None ∷ []) ≡ Some next
 a_revoked_one_stands_no_more = refl
 
 a_term_of_90_days : refusal (until (pos 95)) (latch ∷ []) (pos 5) (codes "al") [] ≡ None
@@ -68,14 +66,11 @@ no_such_finding = refl
 a_loop_is_never_waived : refusal (record (until (pos 5)) { key = key CombLoop }) (key CombLoop ∷ []) (pos 5) (codes "al") [] ≡ Some (NotWaivable CombLoop)
 a_loop_is_never_waived = refl
 
-the_owner_revokes : revoke_refusal id (codes "jo") (pos 10) book ≡ None
-the_owner_revokes = refl
+it_stands_until_its_last_day : end_by (pos 10) (pos 10) None ≡ None
+it_stands_until_its_last_day = refl
 
-another_may_not : revoke_refusal id (codes "al") (pos 10) book ≡ Some (NotOwner (codes "jo"))
-another_may_not = refl
-
-its_term_is_over : revoke_refusal id (codes "jo") (pos 11) book ≡ Some (Ended (pos 10))
+its_term_is_over : end_by (pos 11) (pos 10) None ≡ Some (pos 10)
 its_term_is_over = refl
 
-no_waiver_3 : revoke_refusal (record { 0 = 3 }) (codes "jo") (pos 10) book ≡ Some NoSuchWaiver
-no_waiver_3 = refl
+it_was_revoked : end_by (pos 11) (pos 10) (Some (pos 9)) ≡ Some (pos 9)
+it_was_revoked = refl

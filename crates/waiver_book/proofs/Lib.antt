@@ -1,4 +1,1 @@
 mod Example
-pub mod Refusals
-pub mod SameRule
-pub mod TakenBack

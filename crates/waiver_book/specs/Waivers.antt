@@ -4,7 +4,20 @@ use Rattle.std.specs.Prelude.{ℤ, ℕ, Bool, ◌&&◌, ◌==◌, nat_eq, int_le
 use Rattle.std.specs.List.{list_any}
 use Rattle.rtl_rule.specs.Rows.{rule_number}
 use Rattle.rtl_rule.specs.declared.finding.Key.{Key}
-use Rattle.waiver_book.specs.declared.waiver.Entry.{Entry}
+
+-- a finding of a file with this digest that is set aside: who answers for it, the last day on which it
+-- stands, and why
+pub record Waiver : Type 0 where
+  pub key : Key
+  pub digest : List ℕ
+  pub owner : List ℕ
+  pub last_day : ℤ
+  pub reason : List ℕ
+
+-- a waiver of the book, with the day of its revocation
+pub record Entry : Type 0 where
+  pub waiver : Waiver
+  pub ended : Option ℤ
 
 -- the keys name one finding: rule, place, target and file are the same
 abbrev pub is_same_key : Key → Key → Bool
@@ -34,7 +47,3 @@ if_past today day = if int_lt day today then Some day else None
 abbrev pub end_by : ℤ → ℤ → Option ℤ → Option ℤ
 end_by today last_day None = if_past today last_day
 end_by today last_day (Some day) = Some day
-
--- the day on which it was revoked, or its last day where it wasn't and that is past
-abbrev pub end_of : ℤ → Entry → Option ℤ
-end_of today entry = end_by today entry.waiver.last_day entry.ended

@@ -1,8 +1,9 @@
 // Why a waiver is refused.
-ghost use Rattle.std.specs.Prelude.{◌≡◌};
-
 use desk_tables::{Day, Name, WaiverId};
 use rtl_rule::rule::Rule;
+
+/// How many days after the day of its grant a waiver may stand.
+pub const MAX_TERM: i32 = 90;
 
 /// Why a waiver isn't granted. The first that holds is told.
 #[derive(Clone, Copy, Debug)]

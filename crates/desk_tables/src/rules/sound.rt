@@ -59,7 +59,7 @@ pub(crate) fn is_sound_waiver(row: &WaiverRow) -> bool
 {
     is_utf8(&row.top)
         && is_utf8(&row.target)
-        && is_utf8(&row.file)
+        && is_file_name(row.file.as_bytes())
         && is_utf8(&row.reason)
         && rule_of(row.rule.as_bytes()).is_some()
         && row.owner.as_bytes() != row.asker.as_bytes()

@@ -1,27 +1,24 @@
-use Rattle.std.proofs.Common.{◌≡◌, List, Vec, ap, map, subst}
+use Rattle.std.proofs.Common.{◌≡◌, List, Vec, subst}
 use Rattle.std.specs.Prelude.{IfOk}
 use Rattle.std.specs.declared.alloc.Global.{Global}
 use Rattle.rtl_tree.specs.declared.tree.modules.Module.{Module}
+use Rattle.source_file.specs.SourceFiles.{texts_in}
 use Rattle.rtl_front.specs.declared.fault.SourceFault.{SourceFault}
 use Rattle.rtl_front.specs.Fronts.{IsFirstFaulty}
 use Rattle.rtl_elab.specs.elab_links.Modules.{circuits_of}
 use Rattle.rtl_elab.specs.Designs.{library_of}
 use Rattle.rtl_elab.specs.Elaborated.{elaborated}
-use Rattle.desk_places.specs.Places.{sources_of}
-use Rattle.desk_build.specs.Building.{Faulty, Refused, built, elaborated_or_not}
-use Rattle.desk_build.proofs.Spelled.{built_ok}
+use Rattle.desk_build.specs.Building.{built, elaborated_or_not}
+use Rattle.desk_build.proofs.Spelled.{built_ok, faulty_ok}
 use Rattle.desk_build.proofs.front.build.Goals as goal
 
 pub returns-in-Ok : goal.returns-in-Ok
 returns-in-Ok c =
-    built_ok c.args.top.now (sources_of c.args.sources.now) (map (λ text. text.items) c.args.texts.now) (circuits_of c.in-Ok.modules.items) c.build_modules.result (record { read = c.in-Ok.ensures.read; only = c.in-Ok.ensures.only })
-    (subst (λ (ms : List (Vec Module Global)). IfOk c.build_modules.result (λ made. built made ≡ elaborated_or_not (sources_of c.args.sources.now) (elaborated (library_of (circuits_of ms)) c.args.top.now))) c.deref.ensures.value c.build_modules.ensures)
+    built_ok c.args.top.now c.args.files.now (texts_in c.args.files.now) (circuits_of c.in-Ok.modules.items) c.build_modules.result (record { read = c.in-Ok.ensures.read; only = c.in-Ok.ensures.only })
+    (subst (λ (ms : List (Vec Module Global)). IfOk c.build_modules.result (λ made. built made ≡ elaborated_or_not c.args.files.now (elaborated (library_of (circuits_of ms)) c.args.top.now))) c.deref.ensures.value c.build_modules.ensures)
 
-pub returns-in_ok-source_refusal-in-Err-Refused :
-    goal.returns-in_ok-source_refusal-in-Err-Refused
-returns-in_ok-source_refusal-in-Err-Refused c =
-    record {
-      front = Faulty c.in-Err-Refused.file c.in-Err-Refused.fault;
-      is_front = subst (λ (f : SourceFault). IsFirstFaulty (map (λ text. text.items) c.args.texts.now) f) c.in-Err-Refused.field-0-is c.in-Err-Refused.ensures.fault;
-      is = ap Refused c.in_ok-source_refusal-in-Err-Refused.ensures.line;
-    }
+pub returns-in-Err-Refused : goal.returns-in-Err-Refused
+returns-in-Err-Refused c =
+    faulty_ok c.args.top.now c.args.files.now (texts_in c.args.files.now) c.in-Err-Refused.file c.in-Err-Refused.fault c.refuse_file.result
+    (subst (λ (f : SourceFault). IsFirstFaulty (texts_in c.args.files.now) f) c.in-Err-Refused.field-0-is c.in-Err-Refused.ensures.fault)
+    c.refuse_file.ensures

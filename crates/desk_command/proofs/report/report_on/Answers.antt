@@ -1,5 +1,5 @@
 use Rattle.std.proofs.Common.{arith}
-use Rattle.desk_server.specs.desk_core.Reports.{told_in}
+use Rattle.desk_core.specs.Reports.{told_in}
 use Rattle.desk_command.specs.Commands.{Reported}
 use Rattle.desk_command.proofs.Told.{told_delivered}
 use Rattle.desk_command.proofs.report.report_on.Goals as goal

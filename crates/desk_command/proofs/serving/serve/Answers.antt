@@ -1,3 +1,4 @@
+use Rattle.std.proofs.Common.{refl}
 use Rattle.desk_command.specs.Commands.{Unopened}
 use Rattle.desk_command.proofs.Served.{opened, same_visits}
 use Rattle.desk_command.proofs.serving.serve.Goals as goal
@@ -5,9 +6,9 @@ use Rattle.desk_command.proofs.serving.serve.Goals as goal
 pub returns-in-Err-clause-served : goal.returns-in-Err-clause-served
 returns-in-Err-clause-served g c =
     Unopened (c.refuse.ensures.refused (g.K.Keeper.tables c.args.keeper.now) (g.K.Keeper.count c.args.keeper.now) (g.K.Keeper.count c.start.new.keeper)
-    c.in-Err.ensures.started (λ same. c.in-Err.ensures.unkept (cc)))
-    c.in-Err.ensures.same
-    (same_visits (g.D.Door.visits c.args.door.now))
+    c.in-Err.ensures.started (λ same. c.in-Err.ensures.unkept (cc)) (λ other. c.in-Err.ensures.calm (λ same. other (cc))))
+    (refl, refl) c.in-Err.ensures.same
+    (same_visits (g.D.Door.visits c.args.door.now)) refl
 
 pub returns-in-Ok-clause-served : goal.returns-in-Ok-clause-served
 returns-in-Ok-clause-served g c =

@@ -1,6 +1,6 @@
-use Rattle.std.proofs.Common.{◌≤◌, Bor, length, refl, subst, sym}
-use Rattle.rtl_tree.specs.declared.text.TheConstants.{MAX_BYTES}
-use Rattle.desk_files.specs.declared.files.SourceFile.{SourceFile}
+use Rattle.std.proofs.Common.{◌≤◌, Bor, length, subst, sym}
+use Rattle.desk_files.specs.Limits.{MAX_BYTES}
+use Rattle.source_file.specs.declared.SourceFile.{SourceFile}
 use Rattle.desk_core.proofs.Named.{seen_short}
 use Rattle.desk_core.proofs.Places.{sources_on}
 use Rattle.desk_core.proofs.report.sources_in.Goals as goal
@@ -13,4 +13,4 @@ push_file-requires c =
 
 pub loop-number-preserved : goal.loop-number-preserved
 loop-number-preserved c =
-    sources_on c.args.files.now c.loop-number.number c.index-files-number.result _ _ _ _ c.loop-number-test.true c.index-files-number.is refl refl c.loop-number.invariant c.in_ok-push_file.ensures
+    sources_on c.args.files.now c.loop-number.number c.index-files-number.result _ _ c.loop-number-test.true c.index-files-number.is c.loop-number.invariant c.in_ok-push_file.ensures

@@ -14,7 +14,7 @@ returns-in-Ok-clause-made g c =
 pub returns-in-Ok-clause-files : goal.returns-in-Ok-clause-files
 returns-in-Ok-clause-files g c =
     files_made c.args.change c.args.records.now c.make.new.self c.args.db.now.files c.follow.new.db.files
-    c.requires.short c.requires.files c.in-Ok.ensures.done (c.follow.ensures ∙ c.requires.next c.args.db.now.files)
+    c.requires.short c.requires.files c.in-Ok.ensures.done (c.follow.ensures.files ∙ c.requires.next c.args.db.now.files)
 
 pub returns-in-Ok-clause-replies : goal.returns-in-Ok-clause-replies
 returns-in-Ok-clause-replies g c =

@@ -6,4 +6,4 @@ use Rattle.desk_memo.proofs.memo.place_of.Given as goal
 
 -- none before is of the top
 abbrev pub invariant-loop-place : goal.invariant-loop-place
-invariant-loop-place l = find (is_of l.top) (take l.place (map ruling_of l.rulings)) ≡ None
+invariant-loop-place g l = find (is_of l.top) (take l.place (map ruling_of l.rulings)) ≡ None

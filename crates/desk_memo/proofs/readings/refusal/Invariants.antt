@@ -4,4 +4,4 @@ use Rattle.desk_memo.specs.ShownReadings.{readings_in}
 use Rattle.desk_memo.proofs.readings.refusal.Given as goal
 
 abbrev pub invariant-loop-reading : goal.invariant-loop-reading
-invariant-loop-reading l = first_refusal (readings_in (drop l.reading-index l.readings)) ≡ first_refusal (readings_in l.readings)
+invariant-loop-reading g l = first_refusal (readings_in (drop l.reading-index l.readings)) ≡ first_refusal (readings_in l.readings)

@@ -4,5 +4,5 @@ use Rattle.std.proofs.lemmas.List.Elements.{filter_map-append}
 use Rattle.desk_memo.proofs.used.used_files.Goals as goal
 
 pub loop-number-preserved : goal.loop-number-preserved
-loop-number-preserved c =
+loop-number-preserved g c =
     let pushed = c.in_ok-push_used.ensures in grind (arith, common_steps, filter_map-append)

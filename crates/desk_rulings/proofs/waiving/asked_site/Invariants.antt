@@ -5,4 +5,4 @@ use Rattle.desk_rulings.proofs.waiving.asked_site.Given as goal
 
 abbrev pub invariant-loop-number : goal.invariant-loop-number
 invariant-loop-number l =
-    asked_in l.rows (verdict_of l.ruled).files l.ask (drop l.number l.ruled.findings.now) (drop l.number l.ruled.told.now) ≡ asked_in l.rows (verdict_of l.ruled).files l.ask l.ruled.findings.now l.ruled.told.now
+    asked_in l.rows (verdict_of l.ruled).files l.ask (drop l.number l.ruled.rows.now) ≡ asked_in l.rows (verdict_of l.ruled).files l.ask l.ruled.rows.now

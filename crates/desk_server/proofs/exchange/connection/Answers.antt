@@ -21,7 +21,7 @@ returns-in-Some-clause-connected g c =
     (g.L.Link.faults c.args.link.now) (g.L.Link.faults c.hear_request.new.link) (g.L.Link.faults c.give-in-Some.new.link)
     (around (g.C.Clock.days c.args.clock.now) (g.C.Clock.faults c.args.clock.now) (g.K.Keeper.count c.args.keeper.now))
     (around (g.C.Clock.days c.args.clock.now) (g.C.Clock.faults c.args.clock.now) (g.K.Keeper.count c.args.keeper.now))
-    c.args.desk.now.kept c.args.desk.now.kept (said c.in-Some.reply) c.in-Err.ensures.heard c.hear_request.ensures.later
+    (g.S.Service.kept c.args.service.now) (g.S.Service.kept c.args.service.now) (said c.in-Some.reply) c.in-Err.ensures.heard c.hear_request.ensures.later
     (λ input heard. c.in-Some.ensures.reply input _ _ heard) c.give-in-Some.ensures.delivered
 
 pub returns-in-None-clause-connected : goal.returns-in-None-clause-connected
@@ -29,4 +29,4 @@ returns-in-None-clause-connected g c =
     connected_none (g.L.Link.talk c.args.link.now) (g.L.Link.talk c.hear_request.new.link)
     (IsHeard (Err c.in-Err.unheard)) (g.L.Link.faults c.args.link.now) (g.L.Link.faults c.hear_request.new.link)
     (around (g.C.Clock.days c.args.clock.now) (g.C.Clock.faults c.args.clock.now) (g.K.Keeper.count c.args.keeper.now))
-    c.args.desk.now.kept c.in-Err.ensures.heard (c.in-Err.ensures.failed (ap (λ (why : Unheard). Err why) c.in-None.ensures.none))
+    (g.S.Service.kept c.args.service.now) c.in-Err.ensures.heard (c.in-Err.ensures.failed (ap (λ (why : Unheard). Err why) c.in-None.ensures.none))

@@ -1,4 +1,4 @@
-use Rattle.desk_server.proofs.Headlines.{asked_same}
+use Rattle.desk_server.proofs.Asked.{asked_same}
 use Rattle.desk_server.proofs.law.asked_once.Goals as goal
 
 pub returns : goal.returns

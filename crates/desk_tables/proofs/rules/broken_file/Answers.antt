@@ -1,7 +1,7 @@
 use Rattle.std.proofs.Common.{◌≡◌, ◌∙◌, ◌+◌, ◌≤◌, length, sym, ap, arith}
 use Rattle.desk_tables.specs.Rules.{file_breaks}
 use Rattle.desk_tables.specs.Seen.{seen}
-use Rattle.desk_tables.specs.declared.rules.TheConstants.{MAX_ALL_BYTES}
+use Rattle.desk_tables.specs.Limits.{MAX_ALL_BYTES}
 use Rattle.desk_tables.proofs.Broken.{broken_here, passed_all}
 use Rattle.desk_tables.proofs.Looked.{bad_file_is, files_more, files_none, room_for}
 use Rattle.desk_tables.proofs.rules.broken_file.Goals as goal

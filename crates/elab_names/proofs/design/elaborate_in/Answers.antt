@@ -10,7 +10,7 @@ use Rattle.rtl_elab.specs.elab_walk.Visits.{library}
 use Rattle.rtl_flat.specs.Flats.{DesignParts}
 use Rattle.rtl_elab.specs.elab_flat.Views.{flat}
 use Rattle.rtl_elab.specs.Elaborated.{elaborated, refused, visited}
-use Rattle.elab_names.specs.declared.look_up.LookUp.{LookUp}
+use Rattle.elab_lookups.specs.declared.look_up.LookUp.{LookUp}
 use Rattle.elab_names.specs.Asking.{AreFound}
 use Rattle.elab_names.specs.Extracts.{IsElaborated, extract, place_in}
 use Rattle.elab_names.specs.LookUps.{AreLookUps, AreUsed, looked_up}

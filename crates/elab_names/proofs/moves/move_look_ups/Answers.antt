@@ -1,7 +1,7 @@
 use Rattle.std.proofs.Common.{◌≡◌, ◌∙◌, ◌<◌, ap, get_or, length, arith, sym}
 use Rattle.std.proofs.lemmas.List.{get_or_read}
 use Rattle.rtl_elab.specs.elab_links.declared.module_set.Lookup.{Lookup}
-use Rattle.elab_names.specs.declared.look_up.LookUp.{LookUp}
+use Rattle.elab_lookups.specs.declared.look_up.LookUp.{LookUp}
 use Rattle.elab_names.specs.Extracts.{place_in}
 use Rattle.elab_names.specs.Moves.{moved_look_up}
 use Rattle.elab_names.proofs.Mapping.{moved_more}

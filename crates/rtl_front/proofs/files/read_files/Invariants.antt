@@ -4,6 +4,6 @@ use Rattle.rtl_front.proofs.files.read_files.Given as goal
 
 abbrev pub invariant-loop-number : goal.invariant-loop-number
 invariant-loop-number g l = record {
-  so_far : SoFar l.texts l.number l.files.items;
+  so_far : SoFar l.sources l.number l.files.items;
   few : l.steps ≤ l.initial.steps + l.number;
 }

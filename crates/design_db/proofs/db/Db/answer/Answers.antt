@@ -1,9 +1,9 @@
 use Rattle.std.proofs.Common.{subst}
 use Rattle.std.specs.Prelude.{IfSome}
-use Rattle.desk_memo.specs.Fresh.{IsFresh}
+use Rattle.design_db.specs.Answers.{IsFresh}
 use Rattle.design_db.specs.Shown.{store}
 use Rattle.design_db.specs.Stores.{Store, answer_of, circuits_in}
-use Rattle.design_db.proofs.Kept.{are_fresh}
+use Rattle.design_db.proofs.Kept.{are_fresh, unread_fresh}
 use Rattle.design_db.proofs.db.Db.answer.Goals as goal
 
 pub returns-in-None-clause-fresh : goal.returns-in-None-clause-fresh
@@ -12,7 +12,8 @@ returns-in-None-clause-fresh c =
     let P : Store → Type 0 = λ (it : Store). IfSome (answer_of it c.args.top.now) (IsFresh it.files c.args.top.now) in
     subst P c.self.view_is
     (are_fresh seen c.args.top.now c.self.invariant.store.rulings
-    (λ zero answer is. c.all_refused.ensures seen.files seen.readings (circuits_in seen) answer c.args.top.now c.self.invariant.store.readings zero is)
+    (λ zero answer is. unread_fresh seen.files c.args.top.now answer
+    (c.all_refused.ensures seen.files seen.readings (circuits_in seen) answer c.self.invariant.store.readings zero is))
     (λ zero none ruling right current.
     c.still_fresh.ensures seen.files (circuits_in seen) ruling c.self.invariant.store.in_order right current
     (c.all_spelled.ensures seen.files seen.readings (circuits_in seen) c.self.invariant.store.readings zero none)))

@@ -1,8 +1,8 @@
 use Rattle.std.proofs.Common.{◌≡◌, ◌∙◌, List, ap, arith, subst, sym}
 use Rattle.std.specs.Prelude.{IsSome}
 use Rattle.desk_files.specs.Shown.{list_of}
-use Rattle.desk_files.specs.declared.files.SourceFile.{SourceFile}
-use Rattle.desk_memo.specs.Fresh.{texts_in}
+use Rattle.source_file.specs.declared.SourceFile.{SourceFile}
+use Rattle.source_file.specs.SourceFiles.{texts_in}
 use Rattle.desk_memo.specs.Readings.{AreDefined, changed_count}
 use Rattle.desk_memo.specs.ShownReadings.{modules_of, readings_of}
 use Rattle.desk_memo.specs.Rulings.{current_of}

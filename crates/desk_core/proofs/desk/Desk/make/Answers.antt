@@ -40,3 +40,39 @@ returns-in-Err-clause-left g c =
       | in-SignOff-1 w ↦ ap store w.self-is
     ] in
     λ leaves. subst (λ (it : Store). IsSameStore c.args.self.now.store it) (sym stays) first
+
+pub returns-in-Ok-clause-rulings : goal.returns-in-Ok-clause-rulings
+returns-in-Ok-clause-rulings g c =
+    c.commit.ensures.rulings ∙ c.plan_of.ensures.same.rulings
+    ∙ ap (λ (machine : Machine). machine.store.rulings) c.self.view_is
+
+pub returns-in-Ok-clause-absent : goal.returns-in-Ok-clause-absent
+returns-in-Ok-clause-absent g c =
+    c.commit.ensures.absent ∙ c.plan_of.ensures.same.absent
+    ∙ ap (λ (machine : Machine). machine.store.absent) c.self.view_is
+
+pub returns-in-Err-clause-rulings : goal.returns-in-Err-clause-rulings
+returns-in-Err-clause-rulings g c =
+    let rulings = λ (machine : Machine). machine.store.rulings in
+    let stays : c.match-change.self.store.rulings ≡ c.plan_of.new.db.rulings =
+    elim c.match-change.branch [
+      | in-PutFile-1 w ↦ ap rulings w.self-is
+      | in-DropFile-1 w ↦ ap rulings w.self-is
+      | in-Grant-1 w ↦ ap rulings w.self-is
+      | in-Revoke-1 w ↦ ap rulings w.self-is
+      | in-SignOff-1 w ↦ ap rulings w.self-is
+    ] in
+    stays ∙ c.plan_of.ensures.same.rulings ∙ ap rulings c.self.view_is
+
+pub returns-in-Err-clause-absent : goal.returns-in-Err-clause-absent
+returns-in-Err-clause-absent g c =
+    let absent = λ (machine : Machine). machine.store.absent in
+    let stays : c.match-change.self.store.absent ≡ c.plan_of.new.db.absent =
+    elim c.match-change.branch [
+      | in-PutFile-1 w ↦ ap absent w.self-is
+      | in-DropFile-1 w ↦ ap absent w.self-is
+      | in-Grant-1 w ↦ ap absent w.self-is
+      | in-Revoke-1 w ↦ ap absent w.self-is
+      | in-SignOff-1 w ↦ ap absent w.self-is
+    ] in
+    stays ∙ c.plan_of.ensures.same.absent ∙ ap absent c.self.view_is

@@ -2,17 +2,8 @@ use Rattle.std.proofs.Common.{◌∙◌, ap}
 use Rattle.desk_tables.specs.Tables.{kept_of}
 use Rattle.design_db.specs.Stores.{answer_of}
 use Rattle.desk_core.specs.Machine.{Machine}
-use Rattle.desk_core.proofs.Paired.{fresh_paired}
 use Rattle.desk_core.proofs.Told.{are_files, fresh_of, told_by}
 use Rattle.desk_core.proofs.desk.Desk.report.Goals as goal
-
-pub report_of-requires-clause-paired : goal.report_of-requires-clause-paired
-report_of-requires-clause-paired c =
-    let db = c.rule.new.db in
-    let top = c.args.top.now in
-    let answer = c.in-Some.answer.now in
-    fresh_paired db.files top answer
-    (fresh_of db.files top answer (answer_of db top) c.in-Some.ensures.is c.in-Some.ensures.fresh)
 
 pub returns-clause-told : goal.returns-clause-told
 returns-clause-told c =

@@ -1,12 +1,13 @@
-use Rattle.std.proofs.Common.{◌∙◌, ap, subst}
+use Rattle.std.proofs.Common.{◌∙◌, ap, refl, subst}
 use Rattle.desk_requests.specs.Replies.{said}
 use Rattle.desk_records.specs.Outcomes.{outcome}
 use Rattle.desk_records.specs.declared.decision.Decision.{Decision}
-use Rattle.desk_core.specs.Machine.{KeepsAnswers, Machine}
-use Rattle.desk_core.specs.Outcomes.{IsOutcome}
+use Rattle.desk_core.specs.Machine.{KeepsAnswers, KeepsOthers, Machine}
+use Rattle.desk_core.specs.Outcomes.{IsOutcome, top_of}
 use Rattle.desk_core.proofs.Headlines.{headline}
+use Rattle.desk_core.proofs.Known.{made_known, never_ruled}
 use Rattle.desk_core.proofs.Made.{made_status, serves_made, serves_none, serves_told}
-use Rattle.desk_core.proofs.Same.{keeps_then}
+use Rattle.desk_core.proofs.Same.{keeps_then, others_then}
 use Rattle.desk_core.proofs.Settled.{never_open, sound_change, told_status}
 use Rattle.desk_core.proofs.desk.Desk.serve.Goals as goal
 
@@ -41,7 +42,7 @@ returns-in-Ok-Tells-clause-served g c =
     let count = g.K.Keeper.count c.args.keeper.now in
     let is = subst (λ (made : Decision). IsOutcome c.args.request.now c.args.today c.self.inside.records (outcome made)) c.in-Ok-Tells.field-0-is c.in-Ok-Tells.ensures.is in
     serves_told c.args.request.now c.args.today count count c.args.self.now.kept c.self.inside.records (said c.in-Ok-Tells.reply)
-    (ap (λ (machine : Machine). machine.kept) c.self.view_is) is
+    (ap (λ (machine : Machine). machine.kept) c.self.view_is) is refl
 
 pub returns-in-Ok-Makes-clause-served : goal.returns-in-Ok-Makes-clause-served
 returns-in-Ok-Makes-clause-served g c =
@@ -58,7 +59,7 @@ pub returns-in-Err-clause-served : goal.returns-in-Err-clause-served
 returns-in-Err-clause-served g c =
     let count = g.K.Keeper.count c.args.keeper.now in
     serves_none c.args.request.now c.args.today count count c.args.self.now.kept c.self.inside.records (said c.no_memory.result)
-    (ap (λ (machine : Machine). machine.kept) c.self.view_is) c.no_memory.ensures
+    (ap (λ (machine : Machine). machine.kept) c.self.view_is) c.no_memory.ensures refl
 
 pub returns-in-Ok-Tells-clause-lasting : goal.returns-in-Ok-Tells-clause-lasting
 returns-in-Ok-Tells-clause-lasting g c =
@@ -76,3 +77,30 @@ returns-in-Err-clause-lasting g c =
 pub returns-in-Ok-Makes-clause-left : goal.returns-in-Ok-Makes-clause-left
 returns-in-Ok-Makes-clause-left g c =
     λ leaves. (c.make.ensures.left leaves).files ∙ c.decide.ensures.files ∙ ap (λ (machine : Machine). machine.store.files) c.self.view_is
+
+-- ---- what is kept of modules
+
+pub returns-in-Ok-Tells-clause-others : goal.returns-in-Ok-Tells-clause-others
+returns-in-Ok-Tells-clause-others g c =
+    subst (λ (machine : Machine). KeepsOthers (top_of c.args.request.now.ask) machine.store c.decide.new.db) c.self.view_is c.decide.ensures.others
+
+pub returns-in-Ok-Makes-clause-others : goal.returns-in-Ok-Makes-clause-others
+returns-in-Ok-Makes-clause-others g c =
+    let first = subst (λ (machine : Machine). KeepsOthers (top_of c.args.request.now.ask) machine.store c.decide.new.db) c.self.view_is c.decide.ensures.others in
+    others_then (top_of c.args.request.now.ask) c.args.self.now.store c.decide.new.db c.make.new.self.store first c.make.ensures.rulings c.make.ensures.absent
+
+pub returns-in-Err-clause-others : goal.returns-in-Err-clause-others
+returns-in-Err-clause-others g c =
+    subst (λ (machine : Machine). KeepsOthers (top_of c.args.request.now.ask) machine.store c.decide.new.db) c.self.view_is c.decide.ensures.others
+
+pub returns-in-Ok-Tells-clause-known : goal.returns-in-Ok-Tells-clause-known
+returns-in-Ok-Tells-clause-known g c = λ status. c.in-Ok-Tells.ensures.known
+
+pub returns-in-Ok-Makes-clause-known : goal.returns-in-Ok-Makes-clause-known
+returns-in-Ok-Makes-clause-known g c =
+    let is = subst (λ (made : Decision). IsOutcome c.args.request.now c.args.today c.self.inside.records (outcome made)) c.in-Ok-Makes.field-0-is c.in-Ok-Makes.ensures.is in
+    λ status. made_known c.args.request.now c.args.today c.self.inside.records c.in-Ok-Makes.change c.args.request.now.ask c.make.new.self.store refl is
+
+pub returns-in-Err-clause-known : goal.returns-in-Err-clause-known
+returns-in-Err-clause-known g c =
+    λ status. absurd (never_ruled (said c.no_memory.result) c.no_memory.ensures status)

@@ -7,28 +7,28 @@ use Rattle.desk_memo.proofs.Put.{blanked, put_at, put_behind, put_same}
 use Rattle.desk_memo.proofs.readings.Readings.put.Goals as goal
 
 pub index_mut-requires : goal.index_mut-requires
-index_mut-requires c =
+index_mut-requires g c =
     let there : Some c.in-Some.place ≡ place_of c.args.file.now.name c.args.files.now =
     c.in-Some.ensures ∙ ap (λ it. place_of it c.args.files.now) c.as_bytes-name.ensures in
     let inside : c.in-Some.place < length c.args.files.now = place_within c.args.file.now.name c.args.files.now c.in-Some.place c.args.file.now there in
     omega (arith, held_length c.args.files.now c.args.self.now.readings.items (modules_of c.args.self.now) c.requires.right, c.args.self.now.readings.ok.0)
 
 pub put_blank-requires-else-is_named-clause-within : goal.put_blank-requires-else-is_named-clause-within
-put_blank-requires-else-is_named-clause-within c =
+put_blank-requires-else-is_named-clause-within g c =
     let there : Some c.in-Some.place ≡ place_of c.args.file.now.name c.args.files.now =
     c.in-Some.ensures ∙ ap (λ it. place_of it c.args.files.now) c.as_bytes-name.ensures in
     let inside : c.in-Some.place < length c.args.files.now = place_within c.args.file.now.name c.args.files.now c.in-Some.place c.args.file.now there in
     omega (arith, held_length c.args.files.now c.args.self.now.readings.items (modules_of c.args.self.now) c.requires.right, c.args.self.now.readings.ok.0)
 
 pub put_blank-requires-else-is_named-2-clause-within : goal.put_blank-requires-else-is_named-2-clause-within
-put_blank-requires-else-is_named-2-clause-within c =
+put_blank-requires-else-is_named-2-clause-within g c =
     let there : Some c.in-Some.place ≡ place_of c.args.file.now.name c.args.files.now =
     c.in-Some.ensures ∙ ap (λ it. place_of it c.args.files.now) c.as_bytes-name.ensures in
     let inside : c.in-Some.place < length c.args.files.now = place_within c.args.file.now.name c.args.files.now c.in-Some.place c.args.file.now there in
     omega (arith, vec_length c.args.files.now (readings_of c.args.self.now) c.args.self.now.modules.items c.requires.right, c.args.self.now.modules.ok.0)
 
 pub returns-in-None : goal.returns-in-None
-returns-in-None c =
+returns-in-None g c =
     let is =
     put_behind c.args.file.now c.args.files.now c.args.self.now.readings.items c.put_blank.new.kept.items c.args.self.now.modules.items c.put_blank-in-None.new.kept.items
     (blanked c.args.file.now None c.args.files.now c.args.self.now.readings.items c.put_blank.new.kept.items c.args.self.now.modules.items c.put_blank-in-None.new.kept.items c.new.result
@@ -37,7 +37,7 @@ returns-in-None c =
     record { readings = is.readings; modules = is.modules; right = is.right; flagged = is.flagged }
 
 pub returns-then-is_named : goal.returns-then-is_named
-returns-then-is_named c =
+returns-then-is_named g c =
     let there : Some c.in-Some.place ≡ place_of c.args.file.now.name c.args.files.now =
     c.in-Some.ensures ∙ ap (λ it. place_of it c.args.files.now) c.as_bytes-name.ensures in
     let inside : c.in-Some.place < length c.args.files.now = place_within c.args.file.now.name c.args.files.now c.in-Some.place c.args.file.now there in
@@ -49,7 +49,7 @@ returns-then-is_named c =
     record { readings = is.readings; modules = is.modules; right = is.right; flagged = is.flagged }
 
 pub returns-else-is_named : goal.returns-else-is_named
-returns-else-is_named c =
+returns-else-is_named g c =
     let there : Some c.in-Some.place ≡ place_of c.args.file.now.name c.args.files.now =
     c.in-Some.ensures ∙ ap (λ it. place_of it c.args.files.now) c.as_bytes-name.ensures in
     let inside : c.in-Some.place < length c.args.files.now = place_within c.args.file.now.name c.args.files.now c.in-Some.place c.args.file.now there in

@@ -48,7 +48,7 @@ loop-number-preserved g c =
             made =
                 made_next c.args.files.now c.args.self.now.readings.items c.loop-number.number c.index-files-number.result c.index.result.now c.loop-number.aside.readings.items c.if-is_current.aside.readings.items c.loop-number.aside.modules.items c.if-is_current.aside.modules.items None None
                 (omega arith) inside c.index-files-number.is c.index.ensures c.loop-number.invariant.made
-                (subst (λ (it : Bool). IsMade c.index-files-number.result it None None) (sym up) tt)
+                (subst (λ (it : Bool). IsMade {V = g.row.V.Denot} c.index-files-number.result it None None) (sym up) tt)
                 (ap (λ it. it.readings.items) w.aside-is ∙ w.in_ok-push_none.ensures.readings)
                 (ap (λ it. it.modules.items) w.aside-is ∙ w.in_ok-push_none.ensures.modules);
             counted = omega (arith, same, w.steps-is);
@@ -60,7 +60,7 @@ loop-number-preserved g c =
             made =
                 made_next c.args.files.now c.args.self.now.readings.items c.loop-number.number c.index-files-number.result c.index.result.now c.loop-number.aside.readings.items c.if-is_current.aside.readings.items c.loop-number.aside.modules.items c.if-is_current.aside.modules.items (Some (Some w.in_ok-read.field-0.reading)) (Some w.in_ok-read.field-0.modules)
                 (omega arith) inside c.index-files-number.is c.index.ensures c.loop-number.invariant.made
-                (subst (λ (it : Bool). IsMade c.index-files-number.result it (Some (Some w.in_ok-read.field-0.reading)) (Some w.in_ok-read.field-0.modules)) (sym low) w.in_ok-read.ensures.new)
+                (subst (λ (it : Bool). IsMade {V = g.row.V.Denot} c.index-files-number.result it (Some (Some w.in_ok-read.field-0.reading)) (Some w.in_ok-read.field-0.modules)) (sym low) w.in_ok-read.ensures.new)
                 (ap (λ it. it.readings.items) w.aside-is ∙ w.in_ok-push.ensures.readings)
                 (ap (λ it. it.modules.items) w.aside-is ∙ w.in_ok-push.ensures.modules);
             counted = omega (arith, less, w.steps-is, w.read.ensures.counted);

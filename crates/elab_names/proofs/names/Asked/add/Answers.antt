@@ -2,7 +2,7 @@ use Rattle.std.specs.Option.{is_some}
 use Rattle.std.proofs.Common.{◌≡◌, ◌∙◌, ℕ, List, [], ◌∷◌, ◌++◌, ap, sym}
 use Rattle.name_map.specs.Values.{values_of, with_value}
 use Rattle.rtl_elab.specs.elab_links.Modules.{lookups_of}
-use Rattle.elab_names.specs.declared.look_up.LookUp.{LookUp}
+use Rattle.elab_lookups.specs.declared.look_up.LookUp.{LookUp}
 use Rattle.elab_names.specs.declared.names.Asked.{Asked}
 use Rattle.elab_names.proofs.Asking.{asks_new, asks_old}
 use Rattle.elab_names.proofs.names.Asked.add.Goals as goal

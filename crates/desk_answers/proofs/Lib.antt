@@ -1,0 +1,6 @@
+mod FreshExample
+pub mod Agreeing
+pub mod Made
+pub mod Ordered
+pub mod Standing
+pub mod Tests

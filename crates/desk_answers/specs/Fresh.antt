@@ -1,0 +1,50 @@
+-- What files say of a top module, worked out from their texts alone, by what is said of a design.
+-- Worked examples: proofs/FreshExample.antt, crates/tests_desk/src/rows.rt.
+use Rattle.std.specs.Prelude.{◌≡◌, ℕ, List, map, slice_get, Result, Ok, Err}
+use Rattle.std.specs.List.{filter_map}
+use Rattle.rtl_tree.specs.TreeModule.{Circuit}
+use Rattle.desk_refusals.specs.elab_scope.Faults.{Answer as Fault}
+use Rattle.rtl_flat.specs.Flats.{DesignParts}
+use Rattle.elab_names.specs.Extracts.{extract}
+use Rattle.elab_names.specs.LookUps.{AreUsed}
+use Rattle.elab_names.specs.rtl_elab.Designs.{library_of}
+use Rattle.elab_names.specs.rtl_elab.Elaborated.{elaborated}
+use Rattle.desk_refusals.specs.Refusals.{design_line, source_line}
+use Rattle.desk_build.specs.Building.{Front, Modules, Faulty, IsFront}
+use Rattle.source_file.specs.declared.SourceFile.{SourceFile}
+use Rattle.desk_memo.specs.Texts.{IsRefusal}
+use Rattle.source_file.specs.SourceFiles.{texts_in}
+use Rattle.desk_memo.specs.declared.answer.Answer.{Answer}
+use Rattle.desk_memo.specs.declared.answer.Answer.TheVariants.{Ruled, Refused}
+
+abbrev pub names_of : List SourceFile → List (List ℕ)
+names_of files = map (λ file. file.name) files
+
+-- the files with these numbers, in their order
+abbrev pub sources_at : List ℕ → List SourceFile → List SourceFile
+sources_at numbers files = filter_map (slice_get files) numbers
+
+-- what is said of a design, with the names of the files that its top uses, or the line that says why there is none
+abbrev pub IsOfDesign : {V : Type 0} → (DesignParts → V → Type 0) → List SourceFile → Result DesignParts Fault → Answer V → Type 0
+IsOfDesign says used (Ok flat) (Ruled said reached) =
+    says flat said × (reached.items ≡ names_of used)
+IsOfDesign says used (Ok flat) (Refused bytes) = ⊥
+IsOfDesign says used (Err fault) answer = IsRefusal (design_line used fault) answer
+
+-- what the modules of files say of a top: its design is that of the files that it uses, numbered among themselves
+pub record IsOfModules {V : Type 0} (says : DesignParts → V → Type 0) (files : List SourceFile) (circuits : List (List Circuit)) (top : List ℕ) (answer : Answer V) : Type 0 where
+  pub numbers : List ℕ
+  pub are_used : AreUsed (library_of circuits) top numbers
+  pub is : IsOfDesign says (sources_at numbers files) (elaborated (extract numbers (library_of circuits)) top) answer
+
+abbrev pub IsOfFront : {V : Type 0} → (DesignParts → V → Type 0) → List SourceFile → List ℕ → Front → Answer V → Type 0
+IsOfFront says files top (Modules circuits) answer = IsOfModules says files circuits top answer
+IsOfFront says files top (Faulty number fault) answer =
+    IsRefusal (source_line files number fault) answer
+
+-- the answer is what the texts say of the top: the first file that spells no modules, else why the
+-- top has no design, else what is said of its design
+pub record IsFresh {V : Type 0} (says : DesignParts → V → Type 0) (files : List SourceFile) (top : List ℕ) (answer : Answer V) : Type 0 where
+  pub front : Front
+  pub is_front : IsFront (texts_in files) front
+  pub is : IsOfFront says files top front answer

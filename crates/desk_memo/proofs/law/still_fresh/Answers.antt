@@ -1,6 +1,0 @@
-use Rattle.desk_memo.proofs.Agreeing.{still_fresh}
-use Rattle.desk_memo.proofs.law.still_fresh.Goals as goal
-
-pub returns : goal.returns
-returns c =
-    still_fresh (record { design = c.same_design.ensures; files = c.same_files.ensures })
