@@ -1,15 +1,15 @@
-//! What a row looks at below the top call: a design, its netlist, the netlist's steps, or those of a demonstration.
+//! What a row looks at below the top call: a design, its netlist, the netlist's steps, findings, or a demonstration.
 
 ghost use Rattle.std.specs.Prelude.{◌≡◌};
 ghost use Rattle.tests_rows.specs.declared.look.Stop.TheVariants as stop;
 
-use crate::{moments, netlists};
-use desk_io::{MemoryShelf, Shelf};
+use crate::{beside, demos, events, moments, netlists, runs, starts};
 use rtl_flat::design::Design;
 use rtl_tree::memory::Memory;
 use std::alloc::{AllocError, AllocFailed, Global};
 use tests_designs::{NoDesign, designed};
 use tests_netlists::NoRun;
+use tests_reader::Row;
 use thiserror::Error;
 
 /// Why a look ends early.
@@ -25,6 +25,12 @@ pub enum Stop {
     NoRun(NoRun),
     #[error("the steps aren't read")]
     NoSteps,
+    #[error("no such signal")]
+    NoSignal,
+    #[error("no such rule")]
+    NoRule,
+    #[error("a step didn't settle")]
+    Unsettled,
     #[error("the demonstration isn't read")]
     NoDemonstration,
     #[error("the demonstration can't be run again")]
@@ -65,36 +71,49 @@ impl<T: Drop> From<AllocFailed<T>> for Stop {
     }
 }
 
-fn file(shelf: &mut MemoryShelf, name: &str) -> Result<Vec<u8>, Stop> {
-    match shelf.read(name) {
-        Ok(text) => Ok(text),
-        Err(_) => Err(Stop::NoFile),
-    }
-}
-
-/// What one look says of a design, where a last file may be of steps or of a demonstration.
-fn told_of(alloc: Global, design: &Design, goal: &str, behind: &[u8]) -> Result<Vec<u8>, Stop> {
+/// What one look says of a design. Words behind those that name the design are `words`, and the first of them may have named a
+/// file, whose text is `behind`.
+fn told_of(
+    alloc: Global,
+    design: &Design,
+    goal: &str,
+    words: &[String],
+    behind: &[u8],
+) -> Result<Vec<u8>, Stop> {
     match goal {
         "design" => netlists::size(alloc, design),
         "netlist" => netlists::begun(alloc, design),
         "steps" => netlists::ran(alloc, design, behind),
         "demonstration" => moments::lines(alloc, design, behind),
+        "stored" => starts::listed(alloc, design),
+        "registers" => starts::inferred(alloc, design),
+        "start" => starts::started(alloc, design, words),
+        "run" => runs::ran(alloc, design, words, behind),
+        "events" => events::taken(alloc, design, words, behind),
+        "beside" => beside::compared(alloc, design, behind),
+        "shown" => demos::shown(alloc, design, words),
+        "replayed" => demos::replayed(alloc, design, words),
         _ => Err(Stop::NoLook),
     }
 }
 
 /// What one look says: its words are how far it goes, the top module, its source, and where it wants one another file.
-pub fn told(alloc: Global, words: &[String], shelf: &mut MemoryShelf) -> Result<Vec<u8>, Stop> {
-    let [goal, top, source, ..] = words else {
+pub fn told(alloc: Global, row: &Row) -> Result<Vec<u8>, Stop> {
+    let [goal, top, source, more @ ..] = row.words.as_slice() else {
         return Err(Stop::NoLook);
     };
-    let text = file(shelf, source)?;
-    let behind = match words.get(3) {
-        Some(name) => file(shelf, name)?,
-        None => Vec::new(alloc),
+    let Some(text) = row.text(source) else {
+        return Err(Stop::NoFile);
     };
-    match designed(alloc, top.as_bytes(), &text) {
-        Ok(design) => told_of(alloc, &design, goal, &behind),
+    let (words, behind) = match more.split_first() {
+        Some((name, rest)) => match row.text(name) {
+            Some(text) => (rest, text),
+            None => (more, b"".as_slice()),
+        },
+        None => (more, b"".as_slice()),
+    };
+    match designed(alloc, top.as_bytes(), text) {
+        Ok(design) => told_of(alloc, &design, goal, words, behind),
         Err(no) => Err(Stop::NoDesign(no)),
     }
 }

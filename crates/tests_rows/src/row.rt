@@ -1,183 +1,72 @@
-//! One row: words, files, and what is to fail.
+//! A row's call of the top call, or its look below it, and what is written of either.
 
 use crate::look::told;
 use desk_io::{MemoryShelf, MemorySink};
 use desk_top::top::desk;
 use std::alloc::Global;
 use std::io;
-use std::io::ErrorKind;
+use tests_reader::{Row, malformed, show};
 
 /// A text that a call wrote is shown whole up to this many lines.
 const MOST_SHOWN: usize = 16;
 
-/// How many lines are shown at each end of a text that is longer.
-const SHOWN_LINES: usize = 4;
-
-/// What a row that can't be read ends with.
-fn malformed() -> io::Error {
-    io::Error::from(ErrorKind::InvalidData)
-}
-
-/// A call of the program, as far as its row is read.
-#[derive(Drop)]
-pub struct Row {
-    alloc: Global,
-    title: String,
-    words: Vec<String>,
-    /// Whether the words are those of a look below the top call.
-    is_look: bool,
-    shelf: MemoryShelf,
-    sink: MemorySink,
-    /// The file that is being read.
-    name: String,
-    text: String,
-}
-
-impl Row {
-    pub fn new(alloc: Global, title: &str) -> io::Result<Self> {
-        Ok(Row {
-            alloc,
-            title: String::from_str(alloc, title)?,
-            words: Vec::new(alloc),
-            is_look: false,
-            shelf: MemoryShelf::new(alloc),
-            sink: MemorySink::new(alloc),
-            name: String::new(alloc),
-            text: String::new(alloc),
-        })
+/// The files of a row.
+fn shelf_of(alloc: Global, row: &Row) -> io::Result<MemoryShelf> {
+    let mut shelf = MemoryShelf::new(alloc);
+    for file in &row.files {
+        shelf.add(&file.name, &file.text)?;
     }
+    Ok(shelf)
+}
 
-    /// Reads the row's next line.
-    pub fn read(&mut self, line: &str) -> io::Result<()> {
-        if let Some(text) = line.strip_prefix("|") {
-            self.add_line(text)
-        } else if let Some(text) = line.strip_prefix("\\") {
-            Ok(self.text.push_str(text)?)
-        } else if let Some(name) = line.strip_prefix("@ ") {
-            self.end_file()?;
-            Ok(self.name.push_str(name)?)
-        } else if let Some(words) = line.strip_prefix("$") {
-            self.read_words(words)
-        } else if let Some(words) = line.strip_prefix(">") {
-            self.is_look = true;
-            self.read_words(words)
-        } else if let Some(more) = line.strip_prefix("*") {
-            self.repeat(more)
-        } else if let Some(fault) = line.strip_prefix("! ") {
-            self.plan(fault)
-        } else {
+/// `read N` has the Nth read fail, `write N` the Nth write, and `piece N` has the sink take N bytes at a time.
+fn plan(fault: &str, shelf: &mut MemoryShelf, sink: &mut MemorySink) -> io::Result<()> {
+    let (what, number) = fault.split_once(" ").ok_or(malformed())?;
+    let number = number.parse::<u64>().map_err(|_| malformed())?;
+    match what {
+        "read" => Ok(shelf.fail_at(number)?),
+        "write" => Ok(sink.fail_at(number)?),
+        _ => {
+            sink.take_at_most(number as usize);
             Ok(())
         }
     }
+}
 
-    fn add_line(&mut self, text: &str) -> io::Result<()> {
-        self.text.push_str(text)?;
-        Ok(self.text.push_str("\n")?)
+/// Makes the call, and writes its status, how many reads and writes failed, and what it wrote.
+fn call(rt: &(impl Print + AllocGlobal), row: &Row) -> io::Result<()> {
+    let mut shelf = shelf_of(rt.alloc(), row)?;
+    let mut sink = MemorySink::new(rt.alloc());
+    for fault in &row.faults {
+        plan(fault, &mut shelf, &mut sink)?;
     }
-
-    fn read_words(&mut self, words: &str) -> io::Result<()> {
-        for word in words.split(" ").skip(1) {
-            self.words.push(String::from_str(self.alloc, word)?)?;
-        }
-        Ok(())
+    let status = desk(rt.alloc(), &row.words, &mut shelf, &mut sink);
+    println!(rt; "status {status}")?;
+    if shelf.faults() > 0 {
+        println!(rt; "failed reads {}", shelf.faults())?;
     }
-
-    fn repeat(&mut self, more: &str) -> io::Result<()> {
-        let (count, text) = more.split_once(" ").ok_or(malformed())?;
-        for _ in 0..count.parse::<u32>().map_err(|_| malformed())? {
-            self.add_line(text)?;
-        }
-        Ok(())
+    if sink.faults() > 0 {
+        println!(rt; "failed writes {}", sink.faults())?;
     }
+    show(rt, sink.bytes(), MOST_SHOWN)
+}
 
-    fn plan(&mut self, fault: &str) -> io::Result<()> {
-        let (what, number) = fault.split_once(" ").ok_or(malformed())?;
-        match what {
-            "read" => Ok(
-                self.shelf
-                    .fail_at(number.parse::<u64>().map_err(|_| malformed())?)?,
-            ),
-            "write" => Ok(
-                self.sink
-                    .fail_at(number.parse::<u64>().map_err(|_| malformed())?)?,
-            ),
-            _ => {
-                self.sink
-                    .take_at_most(number.parse::<usize>().map_err(|_| malformed())?);
-                Ok(())
-            }
-        }
-    }
-
-    fn end_file(&mut self) -> io::Result<()> {
-        if !self.name.is_empty() {
-            self.shelf.add(&self.name, self.text.as_bytes())?;
-        }
-        self.name.clear();
-        self.text.clear();
-        Ok(())
-    }
-
-    /// Makes the call or takes the look, and writes what comes of it.
-    fn run(&mut self, rt: &impl Print) -> io::Result<()> {
-        self.end_file()?;
-        println!(rt; "== {}", self.title)?;
-        if self.is_look {
-            self.look(rt)
-        } else {
-            self.call(rt)
-        }
-    }
-
-    fn look(&mut self, rt: &impl Print) -> io::Result<()> {
-        match told(self.alloc, &self.words, &mut self.shelf) {
-            Ok(text) => show(
-                rt,
-                str::from_utf8(&text).map_err(|_| malformed())?,
-                usize::MAX,
-            ),
-            Err(stop) => println!(rt; "{stop}"),
-        }
-    }
-
-    /// Makes the call, and writes its status, how many reads and writes failed, and what it wrote.
-    fn call(&mut self, rt: &impl Print) -> io::Result<()> {
-        let status = desk(self.alloc, &self.words, &mut self.shelf, &mut self.sink);
-        println!(rt; "status {status}")?;
-        if self.shelf.faults() > 0 {
-            println!(rt; "failed reads {}", self.shelf.faults())?;
-        }
-        if self.sink.faults() > 0 {
-            println!(rt; "failed writes {}", self.sink.faults())?;
-        }
-        show(
-            rt,
-            str::from_utf8(self.sink.bytes()).map_err(|_| malformed())?,
-            MOST_SHOWN,
-        )
+fn look(rt: &(impl Print + AllocGlobal), row: &Row) -> io::Result<()> {
+    match told(rt.alloc(), row) {
+        Ok(text) => show(rt, &text, usize::MAX),
+        Err(stop) => println!(rt; "{stop}"),
     }
 }
 
 /// Ends a row, where there is one.
-pub fn end(rt: &impl Print, row: Option<Box<Row>>) -> io::Result<()> {
-    match row {
-        Some(mut row) => row.run(rt),
-        None => Ok(()),
+pub fn end(rt: &(impl Print + AllocGlobal), row: Option<Box<Row>>) -> io::Result<()> {
+    let Some(row) = row else {
+        return Ok(());
+    };
+    println!(rt; "== {}", row.title)?;
+    if row.is_look {
+        look(rt, &row)
+    } else {
+        call(rt, &row)
     }
-}
-
-/// Writes each line behind `|`, and one without its line feed behind `\`; of more than so many lines the first and the last.
-fn show(rt: &impl Print, text: &str, most: usize) -> io::Result<()> {
-    let count = text.split_inclusive("\n").count();
-    for (at, line) in text.split_inclusive("\n").enumerate() {
-        if count <= most || at < SHOWN_LINES || count.saturating_sub(at) <= SHOWN_LINES {
-            match line.strip_suffix("\n") {
-                Some(line) => println!(rt; "|{line}")?,
-                None => println!(rt; "\\{line}")?,
-            }
-        } else if at == SHOWN_LINES {
-            println!(rt; "..")?;
-        }
-    }
-    Ok(())
 }

@@ -1,4 +1,0 @@
-use Rattle.tests_text.proofs.layers.parsed.Given as goal
-
-abbrev pub ghosts-counted : goal.ghosts-counted
-ghosts-counted a = record { name = a.blank.name; parts = a.blank.parts }
