@@ -9,12 +9,12 @@ use Rattle.rtl_flat.specs.Paths.{BitSet}
 use Rattle.rtl_flat.specs.Process.{Selection}
 use Rattle.rtl_flat.specs.Process as part
 use Rattle.rtl_rule.specs.Parts.{has_some}
-use Rattle.check_graph.specs.rtl_scan.declared.bits.Row.{Row}
-use Rattle.check_graph.specs.rtl_scan.Sets.{has_row, has_rows}
-use Rattle.check_graph.proofs.rtl_scan_proofs.Masks.{without_is}
-use Rattle.check_graph.proofs.rtl_scan_proofs.Users.{some_bit_is}
-use Rattle.check_graph.proofs.check_found_proofs.Inside.{IsInside}
-use Rattle.check_graph.proofs.check_found_proofs.Signals.{some_at, some_found}
+use Rattle.check_loops.specs.rtl_scan.declared.bits.Row.{Row}
+use Rattle.check_loops.specs.rtl_scan.Sets.{has_row, has_rows}
+use Rattle.check_loops.proofs.rtl_scan_proofs.Masks.{without_is}
+use Rattle.check_loops.proofs.rtl_scan_proofs.Users.{some_bit_is}
+use Rattle.check_loops.proofs.check_found_proofs.Inside.{IsInside}
+use Rattle.check_loops.proofs.check_found_proofs.Signals.{some_at, some_found}
 use Rattle.check_assign.specs.Marks.{any_row, leaves, shares}
 use Rattle.check_assign.proofs.Below.{below_same, same_truth, select_at, whole_at}
 

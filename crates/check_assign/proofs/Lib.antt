@@ -12,5 +12,5 @@ pub mod Zeds
 pub mod Together
 -- passed on to the crates above
 pub use Rattle.check_clocks.proofs as check_clocks_proofs
-pub use Rattle.check_graph.proofs.check_found_proofs
-pub use Rattle.check_graph.proofs.rtl_scan_proofs
+pub use Rattle.check_loops.proofs.check_found_proofs
+pub use Rattle.check_loops.proofs.rtl_scan_proofs

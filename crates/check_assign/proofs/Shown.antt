@@ -18,7 +18,7 @@ use Rattle.rtl_rule.specs.declared.rule.Rule.TheVariants.{BlockingState}
 use Rattle.rtl_rule.specs.Parts.{At, within}
 use Rattle.rtl_flat.specs.Flats.{Flat}
 use Rattle.rtl_rule.specs.Sites.{AreFindings}
-use Rattle.check_graph.specs.check_found.Gathered.{Gets, signal_numbers, task_sites}
+use Rattle.check_loops.specs.check_found.Gathered.{Gets, signal_numbers, task_sites}
 use Rattle.check_assign.specs.Marks.{Shows, passing, shown}
 
 abbrev Entries : Type 0

@@ -9,8 +9,8 @@ use Rattle.rtl_flat.specs.declared.design.Design.{Design}
 use Rattle.rtl_flat.specs.Process.{Task, task}
 use Rattle.rtl_rule.specs.Parts.{written}
 use Rattle.rtl_flat.specs.Flats.{Flat, flat}
-use Rattle.check_graph.proofs.check_found_proofs.Gathering.{take_next}
-use Rattle.check_graph.proofs.check_found_proofs.Sites.{task_at, task_count}
+use Rattle.check_loops.proofs.check_found_proofs.Gathering.{take_next}
+use Rattle.check_loops.proofs.check_found_proofs.Sites.{task_at, task_count}
 use Rattle.check_assign.specs.Assigned.{is_written, lower_writes}
 use Rattle.check_assign.proofs.Unions.{any_append, or_false}
 

@@ -13,7 +13,7 @@ use Rattle.rtl_flat.specs.Process.{Piece, Action, Set}
 use Rattle.rtl_rule.specs.declared.finding.Finding.{Finding}
 use Rattle.rtl_rule.specs.declared.rule.Rule.{Rule}
 use Rattle.rtl_rule.specs.Parts.{has_some, is_earlier, is_literal_with, is_z, number, place_of, spot_if}
-use Rattle.check_graph.specs.rtl_scan.declared.bits.Row.{Row}
+use Rattle.check_loops.specs.rtl_scan.declared.bits.Row.{Row}
 use Rattle.check_assign.specs.declared.marks.Among.{Among}
 use Rattle.check_assign.specs.declared.marks.Among.TheVariants.{All, Kept, Marked}
 

@@ -19,4 +19,4 @@ pub use loops::comb_loop;
 // Passed on to the crates above.
 pub use check_clocks;
 pub use check_clocks::{check_chains, check_parts};
-pub use check_graph::{check_found, rtl_expr, rtl_scan};
+pub use check_loops::{check_found, rtl_expr, rtl_scan};

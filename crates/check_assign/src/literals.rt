@@ -7,13 +7,13 @@ ghost use Rattle.rtl_flat.specs.Expression.{tree};
 ghost use Rattle.rtl_flat.specs.Process.{Task, doing};
 ghost use Rattle.rtl_rule.specs.Parts.{is_literal_with, is_z, nodes, valued_trees};
 ghost use Rattle.rtl_flat.specs.Flats.{flat};
-ghost use Rattle.check_graph.specs.check_found.Gathered.{Gets, task_sites};
+ghost use Rattle.check_loops.specs.check_found.Gathered.{Gets, task_sites};
 ghost use Rattle.check_assign.specs.Assigned.{AreTristate, IsTristate, tristate_at};
 ghost use Rattle.check_assign.specs.Marks.{z_spots};
 
 use check_clocks::check_parts::expressions::{nodes, valued_trees};
 use check_clocks::check_parts::places::least_place;
-use check_graph::check_found::sets::first_written;
+use check_loops::check_found::sets::first_written;
 use rtl_bits::{Bit, Vec4};
 use rtl_flat::act::{Does, ProcId};
 use rtl_flat::design::Design;

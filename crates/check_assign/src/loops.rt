@@ -4,14 +4,14 @@ ghost use Rattle.std.specs.Prelude.{◌≡◌, ◌<◌, ◌↔◌, [], ◌∷◌
 ghost use Rattle.std.specs.List.{slice_get};
 ghost use Rattle.rtl_flat.specs.Process.{Task};
 ghost use Rattle.rtl_flat.specs.Flats.{flat};
-ghost use Rattle.check_graph.specs.check_found.Gathered.{Gets, task_sites};
-ghost use Rattle.check_graph.specs.Loops.{IsOnLevelCycle};
-ghost use Rattle.check_graph.specs.check_found.Scanned.{AreScans};
+ghost use Rattle.check_loops.specs.check_found.Gathered.{Gets, task_sites};
+ghost use Rattle.check_loops.specs.Loops.{IsOnLevelCycle};
+ghost use Rattle.check_loops.specs.check_found.Scanned.{AreScans};
 ghost use Rattle.check_assign.specs.Assigned.{AreCombLoop, IsCombLoop, comb_loop_at};
 
-use check_graph::check_found::scans::Scans;
-use check_graph::check_found::sets::first_written;
-use check_graph::loops;
+use check_loops::check_found::scans::Scans;
+use check_loops::check_found::sets::first_written;
+use check_loops::loops;
 use rtl_flat::act::ProcId;
 use rtl_flat::design::Design;
 use rtl_rule::finding::Finding;

@@ -12,7 +12,7 @@ ghost use Rattle.check_assign.specs.Marks.{joined, least_of, spot_of};
 
 use crate::marks::Marks;
 use check_clocks::check_parts::statements::statements;
-use check_graph::rtl_scan::selected;
+use check_loops::rtl_scan::selected;
 use rtl_flat::act::{Act, Does, TargetPart};
 use rtl_flat::design::Design;
 use rtl_tree::memory::Memory;

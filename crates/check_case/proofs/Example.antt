@@ -32,9 +32,8 @@ piece i at = record { signal = i; selection = part.Whole; spot = spot_at at } �
 abbrev task_of : Doing → Task
 task_of does = record { does = does; instance = 0; spot = spot_at 38 }
 
-abbrev parts : List Signal → List Doing → Flat
-parts signals does =
-    record { signals = signals; tasks = map task_of does; delays = []; dropped = [] }
+abbrev flat_of : List Signal → List Doing → Flat
+flat_of signals does = record { signals = signals; tasks = map task_of does }
 
 abbrev literal : List Bit → sized.Tree
 literal bits = sized.Sized (length bits) false (spot_at 0) (sized.Literal bits)
@@ -58,7 +57,7 @@ half =
     part.Case Plain true false (sized.Sized 2 false (spot_at 0) (sized.Whole 0)) (part.Branch (literal (Zero ∷ Zero ∷ []) ∷ []) (set 3 (read 1)) (part.Branch (literal (One ∷ Zero ∷ []) ∷ []) (set 3 (read 2)) part.NoBranch)) part.Without (spot_at 40)
 
 abbrev full : Flat
-full = parts ports (part.Comb None (part.Then half part.Done) ∷ [])
+full = flat_of ports (part.Comb None (part.Then half part.Done) ∷ [])
 
 y_is_found : (full_case_at full (at half half)).signal ≡ number 3
 y_is_found = refl

@@ -1,4 +1,3 @@
-mod Borrowed
 mod Example
 pub mod Apart
 pub mod Claimed

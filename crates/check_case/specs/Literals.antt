@@ -1,6 +1,6 @@
 -- It serves inner contracts and proofs; no answer of the program is stated by it.
--- Labels that are literals, and those that are shown disjoint from others.
-use Rattle.std.specs.Prelude.{ℕ, ◌≡◌, ◌==◌, Bool, not, cond, ◌&&◌, ◌||◌, List, [], ◌∷◌, length, Option, Some, None}
+-- Labels that are shown disjoint from others.
+use Rattle.std.specs.Prelude.{◌≡◌, ◌==◌, Bool, not, cond, ◌&&◌, ◌||◌, List, [], ◌∷◌, length}
 use Rattle.std.specs.List.{list_any}
 use Rattle.std.specs.Ordering.{nat_cmp}
 use Rattle.std.specs.BTreeSet.{contains}
@@ -8,29 +8,8 @@ use Rattle.rtl_bits.specs.declared.Bit.{Bit}
 use Rattle.rtl_bits.specs.Bits.{all_with, has_unknown, may_equal, number}
 use Rattle.rtl_flat.specs.Expression.{Tree}
 use Rattle.rtl_flat.specs.Flows.{literal}
-use Rattle.rtl_flat.specs.declared.act.CaseKind.{CaseKind}
-use Rattle.check_parts.specs.rtl_scan.Values.{AreSorted, GetsLabel, matches_some}
-use Rattle.check_case.specs.declared.labels.Labels.{Labels}
 use Rattle.check_case.specs.declared.disjoint.Seen.{Seen}
 use Rattle.check_case.specs.Cases.{some_differ}
-
--- the bits of a label that may be a literal
-abbrev pub listed_of : Option (List Bit) → List (List Bit)
-listed_of None = []
-listed_of (Some bits) = bits ∷ []
-
--- sorted labels, as a scan has them: whether one matches a value, one label more, and all of some labels
-abbrev pub matches_in : CaseKind → List Bit → Labels → Bool
-matches_in kind value labels =
-    matches_some kind value (record { numbers = labels.numbers; others = labels.others })
-
-abbrev pub GetsIn : ℕ → List Bit → Labels → Labels → Type 0
-GetsIn width label old new =
-    GetsLabel width label (record { numbers = old.numbers; others = old.others }) (record { numbers = new.numbers; others = new.others })
-
-abbrev pub AreIn : ℕ → List (List Bit) → Labels → Type 0
-AreIn width labels sorted =
-    AreSorted width labels (record { numbers = sorted.numbers; others = sorted.others })
 
 -- whether a literal isn't shown disjoint from one of the literals
 abbrev pub meets : Seen → List Bit → Bool

@@ -11,9 +11,9 @@ ghost use Rattle.check_found.specs.Gathered.{task_sites};
 ghost use Rattle.check_case.specs.Cases.{AreFullCase, AreParallelCase, all_disjoint, is_false_full, spot_of};
 ghost use Rattle.check_case.specs.Claims.{AreClaims, GetsClaims, claims_falsely, rule_of};
 
-use crate::complete::is_complete;
 use crate::disjoint::are_disjoint;
 use crate::first::first_in;
+use check_parts::rtl_scan::is_complete_by_labels;
 use check_parts::statements::statements;
 use rtl_flat::act::{Act, CaseItem, CaseKind, Process};
 use rtl_flat::design::Design;
@@ -66,7 +66,7 @@ fn is_false_full(
             if !full {
                 return Ok(false);
             }
-            let complete = is_complete(alloc, &design.signals, kind, selector, items)?;
+            let complete = is_complete_by_labels(alloc, design, kind, selector, items)?;
             Ok(!complete)
         }
     }

@@ -7,10 +7,11 @@ ghost use Rattle.rtl_bits.specs.Bits.{all_with, may_equal};
 ghost use Rattle.rtl_flat.specs.Expression.{tree};
 ghost use Rattle.rtl_flat.specs.Flows.{literal};
 ghost use Rattle.check_parts.specs.rtl_scan.Bodies.{branches_of};
+ghost use Rattle.check_parts.specs.rtl_scan.Values.{listed_of};
 ghost use Rattle.check_case.specs.Cases.{all_disjoint};
-ghost use Rattle.check_case.specs.Literals.{GetsSeen, GetsAllSeen, listed_of, meets, overlap_in, overlap_tree, overlap_some};
+ghost use Rattle.check_case.specs.Literals.{GetsSeen, GetsAllSeen, meets, overlap_in, overlap_tree, overlap_some};
 
-use crate::labels::{insert_number, literal_of};
+use check_parts::rtl_scan::values::{insert_number, literal_of};
 use rtl_bits::{Bit, Vec4};
 use rtl_flat::act::CaseItem;
 use rtl_flat::expr::SizedExpr;

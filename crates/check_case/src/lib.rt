@@ -2,10 +2,8 @@
 #![tactic(auto)]
 
 mod claims;
-mod complete;
 mod disjoint;
 mod first;
-mod labels;
 mod unknown;
 
 ghost use Rattle.std.specs.Prelude.{IfOk};

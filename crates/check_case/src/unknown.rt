@@ -11,9 +11,9 @@ ghost use Rattle.check_found.specs.Scanned.{AreScans};
 ghost use Rattle.check_case.specs.Cases.{AreUnknownItem, label_in, never_matches, own_kinds};
 ghost use Rattle.check_case.specs.Claims.{GetsUnknown, kinds_in, kinds_of};
 
-use crate::labels::literal_of;
 use check_found::scans::Scans;
 use check_parts::expressions::own_labels;
+use check_parts::rtl_scan::values::literal_of;
 use check_parts::statements::statements;
 use rtl_bits::{Bit, Vec4};
 use rtl_flat::act::{Act, CaseKind, ProcId, Process};

@@ -8,6 +8,7 @@ ghost use Rattle.rtl_flat.specs.Paths.{reads_outside};
 ghost use Rattle.rtl_flat.specs.Process.{Task};
 ghost use Rattle.rtl_rule.specs.Parts.{first_of, written};
 ghost use Rattle.rtl_flat.specs.Flats.{flat, widths};
+ghost use Rattle.rtl_scan.specs.Arrows.{AreAccessed};
 ghost use Rattle.rtl_scan.specs.Sets.{IsInOrder, has_rows};
 ghost use Rattle.check_found.specs.Scanned.{AreScans};
 
@@ -17,6 +18,7 @@ use rtl_flat::design::Design;
 use rtl_flat::expr::SigId;
 use rtl_scan::accesses::Accesses;
 use rtl_scan::bits::Bits;
+use rtl_scan::feeds::Accessed;
 use rtl_tree::memory::Memory;
 use std::alloc::Global;
 
@@ -90,6 +92,20 @@ impl<'d> Scans<'d> {
         ensures order { IsInOrder result.now.rows.items }
     {
         &self.listed[p.0 as usize]
+    }
+
+    /// What the processes access, as the graph of who feeds whom takes it.
+    pub fn accessed(&self) -> Accessed<'_>
+        requires { AreScans self.now }
+        ensures design { result.design.now ≡ self.now.design.now }
+        ensures accessed { AreAccessed result }
+    {
+        Accessed {
+            design: self.design,
+            writes: &self.written,
+            reads: &self.outside,
+            lists: &self.listed,
+        }
     }
 
     /// Whether each signal is a temporary.

@@ -6,8 +6,8 @@ use Rattle.std.proofs.Math.ListN.{set}
 use Rattle.std.proofs.lemmas.Bool.{cases_eq}
 use Rattle.std.proofs.lemmas.List.{length-append}
 use Rattle.rtl_flat.specs.Levels.{Here, Then}
-use Rattle.rtl_scan.specs.Graph.{ArrowIn}
-use Rattle.rtl_scan.proofs.Chains.{joined}
+use Rattle.check_found.specs.rtl_scan.Graph.{ArrowIn}
+use Rattle.check_found.proofs.rtl_scan_proofs.Chains.{joined}
 use Rattle.check_loops.specs.declared.groups.Group.{Group}
 use Rattle.check_loops.specs.declared.groups.Search.{Search}
 use Rattle.check_loops.specs.Rounds.{AreLed, IsSound, Leads, Takes}

@@ -3,7 +3,7 @@ use Rattle.std.specs.Prelude.{Vec, ◌⊎◌}
 use Rattle.std.specs.declared.alloc.Global.{Global}
 use Rattle.std.proofs.Common.{ℕ, zero, suc, ◌≡◌, ◌<◌, arith, List, [], ◌∷◌, ◌++◌, length, get_or, refl, sym, ap, inl, inr}
 use Rattle.std.proofs.Math.ListN.{set}
-use Rattle.rtl_scan.specs.Graph.{row}
+use Rattle.check_found.specs.rtl_scan.Graph.{row}
 
 pub set_at : {A : Type 0} (xs : List A) (i : ℕ) (x d : A) → i < length xs → get_or (set xs i x) i d ≡ x
 set_at [] i x d h = absurd (omega arith)

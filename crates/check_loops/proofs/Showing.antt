@@ -5,8 +5,8 @@ use Rattle.std.proofs.Common.{ℕ, zero, suc, ◌≡◌, ◌∙◌, ◌<◌, ◌
 use Rattle.std.proofs.lemmas.Bool.{cases_lt}
 use Rattle.std.proofs.lemmas.List.{length-append}
 use Rattle.rtl_flat.specs.Levels.{Chain, Here, Then}
-use Rattle.rtl_scan.specs.Graph.{row, ArrowIn}
-use Rattle.rtl_scan.proofs.Chains.{joined}
+use Rattle.check_found.specs.rtl_scan.Graph.{row, ArrowIn}
+use Rattle.check_found.proofs.rtl_scan_proofs.Chains.{joined}
 use Rattle.check_loops.specs.declared.groups.Group.{Group}
 use Rattle.check_loops.specs.Rounds.{AreAgreed, AreAnswered, AreLed, AreOnCycles, IsLooked, IsOnCycle, Leads, TurnsBack, group_at}
 use Rattle.check_loops.proofs.Places.{push_old, push_new, row_there}

@@ -6,8 +6,8 @@ use Rattle.std.proofs.Math.ListN.{set, length-set}
 use Rattle.std.proofs.lemmas.Bool.{cases_lt, cases_eq, eqb-true, eq-eqb}
 use Rattle.std.proofs.lemmas.List.{length-append}
 use Rattle.rtl_flat.specs.Levels.{Chain, Here, Then}
-use Rattle.rtl_scan.specs.Graph.{row, ArrowIn}
-use Rattle.rtl_scan.proofs.Bools.{or_is, or_left, or_right}
+use Rattle.check_found.specs.rtl_scan.Graph.{row, ArrowIn}
+use Rattle.check_found.proofs.rtl_scan_proofs.Bools.{or_is, or_left, or_right}
 use Rattle.check_loops.specs.Rounds.{AreClosed, AreLoops, AreMarked, AreReached, IsOnCycle, IsSpreading, Marks, is_fed, unmarked}
 use Rattle.check_loops.proofs.Places.{set_other, push_old, push_new, row_there}
 

@@ -4,7 +4,7 @@ use Rattle.std.specs.declared.alloc.Global.{Global}
 use Rattle.std.proofs.Common.{ℕ, ◌≡◌, ◌∙◌, ◌<◌, ◌+◌, arith, List, [], ◌∷◌, ◌++◌, length, get_or, sym, ap, subst, inl, inr}
 use Rattle.std.proofs.Math.ListN.{set}
 use Rattle.std.proofs.lemmas.Bool.{cases_eq}
-use Rattle.rtl_scan.specs.Graph.{row, ArrowIn}
+use Rattle.check_found.specs.rtl_scan.Graph.{row, ArrowIn}
 use Rattle.check_loops.specs.Rounds.{Puts, PutsAll, TurnsBack}
 use Rattle.check_loops.proofs.Places.{pushed_at, row_set, row_other}
 

@@ -3,7 +3,7 @@ use Rattle.std.specs.Prelude.{ℕ, suc, ◌≡◌, ◌<◌, ◌≤◌, ◌+◌, 
 use Rattle.std.specs.List.{list_any}
 use Rattle.std.specs.declared.alloc.Global.{Global}
 use Rattle.rtl_flat.specs.Levels.{Chain}
-use Rattle.rtl_scan.specs.Graph.{row, ArrowIn}
+use Rattle.check_found.specs.rtl_scan.Graph.{row, ArrowIn}
 use Rattle.check_loops.specs.declared.groups.Group.{Group}
 use Rattle.check_loops.specs.declared.groups.Search.{Search}
 

@@ -1,14 +1,15 @@
-//! The nodes of a graph that are on a cycle.
+//! The nodes of a graph that are on a cycle, and so the processes that feed themselves over others.
 #![tactic(auto)]
 
 mod certificate;
 mod groups;
+mod level;
 mod order;
 mod spread;
 mod turned;
 
 ghost use Rattle.std.specs.Prelude.{IfOk};
-ghost use Rattle.rtl_scan.specs.Graph.{AreRows};
+ghost use Rattle.check_found.specs.rtl_scan.Graph.{AreRows};
 ghost use Rattle.check_loops.specs.Rounds.{AreOnCycles};
 
 use crate::certificate::certified;
@@ -38,6 +39,9 @@ pub fn on_cycles(alloc: Global, rows: &[Vec<u32>]) -> Result<Vec<bool>, Memory>
     }
 }
 
+pub use level::loops;
+
 // Passed on to the crates above.
-pub use rtl_scan;
-pub use rtl_scan::rtl_expr;
+pub use check_found;
+pub use check_found::rtl_scan;
+pub use check_found::rtl_scan::rtl_expr;

@@ -2,7 +2,7 @@
 
 ghost use Rattle.std.specs.Prelude.{◌≡◌, ◌<◌, ◌^◌, length, false, IfOk};
 ghost use Rattle.std.specs.Prelude.{slice_index_or};
-ghost use Rattle.rtl_scan.specs.Graph.{AreRows};
+ghost use Rattle.check_found.specs.rtl_scan.Graph.{AreRows};
 ghost use Rattle.check_loops.specs.Rounds.{AreOnCycles, AreReached, AreSpread, Marks, is_fed};
 
 use rtl_tree::memory::Memory;

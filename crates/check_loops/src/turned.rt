@@ -1,7 +1,7 @@
 // The arrows of a graph in the other direction.
 
 ghost use Rattle.std.specs.Prelude.{ℕ, ◌≡◌, ◌<◌, ◌^◌, [], length, IfOk, OnOk};
-ghost use Rattle.rtl_scan.specs.Graph.{row};
+ghost use Rattle.check_found.specs.rtl_scan.Graph.{row};
 ghost use Rattle.check_loops.specs.Rounds.{Puts, PutsAll, TurnsBack};
 
 use rtl_tree::memory::Memory;

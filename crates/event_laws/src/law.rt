@@ -11,12 +11,14 @@ ghost use Rattle.event_laws.specs.Steady.{AreLawful, HaveWidths, IsSteady};
 
 /// Each event keeps a state steady.
 pub fn steady_after()
-    ensures { (d : Flat) → AreLawful d → (s : State) (event : Event) → IsThere d s event → IsSteady d s → IsSteady d (after d s event) }
+    ensures { (d : Flat) → AreLawful d → (s : State) (event : Event) → IsThere d s event
+        → IsSteady d s → IsSteady d (after d s event) }
 {}
 
 /// Each run keeps a state steady.
 pub fn steady_run()
-    ensures { (d : Flat) → AreLawful d → (s : State) (events : List Event) → CanRun d s events → IsSteady d s → IsSteady d (run d s events) }
+    ensures { (d : Flat) → AreLawful d → (s : State) (events : List Event) → CanRun d s events
+        → IsSteady d s → IsSteady d (run d s events) }
 {}
 
 /// Power-up is steady.

@@ -52,9 +52,13 @@ impl Aside {
         requires sum { length self.sum ≡ length number }
         ensures number { result.number ≡ self.number }
         ensures mark { result.mark ≡ self.mark }
-        ensures sum { result.sum ≡ zip_with or_bit (tabulate (length number) (λ k. unwrap_or (next_bit mark k) (slice_index_or number k X))) self.sum }
-        ensures wrote { (k : ℕ) → is_one_at result.wrote k ≡ (is_one_at mark.wrote k || is_one_at self.wrote k) }
-        ensures late { (k : ℕ) → is_one_at result.late k ≡ (is_one_at mark.late k || is_one_at self.late k) }
+        ensures sum { result.sum ≡ zip_with or_bit
+            (tabulate (length number) (λ k.
+            unwrap_or (next_bit mark k) (slice_index_or number k X))) self.sum }
+        ensures wrote { (k : ℕ) → is_one_at result.wrote k
+            ≡ (is_one_at mark.wrote k || is_one_at self.wrote k) }
+        ensures late { (k : ℕ) → is_one_at result.late k
+            ≡ (is_one_at mark.late k || is_one_at self.late k) }
         ensures width { length result.sum ≡ length self.sum }
     {
         Aside {
@@ -85,7 +89,9 @@ impl Aside {
     /// The digits after all of them.
     fn joined_number(self) -> Vec4
         requires { length self.sum ≡ length self.number }
-        ensures bits { result ≡ tabulate (length self.number) (λ k. cond (is_one_at self.wrote k && not (is_one_at self.late k)) (slice_index_or self.sum k X) (slice_index_or self.number k X)) }
+        ensures bits { result ≡ tabulate (length self.number)
+            (λ k. cond (is_one_at self.wrote k && not (is_one_at self.late k))
+            (slice_index_or self.sum k X) (slice_index_or self.number k X)) }
         ensures width { length result ≡ length self.number }
     {
         merged(self.wrote & (self.wrote ^ self.late), self.sum, self.number)
@@ -94,9 +100,13 @@ impl Aside {
     /// The mark after all of them.
     fn joined_mark(self) -> Mark
         requires { length self.sum ≡ length self.mark.next }
-        ensures next { (k : ℕ) → next_bit result k ≡ cond (is_one_at self.late k) (Some (slice_index_or self.sum k X)) (next_bit self.mark k) }
-        ensures wrote { (k : ℕ) → is_one_at result.wrote k ≡ (is_one_at self.wrote k || is_one_at self.mark.wrote k) }
-        ensures late { (k : ℕ) → is_one_at result.late k ≡ (is_one_at self.late k || is_one_at self.mark.late k) }
+        ensures next { (k : ℕ) → next_bit result k
+            ≡ cond (is_one_at self.late k) (Some (slice_index_or self.sum k X))
+            (next_bit self.mark k) }
+        ensures wrote { (k : ℕ) → is_one_at result.wrote k
+            ≡ (is_one_at self.wrote k || is_one_at self.mark.wrote k) }
+        ensures late { (k : ℕ) → is_one_at result.late k
+            ≡ (is_one_at self.late k || is_one_at self.mark.late k) }
         ensures width { length result.next ≡ length self.mark.next }
     {
         let late = self.late;
@@ -156,7 +166,8 @@ fn add(numbers: &[Vec4], marks: &[Mark], asides: &mut [Aside])
     requires asides { length asides.old ≡ length numbers.now }
     requires widths { HaveMarks numbers.now marks.now }
     requires same { HaveSums numbers.now asides.old }
-    ensures asides { (m : Maps) (arms : List Maps) → AreAside m arms asides.old → AreAside m (maps numbers.now marks.now ∷ arms) asides.new }
+    ensures asides { (m : Maps) (arms : List Maps) → AreAside m arms asides.old
+        → AreAside m (maps numbers.now marks.now ∷ arms) asides.new }
     ensures sums { HaveSums numbers.now asides.new }
 {
     for place in 0..asides.len() {
@@ -178,10 +189,14 @@ fn restore_numbers(numbers: &mut [Vec4], asides: &[Aside])
 /// Goes back to the marks before the case, with nothing written.
 fn restore_marks(marks: &mut [Mark], asides: &[Aside])
     requires { length asides.now ≡ length marks.old }
-    ensures next { (i : ℕ) → view_at next_bit (λ j. None) marks.new i ≡ view_at (λ aside. next_bit aside.mark) (λ j. None) asides.now i }
-    ensures wrote { (i : ℕ) → view_at (λ mark. is_one_at mark.wrote) (λ j. false) marks.new i ≡ (λ k. false) }
-    ensures late { (i : ℕ) → view_at (λ mark. is_one_at mark.late) (λ j. false) marks.new i ≡ (λ k. false) }
-    ensures widths { (i : ℕ) → view_at (λ mark. length mark.next) 0 marks.new i ≡ view_at (λ aside. length aside.mark.next) 0 asides.now i }
+    ensures next { (i : ℕ) → view_at next_bit (λ j. None) marks.new i
+        ≡ view_at (λ aside. next_bit aside.mark) (λ j. None) asides.now i }
+    ensures wrote { (i : ℕ) → view_at (λ mark. is_one_at mark.wrote) (λ j. false) marks.new i
+        ≡ (λ k. false) }
+    ensures late { (i : ℕ) → view_at (λ mark. is_one_at mark.late) (λ j. false) marks.new i
+        ≡ (λ k. false) }
+    ensures widths { (i : ℕ) → view_at (λ mark. length mark.next) 0 marks.new i
+        ≡ view_at (λ aside. length aside.mark.next) 0 asides.now i }
 {
     for place in 0..asides.len() {
         let aside = asides[place];
@@ -195,8 +210,10 @@ pub(crate) fn collect(numbers: &mut [Vec4], marks: &mut [Mark], asides: &mut [As
     requires asides { length asides.old ≡ length numbers.old }
     requires widths { HaveMarks numbers.old marks.old }
     requires same { HaveSums numbers.old asides.old }
-    ensures asides { (m : Maps) (arms : List Maps) → AreAside m arms asides.old → AreAside m (maps numbers.old marks.old ∷ arms) asides.new }
-    ensures maps { (m : Maps) (arms : List Maps) → AreAside m arms asides.old → maps numbers.new marks.new ≡ fresh m }
+    ensures asides { (m : Maps) (arms : List Maps) → AreAside m arms asides.old
+        → AreAside m (maps numbers.old marks.old ∷ arms) asides.new }
+    ensures maps { (m : Maps) (arms : List Maps) → AreAside m arms asides.old
+        → maps numbers.new marks.new ≡ fresh m }
     ensures widths { HaveMarks numbers.new marks.new }
     ensures sums { HaveSums numbers.new asides.new }
 {
@@ -209,7 +226,8 @@ pub(crate) fn collect(numbers: &mut [Vec4], marks: &mut [Mark], asides: &mut [As
 fn join_numbers(numbers: &mut [Vec4], asides: &[Aside])
     requires asides { length asides.now ≡ length numbers.old }
     requires same { HaveSums numbers.old asides.now }
-    ensures { (m : Maps) (arms : List Maps) → AreAside m arms asides.now → (i : ℕ) → store numbers.new i ≡ (joined_arms m arms).now i }
+    ensures { (m : Maps) (arms : List Maps) → AreAside m arms asides.now → (i : ℕ)
+        → store numbers.new i ≡ (joined_arms m arms).now i }
 {
     for place in 0..asides.len() {
         let aside = asides[place];
@@ -221,9 +239,14 @@ fn join_numbers(numbers: &mut [Vec4], asides: &[Aside])
 fn join_marks(numbers: &[Vec4], marks: &mut [Mark], asides: &[Aside])
     requires asides { length asides.now ≡ length marks.old }
     requires same { HaveSums numbers.now asides.now }
-    ensures next { (m : Maps) (arms : List Maps) → AreAside m arms asides.now → IsBounded m arms → (i k : ℕ) → view_at next_bit (λ j. None) marks.new i k ≡ (joined_arms m arms).next i k }
-    ensures wrote { (m : Maps) (arms : List Maps) → AreAside m arms asides.now → (i k : ℕ) → view_at (λ mark. is_one_at mark.wrote) (λ j. false) marks.new i k ≡ (joined_arms m arms).wrote i k }
-    ensures late { (m : Maps) (arms : List Maps) → AreAside m arms asides.now → (i k : ℕ) → view_at (λ mark. is_one_at mark.late) (λ j. false) marks.new i k ≡ (joined_arms m arms).late i k }
+    ensures next { (m : Maps) (arms : List Maps) → AreAside m arms asides.now → IsBounded m arms
+        → (i k : ℕ) → view_at next_bit (λ j. None) marks.new i k ≡ (joined_arms m arms).next i k }
+    ensures wrote { (m : Maps) (arms : List Maps) → AreAside m arms asides.now → (i k : ℕ)
+        → view_at (λ mark. is_one_at mark.wrote) (λ j. false) marks.new i k
+        ≡ (joined_arms m arms).wrote i k }
+    ensures late { (m : Maps) (arms : List Maps) → AreAside m arms asides.now → (i k : ℕ)
+        → view_at (λ mark. is_one_at mark.late) (λ j. false) marks.new i k
+        ≡ (joined_arms m arms).late i k }
     ensures widths { HaveMarks numbers.now marks.new }
 {
     for place in 0..asides.len() {
@@ -237,8 +260,10 @@ pub(crate) fn join(numbers: &mut [Vec4], marks: &mut [Mark], asides: &[Aside])
     requires marks { length marks.old ≡ length numbers.old }
     requires asides { length asides.now ≡ length numbers.old }
     requires same { HaveSums numbers.old asides.now }
-    ensures maps { (m : Maps) (arms : List Maps) → AreAside m arms asides.now → IsBounded m arms → maps numbers.new marks.new ≡ joined_arms m arms }
-    ensures widths { (m : Maps) (arms : List Maps) → AreAside m arms asides.now → HaveMarks numbers.new marks.new }
+    ensures maps { (m : Maps) (arms : List Maps) → AreAside m arms asides.now → IsBounded m arms
+        → maps numbers.new marks.new ≡ joined_arms m arms }
+    ensures widths { (m : Maps) (arms : List Maps) → AreAside m arms asides.now
+        → HaveMarks numbers.new marks.new }
 {
     join_marks(numbers, marks, asides);
     join_numbers(numbers, asides);

@@ -19,7 +19,8 @@ pub(crate) fn ones(low: u8, high: u8) -> u128
 
 /// The digits of `new` in the places of a mask, and those of `old` in all others.
 fn merged_digits(mask: u128, new: u128, old: u128) -> u128
-    ensures { (k : ℕ) → is_one_at result k ≡ cond (is_one_at mask k) (is_one_at new k) (is_one_at old k) }
+    ensures { (k : ℕ) → is_one_at result k
+        ≡ cond (is_one_at mask k) (is_one_at new k) (is_one_at old k) }
 {
     (mask & new) | (old & (old ^ mask))
 }
@@ -27,8 +28,10 @@ fn merged_digits(mask: u128, new: u128, old: u128) -> u128
 /// The bits of `new` in the places of a mask, and those of `old` in all others.
 pub(crate) fn merged(mask: u128, new: Vec4, old: Vec4) -> Vec4
     requires { length new ≡ length old }
-    ensures bits { result ≡ tabulate (length old) (λ k. cond (is_one_at mask k) (slice_index_or new k X) (slice_index_or old k X)) }
-    ensures at { (k : ℕ) → slice_index_or result k X ≡ cond (is_one_at mask k) (slice_index_or new k X) (slice_index_or old k X) }
+    ensures bits { result ≡ tabulate (length old)
+        (λ k. cond (is_one_at mask k) (slice_index_or new k X) (slice_index_or old k X)) }
+    ensures at { (k : ℕ) → slice_index_or result k X
+        ≡ cond (is_one_at mask k) (slice_index_or new k X) (slice_index_or old k X) }
     ensures width { length result ≡ length old }
 {
     let val = merged_digits(mask, new.val_digits(), old.val_digits());

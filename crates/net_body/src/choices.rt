@@ -53,7 +53,8 @@ pub(crate) fn item_meets(
     fill: Fill,
     numbers: &[Vec4],
 ) -> bool
-    requires expressions { All (λ label. IsExpression design.now.signals.items (tree label)) labels.now }
+    requires expressions { All (λ label. IsExpression design.now.signals.items (tree label))
+        labels.now }
     requires widths { All (λ label. label.width ≡ length selector) labels.now }
     requires stored { AreStored design.now.signals.items numbers.now }
     ensures { result ≡ some_meets fill (store numbers.now) kind selector (map tree labels.now) }
@@ -72,7 +73,8 @@ pub(crate) fn chosen_body<'a>(
 ) -> Option<&'a [Act]>
     requires matched { AreMatched design.now.signals.items (length selector) items.now }
     requires stored { AreStored design.now.signals.items numbers.now }
-    ensures { option_map (λ body. body_of (map action body.now)) result ≡ chosen_body fill (store numbers.now) kind selector (branches_of items.now) }
+    ensures { option_map (λ body. body_of (map action body.now)) result
+        ≡ chosen_body fill (store numbers.now) kind selector (branches_of items.now) }
 {
     for item in items {
         if item_meets(design, kind, selector, &item.labels, fill, numbers) {

@@ -23,7 +23,8 @@ fn store_bits(signals: &[Signal], signal: SigId, at: u8, bits: Vec4, numbers: &m
     requires there { signal.0 < length signals.now }
     requires inside { at + length bits ≤ width_in signals.now signal.0 }
     requires stored { AreStored signals.now numbers.old }
-    ensures numbers { store numbers.new ≡ written (store numbers.old) (record { signal = signal.0; at = at; bits = bits }) }
+    ensures numbers { store numbers.new
+        ≡ written (store numbers.old) (record { signal = signal.0; at = at; bits = bits }) }
     ensures stored { AreStored signals.now numbers.new }
 {
     let place = signal.0 as usize;
@@ -65,11 +66,14 @@ pub(crate) fn connect(
     entries: &mut [Entry],
 )
     requires some { (i : ℕ) → i < length signals.now → 1 ≤ width_in signals.now i }
-    requires selected { All (λ part. IsSelection signals.now part.signal.0 (selection part.select)) parts.now }
+    requires selected { All (λ part. IsSelection signals.now part.signal.0 (selection part.select))
+        parts.now }
     requires covered { counts (width_in signals.now) (map piece parts.now) ≤ length value }
     requires stored { AreStored signals.now numbers.old }
     requires room { length parts.now ≤ length entries.old }
-    ensures numbers { store numbers.new ≡ all_written (store numbers.old) (digit_writes (width_in signals.now) fill (store numbers.old) (map piece parts.now) value) }
+    ensures numbers { store numbers.new
+        ≡ all_written (store numbers.old)
+        (digit_writes (width_in signals.now) fill (store numbers.old) (map piece parts.now) value) }
     ensures stored { AreStored signals.now numbers.new }
 {
     prepare(signals, parts, value, fill, numbers, entries);

@@ -45,7 +45,8 @@ fn count_of(signals: &[Signal], signal: SigId, select: &Select) -> u8
 
 /// How many bits a target has.
 fn counts(signals: &[Signal], parts: &[TargetPart]) -> u8
-    requires selected { All (λ part. IsSelection signals.now part.signal.0 (selection part.select)) parts.now }
+    requires selected { All (λ part. IsSelection signals.now part.signal.0 (selection part.select))
+        parts.now }
     requires at_most { counts (width_in signals.now) (map piece parts.now) ≤ 128 }
     ensures { result ≡ counts (width_in signals.now) (map piece parts.now) }
 {
@@ -67,9 +68,14 @@ fn entry_of(
 ) -> Entry
     requires some { (i : ℕ) → i < length signals.now → 1 ≤ width_in signals.now i }
     requires selected { IsSelection signals.now part.now.signal.0 (selection part.now.select) }
-    requires inside { at + count_of (width_in signals.now) part.now.signal.0 (selection part.now.select) ≤ length value }
+    requires inside { at + count_of (width_in signals.now) part.now.signal.0
+        (selection part.now.select) ≤ length value }
     requires stored { AreStored signals.now numbers.now }
-    ensures writes { entry_writes result ≡ write_at part.now.signal.0 (span_by (width_in signals.now) fill (store numbers.now) part.now.signal.0 (selection part.now.select)) (selected at (count_of (width_in signals.now) part.now.signal.0 (selection part.now.select)) value) }
+    ensures writes { entry_writes result
+        ≡ write_at part.now.signal.0 (span_by (width_in signals.now) fill
+        (store numbers.now) part.now.signal.0 (selection part.now.select))
+        (selected at (count_of (width_in signals.now) part.now.signal.0 (selection part.now.select))
+        value) }
     ensures inside { All (IsInside signals.now) (entry_writes result) }
 {
     let count = count_of(signals, part.signal, &part.select);
@@ -90,11 +96,13 @@ pub(crate) fn prepare(
     entries: &mut [Entry],
 )
     requires some { (i : ℕ) → i < length signals.now → 1 ≤ width_in signals.now i }
-    requires selected { All (λ part. IsSelection signals.now part.signal.0 (selection part.select)) parts.now }
+    requires selected { All (λ part. IsSelection signals.now part.signal.0 (selection part.select))
+        parts.now }
     requires covered { counts (width_in signals.now) (map piece parts.now) ≤ length value }
     requires stored { AreStored signals.now numbers.now }
     requires room { length parts.now ≤ length entries.old }
-    ensures writes { all_writes (take (length parts.now) entries.new) ≡ digit_writes (width_in signals.now) fill (store numbers.now) (map piece parts.now) value }
+    ensures writes { all_writes (take (length parts.now) entries.new)
+        ≡ digit_writes (width_in signals.now) fill (store numbers.now) (map piece parts.now) value }
     ensures inside { All (IsInside signals.now) (all_writes (take (length parts.now) entries.new)) }
 {
     let mut left = counts(signals, parts);
@@ -114,7 +122,8 @@ fn write_entry(
 )
     requires inside { All (IsInside signals.now) (entry_writes entry) }
     requires kept { AreKept signals.now numbers.old marks.old }
-    ensures maps { maps numbers.new marks.new ≡ write_each delayed (maps numbers.old marks.old) (entry_writes entry) }
+    ensures maps { maps numbers.new marks.new
+        ≡ write_each delayed (maps numbers.old marks.old) (entry_writes entry) }
     ensures kept { AreKept signals.now numbers.new marks.new }
 {
     if let Some(span) = entry.span {
@@ -140,7 +149,8 @@ fn write_entries(
 )
     requires inside { All (IsInside signals.now) (all_writes entries.now) }
     requires kept { AreKept signals.now numbers.old marks.old }
-    ensures maps { maps numbers.new marks.new ≡ write_each delayed (maps numbers.old marks.old) (all_writes entries.now) }
+    ensures maps { maps numbers.new marks.new
+        ≡ write_each delayed (maps numbers.old marks.old) (all_writes entries.now) }
     ensures kept { AreKept signals.now numbers.new marks.new }
 {
     for entry in entries {
@@ -160,11 +170,14 @@ pub(crate) fn assign(
     entries: &mut [Entry],
 )
     requires some { (i : ℕ) → i < length signals.now → 1 ≤ width_in signals.now i }
-    requires selected { All (λ part. IsSelection signals.now part.signal.0 (selection part.select)) parts.now }
+    requires selected { All (λ part. IsSelection signals.now part.signal.0 (selection part.select))
+        parts.now }
     requires covered { counts (width_in signals.now) (map piece parts.now) ≤ length value }
     requires kept { AreKept signals.now numbers.old marks.old }
     requires room { 128 ≤ length entries.old }
-    ensures maps { maps numbers.new marks.new ≡ write_each delayed (maps numbers.old marks.old) (digit_writes (width_in signals.now) fill (store numbers.old) (map piece parts.now) value) }
+    ensures maps { maps numbers.new marks.new
+        ≡ write_each delayed (maps numbers.old marks.old)
+        (digit_writes (width_in signals.now) fill (store numbers.old) (map piece parts.now) value) }
     ensures kept { AreKept signals.now numbers.new marks.new }
 {
     let _ = value.width();

@@ -42,7 +42,12 @@ fn fill_part(
 )
     requires there { part.now.signal.0 < length design.now.signals.items }
     requires kept { AreKept design.now.signals.items numbers.old marks.old }
-    ensures maps { maps numbers.new marks.new ≡ filled_case fill (λ i k. not delayed && may_select (width_in design.now.signals.items) part.now.signal.0 (selection part.now.select) i k) (λ i k. delayed && may_select (width_in design.now.signals.items) part.now.signal.0 (selection part.now.select) i k) (maps numbers.old marks.old) }
+    ensures maps { maps numbers.new marks.new
+        ≡ filled_case fill (λ i k. not delayed
+        && may_select (width_in design.now.signals.items) part.now.signal.0
+        (selection part.now.select) i k)
+        (λ i k. delayed && may_select (width_in design.now.signals.items) part.now.signal.0
+        (selection part.now.select) i k) (maps numbers.old marks.old) }
     ensures kept { AreKept design.now.signals.items numbers.new marks.new }
 {
     let row = selected(design, part.signal, &part.select);
@@ -70,7 +75,11 @@ fn fill_parts(
 )
     requires there { All (λ part. part.signal.0 < length design.now.signals.items) parts.now }
     requires kept { AreKept design.now.signals.items numbers.old marks.old }
-    ensures maps { maps numbers.new marks.new ≡ filled_case fill (λ i k. not delayed && may_target (width_in design.now.signals.items) (map piece parts.now) i k) (λ i k. delayed && may_target (width_in design.now.signals.items) (map piece parts.now) i k) (maps numbers.old marks.old) }
+    ensures maps { maps numbers.new marks.new
+        ≡ filled_case fill (λ i k. not delayed
+        && may_target (width_in design.now.signals.items) (map piece parts.now) i k)
+        (λ i k. delayed && may_target (width_in design.now.signals.items) (map piece parts.now) i k)
+        (maps numbers.old marks.old) }
     ensures kept { AreKept design.now.signals.items numbers.new marks.new }
 {
     for part in parts {
@@ -83,7 +92,11 @@ fn fill_parts(
 fn fill_all(design: &Design, acts: &[Act], fill: Fill, numbers: &mut [Vec4], marks: &mut [Mark])
     requires body { IsBody design.now.signals.items (body_of (map action acts.now)) }
     requires kept { AreKept design.now.signals.items numbers.old marks.old }
-    ensures maps { maps numbers.new marks.new ≡ filled_case fill (may_write_blocking (body_flow (width_in design.now.signals.items) (body_of (map action acts.now)))) (may_write_delayed (body_flow (width_in design.now.signals.items) (body_of (map action acts.now)))) (maps numbers.old marks.old) }
+    ensures maps { maps numbers.new marks.new
+        ≡ filled_case fill (may_write_blocking
+        (body_flow (width_in design.now.signals.items) (body_of (map action acts.now))))
+        (may_write_delayed (body_flow (width_in design.now.signals.items)
+        (body_of (map action acts.now)))) (maps numbers.old marks.old) }
     ensures kept { AreKept design.now.signals.items numbers.new marks.new }
 {
     for act in acts {
@@ -96,7 +109,11 @@ fn fill_all(design: &Design, acts: &[Act], fill: Fill, numbers: &mut [Vec4], mar
 fn fill_one(design: &Design, act: &Act, fill: Fill, numbers: &mut [Vec4], marks: &mut [Mark])
     requires act { IsAction design.now.signals.items (action act.now) }
     requires kept { AreKept design.now.signals.items numbers.old marks.old }
-    ensures maps { maps numbers.new marks.new ≡ filled_case fill (may_write_blocking (action_then (width_in design.now.signals.items) (action act.now) End)) (may_write_delayed (action_then (width_in design.now.signals.items) (action act.now) End)) (maps numbers.old marks.old) }
+    ensures maps { maps numbers.new marks.new
+        ≡ filled_case fill (may_write_blocking
+        (action_then (width_in design.now.signals.items) (action act.now) End))
+        (may_write_delayed (action_then (width_in design.now.signals.items) (action act.now) End))
+        (maps numbers.old marks.old) }
     ensures kept { AreKept design.now.signals.items numbers.new marks.new }
 {
     match act {
@@ -142,7 +159,11 @@ fn fill_other(
 )
     requires body { IsOtherwise design.now.signals.items (other_of body.now) }
     requires kept { AreKept design.now.signals.items numbers.old marks.old }
-    ensures maps { maps numbers.new marks.new ≡ filled_case fill (may_write_blocking (other_flow (width_in design.now.signals.items) (other_of body.now))) (may_write_delayed (other_flow (width_in design.now.signals.items) (other_of body.now))) (maps numbers.old marks.old) }
+    ensures maps { maps numbers.new marks.new
+        ≡ filled_case fill (may_write_blocking
+        (other_flow (width_in design.now.signals.items) (other_of body.now)))
+        (may_write_delayed (other_flow (width_in design.now.signals.items) (other_of body.now)))
+        (maps numbers.old marks.old) }
     ensures kept { AreKept design.now.signals.items numbers.new marks.new }
 {
     match body {
@@ -162,7 +183,10 @@ fn fill_items(
 )
     requires bodies { AreBodies design.now.signals.items (branches_of items.now) }
     requires kept { AreKept design.now.signals.items numbers.old marks.old }
-    ensures maps { maps numbers.new marks.new ≡ filled_case fill (items_now (width_in design.now.signals.items) (branches_of items.now)) (items_late (width_in design.now.signals.items) (branches_of items.now)) (maps numbers.old marks.old) }
+    ensures maps { maps numbers.new marks.new
+        ≡ filled_case fill (items_now (width_in design.now.signals.items) (branches_of items.now))
+        (items_late (width_in design.now.signals.items) (branches_of items.now))
+        (maps numbers.old marks.old) }
     ensures kept { AreKept design.now.signals.items numbers.new marks.new }
 {
     for item in items {
@@ -181,7 +205,10 @@ pub(crate) fn fill_if(
 )
     requires bodies { AreBodies design.now.signals.items (branches_of items.now) }
     requires kept { AreKept design.now.signals.items numbers.old marks.old }
-    ensures maps { maps numbers.new marks.new ≡ cond full (filled_case fill (items_now (width_in design.now.signals.items) (branches_of items.now)) (items_late (width_in design.now.signals.items) (branches_of items.now)) (maps numbers.old marks.old)) (maps numbers.old marks.old) }
+    ensures maps { maps numbers.new marks.new
+        ≡ cond full (filled_case fill (items_now (width_in design.now.signals.items)
+        (branches_of items.now)) (items_late (width_in design.now.signals.items)
+        (branches_of items.now)) (maps numbers.old marks.old)) (maps numbers.old marks.old) }
     ensures kept { AreKept design.now.signals.items numbers.new marks.new }
 {
     if full {

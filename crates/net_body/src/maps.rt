@@ -48,9 +48,12 @@ pub struct Maps<'d> {
 /// Marks in which nothing is written.
 fn clear_marks(alloc: Global, numbers: &[Vec4]) -> Result<Vec<Mark>, Memory>
     ensures count { IfOk result (λ marks. length marks.items ≡ length numbers.now) }
-    ensures next { IfOk result (λ marks. (i k : ℕ) → view_at next_bit (λ j. None) marks.items i k ≡ None) }
-    ensures wrote { IfOk result (λ marks. (i k : ℕ) → view_at (λ mark. is_one_at mark.wrote) (λ j. false) marks.items i k ≡ false) }
-    ensures late { IfOk result (λ marks. (i k : ℕ) → view_at (λ mark. is_one_at mark.late) (λ j. false) marks.items i k ≡ false) }
+    ensures next { IfOk result (λ marks. (i k : ℕ) → view_at next_bit (λ j. None) marks.items i k
+        ≡ None) }
+    ensures wrote { IfOk result (λ marks. (i k : ℕ)
+        → view_at (λ mark. is_one_at mark.wrote) (λ j. false) marks.items i k ≡ false) }
+    ensures late { IfOk result (λ marks. (i k : ℕ)
+        → view_at (λ mark. is_one_at mark.late) (λ j. false) marks.items i k ≡ false) }
     ensures widths { IfOk result (λ marks. HaveMarks numbers.now marks.items) }
 {
     let mut marks = Vec::new(alloc);
@@ -87,8 +90,12 @@ fn run_body(
     requires kept { AreKept design.now.signals.items numbers.old marks.old }
     requires clear { maps numbers.old marks.old ≡ first_maps (store numbers.old) }
     requires entries { 128 ≤ length entries.old }
-    requires room { levels_of (body_of (map action body.now)) * length design.now.signals.items ≤ length room.old }
-    ensures numbers { (i : ℕ) → store numbers.new i ≡ tabulate (width_in design.now.signals.items i) (λ k. block_bit (width_in design.now.signals.items) fill (store numbers.old) (body_of (map action body.now)) i k) }
+    requires room { levels_of (body_of (map action body.now)) * length design.now.signals.items
+        ≤ length room.old }
+    ensures numbers { (i : ℕ) → store numbers.new i
+        ≡ tabulate (width_in design.now.signals.items i)
+        (λ k. block_bit (width_in design.now.signals.items) fill (store numbers.old)
+        (body_of (map action body.now)) i k) }
     ensures kept { AreKept design.now.signals.items numbers.new marks.new }
     ensures clear { maps numbers.new marks.new ≡ first_maps (store numbers.new) }
 {
@@ -139,7 +146,9 @@ impl<'d> Maps<'d> {
         ensures ready { IfOk result (λ m. IsReady m) }
         ensures numbers { IfOk result (λ m. m.numbers.items ≡ numbers.items) }
         ensures design { IfOk result (λ m. m.design.now ≡ design.now) }
-        ensures room { IfOk result (λ m. All (λ process. process_levels (doing process.does) * length design.now.signals.items ≤ length m.room.items) design.now.processes.items) }
+        ensures room { IfOk result (λ m.
+            All (λ process. process_levels (doing process.does) * length design.now.signals.items
+            ≤ length m.room.items) design.now.processes.items) }
     {
         let marks = clear_marks(alloc, &numbers)?;
         let filler = Vec4::of_bit(Bit::Zero);
@@ -173,7 +182,8 @@ impl<'d> Maps<'d> {
         requires ready { IsReady self.old }
         requires there { signal.0 < length self.old.design.now.signals.items }
         requires width { length number ≡ width_in self.old.design.now.signals.items signal.0 }
-        ensures numbers { store self.new.numbers.items ≡ put (store self.old.numbers.items) signal.0 number }
+        ensures numbers { store self.new.numbers.items
+            ≡ put (store self.old.numbers.items) signal.0 number }
         ensures ready { IsReady self.new }
         ensures design { self.new.design ≡ self.old.design }
         ensures room { length self.new.room.items ≡ length self.old.room.items }
@@ -185,8 +195,16 @@ impl<'d> Maps<'d> {
     /// Gives the target of a continuous assignment its expression's number. It takes no memory.
     pub fn drive(&mut self, target: &Target, value: &SizedExpr, fill: Fill)
         requires ready { IsReady self.old }
-        requires assignment { IsProcess self.old.design.now.signals.items (Assign (map piece target.now.parts.items) (tree value.now)) }
-        ensures numbers { (i : ℕ) → store self.new.numbers.items i ≡ tabulate (width_in self.old.design.now.signals.items i) (λ k. cond (may_target (width_in self.old.design.now.signals.items) (map piece target.now.parts.items) i k) (bit (driven (width_in self.old.design.now.signals.items) (map piece target.now.parts.items) (digits fill (store self.old.numbers.items) (tree value.now))) i k) (bit (store self.old.numbers.items) i k)) }
+        requires assignment { IsProcess self.old.design.now.signals.items
+            (Assign (map piece target.now.parts.items) (tree value.now)) }
+        ensures numbers { (i : ℕ) → store self.new.numbers.items i
+            ≡ tabulate (width_in self.old.design.now.signals.items i)
+            (λ k. cond (may_target (width_in self.old.design.now.signals.items)
+            (map piece target.now.parts.items) i k)
+            (bit (driven (width_in self.old.design.now.signals.items)
+            (map piece target.now.parts.items)
+            (digits fill (store self.old.numbers.items) (tree value.now))) i k)
+            (bit (store self.old.numbers.items) i k)) }
         ensures ready { IsReady self.new }
         ensures design { self.new.design ≡ self.old.design }
         ensures room { length self.new.room.items ≡ length self.old.room.items }
@@ -207,7 +225,10 @@ impl<'d> Maps<'d> {
         requires ready { IsReady self.old }
         requires body { IsBody self.old.design.now.signals.items (body_of (map action body.now)) }
         requires room { HasRoom self.old (body_of (map action body.now)) }
-        ensures numbers { (i : ℕ) → store self.new.numbers.items i ≡ tabulate (width_in self.old.design.now.signals.items i) (λ k. block_bit (width_in self.old.design.now.signals.items) fill (store self.old.numbers.items) (body_of (map action body.now)) i k) }
+        ensures numbers { (i : ℕ) → store self.new.numbers.items i
+            ≡ tabulate (width_in self.old.design.now.signals.items i)
+            (λ k. block_bit (width_in self.old.design.now.signals.items) fill
+            (store self.old.numbers.items) (body_of (map action body.now)) i k) }
         ensures ready { IsReady self.new }
         ensures design { self.new.design ≡ self.old.design }
         ensures room { length self.new.room.items ≡ length self.old.room.items }

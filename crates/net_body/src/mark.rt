@@ -27,7 +27,8 @@ impl Mark {
         requires { at + count ≤ 128 }
         ensures next { result.next ≡ self.next }
         ensures has_next { result.has_next ≡ self.has_next }
-        ensures wrote { (k : ℕ) → is_one_at result.wrote k ≡ (is_over at count k || is_one_at self.wrote k) }
+        ensures wrote { (k : ℕ) → is_one_at result.wrote k
+            ≡ (is_over at count k || is_one_at self.wrote k) }
         ensures late { result.late ≡ self.late }
     {
         Mark {
@@ -41,9 +42,13 @@ impl Mark {
     /// The mark after bits are written for the end from a place on.
     pub(crate) fn with_next(self, at: u8, bits: Vec4) -> Mark
         requires { at + length bits ≤ length self.next }
-        ensures next { (k : ℕ) → next_bit result k ≡ cond (is_over at (length bits) k) (Some (slice_index_or bits (k - at) X)) (next_bit self k) }
-        ensures wrote { (k : ℕ) → is_one_at result.wrote k ≡ (is_over at (length bits) k || is_one_at self.wrote k) }
-        ensures late { (k : ℕ) → is_one_at result.late k ≡ (is_over at (length bits) k || is_one_at self.late k) }
+        ensures next { (k : ℕ) → next_bit result k
+            ≡ cond (is_over at (length bits) k) (Some (slice_index_or bits (k - at) X))
+            (next_bit self k) }
+        ensures wrote { (k : ℕ) → is_one_at result.wrote k
+            ≡ (is_over at (length bits) k || is_one_at self.wrote k) }
+        ensures late { (k : ℕ) → is_one_at result.late k
+            ≡ (is_over at (length bits) k || is_one_at self.late k) }
         ensures width { length result.next ≡ length self.next }
     {
         let width = self.next.width();
@@ -62,7 +67,8 @@ impl Mark {
     pub(crate) fn filled_now(self, mask: u128) -> Mark
         ensures next { result.next ≡ self.next }
         ensures has_next { result.has_next ≡ self.has_next }
-        ensures wrote { (k : ℕ) → is_one_at result.wrote k ≡ (is_one_at mask k || is_one_at self.wrote k) }
+        ensures wrote { (k : ℕ) → is_one_at result.wrote k
+            ≡ (is_one_at mask k || is_one_at self.wrote k) }
         ensures late { result.late ≡ self.late }
     {
         Mark {
@@ -76,9 +82,12 @@ impl Mark {
     /// The mark after the bits of a mask get a digit for the end.
     pub(crate) fn filled_next(self, mask: u128, bit: Bit) -> Mark
         requires { (k : ℕ) → is_one_at mask k ≡ true → k < length self.next }
-        ensures next { (k : ℕ) → next_bit result k ≡ cond (is_one_at mask k) (Some bit) (next_bit self k) }
-        ensures wrote { (k : ℕ) → is_one_at result.wrote k ≡ (is_one_at mask k || is_one_at self.wrote k) }
-        ensures late { (k : ℕ) → is_one_at result.late k ≡ (is_one_at mask k || is_one_at self.late k) }
+        ensures next { (k : ℕ) → next_bit result k
+            ≡ cond (is_one_at mask k) (Some bit) (next_bit self k) }
+        ensures wrote { (k : ℕ) → is_one_at result.wrote k
+            ≡ (is_one_at mask k || is_one_at self.wrote k) }
+        ensures late { (k : ℕ) → is_one_at result.late k
+            ≡ (is_one_at mask k || is_one_at self.late k) }
         ensures width { length result.next ≡ length self.next }
     {
         let filled = Vec4::filled(self.next.width(), bit);

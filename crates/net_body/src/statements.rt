@@ -40,8 +40,11 @@ pub(crate) fn run_all(
     requires body { IsBody design.now.signals.items (body_of (map action body.now)) }
     requires kept { AreKept design.now.signals.items numbers.old marks.old }
     requires entries { 128 ≤ length entries.old }
-    requires room { levels_of (body_of (map action body.now)) * length design.now.signals.items ≤ length room.old }
-    ensures maps { maps numbers.new marks.new ≡ acts (width_in design.now.signals.items) fill (maps numbers.old marks.old) (body_of (map action body.now)) }
+    requires room { levels_of (body_of (map action body.now)) * length design.now.signals.items
+        ≤ length room.old }
+    ensures maps { maps numbers.new marks.new
+        ≡ acts (width_in design.now.signals.items) fill (maps numbers.old marks.old)
+        (body_of (map action body.now)) }
     ensures kept { AreKept design.now.signals.items numbers.new marks.new }
 {
     for statement in body {
@@ -63,8 +66,11 @@ fn run(
     requires statement { IsAction design.now.signals.items (action statement.now) }
     requires kept { AreKept design.now.signals.items numbers.old marks.old }
     requires entries { 128 ≤ length entries.old }
-    requires room { levels (action statement.now) * length design.now.signals.items ≤ length room.old }
-    ensures maps { maps numbers.new marks.new ≡ act (width_in design.now.signals.items) fill (maps numbers.old marks.old) (action statement.now) }
+    requires room { levels (action statement.now) * length design.now.signals.items
+        ≤ length room.old }
+    ensures maps { maps numbers.new marks.new
+        ≡ act (width_in design.now.signals.items) fill (maps numbers.old marks.old)
+        (action statement.now) }
     ensures kept { AreKept design.now.signals.items numbers.new marks.new }
 {
     match statement {
@@ -127,8 +133,11 @@ fn run_other(
     requires body { IsOtherwise design.now.signals.items (other_of body.now) }
     requires kept { AreKept design.now.signals.items numbers.old marks.old }
     requires entries { 128 ≤ length entries.old }
-    requires room { other_levels (other_of body.now) * length design.now.signals.items ≤ length room.old }
-    ensures maps { maps numbers.new marks.new ≡ act_other (width_in design.now.signals.items) fill (maps numbers.old marks.old) (maps numbers.old marks.old) (other_of body.now) }
+    requires room { other_levels (other_of body.now) * length design.now.signals.items
+        ≤ length room.old }
+    ensures maps { maps numbers.new marks.new
+        ≡ act_other (width_in design.now.signals.items) fill (maps numbers.old marks.old)
+        (maps numbers.old marks.old) (other_of body.now) }
     ensures kept { AreKept design.now.signals.items numbers.new marks.new }
 {
     if let Some(body) = body {
@@ -154,12 +163,17 @@ fn run_case(
     room: &mut [Aside],
 )
     requires selector { IsExpression design.now.signals.items (tree selector.now) }
-    requires branches { AreBranches design.now.signals.items (tree selector.now) (branches_of items.now) }
+    requires branches { AreBranches design.now.signals.items (tree selector.now)
+        (branches_of items.now) }
     requires fallback { IsOtherwise design.now.signals.items (other_of fallback.now) }
     requires kept { AreKept design.now.signals.items numbers.old marks.old }
     requires entries { 128 ≤ length entries.old }
-    requires room { max (cond parallel 1 0 + branch_levels (branches_of items.now)) (other_levels (other_of fallback.now)) * length design.now.signals.items ≤ length room.old }
-    ensures maps { (spot : Spot) → maps numbers.new marks.new ≡ act (width_in design.now.signals.items) fill (maps numbers.old marks.old) (Case kind full parallel (tree selector.now) (branches_of items.now) (other_of fallback.now) spot) }
+    requires room { max (cond parallel 1 0 + branch_levels (branches_of items.now))
+        (other_levels (other_of fallback.now)) * length design.now.signals.items ≤ length room.old }
+    ensures maps { (spot : Spot) → maps numbers.new marks.new
+        ≡ act (width_in design.now.signals.items) fill (maps numbers.old marks.old)
+        (Case kind full parallel (tree selector.now) (branches_of items.now)
+        (other_of fallback.now) spot) }
     ensures kept { AreKept design.now.signals.items numbers.new marks.new }
 {
     let bits = evaluate(design, selector, fill, numbers);
@@ -196,8 +210,11 @@ fn run_none(
     requires fallback { IsOtherwise design.now.signals.items (other_of fallback.now) }
     requires kept { AreKept design.now.signals.items numbers.old marks.old }
     requires entries { 128 ≤ length entries.old }
-    requires room { other_levels (other_of fallback.now) * length design.now.signals.items ≤ length room.old }
-    ensures maps { maps numbers.new marks.new ≡ none_runs (width_in design.now.signals.items) fill full (branches_of items.now) (other_of fallback.now) (maps numbers.old marks.old) }
+    requires room { other_levels (other_of fallback.now) * length design.now.signals.items
+        ≤ length room.old }
+    ensures maps { maps numbers.new marks.new
+        ≡ none_runs (width_in design.now.signals.items) fill full (branches_of items.now)
+        (other_of fallback.now) (maps numbers.old marks.old) }
     ensures kept { AreKept design.now.signals.items numbers.new marks.new }
 {
     match fallback {
@@ -223,8 +240,12 @@ fn run_arms(
     requires bodies { AreBodies design.now.signals.items (branches_of items.now) }
     requires kept { AreKept design.now.signals.items numbers.old marks.old }
     requires entries { 128 ≤ length entries.old }
-    requires room { (1 + branch_levels (branches_of items.now)) * length design.now.signals.items ≤ length room.old }
-    ensures maps { maps numbers.new marks.new ≡ joined_arms (maps numbers.old marks.old) (act_arms (width_in design.now.signals.items) fill (maps numbers.old marks.old) kind selector (branches_of items.now)) }
+    requires room { (1 + branch_levels (branches_of items.now)) * length design.now.signals.items
+        ≤ length room.old }
+    ensures maps { maps numbers.new marks.new
+        ≡ joined_arms (maps numbers.old marks.old)
+        (act_arms (width_in design.now.signals.items) fill (maps numbers.old marks.old) kind
+        selector (branches_of items.now)) }
     ensures kept { AreKept design.now.signals.items numbers.new marks.new }
 {
     let count = numbers.len();
@@ -258,10 +279,14 @@ fn set(
     marks: &mut [Mark],
     entries: &mut [Entry],
 )
-    requires assignment { IsAssignment design.now.signals.items Var (map piece parts.now) (tree value.now) }
+    requires assignment { IsAssignment design.now.signals.items Var (map piece parts.now)
+        (tree value.now) }
     requires kept { AreKept design.now.signals.items numbers.old marks.old }
     requires entries { 128 ≤ length entries.old }
-    ensures maps { maps numbers.new marks.new ≡ write_each delayed (maps numbers.old marks.old) (digit_writes (width_in design.now.signals.items) fill (store numbers.old) (map piece parts.now) (digits fill (store numbers.old) (tree value.now))) }
+    ensures maps { maps numbers.new marks.new
+        ≡ write_each delayed (maps numbers.old marks.old)
+        (digit_writes (width_in design.now.signals.items) fill (store numbers.old)
+        (map piece parts.now) (digits fill (store numbers.old) (tree value.now))) }
     ensures kept { AreKept design.now.signals.items numbers.new marks.new }
 {
     let bits = evaluate(design, value, fill, numbers);

@@ -23,7 +23,11 @@ pub(crate) fn write(
     requires there { signal.0 < length signals.now }
     requires inside { at + length bits ≤ width_in signals.now signal.0 }
     requires kept { AreKept signals.now numbers.old marks.old }
-    ensures maps { maps numbers.new marks.new ≡ cond delayed (write_next (maps numbers.old marks.old) (record { signal = signal.0; at = at; bits = bits })) (write_now (maps numbers.old marks.old) (record { signal = signal.0; at = at; bits = bits })) }
+    ensures maps { maps numbers.new marks.new
+        ≡ cond delayed (write_next (maps numbers.old marks.old)
+        (record { signal = signal.0; at = at; bits = bits }))
+        (write_now (maps numbers.old marks.old)
+        (record { signal = signal.0; at = at; bits = bits })) }
     ensures kept { AreKept signals.now numbers.new marks.new }
 {
     let place = signal.0 as usize;

@@ -38,7 +38,8 @@ pub fn some_meet(
     fill: Fill,
     numbers: &[Vec4],
 ) -> bool
-    requires sized { All (λ label. IsSized (length numbers.now) (widths numbers.now) (tree label)) labels.now }
+    requires sized { All (λ label. IsSized (length numbers.now) (widths numbers.now) (tree label))
+        labels.now }
     requires widths { All (λ label. length selector ≡ label.width) labels.now }
     ensures { result ≡ some_meets fill (store numbers.now) kind selector (map tree labels.now) }
 {

@@ -24,7 +24,9 @@ use rtl_flat::expr::{Index, Select, SizedExpr};
 fn known_number(index: &SizedExpr, fill: Fill, numbers: &[Vec4]) -> Vec4
     requires { IsSized (length numbers.now) (widths numbers.now) (tree index.now) }
     ensures known { has_unknown result ≡ false }
-    ensures number { (signed : Bool) → index_number signed result ≡ index_number signed (digits fill (store numbers.now) (tree index.now)) }
+    ensures number { (signed : Bool)
+        → index_number signed result ≡ index_number signed
+        (digits fill (store numbers.now) (tree index.now)) }
 {
     filled(number(index, fill, numbers), Fill::Zero)
 }
@@ -39,8 +41,11 @@ fn one_bit(place: Option<u8>) -> Option<Span>
 /// The bits that are selected of a signal by a part of a target; none where an index is outside.
 #[tactic(auto, using(crate::proofs::Selected::read_below))]
 pub fn span(part: &TargetPart, fill: Fill, numbers: &[Vec4]) -> Option<Span>
-    requires { IsSized (length numbers.now) (widths numbers.now) (read part.now.signal.0 part.now.select) }
-    ensures { option_map span result ≡ span_by (widths numbers.now) fill (store numbers.now) part.now.signal.0 (selection part.now.select) }
+    requires { IsSized (length numbers.now) (widths numbers.now)
+        (read part.now.signal.0 part.now.select) }
+    ensures { option_map span result
+        ≡ span_by (widths numbers.now) fill (store numbers.now) part.now.signal.0
+        (selection part.now.select) }
 {
     let width = numbers[part.signal.0 as usize].width();
     match &part.select {

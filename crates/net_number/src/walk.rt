@@ -104,7 +104,8 @@ fn read_number(signal: SigId, select: &Select, fill: Fill, numbers: &[Vec4]) -> 
 /// The parts of a concatenation, the first of them highest.
 #[cycle(number)]
 fn concat_number(parts: &[SizedExpr], fill: Fill, numbers: &[Vec4]) -> Vec4
-    requires sized { IsSized (length numbers.now) (widths numbers.now) (beside (map tree parts.now)) }
+    requires sized { IsSized (length numbers.now) (widths numbers.now)
+        (beside (map tree parts.now)) }
     requires not_empty { 1 ≤ width_of (widths numbers.now) (beside (map tree parts.now)) }
     requires at_most { width_of (widths numbers.now) (beside (map tree parts.now)) ≤ 128 }
     ensures bits { result ≡ digits fill (store numbers.now) (beside (map tree parts.now)) }

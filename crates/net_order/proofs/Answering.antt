@@ -1,46 +1,29 @@
 -- The order of processes, from their depths.
-use Rattle.std.specs.Prelude.{Vec, unwrap_or}
+use Rattle.std.specs.Prelude.{Vec, ◌↔◌, unwrap_or}
 use Rattle.std.specs.declared.alloc.Global.{Global}
 use Rattle.std.proofs.Common.{ℕ, zero, suc, ◌≡◌, ◌<◌, arith, List, length, get_or, Option, Some, None, refl, ap, subst, inl, inr}
 use Rattle.std.specs.List.{slice_get}
-use Rattle.std.proofs.lemmas.Bool.{cases_lt}
+use Rattle.std.proofs.lemmas.Bool.{cases_lt, false≢true}
 use Rattle.std.proofs.lemmas.Option.{slice_get_within}
 use Rattle.rtl_flat.specs.declared.expr.SigId.{SigId}
 use Rattle.rtl_flat.specs.Levels.{Chain, HasNoEdge, Here, IsBehindCycle, IsDepth, IsLevelIn, IsNode, Then}
 use Rattle.rtl_flat.specs.Flats.{Flat}
+use Rattle.rtl_flat.specs.Paths.{ReadsOutside}
+use Rattle.rtl_flat.specs.PathSets.{OfProcess}
+use Rattle.check_found.specs.rtl_scan.declared.feeds.Waits.TheVariants.{Reads}
+use Rattle.check_found.specs.rtl_scan.Arrows.{AreArrows}
 use Rattle.check_found.specs.rtl_scan.Graph.{AreDepths, ArrowIn}
 use Rattle.net_solve.specs.Feeds.{IsFeed}
 use Rattle.net_solve.specs.Laws.{IsOrder, place}
-use Rattle.net_order.specs.Feeds.{AreFeeds, IsLeastOf, IsLost, IsRanked, depth_at}
+use Rattle.net_order.specs.Ranks.{IsLeastOf, IsLost, IsRanked, depth_at}
 use Rattle.net_order.specs.Order.{IsCyclic, IsLeastCyclic}
-use Rattle.net_order.proofs.Feeding.{out_of}
-
-chain_as : (A B : ℕ → ℕ → Type 0) → ((p q : ℕ) → A p q → B p q) → (n p q : ℕ) → Chain A n p q → Chain B n p q
-chain_as A B to zero p q (Here p') = Here p
-chain_as A B to (suc n) p q (Then n' p' x q' chain arrow) =
-    Then n p x q (chain_as A B to n p x chain) (to x q arrow)
-
-cycle_as : (A B : ℕ → ℕ → Type 0) → ((p q : ℕ) → A p q → B p q) → (p : ℕ) → IsBehindCycle A p → IsBehindCycle B p
-cycle_as A B to p is = record {
-  node = is.node;
-  round = is.round;
-  cycle = chain_as A B to (suc is.round) is.node is.node is.cycle;
-  length = is.length;
-  chain = chain_as A B to is.length is.node p is.chain;
-}
-
-depth_as : (A B : ℕ → ℕ → Type 0) → ((p q : ℕ) → A p q → B p q) → ((p q : ℕ) → B p q → A p q) → (p n : ℕ) → IsDepth A p n → IsDepth B p n
-depth_as A B to back p n is = record {
-  start = is.start;
-  chain = chain_as A B to n is.start p is.chain;
-  most = λ m q chain. is.most m q (chain_as B A back m q p chain);
-}
+use Rattle.check_found.proofs.rtl_scan_proofs.Feeding.{level_map, out_of}
 
 -- the last arrow of a chain
 last_arrow : (A : ℕ → ℕ → Type 0) (n p q : ℕ) → Chain A (suc n) p q → (x : ℕ) × Chain A n p x × A x q
 last_arrow A n p q (Then n' p' x q' chain arrow) = (x, chain, arrow)
 
-module _ (d : Flat) (rows there : List (Vec ℕ Global)) (same : there ≡ rows) (feeds : AreFeeds d.signals d.tasks rows) (depths : List (Option ℕ)) (are : AreDepths there depths) where
+module _ (d : Flat) (rows there : List (Vec ℕ Global)) (same : there ≡ rows) (feeds : AreArrows Reads d.signals d.tasks rows) (depths : List (Option ℕ)) (are : AreDepths there depths) where
   abbrev Feed : ℕ → ℕ → Type 0
   Feed = IsFeed d.signals d.tasks
 
@@ -54,27 +37,50 @@ module _ (d : Flat) (rows there : List (Vec ℕ Global)) (same : there ≡ rows)
       let count = feeds.same_length in
       omega (arith, below, count)
 
+  -- by a bit that one reads
+  feeds_by : (p q : ℕ) → ArrowIn rows p q ↔ Feed p q
+  feeds_by p q = (
+    λ h.
+        let a = (feeds.each p q).0 h in record {
+          «from» = a.«from»;
+          to = a.to;
+          signal = a.signal;
+          bit = a.bit;
+          written = a.written;
+          read = elim a.wanted as (λ _. OfProcess ReadsOutside d.signals d.tasks q a.signal a.bit) [
+            | inl reads ↦ reads
+            | inr (counts, other, lists) ↦ absurd (false≢true counts)
+          ];
+        },
+    λ a. (feeds.each p q).1 (record {
+      «from» = a.«from»;
+      to = a.to;
+      signal = a.signal;
+      bit = a.bit;
+      written = a.written;
+      wanted = inl a.read;
+    }),
+  )
+
   -- a node without a depth is on or behind a cycle, and another is not
-  level_in : (p : ℕ) → IsNode d.tasks p → IsLevelIn (ArrowIn rows) p (get_or depths p None)
-  level_in p node = as_rows.each p (inside p node)
+  level_in : (p : ℕ) → IsNode d.tasks p → IsLevelIn Feed p (get_or depths p None)
+  level_in p node = level_map (ArrowIn rows) Feed feeds_by p (get_or depths p None) (as_rows.each p (inside p node))
+
+  level_as : (p : ℕ) (o : Option ℕ) → IsNode d.tasks p → get_or depths p None ≡ o → IsLevelIn Feed p o
+  level_as p o node is = subst (λ (x : Option ℕ). IsLevelIn Feed p x) is (level_in p node)
 
   lost_behind : (p : ℕ) → IsNode d.tasks p → get_or depths p None ≡ None → IsBehindCycle Feed p
-  lost_behind p node none =
-      cycle_as (ArrowIn rows) Feed (λ a b. (feeds.each a b).0) p (subst (λ (o : Option ℕ). IsLevelIn (ArrowIn rows) p o) none (level_in p node))
+  lost_behind p node none = level_as p None node none
 
   behind_lost : (p : ℕ) → IsNode d.tasks p → IsBehindCycle Feed p → get_or depths p None ≡ None
   behind_lost p node behind = by (get_or depths p None) refl
     where
       by : (o : Option ℕ) → get_or depths p None ≡ o → o ≡ None
       by None is = refl
-      by (Some n) is =
-          absurd ((subst (λ (o : Option ℕ). IsLevelIn (ArrowIn rows) p o) is (level_in p node)).0
-          (cycle_as Feed (ArrowIn rows) (λ a b. (feeds.each a b).1) p behind))
+      by (Some n) is = absurd ((level_as p (Some n) node is).0 behind)
 
   has_depth : (p n : ℕ) → IsNode d.tasks p → get_or depths p None ≡ Some n → IsDepth Feed p n
-  has_depth p n node some =
-      depth_as (ArrowIn rows) Feed (λ a b. (feeds.each a b).0) (λ a b. (feeds.each a b).1) p n
-      (subst (λ (o : Option ℕ). IsLevelIn (ArrowIn rows) p o) some (level_in p node)).1
+  has_depth p n node some = (level_as p (Some n) node some).1
 
   -- a process behind a cycle is a node
   chain_node : (n p q : ℕ) → Chain Feed n p q → IsNode d.tasks p → IsNode d.tasks q

@@ -1,8 +1,5 @@
 pub mod Turns
 pub mod Joining
-pub mod Tabling
-pub mod Waiting
-pub mod Feeding
 pub mod Ranking
 pub mod Losing
 pub mod Answering

@@ -18,9 +18,9 @@ use Rattle.rtl_flat.specs.declared.act.ProcId.{ProcId}
 use Rattle.rtl_flat.specs.Levels.{HasNoEdge, IsNode}
 use Rattle.rtl_flat.specs.Process.{Task}
 use Rattle.net_order.specs.declared.rank.Placed.{Placed}
-use Rattle.net_order.specs.Feeds.{ArePlaced, In, IsRanked, depth_at}
+use Rattle.net_order.specs.Ranks.{ArePlaced, In, IsRanked, depth_at}
 use Rattle.net_solve.specs.Laws.{place}
-use Rattle.net_order.proofs.Feeding.{out_of}
+use Rattle.check_found.proofs.rtl_scan_proofs.Feeding.{out_of}
 use Rattle.net_order.proofs.Joining.{in_at, in_push}
 
 abbrev pub nothing : Placed

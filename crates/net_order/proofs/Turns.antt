@@ -1,28 +1,16 @@
--- The process that a loop looks at.
+-- Whether the process that a loop looks at has a place in the graph.
 use Rattle.std.specs.List.{slice_get}
-use Rattle.std.proofs.Common.{ℕ, zero, suc, ◌≡◌, ◌∙◌, ◌<◌, arith, Bool, true, false, List, [], ◌∷◌, length, get_or, Some, refl, sym}
+use Rattle.std.proofs.Common.{ℕ, ◌≡◌, ◌∙◌, ◌<◌, Bool, true, false, length, get_or, Some, refl, sym}
 use Rattle.std.proofs.lemmas.Bool.{false≢true}
 use Rattle.rtl_flat.specs.declared.act.Process.{Process}
 use Rattle.rtl_flat.specs.declared.design.Design.{Design}
 use Rattle.rtl_flat.specs.Levels.{HasNoEdge, IsNode}
-use Rattle.rtl_flat.specs.Process.{Task, doing, task}
+use Rattle.rtl_flat.specs.Process.{doing, task}
 use Rattle.rtl_flat.specs.Flats.{flat}
 use Rattle.check_found.specs.rtl_scan.Arrows.{is_node}
 use Rattle.check_found.proofs.rtl_scan_proofs.Processes.{back, there}
-use Rattle.check_found.proofs.Sites.{task_at, task_count}
-use Rattle.net_order.proofs.Feeding.{edge_node, node_edge}
-
-there_is : {A : Type 0} (xs : List A) (k : ℕ) → k < length xs → (x : A) × (slice_get xs k ≡ Some x)
-there_is [] k below = absurd (omega arith)
-there_is (x ∷ xs) zero below = (x, refl)
-there_is (x ∷ xs) (suc k) below = there_is xs k (omega arith)
-
-pub task_of : (design : Design) (k : ℕ) → k < length design.processes.items → (one : Task) × (slice_get (flat design).tasks k ≡ Some one)
-task_of design k below =
-    let count = task_count design in
-    there_is (flat design).tasks k (omega arith)
-
--- ---- whether it has a place in the graph
+use Rattle.check_found.proofs.Sites.{task_at}
+use Rattle.check_found.proofs.rtl_scan_proofs.Feeding.{edge_node, node_edge}
 
 module _ (design : Design) (n : ℕ) (x : Process) (below : n < length design.processes.items) (read : x ≡ get_or design.processes.items n x) where
   pub there_at : slice_get (flat design).tasks n ≡ Some (task x)

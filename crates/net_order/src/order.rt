@@ -4,8 +4,8 @@ ghost use Rattle.std.specs.Prelude.{IfOk};
 ghost use Rattle.rtl_flat.specs.Flats.{flat};
 ghost use Rattle.net_order.specs.Order.{IsRanking};
 
-use crate::feeds::arrows;
 use crate::rank::{lost, ranked};
+use check_found::rtl_scan::feeds::{Waits, arrows};
 use check_found::rtl_scan::graph::depths;
 use rtl_flat::act::ProcId;
 use rtl_flat::design::Design;
@@ -27,7 +27,7 @@ pub enum Ranking {
 pub fn order(alloc: Global, design: &Design) -> Result<Ranking, Memory>
     ensures { IfOk result (λ ranking. IsRanking (flat design.now) ranking) }
 {
-    let rows = arrows(alloc, design)?;
+    let rows = arrows(alloc, design, Waits::Reads)?;
     let depths = depths(alloc, &rows)?;
     match lost(alloc, design, &depths)? {
         Some(signal) => Ok(Ranking::Cyclic(signal)),

@@ -3,9 +3,9 @@
 ghost use Rattle.std.specs.Prelude.{◌≡◌, ◌<◌, ◌+◌, length, map, IfOk, OnOk};
 ghost use Rattle.rtl_flat.specs.declared.act.ProcId.{ProcId};
 ghost use Rattle.rtl_flat.specs.Flats.{flat};
-ghost use Rattle.net_order.specs.Feeds.{ArePlaced, IsLeastOf, IsLost, IsRanked, lesser_of};
+ghost use Rattle.net_order.specs.Ranks.{ArePlaced, IsLeastOf, IsLost, IsRanked, lesser_of};
 
-use crate::writers::is_node;
+use check_found::rtl_scan::feeds::is_node;
 use check_found::sets::first_written;
 use rtl_flat::act::ProcId;
 use rtl_flat::design::Design;

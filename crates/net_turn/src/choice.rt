@@ -71,7 +71,8 @@ fn active_branch<'a>(
     requires as_many { length tops.now ≡ length resets.now }
     requires tops { All (λ top. top.0 < length before.now) tops.now }
     ensures { option_map (λ branch. view_of branch.now) result
-        ≡ branch_of (active_of (numbers_with (store before.now) turn.now) (map guard_view resets.now)
+        ≡ branch_of (active_of (numbers_with (store before.now) turn.now)
+        (map guard_view resets.now)
         (numbers_of tops.now)) }
 {
     for place in 0..resets.len() {

@@ -1,4 +1,4 @@
--- The rows of the level graph, from what each process adds to them.
+-- The rows of who feeds whom, from what each process adds to them.
 use Rattle.std.proofs.Common.{ℕ, zero, suc, ◌≡◌, ◌∙◌, ◌<◌, ◌≤◌, ◌+◌, replicate, ◌^◌, arith, Bool, true, false, List, [], ◌∷◌, ◌++◌, map, length, get_or, Option, Some, None, refl, sym, ap, subst, inl, inr}
 use Rattle.std.specs.Prelude.{Vec, ◌⊎◌, ◌↔◌}
 use Rattle.std.specs.declared.alloc.Global.{Global}
@@ -10,57 +10,41 @@ use Rattle.std.proofs.lemmas.List.{length-append, get_or_append_left, get_or_pus
 use Rattle.rtl_flat.specs.declared.signal.Signal.{Signal}
 use Rattle.rtl_flat.specs.Signs.{width_in}
 use Rattle.rtl_flat.specs.Process.{Task, Doing, Assign, Comb, Edge', task, doing}
-use Rattle.rtl_flat.specs.Paths.{BitSet, MayWrite, ReadsOutside, may_write, reads_outside}
+use Rattle.rtl_flat.specs.Paths.{BitSet, Flow, MayWrite, ReadsOutside, may_write, reads_outside}
 use Rattle.rtl_flat.specs.Flows.{flow_of}
-use Rattle.rtl_flat.specs.PathSets.{OfProcess, listed}
+use Rattle.rtl_flat.specs.PathSets.{Lists, OfProcess, listed}
 use Rattle.rtl_flat.specs.Levels.{HasNoEdge, IsNode, IsArrow, Chain, Here, Then, IsBehindCycle, IsLevelIn, IsLevel}
 use Rattle.rtl_flat.proofs.Paths.{decided}
 use Rattle.rtl_flat.specs.declared.act.Process.{Process}
+use Rattle.rtl_flat.specs.declared.design.Design.{Design}
+use Rattle.rtl_flat.specs.Flats.{flat, widths}
 use Rattle.rtl_scan.proofs.Processes.{below_next, there, back, length-tasks}
 use Rattle.rtl_scan.specs.Graph.{row, ArrowIn, AreRows, AreDepths}
 use Rattle.rtl_scan.specs.declared.bits.Row.{Row}
 use Rattle.rtl_scan.specs.declared.arrows.Writer.{Writer}
 use Rattle.rtl_scan.specs.declared.arrows.Feeders.{Feeders}
+use Rattle.rtl_scan.specs.Accesses.{AreAccesses, AreOfEach}
 use Rattle.rtl_scan.specs.Sets.{has_rows}
-use Rattle.rtl_scan.specs.Arrows.{Among, InTable, Grows, IsNotedAt, MayCome, FedBy, AreSeen, Gathers, is_node, IsWriting, IsNoted, AreWriters, Waits, IsFed, AreFeeders, AreFed, AreArrows, level_of, AreKept, AreLevels}
-use Rattle.rtl_scan.proofs.Tables.{grows_none, grows_same, gathers_none, gathers_then, among_at}
-
-not_node : (b : Bool) → b ≡ false → b ≡ true → ⊥
-not_node true h e = cc
-not_node false h e = cc
+use Rattle.rtl_scan.specs.Arrows.{Among, InTable, Grows, MayCome, FedBy, AreSeen, Gathers, is_node, IsWriting, IsNoted, AreWriters, IsAwaited, IsFed, AreFeeders, AreFed, AreArrows, level_of, AreKept, AreLevels, AreAccessed, AreOf, IsFeeding, lists_count}
+use Rattle.rtl_scan.specs.declared.accesses.Accesses.{Accesses}
+use Rattle.rtl_scan.specs.declared.bits.Bits.{Bits}
+use Rattle.rtl_scan.specs.declared.feeds.Accessed.{Accessed}
+use Rattle.rtl_scan.specs.declared.feeds.Waits.{Waits}
+use Rattle.rtl_scan.specs.declared.feeds.Waits.TheVariants.{ReadsAndLists}
+use Rattle.rtl_scan.proofs.Tables.{gathers_then, among_at}
 
 module _ (ws : ℕ → ℕ) (task : Task) where
-  pub no_writes : (number : ℕ) (node : Bool) → node ≡ is_node task.does → node ≡ false → (table : List (Vec Writer Global)) → Grows (IsNoted ws task number) table table
-  no_writes number node is none table =
-      grows_none (IsNoted ws task number) table (λ p s k h. not_node node none (is ∙ h.0.0))
-
-  pub writes_noted : (number : ℕ) (node : Bool) → node ≡ is_node task.does → node ≡ true → (rows slice : List Row) → slice ≡ rows → ((s k : ℕ) → has_rows rows s k ≡ may_write (flow_of ws task.does) s k) → (old new : List (Vec Writer Global)) → Grows (IsNotedAt slice number) old new → Grows (IsNoted ws task number) old new
-  writes_noted number node is some rows slice there same old new grows =
-      grows_same (IsNotedAt slice number) (IsNoted ws task number) old new (λ p s k.
-      let at : has_rows slice s k ≡ may_write (flow_of ws task.does) s k
-      = ap (λ xs. has_rows xs s k) there ∙ same s k in (
-        λ i. ((sym is ∙ some, sym at ∙ i.0), i.1),
-        λ i. (at ∙ i.0.1, i.1),
-      )) grows
-
-  pub no_feeds : (table : List (Vec Writer Global)) (node : Bool) → node ≡ is_node task.does → node ≡ false → (found : Feeders) → Gathers (λ p. IsFed ws table p found.process task) found found
-  no_feeds table node is none found =
-      gathers_none (λ p. IsFed ws table p found.process task) found (λ p h. not_node node none (is ∙ h.0))
-
-  pub feeds_noted : (table : List (Vec Writer Global)) (node : Bool) → node ≡ is_node task.does → node ≡ true → (reads lists slice slice' : List Row) → slice ≡ reads → slice' ≡ lists → ((s k : ℕ) → has_rows reads s k ≡ reads_outside (flow_of ws task.does) s k) → ((s k : ℕ) → has_rows lists s k ≡ listed ws task.does s k) → (old mid new : Feeders) → Gathers (FedBy table (has_rows slice) true old.process) old mid → Gathers (FedBy table (has_rows slice') false mid.process) mid new → Gathers (λ p. IsFed ws table p old.process task) old new
-  feeds_noted table node is some reads lists slice slice' there there' sa sb old mid new one two =
-      let at : (s k : ℕ) → has_rows slice s k ≡ reads_outside (flow_of ws task.does) s k
-      = λ s k. ap (λ xs. has_rows xs s k) there ∙ sa s k in
-      let at' : (s k : ℕ) → has_rows slice' s k ≡ listed ws task.does s k
-      = λ s k. ap (λ xs. has_rows xs s k) there' ∙ sb s k in
-      gathers_then (FedBy table (has_rows slice) true old.process) (FedBy table (has_rows slice') false mid.process) (λ p. IsFed ws table p old.process task) old mid new (λ p. (
+  -- by what it reads, and by what it lists
+  pub feeds_noted : (waits : Waits) → lists_count waits ≡ true → (table : List (Vec Writer Global)) (node : Bool) → node ≡ is_node task.does → node ≡ true → (reads lists : List Row) → ((s k : ℕ) → has_rows reads s k ≡ reads_outside (flow_of ws task.does) s k) → ((s k : ℕ) → has_rows lists s k ≡ listed ws task.does s k) → (old mid new : Feeders) → Gathers (FedBy table (has_rows reads) true old.process) old mid → Gathers (FedBy table (has_rows lists) false mid.process) mid new → Gathers (λ p. IsFed waits ws table p old.process task) old new
+  feeds_noted waits counts table node is some reads lists at at' old mid new one two =
+      gathers_then (FedBy table (has_rows reads) true old.process) (FedBy table (has_rows lists) false mid.process) (λ p. IsFed waits ws table p old.process task) old mid new (λ p. (
         λ h. elim h [
           | inl ((s, k, bit, writes), come) ↦ (sym is ∙ some, inl (s, k, sym (at s k) ∙ bit, writes))
-          | inr ((s, k, bit, writes), come) ↦ (sym is ∙ some, inr ((s, k, sym (at' s k) ∙ bit, writes), λ e. apart mid.process p come (e ∙ sym one.same)))
+          | inr ((s, k, bit, writes), come) ↦ (sym is ∙ some, inr (counts, λ e. apart mid.process p come (e ∙ sym one.same), (s, k, sym (at' s k) ∙ bit, writes)))
         ],
         λ h. elim h.1 [
           | inl (s, k, bit, writes) ↦ inl ((s, k, at s k ∙ bit, writes), inl refl)
-          | inr ((s, k, bit, writes), other) ↦ inr ((s, k, at' s k ∙ bit, writes), inr (λ e. other (e ∙ one.same)))
+          | inr (counts', other, (s, k, bit, writes)) ↦ inr ((s, k, at' s k ∙ bit, writes), inr (λ e. other (e ∙ one.same)))
         ],
       )) one two
     where
@@ -69,14 +53,14 @@ module _ (ws : ℕ → ℕ) (task : Task) where
       apart q p (inr other) same = other same
 
   -- from none
-  pub feeders_are : (table : List (Vec Writer Global)) (number : ℕ) (old new : Feeders) → old.process ≡ number → old.row.items ≡ [] → Gathers (λ p. IsFed ws table p old.process task) old new → AreFeeders ws table task number old.seen.items new
-  feeders_are table number old new is empty h = record {
+  pub feeders_are : (waits : Waits) (table : List (Vec Writer Global)) (number : ℕ) (old new : Feeders) → old.process ≡ number → old.row.items ≡ [] → Gathers (λ p. IsFed waits ws table p old.process task) old new → AreFeeders waits ws table task number old.seen.items new
+  feeders_are waits table number old new is empty h = record {
     each = λ most p. (
       λ i. elim ((h.each (start most) p).0 i) [
         | inl was ↦ absurd (subst (λ (xs : List ℕ). Among xs p) empty was)
-        | inr fed ↦ subst (λ (q : ℕ). IsFed ws table p q task) is fed
+        | inr fed ↦ subst (λ (q : ℕ). IsFed waits ws table p q task) is fed
       ],
-      λ fed. (h.each (start most) p).1 (inr (subst (λ (q : ℕ). IsFed ws table p q task) (sym is) fed)),
+      λ fed. (h.each (start most) p).1 (inr (subst (λ (q : ℕ). IsFed waits ws table p q task) (sym is) fed)),
     );
     most = λ most p. subst (λ (q : ℕ). get_or new.seen.items p 0 ≤ q + 1) (h.same ∙ is) ((h.seen (start most)).most p);
   }
@@ -128,8 +112,8 @@ zeros_most zero x = omega arith
 zeros_most (suc n) zero = omega arith
 zeros_most (suc n) (suc x) = zeros_most n x
 
-pub fed_none : (ws : ℕ → ℕ) (tasks : List Task) (table : List (Vec Writer Global)) (rows : List (Vec ℕ Global)) (seen : List ℕ) (n : ℕ) → rows ≡ [] → seen ≡ replicate n 0 → AreFed ws tasks table 0 rows × ((p : ℕ) → get_or seen p 0 ≤ 0)
-fed_none ws tasks table rows seen n empty zeros = (
+pub fed_none : (waits : Waits) (ws : ℕ → ℕ) (tasks : List Task) (table : List (Vec Writer Global)) (rows : List (Vec ℕ Global)) (seen : List ℕ) (n : ℕ) → rows ≡ [] → seen ≡ replicate n 0 → AreFed waits ws tasks table 0 rows × ((p : ℕ) → get_or seen p 0 ≤ 0)
+fed_none waits ws tasks table rows seen n empty zeros = (
   record {
     each = λ p q. (
       λ h. absurd (subst (λ (t : List (Vec ℕ Global)). Among (row t q) p) empty h),
@@ -140,15 +124,15 @@ fed_none ws tasks table rows seen n empty zeros = (
   λ p. subst (λ (xs : List ℕ). get_or xs p 0 ≤ 0) (sym zeros) (zeros_most n p),
 )
 
-pub fed_more : (ws : ℕ → ℕ) (tasks : List Task) (table : List (Vec Writer Global)) (n : ℕ) (task : Task) → slice_get tasks n ≡ Some task → (old new : List (Vec ℕ Global)) (seen : List ℕ) (found : Feeders) → AreFed ws tasks table n old × ((p : ℕ) → get_or seen p 0 ≤ n) → AreFeeders ws table task n seen found → new ≡ old ++ found.row ∷ [] → AreFed ws tasks table (n + 1) new × ((p : ℕ) → get_or found.seen.items p 0 ≤ n + 1)
-fed_more ws tasks table n task at old new seen found (h, most) are pushed = (
+pub fed_more : (waits : Waits) (ws : ℕ → ℕ) (tasks : List Task) (table : List (Vec Writer Global)) (n : ℕ) (task : Task) → slice_get tasks n ≡ Some task → (old new : List (Vec ℕ Global)) (seen : List ℕ) (found : Feeders) → AreFed waits ws tasks table n old × ((p : ℕ) → get_or seen p 0 ≤ n) → AreFeeders waits ws table task n seen found → new ≡ old ++ found.row ∷ [] → AreFed waits ws tasks table (n + 1) new × ((p : ℕ) → get_or found.seen.items p 0 ≤ n + 1)
+fed_more waits ws tasks table n task at old new seen found (h, most) are pushed = (
   record {
     each = λ p q. elim (cases_eq q n) [
       | inl e ↦
           let is : row new q ≡ found.row.items
           = ap (λ t. row t q) pushed ∙ row_last old found.row q (e ∙ sym h.same_length) in (
-            λ i. (omega arith, subst (λ (j : ℕ). IsSomeAnd (slice_get tasks j) (IsFed ws table p j)) (sym e) (there (IsFed ws table p n) tasks n task at ((are.each most p).0 (subst (λ (xs : List ℕ). Among xs p) is i)))),
-            λ i. subst (λ (xs : List ℕ). Among xs p) (sym is) ((are.each most p).1 (back (IsFed ws table p n) tasks n n task at refl (subst (λ (j : ℕ). IsSomeAnd (slice_get tasks j) (IsFed ws table p j)) e i.1))),
+            λ i. (omega arith, subst (λ (j : ℕ). IsSomeAnd (slice_get tasks j) (IsFed waits ws table p j)) (sym e) (there (IsFed waits ws table p n) tasks n task at ((are.each most p).0 (subst (λ (xs : List ℕ). Among xs p) is i)))),
+            λ i. subst (λ (xs : List ℕ). Among xs p) (sym is) ((are.each most p).1 (back (IsFed waits ws table p n) tasks n n task at refl (subst (λ (j : ℕ). IsSomeAnd (slice_get tasks j) (IsFed waits ws table p j)) e i.1))),
           )
       | inr other ↦
           let is : row new q ≡ row old q
@@ -164,12 +148,12 @@ fed_more ws tasks table n task at old new seen found (h, most) are pushed = (
 
 -- ---- arrows
 
-edge_node : (does : Doing) → is_node does ≡ true → HasNoEdge does
+pub edge_node : (does : Doing) → is_node does ≡ true → HasNoEdge does
 edge_node (Assign target value) h = tt
 edge_node (Comb list body) h = tt
 edge_node (Edge' events body) h = cc
 
-node_edge : (does : Doing) → HasNoEdge does → is_node does ≡ true
+pub node_edge : (does : Doing) → HasNoEdge does → is_node does ≡ true
 node_edge (Assign target value) h = refl
 node_edge (Comb list body) h = refl
 node_edge (Edge' events body) h = absurd h
@@ -182,17 +166,17 @@ both_hold : (P Q : Task → Type 0) (o : Option Task) → IsSomeAnd o P → IsSo
 both_hold P Q None h k = h
 both_hold P Q (Some t) h k = (h, k)
 
-out_of : (P : Task → Type 0) (o : Option Task) → IsSomeAnd o P → (t : Task) × (o ≡ Some t) × P t
+pub out_of : (P : Task → Type 0) (o : Option Task) → IsSomeAnd o P → (t : Task) × (o ≡ Some t) × P t
 out_of P None h = absurd h
 out_of P (Some t) h = (t, refl, h)
 
-module _ (signals : List Signal) (tasks : List Task) (table : List (Vec Writer Global)) (rows : List (Vec ℕ Global)) (w : AreWriters (width_in signals) tasks (length tasks) table) (each : (p q : ℕ) → Among (row rows q) p ↔ ((q < length tasks) × IsSomeAnd (slice_get tasks q) (IsFed (width_in signals) table p q))) where
+module _ (waits : Waits) (signals : List Signal) (tasks : List Task) (table : List (Vec Writer Global)) (rows : List (Vec ℕ Global)) (w : AreWriters (width_in signals) tasks (length tasks) table) (each : (p q : ℕ) → Among (row rows q) p ↔ ((q < length tasks) × IsSomeAnd (slice_get tasks q) (IsFed waits (width_in signals) table p q))) where
   abbrev ws : ℕ → ℕ
   ws = width_in signals
 
   module _ (p q : ℕ) where
-    waits_arrow : (bits : BitSet) → Waits table bits p → (s k : ℕ) × (bits s k ≡ true) × IsSomeAnd (slice_get tasks p) (IsWriting ws s k)
-    waits_arrow bits (s, k, bit, writes) = (s, k, bit, ((w.each p s k).0 writes).1)
+    awaited_arrow : (bits : BitSet) → IsAwaited table bits p → (s k : ℕ) × (bits s k ≡ true) × IsSomeAnd (slice_get tasks p) (IsWriting ws s k)
+    awaited_arrow bits (s, k, bit, writes) = (s, k, bit, ((w.each p s k).0 writes).1)
 
     node_p : (s k : ℕ) → IsSomeAnd (slice_get tasks p) (IsWriting ws s k) → IsNode tasks p
     node_p s k = weaker (IsWriting ws s k) (λ t. HasNoEdge t.does) (slice_get tasks p) (λ t i. edge_node t.does i.0)
@@ -200,13 +184,13 @@ module _ (signals : List Signal) (tasks : List Task) (table : List (Vec Writer G
     written_p : (s k : ℕ) → IsSomeAnd (slice_get tasks p) (IsWriting ws s k) → OfProcess MayWrite signals tasks p s k
     written_p s k = weaker (IsWriting ws s k) (λ t. MayWrite (flow_of ws t.does) s k) (slice_get tasks p) (λ t i. (decided (flow_of ws t.does) s k).writes.0 i.1)
 
-    to_arrow : Among (row rows q) p → IsArrow signals tasks p q
+    to_arrow : Among (row rows q) p → IsFeeding waits signals tasks p q
     to_arrow h =
-        let (task, at, (node, wants)) = out_of (IsFed ws table p q) (slice_get tasks q) ((each p q).0 h).1 in
+        let (task, at, (node, wants)) = out_of (IsFed waits ws table p q) (slice_get tasks q) ((each p q).0 h).1 in
         let node_q : IsNode tasks q = there (λ t. HasNoEdge t.does) tasks q task at (edge_node task.does node) in
         elim wants [
           | inl reads ↦
-              let (s, k, bit, by) = waits_arrow (reads_outside (flow_of ws task.does)) reads in record {
+              let (s, k, bit, by) = awaited_arrow (reads_outside (flow_of ws task.does)) reads in record {
                 «from» = node_p s k by;
                 to = node_q;
                 signal = s;
@@ -214,18 +198,18 @@ module _ (signals : List Signal) (tasks : List Task) (table : List (Vec Writer G
                 written = written_p s k by;
                 wanted = inl (there (λ t. ReadsOutside (flow_of ws t.does) s k) tasks q task at ((decided (flow_of ws task.does) s k).outside.0 bit));
               }
-          | inr (lists, other) ↦
-              let (s, k, bit, by) = waits_arrow (listed ws task.does) lists in record {
+          | inr (counts, other, lists) ↦
+              let (s, k, bit, by) = awaited_arrow (listed ws task.does) lists in record {
                 «from» = node_p s k by;
                 to = node_q;
                 signal = s;
                 bit = k;
                 written = written_p s k by;
-                wanted = inr (other, there (λ t. listed ws t.does s k ≡ true) tasks q task at bit);
+                wanted = inr (counts, other, there (λ t. listed ws t.does s k ≡ true) tasks q task at bit);
               }
         ]
 
-    of_arrow : IsArrow signals tasks p q → Among (row rows q) p
+    of_arrow : IsFeeding waits signals tasks p q → Among (row rows q) p
     of_arrow a =
         let s = a.signal in
         let k = a.bit in
@@ -233,14 +217,14 @@ module _ (signals : List Signal) (tasks : List Task) (table : List (Vec Writer G
         let bit = (decided (flow_of ws writer'.does) s k).writes.1 may in
         let in_table : InTable table p s k = (w.each p s k).1 (slice_get_within tasks p writer' at_p, there (IsWriting ws s k) tasks p writer' at_p (node_edge writer'.does edge_p, bit)) in
         let (reader, at_q, edge_q) = out_of (λ t. HasNoEdge t.does) (slice_get tasks q) a.to in
-        let wants : Waits table (reads_outside (flow_of ws reader.does)) p ⊎ (Waits table (listed ws reader.does) p × (p ≡ q → ⊥))
+        let wants : IsAwaited table (reads_outside (flow_of ws reader.does)) p ⊎ ((lists_count waits ≡ true) × (p ≡ q → ⊥) × IsAwaited table (listed ws reader.does) p)
         = elim a.wanted [
           | inl reads ↦ inl (s, k, (decided (flow_of ws reader.does) s k).outside.1 (back (λ t. ReadsOutside (flow_of ws t.does) s k) tasks q q reader at_q refl reads), in_table)
-          | inr (other, lists) ↦ inr ((s, k, back (λ t. listed ws t.does s k ≡ true) tasks q q reader at_q refl lists, in_table), other)
+          | inr (counts, other, lists) ↦ inr (counts, other, (s, k, back (λ t. listed ws t.does s k ≡ true) tasks q q reader at_q refl lists, in_table))
         ] in
-        (each p q).1 (slice_get_within tasks q reader at_q, there (IsFed ws table p q) tasks q reader at_q (node_edge reader.does edge_q, wants))
+        (each p q).1 (slice_get_within tasks q reader at_q, there (IsFed waits ws table p q) tasks q reader at_q (node_edge reader.does edge_q, wants))
 
-  arrows_are : length rows ≡ length tasks → AreArrows signals tasks rows
+  arrows_are : length rows ≡ length tasks → AreArrows waits signals tasks rows
   arrows_are same = record {
     same_length = same;
     each = λ p q. (
@@ -249,16 +233,16 @@ module _ (signals : List Signal) (tasks : List Task) (table : List (Vec Writer G
     );
   }
 
-pub arrows_fed : (signals : List Signal) (tasks : List Task) (n : ℕ) (table slice : List (Vec Writer Global)) → n ≡ length tasks → slice ≡ table → AreWriters (width_in signals) tasks n table → (rows : List (Vec ℕ Global)) → AreFed (width_in signals) tasks slice n rows → AreArrows signals tasks rows
-arrows_fed signals tasks n table slice is there' w rows fed =
+pub arrows_fed : (waits : Waits) (signals : List Signal) (tasks : List Task) (n : ℕ) (table slice : List (Vec Writer Global)) → n ≡ length tasks → slice ≡ table → AreWriters (width_in signals) tasks n table → (rows : List (Vec ℕ Global)) → AreFed waits (width_in signals) tasks slice n rows → AreArrows waits signals tasks rows
+arrows_fed waits signals tasks n table slice is there' w rows fed =
     let all : AreWriters (width_in signals) tasks (length tasks) table
     = subst (λ (m : ℕ). AreWriters (width_in signals) tasks m table) is w in
-    let fed' : AreFed (width_in signals) tasks table (length tasks) rows
-    = subst (λ (m : ℕ). AreFed (width_in signals) tasks table m rows) is (subst (λ (t : List (Vec Writer Global)). AreFed (width_in signals) tasks t n rows) there' fed) in
-    arrows_are signals tasks table rows all fed'.each fed'.same_length
+    let fed' : AreFed waits (width_in signals) tasks table (length tasks) rows
+    = subst (λ (m : ℕ). AreFed waits (width_in signals) tasks table m rows) is (subst (λ (t : List (Vec Writer Global)). AreFed waits (width_in signals) tasks t n rows) there' fed) in
+    arrows_are waits signals tasks table rows all fed'.each fed'.same_length
 
-pub rows_of_arrows : (signals : List Signal) (tasks : List Task) (rows : List (Vec ℕ Global)) → AreArrows signals tasks rows → length tasks < 2 ^ 32 → AreRows rows
-rows_of_arrows signals tasks rows h few = record {
+pub rows_of_arrows : (waits : Waits) (signals : List Signal) (tasks : List Task) (rows : List (Vec ℕ Global)) → AreArrows waits signals tasks rows → length tasks < 2 ^ 32 → AreRows rows
+rows_of_arrows waits signals tasks rows h few = record {
   few = let same = h.same_length in omega arith;
   inside = λ q j less.
       let arrow = (h.each (get_or (row rows q) j 0) q).0 (j, less, refl) in
@@ -269,8 +253,30 @@ rows_of_arrows signals tasks rows h few = record {
 
 -- ---- levels
 
+-- an arrow of the level graph
+pub level_arrows : (signals : List Signal) (tasks : List Task) (rows : List (Vec ℕ Global)) → AreArrows ReadsAndLists signals tasks rows → (p q : ℕ) → ArrowIn rows p q ↔ IsArrow signals tasks p q
+level_arrows signals tasks rows arrows p q = (
+  λ h.
+      let a = (arrows.each p q).0 h in record {
+        «from» = a.«from»;
+        to = a.to;
+        signal = a.signal;
+        bit = a.bit;
+        written = a.written;
+        wanted = elim a.wanted [ inl reads ↦ inl reads | inr (counts, other, lists) ↦ inr (other, lists) ];
+      },
+  λ a. (arrows.each p q).1 (record {
+    «from» = a.«from»;
+    to = a.to;
+    signal = a.signal;
+    bit = a.bit;
+    written = a.written;
+    wanted = elim a.wanted [ inl reads ↦ inl reads | inr (other, lists) ↦ inr (refl, other, lists) ];
+  }),
+)
+
 module _ (A B : ℕ → ℕ → Type 0) (f : (p q : ℕ) → A p q → B p q) where
-  chain_map : (n p q : ℕ) → Chain A n p q → Chain B n p q
+  pub chain_map : (n p q : ℕ) → Chain A n p q → Chain B n p q
   chain_map _ _ _ (Here p) = Here p
   chain_map _ _ _ (Then n p q r chain arrow) = Then n p q r (chain_map n p q chain) (f q r arrow)
 
@@ -283,7 +289,7 @@ module _ (A B : ℕ → ℕ → Type 0) (f : (p q : ℕ) → A p q → B p q) wh
     chain = chain_map h.length h.node p h.chain;
   }
 
-level_map : (A B : ℕ → ℕ → Type 0) → ((p q : ℕ) → A p q ↔ B p q) → (p : ℕ) (level : Option ℕ) → IsLevelIn A p level → IsLevelIn B p level
+pub level_map : (A B : ℕ → ℕ → Type 0) → ((p q : ℕ) → A p q ↔ B p q) → (p : ℕ) (level : Option ℕ) → IsLevelIn A p level → IsLevelIn B p level
 level_map A B same p None h = behind_map A B (λ p q. (same p q).0) p h
 level_map A B same p (Some n) h = (
   λ behind. h.0 (behind_map B A (λ p q. (same p q).1) p behind),
@@ -294,12 +300,12 @@ level_map A B same p (Some n) h = (
   },
 )
 
-level_is : (signals : List Signal) (tasks : List Task) (rows : List (Vec ℕ Global)) → AreArrows signals tasks rows → (p : ℕ) (task : Task) → slice_get tasks p ≡ Some task → (depth : Option ℕ) → IsLevelIn (ArrowIn rows) p depth → IsLevel signals tasks p (level_of (is_node task.does) depth)
+level_is : (signals : List Signal) (tasks : List Task) (rows : List (Vec ℕ Global)) → AreArrows ReadsAndLists signals tasks rows → (p : ℕ) (task : Task) → slice_get tasks p ≡ Some task → (depth : Option ℕ) → IsLevelIn (ArrowIn rows) p depth → IsLevel signals tasks p (level_of (is_node task.does) depth)
 level_is signals tasks rows arrows p task at depth h = by (is_node task.does) refl
   where
     by : (b : Bool) → is_node task.does ≡ b → IsLevel signals tasks p (level_of b depth)
     by true e = record {
-      of_node = λ node. level_map (ArrowIn rows) (IsArrow signals tasks) arrows.each p depth h;
+      of_node = λ node. level_map (ArrowIn rows) (IsArrow signals tasks) (level_arrows signals tasks rows arrows) p depth h;
       of_edge = λ none. absurd (none (there (λ t. HasNoEdge t.does) tasks p task at (edge_node task.does e)));
     }
     by false e = record {
@@ -307,12 +313,12 @@ level_is signals tasks rows arrows p task at depth h = by (is_node task.does) re
       of_edge = λ none. refl;
     }
 
-found : (processes : List Process) (p : ℕ) → p < length processes → (x : Process) × (slice_get processes p ≡ Some x) × (slice_get (map task processes) p ≡ Some (task x))
+pub found : (processes : List Process) (p : ℕ) → p < length processes → (x : Process) × (slice_get processes p ≡ Some x) × (slice_get (map task processes) p ≡ Some (task x))
 found [] p below = absurd (omega arith)
 found (x ∷ processes) zero below = (x, refl, refl)
 found (x ∷ processes) (suc p) below = found processes p (omega arith)
 
-pub levels_are : (signals : List Signal) (processes : List Process) (rows : List (Vec ℕ Global)) (depths levels : List (Option ℕ)) → AreArrows signals (map task processes) rows → (there' : List (Vec ℕ Global)) → there' ≡ rows → AreDepths there' depths → (slice : List (Option ℕ)) → slice ≡ depths → AreKept processes slice (length processes) levels → AreLevels signals (map task processes) levels
+pub levels_are : (signals : List Signal) (processes : List Process) (rows : List (Vec ℕ Global)) (depths levels : List (Option ℕ)) → AreArrows ReadsAndLists signals (map task processes) rows → (there' : List (Vec ℕ Global)) → there' ≡ rows → AreDepths there' depths → (slice : List (Option ℕ)) → slice ≡ depths → AreKept processes slice (length processes) levels → AreLevels signals (map task processes) levels
 levels_are signals processes rows depths levels arrows there' same are slice same' kept =
     let len = length-tasks processes in
     let deep : AreDepths rows depths = subst (λ (x : List (Vec ℕ Global)). AreDepths x depths) same are in
@@ -344,3 +350,58 @@ kept_more processes depths n levels new x d b same inside read is pushed h =
             ∙ ap (λ i. level_of (is_node (doing y.does)) (get_or depths i None)) (sym last)
       ];
     })
+
+-- ---- what processes access
+
+-- two tests that mean one thing
+same_test : (a b : Bool) (P : Type 0) → a ≡ true ↔ P → b ≡ true ↔ P → a ≡ b
+same_test true true P of_a of_b = refl
+same_test true false P of_a of_b = sym (of_b.1 (of_a.0 refl))
+same_test false true P of_a of_b = of_a.1 (of_b.0 refl)
+same_test false false P of_a of_b = refl
+
+module _ (signals : List Signal) (tasks : List Task) (kept : List Bits) where
+  abbrev widths' : ℕ → ℕ
+  widths' = width_in signals
+
+  -- the bits of paths, by the test that decides them
+  path_bits : (P : Flow → ℕ → ℕ → Type 0) (f : Flow → BitSet) → ((flow : Flow) (s k : ℕ) → f flow s k ≡ true ↔ P flow s k) → AreOfEach (OfProcess P signals tasks) (length tasks) kept → AreOf (λ t. f (flow_of widths' t.does)) tasks kept
+  path_bits P f decides are = record {
+    many = are.many;
+    each = λ p bits task at at_task s k.
+        let holds = λ (t : Task). P (flow_of widths' t.does) s k in
+        let is = (are.each p bits at).bits s k in
+        same_test (has_rows bits.rows.items s k) (f (flow_of widths' task.does) s k) (holds task)
+        (λ h. back holds tasks p p task at_task refl (is.0 h), λ h. is.1 (there holds tasks p task at_task h))
+        (decides (flow_of widths' task.does) s k);
+  }
+
+  list_bits : AreOfEach (Lists signals tasks) (length tasks) kept → AreOf (λ t. listed widths' t.does) tasks kept
+  list_bits are = record {
+    many = are.many;
+    each = λ p bits task at at_task s k.
+        let holds = λ (t : Task). listed widths' t.does s k ≡ true in
+        let is = (are.each p bits at).bits s k in
+        same_test (has_rows bits.rows.items s k) (listed widths' task.does s k) (holds task)
+        (λ h. back holds tasks p p task at_task refl (is.0 h), λ h. is.1 (there holds tasks p task at_task h))
+        (λ h. h, λ h. h);
+  }
+
+pub accessed_are : (design : Design) (found : Accesses) → AreAccesses (flat design).signals (flat design).tasks found → (given : Accessed) → given.design.now ≡ design → given.writes.now ≡ found.writes.items → given.reads.now ≡ found.reads.items → given.lists.now ≡ found.lists.items → AreAccessed given
+accessed_are design found' are given is writes reads lists = record {
+  writes = let d = flat design in subst (λ x. AreOf (λ t. may_write (flow_of (widths (flat x)) t.does)) (flat x).tasks given.writes.now) (sym is)
+      (subst (λ xs. AreOf (λ t. may_write (flow_of (widths d) t.does)) d.tasks xs) (sym writes)
+      (path_bits d.signals d.tasks found'.writes.items MayWrite may_write (λ flow s k. (decided flow s k).writes) are.writes));
+  reads = let d = flat design in subst (λ x. AreOf (λ t. reads_outside (flow_of (widths (flat x)) t.does)) (flat x).tasks given.reads.now) (sym is)
+      (subst (λ xs. AreOf (λ t. reads_outside (flow_of (widths d) t.does)) d.tasks xs) (sym reads)
+      (path_bits d.signals d.tasks found'.reads.items ReadsOutside reads_outside (λ flow s k. (decided flow s k).outside) are.reads));
+  lists = let d = flat design in subst (λ x. AreOf (λ t. listed (widths (flat x)) t.does) (flat x).tasks given.lists.now) (sym is)
+      (subst (λ xs. AreOf (λ t. listed (widths d) t.does) d.tasks xs) (sym lists)
+      (list_bits d.signals d.tasks found'.lists.items are.lists));
+}
+
+-- the bits of one process
+pub bits_at : (set : Task → BitSet) (tasks : List Task) (kept : List Bits) → AreOf set tasks kept → (p : ℕ) (bits : Bits) (task : Task) → p < length tasks → bits ≡ get_or kept p bits → slice_get tasks p ≡ Some task → (slice : List Row) → slice ≡ (get_or kept p bits).rows.items → (s k : ℕ) → has_rows slice s k ≡ set task s k
+bits_at set tasks kept are p bits task inside read at slice same s k =
+    ap (λ rows. has_rows rows s k) (same ∙ ap (λ (b : Bits). b.rows.items) (sym read))
+    ∙ are.each p bits task (slice_get_read kept (length tasks) p bits (sym are.many) inside read) at s k

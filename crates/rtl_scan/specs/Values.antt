@@ -1,6 +1,6 @@
 -- It serves inner contracts and proofs; no answer of the program is stated by it.
 -- Labels of a case, some of them by their numbers.
-use Rattle.std.specs.Prelude.{ℕ, ◌≡◌, Bool, false, ◌||◌, List, length}
+use Rattle.std.specs.Prelude.{ℕ, ◌≡◌, Bool, false, ◌||◌, List, [], ◌∷◌, length, Option, Some, None}
 use Rattle.std.specs.List.{list_any}
 use Rattle.std.specs.Ordering.{nat_cmp}
 use Rattle.std.specs.BTreeSet.{contains}
@@ -9,6 +9,11 @@ use Rattle.rtl_bits.specs.Bits.{has_unknown, number}
 use Rattle.rtl_flat.specs.declared.act.CaseKind.{CaseKind}
 use Rattle.rtl_flat.specs.Flows.{literal_matches}
 use Rattle.rtl_scan.specs.declared.values.Labels.{Labels}
+
+-- the bits of a label that may be a literal
+abbrev pub listed_of : Option (List Bit) → List (List Bit)
+listed_of None = []
+listed_of (Some bits) = bits ∷ []
 
 -- whether one of them matches a value
 abbrev pub matches_some : CaseKind → List Bit → Labels → Bool

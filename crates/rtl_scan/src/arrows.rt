@@ -91,7 +91,8 @@ impl Feeders {
     fn see(&mut self, p: u32)
         ensures process { self.new.process ≡ self.old.process }
         ensures row { self.new.row.items ≡ self.old.row.items }
-        ensures seen { self.new.seen.items ≡ slice_set self.old.seen.items p (self.old.process + 1) }
+        ensures seen { self.new.seen.items
+            ≡ slice_set self.old.seen.items p (self.old.process + 1) }
     {
         if (p as usize) < self.seen.len() {
             self.seen[p as usize] = u64::from(self.process) + 1;
@@ -110,7 +111,8 @@ impl Feeders {
     }
 
     fn add_one(&mut self, writer: Writer, mask: u128, itself: bool) -> Result<(), Memory>
-        ensures { OnOk result (Gathers (MeetsIn (writer ∷ []) mask itself self.old.process) self.old self.new) }
+        ensures { OnOk result (Gathers (MeetsIn (writer ∷ []) mask itself self.old.process) self.old
+            self.new) }
     {
         if !comes(writer, mask, itself, self.process) {
             return Ok(());
@@ -120,7 +122,8 @@ impl Feeders {
 
     /// Adds those of some processes that write bits of a mask.
     fn add_all(&mut self, writers: &[Writer], mask: u128, itself: bool) -> Result<(), Memory>
-        ensures { OnOk result (Gathers (MeetsIn writers.now mask itself self.old.process) self.old self.new) }
+        ensures { OnOk result (Gathers (MeetsIn writers.now mask itself self.old.process) self.old
+            self.new) }
     {
         for writer in writers {
             self.add_one(*writer, mask, itself)?;
@@ -130,7 +133,8 @@ impl Feeders {
 
     /// Adds the processes that write bits of a row.
     fn add_row(&mut self, table: &[Vec<Writer>], row: &Row, itself: bool) -> Result<(), Memory>
-        ensures { OnOk result (Gathers (FedBy table.now (has_row row.now) itself self.old.process) self.old self.new) }
+        ensures { OnOk result (Gathers (FedBy table.now (has_row row.now) itself self.old.process)
+            self.old self.new) }
     {
         let place = row.signal.0 as usize;
         if place >= table.len() {

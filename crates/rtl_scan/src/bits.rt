@@ -54,7 +54,8 @@ impl BitSet {
     }
 
     fn put(&mut self, signal: SigId, mask: u128) -> Result<(), Memory>
-        ensures { OnOk result ((s : ℕ) → mask_of self.new.masks s ≡ put (mask_of self.old.masks) signal.0 mask s) }
+        ensures { OnOk result ((s : ℕ)
+            → mask_of self.new.masks s ≡ put (mask_of self.old.masks) signal.0 mask s) }
     {
         self.masks.insert(signal.0, mask)?;
         Ok(())
@@ -62,7 +63,8 @@ impl BitSet {
 
     /// Adds the bits of a row.
     pub fn insert(&mut self, row: Row) -> Result<(), Memory>
-        ensures { OnOk result ((s k : ℕ) → has self.new.masks s k ≡ (has self.old.masks s k || has_row row s k)) }
+        ensures { OnOk result ((s k : ℕ)
+            → has self.new.masks s k ≡ (has self.old.masks s k || has_row row s k)) }
     {
         let mask = self.mask(row.signal);
         let more = mask | row.mask;
@@ -75,7 +77,8 @@ impl BitSet {
 
     /// Adds the bits of rows.
     fn insert_all(&mut self, rows: &[Row]) -> Result<(), Memory>
-        ensures { OnOk result ((s k : ℕ) → has self.new.masks s k ≡ (has self.old.masks s k || has_rows rows.now s k)) }
+        ensures { OnOk result ((s k : ℕ)
+            → has self.new.masks s k ≡ (has self.old.masks s k || has_rows rows.now s k)) }
     {
         for row in rows {
             self.insert(*row)?;
@@ -85,7 +88,8 @@ impl BitSet {
 
     /// Takes the bits of a row out.
     pub fn remove(&mut self, row: Row) -> Result<(), Memory>
-        ensures { OnOk result ((s k : ℕ) → has self.new.masks s k ≡ (has self.old.masks s k && not (has_row row s k))) }
+        ensures { OnOk result ((s k : ℕ)
+            → has self.new.masks s k ≡ (has self.old.masks s k && not (has_row row s k))) }
     {
         let mask = self.mask(row.signal);
         self.put(row.signal, mask & (mask ^ row.mask))
@@ -93,7 +97,8 @@ impl BitSet {
 
     /// The bits of a row that the set lacks.
     pub fn lacks(&self, row: Row) -> Row
-        ensures { (s k : ℕ) → has_row result s k ≡ (has_row row s k && not (has self.now.masks s k)) }
+        ensures { (s k : ℕ) → has_row result s k
+            ≡ (has_row row s k && not (has self.now.masks s k)) }
     {
         Row {
             signal: row.signal,
@@ -113,7 +118,8 @@ impl BitSet {
 
     /// The same bits in rows.
     pub fn to_bits(&self, alloc: Global) -> Result<Bits, Memory>
-        ensures bits { IfOk result (λ bits. (s k : ℕ) → has_rows bits.rows.items s k ≡ has self.now.masks s k) }
+        ensures bits { IfOk result (λ bits. (s k : ℕ)
+            → has_rows bits.rows.items s k ≡ has self.now.masks s k) }
         ensures order { IfOk result (λ bits. IsInOrder bits.rows.items) }
     {
         let mut rows = Vec::with_capacity(alloc, self.masks.len())?;

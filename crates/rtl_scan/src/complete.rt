@@ -8,10 +8,12 @@ ghost use Rattle.rtl_flat.specs.Expression.{tree, form, read, beside};
 ghost use Rattle.rtl_flat.specs.Flows.{literal, literals, labels_of, is_wild, cover, covers, complete_by_labels, is_complete};
 ghost use Rattle.rtl_scan.specs.Bodies.{branches_of};
 
+use crate::sets::widths_of;
 use crate::spans::Widths;
-use crate::values::Labels;
+use crate::values::{Labels, literal_of};
 use rtl_bits::{Bit, Vec4};
 use rtl_flat::act::{CaseItem, CaseKind};
+use rtl_flat::design::Design;
 use rtl_flat::expr::{Index, Node, Select, SigId, SizedExpr};
 use rtl_tree::memory::Memory;
 use std::alloc::Global;
@@ -20,13 +22,10 @@ use std::alloc::Global;
 fn push_literal(label: &SizedExpr, found: &mut Vec<Vec4>) -> Result<(), Memory>
     ensures { OnOk result (found.new.items ≡ found.old.items ++ literal (tree label.now)) }
 {
-    match &label.node {
-        Node::Literal(bits) => {
-            found.push(*bits)?;
-            Ok(())
-        }
-        _ => Ok(()),
+    if let Some(bits) = literal_of(label) {
+        found.push(bits)?;
     }
+    Ok(())
 }
 
 /// Adds the literals among some labels.
@@ -127,7 +126,8 @@ impl<'d> Widths<'d> {
     }
 
     fn read_width(&self, signal: SigId, select: &Select) -> u8
-        ensures { result ≡ min (width_of (width_in self.now.signals.now) (read signal.0 select.now)) 17 }
+        ensures { result ≡ min (width_of (width_in self.now.signals.now) (read signal.0 select.now))
+            17 }
     {
         match select {
             Select::Whole => self.width(signal).min(17),
@@ -160,12 +160,29 @@ pub(crate) fn is_complete(
     selector: &SizedExpr,
     items: &[CaseItem],
 ) -> Result<bool, Memory>
-    ensures { IfOk result (λ complete. complete ≡ is_complete (width_in widths.now.signals.now) kind full (tree selector.now) (branches_of items.now)) }
+    ensures { IfOk result (λ complete. complete
+        ≡ is_complete (width_in widths.now.signals.now) kind full (tree selector.now)
+        (branches_of items.now)) }
 {
     if full {
         return Ok(true);
     }
     by_labels(alloc, widths, kind, selector, items)
+}
+
+/// Whether the labels of a case make it complete: one matches every value of the selector, or together
+/// they do. Fails where memory runs out.
+pub fn is_complete_by_labels(
+    alloc: Global,
+    d: &Design,
+    kind: CaseKind,
+    selector: &SizedExpr,
+    items: &[CaseItem],
+) -> Result<bool, Memory>
+    ensures { let ws = width_in d.now.signals.items in IfOk result (λ complete.
+        complete ≡ complete_by_labels ws kind (tree selector.now) (branches_of items.now)) }
+{
+    by_labels(alloc, &widths_of(d), kind, selector, items)
 }
 
 fn by_labels(
@@ -175,7 +192,9 @@ fn by_labels(
     selector: &SizedExpr,
     items: &[CaseItem],
 ) -> Result<bool, Memory>
-    ensures { IfOk result (λ complete. complete ≡ complete_by_labels (width_in widths.now.signals.now) kind (tree selector.now) (branches_of items.now)) }
+    ensures { IfOk result (λ complete. complete
+        ≡ complete_by_labels (width_in widths.now.signals.now) kind (tree selector.now)
+        (branches_of items.now)) }
 {
     let labels = literal_labels(alloc, items)?;
     if any_wild(kind, &labels) {

@@ -15,7 +15,8 @@ impl<'d> Widths<'d> {
     /// Adds the bits that an expression reads.
     #[cycle(reads)]
     pub(crate) fn push_reads(&self, e: &SizedExpr, rows: &mut Vec<Row>) -> Result<(), Memory>
-        ensures { OnOk result (Adds (reads (width_in self.now.signals.now) (tree e.now)) rows.old.items rows.new.items) }
+        ensures { OnOk result (Adds (reads (width_in self.now.signals.now) (tree e.now))
+            rows.old.items rows.new.items) }
     {
         self.push_node(&e.node, rows)
     }
@@ -23,7 +24,8 @@ impl<'d> Widths<'d> {
     #[cycle(reads)]
     #[tactic(auto, using(crate::proofs::Adding::adds_then, crate::proofs::Adding::adds_none, crate::proofs::Parts::concat_parts))]
     fn push_node(&self, node: &Node, rows: &mut Vec<Row>) -> Result<(), Memory>
-        ensures { OnOk result (Adds (reads (width_in self.now.signals.now) (form node.now)) rows.old.items rows.new.items) }
+        ensures { OnOk result (Adds (reads (width_in self.now.signals.now) (form node.now))
+            rows.old.items rows.new.items) }
     {
         match node {
             Node::Literal(_) => Ok(()),
@@ -60,7 +62,8 @@ impl<'d> Widths<'d> {
     #[cycle(reads)]
     #[tactic(auto, using(crate::proofs::Adding::adds_then))]
     fn push_select(&self, signal: SigId, select: &Select, rows: &mut Vec<Row>) -> Result<(), Memory>
-        ensures { OnOk result (Adds (reads (width_in self.now.signals.now) (read signal.0 select.now)) rows.old.items rows.new.items) }
+        ensures { OnOk result (Adds (reads (width_in self.now.signals.now)
+            (read signal.0 select.now)) rows.old.items rows.new.items) }
     {
         match select {
             Select::Whole => push_row(rows, self.all(signal)),
@@ -82,7 +85,8 @@ impl<'d> Widths<'d> {
     #[cycle(reads)]
     #[tactic(auto, using(crate::proofs::Adding::adds_then))]
     fn push_parts(&self, parts: &[SizedExpr], rows: &mut Vec<Row>) -> Result<(), Memory>
-        ensures { OnOk result (Adds (reads (width_in self.now.signals.now) (beside (map tree parts.now))) rows.old.items rows.new.items) }
+        ensures { OnOk result (Adds (reads (width_in self.now.signals.now)
+            (beside (map tree parts.now))) rows.old.items rows.new.items) }
     {
         for part in parts {
             self.push_reads(part, rows)?;

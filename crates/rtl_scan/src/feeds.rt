@@ -1,24 +1,45 @@
-// The levels of processes.
+//! Who feeds whom, and the levels of processes.
 
-ghost use Rattle.std.specs.Prelude.{ℕ, ◌≡◌, ◌<◌, ◌≤◌, ◌^◌, map, length, None, IfOk, OnOk};
+ghost use Rattle.std.specs.Prelude.{ℕ, ◌≡◌, ◌<◌, ◌≤◌, map, length, None, Some, IfOk, OnOk};
 ghost use Rattle.std.specs.Prelude.{slice_index_or};
-ghost use Rattle.rtl_flat.specs.Signs.{width_in};
-ghost use Rattle.rtl_flat.specs.Process.{task, doing};
+ghost use Rattle.std.specs.List.{slice_get};
+ghost use Rattle.rtl_flat.specs.Flats.{flat, widths};
+ghost use Rattle.rtl_flat.specs.Process.{Task, task, doing};
 ghost use Rattle.rtl_flat.specs.Levels.{IsLevel};
 ghost use Rattle.rtl_scan.specs.Arrows as spec;
 
+use crate::accesses::Accesses;
 use crate::arrows::{Feeders, Writer, note_rows};
+use crate::bits::Bits;
 use crate::graph::depths;
-use crate::scan::Counted;
-use crate::sets::{list, scan, widths_of};
-use crate::spans::Widths;
 use rtl_flat::act::{Does, Process};
 use rtl_flat::design::Design;
 use rtl_tree::memory::Memory;
 use std::alloc::Global;
 
+/// For which bits a process waits.
+#[derive(Clone, Copy)]
+pub enum Waits {
+    /// Those that it externally reads.
+    Reads,
+    /// Those too that it lists, where another process writes them.
+    ReadsAndLists,
+}
+
+/// The processes of a design, and the bits that each of them accesses.
+#[derive(Clone, Copy)]
+pub struct Accessed<'a> {
+    pub design: &'a Design,
+    /// The bits that each process may write.
+    pub writes: &'a [Bits],
+    /// The bits that each process externally reads.
+    pub reads: &'a [Bits],
+    /// The bits that each process lists.
+    pub lists: &'a [Bits],
+}
+
 /// Whether a process has a place in the graph: one with an edge has none.
-fn is_node(does: &Does) -> bool
+pub fn is_node(does: &Does) -> bool
     ensures { result ≡ spec.is_node (doing does.now) }
 {
     match does {
@@ -31,118 +52,137 @@ fn is_node(does: &Does) -> bool
     }
 }
 
-/// Puts a process into the rows of the signals that it writes.
-fn note_writes(
-    alloc: Global,
-    widths: Widths,
-    process: &Process,
-    number: u32,
-    table: &mut Vec<Vec<Writer>>,
-) -> Result<(), Memory>
-    ensures { OnOk result (spec.Grows
-        (spec.IsNoted (width_in widths.entry.signals.now) (task process.now) number)
-        table.old.items table.new.items) }
-{
-    if !is_node(&process.does) {
-        return Ok(());
+impl<'a> Accessed<'a> {
+    /// Puts a process without an edge into the rows of the signals that it writes.
+    fn note_writes(
+        &self,
+        alloc: Global,
+        number: u32,
+        table: &mut Vec<Vec<Writer>>,
+    ) -> Result<(), Memory>
+        requires accessed { spec.AreAccessed self.now }
+        requires inside { number < length self.now.design.now.processes.items }
+        ensures { let d = flat self.now.design.now in
+            OnOk result ((one : Task) → slice_get d.tasks number ≡ Some one →
+            spec.Grows (spec.IsNoted (widths d) one number) table.old.items table.new.items) }
+    {
+        if !is_node(&self.design.processes[number as usize].does) {
+            return Ok(());
+        }
+        let written = &self.writes[number as usize];
+        note_rows(alloc, table, &written.rows, number)
     }
-    let found = scan(alloc, widths, &process.does, Counted::Blocking)?;
-    let written = found.writes.to_bits(alloc)?;
-    note_rows(alloc, table, &written.rows, number)
-}
 
-/// The processes that write bits of each signal.
-fn writers(alloc: Global, widths: Widths, processes: &[Process]) -> Result<Vec<Vec<Writer>>, Memory>
-    requires { length processes.now < 2 ^ 32 }
-    ensures { IfOk result (λ table. spec.AreWriters (width_in widths.entry.signals.now) (map task processes.now) (length processes.now) table.items) }
-{
-    let mut table = Vec::new(alloc);
-    for number in 0..processes.len() {
-        note_writes(alloc, widths, &processes[number], number as u32, &mut table)?;
+    /// The processes that write bits of each signal.
+    fn writers(&self, alloc: Global) -> Result<Vec<Vec<Writer>>, Memory>
+        requires { spec.AreAccessed self.now }
+        ensures { let d = flat self.now.design.now in
+            IfOk result (λ table. spec.AreWriters (widths d) d.tasks (length d.tasks) table.items) }
+    {
+        let mut table = Vec::new(alloc);
+        for number in 0..self.design.processes.len() {
+            self.note_writes(alloc, number as u32, &mut table)?;
+        }
+        Ok(table)
     }
-    Ok(table)
-}
 
-/// Adds the processes that feed one by a bit that it reads, and those others that do by one that it
-/// lists.
-fn note_feeds(
-    alloc: Global,
-    widths: Widths,
-    process: &Process,
-    table: &[Vec<Writer>],
-    found: &mut Feeders,
-) -> Result<(), Memory>
-    ensures { OnOk result (spec.Gathers
-        (λ p. spec.IsFed (width_in widths.entry.signals.now) table.now p found.old.process
-        (task process.now)) found.old found.new) }
-{
-    if !is_node(&process.does) {
-        return Ok(());
+    /// Adds the processes that feed one by a bit that it reads, and where lists count, those others that do by one that it
+    /// lists.
+    fn note_feeds(
+        &self,
+        waits: Waits,
+        table: &[Vec<Writer>],
+        found: &mut Feeders,
+    ) -> Result<(), Memory>
+        requires accessed { spec.AreAccessed self.now }
+        requires inside { found.old.process < length self.now.design.now.processes.items }
+        ensures { let d = flat self.now.design.now in
+            OnOk result ((one : Task) → slice_get d.tasks found.old.process ≡ Some one →
+            spec.Gathers (λ p. spec.IsFed waits (widths d) table.now p found.old.process one)
+            found.old found.new) }
+    {
+        let number = found.process as usize;
+        if !is_node(&self.design.processes[number].does) {
+            return Ok(());
+        }
+        let read = &self.reads[number];
+        let listed = &self.lists[number];
+        found.add_rows(table, &read.rows, true)?;
+        match waits {
+            Waits::Reads => Ok(()),
+            Waits::ReadsAndLists => found.add_rows(table, &listed.rows, false),
+        }
     }
-    let sets = scan(alloc, widths, &process.does, Counted::Blocking)?;
-    let read = sets.reads.to_bits(alloc)?;
-    let listed = list(alloc, widths, &process.does)?;
-    let listed = listed.to_bits(alloc)?;
-    found.add_rows(table, &read.rows, true)?;
-    found.add_rows(table, &listed.rows, false)
-}
 
-/// The processes that feed one.
-fn feeders(
-    alloc: Global,
-    widths: Widths,
-    process: &Process,
-    number: u32,
-    table: &[Vec<Writer>],
-    seen: Vec<u64>,
-) -> Result<Feeders, Memory>
-    ensures { IfOk result (λ found.
-        spec.AreFeeders (width_in widths.entry.signals.now) table.now
-        (task process.now) number seen.items found) }
-{
-    let mut found = Feeders {
-        process: number,
-        row: Vec::new(alloc),
-        seen,
-    };
-    note_feeds(alloc, widths, process, table, &mut found)?;
-    Ok(found)
-}
-
-/// The processes that feed each process.
-fn feeds_of(
-    alloc: Global,
-    widths: Widths,
-    processes: &[Process],
-    table: &[Vec<Writer>],
-) -> Result<Vec<Vec<u32>>, Memory>
-    requires { length processes.now < 2 ^ 32 }
-    ensures { IfOk result (λ rows. spec.AreFed (width_in widths.entry.signals.now) (map task processes.now) table.now (length processes.now) rows.items) }
-{
-    let mut rows = Vec::new(alloc);
-    let mut seen = vec![in alloc; 0u64; processes.len()]?;
-    for number in 0..processes.len() {
-        let found = feeders(
-            alloc,
-            widths,
-            &processes[number],
-            number as u32,
-            table,
+    /// The processes that feed one.
+    fn feeders(
+        &self,
+        alloc: Global,
+        waits: Waits,
+        number: u32,
+        table: &[Vec<Writer>],
+        seen: Vec<u64>,
+    ) -> Result<Feeders, Memory>
+        requires accessed { spec.AreAccessed self.now }
+        requires inside { number < length self.now.design.now.processes.items }
+        ensures { let d = flat self.now.design.now in
+            IfOk result (λ found. (one : Task) → slice_get d.tasks number ≡ Some one →
+            spec.AreFeeders waits (widths d) table.now one number seen.items found) }
+    {
+        let mut found = Feeders {
+            process: number,
+            row: Vec::new(alloc),
             seen,
-        )?;
-        rows.push(found.row)?;
-        seen = found.seen;
+        };
+        self.note_feeds(waits, table, &mut found)?;
+        Ok(found)
     }
-    Ok(rows)
+
+    /// The processes that feed each process.
+    fn feeds(
+        &self,
+        alloc: Global,
+        waits: Waits,
+        table: &[Vec<Writer>],
+    ) -> Result<Vec<Vec<u32>>, Memory>
+        requires { spec.AreAccessed self.now }
+        ensures { let d = flat self.now.design.now in IfOk result (λ rows.
+            spec.AreFed waits (widths d) d.tasks table.now (length d.tasks) rows.items) }
+    {
+        let mut rows = Vec::new(alloc);
+        let mut seen = vec![in alloc; 0u64; self.design.processes.len()]?;
+        for number in 0..self.design.processes.len() {
+            let found = self.feeders(alloc, waits, number as u32, table, seen)?;
+            rows.push(found.row)?;
+            seen = found.seen;
+        }
+        Ok(rows)
+    }
+
+    /// The graph: a row has the processes that feed its process, each once. Fails where memory runs out.
+    pub fn arrows(&self, alloc: Global, waits: Waits) -> Result<Vec<Vec<u32>>, Memory>
+        requires { spec.AreAccessed self.now }
+        ensures { let d = flat self.now.design.now in
+            IfOk result (λ rows. spec.AreArrows waits d.signals d.tasks rows.items) }
+    {
+        let table = self.writers(alloc)?;
+        self.feeds(alloc, waits, &table)
+    }
 }
 
-/// The rows of the level graph.
-fn arrows_of(alloc: Global, widths: Widths, processes: &[Process]) -> Result<Vec<Vec<u32>>, Memory>
-    requires { length processes.now < 2 ^ 32 }
-    ensures { IfOk result (λ rows. spec.AreArrows widths.entry.signals.now (map task processes.now) rows.items) }
+/// The graph of a design, from one scan of each process. Fails where memory runs out.
+pub fn arrows(alloc: Global, design: &Design, waits: Waits) -> Result<Vec<Vec<u32>>, Memory>
+    ensures { let d = flat design.now in
+        IfOk result (λ rows. spec.AreArrows waits d.signals d.tasks rows.items) }
 {
-    let table = writers(alloc, widths, processes)?;
-    feeds_of(alloc, widths, processes, &table)
+    let found = Accesses::of(alloc, design)?;
+    let accessed = Accessed {
+        design,
+        writes: &found.writes,
+        reads: &found.reads,
+        lists: &found.lists,
+    };
+    accessed.arrows(alloc, waits)
 }
 
 /// The level of a process, from its depth.
@@ -158,7 +198,8 @@ fn keep_nodes(
     depths: &[Option<u32>],
 ) -> Result<Vec<Option<u32>>, Memory>
     requires { length depths.now ≡ length processes.now }
-    ensures { IfOk result (λ levels. spec.AreKept processes.now depths.now (length processes.now) levels.items) }
+    ensures { IfOk result (λ levels.
+        spec.AreKept processes.now depths.now (length processes.now) levels.items) }
 {
     let mut levels = Vec::new(alloc);
     for number in 0..processes.len() {
@@ -168,24 +209,22 @@ fn keep_nodes(
 }
 
 /// The level of each process.
-pub(crate) fn levels_of(
-    alloc: Global,
-    widths: Widths,
-    processes: &[Process],
-) -> Result<Vec<Option<u32>>, Memory>
-    requires { length processes.now < 2 ^ 32 }
-    ensures { IfOk result (λ levels. spec.AreLevels widths.entry.signals.now (map task processes.now) levels.items) }
+fn levels_of(alloc: Global, design: &Design) -> Result<Vec<Option<u32>>, Memory>
+    ensures { let d = flat design.now in
+        IfOk result (λ levels. spec.AreLevels d.signals d.tasks levels.items) }
 {
-    let rows = arrows_of(alloc, widths, processes)?;
+    let rows = arrows(alloc, design, Waits::ReadsAndLists)?;
     let depths = depths(alloc, &rows)?;
-    keep_nodes(alloc, processes, &depths)
+    keep_nodes(alloc, &design.processes, &depths)
 }
 
 /// The level of each process: the greatest number of processes without an edge that feed one
 /// another before it. A process with an edge has none, nor has one on or behind a cycle.
 pub fn levels(alloc: Global, d: &Design) -> Result<Vec<Option<u32>>, Memory>
     ensures length { IfOk result (λ levels. length levels.items ≡ length d.now.processes.items) }
-    ensures each { IfOk result (λ levels. (p : ℕ) → p < length d.now.processes.items → IsLevel d.now.signals.items (map task d.now.processes.items) p (slice_index_or levels.items p None)) }
+    ensures each { IfOk result (λ levels. (p : ℕ) → p < length d.now.processes.items
+        → IsLevel d.now.signals.items (map task d.now.processes.items) p
+        (slice_index_or levels.items p None)) }
 {
-    levels_of(alloc, widths_of(d), &d.processes)
+    levels_of(alloc, d)
 }

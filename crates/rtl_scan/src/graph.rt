@@ -53,7 +53,8 @@ pub(crate) struct Search {
 
 impl Search {
     fn new(alloc: Global, rows: &[Vec<u32>]) -> Result<Search, Memory>
-        ensures { IfOk result (λ search. (search.nodes.items ≡ fresh rows.now) × (search.stack.items ≡ []) × (search.finished ≡ 0)) }
+        ensures { IfOk result (λ search. (search.nodes.items ≡ fresh rows.now)
+            × (search.stack.items ≡ []) × (search.finished ≡ 0)) }
     {
         let mut nodes = Vec::new(alloc);
         for row in rows {
@@ -74,8 +75,15 @@ impl Search {
     #[tactic(auto, using(crate::proofs::Advances::at_get))]
     fn leave(&mut self, top: u32, mark: Mark)
         requires { top < length self.old.nodes.items }
-        ensures nodes { self.new.nodes.items ≡ slice_set self.old.nodes.items top (record { mark = mark; left = (at self.old.nodes.items top).left; depth = (at self.old.nodes.items top).depth }) }
-        ensures stack { self.new.stack.items ≡ take (length self.old.stack.items - 1) self.old.stack.items }
+        ensures nodes { self.new.nodes.items
+            ≡ slice_set self.old.nodes.items top
+            (record {
+              mark = mark;
+              left = (at self.old.nodes.items top).left;
+              depth = (at self.old.nodes.items top).depth;
+            }) }
+        ensures stack { self.new.stack.items
+            ≡ take (length self.old.stack.items - 1) self.old.stack.items }
         ensures finished { self.new.finished ≡ self.old.finished }
     {
         let node = self.nodes[top as usize];
@@ -91,8 +99,15 @@ impl Search {
     fn finish(&mut self, top: u32)
         requires inside { top < length self.old.nodes.items }
         requires fits { self.old.finished + 1 < 2 ^ 32 }
-        ensures nodes { self.new.nodes.items ≡ slice_set self.old.nodes.items top (record { mark = Mark.Done; left = (at self.old.nodes.items top).left; depth = (at self.old.nodes.items top).depth }) }
-        ensures stack { self.new.stack.items ≡ take (length self.old.stack.items - 1) self.old.stack.items }
+        ensures nodes { self.new.nodes.items
+            ≡ slice_set self.old.nodes.items top
+            (record {
+              mark = Mark.Done;
+              left = (at self.old.nodes.items top).left;
+              depth = (at self.old.nodes.items top).depth;
+            }) }
+        ensures stack { self.new.stack.items
+            ≡ take (length self.old.stack.items - 1) self.old.stack.items }
         ensures finished { self.new.finished ≡ self.old.finished + 1 }
     {
         self.leave(top, Mark::Done);
@@ -105,7 +120,14 @@ impl Search {
         requires inside { top < length self.old.nodes.items }
         requires some { 1 ≤ (at self.old.nodes.items top).left }
         requires fits { depth + 1 < 2 ^ 32 }
-        ensures nodes { self.new.nodes.items ≡ slice_set self.old.nodes.items top (record { mark = Mark.Open; left = (at self.old.nodes.items top).left - 1; depth = max (at self.old.nodes.items top).depth (depth + 1) }) }
+        ensures nodes { self.new.nodes.items
+            ≡ slice_set self.old.nodes.items top
+            (record {
+              mark = Mark.Open;
+              left = (at self.old.nodes.items top).left - 1;
+              depth = max
+                  (at self.old.nodes.items top).depth (depth + 1);
+            }) }
         ensures stack { self.new.stack.items ≡ self.old.stack.items }
         ensures finished { self.new.finished ≡ self.old.finished }
     {
@@ -121,7 +143,15 @@ impl Search {
     #[tactic(auto, using(crate::proofs::Advances::at_get))]
     fn enter(&mut self, p: u32) -> Result<(), Memory>
         requires { p < length self.old.nodes.items }
-        ensures { OnOk result ((self.new.nodes.items ≡ slice_set self.old.nodes.items p (record { mark = Mark.Open; left = (at self.old.nodes.items p).left; depth = (at self.old.nodes.items p).depth })) × (self.new.stack.items ≡ self.old.stack.items ++ p ∷ []) × (self.new.finished ≡ self.old.finished)) }
+        ensures { OnOk result ((self.new.nodes.items
+            ≡ slice_set self.old.nodes.items p
+            (record {
+              mark = Mark.Open;
+              left = (at self.old.nodes.items p).left;
+              depth = (at self.old.nodes.items p).depth;
+            }))
+            × (self.new.stack.items ≡ self.old.stack.items ++ p ∷ [])
+            × (self.new.finished ≡ self.old.finished)) }
     {
         let node = self.nodes[p as usize];
         self.nodes[p as usize] = Vertex {
@@ -154,9 +184,11 @@ impl Search {
         requires rows { AreRows rows.now }
         requires some { 1 ≤ length self.old.stack.items }
         requires search { IsSearching rows.now self.old }
-        requires top { top ≡ slice_index_or self.old.stack.items (length self.old.stack.items - 1) 0 }
+        requires top { top ≡ slice_index_or self.old.stack.items (length self.old.stack.items - 1)
+            0 }
         requires left { 1 ≤ (at self.old.nodes.items top).left }
-        requires p { p ≡ slice_index_or (row rows.now top) ((at self.old.nodes.items top).left - 1) 0 }
+        requires p { p ≡ slice_index_or (row rows.now top) ((at self.old.nodes.items top).left - 1)
+            0 }
         ensures { OnOk result (IsStep rows.now self.old self.new) }
     {
         let node = self.nodes[p as usize];

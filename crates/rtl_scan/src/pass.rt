@@ -26,7 +26,9 @@ impl<'d> Pass<'d> {
         sets: &mut Sets,
         log: &mut Vec<Row>,
     ) -> Result<(), Memory>
-        ensures { OnOk result (FlowScanned self.now.counted (body_flow (width_in self.now.widths.signals.now) (body_of (map action acts.now))) sets.old log.old.items sets.new log.new.items) }
+        ensures { OnOk result (FlowScanned self.now.counted
+            (body_flow (width_in self.now.widths.signals.now) (body_of (map action acts.now)))
+            sets.old log.old.items sets.new log.new.items) }
     {
         for act in acts {
             self.statement(act, sets, log)?;
@@ -36,7 +38,9 @@ impl<'d> Pass<'d> {
 
     #[cycle(pass)]
     fn statement(&self, act: &Act, sets: &mut Sets, log: &mut Vec<Row>) -> Result<(), Memory>
-        ensures { OnOk result (FlowScanned self.now.counted (action_then (width_in self.now.widths.signals.now) (action act.now) End) sets.old log.old.items sets.new log.new.items) }
+        ensures { OnOk result (FlowScanned self.now.counted
+            (action_then (width_in self.now.widths.signals.now) (action act.now) End) sets.old
+            log.old.items sets.new log.new.items) }
     {
         match act {
             Act::Set {
@@ -81,7 +85,11 @@ impl<'d> Pass<'d> {
         no: &Option<Vec<Act>>,
         sets: &mut Sets,
     ) -> Result<Vec<Row>, Memory>
-        ensures { IfOk result (λ kept. WaysScanned self.now.counted (More (other_flow (width_in self.now.widths.signals.now) (other_of no.now)) (Last (body_flow (width_in self.now.widths.signals.now) (body_of (map action yes.now))))) sets.old sets.new kept.items) }
+        ensures { IfOk result (λ kept.
+            WaysScanned self.now.counted (More
+            (other_flow (width_in self.now.widths.signals.now) (other_of no.now))
+            (Last (body_flow (width_in self.now.widths.signals.now)
+            (body_of (map action yes.now))))) sets.old sets.new kept.items) }
     {
         let kept = self.other_way(no, sets)?;
         self.also_way(yes, &kept, sets)
@@ -89,7 +97,10 @@ impl<'d> Pass<'d> {
 
     #[cycle(pass)]
     fn other_way(&self, no: &Option<Vec<Act>>, sets: &mut Sets) -> Result<Vec<Row>, Memory>
-        ensures { IfOk result (λ kept. WaysScanned self.now.counted (Last (other_flow (width_in self.now.widths.signals.now) (other_of no.now))) sets.old sets.new kept.items) }
+        ensures { IfOk result (λ kept.
+            WaysScanned self.now.counted (Last
+            (other_flow (width_in self.now.widths.signals.now) (other_of no.now))) sets.old sets.new
+            kept.items) }
     {
         match no {
             Some(body) => self.way(body, sets),
@@ -106,7 +117,10 @@ impl<'d> Pass<'d> {
         items: &[CaseItem],
         sets: &mut Sets,
     ) -> Result<Vec<Row>, Memory>
-        ensures { IfOk result (λ kept. WaysScanned self.now.counted (ways (width_in self.now.widths.signals.now) (way_past (width_in self.now.widths.signals.now) complete (other_of fallback.now)) (branches_of items.now)) sets.old sets.new kept.items) }
+        ensures { IfOk result (λ kept.
+            WaysScanned self.now.counted (ways (width_in self.now.widths.signals.now)
+            (way_past (width_in self.now.widths.signals.now) complete (other_of fallback.now))
+            (branches_of items.now)) sets.old sets.new kept.items) }
     {
         match fallback {
             Some(body) => {
@@ -125,7 +139,10 @@ impl<'d> Pass<'d> {
         items: &[CaseItem],
         sets: &mut Sets,
     ) -> Result<Vec<Row>, Memory>
-        ensures { IfOk result (λ kept. WaysScanned self.now.counted (ways (width_in self.now.widths.signals.now) (way_past (width_in self.now.widths.signals.now) complete Without) (branches_of items.now)) sets.old sets.new kept.items) }
+        ensures { IfOk result (λ kept.
+            WaysScanned self.now.counted (ways (width_in self.now.widths.signals.now)
+            (way_past (width_in self.now.widths.signals.now) complete Without)
+            (branches_of items.now)) sets.old sets.new kept.items) }
     {
         if !complete {
             return self.also_items(items, Vec::new(self.alloc), sets);
@@ -147,7 +164,9 @@ impl<'d> Pass<'d> {
         mut kept: Vec<Row>,
         sets: &mut Sets,
     ) -> Result<Vec<Row>, Memory>
-        ensures { IfOk result (λ left. ItemsAlso self.now.counted (width_in self.now.widths.signals.now) (branches_of items.now) sets.old kept.items sets.new left.items) }
+        ensures { IfOk result (λ left.
+            ItemsAlso self.now.counted (width_in self.now.widths.signals.now)
+            (branches_of items.now) sets.old kept.items sets.new left.items) }
     {
         for item in items {
             kept = self.also_way(&item.body, &kept, sets)?;
@@ -158,7 +177,10 @@ impl<'d> Pass<'d> {
     /// What a way of a fork surely writes. It isn't written on the other ways.
     #[cycle(pass)]
     fn way(&self, body: &[Act], sets: &mut Sets) -> Result<Vec<Row>, Memory>
-        ensures { IfOk result (λ kept. WaysScanned self.now.counted (Last (body_flow (width_in self.now.widths.signals.now) (body_of (map action body.now)))) sets.old sets.new kept.items) }
+        ensures { IfOk result (λ kept.
+            WaysScanned self.now.counted (Last
+            (body_flow (width_in self.now.widths.signals.now) (body_of (map action body.now))))
+            sets.old sets.new kept.items) }
     {
         let mut log = Vec::new(self.alloc);
         self.statements(body, sets, &mut log)?;
@@ -169,7 +191,9 @@ impl<'d> Pass<'d> {
     /// What a further way surely writes of what those before it do.
     #[cycle(pass)]
     fn also_way(&self, body: &[Act], kept: &[Row], sets: &mut Sets) -> Result<Vec<Row>, Memory>
-        ensures { IfOk result (λ left. FlowAlso self.now.counted (body_flow (width_in self.now.widths.signals.now) (body_of (map action body.now))) sets.old kept.now sets.new left.items) }
+        ensures { IfOk result (λ left.
+            FlowAlso self.now.counted (body_flow (width_in self.now.widths.signals.now)
+            (body_of (map action body.now))) sets.old kept.now sets.new left.items) }
     {
         let mut log = Vec::new(self.alloc);
         self.statements(body, sets, &mut log)?;
@@ -187,7 +211,11 @@ impl<'d> Pass<'d> {
         items: &[CaseItem],
         fallback: &Option<Vec<Act>>,
     ) -> Result<bool, Memory>
-        ensures { IfOk result (λ complete. way_past (width_in self.now.widths.signals.now) complete (other_of fallback.now) ≡ way_past (width_in self.now.widths.signals.now) (is_complete (width_in self.now.widths.signals.now) kind full (tree selector.now) (branches_of items.now)) (other_of fallback.now)) }
+        ensures { IfOk result (λ complete.
+            way_past (width_in self.now.widths.signals.now) complete (other_of fallback.now)
+            ≡ way_past (width_in self.now.widths.signals.now)
+            (is_complete (width_in self.now.widths.signals.now) kind full (tree selector.now)
+            (branches_of items.now)) (other_of fallback.now)) }
     {
         match fallback {
             Some(_) => Ok(true),

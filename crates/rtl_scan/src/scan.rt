@@ -64,7 +64,9 @@ impl Sets {
 
 /// Adds the bits of rows that aren't written yet.
 pub(crate) fn add_reads(reads: &mut BitSet, done: &BitSet, rows: &[Row]) -> Result<(), Memory>
-    ensures { OnOk result ((s k : ℕ) → has reads.new.masks s k ≡ (has reads.old.masks s k || (not (has done.now.masks s k) && has_rows rows.now s k))) }
+    ensures { OnOk result ((s k : ℕ)
+        → has reads.new.masks s k ≡ (has reads.old.masks s k
+        || (not (has done.now.masks s k) && has_rows rows.now s k))) }
 {
     for row in rows {
         reads.insert(done.lacks(*row))?;
@@ -78,7 +80,9 @@ pub(crate) fn add_writes(
     writes: &mut BitSet,
     parts: &[TargetPart],
 ) -> Result<(), Memory>
-    ensures { OnOk result ((s k : ℕ) → has writes.new.masks s k ≡ (has writes.old.masks s k || may_target (width_in widths.now.signals.now) (map piece parts.now) s k)) }
+    ensures { OnOk result ((s k : ℕ)
+        → has writes.new.masks s k ≡ (has writes.old.masks s k
+        || may_target (width_in widths.now.signals.now) (map piece parts.now) s k)) }
 {
     for part in parts {
         writes.insert(widths.may_row(part.signal, &part.select))?;
@@ -93,7 +97,9 @@ pub(crate) fn add_late(
     parts: &[TargetPart],
     delayed: bool,
 ) -> Result<(), Memory>
-    ensures { OnOk result ((s k : ℕ) → has late.new.masks s k ≡ (has late.old.masks s k || (delayed && may_target (width_in widths.now.signals.now) (map piece parts.now) s k))) }
+    ensures { OnOk result ((s k : ℕ)
+        → has late.new.masks s k ≡ (has late.old.masks s k
+        || (delayed && may_target (width_in widths.now.signals.now) (map piece parts.now) s k))) }
 {
     if !delayed {
         return Ok(());
@@ -104,7 +110,10 @@ pub(crate) fn add_late(
 /// Adds the bits of a row, and logs those that are new.
 #[tactic(auto, using(crate::proofs::Masks::has_rows_push))]
 fn mark(done: &mut BitSet, log: &mut Vec<Row>, row: Row) -> Result<(), Memory>
-    ensures { OnOk result ((s k : ℕ) → (has done.new.masks s k ≡ (has done.old.masks s k || has_row row s k)) × (has_rows log.new.items s k ≡ (has_rows log.old.items s k || (not (has done.old.masks s k) && has_row row s k)))) }
+    ensures { OnOk result ((s k : ℕ)
+        → (has done.new.masks s k ≡ (has done.old.masks s k || has_row row s k))
+        × (has_rows log.new.items s k ≡ (has_rows log.old.items s k
+        || (not (has done.old.masks s k) && has_row row s k)))) }
 {
     let fresh = done.lacks(row);
     done.insert(row)?;
@@ -119,7 +128,12 @@ pub(crate) fn add_sure(
     log: &mut Vec<Row>,
     parts: &[TargetPart],
 ) -> Result<(), Memory>
-    ensures { OnOk result ((s k : ℕ) → (has done.new.masks s k ≡ (has done.old.masks s k || targets (width_in widths.now.signals.now) (map piece parts.now) s k)) × (has_rows log.new.items s k ≡ (has_rows log.old.items s k || (not (has done.old.masks s k) && targets (width_in widths.now.signals.now) (map piece parts.now) s k)))) }
+    ensures { OnOk result ((s k : ℕ)
+        → (has done.new.masks s k ≡ (has done.old.masks s k
+        || targets (width_in widths.now.signals.now) (map piece parts.now) s k))
+        × (has_rows log.new.items s k ≡ (has_rows log.old.items s k
+        || (not (has done.old.masks s k)
+        && targets (width_in widths.now.signals.now) (map piece parts.now) s k)))) }
 {
     for part in parts {
         mark(done, log, widths.sure_row(part.signal, &part.select))?;
@@ -129,7 +143,10 @@ pub(crate) fn add_sure(
 
 /// Adds the bits of rows, and logs those that are new.
 pub(crate) fn add_kept(done: &mut BitSet, log: &mut Vec<Row>, kept: &[Row]) -> Result<(), Memory>
-    ensures { OnOk result ((s k : ℕ) → (has done.new.masks s k ≡ (has done.old.masks s k || has_rows kept.now s k)) × (has_rows log.new.items s k ≡ (has_rows log.old.items s k || (not (has done.old.masks s k) && has_rows kept.now s k)))) }
+    ensures { OnOk result ((s k : ℕ)
+        → (has done.new.masks s k ≡ (has done.old.masks s k || has_rows kept.now s k))
+        × (has_rows log.new.items s k ≡ (has_rows log.old.items s k
+        || (not (has done.old.masks s k) && has_rows kept.now s k)))) }
 {
     for row in kept {
         mark(done, log, *row)?;
@@ -139,7 +156,8 @@ pub(crate) fn add_kept(done: &mut BitSet, log: &mut Vec<Row>, kept: &[Row]) -> R
 
 /// Takes the bits of rows back.
 pub(crate) fn take_back(done: &mut BitSet, log: &[Row]) -> Result<(), Memory>
-    ensures { OnOk result ((s k : ℕ) → has done.new.masks s k ≡ (has done.old.masks s k && not (has_rows log.now s k))) }
+    ensures { OnOk result ((s k : ℕ)
+        → has done.new.masks s k ≡ (has done.old.masks s k && not (has_rows log.now s k))) }
 {
     for row in log {
         done.remove(*row)?;
@@ -149,7 +167,8 @@ pub(crate) fn take_back(done: &mut BitSet, log: &[Row]) -> Result<(), Memory>
 
 /// The bits of rows that a set has.
 pub(crate) fn common(alloc: Global, done: &BitSet, kept: &[Row]) -> Result<Vec<Row>, Memory>
-    ensures { IfOk result (λ both. (s k : ℕ) → has_rows both.items s k ≡ (has_rows kept.now s k && has done.now.masks s k)) }
+    ensures { IfOk result (λ both. (s k : ℕ)
+        → has_rows both.items s k ≡ (has_rows kept.now s k && has done.now.masks s k)) }
 {
     let mut both = Vec::new(alloc);
     for row in kept {
@@ -161,7 +180,8 @@ pub(crate) fn common(alloc: Global, done: &BitSet, kept: &[Row]) -> Result<Vec<R
 /// Adds a row that has bits.
 #[tactic(auto, using(crate::proofs::Adding::no_row_added, crate::proofs::Masks::has_rows_push))]
 fn push_some(rows: &mut Vec<Row>, row: Row) -> Result<(), Memory>
-    ensures { OnOk result ((s k : ℕ) → has_rows rows.new.items s k ≡ (has_rows rows.old.items s k || has_row row s k)) }
+    ensures { OnOk result ((s k : ℕ)
+        → has_rows rows.new.items s k ≡ (has_rows rows.old.items s k || has_row row s k)) }
 {
     if row.mask == 0 {
         return Ok(());

@@ -27,7 +27,8 @@ pub(crate) fn scan(
     does: &Does,
     counted: Counted,
 ) -> Result<Sets, Memory>
-    ensures { IfOk result (λ sets. HasScanned counted (flow_of (width_in widths.entry.signals.now) (doing does.now)) sets) }
+    ensures { IfOk result (λ sets.
+        HasScanned counted (flow_of (width_in widths.entry.signals.now) (doing does.now)) sets) }
 {
     let pass = Pass {
         alloc,
@@ -47,7 +48,8 @@ pub(crate) fn scan(
 
 impl<'d> Pass<'d> {
     fn process(&self, does: &Does, sets: &mut Sets) -> Result<(), Memory>
-        ensures { OnOk result (ScannedOver self.now.counted (flow_of (width_in self.now.widths.signals.now) (doing does.now)) sets.old sets.new) }
+        ensures { OnOk result (ScannedOver self.now.counted
+            (flow_of (width_in self.now.widths.signals.now) (doing does.now)) sets.old sets.new) }
     {
         let mut log = Vec::new(self.alloc);
         match does {
@@ -60,7 +62,8 @@ impl<'d> Pass<'d> {
 
 /// The bits that a process lists.
 pub(crate) fn list(alloc: Global, widths: Widths, does: &Does) -> Result<BitSet, Memory>
-    ensures { IfOk result (λ bits. (s k : ℕ) → has bits.masks s k ≡ listed (width_in widths.entry.signals.now) (doing does.now) s k) }
+    ensures { IfOk result (λ bits. (s k : ℕ)
+        → has bits.masks s k ≡ listed (width_in widths.entry.signals.now) (doing does.now) s k) }
 {
     match does {
         Does::Assign {
@@ -77,7 +80,9 @@ pub(crate) fn list(alloc: Global, widths: Widths, does: &Does) -> Result<BitSet,
 
 /// The bits that a process reads on some path.
 fn read_anywhere(alloc: Global, widths: Widths, does: &Does) -> Result<BitSet, Memory>
-    ensures { IfOk result (λ bits. (s k : ℕ) → has bits.masks s k ≡ may_read (flow_of (width_in widths.entry.signals.now) (doing does.now)) s k) }
+    ensures { IfOk result (λ bits. (s k : ℕ)
+        → has bits.masks s k ≡ may_read
+        (flow_of (width_in widths.entry.signals.now) (doing does.now)) s k) }
 {
     let sets = scan(alloc, widths, does, Counted::Nothing)?;
     Ok(sets.reads)
@@ -85,7 +90,9 @@ fn read_anywhere(alloc: Global, widths: Widths, does: &Does) -> Result<BitSet, M
 
 /// The bits that items list.
 fn listed_items(alloc: Global, widths: Widths, items: &[EventItem]) -> Result<BitSet, Memory>
-    ensures { IfOk result (λ bits. (s k : ℕ) → has bits.masks s k ≡ items_list (width_in widths.entry.signals.now) (map watched items.now) s k) }
+    ensures { IfOk result (λ bits. (s k : ℕ)
+        → has bits.masks s k ≡ items_list (width_in widths.entry.signals.now)
+        (map watched items.now) s k) }
 {
     let mut bits = BitSet::new(alloc);
     for item in items {
@@ -106,7 +113,8 @@ pub(crate) fn widths_of(d: &Design) -> Widths<'_>
 /// assignment to them before.
 pub fn reads(alloc: Global, d: &Design, p: ProcId) -> Result<Bits, Memory>
     requires { p.0 < length d.now.processes.items }
-    ensures bits { IfOk result (λ bits. (s k : ℕ) → has_rows bits.rows.items s k ≡ true ↔ OfProcess ReadsOutside d.now.signals.items (map task d.now.processes.items) p.0 s k) }
+    ensures bits { IfOk result (λ bits. (s k : ℕ) → has_rows bits.rows.items s k ≡ true
+        ↔ OfProcess ReadsOutside d.now.signals.items (map task d.now.processes.items) p.0 s k) }
     ensures order { IfOk result (λ bits. IsInOrder bits.rows.items) }
 {
     let does = &d.processes[p.0 as usize].does;
@@ -118,7 +126,8 @@ pub fn reads(alloc: Global, d: &Design, p: ProcId) -> Result<Bits, Memory>
 /// all of its signal.
 pub fn writes(alloc: Global, d: &Design, p: ProcId) -> Result<Bits, Memory>
     requires { p.0 < length d.now.processes.items }
-    ensures bits { IfOk result (λ bits. (s k : ℕ) → has_rows bits.rows.items s k ≡ true ↔ OfProcess MayWrite d.now.signals.items (map task d.now.processes.items) p.0 s k) }
+    ensures bits { IfOk result (λ bits. (s k : ℕ) → has_rows bits.rows.items s k ≡ true
+        ↔ OfProcess MayWrite d.now.signals.items (map task d.now.processes.items) p.0 s k) }
     ensures order { IfOk result (λ bits. IsInOrder bits.rows.items) }
 {
     let does = &d.processes[p.0 as usize].does;
@@ -129,7 +138,8 @@ pub fn writes(alloc: Global, d: &Design, p: ProcId) -> Result<Bits, Memory>
 /// The bits that every path of a process writes, by blocking or nonblocking assignments.
 pub fn sure(alloc: Global, d: &Design, p: ProcId) -> Result<Bits, Memory>
     requires { p.0 < length d.now.processes.items }
-    ensures bits { IfOk result (λ bits. (s k : ℕ) → has_rows bits.rows.items s k ≡ true ↔ OfProcess IsSure d.now.signals.items (map task d.now.processes.items) p.0 s k) }
+    ensures bits { IfOk result (λ bits. (s k : ℕ) → has_rows bits.rows.items s k ≡ true
+        ↔ OfProcess IsSure d.now.signals.items (map task d.now.processes.items) p.0 s k) }
     ensures order { IfOk result (λ bits. IsInOrder bits.rows.items) }
 {
     let does = &d.processes[p.0 as usize].does;
@@ -140,7 +150,8 @@ pub fn sure(alloc: Global, d: &Design, p: ProcId) -> Result<Bits, Memory>
 /// The bits that a process lists: `@*` lists what its body reads, and an assignment lists none.
 pub fn lists(alloc: Global, d: &Design, p: ProcId) -> Result<Bits, Memory>
     requires { p.0 < length d.now.processes.items }
-    ensures bits { IfOk result (λ bits. (s k : ℕ) → has_rows bits.rows.items s k ≡ true ↔ Lists d.now.signals.items (map task d.now.processes.items) p.0 s k) }
+    ensures bits { IfOk result (λ bits. (s k : ℕ) → has_rows bits.rows.items s k ≡ true
+        ↔ Lists d.now.signals.items (map task d.now.processes.items) p.0 s k) }
     ensures order { IfOk result (λ bits. IsInOrder bits.rows.items) }
 {
     let does = &d.processes[p.0 as usize].does;
@@ -150,7 +161,8 @@ pub fn lists(alloc: Global, d: &Design, p: ProcId) -> Result<Bits, Memory>
 
 /// The bits that a select of a signal may mean: all of the signal where its index is computed.
 pub fn selected(d: &Design, signal: SigId, select: &Select) -> Row
-    ensures { (s k : ℕ) → has_row result s k ≡ may_select (width_in d.now.signals.items) signal.0 (selection select.now) s k }
+    ensures { (s k : ℕ) → has_row result s k
+        ≡ may_select (width_in d.now.signals.items) signal.0 (selection select.now) s k }
 {
     widths_of(d).may_row(signal, select)
 }

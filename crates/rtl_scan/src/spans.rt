@@ -32,7 +32,8 @@ impl<'d> Widths<'d> {
 
     /// The bits that a signal has from place `low` on and below `high`.
     pub(crate) fn span(&self, signal: SigId, low: u8, high: u16) -> Row
-        ensures { (s k : ℕ) → has_row result s k ≡ span (width_in self.now.signals.now) signal.0 low high s k }
+        ensures { (s k : ℕ) → has_row result s k
+            ≡ span (width_in self.now.signals.now) signal.0 low high s k }
     {
         let end = high.min(u16::from(self.width(signal)));
         Row {
@@ -43,14 +44,16 @@ impl<'d> Widths<'d> {
 
     /// All bits of a signal.
     pub(crate) fn all(&self, signal: SigId) -> Row
-        ensures { (s k : ℕ) → has_row result s k ≡ all_bits (width_in self.now.signals.now) signal.0 s k }
+        ensures { (s k : ℕ) → has_row result s k
+            ≡ all_bits (width_in self.now.signals.now) signal.0 s k }
     {
         self.span(signal, 0, u16::from(self.width(signal)))
     }
 
     /// The bit that an index selects where the declaration numbers the lowest bit `low`.
     pub(crate) fn bit(&self, signal: SigId, low: u32, index: i64) -> Row
-        ensures { (s k : ℕ) → has_row result s k ≡ bit_at (width_in self.now.signals.now) signal.0 low index s k }
+        ensures { (s k : ℕ) → has_row result s k
+            ≡ bit_at (width_in self.now.signals.now) signal.0 low index s k }
     {
         Row {
             signal,

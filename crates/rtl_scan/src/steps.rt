@@ -31,7 +31,8 @@ pub(crate) struct Pass<'d> {
 impl<'d> Pass<'d> {
     /// Reads an expression.
     pub(crate) fn read(&self, e: &SizedExpr, sets: &mut Sets) -> Result<(), Memory>
-        ensures { OnOk result (Reads (reads (width_in self.now.widths.signals.now) (tree e.now)) sets.old sets.new) }
+        ensures { OnOk result (Reads (reads (width_in self.now.widths.signals.now) (tree e.now))
+            sets.old sets.new) }
     {
         let mut rows = sets.take_rows(self.alloc);
         self.widths.push_reads(e, &mut rows)?;
@@ -45,7 +46,10 @@ impl<'d> Pass<'d> {
         items: &[CaseItem],
         sets: &mut Sets,
     ) -> Result<(), Memory>
-        ensures { OnOk result (Reads (either (reads (width_in self.now.widths.signals.now) (tree selector.now)) (reads_all (width_in self.now.widths.signals.now) (labels_of (branches_of items.now)))) sets.old sets.new) }
+        ensures { OnOk result (Reads (either
+            (reads (width_in self.now.widths.signals.now) (tree selector.now))
+            (reads_all (width_in self.now.widths.signals.now) (labels_of (branches_of items.now))))
+            sets.old sets.new) }
     {
         let mut rows = sets.take_rows(self.alloc);
         self.widths.push_reads(selector, &mut rows)?;
@@ -60,7 +64,10 @@ impl<'d> Pass<'d> {
         value: &SizedExpr,
         sets: &mut Sets,
     ) -> Result<(), Memory>
-        ensures { OnOk result (Reads (either (reads (width_in self.now.widths.signals.now) (tree value.now)) (target_reads (width_in self.now.widths.signals.now) (map piece parts.now))) sets.old sets.new) }
+        ensures { OnOk result (Reads (either
+            (reads (width_in self.now.widths.signals.now) (tree value.now))
+            (target_reads (width_in self.now.widths.signals.now) (map piece parts.now))) sets.old
+            sets.new) }
     {
         let mut rows = sets.take_rows(self.alloc);
         self.widths.push_reads(value, &mut rows)?;
@@ -76,7 +83,9 @@ impl<'d> Pass<'d> {
         sets: &mut Sets,
         log: &mut Vec<Row>,
     ) -> Result<(), Memory>
-        ensures { OnOk result (FlowScanned self.now.counted (write_flow (width_in self.now.widths.signals.now) (map piece parts.now) delayed) sets.old log.old.items sets.new log.new.items) }
+        ensures { OnOk result (FlowScanned self.now.counted
+            (write_flow (width_in self.now.widths.signals.now) (map piece parts.now) delayed)
+            sets.old log.old.items sets.new log.new.items) }
     {
         add_writes(&self.widths, &mut sets.writes, parts)?;
         add_late(&self.widths, &mut sets.late, parts, delayed)?;
@@ -94,7 +103,9 @@ impl<'d> Pass<'d> {
         sets: &mut Sets,
         log: &mut Vec<Row>,
     ) -> Result<(), Memory>
-        ensures { OnOk result (FlowScanned self.now.counted (connect_flow (width_in self.now.widths.signals.now) (map piece parts.now) (tree value.now)) sets.old log.old.items sets.new log.new.items) }
+        ensures { OnOk result (FlowScanned self.now.counted
+            (connect_flow (width_in self.now.widths.signals.now) (map piece parts.now)
+            (tree value.now)) sets.old log.old.items sets.new log.new.items) }
     {
         self.read(value, sets)?;
         self.write(parts, false, sets, log)
@@ -109,7 +120,9 @@ impl<'d> Pass<'d> {
         sets: &mut Sets,
         log: &mut Vec<Row>,
     ) -> Result<(), Memory>
-        ensures { OnOk result (FlowScanned self.now.counted (assign_flow (width_in self.now.widths.signals.now) (map piece parts.now) (tree value.now) delayed) sets.old log.old.items sets.new log.new.items) }
+        ensures { OnOk result (FlowScanned self.now.counted
+            (assign_flow (width_in self.now.widths.signals.now) (map piece parts.now)
+            (tree value.now) delayed) sets.old log.old.items sets.new log.new.items) }
     {
         self.read_assign(parts, value, sets)?;
         self.write(parts, delayed, sets, log)

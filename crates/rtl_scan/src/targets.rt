@@ -17,7 +17,8 @@ use rtl_tree::memory::Memory;
 impl<'d> Widths<'d> {
     /// The bits that a select may mean.
     pub(crate) fn may_row(&self, signal: SigId, select: &Select) -> Row
-        ensures { (s k : ℕ) → has_row result s k ≡ may_select (width_in self.now.signals.now) signal.0 (selection select.now) s k }
+        ensures { (s k : ℕ) → has_row result s k
+            ≡ may_select (width_in self.now.signals.now) signal.0 (selection select.now) s k }
     {
         match select {
             Select::Whole => self.all(signal),
@@ -33,7 +34,8 @@ impl<'d> Widths<'d> {
 
     /// The bits that a select means whatever its index is.
     pub(crate) fn sure_row(&self, signal: SigId, select: &Select) -> Row
-        ensures { (s k : ℕ) → has_row result s k ≡ selects (width_in self.now.signals.now) signal.0 (selection select.now) s k }
+        ensures { (s k : ℕ) → has_row result s k
+            ≡ selects (width_in self.now.signals.now) signal.0 (selection select.now) s k }
     {
         match select {
             Select::Whole => self.all(signal),
@@ -50,7 +52,8 @@ impl<'d> Widths<'d> {
     /// Adds the bits that the index of a select reads.
     #[tactic(auto, using(crate::proofs::Adding::adds_none))]
     fn push_index(&self, select: &Select, rows: &mut Vec<Row>) -> Result<(), Memory>
-        ensures { OnOk result (Adds (index_reads (width_in self.now.signals.now) (selection select.now)) rows.old.items rows.new.items) }
+        ensures { OnOk result (Adds (index_reads (width_in self.now.signals.now)
+            (selection select.now)) rows.old.items rows.new.items) }
     {
         match select {
             Select::Whole => Ok(()),
@@ -68,7 +71,8 @@ impl<'d> Widths<'d> {
         parts: &[TargetPart],
         rows: &mut Vec<Row>,
     ) -> Result<(), Memory>
-        ensures { OnOk result (Adds (target_reads (width_in self.now.signals.now) (map piece parts.now)) rows.old.items rows.new.items) }
+        ensures { OnOk result (Adds (target_reads (width_in self.now.signals.now)
+            (map piece parts.now)) rows.old.items rows.new.items) }
     {
         for part in parts {
             self.push_index(&part.select, rows)?;
@@ -78,7 +82,8 @@ impl<'d> Widths<'d> {
 
     /// Adds the bits that expressions read.
     fn push_all(&self, labels: &[SizedExpr], rows: &mut Vec<Row>) -> Result<(), Memory>
-        ensures { OnOk result (Adds (reads_all (width_in self.now.signals.now) (map tree labels.now)) rows.old.items rows.new.items) }
+        ensures { OnOk result (Adds (reads_all (width_in self.now.signals.now)
+            (map tree labels.now)) rows.old.items rows.new.items) }
     {
         for label in labels {
             self.push_reads(label, rows)?;
@@ -89,7 +94,8 @@ impl<'d> Widths<'d> {
     /// Adds the bits that the labels of a case read.
     #[tactic(auto, using(crate::proofs::Adding::reads_all_append))]
     pub(crate) fn push_labels(&self, items: &[CaseItem], rows: &mut Vec<Row>) -> Result<(), Memory>
-        ensures { OnOk result (Adds (reads_all (width_in self.now.signals.now) (labels_of (branches_of items.now))) rows.old.items rows.new.items) }
+        ensures { OnOk result (Adds (reads_all (width_in self.now.signals.now)
+            (labels_of (branches_of items.now))) rows.old.items rows.new.items) }
     {
         for item in items {
             self.push_all(&item.labels, rows)?;

@@ -92,7 +92,8 @@ impl BitSet {
 impl Sets {
     /// Whether a nonblocking assignment writes a signal, or a bit of it is read first.
     fn keeps(&self, signal: u32) -> bool
-        ensures { result ≡ (spec.has_some self.now.late.masks signal || spec.has_some self.now.reads.masks signal) }
+        ensures { result ≡ (spec.has_some self.now.late.masks signal
+            || spec.has_some self.now.reads.masks signal) }
     {
         self.late.has_some(signal) || self.reads.has_some(signal)
     }
@@ -136,7 +137,8 @@ pub(crate) fn note(
     number: usize,
     usages: &mut [Usage],
 ) -> Result<Access, Memory>
-    ensures noted { OnOk result (spec.IsNotedIn (width_in widths.entry.signals.now) (task process.now) number usages.old usages.new) }
+    ensures noted { OnOk result (spec.IsNotedIn (width_in widths.entry.signals.now)
+        (task process.now) number usages.old usages.new) }
     ensures access { IfOk result (IsAccess (width_in widths.entry.signals.now) (task process.now)) }
 {
     let found = scan(alloc, widths, &process.does, Counted::Blocking)?;
@@ -157,7 +159,9 @@ pub(crate) fn note(
 
 /// Which processes use each signal.
 fn usages_of(alloc: Global, widths: Widths, processes: &[Process]) -> Result<Vec<Usage>, Memory>
-    ensures { IfOk result (λ usages. spec.AreUsages widths.entry.signals.now (map task processes.now) (length processes.now) usages.items) }
+    ensures { IfOk result (λ usages.
+        spec.AreUsages widths.entry.signals.now (map task processes.now)
+        (length processes.now) usages.items) }
 {
     let mut usages = vec![in alloc; Usage::Unused; widths.signals.len()]?;
     for number in 0..processes.len() {
@@ -180,7 +184,8 @@ pub(crate) fn answers(
     usages: &[Usage],
 ) -> Result<Vec<bool>, Memory>
     requires { length usages.now ≡ length signals.now }
-    ensures { IfOk result (λ answers. spec.AreAnswers signals.now usages.now (length signals.now) answers.items) }
+    ensures { IfOk result (λ answers.
+        spec.AreAnswers signals.now usages.now (length signals.now) answers.items) }
 {
     let mut answers = Vec::new(alloc);
     for place in 0..signals.len() {
@@ -195,8 +200,10 @@ pub(crate) fn temporaries_of(
     widths: Widths,
     processes: &[Process],
 ) -> Result<Vec<bool>, Memory>
-    ensures length { IfOk result (λ answers. length answers.items ≡ length widths.entry.signals.now) }
-    ensures each { IfOk result (λ answers. (s : ℕ) → slice_get answers.items s ≡ Some true ↔ IsTemporary widths.entry.signals.now (map task processes.now) s) }
+    ensures length { IfOk result (λ answers. length answers.items
+        ≡ length widths.entry.signals.now) }
+    ensures each { IfOk result (λ answers. (s : ℕ) → slice_get answers.items s ≡ Some true
+        ↔ IsTemporary widths.entry.signals.now (map task processes.now) s) }
 {
     let usages = usages_of(alloc, widths, processes)?;
     answers(alloc, widths.signals, &usages)
@@ -207,7 +214,8 @@ pub(crate) fn temporaries_of(
 /// reads before it has written what it reads.
 pub fn temporaries(alloc: Global, d: &Design) -> Result<Vec<bool>, Memory>
     ensures length { IfOk result (λ answers. length answers.items ≡ length d.now.signals.items) }
-    ensures each { IfOk result (λ answers. (s : ℕ) → slice_get answers.items s ≡ Some true ↔ IsTemporary d.now.signals.items (map task d.now.processes.items) s) }
+    ensures each { IfOk result (λ answers. (s : ℕ) → slice_get answers.items s ≡ Some true
+        ↔ IsTemporary d.now.signals.items (map task d.now.processes.items) s) }
 {
     temporaries_of(alloc, widths_of(d), &d.processes)
 }

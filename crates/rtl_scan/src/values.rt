@@ -1,19 +1,31 @@
-// The values that labels of a case match.
+//! Labels of a case that are literals, and the values that they match.
 
 ghost use Rattle.std.specs.Prelude.{ℕ, ◌≡◌, ◌≤◌, ◌^◌, ◌==◌, cond, true, false, OnOk, IfOk, length};
 ghost use Rattle.std.specs.List.{list_any};
 ghost use Rattle.std.specs.Ordering.{nat_cmp};
 ghost use Rattle.std.specs.BTreeSet.{contains};
 ghost use Rattle.rtl_bits.specs.Bits.{bits_of, extended, has_unknown};
-ghost use Rattle.rtl_flat.specs.Flows.{literal_matches, each_below};
-ghost use Rattle.rtl_scan.specs.Values.{matches_some, GetsLabel, AreSorted};
+ghost use Rattle.rtl_flat.specs.Expression.{tree};
+ghost use Rattle.rtl_flat.specs.Flows.{literal, literal_matches, each_below};
+ghost use Rattle.rtl_scan.specs.Values.{listed_of, matches_some, GetsLabel, AreSorted};
 
 use rtl_bits::Vec4;
 use rtl_expr::is_match;
 use rtl_flat::act::CaseKind;
+use rtl_flat::expr::{Node, SizedExpr};
 use rtl_tree::memory::Memory;
 use std::alloc::Global;
 use std::collections::BTreeSet;
+
+/// The bits of a label that is a literal.
+pub fn literal_of(label: &SizedExpr) -> Option<Vec4>
+    ensures { listed_of result ≡ literal (tree label.now) }
+{
+    match &label.node {
+        Node::Literal(bits) => Some(*bits),
+        _ => None,
+    }
+}
 
 fn matches_one(kind: CaseKind, value: Vec4, label: Vec4) -> bool
     ensures { result ≡ literal_matches kind value label }
@@ -33,30 +45,30 @@ fn any_matches(kind: CaseKind, value: Vec4, labels: &[Vec4]) -> bool
     false
 }
 
+/// Puts a number into a set. Fails where memory runs out.
+pub fn insert_number(numbers: &mut BTreeSet<u128>, number: u128) -> Result<(), Memory>
+    ensures { OnOk result ((n : ℕ)
+        → contains nat_cmp numbers.new n
+        ≡ cond (n == number) true (contains nat_cmp numbers.old n)) }
+{
+    numbers.insert(number)?;
+    Ok(())
+}
+
 /// Labels of a case: those of a width without x and z by their numbers, each of which matches one
 /// value, and the others.
 #[derive(Drop)]
 pub(crate) struct Labels {
-    pub(crate) numbers: BTreeSet<u128>,
-    pub(crate) others: Vec<Vec4>,
+    numbers: BTreeSet<u128>,
+    others: Vec<Vec4>,
 }
 
 impl Labels {
-    fn add_number(&mut self, number: u128) -> Result<(), Memory>
-        ensures { OnOk result (((n : ℕ)
-            → contains nat_cmp self.new.numbers n
-            ≡ cond (n == number) true (contains nat_cmp self.old.numbers n))
-            × (self.new.others.items ≡ self.old.others.items)) }
-    {
-        self.numbers.insert(number)?;
-        Ok(())
-    }
-
     fn add(&mut self, width: u8, label: Vec4) -> Result<(), Memory>
         ensures { OnOk result (GetsLabel width label self.old self.new) }
     {
         if label.width() == width && label.is_known() {
-            return self.add_number(label.number());
+            return insert_number(&mut self.numbers, label.number());
         }
         self.others.push(label)?;
         Ok(())

@@ -1,7 +1,7 @@
 use Rattle.std.proofs.Common.{◌≡◌, ◌∙◌, ◌&&◌, not, false, sym, ap}
 use Rattle.rtl_rule.specs.Parts.{has_some}
 use Rattle.rtl_flat.specs.Flats.{flat, widths}
-use Rattle.check_graph.specs.check_found.Masks.{has_in, mask_in}
+use Rattle.check_loops.specs.check_found.Masks.{has_in, mask_in}
 use Rattle.check_assign.specs.Assigned.{is_input}
 use Rattle.check_assign.proofs.Hits.{whole_leaves}
 use Rattle.check_assign.proofs.drivers.is_undriven.Goals as goal

@@ -1,7 +1,7 @@
 use Rattle.std.proofs.Common.{◌≡◌, ℕ, Some, cond, drop}
 use Rattle.std.specs.Ordering.{nat_cmp}
 use Rattle.std.specs.BTreeMap.{get}
-use Rattle.check_graph.specs.check_found.Masks.{mask_in}
+use Rattle.check_loops.specs.check_found.Masks.{mask_in}
 use Rattle.check_assign.specs.Marks.{any_row, shares}
 use Rattle.check_assign.proofs.drivers.mark_shared.Given as goal
 

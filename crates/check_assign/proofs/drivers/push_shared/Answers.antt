@@ -6,12 +6,12 @@ use Rattle.rtl_flat.specs.Process.{Task, task}
 use Rattle.rtl_rule.specs.declared.rule.Rule.TheVariants.{SeveralDrivers}
 use Rattle.rtl_rule.specs.Parts.{written}
 use Rattle.rtl_flat.specs.Flats.{flat, widths}
-use Rattle.check_graph.specs.rtl_scan.declared.bits.Row.{Row}
-use Rattle.check_graph.specs.rtl_scan.Sets.{has_rows}
-use Rattle.check_graph.specs.check_found.Masks.{has_in, mask_in}
-use Rattle.check_graph.specs.check_found.Gathered.{Gets, signal_numbers, task_sites}
-use Rattle.check_graph.proofs.check_found_proofs.Inside.{written_inside}
-use Rattle.check_graph.proofs.check_found_proofs.Sites.{task_at}
+use Rattle.check_loops.specs.rtl_scan.declared.bits.Row.{Row}
+use Rattle.check_loops.specs.rtl_scan.Sets.{has_rows}
+use Rattle.check_loops.specs.check_found.Masks.{has_in, mask_in}
+use Rattle.check_loops.specs.check_found.Gathered.{Gets, signal_numbers, task_sites}
+use Rattle.check_loops.proofs.check_found_proofs.Inside.{written_inside}
+use Rattle.check_loops.proofs.check_found_proofs.Sites.{task_at}
 use Rattle.check_assign.specs.Assigned.{IsSeveralDrivers, lower_writes, several_drivers_at}
 use Rattle.check_assign.specs.Marks.{any_row, shares}
 use Rattle.check_assign.proofs.Hits.{shares_some}

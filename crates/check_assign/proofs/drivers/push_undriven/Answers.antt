@@ -3,9 +3,9 @@ use Rattle.std.proofs.lemmas.Bool.{both_ways}
 use Rattle.rtl_rule.specs.declared.finding.Finding.{Finding}
 use Rattle.rtl_rule.specs.Parts.{has_some}
 use Rattle.rtl_flat.specs.Flats.{flat, widths}
-use Rattle.check_graph.specs.check_found.Masks.{has_in}
-use Rattle.check_graph.specs.check_found.Gathered.{Gets}
-use Rattle.check_graph.proofs.check_found_proofs.Gathering.{gets_nothing, gets_one}
+use Rattle.check_loops.specs.check_found.Masks.{has_in}
+use Rattle.check_loops.specs.check_found.Gathered.{Gets}
+use Rattle.check_loops.proofs.check_found_proofs.Gathering.{gets_nothing, gets_one}
 use Rattle.check_assign.specs.Assigned.{IsUndriven, is_input, is_written, undriven_at}
 use Rattle.check_assign.proofs.Below.{below_same}
 use Rattle.check_assign.proofs.drivers.push_undriven.Goals as goal

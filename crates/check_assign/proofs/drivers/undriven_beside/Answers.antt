@@ -4,8 +4,8 @@ use Rattle.std.proofs.lemmas.List.FromFn.{length-enumerate_from}
 use Rattle.rtl_flat.specs.declared.signal.Signal.{Signal}
 use Rattle.rtl_flat.specs.Flats.{flat}
 use Rattle.rtl_rule.specs.Sites.{AreFindings}
-use Rattle.check_graph.proofs.check_found_proofs.Gathering.{all_taken, findings_more, take_next}
-use Rattle.check_graph.proofs.check_found_proofs.Sites.{numbered_at, read_at}
+use Rattle.check_loops.proofs.check_found_proofs.Gathering.{all_taken, findings_more, take_next}
+use Rattle.check_loops.proofs.check_found_proofs.Sites.{numbered_at, read_at}
 use Rattle.check_assign.specs.Assigned.{IsUndriven, undriven_at}
 use Rattle.check_assign.proofs.drivers.undriven_beside.Goals as goal
 

@@ -1,7 +1,7 @@
 use Rattle.rtl_flat.specs.Process.{task}
 use Rattle.rtl_flat.specs.Flats.{flat}
-use Rattle.check_graph.specs.check_found.Gathered.{signal_numbers}
-use Rattle.check_graph.proofs.check_found_proofs.Sites.{next_below}
+use Rattle.check_loops.specs.check_found.Gathered.{signal_numbers}
+use Rattle.check_loops.proofs.check_found_proofs.Sites.{next_below}
 use Rattle.check_assign.specs.Assigned.{IsMixedAssign, mixed_assign_at}
 use Rattle.check_assign.proofs.Turns.{task_there}
 use Rattle.check_assign.proofs.kinds.mixed_assign.Goals as goal

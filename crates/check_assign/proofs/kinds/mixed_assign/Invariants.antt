@@ -1,6 +1,6 @@
 use Rattle.rtl_flat.specs.Flats.{flat}
 use Rattle.rtl_rule.specs.Sites.{AreFindings}
-use Rattle.check_graph.specs.check_found.Gathered.{signal_numbers, sites_below}
+use Rattle.check_loops.specs.check_found.Gathered.{signal_numbers, sites_below}
 use Rattle.check_assign.specs.Assigned.{IsMixedAssign, mixed_assign_at}
 use Rattle.check_assign.proofs.kinds.mixed_assign.Given as goal
 

@@ -1,7 +1,7 @@
 use Rattle.std.proofs.Common.{◌≡◌, ℕ, Some, cond, drop}
 use Rattle.std.specs.Ordering.{nat_cmp}
 use Rattle.std.specs.BTreeMap.{get}
-use Rattle.check_graph.specs.rtl_scan.Sets.{mask_of}
+use Rattle.check_loops.specs.rtl_scan.Sets.{mask_of}
 use Rattle.check_assign.specs.Marks.{any_row, leaves}
 use Rattle.check_assign.proofs.latches.mark_left.Given as goal
 

@@ -10,11 +10,11 @@ use Rattle.rtl_flat.specs.Process.{Task, doing, task}
 use Rattle.rtl_rule.specs.declared.rule.Rule.TheVariants.{LatchInferred}
 use Rattle.rtl_rule.specs.Parts.{written}
 use Rattle.rtl_flat.specs.Flats.{flat, widths}
-use Rattle.check_graph.specs.rtl_scan.declared.bits.Row.{Row}
-use Rattle.check_graph.specs.rtl_scan.Sets.{mask_of}
-use Rattle.check_graph.specs.check_found.Gathered.{Gets, signal_numbers, task_sites}
-use Rattle.check_graph.proofs.check_found_proofs.Inside.{written_inside}
-use Rattle.check_graph.proofs.check_found_proofs.Sites.{task_at}
+use Rattle.check_loops.specs.rtl_scan.declared.bits.Row.{Row}
+use Rattle.check_loops.specs.rtl_scan.Sets.{mask_of}
+use Rattle.check_loops.specs.check_found.Gathered.{Gets, signal_numbers, task_sites}
+use Rattle.check_loops.proofs.check_found_proofs.Inside.{written_inside}
+use Rattle.check_loops.proofs.check_found_proofs.Sites.{task_at}
 use Rattle.check_assign.specs.Assigned.{IsLatchInferred, is_comb, latch_inferred_at}
 use Rattle.check_assign.specs.Marks.{any_row, leaves}
 use Rattle.check_assign.proofs.Hits.{leaves_some}

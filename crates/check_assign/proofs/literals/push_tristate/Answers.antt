@@ -8,9 +8,9 @@ use Rattle.rtl_rule.specs.declared.finding.Finding.{Finding}
 use Rattle.rtl_rule.specs.declared.rule.Rule.TheVariants.{Tristate}
 use Rattle.rtl_rule.specs.Parts.{found_at, has_literal, is_z, least_place, nodes, valued_trees, within}
 use Rattle.rtl_flat.specs.Flats.{flat}
-use Rattle.check_graph.specs.check_found.Gathered.{Gets}
-use Rattle.check_graph.proofs.check_found_proofs.Gathering.{gets_nothing, gets_one}
-use Rattle.check_graph.proofs.check_found_proofs.Sites.{task_at}
+use Rattle.check_loops.specs.check_found.Gathered.{Gets}
+use Rattle.check_loops.proofs.check_found_proofs.Gathering.{gets_nothing, gets_one}
+use Rattle.check_loops.proofs.check_found_proofs.Sites.{task_at}
 use Rattle.check_assign.specs.Assigned.{IsTristate, tristate_at}
 use Rattle.check_assign.specs.Marks.{z_spots}
 use Rattle.check_assign.proofs.Zeds.{z_empty, z_there}

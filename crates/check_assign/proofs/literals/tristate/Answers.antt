@@ -1,6 +1,6 @@
 use Rattle.std.proofs.Common.{[], ◌∷◌, arith}
 use Rattle.rtl_flat.specs.Flats.{flat}
-use Rattle.check_graph.proofs.check_found_proofs.Sites.{next_below}
+use Rattle.check_loops.proofs.check_found_proofs.Sites.{next_below}
 use Rattle.check_assign.specs.Assigned.{IsTristate, tristate_at}
 use Rattle.check_assign.proofs.Turns.{task_of}
 use Rattle.check_assign.proofs.literals.tristate.Goals as goal

@@ -1,6 +1,6 @@
 use Rattle.std.proofs.Common.{◌∙◌, ◌+◌, ◌++◌, [], ◌∷◌, append_assoc, drop, map, sym, ap}
 use Rattle.rtl_flat.specs.Expression.{tree}
-use Rattle.check_graph.proofs.rtl_scan_proofs.Labels.{left_at}
+use Rattle.check_loops.proofs.rtl_scan_proofs.Labels.{left_at}
 use Rattle.check_assign.specs.Marks.{z_spots}
 use Rattle.check_assign.proofs.Zeds.{z_append}
 use Rattle.check_assign.proofs.literals.z_places.Goals as goal

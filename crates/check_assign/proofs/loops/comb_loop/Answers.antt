@@ -2,8 +2,8 @@ use Rattle.std.proofs.Common.{◌≡◌, ◌∙◌, ◌<◌, [], ◌∷◌, Bool
 use Rattle.std.specs.Prelude.{◌↔◌}
 use Rattle.std.proofs.lemmas.List.{get_or_default}
 use Rattle.rtl_flat.specs.Flats.{flat}
-use Rattle.check_graph.specs.Loops.{AreLevelLoops, IsOnLevelCycle}
-use Rattle.check_graph.proofs.check_found_proofs.Sites.{next_below, task_count}
+use Rattle.check_loops.specs.Loops.{AreLevelLoops, IsOnLevelCycle}
+use Rattle.check_loops.proofs.check_found_proofs.Sites.{next_below, task_count}
 use Rattle.check_assign.specs.Assigned.{IsCombLoop, comb_loop_at}
 use Rattle.check_assign.proofs.Turns.{task_of}
 use Rattle.check_assign.proofs.loops.comb_loop.Goals as goal

@@ -5,9 +5,9 @@ use Rattle.rtl_rule.specs.declared.finding.Finding.{Finding}
 use Rattle.rtl_rule.specs.declared.rule.Rule.TheVariants.{CombLoop}
 use Rattle.rtl_rule.specs.Parts.{found, within}
 use Rattle.rtl_flat.specs.Flats.{flat}
-use Rattle.check_graph.specs.check_found.Gathered.{Gets}
-use Rattle.check_graph.proofs.check_found_proofs.Gathering.{gets_nothing, gets_one}
-use Rattle.check_graph.proofs.check_found_proofs.Sites.{task_at}
+use Rattle.check_loops.specs.check_found.Gathered.{Gets}
+use Rattle.check_loops.proofs.check_found_proofs.Gathering.{gets_nothing, gets_one}
+use Rattle.check_loops.proofs.check_found_proofs.Sites.{task_at}
 use Rattle.check_assign.specs.Assigned.{IsCombLoop, comb_loop_at}
 use Rattle.check_assign.proofs.loops.push_loop.Goals as goal
 

@@ -3,7 +3,7 @@ use Rattle.std.specs.Ordering.{nat_cmp}
 use Rattle.std.specs.BTreeMap.{get}
 use Rattle.rtl_flat.specs.Process.{action}
 use Rattle.rtl_flat.specs.Flats.{flat, widths}
-use Rattle.check_graph.proofs.rtl_scan_proofs.Labels.{left_at}
+use Rattle.check_loops.proofs.rtl_scan_proofs.Labels.{left_at}
 use Rattle.check_assign.specs.Assigned.{own_targets}
 use Rattle.check_assign.proofs.Steps.{list_step}
 use Rattle.check_assign.proofs.targets.first_targets.Goals as goal

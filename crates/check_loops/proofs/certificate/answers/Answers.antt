@@ -1,6 +1,6 @@
 use Rattle.std.proofs.Common.{◌∙◌, ◌<◌, List, ℕ, length, ap, subst, arith}
-use Rattle.rtl_scan.specs.Graph.{row}
-use Rattle.rtl_scan.proofs.Advances.{row_get}
+use Rattle.check_found.specs.rtl_scan.Graph.{row}
+use Rattle.check_found.proofs.rtl_scan_proofs.Advances.{row_get}
 use Rattle.check_loops.specs.Rounds.{IsLooked, group_at}
 use Rattle.check_loops.proofs.Showing.{answered_more}
 use Rattle.check_loops.proofs.certificate.answers.Goals as goal

@@ -1,6 +1,6 @@
 use Rattle.std.proofs.Common.{◌≡◌, ◌∙◌, ◌<◌, ◌||◌, length, ap, sym, arith}
-use Rattle.rtl_scan.specs.Graph.{row}
-use Rattle.rtl_scan.proofs.Advances.{row_get}
+use Rattle.check_found.specs.rtl_scan.Graph.{row}
+use Rattle.check_found.proofs.rtl_scan_proofs.Advances.{row_get}
 use Rattle.check_loops.specs.Rounds.{is_fed}
 use Rattle.check_loops.proofs.Spreading.{spread_more}
 use Rattle.check_loops.proofs.spread.spread.Goals.{then-grown, else-grown}

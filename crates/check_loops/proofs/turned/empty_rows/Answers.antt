@@ -1,5 +1,5 @@
 use Rattle.std.proofs.Common.{◌∙◌, ap}
-use Rattle.rtl_scan.specs.Graph.{row}
+use Rattle.check_found.specs.rtl_scan.Graph.{row}
 use Rattle.check_loops.proofs.Places.{row_empty}
 use Rattle.check_loops.proofs.turned.empty_rows.Goals as goal
 

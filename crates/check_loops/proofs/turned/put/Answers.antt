@@ -1,5 +1,5 @@
 use Rattle.std.proofs.Common.{◌∙◌, ◌<◌, [], ◌∷◌, ◌++◌, length, ap, arith}
-use Rattle.rtl_scan.proofs.Advances.{row_get}
+use Rattle.check_found.proofs.rtl_scan_proofs.Advances.{row_get}
 use Rattle.check_loops.proofs.Turning.{put_puts}
 use Rattle.check_loops.proofs.turned.put.Goals as goal
 

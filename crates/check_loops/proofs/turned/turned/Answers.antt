@@ -1,5 +1,5 @@
 use Rattle.std.proofs.Common.{◌∙◌, ap}
-use Rattle.rtl_scan.proofs.Advances.{row_get}
+use Rattle.check_found.proofs.rtl_scan_proofs.Advances.{row_get}
 use Rattle.check_loops.proofs.Turning.{turned_more}
 use Rattle.check_loops.proofs.turned.turned.Goals as goal
 

@@ -1,11 +1,12 @@
 use Rattle.std.proofs.Common.{◌<◌, ◌^◌, ℕ, List, Option, length, subst, sym, arith}
 use Rattle.rtl_flat.specs.declared.expr.SigId.{SigId}
 use Rattle.rtl_flat.specs.Flats.{flat}
+use Rattle.check_found.specs.rtl_scan.declared.feeds.Waits.TheVariants.{Reads}
 use Rattle.check_found.specs.rtl_scan.Graph.{AreRows}
 use Rattle.check_found.proofs.Sites.{task_count}
-use Rattle.net_order.specs.Feeds.{IsLeastOf, IsLost, IsRanked}
+use Rattle.net_order.specs.Ranks.{IsLeastOf, IsLost, IsRanked}
 use Rattle.net_order.proofs.Answering.{least_cyclic, ranked_order}
-use Rattle.net_order.proofs.Feeding.{rows_of_feeds}
+use Rattle.check_found.proofs.rtl_scan_proofs.Feeding.{rows_of_arrows}
 use Rattle.net_order.proofs.Ranking.{numbers_of}
 use Rattle.net_order.proofs.order.order.Goals as goal
 
@@ -14,7 +15,7 @@ depths-requires c =
     let d = flat c.args.design.now in
     let len = task_count c.args.design.now in
     let small : length d.tasks < 2 ^ 32 = omega arith in
-    subst (λ rows. AreRows rows) (sym c.deref.ensures.value) (rows_of_feeds d.signals d.tasks c.in_ok-rows.rows.items c.in_ok-rows.ensures small)
+    subst (λ rows. AreRows rows) (sym c.deref.ensures.value) (rows_of_arrows Reads d.signals d.tasks c.in_ok-rows.rows.items c.in_ok-rows.ensures small)
 
 pub returns-in-Some : goal.returns-in-Some
 returns-in-Some c =

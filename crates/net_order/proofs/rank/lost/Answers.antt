@@ -1,7 +1,7 @@
 use Rattle.std.proofs.Common.{◌≡◌, ℕ, length, subst, arith}
 use Rattle.rtl_flat.specs.Flats.{flat}
 use Rattle.check_found.proofs.Sites.{task_count}
-use Rattle.net_order.specs.Feeds.{IsLeastOf, IsLost}
+use Rattle.net_order.specs.Ranks.{IsLeastOf, IsLost}
 use Rattle.net_order.proofs.Losing.{lost_none}
 use Rattle.net_order.proofs.rank.lost.Goals as goal
 

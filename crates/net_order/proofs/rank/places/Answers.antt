@@ -1,7 +1,7 @@
 use Rattle.std.proofs.Common.{◌≡◌, ℕ, length, subst, arith}
 use Rattle.rtl_flat.specs.Flats.{flat}
 use Rattle.check_found.proofs.Sites.{task_count}
-use Rattle.net_order.specs.Feeds.{ArePlaced}
+use Rattle.net_order.specs.Ranks.{ArePlaced}
 use Rattle.net_order.proofs.Ranking.{places_none}
 use Rattle.net_order.proofs.rank.places.Goals as goal
 

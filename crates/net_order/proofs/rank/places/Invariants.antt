@@ -1,5 +1,5 @@
 use Rattle.rtl_flat.specs.Flats.{flat}
-use Rattle.net_order.specs.Feeds.{ArePlaced}
+use Rattle.net_order.specs.Ranks.{ArePlaced}
 use Rattle.net_order.proofs.rank.places.Given as goal
 
 abbrev pub invariant-loop-number : goal.invariant-loop-number

@@ -3,8 +3,8 @@ use Rattle.rtl_rule.specs.declared.finding.Finding.{Finding}
 use Rattle.rtl_rule.specs.Parts.{written}
 use Rattle.rtl_flat.specs.Flats.{flat}
 use Rattle.rtl_rule.specs.Sites.{AreFindings}
-use Rattle.check_graph.specs.check_found.Gathered.{signal_numbers, sites_below}
-use Rattle.check_graph.proofs.check_found_proofs.Sites.{all_below, next_below, none_below, task_count}
+use Rattle.check_loops.specs.check_found.Gathered.{signal_numbers, sites_below}
+use Rattle.check_loops.proofs.check_found_proofs.Sites.{all_below, next_below, none_below, task_count}
 use Rattle.check_assign.specs.Assigned.{IsSeveralDrivers, several_drivers_at}
 use Rattle.check_assign.proofs.Turns.{below_all, lower_is, lower_next, lower_none, task_of}
 use Rattle.check_assign.proofs.drivers.Drivers.of.Goals as goal

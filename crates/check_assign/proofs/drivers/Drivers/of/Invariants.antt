@@ -1,8 +1,8 @@
 use Rattle.std.proofs.Common.{◌≡◌, ℕ}
 use Rattle.rtl_flat.specs.Flats.{flat}
 use Rattle.rtl_rule.specs.Sites.{AreFindings}
-use Rattle.check_graph.specs.check_found.Masks.{has_in}
-use Rattle.check_graph.specs.check_found.Gathered.{signal_numbers, sites_below}
+use Rattle.check_loops.specs.check_found.Masks.{has_in}
+use Rattle.check_loops.specs.check_found.Gathered.{signal_numbers, sites_below}
 use Rattle.check_assign.specs.Assigned.{IsSeveralDrivers, lower_writes, several_drivers_at}
 use Rattle.check_assign.proofs.drivers.Drivers.of.Given as goal
 

@@ -1,6 +1,6 @@
 use Rattle.std.proofs.Common.{◌∙◌, ◌<◌, List, ℕ, length, get_or, ap, sym, subst, arith}
-use Rattle.rtl_scan.specs.Graph.{row, ArrowIn}
-use Rattle.rtl_scan.proofs.Advances.{row_get}
+use Rattle.check_found.specs.rtl_scan.Graph.{row, ArrowIn}
+use Rattle.check_found.proofs.rtl_scan_proofs.Advances.{row_get}
 use Rattle.check_loops.proofs.Grouping.{lead_before, sound_take}
 use Rattle.check_loops.proofs.groups.Search.follow.Goals as goal
 

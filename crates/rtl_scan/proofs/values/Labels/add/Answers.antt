@@ -13,9 +13,9 @@ known false b is h = refl
 
 pub returns-then-is_known : goal.returns-then-is_known
 returns-then-is_known c =
-    on_ok_weaker c.add_number.result
-    (λ h. gets_number c.args.width c.args.label c.args.self.now c.add_number.new.self (sym c.width.ensures.exact ∙ c.if-width.true) (known (has_unknown c.args.label) c.is_known.result c.is_known.ensures c.if-is_known.true) (λ n. h.0 n ∙ ap (λ m. cond (n == m) true (contains nat_cmp c.args.self.now.numbers n)) c.number.ensures.exact) h.1)
-    c.add_number.ensures
+    on_ok_weaker c.insert_number.result
+    (λ h. gets_number c.args.width c.args.label c.args.self.now _ (sym c.width.ensures.exact ∙ c.if-width.true) (known (has_unknown c.args.label) c.is_known.result c.is_known.ensures c.if-is_known.true) (λ n. h n ∙ ap (λ m. cond (n == m) true (contains nat_cmp c.args.self.now.numbers n)) c.number.ensures.exact) refl)
+    c.insert_number.ensures
 
 pub returns : goal.returns
 returns c = gets_other c.args.width c.args.label c.args.self.now _ refl c.in_ok-push.ensures.items

@@ -1,5 +1,0 @@
-pub mod Feeds
-pub mod Loops
--- passed on to the crates above
-pub use Rattle.check_found.specs as check_found
-pub use Rattle.check_loops.specs.rtl_scan
