@@ -4,6 +4,7 @@ ghost use Rattle.std.specs.Prelude.{◌≡◌, ℕ, false, List};
 ghost use Rattle.rtl_tree.specs.TreeModule.{Circuit};
 ghost use Rattle.rtl_front.specs.declared.fault.FileFault.{FileFault};
 ghost use Rattle.rtl_front.specs.Fronts.{AreRead, IsFirst, is_memory};
+ghost use Rattle.rtl_front.specs.Limits.{AreLimits};
 ghost use Rattle.rtl_front.specs.Reasons.{reason};
 
 /// Files of which one is refused have no list of modules: none are both read and refused. Want of memory, which tells
@@ -25,4 +26,9 @@ pub fn one_fault()
     ensures { (texts : List (List ℕ)) (m n : ℕ) (a b : FileFault) →
         is_memory a ≡ false → is_memory b ≡ false → IsFirst texts m a → IsFirst texts n b →
         reason a ≡ reason b }
+{}
+
+/// The limits of a text are these numbers.
+pub fn limits()
+    ensures { AreLimits }
 {}
