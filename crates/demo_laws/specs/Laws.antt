@@ -1,5 +1,5 @@
 -- Demonstrations have one answer.
--- Worked examples: crates/tests_demo/src/rows.rt.
+-- Worked examples: crates/tests_rows/stdin.
 use Rattle.std.specs.Prelude.{◌≡◌, ◌⊎◌, Option}
 use Rattle.std.specs.List.{All}
 use Rattle.rtl_flat.specs.WellFormed.{IsProcess}

@@ -1,5 +1,5 @@
 -- Which signals are compared for a finding, and in which trials.
--- Worked examples: crates/tests_demo/src/rows.rt.
+-- Worked examples: crates/tests_rows/stdin.
 use Rattle.std.specs.Prelude.{◌≡◌, ◌↔◌, ◌==◌, ◌<◌, ◌⊎◌, nat_lt, ℕ, Bool, true, false, cond, length, Some}
 use Rattle.std.specs.List.{slice_get}
 use Rattle.rtl_flat.specs.Process.{Task}

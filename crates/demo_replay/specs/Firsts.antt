@@ -1,6 +1,6 @@
 -- The first difference that trials show for a finding: in the least trial, there after the least
 -- step, and then of the least signal.
--- Worked examples: crates/tests_demo/src/rows.rt.
+-- Worked examples: crates/tests_rows/stdin.
 use Rattle.std.specs.Prelude.{◌≡◌, ◌<◌, ℕ, suc, Bool, true, not, ◌&&◌, List, [], ◌∷◌, length, Option, Some, None}
 use Rattle.std.specs.List.{slice_get}
 use Rattle.rtl_bits.specs.declared.Bit.{Bit}

@@ -1,5 +1,5 @@
 -- What a demonstration shows when its trial is run again, or why it shows nothing.
--- Worked examples: crates/tests_demo/src/rows.rt.
+-- Worked examples: crates/tests_rows/stdin.
 use Rattle.std.specs.Prelude.{◌≡◌, ◌≢◌, ◌<◌, ◌≤◌, ◌+◌, ◌⊎◌, ℕ, List, length}
 use Rattle.rtl_bits.specs.declared.Bit.{Bit}
 use Rattle.rtl_flat.specs.PathSets.{IsTemporary}

@@ -1,7 +1,7 @@
 -- What a trial of a design shows: after each step the values of the simulator, which takes events
 -- in the trial's order (IEEE 1364-2001 clause 5), and the numbers of the netlist (IEEE 1364.1-2002
 -- section 5.2).
--- Worked examples: crates/tests_demo/src/rows.rt.
+-- Worked examples: crates/tests_rows/stdin.
 use Rattle.std.specs.Prelude.{◌≡◌, ◌==◌, ◌<◌, ◌+◌, ℕ, Bool, true, false, List, [], ◌∷◌, ◌++◌, length, map, replicate, Option}
 use Rattle.rtl_bits.specs.declared.Bit.TheVariants.{X}
 use Rattle.rtl_flat.specs.Levels.{IsLevel}

@@ -1,5 +1,5 @@
 -- What trials of a design begin with: a netlist, its registers and latches, and the top inputs.
--- Worked examples: crates/tests_demo/src/rows.rt.
+-- Worked examples: crates/tests_rows/stdin.
 use Rattle.std.specs.Prelude.{◌≡◌, ◌↔◌, ℕ, Bool, true, List, [], Option, None, Some, replicate, unwrap_or}
 use Rattle.std.specs.List.{slice_get}
 use Rattle.rtl_bits.specs.declared.Bit.{Bit}

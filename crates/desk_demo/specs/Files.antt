@@ -1,6 +1,6 @@
 -- What a demonstration file tells of a design: a trial, a step and a signal, in one line that a line
 -- feed ends; or why it tells none.
--- Worked examples: crates/tests_demo/src/files.rt.
+-- Worked examples: crates/tests_rows/stdin.
 use Rattle.std.specs.Prelude.{◌≡◌, ◌≢◌, ◌⊎◌, ◌==◌, ℕ, false, List, [], ◌∷◌, ◌++◌, Option, None, Some, position}
 use Rattle.std.specs.List.{list_any}
 use Rattle.std.specs.Str.{bytes_eq}

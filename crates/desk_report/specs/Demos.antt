@@ -1,5 +1,5 @@
 -- The lines that show a demonstration. Every line ends with a line feed.
--- Worked examples: crates/tests_demo/src/files.rt.
+-- Worked examples: crates/tests_rows/stdin.
 use Rattle.std.specs.Prelude.{ℕ, List, ◌++◌, codes}
 use Rattle.std.specs.Fmt.{decimal}
 use Rattle.demo_told.specs.declared.demo.Demo.{Demo}

@@ -1,6 +1,6 @@
 -- The statements that a body is in the design: `for` is its turns, and an `if` whose condition is constant is the
 -- branch that it takes.
--- Worked examples: crates/tests_elab/src/items.rt.
+-- Worked examples: crates/tests_layers/stdin.
 use Rattle.std.specs.Prelude.{ℕ, zero, suc, ℤ, Bool, true, false, ◌&&◌, if◌then◌else◌, List, [], ◌∷◌, ◌++◌, map, Option, None, Some, Ok, Err}
 use Rattle.rtl_const.specs.Constant.{Outcome, constant, is_true}
 use Rattle.rtl_tree.specs.declared.text.Spot.{Spot}

@@ -1,5 +1,5 @@
 -- Sensitivity lists (IEEE 1364-2001 section 9.7.4).
--- Worked examples: crates/tests_elab/src/scans.rt.
+-- Worked examples: crates/tests_layers/stdin.
 use Rattle.std.specs.Prelude.{ℕ, Bool, true, false, ◌==◌, if◌then◌else◌, List, [], ◌∷◌, ◌++◌, map, Option, None, Some}
 use Rattle.std.specs.List.{list_any}
 use Rattle.rtl_bits.specs.declared.Edge.{Edge}

@@ -1,5 +1,5 @@
 -- The signals of an instance in the design.
--- Worked examples: crates/elab_flat/proofs/Examples.antt, crates/tests_elab/src/items.rt.
+-- Worked examples: crates/elab_flat/proofs/Examples.antt, crates/tests_layers/stdin.
 use Rattle.std.specs.Prelude.{ℕ, Bool, true, false, List, ◌∷◌, ◌++◌, map, Option, Some}
 use Rattle.rtl_tree.specs.declared.tree.item.Direction.{Direction}
 use Rattle.rtl_tree.specs.declared.tree.item.Direction.TheVariants.{Output}

@@ -1,5 +1,5 @@
 -- The connections of an instance's ports (IEEE 1364-2001 section 12.3).
--- Worked examples: crates/elab_walk/proofs/Examples.antt, crates/tests_elab/src/refusals.rt.
+-- Worked examples: crates/elab_walk/proofs/Examples.antt, crates/tests_rows/stdin.
 use Rattle.std.specs.Prelude.{ℕ, ◌+◌, if◌then◌else◌, List, [], ◌∷◌, ◌++◌, length, Option, None, Some}
 use Rattle.std.specs.List.{slice_get}
 use Rattle.rtl_tree.specs.declared.tree.item.Direction.{Direction}

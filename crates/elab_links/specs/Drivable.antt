@@ -1,6 +1,6 @@
 -- Arguments of output ports: what a port may drive are the targets of continuous assignments (IEEE 1364-2001 sections
 -- 6.1 and 12.3.9.2).
--- Worked examples: crates/tests_elab/src/refusals.rt.
+-- Worked examples: crates/tests_rows/stdin.
 use Rattle.std.specs.Prelude.{ℕ, Bool, true, false, ◌&&◌, ◌||◌, not, List, [], ◌∷◌, ◌++◌, Option, None, Some, Ok, Err}
 use Rattle.std.specs.List.{list_any}
 use Rattle.rtl_const.specs.Constant.{Outcome, constant}

@@ -1,5 +1,5 @@
 -- The instances that an item places, with what they set their parameters to.
--- Worked examples: crates/elab_flat/proofs/Examples.antt, crates/tests_elab/src/items.rt.
+-- Worked examples: crates/elab_flat/proofs/Examples.antt, crates/tests_layers/stdin.
 use Rattle.std.specs.Prelude.{List, Option, None, Some, map}
 use Rattle.rtl_tree.specs.TreeItem.{ModuleItem, Ports, Nets, Variables, Integers, Parameters, Drives, Always, Instances, Association, Instantiation, instantiation}
 use Rattle.rtl_tree.specs.TreeModule.{Circuit, circuit}

@@ -1,5 +1,5 @@
 -- Sets of names, as functions of the name.
--- Worked examples: crates/tests_elab/src/refusals.rt.
+-- Worked examples: crates/tests_rows/stdin.
 use Rattle.std.specs.Prelude.{ℕ, List, [], ◌∷◌, Bool, true, false, if◌then◌else◌}
 use Rattle.std.specs.Option.{is_some}
 use Rattle.std.specs.Str.{bytes_eq}

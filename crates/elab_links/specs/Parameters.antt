@@ -1,5 +1,5 @@
 -- The parameters that an instance sets (IEEE 1364-2001 section 12.2.2).
--- Worked examples: crates/tests_elab/src/items.rt.
+-- Worked examples: crates/tests_layers/stdin.
 use Rattle.std.specs.Prelude.{ℕ, ◌+◌, ◌==◌, Bool, ◌&&◌, not, if◌then◌else◌, List, [], ◌∷◌, ◌++◌, length, Option, None, Some}
 use Rattle.std.specs.List.{slice_get}
 use Rattle.rtl_const.specs.Numbers.{Numbers}

@@ -1,5 +1,5 @@
 -- The files that a top uses, numbered among themselves: what is made of a top depends on no other file's number.
--- Worked examples: proofs/Example.antt, crates/tests_elab/src/lookups.rt.
+-- Worked examples: proofs/Example.antt, crates/tests_layers/stdin.
 use Rattle.std.specs.Prelude.{ℕ, ◌≡◌, ◌+◌, ◌==◌, if◌then◌else◌, List, [], ◌∷◌, length, map, slice_index_or, Result, Ok, Err}
 use Rattle.std.specs.List.{Contains}
 use Rattle.std.specs.List.Sorted.{IsStrictlyIncreasing}

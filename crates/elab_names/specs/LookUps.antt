@@ -1,5 +1,5 @@
 -- The names that elaboration of a top looks up, and the files that it uses (IEEE 1364-2001 section 12.1).
--- Worked examples: proofs/Example.antt, crates/tests_elab/src/lookups.rt.
+-- Worked examples: proofs/Example.antt, crates/tests_layers/stdin.
 use Rattle.std.specs.Prelude.{ℕ, ◌≡◌, ◌↔◌, List, [], ◌∷◌, ◌++◌, map}
 use Rattle.std.specs.List.{All, Contains, flat_map}
 use Rattle.std.specs.List.Sorted.{IsStrictlyIncreasing}

@@ -1,5 +1,5 @@
 -- The processes of the items of a module in an instance, but for the connections of its instances.
--- Worked examples: crates/tests_elab/src/items.rt.
+-- Worked examples: crates/tests_layers/stdin.
 use Rattle.std.specs.Prelude.{ℕ, Bool, true, false, List, [], ◌∷◌, ◌++◌, Option, None, Some}
 use Rattle.rtl_tree.specs.TreeExpr.{Identifier, Formula}
 use Rattle.rtl_tree.specs.TreeStmt.{Target, Whole, Action, target_place}

@@ -1,5 +1,5 @@
 -- The faults of a module, and which of them is told.
--- Worked examples: crates/tests_elab/src/refusals.rt.
+-- Worked examples: crates/tests_rows/stdin.
 use Rattle.std.specs.Prelude.{ℕ, nat_lt, ◌==◌, Bool, ◌&&◌, ◌||◌, if◌then◌else◌, List, [], ◌∷◌, Option, None, Some}
 use Rattle.rtl_tree.specs.declared.text.Spot.{Spot}
 use Rattle.rtl_const.specs.declared.fault.ConstFault.{ConstFault}

@@ -1,5 +1,5 @@
 -- Which operator of sized expressions an operator of the text is (IEEE 1364-2001 section 4.1).
--- Worked examples: crates/tests_elab/src/expressions.rt.
+-- Worked examples: crates/tests_layers/stdin.
 use Rattle.rtl_tree.specs.declared.tree.operators.UnaryOperator.{UnaryOperator}
 use Rattle.rtl_tree.specs.declared.tree.operators.UnaryOperator.TheVariants.{Plus, Minus, LogicalNot, BitwiseNot, ReduceAnd, ReduceNand, ReduceOr, ReduceNor, ReduceXor, ReduceXnor}
 use Rattle.rtl_tree.specs.declared.tree.operators.BinaryOperator.{BinaryOperator}

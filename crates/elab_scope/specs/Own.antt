@@ -1,5 +1,5 @@
 -- The width and the sign that an expression has by itself (IEEE 1364-2001 sections 4.4.1 and 4.5.1).
--- Worked examples: crates/tests_elab/src/expressions.rt.
+-- Worked examples: crates/tests_layers/stdin.
 use Rattle.std.specs.Prelude.{Bool, true, false, ◌&&◌, Option, None, Some, Ok}
 use Rattle.rtl_const.specs.Constant.{Outcome, constant}
 use Rattle.rtl_tree.specs.declared.tree.operators.Signedness.{Signedness}

@@ -1,5 +1,5 @@
 -- The rules on single parts of expressions, each a function of what it looks at.
--- Worked examples: crates/elab_body/proofs/Examples.antt, crates/tests_elab/src/refusals.rt.
+-- Worked examples: crates/elab_body/proofs/Examples.antt, crates/tests_rows/stdin.
 use Rattle.std.specs.Prelude.{ℕ, pos, int_le, ◌&&◌, if◌then◌else◌, List, [], ◌∷◌, ◌++◌, Option, None, Some, Ok, Err, Bool, true, false}
 use Rattle.rtl_const.specs.Constant.{Outcome}
 use Rattle.rtl_const.specs.declared.fault.ConstFault.{ConstFault}

@@ -1,6 +1,6 @@
 -- The sized tree of an expression, from the root downwards (IEEE 1364-2001 sections 4.4 and 4.5). It is there for
 -- every expression; one without faults has the tree that the sizing of flat designs gives it.
--- Worked examples: crates/tests_elab/src/expressions.rt.
+-- Worked examples: crates/tests_layers/stdin.
 use Rattle.std.specs.Prelude.{ℕ, ◌+◌, ◌-◌, ◌^◌, min, ℤ, pos, negsuc, Bool, false, ◌&&◌, List, Option, None, Some, Ok, Err}
 use Rattle.rtl_bits.specs.declared.Bit.{Bit}
 use Rattle.rtl_bits.specs.Bits.{bits_of, extended}

@@ -1,5 +1,5 @@
 -- How many bits expressions and targets have by themselves (IEEE 1364-2001 section 4.4.1).
--- Worked examples: crates/tests_elab/src/expressions.rt.
+-- Worked examples: crates/tests_layers/stdin.
 use Rattle.std.specs.Prelude.{ℕ, ◌+◌, ◌*◌, max, min, nat_le, ℤ, pos, ◌-ℤ◌, int_le, int_lt, unsigned_abs, ◌&&◌, if◌then◌else◌, Option, None, Some, Ok, Err}
 use Rattle.rtl_const.specs.Constant.{Outcome}
 use Rattle.elab_scope.specs.declared.known.Shape.{Shape}

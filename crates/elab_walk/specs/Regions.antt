@@ -1,5 +1,5 @@
 -- What synthesis doesn't see of a module: regions that preparation dropped, and the initial values of variables.
--- Worked examples: crates/tests_elab/src/items.rt.
+-- Worked examples: crates/tests_layers/stdin.
 use Rattle.std.specs.Prelude.{ℕ, nat_lt, Bool, true, false, cond, List, [], ◌∷◌, ◌++◌}
 use Rattle.std.specs.List.{filter}
 use Rattle.rtl_tree.specs.declared.dropped.DropKind.{DropKind}

@@ -1,6 +1,6 @@
 -- Control inputs as clocks, resets and gates. No latch is admitted yet, so that no control input is a gate: `no_gate` says
 -- so, and what else stands on it cites it.
-use Rattle.std.proofs.Common.{◌≡◌, ℕ, inl, inr}
+use Rattle.std.proofs.Common.{ℕ, inl, inr}
 use Rattle.std.specs.Prelude.{IsTrue}
 use Rattle.event_model.specs.Queue.{is_input}
 use Rattle.rtl_flat.specs.Flats.{Flat}

@@ -1,5 +1,5 @@
 -- The numbers with which a simulation of a netlist begins, before anything is worked out (IEEE 1364.1-2002 section 5.2).
--- Worked examples: crates/tests_net/src/sims.rt.
+-- Worked examples: crates/tests_rows/stdin.
 use Rattle.std.specs.Prelude.{◌≡◌, ℕ, ◌<◌, true, false, cond, List, length, map, slice_index}
 use Rattle.rtl_bits.specs.declared.Bit.{Bit}
 use Rattle.rtl_bits.specs.Bits.{has_unknown}

@@ -1,5 +1,5 @@
 -- Which signals keep a number from one step to the next: registers, and latches (IEEE 1364.1-2002 sections 5.2 and 5.3).
--- Worked examples: crates/tests_net/src/stored.rt.
+-- Worked examples: crates/tests_rows/stdin.
 use Rattle.std.specs.Prelude.{◌≡◌, ◌↔◌, ℕ, true, false, not, ◌&&◌, List, map, IsTrue}
 use Rattle.std.specs.List.{list_any}
 use Rattle.rtl_flat.specs.declared.expr.SigId.{SigId}

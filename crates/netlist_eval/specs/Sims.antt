@@ -1,5 +1,5 @@
 -- What is seen of a simulator of a netlist.
--- Worked examples: crates/tests_net/src/sims.rt.
+-- Worked examples: crates/tests_rows/stdin.
 use Rattle.rtl_flat.specs.Value.{store}
 use Rattle.rtl_flat.specs.Flats.{Flat}
 use Rattle.event_model.specs.Writes.{Values}

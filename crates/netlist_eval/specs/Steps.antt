@@ -1,6 +1,6 @@
 -- What a simulation of a netlist shows at its beginning and after each step, and which steps it takes (IEEE 1364.1-2002
 -- section 5.2).
--- Worked examples: crates/tests_net/src/sims.rt.
+-- Worked examples: crates/tests_rows/stdin.
 use Rattle.std.specs.Prelude.{◌≡◌, ℕ, List, [], ◌∷◌, map, Some, IsTrue}
 use Rattle.rtl_bits.specs.declared.Bit.{Bit}
 use Rattle.rtl_flat.specs.Flows.{body_flow}

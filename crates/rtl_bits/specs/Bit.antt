@@ -1,5 +1,5 @@
 -- The four values of one bit, and the tables of IEEE 1364-2001 on them.
--- Worked examples: crates/tests_text/src/bits.rt.
+-- Worked examples: crates/tests_layers/src/vectors.rt, crates/tests_layers/stdout.
 use Rattle.std.specs.Prelude.{Bool, true, false}
 use Rattle.rtl_bits.specs.declared.Bit.{Bit}
 use Rattle.rtl_bits.specs.declared.Bit.TheVariants.{Zero, One, X, Z}

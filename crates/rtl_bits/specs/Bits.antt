@@ -1,5 +1,5 @@
 -- Vectors as lists of bits, the least significant first, and the operators of IEEE 1364-2001 on them.
--- Worked examples: crates/tests_text/src/bits.rt.
+-- Worked examples: crates/tests_layers/src/vectors.rt, crates/tests_layers/stdout.
 use Rattle.std.specs.Prelude.{ℕ, zero, suc, ◌+◌, ◌-◌, ◌*◌, ◌/◌, ◌%◌, ◌^◌, Bool, true, false, cond, ◌&&◌, ◌||◌, ◌==◌, nat_lt, List, [], ◌∷◌, ◌++◌, length, take, drop, replicate, slice_index_or, ℤ, pos, negsuc, ◌-ℤ◌, int_lt}
 use Rattle.std.specs.List.{list_any}
 use Rattle.rtl_bits.specs.declared.Bit.{Bit}

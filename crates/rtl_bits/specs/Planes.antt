@@ -1,5 +1,5 @@
 -- How a vector is stored: two numbers whose digits give each bit.
--- Worked examples: crates/tests_text/src/bits.rt.
+-- Worked examples: crates/tests_layers/src/vectors.rt, crates/tests_layers/stdout.
 use Rattle.std.specs.Prelude.{ℕ, ◌^◌, ◌<◌, ◌≤◌, Bool, true, false, List}
 use Rattle.rtl_bits.specs.declared.Bit.{Bit}
 use Rattle.rtl_bits.specs.declared.Bit.TheVariants.{Zero, One, X, Z}

@@ -1,5 +1,5 @@
 -- What a constant expression is worth: a whole number without a width (IEEE 1364-2001 section 4.1), or why it has none.
--- Worked examples: crates/elab_items/proofs/Examples.antt, crates/tests_elab/src/items.rt.
+-- Worked examples: crates/elab_items/proofs/Examples.antt, crates/tests_layers/stdin.
 use Rattle.std.specs.Prelude.{ℕ, zero, ◌-◌, ◌^◌, nat_le, ◌==◌, ℤ, pos, negsuc, neg_ℤ, ◌+ℤ◌, ◌-ℤ◌, ◌*ℤ◌, int_lt, int_le, int_div, int_rem, Bool, true, false, not, ◌&&◌, ◌||◌, if◌then◌else◌, Option, None, Some, Result, Ok, Err}
 use Rattle.std.specs.Int.{int_div_euclid}
 use Rattle.std.specs.Ordering.{int_eq}

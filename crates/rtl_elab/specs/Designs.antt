@@ -1,5 +1,5 @@
 -- What elaboration is given and what it makes, as contracts see it.
--- Worked examples: crates/tests_elab/src/items.rt.
+-- Worked examples: crates/tests_layers/stdin.
 use Rattle.std.specs.Prelude.{List, map}
 use Rattle.rtl_tree.specs.TreeModule.{Circuit}
 use Rattle.rtl_flat.specs.declared.design.Design.{Design}

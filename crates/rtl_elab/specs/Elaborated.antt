@@ -1,5 +1,5 @@
 -- The flat design of a top module, or why there is none.
--- Worked examples: proofs/Examples.antt, crates/tests_elab/src/refusals.rt.
+-- Worked examples: proofs/Examples.antt, crates/tests_rows/stdin.
 use Rattle.std.specs.Prelude.{ℕ, List, [], Option, None, Some, Result, Ok, Err}
 use Rattle.rtl_tree.specs.TreeModule.{Circuit}
 use Rattle.elab_lawful.specs.elab_scope.Faults.{Answer, ModuleTwice, Named, NoSuchModule}

@@ -1,5 +1,5 @@
 -- The steps of processes: which bits each statement reads and writes, and where its control parts.
--- Worked examples: crates/tests_elab/src/scans.rt.
+-- Worked examples: crates/tests_layers/stdin.
 use Rattle.std.specs.Prelude.{ℕ, zero, suc, ℤ, pos, negsuc, ◌+◌, ◌^◌, Bool, true, false, ◌&&◌, ◌||◌, ◌==◌, nat_lt, nat_le, List, [], ◌∷◌, ◌++◌, length, Option, Some, None}
 use Rattle.std.specs.List.{list_any, list_all}
 use Rattle.rtl_bits.specs.declared.Bit.{Bit}

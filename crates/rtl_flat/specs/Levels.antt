@@ -1,5 +1,5 @@
 -- The level graph: which processes feed which, and how far each is from those that none feeds.
--- Worked examples: crates/tests_elab/src/scans.rt.
+-- Worked examples: crates/tests_layers/stdin.
 use Rattle.std.specs.Prelude.{ℕ, suc, ◌≡◌, ◌≤◌, ◌⊎◌, List, Option, Some, None}
 use Rattle.rtl_flat.specs.declared.signal.Signal.{Signal}
 use Rattle.std.specs.List.{slice_get}

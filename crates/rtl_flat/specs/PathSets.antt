@@ -1,5 +1,5 @@
 -- What processes read, write, surely write and list, and which variables are temporaries.
--- Worked examples: crates/tests_elab/src/scans.rt.
+-- Worked examples: crates/tests_layers/stdin.
 use Rattle.std.specs.Prelude.{ℕ, ◌≡◌, ◌⊎◌, true, false, List, [], ◌∷◌, Some, None}
 use Rattle.std.specs.List.{slice_get}
 use Rattle.std.specs.Option.{IsSomeAnd}

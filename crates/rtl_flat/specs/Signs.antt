@@ -1,5 +1,5 @@
 -- Signs of expressions (IEEE 1364-2001 section 4.5), and what expressions say of declarations.
--- Worked examples: crates/tests_elab/src/expressions.rt.
+-- Worked examples: crates/tests_layers/stdin.
 use Rattle.std.specs.Prelude.{ℕ, zero, suc, Bool, true, false, ◌≡◌, List, [], ◌∷◌, length}
 use Rattle.std.specs.List.{slice_get}
 use Rattle.std.specs.Option.{IsSomeAnd}

@@ -1,5 +1,5 @@
 -- What parsing answers of a prepared text.
--- Worked examples: crates/tests_text/src/modules.rt, crates/tests_text/src/limits.rt.
+-- Worked examples: crates/tests_layers/stdin.
 use Rattle.std.specs.Prelude.{◌≡◌, ℕ, min, List, [], length, position, Bool, Option, Some, None}
 use Rattle.std.specs.List.{slice_get}
 use Rattle.rtl_tree.specs.Prepared.{Ready}

@@ -1,5 +1,5 @@
 -- The `initial` constructs (IEEE 1364-2001 section 9.9.1), which synthesis leaves out.
--- Worked examples: crates/tests_text/src/tokens.rt.
+-- Worked examples: crates/tests_layers/stdin.
 use Rattle.std.specs.Prelude.{ℕ, zero, suc, ◌+◌, Bool, false, if◌then◌else◌, Option, Some, None, List, [], ◌∷◌, ◌++◌, codes, Result, Ok, Err}
 use Rattle.std.specs.Str.{bytes_eq}
 use Rattle.rtl_tree.specs.declared.token.Tok.{Tok}

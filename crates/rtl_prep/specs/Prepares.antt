@@ -1,5 +1,5 @@
 -- Preparation as a whole: regions are dropped first, then macros and conditional text are read, then `initial` constructs are dropped.
--- Worked examples: crates/tests_text/src/tokens.rt.
+-- Worked examples: crates/tests_layers/stdin.
 use Rattle.std.specs.Prelude.{ℕ, Option, Some, None, List, [], ◌∷◌, Result, Ok, Err}
 use Rattle.rtl_tree.specs.declared.token.Token.{Token}
 use Rattle.rtl_tree.specs.Prepared.{Ready}

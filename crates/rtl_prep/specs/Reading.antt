@@ -1,5 +1,5 @@
 -- Directives and conditional text, read from left to right (IEEE 1364-2001 sections 19.3 and 19.4).
--- Worked examples: crates/tests_text/src/tokens.rt.
+-- Worked examples: crates/tests_layers/stdin.
 use Rattle.std.specs.Prelude.{ℕ, zero, suc, ◌+◌, ◌&&◌, Bool, true, false, if◌then◌else◌, nat_eq, Option, Some, None, List, [], ◌∷◌, take, drop, codes, Result, Ok, Err}
 use Rattle.rtl_tree.specs.declared.token.Token.{Token}
 use Rattle.rtl_prep.specs.declared.directive.Known.{Known}

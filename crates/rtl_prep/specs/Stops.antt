@@ -1,5 +1,5 @@
 -- What stops preparation, and doing one thing after another until something stops it.
--- Worked examples: crates/tests_text/src/tokens.rt.
+-- Worked examples: crates/tests_layers/stdin.
 use Rattle.std.specs.Prelude.{◌≡◌, ℕ, List, [], ◌∷◌, Result, Ok, Err}
 use Rattle.rtl_tree.specs.declared.token.Token.{Token}
 use Rattle.rtl_prep.specs.declared.fault.PrepFault.{PrepFault}

@@ -105,11 +105,14 @@ pub record AreOf (set : Task → BitSet) (tasks : List Task) (kept : List Bits) 
 -- what the processes of a design may write, externally read and list
 pub record AreAccessed (given : Accessed) : Type 0 where
   pub writes :
-      AreOf (λ task. may_write (flow_of (widths (flat given.design.now)) task.does)) (flat given.design.now).tasks given.writes.now
+      AreOf (λ task. may_write (flow_of (widths (flat given.design.now)) task.does))
+      (flat given.design.now).tasks given.writes.now
   pub reads :
-      AreOf (λ task. reads_outside (flow_of (widths (flat given.design.now)) task.does)) (flat given.design.now).tasks given.reads.now
+      AreOf (λ task. reads_outside (flow_of (widths (flat given.design.now)) task.does))
+      (flat given.design.now).tasks given.reads.now
   pub lists :
-      AreOf (λ task. listed (widths (flat given.design.now)) task.does) (flat given.design.now).tasks given.lists.now
+      AreOf (λ task. listed (widths (flat given.design.now)) task.does)
+      (flat given.design.now).tasks given.lists.now
 
 -- ---- arrows
 

@@ -1,5 +1,5 @@
 -- What stops the lexer first.
--- Worked examples: crates/tests_text/src/tokens.rt.
+-- Worked examples: crates/tests_layers/stdin.
 use Rattle.std.specs.Prelude.{◌≡◌, ℕ, ◌+◌, ◌<◌, ◌≤◌, ◌⊎◌, false, IsTrue, List, ◌∷◌, ◌++◌, length, codes, None, Result, Ok, Err}
 use Rattle.std.specs.List.{prefix_len}
 use Rattle.rtl_tree.specs.declared.token.Token.{Token}

@@ -1,5 +1,5 @@
 -- Which tokens spell which expression (IEEE 1364-2001 annexes A.8.3 and A.8.4, precedence by 4.1.2): one case for each alternative.
--- Worked examples: crates/tests_text/src/layers.rt, crates/tests_text/src/modules.rt.
+-- Worked examples: crates/tests_layers/stdin.
 use Rattle.std.specs.Prelude.{◌≡◌, ℕ, ◌-◌, ◌≤◌}
 use Rattle.rtl_tree.specs.declared.tree.operators.UnaryOperator.{UnaryOperator}
 use Rattle.rtl_tree.specs.declared.tree.operators.UnaryOperator.TheVariants as unary

@@ -1,5 +1,5 @@
 -- Which tokens spell which modules (IEEE 1364-2001 annexes A.1.3 to A.1.5).
--- Worked examples: crates/tests_text/src/modules.rt.
+-- Worked examples: crates/tests_layers/stdin.
 use Rattle.std.specs.Prelude.{◌≡◌, ℕ, ◌≤◌, Bool, ◌&&◌, nat_le, List, [], ◌∷◌, Option, Some, None}
 use Rattle.std.specs.List.{filter}
 use Rattle.rtl_tree.specs.declared.dropped.Dropped.{Dropped}

@@ -1,5 +1,5 @@
 -- Which tokens spell which statement (IEEE 1364-2001 annexes A.6, A.8.5 and A.9.1): one case for each alternative.
--- Worked examples: crates/tests_text/src/modules.rt.
+-- Worked examples: crates/tests_layers/stdin.
 use Rattle.std.specs.Prelude.{◌≡◌, ℕ, ◌≤◌, ◌+◌, ◌⊎◌, Bool, true, false, ◌||◌, List, [], ◌∷◌, Option, Some, None, codes}
 use Rattle.std.specs.List.{list_any}
 use Rattle.std.specs.Str.{bytes_eq}

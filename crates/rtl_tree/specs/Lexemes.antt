@@ -1,5 +1,5 @@
 -- The tokens of a text by their form (IEEE 1364-2001 clause 2).
--- Worked examples: crates/tests_text/src/tokens.rt.
+-- Worked examples: crates/tests_layers/stdin.
 use Rattle.std.specs.Prelude.{◌≡◌, ℕ, ◌≤◌, Bool, true, false, ◌||◌, ◌&&◌, not, if◌then◌else◌, ◌==◌, nat_le, IsTrue, List, [], ◌∷◌, ◌++◌, length, codes, ◌⊎◌}
 use Rattle.std.specs.Char.{is_ascii_alphabetic, is_ascii_alphanumeric}
 use Rattle.rtl_tree.specs.declared.token.Form.{Form}

@@ -1,5 +1,5 @@
 -- The value of a number's text (IEEE 1364-2001 section 2.5.1).
--- Worked examples: crates/tests_text/src/tokens.rt.
+-- Worked examples: crates/tests_layers/stdin.
 use Rattle.std.specs.Prelude.{ℕ, ◌+◌, ◌-◌, ◌*◌, ◌%◌, ◌^◌, Bool, true, false, ◌||◌, ◌&&◌, not, if◌then◌else◌, ◌==◌, nat_le, nat_lt, List, [], ◌∷◌, length, drop, take, slice_index, Option, Some, None}
 use Rattle.std.specs.List.{prefix_len, list_all}
 use Rattle.rtl_tree.specs.declared.literal.Literal.{Literal}

@@ -1,5 +1,5 @@
 -- A prepared text: the tokens that the grammar is asked of, the regions that were dropped, and the text itself.
--- Worked examples: crates/tests_text/src/tokens.rt.
+-- Worked examples: crates/tests_layers/stdin.
 use Rattle.std.specs.Prelude.{ℕ, List}
 use Rattle.rtl_tree.specs.declared.token.Token.{Token}
 use Rattle.rtl_tree.specs.declared.dropped.Dropped.{Dropped}

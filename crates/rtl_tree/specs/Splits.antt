@@ -1,5 +1,5 @@
 -- Which tokens a text splits into (IEEE 1364-2001 clause 2).
--- Worked examples: crates/tests_text/src/tokens.rt.
+-- Worked examples: crates/tests_layers/stdin.
 use Rattle.std.specs.Prelude.{◌≡◌, ℕ, ◌+◌, ◌≤◌, Bool, true, false, ◌||◌, ◌&&◌, if◌then◌else◌, IsTrue, Option, Some, None, List, [], ◌∷◌, ◌++◌, length, drop, codes}
 use Rattle.std.specs.Str.{bytes_eq}
 use Rattle.rtl_tree.specs.declared.token.Tok.{Tok}

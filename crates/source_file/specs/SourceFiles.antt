@@ -1,5 +1,5 @@
 -- Files by their names and texts.
--- Worked examples: crates/tests_text/src/modules.rt.
+-- Worked examples: crates/tests_layers/stdin.
 use Rattle.std.specs.Prelude.{ℕ, ◌≤◌, List, length, map}
 use Rattle.std.specs.List.{All}
 use Rattle.source_file.specs.declared.SourceFile.{SourceFile}

@@ -1,5 +1,5 @@
 -- The least place where tokens stop spelling modules.
--- Worked examples: crates/tests_text/src/modules.rt.
+-- Worked examples: crates/tests_layers/stdin.
 use Rattle.std.specs.Prelude.{◌≡◌, ◌≤◌, ℕ, false, List, [], ◌∷◌, ◌++◌, take, length}
 use Rattle.rtl_tree.specs.declared.dropped.Dropped.{Dropped}
 use Rattle.rtl_tree.specs.Symbols.{Terminal, symbol}

@@ -1,5 +1,5 @@
 -- What a survey says of tokens.
--- Worked examples: crates/tests_text/src/modules.rt, crates/tests_text/src/limits.rt.
+-- Worked examples: crates/tests_layers/stdin.
 use Rattle.std.specs.Prelude.{◌≡◌, ◌≤◌, ◌<◌, ◌+◌, ◌-◌, ℕ, Some, reverse, map, List, [], ◌∷◌, take, drop, length}
 use Rattle.std.specs.List.{slice_get}
 use Rattle.rtl_tree.specs.declared.dropped.Dropped.{Dropped}

@@ -1,5 +1,5 @@
 -- Terminal symbols, in the steps in which they are found.
--- Worked examples: crates/tests_text/src/modules.rt.
+-- Worked examples: crates/tests_layers/stdin.
 use Rattle.std.specs.Prelude.{ℕ, ◌%◌, if◌then◌else◌, Option, None, Some, Bool, true, false, ◌||◌, List, [], ◌∷◌}
 use Rattle.std.specs.List.{slice_get}
 use Rattle.rtl_tree.specs.declared.token.Token.{Token}

@@ -38,7 +38,7 @@ returns-clause-bits c =
     same_places c.bits_of.result (selected at count bits) (width ∙ sym (selected_length at count bits (omega (arith, size, inside))))
     (λ k within.
     let below : k < count = omega (arith, within, width) in
-    c.bits_of.ensures.bits k (tally.given d driver net (at + k)) below
-    (subst (λ (xs : List Tally). IsTalliedAt xs (at + k) (tally.given d driver net (at + k))) (is ∙ sym c.deref.ensures.value) ((c.requires.queue.tallied net).each (at + k)))
+    c.bits_of.ensures.bits k (tally.given_bits d driver net (at + k)) below
+    (subst (λ (xs : List Tally). IsTalliedAt xs (at + k) (tally.given_bits d driver net (at + k))) (is ∙ sym c.deref.ensures.value) ((c.requires.queue.tallied net).each (at + k)))
     ∙ sym (resolved_at d driver net (at + k) (omega (arith, below, inside)))
     ∙ sym (selected_at at count bits k below))
