@@ -5,7 +5,7 @@ use Rattle.rtl_flat.specs.Process.{Set, If, Case, Block, Actions, Done, Then}
 use Rattle.rtl_flat.specs.Signs.{IsExpression}
 use Rattle.rtl_flat.specs.WellFormed.{IsBody}
 use Rattle.net_model.specs.Cycle.{Guard, IsChained, opened}
-use Rattle.chain_laws.proofs.Lists.{Each}
+use Rattle.rtl_rule.proofs.Lists.{Each}
 
 module _ (signals : List Signal) where
   opened_lawful : (body : Actions) → IsBody signals body → IsBody signals (opened body)

@@ -16,7 +16,7 @@ use Rattle.check_chains.specs.Chains.{chain_in, chain_of, goes_up, has_chain, is
 use Rattle.chain_laws.specs.Chained.{ChainsHold, HasChain}
 use Rattle.chain_laws.proofs.Branches.{IsLawfulGuard, chain_lawful}
 use Rattle.chain_laws.proofs.Chains.{IsFound, IsTested, chain_found}
-use Rattle.chain_laws.proofs.Lists.{Each, all_pass, each_all, each_both, each_false, each_from, each_map}
+use Rattle.rtl_rule.proofs.Lists.{Each, all_pass, each_all, each_both, each_false, each_from, each_map}
 use Rattle.chain_laws.proofs.Tests.{tests_level}
 
 width_one : (signals : List Signal) (i : ℕ) → Has (λ s. s.width ≡ 1) signals i → width_in signals i ≡ 1
@@ -38,7 +38,7 @@ record IsEdgeItem (ws : ℕ → ℕ) (item : Watched) : Type 0 where
   edged : IsTrue (has_edge item.edge)
   one_bit : ws item.signal ≡ 1
 
-module _ (d : Flat) (events : List Watched) (body : Actions) (lawful : IsProcess d.signals (Edge' events body)) (levels : has_item (first_level (Edge' events body)) ≡ true → ⊥) (shaped : is_shapeless d (Edge' events body) ≡ true → ⊥) (straight : has_chain (λ chain. list_any (λ (guard : Guard). is_turned guard.item.edge (tested d guard.test)) chain.resets) (chain_of d (Edge' events body)) ≡ true → ⊥) where
+module _ (d : Flat) (events : List Watched) (body : Actions) (lawful : IsProcess d.signals (Edge' events body)) (levels : has_item (first_level (Edge' events body)) ≡ true → ⊥) (shaped : is_shapeless (Edge' events body) ≡ true → ⊥) (straight : has_chain (λ chain. list_any (λ (guard : Guard). is_turned guard.item.edge (tested guard.test)) chain.resets) (chain_of (Edge' events body)) ≡ true → ⊥) where
   edged : Each (λ item. IsTrue (has_edge item.edge)) events
   edged = all_edges events levels
 
@@ -50,14 +50,14 @@ module _ (d : Flat) (events : List Watched) (body : Actions) (lawful : IsProcess
 
   -- ---- R1
 
-  has_shape : is_more events ≡ true → chain_of d (Edge' events body) ≡ None → ⊥
+  has_shape : is_more events ≡ true → chain_of (Edge' events body) ≡ None → ⊥
   has_shape more missing =
       shaped (and_from _ _ (and_from (is_more events) _ more (all_pass (λ item. has_edge item.edge) events edged)) (ap (λ o. not (has_chain (λ chain. true) o)) missing))
 
-  none_missing : (all : List Watched) → Each (λ item. IsTrue (has_edge item.edge)) all → list_any (λ item. has_edge item.edge) all ≡ true → (is_more all ≡ true → chain_of d (Edge' all body) ≡ None → ⊥) → chain_of d (Edge' all body) ≡ None → ⊥
+  none_missing : (all : List Watched) → Each (λ item. IsTrue (has_edge item.edge)) all → list_any (λ item. has_edge item.edge) all ≡ true → (is_more all ≡ true → chain_of (Edge' all body) ≡ None → ⊥) → chain_of (Edge' all body) ≡ None → ⊥
   none_missing [] edges any refutes missing = false≢true any
   none_missing (clock ∷ []) edges any refutes missing =
-      let found : (if list_all (λ item. has_edge item.edge) (clock ∷ []) then chain_in d 0 (clock ∷ []) body else None) ≡ chain_in d 0 (clock ∷ []) body = ap (λ b. if b then chain_in d 0 (clock ∷ []) body else None) (all_pass (λ item. has_edge item.edge) (clock ∷ []) edges) in
+      let found : (if list_all (λ item. has_edge item.edge) (clock ∷ []) then chain_in 0 (clock ∷ []) body else None) ≡ chain_in 0 (clock ∷ []) body = ap (λ b. if b then chain_in 0 (clock ∷ []) body else None) (all_pass (λ item. has_edge item.edge) (clock ∷ []) edges) in
       let same = sym found ∙ missing in
       absurd (cc)
   none_missing (clock ∷ next ∷ others) edges any refutes missing =
@@ -65,15 +65,15 @@ module _ (d : Flat) (events : List Watched) (body : Actions) (lawful : IsProcess
 
   -- ---- what a chain is
 
-  module _ (chain : Chain) (is_chain : chain_of d (Edge' events body) ≡ Some chain) where
+  module _ (chain : Chain) (is_chain : chain_of (Edge' events body) ≡ Some chain) where
     found : IsFound d events body chain
     found = by_events events is_chain edged
       where
-        by_events : (all : List Watched) → chain_of d (Edge' all body) ≡ Some chain → Each (λ item. IsTrue (has_edge item.edge)) all → IsFound d all body chain
+        by_events : (all : List Watched) → chain_of (Edge' all body) ≡ Some chain → Each (λ item. IsTrue (has_edge item.edge)) all → IsFound d all body chain
         by_events [] e edges = absurd (cc)
         by_events (first ∷ others) e edges =
             chain_found d (length others) (first ∷ others) body chain
-            (sym (ap (λ b. if b then chain_in d (length others) (first ∷ others) body else None) (all_pass (λ item. has_edge item.edge) (first ∷ others) edges)) ∙ e)
+            (sym (ap (λ b. if b then chain_in (length others) (first ∷ others) body else None) (all_pass (λ item. has_edge item.edge) (first ∷ others) edges)) ∙ e)
 
     of_items : (P : Watched → Type 0) → Each P events → Each (λ (guard : Guard). P guard.item) chain.resets
     of_items P h =
@@ -82,12 +82,12 @@ module _ (d : Flat) (events : List Watched) (body : Actions) (lawful : IsProcess
 
     -- R2
     abbrev IsStraight : Guard → Type 0
-    IsStraight guard = is_turned guard.item.edge (tested d guard.test) ≡ true → ⊥
+    IsStraight guard = is_turned guard.item.edge (tested guard.test) ≡ true → ⊥
 
     are_straight : Each IsStraight chain.resets
     are_straight =
-        each_false (λ (guard : Guard). is_turned guard.item.edge (tested d guard.test)) chain.resets
-        (λ turned. straight (subst (λ o. has_chain (λ chain. list_any (λ (guard : Guard). is_turned guard.item.edge (tested d guard.test)) chain.resets) o ≡ true) (sym is_chain) turned))
+        each_false (λ (guard : Guard). is_turned guard.item.edge (tested guard.test)) chain.resets
+        (λ turned. straight (subst (λ o. has_chain (λ chain. list_any (λ (guard : Guard). is_turned guard.item.edge (tested guard.test)) chain.resets) o ≡ true) (sym is_chain) turned))
 
     lawful_parts : Each (IsLawfulGuard d.signals) chain.resets
     lawful_parts = (chain_lawful d.signals chain.resets chain.part body found.chained lawful.2).0
@@ -108,7 +108,7 @@ module _ (d : Flat) (events : List Watched) (body : Actions) (lawful : IsProcess
         (each_both IsItem (IsTested d) (λ guard. IsItem guard × IsTested d guard) (λ g a b. (a, b)) gs (of_items (IsEdgeItem (widths d)) items) found.tests)
         (each_both IsStraight (IsLawfulGuard d.signals) (λ guard. IsStraight guard × IsLawfulGuard d.signals guard) (λ g a b. (a, b)) gs are_straight lawful_parts)
 
-  by_chain : (o : Option Chain) → chain_of d (Edge' events body) ≡ o → HasChain d events body
+  by_chain : (o : Option Chain) → chain_of (Edge' events body) ≡ o → HasChain d events body
   by_chain None missing = absurd (none_missing events edged lawful.1 has_shape missing)
   by_chain (Some chain) is =
       record {
@@ -123,4 +123,4 @@ module _ (d : Flat) (events : List Watched) (body : Actions) (lawful : IsProcess
 
 pub chains_hold : (d : Flat) → ChainsHold d
 chains_hold d events body lawful levels shaped straight =
-    by_chain d events body lawful levels shaped straight (chain_of d (Edge' events body)) refl
+    by_chain d events body lawful levels shaped straight (chain_of (Edge' events body)) refl

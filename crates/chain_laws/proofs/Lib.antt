@@ -1,4 +1,3 @@
-pub mod Lists
 pub mod Chains
 pub mod Tests
 pub mod Branches

@@ -2,7 +2,7 @@
 use Rattle.std.proofs.Common.{◌≡◌, ◌∙◌, ◌-◌, ◌≤◌, ◌&&◌, ◌||◌, ℕ, zero, suc, Bool, true, false, cond, not, List, [], ◌∷◌, ◌++◌, None, Some, length, map, replicate, take, refl, sym, ap, subst, inl, inr, arith}
 use Rattle.std.specs.Prelude.{◌==◌, if◌then◌else◌, IsTrue}
 use Rattle.std.specs.List.{list_any, slice_index_or}
-use Rattle.std.proofs.lemmas.Bool.{cases_Bool, eqb-true, false_from_ne_true, false≢true, or_from, or_parts, true≢false}
+use Rattle.std.proofs.lemmas.Bool.{and_parts, eqb-true, false≢true, or_cases, or_from, or_parts, true≢false}
 use Rattle.rtl_bits.specs.declared.Bit.{Bit}
 use Rattle.rtl_bits.specs.declared.Bit.TheVariants.{Zero, One, X, Z}
 use Rattle.rtl_bits.specs.declared.Edge.{Edge}
@@ -12,11 +12,10 @@ use Rattle.rtl_bits.specs.Bits.{all_with, equal_bit, extended, has_unknown, may_
 use Rattle.rtl_flat.specs.declared.expr.Compare.TheVariants as compare
 use Rattle.rtl_flat.specs.declared.expr.Fold.TheVariants as fold
 use Rattle.rtl_flat.specs.declared.expr.Turn.TheVariants as turn
-use Rattle.rtl_flat.specs.declared.signal.Signal.{Signal}
 use Rattle.rtl_flat.specs.Expression.{Tree, Sized, Literal, Turned, Compared, Folded}
 use Rattle.rtl_flat.specs.Expression as tree
-use Rattle.rtl_flat.specs.Signs.{Has, IsExpression}
-use Rattle.rtl_flat.specs.Sizing.{signed_in}
+use Rattle.rtl_flat.specs.Flows.{reads}
+use Rattle.rtl_flat.specs.Signs.{IsExpression}
 use Rattle.rtl_flat.specs.WellFormed.{has_edge}
 use Rattle.event_model.specs.Writes.{Values}
 use Rattle.net_model.specs.declared.fill.Fill.{Fill}
@@ -163,57 +162,45 @@ not_known Z known = absurd (true≢false known)
 
 -- ---- tests
 
-signed_there : (signals : List Signal) (i : ℕ) → Has (λ s. s.signed ≡ true) signals i → signed_in signals i ≡ true
-signed_there [] i h = absurd h
-signed_there (s ∷ signals) zero h = h
-signed_there (s ∷ signals) (suc i) h = signed_there signals i h
-
 module _ (d : Flat) where
   -- what a comparison with a literal tests
   record IsCompared (signed : Bool) (r : ℕ) (bits : List Bit) (one : Test) : Type 0 where
     signal : r ≡ one.signal
+    unsigned : signed ≡ false
     known : has_unknown bits ≡ false
-    narrow : signed ≡ true → length bits ≡ 1
     digit : 1 ≤ length bits → IsDigit bits (as_bit one.level)
 
   compared_is : (signed : Bool) (r : ℕ) (bits : List Bit) (one : Test) → compared signed r bits ≡ Some one → IsCompared signed r bits one
-  compared_is signed r bits one e = by_known (list_any is_unknown bits || (signed && not (length bits == 1))) refl e
+  compared_is signed r bits one e = by_known (signed || list_any is_unknown bits) refl e
     where
-      by_zero : (b : Bool) → (number_where is_one bits == 0) ≡ b → has_unknown bits ≡ false → (signed ≡ true → length bits ≡ 1) → (if b then test_of r false else None) ≡ Some one → IsCompared signed r bits one
-      by_zero true is known narrow e' =
+      by_zero : (b : Bool) → (number_where is_one bits == 0) ≡ b → signed ≡ false → has_unknown bits ≡ false → (if b then test_of r false else None) ≡ Some one → IsCompared signed r bits one
+      by_zero true is unsigned known e' =
           let same : record { signal = r; level = false } ≡ one = cc (e') in
           record {
             signal = ap (λ (t : Test). t.signal) same;
+            unsigned = unsigned;
             known = known;
-            narrow = narrow;
             digit = λ some. subst (λ (t : Test). IsDigit bits (as_bit t.level)) same (zero_digit bits some known (eqb-true _ 0 is));
           }
-      by_zero false isnt known narrow e' = absurd (cc)
+      by_zero false isnt unsigned known e' = absurd (cc)
 
-      by_one : (b : Bool) → (number_where is_one bits == 1) ≡ b → has_unknown bits ≡ false → (signed ≡ true → length bits ≡ 1) → (if b then test_of r true else if number_where is_one bits == 0 then test_of r false else None) ≡ Some one → IsCompared signed r bits one
-      by_one true is known narrow e' =
+      by_one : (b : Bool) → (number_where is_one bits == 1) ≡ b → signed ≡ false → has_unknown bits ≡ false → (if b then test_of r true else if number_where is_one bits == 0 then test_of r false else None) ≡ Some one → IsCompared signed r bits one
+      by_one true is unsigned known e' =
           let same : record { signal = r; level = true } ≡ one = cc (e') in
           record {
             signal = ap (λ (t : Test). t.signal) same;
+            unsigned = unsigned;
             known = known;
-            narrow = narrow;
             digit = λ some. subst (λ (t : Test). IsDigit bits (as_bit t.level)) same (one_digit bits known (eqb-true _ 1 is));
           }
-      by_one false isnt known narrow e' = by_zero (number_where is_one bits == 0) refl known narrow e'
+      by_one false isnt unsigned known e' =
+          by_zero (number_where is_one bits == 0) refl unsigned known e'
 
-      narrow_of : (s : Bool) → (s && not (length bits == 1)) ≡ false → s ≡ true → length bits ≡ 1
-      narrow_of true h is = eqb-true (length bits) 1 (not_false (length bits == 1) h)
-        where
-          not_false : (b : Bool) → not b ≡ false → b ≡ true
-          not_false true h' = refl
-          not_false false h' = absurd (true≢false h')
-      narrow_of false h is = absurd (false≢true is)
-
-      by_known : (b : Bool) → (list_any is_unknown bits || (signed && not (length bits == 1))) ≡ b → (if b then None else if number_where is_one bits == 1 then test_of r true else if number_where is_one bits == 0 then test_of r false else None) ≡ Some one → IsCompared signed r bits one
+      by_known : (b : Bool) → (signed || list_any is_unknown bits) ≡ b → (if b then None else if number_where is_one bits == 1 then test_of r true else if number_where is_one bits == 0 then test_of r false else None) ≡ Some one → IsCompared signed r bits one
       by_known true is e' = absurd (cc)
       by_known false isnt e' =
-          let (known, narrow) = or_parts (list_any is_unknown bits) (signed && not (length bits == 1)) isnt in
-          by_one (number_where is_one bits == 1) refl known (narrow_of signed narrow) e'
+          let (unsigned, known) = or_parts signed (list_any is_unknown bits) isnt in
+          by_one (number_where is_one bits == 1) refl unsigned known e'
 
   module _ (f : Fill) (n : Values) (are : AreNumbers d n) where
     -- an expression is true just where a signal has a level
@@ -223,7 +210,7 @@ module _ (d : Flat) where
     signal_bit : (r : ℕ) → widths d r ≡ 1 → IsKnownBit (n r)
     signal_bit r one = known_bit (n r) (are.wide r ∙ one) (are.known r)
 
-    truth : (e : Tree) → IsExpression d.signals e → (one : Test) → tested d e ≡ Some one → widths d one.signal ≡ 1 → IsTrueAt e one
+    truth : (e : Tree) → IsExpression d.signals e → (one : Test) → tested e ≡ Some one → widths d one.signal ≡ 1 → IsTrueAt e one
     truth (Sized w s at (tree.Whole r)) sized one e wide =
         let same : record { signal = r; level = true } ≡ one = cc (e) in
         let here = signal_bit r (ap (λ (t : Test). widths d t.signal) same ∙ wide) in
@@ -263,14 +250,14 @@ module _ (d : Flat) where
             ∙ ap (λ bits. same_bit (slice_index_or bits 0 X) Zero) (sym here.is))
         by_width false isnt e' = absurd (cc)
     truth (Sized w s at (Compared compare.Equal t (Sized w' s' at' (tree.Whole r)) (Sized w'' s'' at'' (Literal bits)))) sized one e wide =
-        let is = compared_is (signed_in d.signals r) r bits one e in
+        let is = compared_is s' r bits one e in
         let here = signal_bit r (ap (widths d) is.signal ∙ wide) in
         let digit = is.digit sized.widths.2.2.1.not_empty in
         let whole = sized.widths.2.2.1.whole refl in
         let both = sized.widths.2.0 in
         let wide' : w' ≡ suc digit.more = both ∙ sym whole ∙ digit.wide in
         let some = sized.widths.1.inside in
-        let plain = low_above digit.more wide' digit.wide is.narrow here.bit sized.signs.1.1.0 in
+        let plain = low_above digit.more wide' is.unsigned here.bit in
         ap (λ xs. is_one (truth_bit (extended w s (equal_bit (extended w' s' xs) (extended w'' s'' (filled f bits)) ∷ [])))) here.is
         ∙ ap (λ xs. is_one (truth_bit (extended w s (equal_bit xs (extended w'' s'' (filled f bits)) ∷ [])))) plain
         ∙ ap (λ xs. is_one (truth_bit (extended w s (equal_bit (here.bit ∷ replicate digit.more Zero) xs ∷ [])))) (ap (extended w'' s'') (filled_known f bits is.known) ∙ extended_whole w'' s'' bits whole ∙ digit.is)
@@ -280,18 +267,9 @@ module _ (d : Flat) where
         ∙ ap (λ xs. same_bit (slice_index_or xs 0 X) (as_bit one.level)) (sym here.is)
         ∙ ap (λ i. same_bit (bit n i 0) (as_bit one.level)) is.signal
       where
-        low_above : (more : ℕ) → w' ≡ suc more → length bits ≡ suc more → (signed_in d.signals r ≡ true → length bits ≡ 1) → (b : Bit) → (s' ≡ true → Has (λ x. x.signed ≡ true) d.signals r) → extended w' s' (b ∷ []) ≡ b ∷ replicate more Zero
-        low_above more e' long narrow b signs =
-            ap (λ k. extended k s' (b ∷ [])) e'
-            ∙ spread more s' b
-            ∙ elim (cases_Bool (signed_in d.signals r)) [
-              | inl is ↦
-                  let short = narrow is in
-                  let none : more ≡ 0 = omega (arith, long, short) in
-                  ap (λ k. b ∷ replicate k (cond s' b Zero)) none ∙ sym (ap (λ k. b ∷ replicate k Zero) none)
-              | inr isnt ↦
-                  ap (λ x. b ∷ replicate more (cond x b Zero)) (false_from_ne_true s' (λ is. true≢false (sym (signed_there d.signals r (signs is)) ∙ isnt)))
-            ]
+        low_above : (more : ℕ) → w' ≡ suc more → s' ≡ false → (b : Bit) → extended w' s' (b ∷ []) ≡ b ∷ replicate more Zero
+        low_above more e' unsigned b =
+            ap (λ k. extended k s' (b ∷ [])) e' ∙ spread more s' b ∙ ap (λ x. b ∷ replicate more (cond x b Zero)) unsigned
     truth e sized one e' wide = absurd (cc)
 
   -- ---- guards
@@ -304,8 +282,31 @@ module _ (d : Flat) where
   active Neg true b edged same = absurd (false≢true same)
   active Neg false b edged same = refl
 
-  pub tests_level : (guard : Guard) (one : Test) → IsExpression d.signals guard.test → tested d guard.test ≡ Some one → guard.item.signal ≡ one.signal → widths d guard.item.signal ≡ 1 → IsTrue (has_edge guard.item.edge) → agree (goes_up guard.item.edge) one.level ≡ true → Tests d guard
+  pub tests_level : (guard : Guard) (one : Test) → IsExpression d.signals guard.test → tested guard.test ≡ Some one → guard.item.signal ≡ one.signal → widths d guard.item.signal ≡ 1 → IsTrue (has_edge guard.item.edge) → agree (goes_up guard.item.edge) one.level ≡ true → Tests d guard
   tests_level guard one sized is signal wide edged same f n are =
       truth f n are guard.test sized one is (ap (widths d) (sym signal) ∙ wide)
       ∙ ap (λ i. same_bit (bit n i 0) (as_bit one.level)) (sym signal)
       ∙ active guard.item.edge one.level (bit n guard.item.signal 0) edged same
+
+  -- and reads nothing else
+  pub reads_signal_alone : (e : Tree) (one : Test) → tested e ≡ Some one → (i k : ℕ) → reads (widths d) e i k ≡ true → i ≡ one.signal
+  reads_signal_alone (Sized w s at (tree.Whole r)) one e i k read =
+      let same : record { signal = r; level = true } ≡ one = cc (e) in
+      eqb-true i r (and_parts (i == r) _ read).0 ∙ ap (λ (t : Test). t.signal) same
+  reads_signal_alone (Sized w s at (Folded fold.Negation (Sized w' s' at' (tree.Whole r)))) one e i k read =
+      let same : record { signal = r; level = false } ≡ one = cc (e) in
+      eqb-true i r (and_parts (i == r) _ read).0 ∙ ap (λ (t : Test). t.signal) same
+  reads_signal_alone (Sized w s at (Turned turn.Complement (Sized w' s' at' (tree.Whole r)))) one e i k read =
+      by_width (w' == 1) e
+    where
+      by_width : (b : Bool) → (if b then test_of r false else None) ≡ Some one → i ≡ one.signal
+      by_width true e' =
+          let same : record { signal = r; level = false } ≡ one = cc (e') in
+          eqb-true i r (and_parts (i == r) _ read).0 ∙ ap (λ (t : Test). t.signal) same
+      by_width false e' = absurd (cc)
+  reads_signal_alone (Sized w s at (Compared compare.Equal t (Sized w' s' at' (tree.Whole r)) (Sized w'' s'' at'' (Literal bits)))) one e i k read =
+      elim (or_cases _ false read) [
+        | inl here ↦ eqb-true i r (and_parts (i == r) _ here).0 ∙ (compared_is s' r bits one e).signal
+        | inr none ↦ absurd (false≢true none)
+      ]
+  reads_signal_alone e one e' i k read = absurd (cc)

@@ -6,7 +6,9 @@ use Rattle.rtl_rule.specs.Order.{ranked}
 use Rattle.rtl_flat.specs.Flats.{Flat, Parts}
 use Rattle.rtl_rule.specs.Sites.{AreFindings, AreThose}
 use Rattle.check_sense.specs.Sense.{AreSenseFindings}
-use Rattle.check_xprop.specs.check_assign.Findings.{AreAssignFindings}
+use Rattle.check_clocks.specs.check_chains.Findings.{AreResetFindings}
+use Rattle.check_clocks.specs.Findings.{AreClockFindings}
+use Rattle.check_assign.specs.Findings.{AreAssignFindings}
 use Rattle.check_case.specs.Cases.{AreCaseFindings}
 use Rattle.check_xprop.specs.Unknowns.{AreUnknownFindings}
 use Rattle.check_all.specs.Findings.{AreAllFindings}
@@ -30,9 +32,17 @@ sense_alone : (d : Flat) (a b : List Finding) → AreSenseFindings d a → AreSe
 sense_alone d a b one other =
     one.in_order ∙ ap ranked (both (both (findings_alone one.are_missing other.are_missing) (findings_alone one.are_never other.are_never)) (findings_alone one.are_mixed other.are_mixed)) ∙ sym other.in_order
 
-assign_alone : (cone : ℕ → Type 0) (d : Flat) (a b : List Finding) → AreAssignFindings cone d a → AreAssignFindings cone d b → a ≡ b
-assign_alone cone d a b one other =
-    one.in_order ∙ ap ranked (both (both (both (both (both (both (both (both (both (both (both (both (both (findings_alone one.are_blocking other.are_blocking) (findings_alone one.are_nonblocking other.are_nonblocking)) (findings_alone one.are_mixed other.are_mixed)) (findings_alone one.are_several other.are_several)) (findings_alone one.are_undriven other.are_undriven)) (findings_alone one.are_loop other.are_loop)) (findings_alone one.are_derived other.are_derived)) (findings_alone one.are_data other.are_data)) (findings_alone one.are_latch other.are_latch)) (findings_alone one.are_tristate other.are_tristate)) (findings_alone one.are_shape other.are_shape)) (findings_alone one.are_polarity other.are_polarity)) (findings_alone one.are_pair other.are_pair)) (findings_alone one.are_value other.are_value)) ∙ sym other.in_order
+assign_alone : (d : Flat) (a b : List Finding) → AreAssignFindings d a → AreAssignFindings d b → a ≡ b
+assign_alone d a b one other =
+    one.in_order ∙ ap ranked (both (both (both (both (both (both (both (findings_alone one.are_blocking other.are_blocking) (findings_alone one.are_nonblocking other.are_nonblocking)) (findings_alone one.are_mixed other.are_mixed)) (findings_alone one.are_several other.are_several)) (findings_alone one.are_undriven other.are_undriven)) (findings_alone one.are_loop other.are_loop)) (findings_alone one.are_latch other.are_latch)) (findings_alone one.are_tristate other.are_tristate)) ∙ sym other.in_order
+
+clock_alone : (cone : ℕ → Type 0) (d : Flat) (a b : List Finding) → AreClockFindings cone d a → AreClockFindings cone d b → a ≡ b
+clock_alone cone d a b one other =
+    one.in_order ∙ ap ranked (both (findings_alone one.are_derived other.are_derived) (findings_alone one.are_data other.are_data)) ∙ sym other.in_order
+
+reset_alone : (d : Flat) (a b : List Finding) → AreResetFindings d a → AreResetFindings d b → a ≡ b
+reset_alone d a b one other =
+    one.in_order ∙ ap ranked (both (both (both (findings_alone one.are_shape other.are_shape) (findings_alone one.are_polarity other.are_polarity)) (findings_alone one.are_pair other.are_pair)) (findings_alone one.are_value other.are_value)) ∙ sym other.in_order
 
 case_alone : (d : Flat) (a b : List Finding) → AreCaseFindings d a → AreCaseFindings d b → a ≡ b
 case_alone d a b one other =
@@ -45,8 +55,10 @@ unknown_alone d a b one other =
 pub alone : (d : Parts) (a b : List Finding) → AreAllFindings d a → AreAllFindings d b → a ≡ b
 alone d a b one other =
     one.in_order
-    ∙ ap ranked (both (both (both (sense_alone d.flat one.sense other.sense one.are_sense other.are_sense)
-    (assign_alone (InCone d.flat) d.flat one.assigned other.assigned one.are_assigned other.are_assigned))
+    ∙ ap ranked (both (both (both (both (both (sense_alone d.flat one.sense other.sense one.are_sense other.are_sense)
+    (assign_alone d.flat one.assigned other.assigned one.are_assigned other.are_assigned))
+    (clock_alone (InCone d.flat) d.flat one.clocked other.clocked one.are_clocked other.are_clocked))
+    (reset_alone d.flat one.reset other.reset one.are_reset other.are_reset))
     (case_alone d.flat one.cases other.cases one.are_cases other.are_cases))
     (unknown_alone d one.unknown other.unknown one.are_unknown other.are_unknown))
     ∙ sym other.in_order

@@ -1,11 +1,15 @@
-//! What all findings of a design are, over all rules.
+//! All findings of a design, over all rules.
 #![tactic(auto)]
 
+mod all;
 pub mod law;
 
+pub use all::check;
+
 // Passed on to the crates above.
+pub use check_assign;
 pub use check_case;
+pub use check_clocks;
 pub use check_sense;
 pub use check_sense::check_found;
 pub use check_xprop;
-pub use check_xprop::check_assign;

@@ -1,10 +1,9 @@
 -- The definitions at work on small designs.
 use Rattle.std.proofs.Common.{◌≡◌, refl, ℕ, Bool, true, false, List, [], ◌∷◌, map, length}
 use Rattle.rtl_bits.specs.declared.Bit.{Bit}
-use Rattle.rtl_bits.specs.declared.Bit.TheVariants.{Zero, One, Z}
+use Rattle.rtl_bits.specs.declared.Bit.TheVariants.{Z}
 use Rattle.rtl_bits.specs.declared.Edge.{Edge}
-use Rattle.rtl_bits.specs.declared.Edge.TheVariants.{Pos, Neg}
-use Rattle.rtl_flat.specs.declared.expr.Fold.TheVariants as fold
+use Rattle.rtl_bits.specs.declared.Edge.TheVariants.{Pos}
 use Rattle.rtl_tree.specs.declared.text.Spot.{Spot}
 use Rattle.rtl_flat.specs.declared.signal.Kind.{Kind}
 use Rattle.rtl_flat.specs.declared.signal.Kind.TheVariants.{TopInput, Net, Var}
@@ -12,11 +11,9 @@ use Rattle.rtl_flat.specs.declared.signal.Signal.{Signal}
 use Rattle.rtl_flat.specs.Expression as sized
 use Rattle.rtl_flat.specs.Process.{Piece, Watched, Actions, Doing, Task}
 use Rattle.rtl_flat.specs.Process as part
-use Rattle.rtl_rule.specs.Parts.{At}
+use Rattle.rtl_rule.specs.Parts.{At, has_some}
 use Rattle.rtl_flat.specs.Flats.{Flat, widths}
 use Rattle.check_assign.specs.Assigned.{IsSeveralDrivers, IsUndriven, IsTristate, first_target, now}
-use Rattle.check_clocks.specs.check_chains.Chains.{IsAsyncPair, IsResetPolarity, IsResetShape}
-use Rattle.rtl_rule.specs.Parts.{has_some}
 
 abbrev spot_at : ℕ → Spot
 spot_at at = record { file = 0; at = at }
@@ -36,7 +33,7 @@ task_of does = record { does = does; instance = 0; spot = spot_at 38 }
 
 abbrev parts : List Signal → List Doing → Flat
 parts signals does =
-    record { signals = signals; tasks = map task_of does; delays = []; dropped = [] }
+    record { signals = signals; tasks = map task_of does }
 
 abbrev literal : List Bit → sized.Tree
 literal bits = sized.Sized (length bits) false (spot_at 0) (sized.Literal bits)
@@ -55,39 +52,6 @@ at does = record { process = 0; task = task_of does; it = does }
 abbrev ports : List Signal
 ports =
     signal_of 1 TopInput 17 ∷ signal_of 1 TopInput 24 ∷ signal_of 1 TopInput 31 ∷ signal_of 1 TopInput 36 ∷ signal_of 1 Var 50 ∷ []
-
-abbrev low : ℕ → sized.Tree
-low i = sized.Sized 1 false (spot_at 0) (sized.Folded fold.Negation (read i))
-
-abbrev when : sized.Tree → Actions → Actions → Actions
-when test taken other =
-    part.Then (part.If test taken (part.With other) (spot_at 0)) part.Done
-
--- `if (!rst_n) q <= 1'b0; else if (!set_n) q <= 1'b1; else q <= d;`
-abbrev two_resets : Doing
-two_resets =
-    part.Edge' (item Pos 2 ∷ item Neg 0 ∷ item Neg 1 ∷ []) (when (low 0) (set 4 (literal (Zero ∷ [])) true) (when (low 1) (set 4 (literal (One ∷ [])) true) (set 4 (read 3) true)))
-
-abbrev pair : Flat
-pair = parts ports (two_resets ∷ [])
-
-two_resets_found : IsAsyncPair pair (at two_resets)
-two_resets_found = refl
-
--- `if (rst_n) .. else ..` at `negedge rst_n`
-abbrev turned : Doing
-turned =
-    part.Edge' (item Pos 2 ∷ item Neg 0 ∷ []) (when (read 0) (set 4 (literal (Zero ∷ [])) true) (set 4 (read 3) true))
-
-turned_found : IsResetPolarity (parts ports (turned ∷ [])) (at turned)
-turned_found = refl
-
--- no `if` at all
-abbrev shapeless : Doing
-shapeless = part.Edge' (item Pos 2 ∷ item Neg 0 ∷ []) (set 4 (read 3) true)
-
-shapeless_found : IsResetShape (parts ports (shapeless ∷ [])) (at shapeless)
-shapeless_found = refl
 
 -- `always @(posedge clk) q = d;`: the place is that of `q`
 abbrev blocking : Doing

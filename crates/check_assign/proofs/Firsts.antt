@@ -10,14 +10,15 @@ use Rattle.rtl_flat.specs.Flows.{may_select, may_target}
 use Rattle.rtl_flat.specs.PathSets.{IsTemporary}
 use Rattle.rtl_flat.specs.Process.{Piece, Action, Set, If, Case, Block, Doing, Assign, Comb, Edge', Task}
 use Rattle.rtl_rule.specs.declared.rule.Rule.TheVariants.{BlockingState, NonblockingComb, MixedAssign}
-use Rattle.rtl_rule.specs.Parts.{agree, all_of, found_at, has_some, number, some_below, spot_if, statements, within}
+use Rattle.rtl_rule.specs.Parts.{agree, all_of, found_at, has_some, is_clocked, number, some_below, spot_if, statements, within}
 use Rattle.rtl_flat.specs.Flats.{Flat, widths}
-use Rattle.check_assign.specs.Assigned.{IsBlockingState, IsMixedAssign, IsNonblockingComb, blocking_state_at, is_clocked, is_comb, late, mixed_assign_at, nonblocking_comb_at, now, own_targets}
+use Rattle.check_assign.specs.Assigned.{IsBlockingState, IsMixedAssign, IsNonblockingComb, blocking_state_at, is_comb, late, mixed_assign_at, nonblocking_comb_at, now, own_targets}
 use Rattle.check_assign.specs.Kept.{AreTemporaries}
-use Rattle.check_assign.specs.Marks.{is_some_spot, least_of, own_writes, spot_of}
+use Rattle.check_loops.specs.check_found.Marked.{is_some_spot, least_of}
+use Rattle.check_assign.specs.Marks.{own_writes, spot_of}
 use Rattle.check_assign.proofs.Below.{below_and, below_any, below_none, below_or, below_same, signal_there}
-use Rattle.check_assign.proofs.Places.{is_some-joined, least_any, least_is}
-use Rattle.check_assign.proofs.Shown.{Tells}
+use Rattle.check_loops.proofs.check_found_proofs.Places.{is_some-joined, least_any, least_is}
+use Rattle.check_loops.proofs.check_found_proofs.Shown.{Tells}
 use Rattle.check_assign.proofs.Unions.{late_is, now_is}
 
 -- ---- one statement

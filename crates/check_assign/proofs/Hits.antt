@@ -14,7 +14,7 @@ use Rattle.check_loops.specs.rtl_scan.Sets.{has_row, has_rows}
 use Rattle.check_loops.proofs.rtl_scan_proofs.Masks.{without_is}
 use Rattle.check_loops.proofs.rtl_scan_proofs.Users.{some_bit_is}
 use Rattle.check_loops.proofs.check_found_proofs.Inside.{IsInside}
-use Rattle.check_loops.proofs.check_found_proofs.Signals.{some_at, some_found}
+use Rattle.rtl_rule.proofs.Below.{some_at, some_found}
 use Rattle.check_assign.specs.Marks.{any_row, leaves, shares}
 use Rattle.check_assign.proofs.Below.{below_same, same_truth, select_at, whole_at}
 

@@ -1,8 +1,6 @@
 mod Example
-pub mod Places
 pub mod Below
 pub mod Unions
-pub mod Shown
 pub mod Steps
 pub mod Hits
 pub mod Firsts
@@ -11,6 +9,5 @@ pub mod Sets
 pub mod Zeds
 pub mod Together
 -- passed on to the crates above
-pub use Rattle.check_clocks.proofs as check_clocks_proofs
 pub use Rattle.check_loops.proofs.check_found_proofs
 pub use Rattle.check_loops.proofs.rtl_scan_proofs

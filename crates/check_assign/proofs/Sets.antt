@@ -13,7 +13,7 @@ use Rattle.check_assign.specs.Assigned.{IsLatchInferred, IsSeveralDrivers, is_co
 use Rattle.check_assign.specs.Kept.{AreTemporaries}
 use Rattle.check_assign.proofs.Below.{signal_there}
 use Rattle.check_assign.proofs.Firsts.{is_kept, is_temporary}
-use Rattle.check_assign.proofs.Shown.{Tells}
+use Rattle.check_loops.proofs.check_found_proofs.Shown.{Tells}
 
 module _ (d : Flat) (p : ℕ) (task : Task) where
   pub several_tells : (s : ℕ) (b : Bool) → b ≡ has_some (widths d) (λ i k. written d task.does i k && lower_writes d p i k) s → (o : Option Spot) → o ≡ cond b (Some task.spot) None → Tells (IsSeveralDrivers d) several_drivers_at SeveralDrivers task.instance (p, task) s o

@@ -2,8 +2,8 @@
 use Rattle.std.proofs.Common.{◌≡◌, ◌∙◌, List, ◌∷◌, Option, sym, ap}
 use Rattle.std.specs.List.{flat_map}
 use Rattle.rtl_tree.specs.declared.text.Spot.{Spot}
-use Rattle.check_assign.specs.Marks.{joined, least_of}
-use Rattle.check_assign.proofs.Places.{joined_assoc, least_append}
+use Rattle.check_loops.specs.check_found.Marked.{joined, least_of}
+use Rattle.check_loops.proofs.check_found_proofs.Places.{joined_assoc, least_append}
 
 pub list_step : {A : Type 0} (f : A → List Spot) (rest : List A) (x : A) (xs : List A) → xs ≡ x ∷ rest → (old new all : Option Spot) → new ≡ joined old (least_of (f x)) → joined old (least_of (flat_map f xs)) ≡ all → joined new (least_of (flat_map f rest)) ≡ all
 list_step f rest x xs left old new all is h =

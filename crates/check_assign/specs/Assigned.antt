@@ -3,17 +3,16 @@
 use Rattle.std.specs.Prelude.{ℕ, suc, ◌≡◌, nat_lt, Bool, true, false, not, ◌&&◌, List, []}
 use Rattle.std.specs.List.{enumerate_from, filter_map, flat_map, list_any}
 use Rattle.rtl_tree.specs.declared.text.Spot.{Spot}
-use Rattle.rtl_flat.specs.declared.signal.Kind.{Kind}
-use Rattle.rtl_flat.specs.declared.signal.Kind.TheVariants.{TopInput, Net, Var}
 use Rattle.rtl_flat.specs.declared.signal.Signal.{Signal}
 use Rattle.rtl_flat.specs.Flows.{flow_of, may_select}
 use Rattle.rtl_flat.specs.Levels.{Chain, IsArrow}
 use Rattle.rtl_flat.specs.Paths.{BitSet, is_sure, may_write_delayed, may_write_blocking}
 use Rattle.rtl_flat.specs.PathSets.{IsTemporary}
 use Rattle.rtl_flat.specs.Process.{Piece, Action, Set, Doing, Assign, Comb, Edge', Task}
+use Rattle.event_model.specs.Queue.{is_input_kind}
 use Rattle.rtl_rule.specs.declared.finding.Finding.{Finding}
 use Rattle.rtl_rule.specs.declared.rule.Rule.TheVariants.{BlockingState, NonblockingComb, MixedAssign, SeveralDrivers, Undriven, CombLoop, LatchInferred, Tristate}
-use Rattle.rtl_rule.specs.Parts.{At, signal_sites, process_sites, has_some, first_written, written, number, found, found_at, least_place, agree, statements, spot_if, is_z, has_literal, literal_places}
+use Rattle.rtl_rule.specs.Parts.{is_clocked, At, signal_sites, process_sites, has_some, first_written, written, number, found, found_at, least_place, agree, statements, spot_if, is_z, has_literal, literal_places}
 use Rattle.rtl_flat.specs.Flats.{Flat, widths}
 use Rattle.rtl_rule.specs.Sites.{AreFindings}
 
@@ -22,10 +21,6 @@ use Rattle.rtl_rule.specs.Sites.{AreFindings}
 abbrev pub is_comb : Doing → Bool
 is_comb (Comb list body) = true
 is_comb _ = false
-
-abbrev pub is_clocked : Doing → Bool
-is_clocked (Edge' events body) = true
-is_clocked _ = false
 
 -- what a body may write by nonblocking assignments, and by blocking ones; a continuous assignment is neither
 abbrev pub late : Flat → Doing → BitSet
@@ -110,11 +105,6 @@ AreSeveralDrivers d = AreFindings (IsSeveralDrivers d) several_drivers_at (signa
 
 -- ---- A5
 
-abbrev pub is_input : Kind → Bool
-is_input TopInput = true
-is_input Net = false
-is_input Var = false
-
 -- whether some process may write a bit
 abbrev pub is_written : Flat → BitSet
 is_written d s k = list_any (λ (one : Task). written d one.does s k) d.tasks
@@ -122,7 +112,7 @@ is_written d s k = list_any (λ (one : Task). written d one.does s k) d.tasks
 -- a signal that isn't a top input has a bit that no process may write
 abbrev pub IsUndriven : Flat → (ℕ × Signal) → Type 0
 IsUndriven d (s, signal) =
-    not (is_input signal.kind) && has_some (widths d) (λ i k. not (is_written d i k)) s ≡ true
+    not (is_input_kind signal.kind) && has_some (widths d) (λ i k. not (is_written d i k)) s ≡ true
 
 abbrev pub undriven_at : (ℕ × Signal) → Finding
 undriven_at (s, signal) =

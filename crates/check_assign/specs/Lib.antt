@@ -4,7 +4,5 @@ pub mod Kept
 pub mod Lists
 pub mod Marks
 -- passed on to the crates above
-pub use Rattle.check_clocks.specs.check_chains
-pub use Rattle.check_clocks.specs as check_clocks
 pub use Rattle.check_loops.specs.check_found
 pub use Rattle.check_loops.specs.rtl_scan

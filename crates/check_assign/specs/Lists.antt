@@ -1,10 +1,8 @@
 -- It serves inner contracts and proofs; no answer of the program is stated by it.
 -- Lists of findings, one behind another.
-use Rattle.std.specs.Prelude.{ℕ, ◌≡◌, List, ◌++◌}
+use Rattle.std.specs.Prelude.{◌≡◌, List, ◌++◌}
 use Rattle.rtl_rule.specs.declared.finding.Finding.{Finding}
 use Rattle.rtl_flat.specs.Flats.{Flat}
-use Rattle.check_clocks.specs.check_chains.Chains.{AreAsyncPair, AreResetPolarity, AreResetShape, AreResetValue}
-use Rattle.check_clocks.specs.Clocks.{AreClockAsData, AreDerivedClock}
 use Rattle.check_assign.specs.Assigned.{AreBlockingState, AreNonblockingComb, AreMixedAssign, AreSeveralDrivers, AreUndriven, AreCombLoop, AreLatchInferred, AreTristate}
 
 -- findings of one kind, and behind them those of another
@@ -21,12 +19,5 @@ AreAssigned d = Both (Both (AreBlockingState d) (AreNonblockingComb d)) (AreMixe
 abbrev pub AreDriven : Flat → List Finding → Type 0
 AreDriven d = Both (Both (AreSeveralDrivers d) (AreUndriven d)) (AreCombLoop d)
 
-abbrev pub AreClocked : (ℕ → Type 0) → Flat → List Finding → Type 0
-AreClocked InCone d = Both (AreDerivedClock d) (AreClockAsData InCone d)
-
 abbrev pub AreHeld : Flat → List Finding → Type 0
 AreHeld d = Both (AreLatchInferred d) (AreTristate d)
-
-abbrev pub AreReset : Flat → List Finding → Type 0
-AreReset d =
-    Both (Both (Both (AreResetShape d) (AreResetPolarity d)) (AreAsyncPair d)) (AreResetValue d)

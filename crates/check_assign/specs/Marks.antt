@@ -14,28 +14,8 @@ use Rattle.rtl_rule.specs.declared.finding.Finding.{Finding}
 use Rattle.rtl_rule.specs.declared.rule.Rule.{Rule}
 use Rattle.rtl_rule.specs.Parts.{has_some, is_earlier, is_literal_with, is_z, number, place_of, spot_if}
 use Rattle.check_loops.specs.rtl_scan.declared.bits.Row.{Row}
-use Rattle.check_assign.specs.declared.marks.Among.{Among}
-use Rattle.check_assign.specs.declared.marks.Among.TheVariants.{All, Kept, Marked}
 
 -- ---- places
-
-abbrev pub if_earlier : Bool → Spot → Spot → Spot
-if_earlier true one other = other
-if_earlier false one other = one
-
--- the lesser of two places
-abbrev pub sooner : Spot → Spot → Spot
-sooner one other = if_earlier (is_earlier other one) one other
-
-abbrev pub joined : Option Spot → Option Spot → Option Spot
-joined None other = other
-joined (Some one) None = Some one
-joined (Some one) (Some other) = Some (sooner one other)
-
--- the least of some places
-abbrev pub least_of : List Spot → Option Spot
-least_of [] = None
-least_of (one ∷ others) = joined (Some one) (least_of others)
 
 -- the place of a target that may be a bit of a signal
 abbrev pub spot_of : (ℕ → ℕ) → ℕ → Piece → Option Spot
@@ -45,33 +25,6 @@ spot_of ws s piece = spot_if (has_some ws (may_select ws piece.signal piece.sele
 abbrev pub own_writes : (Bool → Bool) → (ℕ → ℕ) → ℕ → ℕ → Action → Bool
 own_writes kind ws s k (Set target value delayed spot) = kind delayed && may_target ws target s k
 own_writes kind ws s k _ = false
-
--- ---- signals with places
-
-abbrev pub is_some_spot : Option Spot → Bool
-is_some_spot None = false
-is_some_spot (Some spot) = true
-
--- whether a signal is among some
-abbrev pub wants : Among → ℕ → Bool
-wants All s = true
-wants (Kept temporaries) s = not (slice_index_or temporaries.now s false)
-wants (Marked marks) s = is_some_spot (get nat_cmp marks.now.spots s)
-
-abbrev pub shown : Rule → ℕ → (ℕ × Spot) → Finding
-shown rule instance entry =
-    record { rule = rule; signal = number entry.0; instance = instance; spot = entry.1 }
-
--- the entries of signals that pass a test
-abbrev pub passing : (ℕ → Bool) → List (ℕ × Spot) → List (ℕ × Spot)
-passing test entries = filter (λ (e : ℕ × Spot). test e.0) entries
-
--- findings of signals that have places are put behind others, in the order of signals
-pub record Shows (rule : Rule) (instance : ℕ) (marks : ℕ → Option Spot) (old new : List Finding) : Type 0 where
-  pub entries : List (ℕ × Spot)
-  pub sorted : IsStrictlySortedBy nat_cmp (map (λ (e : ℕ × Spot). e.0) entries)
-  pub each : (s : ℕ) → lookup (is_at (nat_cmp s)) entries ≡ marks s
-  pub is : new ≡ old ++ map (shown rule instance) entries
 
 -- ---- rows
 

@@ -9,11 +9,12 @@ ghost use Rattle.rtl_rule.specs.Parts.{has_some, written};
 ghost use Rattle.rtl_flat.specs.Flats.{flat, widths};
 ghost use Rattle.check_loops.specs.check_found.Masks.{has_in, mask_in};
 ghost use Rattle.check_loops.specs.check_found.Scanned.{AreScans};
-ghost use Rattle.check_assign.specs.Assigned.{AreSeveralDrivers, AreUndriven, IsSeveralDrivers, IsUndriven, is_input, is_written, lower_writes, several_drivers_at, undriven_at};
+ghost use Rattle.event_model.specs.Queue.{is_input_kind};
+ghost use Rattle.check_assign.specs.Assigned.{AreSeveralDrivers, AreUndriven, IsSeveralDrivers, IsUndriven, is_written, lower_writes, several_drivers_at, undriven_at};
 ghost use Rattle.check_assign.specs.Marks.{any_row, leaves, shares};
 ghost use Rattle.check_loops.specs.check_found.Gathered.{Gets, signal_numbers, task_sites};
 
-use crate::marks::{Among, Marks};
+use check_loops::check_found::marks::{Among, Marks};
 use check_loops::check_found::masks::SignalMasks;
 use check_loops::check_found::scans::Scans;
 use check_loops::rtl_scan::bits::Row;
@@ -125,7 +126,7 @@ impl Drivers {
 }
 
 fn is_input(kind: Kind) -> bool
-    ensures { result ≡ is_input kind }
+    ensures { result ≡ is_input_kind kind }
 {
     match kind {
         Kind::TopInput => true,
@@ -136,7 +137,7 @@ fn is_input(kind: Kind) -> bool
 
 /// Whether a signal isn't a top input and has a bit that isn't in a set.
 fn is_undriven(design: &Design, signal: &Signal, number: SigId, driven: &SignalMasks) -> bool
-    ensures { result ≡ (not (is_input signal.now.kind)
+    ensures { result ≡ (not (is_input_kind signal.now.kind)
         && has_some (widths (flat design.now)) (λ s k. not (has_in driven.now s k)) number.0) }
 {
     !is_input(signal.kind) && leaves(driven, selected(design, number, &Select::Whole))

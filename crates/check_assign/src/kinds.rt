@@ -5,12 +5,13 @@ ghost use Rattle.std.specs.Prelude.{ℕ, ◌≡◌, IfOk, OnOk};
 ghost use Rattle.rtl_flat.specs.Process.{doing, task};
 ghost use Rattle.rtl_flat.specs.Flats.{flat};
 ghost use Rattle.check_loops.specs.check_found.Scanned.{AreScans};
-ghost use Rattle.check_assign.specs.Assigned.{AreBlockingState, AreMixedAssign, AreNonblockingComb, IsBlockingState, IsMixedAssign, IsNonblockingComb, blocking_state_at, is_clocked, is_comb, mixed_assign_at, nonblocking_comb_at};
+ghost use Rattle.rtl_rule.specs.Parts.{is_clocked};
+ghost use Rattle.check_assign.specs.Assigned.{AreBlockingState, AreMixedAssign, AreNonblockingComb, IsBlockingState, IsMixedAssign, IsNonblockingComb, blocking_state_at, is_comb, mixed_assign_at, nonblocking_comb_at};
 ghost use Rattle.check_loops.specs.check_found.Gathered.{Gets, signal_numbers, task_sites};
 ghost use Rattle.check_assign.specs.Kept.{AreTemporaries};
 
-use crate::marks::Among;
 use crate::targets::first_targets;
+use check_loops::check_found::marks::Among;
 use check_loops::check_found::scans::Scans;
 use rtl_flat::act::{Does, Process};
 use rtl_flat::design::Design;

@@ -15,7 +15,7 @@ ghost use Rattle.check_assign.specs.Marks.{any_row, leaves};
 ghost use Rattle.check_loops.specs.check_found.Gathered.{Gets, signal_numbers, task_sites};
 
 use crate::kinds::is_comb;
-use crate::marks::{Among, Marks};
+use check_loops::check_found::marks::{Among, Marks};
 use check_loops::check_found::scans::Scans;
 use check_loops::check_found::sets::sure;
 use check_loops::rtl_scan::bits::{BitSet, Row};

@@ -1,4 +1,4 @@
-//! Findings about assignments, drivers, clocks and resets.
+//! Findings about assignments and drivers.
 #![tactic(auto)]
 
 mod drivers;
@@ -7,7 +7,6 @@ mod latches;
 mod lists;
 mod literals;
 mod loops;
-mod marks;
 mod targets;
 
 pub use kinds::{blocking_state, mixed_assign, nonblocking_comb};
@@ -17,6 +16,5 @@ pub use literals::tristate;
 pub use loops::comb_loop;
 
 // Passed on to the crates above.
-pub use check_clocks;
-pub use check_clocks::{check_chains, check_parts};
 pub use check_loops::{check_found, rtl_expr, rtl_scan};
+pub use check_parts;

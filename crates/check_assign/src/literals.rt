@@ -11,9 +11,9 @@ ghost use Rattle.check_loops.specs.check_found.Gathered.{Gets, task_sites};
 ghost use Rattle.check_assign.specs.Assigned.{AreTristate, IsTristate, tristate_at};
 ghost use Rattle.check_assign.specs.Marks.{z_spots};
 
-use check_clocks::check_parts::expressions::{nodes, valued_trees};
-use check_clocks::check_parts::places::least_place;
 use check_loops::check_found::sets::first_written;
+use check_parts::expressions::{nodes, valued_trees};
+use check_parts::places::least_place;
 use rtl_bits::{Bit, Vec4};
 use rtl_flat::act::{Does, ProcId};
 use rtl_flat::design::Design;

@@ -8,11 +8,12 @@ ghost use Rattle.rtl_flat.specs.Process.{action, doing, piece};
 ghost use Rattle.rtl_rule.specs.Parts.{statements};
 ghost use Rattle.rtl_flat.specs.Flats.{flat, widths};
 ghost use Rattle.check_assign.specs.Assigned.{own_targets};
-ghost use Rattle.check_assign.specs.Marks.{joined, least_of, spot_of};
+ghost use Rattle.check_loops.specs.check_found.Marked.{joined, least_of};
+ghost use Rattle.check_assign.specs.Marks.{spot_of};
 
-use crate::marks::Marks;
-use check_clocks::check_parts::statements::statements;
+use check_loops::check_found::marks::Marks;
 use check_loops::rtl_scan::selected;
+use check_parts::statements::statements;
 use rtl_flat::act::{Act, Does, TargetPart};
 use rtl_flat::design::Design;
 use rtl_tree::memory::Memory;

@@ -16,31 +16,31 @@ first_signal [] = 0
 first_signal (piece ∷ others) = piece.signal
 
 -- a statement gives one signal
-resets_one : (one : Action) (s t : ℕ) → resets_to s one → resets_to t one → s ≡ t
+resets_one : (d : Flat) (one : Action) (s t : ℕ) → resets_to d s one → resets_to d t one → s ≡ t
 unfolding first_signal
-resets_one (Set target e delayed spot) s t h k = ap first_signal (sym h.1 ∙ k.1)
-resets_one (If test taken other spot) s t h k = absurd h
-resets_one (Case kind full parallel selector branches fallback spot) s t h k = absurd h
-resets_one (Block body) s t h k = absurd h
+resets_one d (Set target e delayed spot) s t h k = ap first_signal (sym h.1 ∙ k.1)
+resets_one d (If test taken other spot) s t h k = absurd h
+resets_one d (Case kind full parallel selector branches fallback spot) s t h k = absurd h
+resets_one d (Block body) s t h k = absurd h
 
-module _ (statements : List Action) where
-  gives : (k : ℕ) (one : Action) (s : ℕ) → slice_get statements k ≡ Some one → resets_to s one → GivesAt statements k s
+module _ (d : Flat) (statements : List Action) where
+  gives : (k : ℕ) (one : Action) (s : ℕ) → slice_get statements k ≡ Some one → resets_to d s one → GivesAt d statements k s
   gives k one s there h =
-      subst (λ (o : Option Action). IsSomeAnd o (resets_to s)) (sym there) h
+      subst (λ (o : Option Action). IsSomeAnd o (resets_to d s)) (sym there) h
 
-  given : (k : ℕ) (one : Action) (s : ℕ) → slice_get statements k ≡ Some one → GivesAt statements k s → resets_to s one
-  given k one s there h = subst (λ (o : Option Action). IsSomeAnd o (resets_to s)) there h
+  given : (k : ℕ) (one : Action) (s : ℕ) → slice_get statements k ≡ Some one → GivesAt d statements k s → resets_to d s one
+  given k one s there h = subst (λ (o : Option Action). IsSomeAnd o (resets_to d s)) there h
 
-  inside : (k s : ℕ) → GivesAt statements k s → k < length statements
+  inside : (k s : ℕ) → GivesAt d statements k s → k < length statements
   inside k s h = by_list statements k h
     where
-      by_list : (xs : List Action) (k : ℕ) → IsSomeAnd (slice_get xs k) (resets_to s) → k < length xs
+      by_list : (xs : List Action) (k : ℕ) → IsSomeAnd (slice_get xs k) (resets_to d s) → k < length xs
       by_list [] k h = absurd h
       by_list (x ∷ xs) zero h = omega arith
       by_list (x ∷ xs) (suc k) h = let below = by_list xs k h in omega arith
 
   module _ (registers : BTreeSet ℕ) where
-    pub none_given : (seen : BTreeSet ℕ) → seen.keys ≡ [] → AreGiven statements 0 registers seen
+    pub none_given : (seen : BTreeSet ℕ) → seen.keys ≡ [] → AreGiven d statements 0 registers seen
     none_given seen empty = record {
       each = λ k h. absurd (omega (arith, h));
       from_seen = λ s h. let none = rw empty at h in absurd (false≢true none);
@@ -48,9 +48,9 @@ module _ (statements : List Action) where
       once = λ s j k h h' g g'. absurd (omega (arith, h));
     }
 
-    module _ (n : ℕ) (seen : BTreeSet ℕ) (so_far : AreGiven statements n registers seen) (one : Action) (there : slice_get statements n ≡ Some one) where
+    module _ (n : ℕ) (seen : BTreeSet ℕ) (so_far : AreGiven d statements n registers seen) (one : Action) (there : slice_get statements n ≡ Some one) where
       -- one statement more
-      pub more_given : (s : ℕ) → resets_to s one → contains nat_cmp registers s ≡ true → contains nat_cmp seen s ≡ false → (seen' : BTreeSet ℕ) → ((q : ℕ) → contains nat_cmp seen' q ≡ cond (q == s) true (contains nat_cmp seen q)) → AreGiven statements (n + 1) registers seen'
+      pub more_given : (s : ℕ) → resets_to d s one → contains nat_cmp registers s ≡ true → contains nat_cmp seen s ≡ false → (seen' : BTreeSet ℕ) → ((q : ℕ) → contains nat_cmp seen' q ≡ cond (q == s) true (contains nat_cmp seen q)) → AreGiven d statements (n + 1) registers seen'
       more_given s resets is_register new seen' added = record {
         each = λ k h.
             elim (cases_eq k n) [
@@ -61,7 +61,7 @@ module _ (statements : List Action) where
         from_seen = λ q h.
             elim (cases_eq q s) [
               | inl same ↦
-                  (n, omega arith, gives n one q there (subst (λ r. resets_to r one) (sym same) resets))
+                  (n, omega arith, gives n one q there (subst (λ r. resets_to d r one) (sym same) resets))
               | inr other ↦
                   let (k, below, g) = so_far.from_seen q (old q other h) in
                   (k, omega (arith, below), g)
@@ -69,7 +69,7 @@ module _ (statements : List Action) where
         to_seen = λ q k h g.
             elim (cases_eq k n) [
               | inl same ↦
-                  let is_s = resets_one one q s (given n one q there (subst (λ j. GivesAt statements j q) same g)) resets in
+                  let is_s = resets_one d one q s (given n one q there (subst (λ j. GivesAt d statements j q) same g)) resets in
                   added q ∙ ap (λ b. cond b true (contains nat_cmp seen q)) (eq-eqb q s is_s)
               | inr other ↦
                   let before = so_far.to_seen q k (omega (arith, h, other)) g in
@@ -103,34 +103,34 @@ module _ (statements : List Action) where
                     sym (added q ∙ ap (λ b. cond b true (contains nat_cmp seen q)) apart) ∙ h
               ]
 
-          clash : (q j k : ℕ) → j ≡ n → k < n → GivesAt statements j q → GivesAt statements k q → ⊥
+          clash : (q j k : ℕ) → j ≡ n → k < n → GivesAt d statements j q → GivesAt d statements k q → ⊥
           clash q j k here below g g' =
-              let is_s = resets_one one q s (given n one q there (subst (λ i. GivesAt statements i q) here g)) resets in
+              let is_s = resets_one d one q s (given n one q there (subst (λ i. GivesAt d statements i q) here g)) resets in
               let before = so_far.to_seen q k below g' in
               false≢true (sym new ∙ ap (contains nat_cmp seen) (sym is_s) ∙ before)
 
-      module _ (d : Flat) (does : Doing) (are : AreRegisters d does registers) where
+      module _ (does : Doing) (are : AreRegisters d does registers) where
         -- a statement that gives no signal
-        pub gives_none : ((s : ℕ) → resets_to s one → ⊥) → IsResetBranch d does statements → ⊥
+        pub gives_none : ((s : ℕ) → resets_to d s one → ⊥) → IsResetBranch d does statements → ⊥
         gives_none none h = let (s, is, resets) = h.each n one there in none s resets
 
         -- one that gives no register
-        pub gives_other : (s : ℕ) → resets_to s one → contains nat_cmp registers s ≡ false → IsResetBranch d does statements → ⊥
+        pub gives_other : (s : ℕ) → resets_to d s one → contains nat_cmp registers s ≡ false → IsResetBranch d does statements → ⊥
         gives_other s resets none h =
             let (t, is, resets') = h.each n one there in
-            let same = resets_one one t s resets' resets in
+            let same = resets_one d one t s resets' resets in
             false≢true (sym none ∙ ap (contains nat_cmp registers) (sym same) ∙ (are t).1 is)
 
         -- one that gives a register again
-        pub gives_again : (s : ℕ) → resets_to s one → contains nat_cmp seen s ≡ true → IsResetBranch d does statements → ⊥
+        pub gives_again : (s : ℕ) → resets_to d s one → contains nat_cmp seen s ≡ true → IsResetBranch d does statements → ⊥
         gives_again s resets again h =
             let (k, below, g) = so_far.from_seen s again in
             let same = h.once s k n g (gives n one s there resets) in
             omega (arith, below, same)
 
     -- after the last statement
-    pub all_given : (n : ℕ) (seen : BTreeSet ℕ) → length statements ≤ n → AreGiven statements n registers seen → (b : Bool) → IsTrue b ↔ ((q : ℕ) → IsTrue (contains nat_cmp registers q) → IsTrue (contains nat_cmp seen q)) → (d : Flat) (does : Doing) → AreRegisters d does registers → b ≡ true ↔ IsResetBranch d does statements
-    all_given n seen past so_far b decides d does are =
+    pub all_given : (n : ℕ) (seen : BTreeSet ℕ) → length statements ≤ n → AreGiven d statements n registers seen → (b : Bool) → IsTrue b ↔ ((q : ℕ) → IsTrue (contains nat_cmp registers q) → IsTrue (contains nat_cmp seen q)) → (does : Doing) → AreRegisters d does registers → b ≡ true ↔ IsResetBranch d does statements
+    all_given n seen past so_far b decides does are =
         (λ h. forward (decides.0 h), λ h. decides.1 (backward h))
       where
         forward : ((q : ℕ) → IsTrue (contains nat_cmp registers q) → IsTrue (contains nat_cmp seen q)) → IsResetBranch d does statements

@@ -31,15 +31,15 @@ AreRegisters d does registers =
 
 -- ---- branches
 
-abbrev pub GivesAt : List Action → ℕ → ℕ → Type 0
-GivesAt statements k s = IsSomeAnd (slice_get statements k) (resets_to s)
+abbrev pub GivesAt : Flat → List Action → ℕ → ℕ → Type 0
+GivesAt d statements k s = IsSomeAnd (slice_get statements k) (resets_to d s)
 
 -- the first n statements give registers that are seen, each once
-pub record AreGiven (statements : List Action) (n : ℕ) (registers seen : BTreeSet ℕ) : Type 0 where
-  pub each : (k : ℕ) → k < n → (s : ℕ) × (contains nat_cmp registers s ≡ true) × GivesAt statements k s
-  pub from_seen : (s : ℕ) → contains nat_cmp seen s ≡ true → (k : ℕ) × (k < n) × GivesAt statements k s
-  pub to_seen : (s k : ℕ) → k < n → GivesAt statements k s → contains nat_cmp seen s ≡ true
-  pub once : (s j k : ℕ) → j < n → k < n → GivesAt statements j s → GivesAt statements k s → j ≡ k
+pub record AreGiven (d : Flat) (statements : List Action) (n : ℕ) (registers seen : BTreeSet ℕ) : Type 0 where
+  pub each : (k : ℕ) → k < n → (s : ℕ) × (contains nat_cmp registers s ≡ true) × GivesAt d statements k s
+  pub from_seen : (s : ℕ) → contains nat_cmp seen s ≡ true → (k : ℕ) × (k < n) × GivesAt d statements k s
+  pub to_seen : (s k : ℕ) → k < n → GivesAt d statements k s → contains nat_cmp seen s ≡ true
+  pub once : (s j k : ℕ) → j < n → k < n → GivesAt d statements j s → GivesAt d statements k s → j ≡ k
 
 -- some reset has a branch that isn't one
 abbrev pub HasBad : Flat → Doing → List cycle.Guard → Type 0

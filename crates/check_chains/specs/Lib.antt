@@ -1,5 +1,6 @@
 pub mod Branches
 pub mod Chains
+pub mod Findings
 pub mod Inner
 pub mod Views
 -- passed on to the crates above

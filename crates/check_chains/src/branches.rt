@@ -11,6 +11,7 @@ ghost use Rattle.net_model.specs.Cycle as cycle;
 ghost use Rattle.rtl_rule.specs.Parts.{all_of, within};
 ghost use Rattle.rtl_flat.specs.Flats.{flat};
 ghost use Rattle.check_found.specs.Scanned.{AreScans};
+ghost use Rattle.check_parts.specs.Reads.{AreUnknowns};
 ghost use Rattle.check_chains.specs.Chains as spec;
 ghost use Rattle.check_chains.specs.Branches.{AreRegisters, HasBad, has_kept, is_marked};
 ghost use Rattle.check_chains.specs.Views.{guard_view};
@@ -20,8 +21,10 @@ use crate::constants::reset_of;
 use crate::telling::push_if;
 use check_found::scans::Scans;
 use check_found::sets::written;
+use check_parts::reads::unknowns;
 use check_parts::rtl_scan::bits::Row;
 use check_parts::statements::statements_of;
+use rtl_bits::Vec4;
 use rtl_flat::act::{Act, ProcId};
 use rtl_flat::design::Design;
 use rtl_flat::expr::SigId;
@@ -88,17 +91,19 @@ fn registers(
 fn is_reset_branch(
     alloc: Global,
     design: &Design,
+    unknowns: &[Vec4],
     registers: &BTreeSet<u32>,
     branch: &[Act],
 ) -> Result<bool, Memory>
-    requires { IsBody design.now.signals.items (body_of (map action branch.now)) }
+    requires unknown { AreUnknowns (flat design.now) unknowns.now }
+    requires lawful { IsBody design.now.signals.items (body_of (map action branch.now)) }
     ensures { IfOk result (λ good. (does : Doing) → AreRegisters (flat design.now) does registers.now
         → good ≡ true ↔ spec.IsResetBranch (flat design.now) does (all_of (body_of (map action branch.now)))) }
 {
     let statements = statements_of(alloc, branch)?;
     let mut seen = BTreeSet::new(alloc);
     for one in &statements {
-        let Some(signal) = reset_of(alloc, design, one)? else {
+        let Some(signal) = reset_of(alloc, design, unknowns, one)? else {
             return Ok(false);
         };
         if !registers.contains(&signal.0) {
@@ -115,39 +120,43 @@ fn is_reset_branch(
 fn has_bad(
     alloc: Global,
     design: &Design,
+    unknowns: &[Vec4],
     registers: &BTreeSet<u32>,
     resets: &[Guard],
 ) -> Result<bool, Memory>
-    requires { (k : ℕ) (guard : cycle.Guard) → slice_get (map guard_view resets.now) k ≡ Some guard → IsBody design.now.signals.items guard.branch }
+    requires unknown { AreUnknowns (flat design.now) unknowns.now }
+    requires lawful { (k : ℕ) (guard : cycle.Guard) → slice_get (map guard_view resets.now) k ≡ Some guard → IsBody design.now.signals.items guard.branch }
     ensures { IfOk result (λ bad. (does : Doing) → AreRegisters (flat design.now) does registers.now
         → bad ≡ true ↔ HasBad (flat design.now) does (map guard_view resets.now)) }
 {
     for guard in resets {
-        if !is_reset_branch(alloc, design, registers, guard.branch)? {
+        if !is_reset_branch(alloc, design, unknowns, registers, guard.branch)? {
             return Ok(true);
         }
     }
     Ok(false)
 }
 
-/// Whether a process has such a reset.
+/// Whether a process has such a reset, given the signals that are temporaries, and all with every bit x.
 pub fn has_bad_reset(
     alloc: Global,
     design: &Design,
     temporaries: &[bool],
+    unknowns: &[Vec4],
     p: ProcId,
 ) -> Result<bool, Memory>
     requires there { p.0 < length design.now.processes.items }
     requires marked { (s : ℕ) → slice_get temporaries.now s ≡ Some true ↔ IsTemporary (flat design.now).signals (flat design.now).tasks s }
+    requires unknown { AreUnknowns (flat design.now) unknowns.now }
     ensures { IfOk result (λ bad. (task : Task) → slice_get (flat design.now).tasks p.0 ≡ Some task
         → bad ≡ true ↔ spec.IsResetValue (flat design.now) (within (p.0, task) task.does)) }
 {
     let does = &design.processes[p.0 as usize].does;
-    match chain_of(alloc, design, does)? {
+    match chain_of(alloc, does)? {
         None => Ok(false),
         Some(chain) => {
             let registers = registers(alloc, design, temporaries, p)?;
-            has_bad(alloc, design, &registers, &chain.resets)
+            has_bad(alloc, design, unknowns, &registers, &chain.resets)
         }
     }
 }
@@ -157,10 +166,11 @@ pub fn reset_value(alloc: Global, scans: &Scans) -> Result<Vec<Finding>, Memory>
     requires { AreScans scans.now }
     ensures { IfOk result (λ found. spec.AreResetValue (flat scans.now.design.now) found.items) }
 {
+    let unknowns = unknowns(alloc, scans.design)?;
     let mut found = Vec::new(alloc);
     for number in 0..scans.design.processes.len() {
         let p = ProcId(number as u32);
-        let broken = has_bad_reset(alloc, scans.design, scans.temporaries(), p)?;
+        let broken = has_bad_reset(alloc, scans.design, scans.temporaries(), &unknowns, p)?;
         push_if(alloc, scans.design, Rule::ResetValue, p, broken, &mut found)?;
     }
     Ok(found)

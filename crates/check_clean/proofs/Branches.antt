@@ -1,16 +1,11 @@
 -- What holds of each statement of a body holds of those of its resets, and of what is done at the clock's edge.
 use Rattle.std.proofs.Common.{List, [], ◌∷◌, ◌++◌, subst}
 use Rattle.rtl_tree.specs.declared.text.Spot.{Spot}
-use Rattle.rtl_flat.specs.declared.signal.Signal.{Signal}
 use Rattle.rtl_flat.specs.Expression.{Tree}
 use Rattle.rtl_flat.specs.Process.{Action, Set, If, Case, Block, Actions, Done, Then, Otherwise, With}
-use Rattle.rtl_flat.specs.Signs.{IsExpression}
-use Rattle.rtl_flat.specs.WellFormed.{IsBody}
 use Rattle.net_model.specs.Cycle.{Guard, IsChained, opened}
 use Rattle.rtl_rule.specs.Parts.{all_of}
-use Rattle.check_laws.proofs.Sites.{Each, each_left, each_right}
-
--- ---- statements
+use Rattle.rtl_rule.proofs.Lists.{Each, each_left, each_right}
 
 module _ (P : Action → Type 0) (T : Tree → Type 0) (of_test : (test : Tree) (taken : Actions) (other : Otherwise) (spot : Spot) → P (If test taken other spot) → T test) where
   opened_each : (body : Actions) → Each P (all_of body) → Each P (all_of (opened body))
@@ -34,24 +29,3 @@ module _ (P : Action → Type 0) (T : Tree → Type 0) (of_test : (test : Tree) 
       let behind = each_right P (all_of guard.branch) (all_of other) (each_left P (all_of guard.branch ++ all_of other) [] own.1) in
       let more = chain_each others part other rest behind in
       (((of_test guard.test guard.branch (With other) spot own.0, both), more.0), more.1)
-
--- ---- lawful bodies
-
-module _ (signals : List Signal) where
-  opened_lawful : (body : Actions) → IsBody signals body → IsBody signals (opened body)
-  opened_lawful Done h = h
-  opened_lawful (Then (Set target e delayed spot) others) h = h
-  opened_lawful (Then (If test taken other spot) others) h = h
-  opened_lawful (Then (Case kind full parallel selector branches fallback spot) others) h = h
-  opened_lawful (Then (Block body) Done) h = opened_lawful body h.0
-  opened_lawful (Then (Block body) (Then one others)) h = h
-
-  abbrev pub IsLawfulGuard : Guard → Type 0
-  IsLawfulGuard guard = IsExpression signals guard.test × IsBody signals guard.branch
-
-  pub chain_lawful : (resets : List Guard) (part body : Actions) → IsChained resets part body → IsBody signals body → Each IsLawfulGuard resets × IsBody signals part
-  chain_lawful [] part body chained h = (tt, subst (IsBody signals) chained h)
-  chain_lawful (guard ∷ others) part body (other, spot, is, rest) h =
-      let own = subst (IsBody signals) is (opened_lawful body h) in
-      let more = chain_lawful others part other rest own.0.2 in
-      (((own.0.0, own.0.1), more.0), more.1)

@@ -24,7 +24,7 @@ use Rattle.net_model.specs.Cycle.{Chain, Guard, IsChain, IsChained, Tests, is_ac
 use Rattle.net_model.specs.Numbers.{AreNumbers, bit, digits}
 use Rattle.sign_cycles.specs.Formed.{IsConstant, IsFormed, TestsAlone}
 use Rattle.rtl_flat.specs.Flats.{Flat, widths}
-use Rattle.check_laws.proofs.Sites.{Each, each_from}
+use Rattle.rtl_rule.proofs.Lists.{Each, each_from}
 use Rattle.check_clean.proofs.Formed.{IsEdgeItem}
 
 -- ---- numbers in which one reset is active and another isn't

@@ -36,14 +36,15 @@ use Rattle.check_laws.proofs.Bodies.{exclusive_bodies, firm_assigns, tame_bodies
 use Rattle.check_laws.proofs.Clocks.{derived_clock, derived_clock_once, each_place}
 use Rattle.check_laws.proofs.Designs.{comb_loop_alone, latch_inferred, mixed_edges, never_wakes, nonblocking_comb, sense_missing, several_drivers, undriven}
 use Rattle.check_laws.proofs.Temporaries.{blocking_state}
-use Rattle.check_laws.proofs.Sites.{each_all, each_from, task_of}
+use Rattle.rtl_rule.proofs.Lists.{each_all, each_from}
+use Rattle.check_laws.proofs.Sites.{task_of}
 use Rattle.check_clean.specs.Clean.{CleanByRules, IsCleanDesign}
-use Rattle.check_clean.specs.Rules.{HasNoFinding}
+use Rattle.check_all.specs.Rules.{HasNoFinding}
 use Rattle.check_clean.proofs.Cone.{goes, heard}
 use Rattle.check_clean.proofs.Formed.{IsEdgeItem, chain, formed, has_chained, is_chain, items, tests}
 use Rattle.check_clean.proofs.Choices.{formed_too}
 use Rattle.check_clean.proofs.Levels.{ascends, level_of}
-use Rattle.check_clean.proofs.Merged.{no_finding}
+use Rattle.check_all.proofs.Without.{no_finding}
 use Rattle.check_clean.proofs.Sources.{sources_decided}
 
 module _ (d : Flat) (lawful : AreLawful d) (marked : AreMarked d) (none : HasNoFinding d) where
@@ -195,7 +196,7 @@ module _ (d : Flat) (lawful : AreLawful d) (marked : AreMarked d) (none : HasNoF
 
   abbrev chain_at : Option Doing → Option Chain
   chain_at None = None
-  chain_at (Some does) = chain_of d does
+  chain_at (Some does) = chain_of does
 
   chains : ℕ → Chain
   chains p = or_none (chain_at (doing_at d p))

@@ -8,7 +8,7 @@ use Rattle.rtl_tree.specs.declared.text.Spot.{Spot}
 use Rattle.rtl_flat.specs.declared.signal.Signal.{Signal}
 use Rattle.rtl_flat.specs.Expression.{Tree, Sized}
 use Rattle.rtl_flat.specs.Expression as tree
-use Rattle.rtl_flat.specs.Flows.{body_flow, reads}
+use Rattle.rtl_flat.specs.Flows.{may_select, body_flow, reads}
 use Rattle.rtl_flat.specs.Paths.{reads_bit, some}
 use Rattle.rtl_flat.specs.PathSets.{items_list, listed}
 use Rattle.rtl_flat.specs.Process.{Selection, Piece, Watched, Action, Set, If, Case, Block, Actions, Doing, Assign, Comb, Edge', Task}
@@ -20,17 +20,18 @@ use Rattle.event_model.specs.Queue.{doing_at}
 use Rattle.check_laws.specs.event_laws.Steady.{AreLawful}
 use Rattle.sign_cycles.specs.event_edges.Synchronous.{IsPort, MayHear, NoSignal, sensitive}
 use Rattle.net_model.specs.Control.{InCone, IsControl, IsReached, Itself, Through}
-use Rattle.rtl_rule.specs.Parts.{all_of, body_trees, index_of, is_named, items_of, labels, named, nodes, own_labels, own_trees, place_of, spot_if, trees, within}
+use Rattle.rtl_rule.specs.Parts.{all_of, body_trees, index_of, items_of, labels, has_some, nodes, own_labels, own_reads, own_trees, place_of, read_trees, spot_if, trees, within}
 use Rattle.rtl_flat.specs.Flats.{Flat, widths}
 use Rattle.check_laws.specs.check_chains.Chains.{chain_of}
 use Rattle.check_laws.specs.check_clocks.Clocks.{AreClockAsData, GoesTo, IsClockAsData, IsPlainConnection, but_tests, clock_as_data_at, data_places, data_reads, data_trees, in_instance, is_passing, is_some_place, is_whole, level_items, passes, statement_trees}
 use Rattle.check_laws.specs.check_clocks.Clocks as clocks
 use Rattle.check_laws.specs.Expressions.{AreMarked, IsMarked}
 use Rattle.check_laws.proofs.Clocks.{reads_alone}
-use Rattle.check_laws.proofs.Sites.{Each, each_both, each_flat, each_from, each_join, each_left, each_right, signal_refuted, signal_there, task_of}
+use Rattle.rtl_rule.proofs.Lists.{Each, each_both, each_flat, each_from, each_join, each_left, each_right}
+use Rattle.check_laws.proofs.Sites.{signal_refuted, signal_there, task_of}
 use Rattle.check_laws.proofs.Statements.{each_of}
 use Rattle.check_laws.proofs.Temporaries.{lists_within}
-use Rattle.check_clean.proofs.Unread.{IsQuiet, IsUnnamed, Unread, other_select, quiet_actions, unread}
+use Rattle.check_clean.proofs.Unread.{IsQuiet, IsUnnamed, Unread, no_select, quiet_actions, unread}
 
 -- ---- places
 
@@ -149,27 +150,27 @@ module _ (d : Flat) (lawful : AreLawful d) (marked : AreMarked d) (none : AreClo
       signal_refuted (IsClockAsData (InCone d) d) (clock_as_data_at d) d none p task there i below (record { in_cone = cone; as_data = places })
 
   module _ (p : ℕ) (task : Task) (there : slice_get d.tasks p ≡ Some task) (i : ℕ) (cone : InCone d i) (below : i < length d.signals) where
-    pub no_level : Each (λ (item : Watched). (not (has_edge item.edge) && (item.signal == i)) ≡ true → ⊥) (items_of task.does)
+    pub no_level : Each (λ (item : Watched). (not (has_edge item.edge) && has_some (widths d) (may_select (widths d) item.signal item.selection) i) ≡ true → ⊥) (items_of task.does)
     no_level =
-        none_placed (λ (item : Watched). not (has_edge item.edge) && (item.signal == i)) (λ item. item.spot) (items_of task.does)
-        (λ is. not_data p task there i cone below (place_left (level_items i task.does) (data_reads d i task) is))
+        none_placed (λ (item : Watched). not (has_edge item.edge) && has_some (widths d) (may_select (widths d) item.signal item.selection) i) (λ item. item.spot) (items_of task.does)
+        (λ is. not_data p task there i cone below (place_left (level_items d i task.does) (data_reads d i task) is))
 
     pub unnamed_data : Each (IsUnnamed (widths d) i) (flat_map nodes (data_trees d task))
     unnamed_data =
-        none_placed (λ node. is_named (named node) i) (λ node. place_of task.spot node) (flat_map nodes (data_trees d task))
-        (λ is. not_data p task there i cone below (place_right (level_items i task.does) (data_reads d i task) is))
+        none_placed (λ node. has_some (widths d) (own_reads (widths d) node) i) (λ node. place_of task.spot node) (flat_map nodes (data_trees d task))
+        (λ is. not_data p task there i cone below (place_right (level_items d i task.does) (data_reads d i task) is))
 
     -- the expressions of a process that passes nothing on and has no chain
-    pub plain_unread : is_passing d task ≡ false → chain_of d task.does ≡ None → (k : ℕ) → Each (Unread (widths d) i k) (trees task.does ++ labels task.does)
+    pub plain_unread : is_passing d task ≡ false → chain_of task.does ≡ None → (k : ℕ) → Each (Unread (widths d) i k) (read_trees task.does ++ labels task.does)
     plain_unread passes_not no_chain k =
-        unread_all (widths d) i (trees task.does ++ labels task.does)
-        (each_join IsMarked (trees task.does) (labels task.does) (each_from IsMarked (trees task.does) (marked p task there).0) (each_from IsMarked (labels task.does) (marked p task there).1))
+        unread_all (widths d) i (read_trees task.does ++ labels task.does)
+        (each_join IsMarked (read_trees task.does) (labels task.does) (each_right IsMarked (flat_map (λ (item : Watched). index_of item.selection) (items_of task.does)) (read_trees task.does) (each_from IsMarked (trees task.does) (marked p task there).0)) (each_from IsMarked (labels task.does) (marked p task there).1))
         (subst (λ es. Each (IsUnnamed (widths d) i) (flat_map nodes es)) same unnamed_data) k
       where
-        same : data_trees d task ≡ trees task.does ++ labels task.does
+        same : data_trees d task ≡ read_trees task.does ++ labels task.does
         same =
-            ap (λ b. if b then [] else but_tests (chain_of d task.does) (trees task.does ++ labels task.does)) passes_not
-            ∙ ap (λ o. but_tests o (trees task.does ++ labels task.does)) no_chain
+            ap (λ b. if b then [] else but_tests (chain_of task.does) (read_trees task.does ++ labels task.does)) passes_not
+            ∙ ap (λ o. but_tests o (read_trees task.does ++ labels task.does)) no_chain
 
   -- ---- assignments
 
@@ -199,8 +200,8 @@ module _ (d : Flat) (lawful : AreLawful d) (marked : AreMarked d) (none : AreClo
           let here : reads (widths d) (Sized 1 passed.signed passed.spot (tree.Whole passed.signal)) i k ≡ true = subst (λ x. reads (widths d) x i k ≡ true) passed.copy read in
           (passed, sym (eqb-true i passed.signal (and_parts (i == passed.signal) _ here).0))
       by_passing false isnt =
-          let all = plain_unread p task there i cone below isnt (ap (chain_of d) does) k in
-          let own = subst (λ (one : Doing). Each (Unread (widths d) i k) (trees one ++ labels one)) does all in
+          let all = plain_unread p task there i cone below isnt (ap chain_of does) k in
+          let own = subst (λ (one : Doing). Each (Unread (widths d) i k) (read_trees one ++ labels one)) does all in
           absurd (true≢false (sym read ∙ own.0))
 
   link_of : (p : ℕ) (task : Task) → slice_get d.tasks p ≡ Some task → (target : List Piece) (e : Tree) → task.does ≡ Assign target e → (passed : IsPassing d task.instance target e) → IsPlainConnection d task passed.signal passed.port
@@ -217,10 +218,14 @@ module _ (d : Flat) (lawful : AreLawful d) (marked : AreMarked d) (none : AreClo
 
   -- ---- who hears
 
-  items_other : (items : List Watched) (i : ℕ) → Each (λ (item : Watched). item.signal ≡ i → ⊥) items → (k : ℕ) → items_list (widths d) items i k ≡ false
+  abbrev NoBit : ℕ → Watched → Type 0
+  NoBit i item =
+      has_some (widths d) (may_select (widths d) item.signal item.selection) i ≡ true → ⊥
+
+  items_other : (items : List Watched) (i : ℕ) → Each (NoBit i) items → (k : ℕ) → items_list (widths d) items i k ≡ false
   items_other [] i h k = refl
   items_other (item ∷ items) i h k =
-      or_from _ _ (other_select (widths d) i item.signal item.selection h.0 k) (items_other items i h.1 k)
+      or_from _ _ (no_select (widths d) i item.signal item.selection h.0 k) (items_other items i h.1 k)
 
   pub heard : (p : ℕ) (does : Doing) → doing_at d p ≡ Some does → (i k : ℕ) → InCone d i → sensitive (widths d) does i k ≡ true → MayHear NoSignal d does i
   heard p (Assign target e) is i k cone read =
@@ -253,16 +258,16 @@ module _ (d : Flat) (lawful : AreLawful d) (marked : AreMarked d) (none : AreClo
       by_list None is reads' =
           let at = task_of d p (Comb None body) is in
           let below = signal_there d.signals i k (lists_within d lawful p (Comb None body) is i k reads') in
-          let all = plain_unread p at.task at.there i cone below (ap (passes d at.task.instance) at.is) (ap (chain_of d) at.is) k in
-          let own = subst (λ (one : Doing). Each (Unread (widths d) i k) (trees one ++ labels one)) at.is all in
-          let quiet = quiet_body (widths d) i k body (comb_statements (Unread (widths d) i k) None body (each_left (Unread (widths d) i k) (trees (Comb None body)) (labels (Comb None body)) own) (each_right (Unread (widths d) i k) (trees (Comb None body)) (labels (Comb None body)) own)) in
+          let all = plain_unread p at.task at.there i cone below (ap (passes d at.task.instance) at.is) (ap chain_of at.is) k in
+          let own = subst (λ (one : Doing). Each (Unread (widths d) i k) (read_trees one ++ labels one)) at.is all in
+          let quiet = quiet_body (widths d) i k body (comb_statements (Unread (widths d) i k) None body (each_left (Unread (widths d) i k) (read_trees (Comb None body)) (labels (Comb None body)) own) (each_right (Unread (widths d) i k) (read_trees (Comb None body)) (labels (Comb None body)) own)) in
           true≢false (sym reads' ∙ quiet)
       by_list (Some items) is lists' =
           let at = task_of d p (Comb (Some items) body) is in
           let below = signal_there d.signals i k (lists_within d lawful p (Comb (Some items) body) is i k lists') in
-          let levels = subst (λ (one : Doing). Each (λ (item : Watched). (not (has_edge item.edge) && (item.signal == i)) ≡ true → ⊥) (items_of one)) at.is (no_level p at.task at.there i cone below) in
+          let levels = subst (λ (one : Doing). Each (λ (item : Watched). (not (has_edge item.edge) && has_some (widths d) (may_select (widths d) item.signal item.selection) i) ≡ true → ⊥) (items_of one)) at.is (no_level p at.task at.there i cone below) in
           let edgeless = each_from (λ (item : Watched). has_edge item.edge ≡ false) items (lawful p (Comb (Some items) body) is).0.1 in
-          let others = each_both (λ (item : Watched). (not (has_edge item.edge) && (item.signal == i)) ≡ true → ⊥) (λ item. has_edge item.edge ≡ false) (λ item. item.signal ≡ i → ⊥) (λ item q e same. q (and_from _ _ (not_from_false _ e) (eq-eqb item.signal i same))) items levels edgeless in
+          let others = each_both (λ (item : Watched). (not (has_edge item.edge) && has_some (widths d) (may_select (widths d) item.signal item.selection) i) ≡ true → ⊥) (λ item. has_edge item.edge ≡ false) (NoBit i) (λ item q e some. q (and_from _ _ (not_from_false _ e) some)) items levels edgeless in
           true≢false (sym lists' ∙ items_other items i others k)
   heard p (Edge' events body) is i k cone lists = tt
 

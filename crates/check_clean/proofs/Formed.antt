@@ -32,13 +32,16 @@ use Rattle.check_laws.proofs.Bodies.{exclusive_bodies, tame_bodies}
 use Rattle.check_laws.proofs.Clocks.{async_pair}
 use Rattle.check_laws.proofs.Designs.{edge_body, mixed_assign, mixed_edges}
 use Rattle.check_laws.proofs.Expressions.{each_false}
-use Rattle.check_laws.proofs.Sites.{Each, IsTask, each_all, each_both, each_flat, each_from, each_left, each_map, each_right, process_refuted, signal_there, some_at, task_of}
-use Rattle.check_clean.specs.Rules.{HasNoFinding}
-use Rattle.check_clean.proofs.Branches.{OfGuard, chain_each, chain_lawful, IsLawfulGuard}
-use Rattle.check_clean.proofs.Chains.{IsFound, IsTested, chain_found}
+use Rattle.rtl_rule.proofs.Below.{some_at}
+use Rattle.rtl_rule.proofs.Lists.{Each, each_all, each_both, each_flat, each_from, each_left, each_map, each_right}
+use Rattle.check_laws.proofs.Sites.{IsTask, process_refuted, signal_there, task_of}
+use Rattle.check_all.specs.Rules.{HasNoFinding}
+use Rattle.check_laws.proofs.chain_laws_proofs.Branches.{IsLawfulGuard, chain_lawful}
+use Rattle.check_clean.proofs.Branches.{OfGuard, chain_each}
+use Rattle.check_laws.proofs.chain_laws_proofs.Chains.{IsFound, IsTested, chain_found}
 use Rattle.check_clean.proofs.Cone.{OfStatement, edge_statements, quiet_statements, unnamed_data}
 use Rattle.check_clean.proofs.Resets.{constant, each_by_place}
-use Rattle.check_clean.proofs.Tests.{reads_signal_alone, tests_level}
+use Rattle.check_laws.proofs.chain_laws_proofs.Tests.{reads_signal_alone, tests_level}
 use Rattle.check_clean.proofs.Unread.{IsUnnamed, Unread, unread}
 
 -- ---- lists
@@ -107,7 +110,7 @@ module _ (ws : ℕ → ℕ) (i k : ℕ) where
 -- its expressions that are data
 abbrev chosen_trees : Flat → ℕ → Doing → Option Chain → List Tree
 chosen_trees d instance does o =
-    if passes d instance does then [] else but_tests o (trees does ++ labels does)
+    if passes d instance does then [] else but_tests o (read_trees does ++ labels does)
 
 does_of : (does : Doing) (events : List Watched) (body : Actions) → does ≡ Edge' events body → Does does body
 does_of does events body is = subst (λ x. Does x body) (sym is) refl
@@ -129,27 +132,27 @@ module _ (d : Flat) (lawful : AreLawful d) (marked : AreMarked d) (none : HasNoF
 
   pub record HasChain : Type 0 where
     pub chain : Chain
-    pub is_chain : chain_of d (Edge' events body) ≡ Some chain
+    pub is_chain : chain_of (Edge' events body) ≡ Some chain
 
-  shaped : is_more events ≡ true → chain_of d (Edge' events body) ≡ None → ⊥
+  shaped : is_more events ≡ true → chain_of (Edge' events body) ≡ None → ⊥
   shaped more missing =
-      process_refuted (IsResetShape d) (reset_shape_at d) d none.r1 p at.task at.there
-      (subst (λ does. IsResetShape d (within (p, at.task) does)) (sym at.is)
+      process_refuted (IsResetShape) (reset_shape_at d) d none.r1 p at.task at.there
+      (subst (λ does. IsResetShape (within (p, at.task) does)) (sym at.is)
       (and_from _ _ (and_from (is_more events) _ more (all_pass (λ item. has_edge item.edge) events edged)) (ap (λ o. not (has_chain (λ chain. true) o)) missing)))
 
   has_chain_of : HasChain
-  has_chain_of = by_chain (chain_of d (Edge' events body)) refl
+  has_chain_of = by_chain (chain_of (Edge' events body)) refl
     where
-      none_missing : (all : List Watched) → Each (λ item. IsTrue (has_edge item.edge)) all → list_any (λ item. has_edge item.edge) all ≡ true → (is_more all ≡ true → chain_of d (Edge' all body) ≡ None → ⊥) → chain_of d (Edge' all body) ≡ None → ⊥
+      none_missing : (all : List Watched) → Each (λ item. IsTrue (has_edge item.edge)) all → list_any (λ item. has_edge item.edge) all ≡ true → (is_more all ≡ true → chain_of (Edge' all body) ≡ None → ⊥) → chain_of (Edge' all body) ≡ None → ⊥
       none_missing [] edges any refutes missing = false≢true any
       none_missing (clock ∷ []) edges any refutes missing =
-          let found : (if list_all (λ item. has_edge item.edge) (clock ∷ []) then chain_in d 0 (clock ∷ []) body else None) ≡ chain_in d 0 (clock ∷ []) body = ap (λ b. if b then chain_in d 0 (clock ∷ []) body else None) (all_pass (λ item. has_edge item.edge) (clock ∷ []) edges) in
+          let found : (if list_all (λ item. has_edge item.edge) (clock ∷ []) then chain_in 0 (clock ∷ []) body else None) ≡ chain_in 0 (clock ∷ []) body = ap (λ b. if b then chain_in 0 (clock ∷ []) body else None) (all_pass (λ item. has_edge item.edge) (clock ∷ []) edges) in
           let same = sym found ∙ missing in
           absurd (cc)
       none_missing (clock ∷ next ∷ others) edges any refutes missing =
           refutes (lt-ltb 1 (length (clock ∷ next ∷ others)) (omega arith)) missing
 
-      by_chain : (o : Option Chain) → chain_of d (Edge' events body) ≡ o → HasChain
+      by_chain : (o : Option Chain) → chain_of (Edge' events body) ≡ o → HasChain
       by_chain None missing =
           absurd (none_missing events edged (lawful p (Edge' events body) is).1 shaped missing)
       by_chain (Some chain) found = record { chain = chain; is_chain = found }
@@ -157,21 +160,21 @@ module _ (d : Flat) (lawful : AreLawful d) (marked : AreMarked d) (none : HasNoF
   pub chain : Chain
   chain = has_chain_of.chain
 
-  pub is_chain : chain_of d (Edge' events body) ≡ Some chain
+  pub is_chain : chain_of (Edge' events body) ≡ Some chain
   unfolding chain
   is_chain = has_chain_of.is_chain
 
-  task_chain : chain_of d at.task.does ≡ Some chain
-  task_chain = ap (chain_of d) at.is ∙ is_chain
+  task_chain : chain_of at.task.does ≡ Some chain
+  task_chain = ap chain_of at.is ∙ is_chain
 
   found : IsFound d events body chain
   found = by_events events is_chain edged
     where
-      by_events : (all : List Watched) → chain_of d (Edge' all body) ≡ Some chain → Each (λ item. IsTrue (has_edge item.edge)) all → IsFound d all body chain
+      by_events : (all : List Watched) → chain_of (Edge' all body) ≡ Some chain → Each (λ item. IsTrue (has_edge item.edge)) all → IsFound d all body chain
       by_events [] e edges = absurd (cc)
       by_events (first ∷ others) e edges =
           chain_found d (length others) (first ∷ others) body chain
-          (sym (ap (λ b. if b then chain_in d (length others) (first ∷ others) body else None) (all_pass (λ item. has_edge item.edge) (first ∷ others) edges)) ∙ e)
+          (sym (ap (λ b. if b then chain_in (length others) (first ∷ others) body else None) (all_pass (λ item. has_edge item.edge) (first ∷ others) edges)) ∙ e)
 
   -- ---- what is known of each reset
 
@@ -181,11 +184,11 @@ module _ (d : Flat) (lawful : AreLawful d) (marked : AreMarked d) (none : HasNoF
       each_map P (λ (guard : Guard). guard.item) chain.resets all.1
 
   -- R2
-  levels : Each (λ (guard : Guard). is_turned guard.item.edge (tested d guard.test) ≡ true → ⊥) chain.resets
+  levels : Each (λ (guard : Guard). is_turned guard.item.edge (tested guard.test) ≡ true → ⊥) chain.resets
   levels =
-      each_false (λ (guard : Guard). is_turned guard.item.edge (tested d guard.test)) chain.resets
-      (λ turned. process_refuted (IsResetPolarity d) (reset_polarity_at d) d none.r2 p at.task at.there
-      (subst (λ o. has_chain (λ chain. list_any (λ (guard : Guard). is_turned guard.item.edge (tested d guard.test)) chain.resets) o ≡ true) (sym task_chain) turned))
+      each_false (λ (guard : Guard). is_turned guard.item.edge (tested guard.test)) chain.resets
+      (λ turned. process_refuted (IsResetPolarity) (reset_polarity_at d) d none.r2 p at.task at.there
+      (subst (λ o. has_chain (λ chain. list_any (λ (guard : Guard). is_turned guard.item.edge (tested guard.test)) chain.resets) o ≡ true) (sym task_chain) turned))
 
   lawful_parts : Each (IsLawfulGuard d.signals) chain.resets
   lawful_parts = (chain_lawful d.signals chain.resets chain.part body found.chained (edge_body d lawful p events body is)).0
@@ -195,16 +198,16 @@ module _ (d : Flat) (lawful : AreLawful d) (marked : AreMarked d) (none : HasNoF
     item : IsEdgeItem (widths d) guard.item
     listed : items_list (widths d) events guard.item.signal 0 ≡ true
     test : IsTested d guard
-    level : is_turned guard.item.edge (tested d guard.test) ≡ true → ⊥
+    level : is_turned guard.item.edge (tested guard.test) ≡ true → ⊥
     sized : IsLawfulGuard d.signals guard
 
   resets : Each IsReset chain.resets
   resets =
       let gs = chain.resets in
       let of_item = each_both (λ (guard : Guard). IsEdgeItem (widths d) guard.item) (λ (guard : Guard). items_list (widths d) events guard.item.signal 0 ≡ true) (λ guard. IsEdgeItem (widths d) guard.item × (items_list (widths d) events guard.item.signal 0 ≡ true)) (λ g a b. (a, b)) gs (of_items (IsEdgeItem (widths d)) items) (of_items (λ item. items_list (widths d) events item.signal 0 ≡ true) (all_listed (widths d) events items)) in
-      let of_test = each_both (IsTested d) (λ (guard : Guard). is_turned guard.item.edge (tested d guard.test) ≡ true → ⊥) (λ guard. IsTested d guard × (is_turned guard.item.edge (tested d guard.test) ≡ true → ⊥)) (λ g a b. (a, b)) gs found.tests levels in
-      let of_both = each_both (λ (guard : Guard). IsEdgeItem (widths d) guard.item × (items_list (widths d) events guard.item.signal 0 ≡ true)) (λ guard. IsTested d guard × (is_turned guard.item.edge (tested d guard.test) ≡ true → ⊥)) (λ guard. (IsEdgeItem (widths d) guard.item × (items_list (widths d) events guard.item.signal 0 ≡ true)) × (IsTested d guard × (is_turned guard.item.edge (tested d guard.test) ≡ true → ⊥))) (λ g a b. (a, b)) gs of_item of_test in
-      each_both (λ (guard : Guard). (IsEdgeItem (widths d) guard.item × (items_list (widths d) events guard.item.signal 0 ≡ true)) × (IsTested d guard × (is_turned guard.item.edge (tested d guard.test) ≡ true → ⊥))) (IsLawfulGuard d.signals) IsReset
+      let of_test = each_both (IsTested d) (λ (guard : Guard). is_turned guard.item.edge (tested guard.test) ≡ true → ⊥) (λ guard. IsTested d guard × (is_turned guard.item.edge (tested guard.test) ≡ true → ⊥)) (λ g a b. (a, b)) gs found.tests levels in
+      let of_both = each_both (λ (guard : Guard). IsEdgeItem (widths d) guard.item × (items_list (widths d) events guard.item.signal 0 ≡ true)) (λ guard. IsTested d guard × (is_turned guard.item.edge (tested guard.test) ≡ true → ⊥)) (λ guard. (IsEdgeItem (widths d) guard.item × (items_list (widths d) events guard.item.signal 0 ≡ true)) × (IsTested d guard × (is_turned guard.item.edge (tested guard.test) ≡ true → ⊥))) (λ g a b. (a, b)) gs of_item of_test in
+      each_both (λ (guard : Guard). (IsEdgeItem (widths d) guard.item × (items_list (widths d) events guard.item.signal 0 ≡ true)) × (IsTested d guard × (is_turned guard.item.edge (tested guard.test) ≡ true → ⊥))) (IsLawfulGuard d.signals) IsReset
       (λ g a b. record { item = a.0.0; listed = a.0.1; test = a.1.0; level = a.1.1; sized = b }) gs of_both lawful_parts
 
   agrees : (guard : Guard) → (reset : IsReset guard) → agree (goes_up guard.item.edge) reset.test.test.level ≡ true
@@ -265,7 +268,7 @@ module _ (d : Flat) (lawful : AreLawful d) (marked : AreMarked d) (none : HasNoF
   constants : Each (λ (guard : Guard). IsConstant d body guard.branch) chain.resets
   constants =
       each_both (OfGuard (OfStatement IsMarked) IsMarked (λ test taken other spot m. m.0)) (λ (guard : Guard). (IsResetBranch d (Edge' events body) (all_of guard.branch) → ⊥) → ⊥) (λ guard. IsConstant d body guard.branch)
-      (λ guard m unless. constant d (Edge' events body) body guard.branch m.1 inside register unless) chain.resets marked_chain.0 unrefuted
+      (λ guard m unless. constant d (Edge' events body) body guard.branch inside register unless) chain.resets marked_chain.0 unrefuted
 
   -- ---- A8
 
@@ -282,7 +285,7 @@ module _ (d : Flat) (lawful : AreLawful d) (marked : AreMarked d) (none : HasNoF
         passes_none does e o e' = ap (λ x. chosen_trees d at.task.instance x o) e ∙ ap (chosen_trees d at.task.instance (Edge' events body)) e'
 
         same : data_trees d at.task ≡ chain_trees chain
-        same = passes_none at.task.does at.is (chain_of d at.task.does) task_chain
+        same = passes_none at.task.does at.is (chain_of at.task.does) task_chain
 
     unread_statements : (all : Actions) → Each (OfStatement IsMarked) (all_of all) → Each IsUnnamedTree (flat_map statement_trees (all_of all)) → (k : ℕ) → some (reads_bit i k) (body_flow (widths d) all) ≡ false
     unread_statements all marks unnamed k =

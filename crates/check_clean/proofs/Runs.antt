@@ -18,7 +18,7 @@ use Rattle.check_laws.proofs.Temporaries.{blocking_state}
 use Rattle.check_clean.specs.Ending.{EndsByRules}
 use Rattle.check_clean.specs.Promise.{SettlesByRules}
 use Rattle.check_clean.proofs.Depths.{are_levels, levels}
-use Rattle.check_clean.proofs.Merged.{no_finding}
+use Rattle.check_all.proofs.Without.{no_finding}
 use Rattle.check_clean.proofs.Sources.{sources_decided}
 
 pub settles : (d : Parts) → SettlesByRules d

@@ -1,74 +1,96 @@
--- A signal that no expression names isn't read.
-use Rattle.std.proofs.Common.{◌≡◌, ◌∙◌, ℕ, Bool, true, false, List, [], ◌∷◌, Option, None, Some, refl, sym}
-use Rattle.std.specs.Prelude.{◌==◌, ◌||◌}
-use Rattle.std.proofs.lemmas.Bool.{and_left, eq-eqb, eqb-true, false_from_ne_true, or_from}
+-- A signal of which no operand reads a bit itself isn't read.
+use Rattle.std.proofs.Common.{◌≡◌, ◌∙◌, ◌+◌, ◌<◌, ℕ, Bool, true, false, List, [], ◌∷◌, ◌++◌, Option, None, Some, refl, subst, sym}
+use Rattle.std.specs.Prelude.{ℤ, ◌==◌, ◌||◌, nat_le, nat_lt}
+use Rattle.std.proofs.lemmas.Bool.{and_parts, eqb-true, false_from_ne_true, ltb-true, or_from}
 use Rattle.rtl_tree.specs.declared.text.Spot.{Spot}
 use Rattle.rtl_flat.specs.Expression.{Tree, Sized, Literal, Whole, BitAt, BitBy, Part, Turned, Joined, Compared, Linked, Folded, Shifted, Chosen, Empty, Beside, Repeated, Recast}
-use Rattle.rtl_flat.specs.Flows.{action_then, actions_then, index_reads, is_complete, labels_of, may_select, other_flow, reads, reads_all, target_reads, way_past, ways}
-use Rattle.rtl_flat.specs.Paths.{Flow, End, reads_bit, some, some_way}
+use Rattle.rtl_flat.specs.Flows.{action_then, actions_then, all_bits, bit_at, index_reads, is_complete, labels_of, may_select, other_flow, reads, reads_all, span, target_reads, way_past, ways}
+use Rattle.rtl_flat.specs.Paths.{BitSet, Flow, End, reads_bit, some, some_way}
 use Rattle.rtl_flat.specs.Process.{Selection, Piece, Action, Set, If, Case, Block, Actions, Done, Then, Otherwise, Without, With, Branches, NoBranch, Branch}
 use Rattle.rtl_flat.specs.Process as part
 use Rattle.rtl_flat.proofs.Flows.{some_action}
-use Rattle.check_laws.specs.net_laws.Rules.{EachIn, EachItem, EachOf, EachOther, EachPart}
-use Rattle.rtl_rule.specs.Parts.{index_of, indices, is_named, named, nodes}
+use Rattle.check_laws.specs.net_laws.Rules.{EachIn, EachItem, EachOf, EachOther}
+use Rattle.rtl_rule.specs.Parts.{has_some, index_of, indices, nodes, own_reads}
+use Rattle.rtl_rule.proofs.Below.{some_at}
 use Rattle.check_laws.specs.check_clocks.Clocks.{statement_trees}
-use Rattle.check_laws.specs.Expressions.{IsForm, IsMarked}
-use Rattle.check_laws.proofs.Operands.{each_part}
-use Rattle.check_laws.proofs.Sites.{Each, each_left, each_right}
+use Rattle.check_laws.specs.Expressions.{IsForm, IsMarked, IsRow}
+use Rattle.rtl_rule.proofs.Lists.{Each, each_left, each_right}
 
 -- ---- expressions
 
 module _ (ws : ℕ → ℕ) (i : ℕ) where
-  -- not the signal, nor a part of it
-  abbrev IsNotOf : Tree → Type 0
-  IsNotOf (Whole j) = j ≡ i → ⊥
-  IsNotOf (BitAt j low index) = j ≡ i → ⊥
-  IsNotOf (BitBy j low s index) = j ≡ i → ⊥
-  IsNotOf (Part j low w) = j ≡ i → ⊥
-  IsNotOf _ = Unit {0}
-
+  -- reads no bit of the signal itself
   abbrev pub IsUnnamed : Tree → Type 0
-  IsUnnamed node = is_named (named node) i ≡ true → ⊥
+  IsUnnamed node = has_some ws (own_reads ws node) i ≡ true → ⊥
 
-  unnamed : (w : ℕ) (s : Bool) (at : Spot) (e : Tree) → IsForm e → IsUnnamed (Sized w s at e) → IsNotOf e
-  unnamed w s at (Whole j) marked q = λ same. q (eq-eqb j i same)
-  unnamed w s at (BitAt j low index) marked q = λ same. q (eq-eqb j i same)
-  unnamed w s at (BitBy j low signed index) marked q = λ same. q (eq-eqb j i same)
-  unnamed w s at (Part j low width) marked q = λ same. q (eq-eqb j i same)
-  unnamed w s at e marked q = tt
+  -- a bit that is in the signal isn't in a set that has none of it
+  none_in : (bits : BitSet) → ((k : ℕ) → bits i k ≡ true → k < ws i) → (has_some ws bits i ≡ true → ⊥) → (k : ℕ) → bits i k ≡ false
+  none_in bits inside none k =
+      false_from_ne_true (bits i k) (λ is. none (some_at (ws i) (bits i) k (inside k is) is))
 
-  differs : (j : ℕ) → (j ≡ i → ⊥) → (i == j) ≡ false
-  differs j other = false_from_ne_true (i == j) (λ is. other (sym (eqb-true i j is)))
+  in_span : (j low high k : ℕ) → span ws j low high i k ≡ true → k < ws i
+  in_span j low high k h =
+      let (same, inner) = and_parts (i == j) _ h in
+      let (above, rest) = and_parts (nat_le low k) _ inner in
+      let (below, inside) = and_parts (nat_lt k high) _ rest in
+      subst (λ n. k < ws n) (sym (eqb-true i j same)) (ltb-true k (ws j) inside)
 
-  without : (e : Tree) → EachPart IsNotOf e → (k : ℕ) → reads ws e i k ≡ false
-  without (Sized w s at e) h k = without e h.1 k
-  without (Literal bits) h k = refl
-  without (Whole j) h k = and_left (i == j) _ (differs j h)
-  without (BitAt j low index) h k = and_left (i == j) _ (differs j h)
-  without (BitBy j low signed index) h k = or_from _ _ (without index h.1 k) (and_left (i == j) _ (differs j h.0))
-  without (Part j low width) h k = and_left (i == j) _ (differs j h)
-  without (Turned operator a) h k = without a h.1 k
-  without (Joined operator signed a b) h k = or_from _ _ (without a h.1 k) (without b h.2 k)
-  without (Compared operator signed a b) h k = or_from _ _ (without a h.1 k) (without b h.2 k)
-  without (Linked operator a b) h k = or_from _ _ (without a h.1 k) (without b h.2 k)
-  without (Folded operator a) h k = without a h.1 k
-  without (Shifted operator signed a amount) h k = or_from _ _ (without a h.1 k) (without amount h.2 k)
-  without (Chosen c a b) h k = or_from _ _ (without c h.1 k) (or_from _ _ (without a h.2 k) (without b h.3 k))
-  without Empty h k = refl
-  without (Beside a others) h k = or_from _ _ (without a h.1 k) (without others h.2 k)
-  without (Repeated times a) h k = without a h.1 k
-  without (Recast a) h k = without a h.1 k
+  in_bit : (j low : ℕ) (index : ℤ) (k : ℕ) → bit_at ws j low index i k ≡ true → k < ws i
+  in_bit j low index k h =
+      let (same, inner) = and_parts (i == j) _ h in
+      subst (λ n. k < ws n) (sym (eqb-true i j same)) (ltb-true k (ws j) (and_parts (nat_lt k (ws j)) _ inner).0)
 
-  pub unread : (e : Tree) → IsMarked e → Each IsUnnamed (nodes e) → (k : ℕ) → reads ws e i k ≡ false
-  unread e marked h k =
-      without e (each_part IsNotOf IsUnnamed (λ w s at f. tt) tt (λ a others. tt) unnamed e marked h) k
+  mutual
+    pub unread : (e : Tree) → IsMarked e → Each IsUnnamed (nodes e) → (k : ℕ) → reads ws e i k ≡ false
+    unread (Sized w s at e) marked h k = unread_form w s at e marked h.0 h.1 k
+    unread _ marked h k = absurd marked
 
-  -- a select of another signal
-  pub other_select : (j : ℕ) (selection : Selection) → (j ≡ i → ⊥) → (k : ℕ) → may_select ws j selection i k ≡ false
-  other_select j part.Whole other k = and_left (i == j) _ (differs j other)
-  other_select j (part.BitAt low index) other k = and_left (i == j) _ (differs j other)
-  other_select j (part.BitBy low index) other k = and_left (i == j) _ (differs j other)
-  other_select j (part.Part low width) other k = and_left (i == j) _ (differs j other)
+    unread_form : (w : ℕ) (s : Bool) (at : Spot) (e : Tree) → IsForm e → IsUnnamed (Sized w s at e) → Each IsUnnamed (nodes e) → (k : ℕ) → reads ws e i k ≡ false
+    unread_form w s at (Sized w' s' at' e) marked here h k = absurd marked
+    unread_form w s at (Literal bits) marked here h k = refl
+    unread_form w s at (Whole j) marked here h k =
+        none_in (all_bits ws j) (in_span j 0 (ws j)) here k
+    unread_form w s at (BitAt j low index) marked here h k =
+        none_in (bit_at ws j low index) (in_bit j low index) here k
+    unread_form w s at (BitBy j low signed index) marked here h k =
+        or_from _ _ (unread index marked.1 h k) (none_in (all_bits ws j) (in_span j 0 (ws j)) here k)
+    unread_form w s at (Part j low width) marked here h k =
+        none_in (span ws j low (low + width)) (in_span j low (low + width)) here k
+    unread_form w s at (Turned operator a) marked here h k = unread a marked h k
+    unread_form w s at (Joined operator signed a b) marked here h k = unread_both a b marked.0 marked.1 h k
+    unread_form w s at (Compared operator signed a b) marked here h k = unread_both a b marked.0 marked.1 h k
+    unread_form w s at (Linked operator a b) marked here h k = unread_both a b marked.0 marked.1 h k
+    unread_form w s at (Folded operator a) marked here h k = unread a marked h k
+    unread_form w s at (Shifted operator signed a amount) marked here h k = unread_both a amount marked.0 marked.1 h k
+    unread_form w s at (Chosen c a b) marked here h k =
+        let front = each_left IsUnnamed (nodes c ++ nodes a) (nodes b) h in
+        or_from _ _ (unread c marked.0 (each_left IsUnnamed (nodes c) (nodes a) front) k)
+        (or_from _ _ (unread a marked.1 (each_right IsUnnamed (nodes c) (nodes a) front) k) (unread b marked.2 (each_right IsUnnamed (nodes c ++ nodes a) (nodes b) h) k))
+    unread_form w s at Empty marked here h k = refl
+    unread_form w s at (Beside a others) marked here h k =
+        or_from _ _ (unread a marked.0 (each_left IsUnnamed (nodes a) (nodes others) h) k) (unread_row others marked.1 (each_right IsUnnamed (nodes a) (nodes others) h) k)
+    unread_form w s at (Repeated times a) marked here h k = unread a marked h k
+    unread_form w s at (Recast a) marked here h k = unread a marked h k
+
+    unread_both : (a b : Tree) → IsMarked a → IsMarked b → Each IsUnnamed (nodes a ++ nodes b) → (k : ℕ) → (reads ws a i k || reads ws b i k) ≡ false
+    unread_both a b first second h k =
+        or_from _ _ (unread a first (each_left IsUnnamed (nodes a) (nodes b) h) k) (unread b second (each_right IsUnnamed (nodes a) (nodes b) h) k)
+
+    unread_row : (e : Tree) → IsRow e → Each IsUnnamed (nodes e) → (k : ℕ) → reads ws e i k ≡ false
+    unread_row Empty marked h k = refl
+    unread_row (Beside a others) marked h k =
+        or_from _ _ (unread a marked.0 (each_left IsUnnamed (nodes a) (nodes others) h) k) (unread_row others marked.1 (each_right IsUnnamed (nodes a) (nodes others) h) k)
+    unread_row _ marked h k = absurd marked
+
+  -- a select that may mean no bit of the signal
+  pub no_select : (j : ℕ) (selection : Selection) → (has_some ws (may_select ws j selection) i ≡ true → ⊥) → (k : ℕ) → may_select ws j selection i k ≡ false
+  no_select j part.Whole none k = none_in (all_bits ws j) (in_span j 0 (ws j)) none k
+  no_select j (part.BitAt low index) none k =
+      none_in (bit_at ws j low index) (in_bit j low index) none k
+  no_select j (part.BitBy low index) none k =
+      none_in (all_bits ws j) (in_span j 0 (ws j)) none k
+  no_select j (part.Part low width) none k =
+      none_in (span ws j low (low + width)) (in_span j low (low + width)) none k
 
 -- ---- bodies
 

@@ -1,7 +1,5 @@
-pub mod Rules
 pub mod Clean
 pub mod Ending
-pub mod Needed
 pub mod Promise
 -- passed on to the crates above
 pub use Rattle.check_all.specs as check_all

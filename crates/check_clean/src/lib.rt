@@ -4,5 +4,5 @@
 pub mod law;
 
 // Passed on to the crates above.
-pub use check_all::{check_assign, check_case, check_found, check_sense, check_xprop};
+pub use check_all;
 pub use check_laws;

@@ -1,20 +1,24 @@
 -- The signals of the control cone that a process reads as data.
-use Rattle.std.proofs.Common.{◌≡◌, ◌∙◌, ℕ, zero, suc, ◌<◌, Bool, true, cond, List, [], ◌∷◌, length, Option, None, Some, refl, ap, inl, inr, arith}
-use Rattle.std.specs.Prelude.{◌↔◌}
+use Rattle.std.proofs.Common.{◌≡◌, ◌∙◌, ℕ, zero, suc, ◌<◌, Bool, true, false, cond, List, [], ◌∷◌, length, Option, None, Some, refl, ap, inl, inr, arith}
+use Rattle.std.specs.Prelude.{◌↔◌, slice_index_or}
 use Rattle.std.specs.List.{slice_get}
 use Rattle.std.proofs.lemmas.Bool.{both_ways, cases_Bool}
 use Rattle.rtl_tree.specs.declared.text.Spot.{Spot}
 use Rattle.rtl_flat.specs.Process.{Task}
 use Rattle.rtl_rule.specs.declared.finding.Finding.{Finding}
+use Rattle.rtl_rule.specs.declared.rule.Rule.TheVariants.{ClockAsData}
 use Rattle.rtl_rule.specs.Parts.{At, within}
 use Rattle.rtl_flat.specs.Flats.{Flat}
 use Rattle.check_chains.specs.check_found.Gathered.{Gets, signal_numbers, task_sites}
 use Rattle.check_clocks.specs.Clocks.{IsClockAsData, clock_as_data_at, data_places, is_some_place}
-use Rattle.check_clocks.specs.Firsts.{Shows, is_among, joined, least_of, shown}
-use Rattle.check_clocks.proofs.Places.{least_is}
-use Rattle.check_clocks.proofs.Shown.{Tells, gets_shown}
+use Rattle.check_chains.specs.check_found.Marked.{Shows, joined, least_of, shown}
+use Rattle.check_chains.proofs.check_found_proofs.Places.{least_is}
+use Rattle.check_chains.proofs.check_found_proofs.Shown.{Tells, gets_shown}
 
 -- ---- marks
+
+abbrev is_among : List Bool → ℕ → Bool
+is_among marks s = slice_index_or marks s false
 
 pub marked_is : (marks : List Bool) (s : ℕ) → slice_get marks s ≡ Some true ↔ is_among marks s ≡ true
 marked_is marks s = (to marks s, from marks s)
@@ -44,7 +48,7 @@ module _ (InCone : ℕ → Type 0) (d : Flat) (marks : List Bool) (are : (s : �
       omega (arith, below, size)
 
   -- what the first place of a signal, or none, says of it
-  tells_places : (p : ℕ) (task : Task) (s : ℕ) → is_among marks s ≡ true → (places : List Spot) → data_places d (within (p, task) s) ≡ places → Tells (IsClockAsData InCone d) (clock_as_data_at d) task.instance (p, task) s (least_of places)
+  tells_places : (p : ℕ) (task : Task) (s : ℕ) → is_among marks s ≡ true → (places : List Spot) → data_places d (within (p, task) s) ≡ places → Tells (IsClockAsData InCone d) (clock_as_data_at d) ClockAsData task.instance (p, task) s (least_of places)
   tells_places p task s there [] same =
       λ breaks. absurd (both_ways (is_some_place (data_places d (within (p, task) s))) (ap is_some_place same) breaks.as_data)
   tells_places p task s there (x ∷ xs) same = by_least (least_of (x ∷ xs)) refl
@@ -53,21 +57,21 @@ module _ (InCone : ℕ → Type 0) (d : Flat) (marks : List Bool) (are : (s : �
       some_first None h = absurd (cc)
       some_first (Some other) h = absurd (cc)
 
-      by_least : (found : Option Spot) → least_of (x ∷ xs) ≡ found → Tells (IsClockAsData InCone d) (clock_as_data_at d) task.instance (p, task) s found
+      by_least : (found : Option Spot) → least_of (x ∷ xs) ≡ found → Tells (IsClockAsData InCone d) (clock_as_data_at d) ClockAsData task.instance (p, task) s found
       by_least None is = absurd (some_first (least_of xs) is)
       by_least (Some spot) is = (
         record { in_cone = (are s).0 ((marked_is marks s).1 there); as_data = ap is_some_place same },
-        ap (λ (at : Spot). shown task.instance (s, at)) (least_is task.spot (data_places d (within (p, task) s)) spot (ap least_of same ∙ is)),
+        ap (λ (at : Spot). shown ClockAsData task.instance (s, at)) (least_is task.spot (data_places d (within (p, task) s)) spot (ap least_of same ∙ is)),
       )
 
-  tells_site : (p : ℕ) (task : Task) (s : ℕ) (found : Option Spot) → found ≡ least_of (data_places d (within (p, task) s)) → Tells (IsClockAsData InCone d) (clock_as_data_at d) task.instance (p, task) s (cond (is_among marks s) found None)
+  tells_site : (p : ℕ) (task : Task) (s : ℕ) (found : Option Spot) → found ≡ least_of (data_places d (within (p, task) s)) → Tells (IsClockAsData InCone d) (clock_as_data_at d) ClockAsData task.instance (p, task) s (cond (is_among marks s) found None)
   tells_site p task s found is =
-      elim (cases_Bool (is_among marks s)) as (λ _. Tells (IsClockAsData InCone d) (clock_as_data_at d) task.instance (p, task) s (cond (is_among marks s) found None)) [
+      elim (cases_Bool (is_among marks s)) as (λ _. Tells (IsClockAsData InCone d) (clock_as_data_at d) ClockAsData task.instance (p, task) s (cond (is_among marks s) found None)) [
         | inl there ↦ rw (there, is) (tells_places p task s there (data_places d (within (p, task) s)) refl)
         | inr other ↦ rw other (λ breaks. both_ways (is_among marks s) other ((marked_is marks s).0 ((are s).1 breaks.in_cone)))
       ]
 
   -- what is shown of a process is what the rule finds of it
-  pub data_gets : length marks ≡ length d.signals → (p : ℕ) (task : Task) (firsts : ℕ → Option Spot) → ((s : ℕ) → firsts s ≡ least_of (data_places d (within (p, task) s))) → (old new : List Finding) → Shows task.instance (λ s. cond (is_among marks s) (firsts s) None) old new → Gets (IsClockAsData InCone d) (clock_as_data_at d) (task_sites (signal_numbers d) p task) old new
+  pub data_gets : length marks ≡ length d.signals → (p : ℕ) (task : Task) (firsts : ℕ → Option Spot) → ((s : ℕ) → firsts s ≡ least_of (data_places d (within (p, task) s))) → (old new : List Finding) → Shows ClockAsData task.instance (λ s. cond (is_among marks s) (firsts s) None) old new → Gets (IsClockAsData InCone d) (clock_as_data_at d) (task_sites (signal_numbers d) p task) old new
   data_gets size p task firsts is old new shows =
-      gets_shown (IsClockAsData InCone d) (clock_as_data_at d) task.instance d p task (λ s breaks. inside size (within (p, task) s) breaks) (λ s. cond (is_among marks s) (firsts s) None) (λ s. tells_site p task s (firsts s) (is s)) old new shows
+      gets_shown (IsClockAsData InCone d) (clock_as_data_at d) ClockAsData task.instance d p task (λ s breaks. inside size (within (p, task) s) breaks) (λ s. cond (is_among marks s) (firsts s) None) (λ s. tells_site p task s (firsts s) (is s)) old new shows

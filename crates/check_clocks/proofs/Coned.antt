@@ -28,7 +28,7 @@ use Rattle.check_clocks.specs.Cone.{AreConed, AreEdgeMarks, ArePassing, GetsPass
 use Rattle.check_clocks.specs.Links.{AreRows}
 use Rattle.check_clocks.specs.Passed.{IsPassing, IsPassingLink}
 use Rattle.check_clocks.specs.Reach.{HasLink, Here, Onward, Reaches}
-use Rattle.check_clocks.specs.Tops.{AreMarkedAlso, is_top, is_top_kind}
+use Rattle.check_clocks.specs.Tops.{AreMarkedAlso}
 use Rattle.check_clocks.proofs.Linked.{bit_inside, links_cases, links_left, links_right}
 use Rattle.check_clocks.proofs.Reached.{among_cases, among_left, among_right, none_marked}
 use Rattle.check_clocks.proofs.Topped.{marked_more}
@@ -243,15 +243,6 @@ module _ (rows : List (Vec ℕ Global)) (edges : List Bool) (top : ℕ) (found :
 
 -- ---- the cone
 
-input_of : (o : Option Signal) → is_top o ≡ is_input_of o
-input_of None = refl
-input_of (Some signal) = by_kind signal.kind
-  where
-    by_kind : (kind : Kind) → is_top_kind kind ≡ is_input_kind kind
-    by_kind TopInput = refl
-    by_kind Net = refl
-    by_kind Var = refl
-
 module _ (d : Flat) where
   pub edge_marks : (old marks : List Bool) → old ≡ replicate (length d.signals) false → length old ≡ length d.signals → AreMarkedAlso (flat_map (λ (task : Task). waited task.does) d.tasks) old marks → AreEdgeMarks d marks
   edge_marks old marks none size marked =
@@ -282,25 +273,25 @@ module _ (d : Flat) where
   reached_below c s inside Itself = inside
   reached_below c s inside (Through i j from is) = bit_inside d.signals j is.port_bit
 
-  pub coned_pass : (n : ℕ) (marks : List Bool) → AreConed d n marks → is_top (slice_get d.signals n) ≡ false → AreConed d (n + 1) marks
+  pub coned_pass : (n : ℕ) (marks : List Bool) → AreConed d n marks → is_input_of (slice_get d.signals n) ≡ false → AreConed d (n + 1) marks
   coned_pass n marks are other =
       record { size = are.size; each = λ s. (λ h. let is = (are.each s).0 h in (is.0, more n s is.1), λ h. (are.each s).1 (h.0, less s h.1)) }
     where
       less : (s : ℕ) → IsConed d (n + 1) s → IsConed d n s
       less s is = elim (cases_eq is.control n) [
-        | inl same ↦ absurd (both_ways (is_top (slice_get d.signals n)) other (input_of (slice_get d.signals n) ∙ ap (λ c. is_input_of (slice_get d.signals c)) (sym same) ∙ control_input d is.control is.is_control))
+        | inl same ↦ absurd (both_ways (is_input_of (slice_get d.signals n)) other (ap (λ c. is_input_of (slice_get d.signals c)) (sym same) ∙ control_input d is.control is.is_control))
         | inr apart ↦ let under = is.below in record { control = is.control; below = omega (arith, under, apart); is_control = is.is_control; reached = is.reached }
       ]
 
   module _ (links : List Link) (rows : List (Vec ℕ Global)) (are : AreRows (length d.signals) links rows) (all : ArePassing d (length d.tasks) links) (edges : List Bool) (marked : AreEdgeMarks d edges) where
-    pub coned_next : (n : ℕ) (old new : List Bool) → AreConed d n old → is_top (slice_get d.signals n) ≡ true → IsSpread rows edges n old new → AreConed d (n + 1) new
+    pub coned_next : (n : ℕ) (old new : List Bool) → AreConed d n old → is_input_of (slice_get d.signals n) ≡ true → IsSpread rows edges n old new → AreConed d (n + 1) new
     coned_next n old new before top spread =
         record { size = spread.size ∙ before.size; each = λ s. (λ h. to s ((spread.each s).0 h), λ h. (spread.each s).1 (from s h)) }
       where
         control : ReachesMarked rows edges n → IsControl d n
         control it =
             clock_control d n (record {
-              input = sym (input_of (slice_get d.signals n)) ∙ top;
+              input = top;
               signal = it.signal;
               reached = reached_from d links rows are all n it.signal it.reached;
               edges = ((marked.each it.signal).0 it.marked).1;

@@ -2,9 +2,6 @@ pub mod Reached
 pub mod Linked
 pub mod Topped
 pub mod Derivations
-pub mod Named
 pub mod Passing
 pub mod Coned
-pub mod Places
-pub mod Shown
 pub mod AsData

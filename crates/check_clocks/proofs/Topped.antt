@@ -24,7 +24,8 @@ use Rattle.check_chains.specs.declared.chain.Guard as code
 use Rattle.check_clocks.specs.Clocks.{ComesFrom, GoesTo, IsClockOf, IsResetOf}
 use Rattle.check_clocks.specs.Links.{AreRows, IsPut}
 use Rattle.check_clocks.specs.Reach.{Here, Onward, Reaches}
-use Rattle.check_clocks.specs.Tops.{AreMarkedAlso, AreRoles, AreTops, IsNoted, IsNotedFor, NotesChain, is_top, is_top_kind}
+use Rattle.event_model.specs.Queue.{is_input_kind, is_input_of}
+use Rattle.check_clocks.specs.Tops.{AreMarkedAlso, AreRoles, AreTops, IsNoted, IsNotedFor, NotesChain}
 use Rattle.check_clocks.specs.declared.tops.Roles.{Roles}
 use Rattle.check_clocks.proofs.Linked.{ArePlain, goes_from, reaches_from}
 use Rattle.check_clocks.proofs.Reached.{among_cases, among_left, among_right, none_marked}
@@ -80,25 +81,25 @@ noted_all rows found top old new is noted =
 
 -- ---- all top inputs
 
-top_is : (o : Option Signal) → is_top o ≡ true → IsSomeAnd o (λ signal. signal.kind ≡ TopInput)
+top_is : (o : Option Signal) → is_input_of o ≡ true → IsSomeAnd o (λ signal. signal.kind ≡ TopInput)
 top_is None h = absurd (false≢true h)
 top_is (Some signal) h = by_kind signal.kind h
   where
-    by_kind : (kind : Kind) → is_top_kind kind ≡ true → kind ≡ TopInput
+    by_kind : (kind : Kind) → is_input_kind kind ≡ true → kind ≡ TopInput
     by_kind TopInput h = refl
     by_kind Net h = absurd (false≢true h)
     by_kind Var h = absurd (false≢true h)
 
-is_top_from : (o : Option Signal) → IsSomeAnd o (λ signal. signal.kind ≡ TopInput) → is_top o ≡ true
+is_top_from : (o : Option Signal) → IsSomeAnd o (λ signal. signal.kind ≡ TopInput) → is_input_of o ≡ true
 is_top_from None h = absurd h
-is_top_from (Some signal) h = ap is_top_kind h
+is_top_from (Some signal) h = ap is_input_kind h
 
 pub tops_none : (d : Flat) (rows : List (Vec ℕ Global)) → AreRows (length d.signals) [] rows → AreTops d 0 rows
 tops_none d rows are =
     record { size = are.size; each = λ i t. (λ h. absurd ((are.each i t).0 h).1, λ h. absurd (omega (arith, h.0))) }
 
 module _ (d : Flat) (rows : List (Vec ℕ Global)) (plain : ArePlain d rows) (n : ℕ) where
-  pub tops_next : (old new : List (Vec ℕ Global)) → AreTops d n old → is_top (slice_get d.signals n) ≡ true → IsNoted rows n old new → AreTops d (n + 1) new
+  pub tops_next : (old new : List (Vec ℕ Global)) → AreTops d n old → is_input_of (slice_get d.signals n) ≡ true → IsNoted rows n old new → AreTops d (n + 1) new
   tops_next old new are top noted =
       record { size = noted.size ∙ are.size; each = λ i t. (λ h. to i t ((noted.each i t).0 h), λ h. (noted.each i t).1 (from i t h)) }
     where
@@ -115,13 +116,13 @@ module _ (d : Flat) (rows : List (Vec ℕ Global)) (plain : ArePlain d rows) (n 
         | inr other ↦ inl ((are.each i t).1 (omega (arith, h.0, other), h.1))
       ]
 
-  pub tops_pass : (old : List (Vec ℕ Global)) → AreTops d n old → is_top (slice_get d.signals n) ≡ false → AreTops d (n + 1) old
+  pub tops_pass : (old : List (Vec ℕ Global)) → AreTops d n old → is_input_of (slice_get d.signals n) ≡ false → AreTops d (n + 1) old
   tops_pass old are no_top =
       record { size = are.size; each = λ i t. (λ h. let is = (are.each i t).0 h in (omega (arith, is.0), is.1), from i t) }
     where
       from : (i t : ℕ) → (t < n + 1) × ComesFrom d t i → Among (row old i) t
       from i t h = elim (cases_eq t n) [
-        | inl same ↦ absurd (both_ways (is_top (slice_get d.signals n)) no_top (is_top_from (slice_get d.signals n) (subst (λ m. Has (λ signal. signal.kind ≡ TopInput) d.signals m) same h.1.input)))
+        | inl same ↦ absurd (both_ways (is_input_of (slice_get d.signals n)) no_top (is_top_from (slice_get d.signals n) (subst (λ m. Has (λ signal. signal.kind ≡ TopInput) d.signals m) same h.1.input)))
         | inr other ↦ (are.each i t).1 (omega (arith, h.0, other), h.1)
       ]
 
@@ -246,13 +247,13 @@ module _ (d : Flat) (tops : List (Vec ℕ Global)) (are : AreTops d (length d.si
 
   -- the process with the number n
   module _ (n : ℕ) (task : Task) (there : slice_get d.tasks n ≡ Some task) (clocks resets : List Bool) (roles : AreRoles d n clocks resets) where
-    has_to : (chain : Chain) → IsSomeAnd (slice_get d.tasks n) (λ task. chain_of d task.does ≡ Some chain) → chain_of d task.does ≡ Some chain
-    has_to chain h = subst (λ o. IsSomeAnd o (λ task. chain_of d task.does ≡ Some chain)) there h
+    has_to : (chain : Chain) → IsSomeAnd (slice_get d.tasks n) (λ task. chain_of task.does ≡ Some chain) → chain_of task.does ≡ Some chain
+    has_to chain h = subst (λ o. IsSomeAnd o (λ task. chain_of task.does ≡ Some chain)) there h
 
-    has_from : (chain : Chain) → chain_of d task.does ≡ Some chain → IsSomeAnd (slice_get d.tasks n) (λ task. chain_of d task.does ≡ Some chain)
-    has_from chain h = subst (λ o. IsSomeAnd o (λ task. chain_of d task.does ≡ Some chain)) (sym there) h
+    has_from : (chain : Chain) → chain_of task.does ≡ Some chain → IsSomeAnd (slice_get d.tasks n) (λ task. chain_of task.does ≡ Some chain)
+    has_from chain h = subst (λ o. IsSomeAnd o (λ task. chain_of task.does ≡ Some chain)) (sym there) h
 
-    pub roles_pass : chain_of d task.does ≡ None → AreRoles d (n + 1) clocks resets
+    pub roles_pass : chain_of task.does ≡ None → AreRoles d (n + 1) clocks resets
     roles_pass none =
         record {
           size = roles.size;
@@ -263,17 +264,17 @@ module _ (d : Flat) (tops : List (Vec ℕ Global)) (are : AreTops d (length d.si
       where
         clock_from : (top : ℕ) → (p : ℕ) × (p < n + 1) × IsClockOf d top p → get_or clocks top false ≡ true
         clock_from top (p, below, is) = elim (cases_eq p n) [
-          | inl same ↦ absurd (none-some is.chain (sym none ∙ has_to is.chain (subst (λ q. IsSomeAnd (slice_get d.tasks q) (λ task. chain_of d task.does ≡ Some is.chain)) same is.has)))
+          | inl same ↦ absurd (none-some is.chain (sym none ∙ has_to is.chain (subst (λ q. IsSomeAnd (slice_get d.tasks q) (λ task. chain_of task.does ≡ Some is.chain)) same is.has)))
           | inr other ↦ (roles.clock top).1 (p, omega (arith, below, other), is)
         ]
 
         reset_from : (top : ℕ) → (p : ℕ) × (p < n + 1) × IsResetOf d top p → get_or resets top false ≡ true
         reset_from top (p, below, is) = elim (cases_eq p n) [
-          | inl same ↦ absurd (none-some is.chain (sym none ∙ has_to is.chain (subst (λ q. IsSomeAnd (slice_get d.tasks q) (λ task. chain_of d task.does ≡ Some is.chain)) same is.has)))
+          | inl same ↦ absurd (none-some is.chain (sym none ∙ has_to is.chain (subst (λ q. IsSomeAnd (slice_get d.tasks q) (λ task. chain_of task.does ≡ Some is.chain)) same is.has)))
           | inr other ↦ (roles.reset top).1 (p, omega (arith, below, other), is)
         ]
 
-    pub roles_next : (chain : Chain) (clocks' resets' : List Bool) → chain_of d task.does ≡ Some chain → AreMarkedAlso (row tops chain.clock.signal) clocks clocks' → AreMarkedAlso (flat_map (λ (guard : Guard). row tops guard.item.signal) chain.resets) resets resets' → AreRoles d (n + 1) clocks' resets'
+    pub roles_next : (chain : Chain) (clocks' resets' : List Bool) → chain_of task.does ≡ Some chain → AreMarkedAlso (row tops chain.clock.signal) clocks clocks' → AreMarkedAlso (flat_map (λ (guard : Guard). row tops guard.item.signal) chain.resets) resets resets' → AreRoles d (n + 1) clocks' resets'
     roles_next chain clocks' resets' is c r =
         record {
           size = c.size ∙ roles.size;
@@ -286,13 +287,13 @@ module _ (d : Flat) (tops : List (Vec ℕ Global)) (are : AreTops d (length d.si
         clock_to top (inl h) = let (p, below, was) = (roles.clock top).0 h in (p, omega (arith, below), was)
         clock_to top (inr h) = (n, omega arith, record { chain = chain; has = has_from chain is; comes = (comes_from chain.clock.signal top).0 h.1 })
 
-        same_chain : (other : Chain) → IsSomeAnd (slice_get d.tasks n) (λ task. chain_of d task.does ≡ Some other) → other ≡ chain
+        same_chain : (other : Chain) → IsSomeAnd (slice_get d.tasks n) (λ task. chain_of task.does ≡ Some other) → other ≡ chain
         same_chain other h = same_Some other chain (sym (has_to other h) ∙ is)
 
         clock_from : (top : ℕ) → (p : ℕ) × (p < n + 1) × IsClockOf d top p → (get_or clocks top false ≡ true) ⊎ ((top < length clocks) × Among (row tops chain.clock.signal) top)
         clock_from top (p, below, was) = elim (cases_eq p n) [
           | inl same ↦
-              let one = same_chain was.chain (subst (λ q. IsSomeAnd (slice_get d.tasks q) (λ task. chain_of d task.does ≡ Some was.chain)) same was.has) in
+              let one = same_chain was.chain (subst (λ q. IsSomeAnd (slice_get d.tasks q) (λ task. chain_of task.does ≡ Some was.chain)) same was.has) in
               let comes = subst (λ (one : Chain). ComesFrom d top one.clock.signal) one was.comes in
               let below = top_below top chain.clock.signal comes in
               inr (omega (arith, below, roles.size), (comes_from chain.clock.signal top).1 comes)
@@ -313,14 +314,14 @@ module _ (d : Flat) (tops : List (Vec ℕ Global)) (are : AreTops d (length d.si
         reset_from : (top : ℕ) → (p : ℕ) × (p < n + 1) × IsResetOf d top p → (get_or resets top false ≡ true) ⊎ ((top < length resets) × Among (flat_map (λ (guard : Guard). row tops guard.item.signal) chain.resets) top)
         reset_from top (p, below, was) = elim (cases_eq p n) [
           | inl same ↦
-              let one = same_chain was.chain (subst (λ q. IsSomeAnd (slice_get d.tasks q) (λ task. chain_of d task.does ≡ Some was.chain)) same was.has) in
+              let one = same_chain was.chain (subst (λ q. IsSomeAnd (slice_get d.tasks q) (λ task. chain_of task.does ≡ Some was.chain)) same was.has) in
               let comes = subst (λ (one : Chain). IsSomeAnd (slice_get one.resets was.place) (λ guard. ComesFrom d top guard.item.signal)) one was.comes in
               let below = some_below' chain.resets top was.place comes in
               inr (omega (arith, below, roles.size_of_resets), reset_among chain.resets top was.place comes)
           | inr other ↦ inl ((roles.reset top).1 (p, omega (arith, below, other), was))
         ]
 
-    pub roles_noted' : (o : Option Chain) → chain_of d task.does ≡ o → (old new : Roles) → clocks ≡ old.clocks.items → resets ≡ old.resets.items → NotesChain tops o old new → AreRoles d (n + 1) new.clocks.items new.resets.items
+    pub roles_noted' : (o : Option Chain) → chain_of task.does ≡ o → (old new : Roles) → clocks ≡ old.clocks.items → resets ≡ old.resets.items → NotesChain tops o old new → AreRoles d (n + 1) new.clocks.items new.resets.items
     roles_noted' None is old new c r notes =
         subst (λ l. AreRoles d (n + 1) l new.resets.items) (c ∙ sym notes.0) (subst (λ l. AreRoles d (n + 1) clocks l) (r ∙ sym notes.1) (roles_pass is))
     roles_noted' (Some chain) is old new c r notes =
@@ -328,9 +329,9 @@ module _ (d : Flat) (tops : List (Vec ℕ Global)) (are : AreTops d (length d.si
         (subst (λ l. AreMarkedAlso (row tops chain.clock.signal) l new.clocks.items) (sym c) notes.0)
         (subst (λ l. AreMarkedAlso (flat_map (λ (guard : Guard). row tops guard.item.signal) chain.resets) l new.resets.items) (sym r) notes.1)
 
-  pub roles_noted : (n : ℕ) (task : Task) → slice_get d.tasks n ≡ Some task → (old new : Roles) → AreRoles d n old.clocks.items old.resets.items → NotesChain tops (chain_of d task.does) old new → AreRoles d (n + 1) new.clocks.items new.resets.items
+  pub roles_noted : (n : ℕ) (task : Task) → slice_get d.tasks n ≡ Some task → (old new : Roles) → AreRoles d n old.clocks.items old.resets.items → NotesChain tops (chain_of task.does) old new → AreRoles d (n + 1) new.clocks.items new.resets.items
   roles_noted n task there old new roles notes =
-      roles_noted' n task there old.clocks.items old.resets.items roles (chain_of d task.does) refl old new refl refl notes
+      roles_noted' n task there old.clocks.items old.resets.items roles (chain_of task.does) refl old new refl refl notes
 
 -- resets by their plain forms
 pub resets_as : (tops : List (Vec ℕ Global)) (guards : List code.Guard) → flat_map (λ (guard : code.Guard). row tops guard.item.now.signal.0) guards ≡ flat_map (λ (guard : Guard). row tops guard.item.signal) (map guard_view guards)

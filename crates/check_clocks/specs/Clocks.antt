@@ -7,6 +7,7 @@ use Rattle.rtl_tree.specs.declared.text.Spot.{Spot}
 use Rattle.rtl_flat.specs.declared.signal.Kind.TheVariants.{TopInput}
 use Rattle.rtl_flat.specs.declared.signal.Signal.{Signal}
 use Rattle.rtl_flat.specs.Expression.{Tree, Sized, Whole}
+use Rattle.rtl_flat.specs.Flows.{may_select}
 use Rattle.rtl_flat.specs.Process.{Selection, Watched, Action, Doing, Assign, Edge', Task}
 use Rattle.rtl_flat.specs.Process as part
 use Rattle.rtl_flat.specs.Signs.{Has}
@@ -14,7 +15,7 @@ use Rattle.rtl_flat.specs.WellFormed.{has_edge}
 use Rattle.net_model.specs.Cycle.{Guard, Chain}
 use Rattle.rtl_rule.specs.declared.finding.Finding.{Finding}
 use Rattle.rtl_rule.specs.declared.rule.Rule.TheVariants.{DerivedClock, ClockAsData}
-use Rattle.rtl_rule.specs.Parts.{At, sites, signal_sites, number, found, found_at, least_place, nodes, named, is_named, place_of, all_of, own_trees, own_labels, trees, labels, items_of, spot_if}
+use Rattle.rtl_rule.specs.Parts.{At, sites, signal_sites, number, found, found_at, has_some, least_place, nodes, own_reads, place_of, all_of, own_trees, own_labels, read_trees, labels, items_of, spot_if}
 use Rattle.rtl_flat.specs.Flats.{Flat, widths}
 use Rattle.rtl_rule.specs.Sites.{AreFindings}
 use Rattle.check_chains.specs.Chains.{chain_of}
@@ -52,14 +53,14 @@ pub record IsTwice (d : Flat) (events : List Watched) (top : ℕ) : Type 0 where
 -- a top input is the clock of a process that has the chain
 pub record IsClockOf (d : Flat) (top p : ℕ) : Type 0 where
   pub chain : Chain
-  pub has : IsSomeAnd (slice_get d.tasks p) (λ task. chain_of d task.does ≡ Some chain)
+  pub has : IsSomeAnd (slice_get d.tasks p) (λ task. chain_of task.does ≡ Some chain)
   pub comes : ComesFrom d top chain.clock.signal
 
 -- it is a reset of such a process
 pub record IsResetOf (d : Flat) (top p : ℕ) : Type 0 where
   pub chain : Chain
   pub place : ℕ
-  pub has : IsSomeAnd (slice_get d.tasks p) (λ task. chain_of d task.does ≡ Some chain)
+  pub has : IsSomeAnd (slice_get d.tasks p) (λ task. chain_of task.does ≡ Some chain)
   pub comes : IsSomeAnd (slice_get chain.resets place) (λ guard. ComesFrom d top guard.item.signal)
 
 -- it is a clock and a reset
@@ -88,10 +89,10 @@ AreDerivedClock d = AreFindings (IsDerivedClock d) derived_clock_at (sites event
 
 -- ---- A8
 
--- where a list has an item without edge of a signal
-abbrev pub level_items : ℕ → Doing → List Spot
-level_items s does =
-    filter_map (λ (item : Watched). spot_if (not (has_edge item.edge) && (item.signal == s)) item.spot) (items_of does)
+-- where a list has an item without edge that may mean a bit of a signal
+abbrev pub level_items : Flat → ℕ → Doing → List Spot
+level_items d s does =
+    filter_map (λ (item : Watched). spot_if (not (has_edge item.edge) && has_some (widths d) (may_select (widths d) item.signal item.selection) s) item.spot) (items_of does)
 
 -- the expressions of a statement with its labels
 abbrev pub statement_trees : Action → List Tree
@@ -123,15 +124,16 @@ but_tests (Some chain) all = chain_trees chain
 abbrev pub is_passing : Flat → Task → Bool
 is_passing d task = passes d task.instance task.does
 
--- the expressions of a process that are neither tests of its chain nor a connection by which a signal goes on
+-- the expressions of a process outside its list that are neither tests of its chain nor a connection by which a signal
+-- goes on
 abbrev pub data_trees : Flat → Task → List Tree
 data_trees d task =
-    if is_passing d task then [] else but_tests (chain_of d task.does) (trees task.does ++ labels task.does)
+    if is_passing d task then [] else but_tests (chain_of task.does) (read_trees task.does ++ labels task.does)
 
--- where they read a signal
+-- where they read a bit of a signal
 abbrev pub data_reads : Flat → ℕ → Task → List Spot
 data_reads d s task =
-    filter_map (λ node. spot_if (is_named (named node) s) (place_of task.spot node)) (flat_map nodes (data_trees d task))
+    filter_map (λ node. spot_if (has_some (widths d) (own_reads (widths d) node) s) (place_of task.spot node)) (flat_map nodes (data_trees d task))
 
 abbrev pub is_some_place : List Spot → Bool
 is_some_place [] = false
@@ -139,7 +141,7 @@ is_some_place (one ∷ others) = true
 
 abbrev pub data_places : Flat → At ℕ → List Spot
 data_places d site =
-    level_items site.it site.task.does ++ data_reads d site.it site.task
+    level_items d site.it site.task.does ++ data_reads d site.it site.task
 
 -- a process lists a signal of the control cone without an edge, or reads it as data; the cone is what clocks and resets of
 -- the design reach through input ports

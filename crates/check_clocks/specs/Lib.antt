@@ -1,4 +1,5 @@
 pub mod Clocks
+pub mod Findings
 pub mod Data
 pub mod Reach
 pub mod Links
@@ -6,6 +7,5 @@ pub mod Tops
 pub mod Uses
 pub mod Passed
 pub mod Cone
-pub mod Firsts
 -- passed on to the crates above
 pub use Rattle.check_chains.specs as check_chains

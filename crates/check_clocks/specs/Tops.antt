@@ -1,12 +1,8 @@
 -- It serves inner contracts and proofs; no answer of the program is stated by it.
 -- Which top inputs signals come from, and the roles of these.
-use Rattle.std.specs.Prelude.{ℕ, ◌≡◌, ◌<◌, ◌==◌, nat_le, Bool, true, false, if◌then◌else◌, ◌&&◌, ◌||◌, List, [], ◌∷◌, length, Vec, Option, Some, None, slice_index_or, count_by}
-use Rattle.std.specs.Prelude.{◌⊎◌, ◌↔◌}
+use Rattle.std.specs.Prelude.{Bool, List, None, Option, Some, Vec, [], count_by, false, if◌then◌else◌, length, nat_le, slice_index_or, true, ℕ, ◌&&◌, ◌<◌, ◌==◌, ◌||◌, ◌↔◌, ◌∷◌, ◌≡◌, ◌⊎◌}
 use Rattle.std.specs.List.{flat_map, list_any}
 use Rattle.std.specs.declared.alloc.Global.{Global}
-use Rattle.rtl_flat.specs.declared.signal.Kind.{Kind}
-use Rattle.rtl_flat.specs.declared.signal.Kind.TheVariants.{TopInput, Net, Var}
-use Rattle.rtl_flat.specs.declared.signal.Signal.{Signal}
 use Rattle.rtl_flat.specs.Process.{Watched, Task}
 use Rattle.net_model.specs.Cycle.{Chain, Guard}
 use Rattle.rtl_rule.specs.declared.finding.Finding.{Finding}
@@ -18,16 +14,6 @@ use Rattle.check_chains.specs.rtl_scan.Graph.{row}
 use Rattle.check_clocks.specs.declared.tops.Roles.{Roles}
 use Rattle.check_clocks.specs.Clocks.{ComesFrom, IsClockOf, IsResetOf}
 use Rattle.check_clocks.specs.Reach.{Reaches}
-
-abbrev pub is_top_kind : Kind → Bool
-is_top_kind TopInput = true
-is_top_kind Net = false
-is_top_kind Var = false
-
--- whether a signal is there, and a top input
-abbrev pub is_top : Option Signal → Bool
-is_top None = false
-is_top (Some signal) = is_top_kind signal.kind
 
 -- a top input is noted in the rows of all signals that it reaches
 pub record IsNoted (rows : List (Vec ℕ Global)) (top : ℕ) (old new : List (Vec ℕ Global)) : Type 0 where

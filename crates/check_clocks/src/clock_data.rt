@@ -11,11 +11,13 @@ ghost use Rattle.check_clocks.specs.Clocks.{AreClockAsData, IsClockAsData, clock
 
 use crate::cone::cone;
 use crate::data::uses_of;
-use crate::firsts::Firsts;
+use crate::uses::firsts_of;
+use check_chains::check_found::marks::Among;
 use check_chains::check_found::scans::Scans;
 use rtl_flat::act::Process;
 use rtl_flat::design::Design;
 use rtl_rule::finding::Finding;
+use rtl_rule::rule::Rule;
 use rtl_tree::memory::Memory;
 use std::alloc::Global;
 
@@ -36,8 +38,9 @@ fn push_process(
         found.old.items found.new.items) }
 {
     let uses = uses_of(alloc, design, process)?;
-    let firsts = Firsts::of_uses(alloc, &uses)?;
-    firsts.push(process, in_cone, found)
+    let firsts = firsts_of(alloc, &uses)?;
+    let listed = Among::Listed(in_cone);
+    firsts.push(Rule::ClockAsData, process, listed, found)
 }
 
 /// The findings at all processes.

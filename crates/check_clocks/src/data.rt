@@ -14,7 +14,7 @@ ghost use Rattle.check_clocks.specs.Uses.{places_of};
 use crate::links::{bit_named, is_bit};
 use crate::uses::{Use, push_levels, push_reads};
 use check_chains::chain::{Chain, chain_of};
-use check_chains::check_parts::expressions::{labels, nodes, own_labels, own_trees, trees};
+use check_chains::check_parts::expressions::{labels, nodes, own_labels, own_trees, read_trees};
 use check_chains::check_parts::statements::{items, statements_of};
 use rtl_flat::act::{Act, Does, Process, TargetPart};
 use rtl_flat::design::Design;
@@ -76,19 +76,14 @@ fn chain_trees<'d>(alloc: Global, chain: &Chain<'d>) -> Result<Vec<&'d SizedExpr
     Ok(found)
 }
 
-/// The expressions of a process, but for the tests of its chain.
-fn but_tests<'d>(
-    alloc: Global,
-    design: &'d Design,
-    does: &'d Does,
-) -> Result<Vec<&'d SizedExpr>, Memory>
-    ensures { IfOk result (λ all. expressions all.items
-        ≡ but_tests_of (flat design.now) (doing does.now)) }
+/// The expressions of a process outside its list, but for the tests of its chain.
+fn but_tests<'d>(alloc: Global, does: &'d Does) -> Result<Vec<&'d SizedExpr>, Memory>
+    ensures { IfOk result (λ all. expressions all.items ≡ but_tests_of (doing does.now)) }
 {
-    match chain_of(alloc, design, does)? {
+    match chain_of(alloc, does)? {
         Some(chain) => chain_trees(alloc, &chain),
         None => {
-            let mut found = trees(alloc, does)?;
+            let mut found = read_trees(alloc, does)?;
             let labels = labels(alloc, does)?;
             found.extend_from_slice(&labels)?;
             Ok(found)
@@ -157,7 +152,7 @@ fn data_trees<'d>(
     if is_passing(design, process) {
         return Ok(Vec::new(alloc));
     }
-    but_tests(alloc, design, &process.does)
+    but_tests(alloc, &process.does)
 }
 
 /// Where a process lists signals without an edge or reads them as data.
@@ -165,9 +160,9 @@ pub(crate) fn uses_of(alloc: Global, design: &Design, process: &Process) -> Resu
     ensures { IfOk result (λ uses. (p s : ℕ) → places_of s uses.items ≡ spec.data_places (flat design.now) (within (p, task process.now) s)) }
 {
     let mut found = Vec::new(alloc);
-    push_levels(items(&process.does), &mut found)?;
+    push_levels(design, items(&process.does), &mut found)?;
     let trees = data_trees(alloc, design, process)?;
     let all = nodes(alloc, &trees)?;
-    push_reads(&all, &mut found)?;
+    push_reads(design, &all, &mut found)?;
     Ok(found)
 }

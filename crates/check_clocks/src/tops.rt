@@ -6,7 +6,8 @@ ghost use Rattle.rtl_flat.specs.Process.{doing};
 ghost use Rattle.rtl_flat.specs.Flats.{flat};
 ghost use Rattle.check_chains.specs.rtl_scan.Graph.{row};
 ghost use Rattle.check_chains.specs.Chains.{chain_of};
-ghost use Rattle.check_clocks.specs.Tops.{AreMarkedAlso, AreRoles, AreTops, IsNoted, IsNotedFor, NotesChain, has_both, is_top};
+ghost use Rattle.event_model.specs.Queue.{is_input};
+ghost use Rattle.check_clocks.specs.Tops.{AreMarkedAlso, AreRoles, AreTops, IsNoted, IsNotedFor, NotesChain, has_both};
 
 use crate::links::{empty_rows, plain_links, push_at, rows_of};
 use crate::reach::reached;
@@ -20,7 +21,7 @@ use std::alloc::Global;
 
 /// Whether a signal is there, and a top input.
 pub fn is_top(design: &Design, signal: SigId) -> bool
-    ensures { result ≡ is_top (slice_get design.now.signals.items signal.0) }
+    ensures { result ≡ is_input (flat design.now) signal.0 }
 {
     match design.signals.get(signal.0 as usize) {
         Some(signal) => match signal.kind {
@@ -125,10 +126,10 @@ impl Roles {
         tops: &[Vec<u32>],
         does: &Does,
     ) -> Result<(), Memory>
-        ensures { let chain = chain_of (flat design.now) (doing does.now) in
+        ensures { let chain = chain_of (doing does.now) in
             OnOk result (NotesChain tops.now chain self.old self.new) }
     {
-        match chain_of(alloc, design, does)? {
+        match chain_of(alloc, does)? {
             Some(chain) => {
                 self.note_clock(tops, chain.clock.signal);
                 self.note_resets(tops, &chain.resets);

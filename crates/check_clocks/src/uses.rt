@@ -1,19 +1,25 @@
 // Where a process uses signals as data.
 
-ghost use Rattle.std.specs.Prelude.{ℕ, ◌≡◌, ◌++◌, ◌∷◌, [], map, OnOk};
-ghost use Rattle.std.specs.Option.{option_map};
+ghost use Rattle.std.specs.Prelude.{ℕ, ◌≡◌, ◌++◌, ◌∷◌, [], map, IfOk, OnOk};
+ghost use Rattle.std.specs.Ordering.{nat_cmp};
+ghost use Rattle.std.specs.BTreeMap.{get};
 ghost use Rattle.rtl_tree.specs.declared.text.Spot.{Spot};
 ghost use Rattle.rtl_flat.specs.Expression.{tree};
+ghost use Rattle.rtl_flat.specs.Flats.{flat, widths};
 ghost use Rattle.rtl_flat.specs.Process.{watched};
-ghost use Rattle.rtl_rule.specs.Parts.{named};
+ghost use Rattle.check_chains.specs.check_found.Marked.{least_of};
 ghost use Rattle.check_chains.specs.check_parts.Kept.{expressions};
-ghost use Rattle.check_clocks.specs.Uses.{level_places, places_of, read_places};
+ghost use Rattle.check_clocks.specs.Uses.{level_places, place_if, places_of, read_places};
 
+use check_chains::check_found::marks::Marks;
+use check_chains::check_parts::reads::{own_signal, selected_signal};
 use rtl_bits::Edge;
 use rtl_flat::act::EventItem;
-use rtl_flat::expr::{Node, SigId, SizedExpr};
+use rtl_flat::design::Design;
+use rtl_flat::expr::{SigId, SizedExpr};
 use rtl_tree::memory::Memory;
 use rtl_tree::text::Spot;
+use std::alloc::Global;
 
 /// A use of a signal, and its place.
 #[derive(Clone, Copy)]
@@ -22,65 +28,82 @@ pub(crate) struct Use {
     pub(crate) spot: Spot,
 }
 
-/// Adds an item of a list that has no edge.
-fn push_level(item: &EventItem, found: &mut Vec<Use>) -> Result<(), Memory>
-    ensures { OnOk result ((s : ℕ) → places_of s found.new.items ≡ places_of s found.old.items ++ level_places s (watched item.now ∷ [])) }
+/// Adds a use of a signal, if there is one.
+fn push_use(used: Option<SigId>, spot: Spot, found: &mut Vec<Use>) -> Result<(), Memory>
+    ensures { OnOk result ((s : ℕ) →
+        places_of s found.new.items ≡ places_of s found.old.items ++ place_if used spot s) }
+{
+    if let Some(signal) = used {
+        found.push(Use { signal, spot })?;
+    }
+    Ok(())
+}
+
+/// Adds an item of a list that has no edge, where it may mean a bit.
+fn push_level(design: &Design, item: &EventItem, found: &mut Vec<Use>) -> Result<(), Memory>
+    ensures { let ws = widths (flat design.now) in
+        OnOk result ((s : ℕ) → places_of s found.new.items
+        ≡ places_of s found.old.items ++ level_places ws s (watched item.now ∷ [])) }
 {
     match item.edge {
         Edge::No => {
-            found.push(Use {
-                signal: item.signal,
-                spot: item.spot,
-            })?;
-            Ok(())
+            let used = selected_signal(design, item.signal, &item.select);
+            push_use(used, item.spot, found)
         }
         Edge::Pos => Ok(()),
         Edge::Neg => Ok(()),
     }
 }
 
-/// Adds the items of a list that have no edge.
-pub(crate) fn push_levels(items: &[EventItem], found: &mut Vec<Use>) -> Result<(), Memory>
-    ensures { OnOk result ((s : ℕ) → places_of s found.new.items ≡ places_of s found.old.items ++ level_places s (map watched items.now)) }
+/// Adds the items of a list that have no edge, and may mean a bit.
+pub(crate) fn push_levels(
+    design: &Design,
+    items: &[EventItem],
+    found: &mut Vec<Use>,
+) -> Result<(), Memory>
+    ensures { let ws = widths (flat design.now) in
+        OnOk result ((s : ℕ) → places_of s found.new.items
+        ≡ places_of s found.old.items ++ level_places ws s (map watched items.now)) }
 {
     for item in items {
-        push_level(item, found)?;
+        push_level(design, item, found)?;
     }
     Ok(())
 }
 
-/// The signal that an expression without its operands reads.
-fn named(e: &SizedExpr) -> Option<SigId>
-    ensures { option_map (λ signal. signal.0) result ≡ named (tree e.now) }
+/// Adds an expression that reads a bit of a signal.
+fn push_read(design: &Design, e: &SizedExpr, found: &mut Vec<Use>) -> Result<(), Memory>
+    ensures { let ws = widths (flat design.now) in
+        OnOk result ((otherwise : Spot) (s : ℕ) → places_of s found.new.items
+        ≡ places_of s found.old.items ++ read_places ws otherwise s (tree e.now ∷ [])) }
 {
-    match &e.node {
-        Node::Read(signal, _) => Some(*signal),
-        _ => None,
-    }
+    push_use(own_signal(design, e), e.spot, found)
 }
 
-/// Adds an expression that reads a signal.
-fn push_read(e: &SizedExpr, found: &mut Vec<Use>) -> Result<(), Memory>
-    ensures { OnOk result ((otherwise : Spot) (s : ℕ) → places_of s found.new.items ≡ places_of s found.old.items ++ read_places otherwise s (tree e.now ∷ [])) }
-{
-    match named(e) {
-        Some(signal) => {
-            found.push(Use {
-                signal,
-                spot: e.spot,
-            })?;
-            Ok(())
-        }
-        None => Ok(()),
-    }
-}
-
-/// Adds those of some expressions that read signals.
-pub(crate) fn push_reads(all: &[&SizedExpr], found: &mut Vec<Use>) -> Result<(), Memory>
-    ensures { OnOk result ((otherwise : Spot) (s : ℕ) → places_of s found.new.items ≡ places_of s found.old.items ++ read_places otherwise s (expressions all.now)) }
+/// Adds those of some expressions that read a bit of a signal.
+pub(crate) fn push_reads(
+    design: &Design,
+    all: &[&SizedExpr],
+    found: &mut Vec<Use>,
+) -> Result<(), Memory>
+    ensures { let ws = widths (flat design.now) in
+        OnOk result ((otherwise : Spot) (s : ℕ) → places_of s found.new.items
+        ≡ places_of s found.old.items ++ read_places ws otherwise s (expressions all.now)) }
 {
     for e in all {
-        push_read(e, found)?;
+        push_read(design, e, found)?;
     }
     Ok(())
+}
+
+/// The signals of some uses, each at its first.
+pub(crate) fn firsts_of(alloc: Global, uses: &[Use]) -> Result<Marks, Memory>
+    ensures { IfOk result (λ firsts. (s : ℕ) → get nat_cmp firsts.spots s
+        ≡ least_of (places_of s uses.now)) }
+{
+    let mut firsts = Marks::new(alloc);
+    for one in uses {
+        firsts.note(one.signal, one.spot)?;
+    }
+    Ok(firsts)
 }

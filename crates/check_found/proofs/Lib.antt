@@ -8,5 +8,7 @@ pub mod Merged
 pub mod Decided
 pub mod Kept
 pub mod Filled
+pub mod Places
+pub mod Shown
 -- passed on to the crates above
 pub use Rattle.rtl_scan.proofs as rtl_scan_proofs

@@ -17,7 +17,7 @@ use Rattle.std.proofs.lemmas.Slice.Eq.{bytes_eq-Decides}
 use Rattle.rtl_flat.specs.declared.expr.SigId.{SigId}
 use Rattle.rtl_rule.specs.declared.finding.Finding.{Finding}
 use Rattle.rtl_rule.specs.declared.rule.Rule.{Rule}
-use Rattle.rtl_rule.specs.declared.rule.Rule.TheVariants.{SenseMissing, NeverWakes, MixedEdges, BlockingState, NonblockingComb, MixedAssign, SeveralDrivers, Undriven, CombLoop, DerivedClock, ClockAsData, LatchInferred, Tristate, ResetShape, ResetPolarity, AsyncPair, ResetValue, FullCase, ParallelCase, UnknownItem, UnknownLiteral, SelectRange, DivideVariable, CaseEquality, DelayIgnored, InitialIgnored, TranslateOff, XOptimism, WildSelector}
+use Rattle.rtl_rule.proofs.Rules.{same_rule}
 use Rattle.rtl_rule.specs.Order.{signal_rank, rank_of, comes_before, placed, ranked}
 use Rattle.rtl_rule.specs.Rows.{rule_number, rules}
 
@@ -117,42 +117,6 @@ module _ {X : Type 0} (before : X → X → Bool) (order : IsStrictWeakOrder bef
 
 pub finding_order : IsStrictWeakOrder comes_before
 finding_order = ranks_by nat_list_cmp_total rank_of
-
--- a rule stands at its place in the table
-at_place : (r : Rule) → slice_get rules (rule_number r) ≡ Some r
-at_place SenseMissing = refl
-at_place NeverWakes = refl
-at_place MixedEdges = refl
-at_place BlockingState = refl
-at_place NonblockingComb = refl
-at_place MixedAssign = refl
-at_place SeveralDrivers = refl
-at_place Undriven = refl
-at_place CombLoop = refl
-at_place DerivedClock = refl
-at_place ClockAsData = refl
-at_place LatchInferred = refl
-at_place Tristate = refl
-at_place ResetShape = refl
-at_place ResetPolarity = refl
-at_place AsyncPair = refl
-at_place ResetValue = refl
-at_place FullCase = refl
-at_place ParallelCase = refl
-at_place UnknownItem = refl
-at_place UnknownLiteral = refl
-at_place SelectRange = refl
-at_place DivideVariable = refl
-at_place CaseEquality = refl
-at_place DelayIgnored = refl
-at_place InitialIgnored = refl
-at_place TranslateOff = refl
-at_place XOptimism = refl
-at_place WildSelector = refl
-
-same_rule : (r s : Rule) → rule_number r ≡ rule_number s → r ≡ s
-same_rule r s same =
-    same_Some r s (sym (at_place r) ∙ ap (slice_get rules) same ∙ at_place s)
 
 same_signal : (x y : Option SigId) → signal_rank x ≡ signal_rank y → x ≡ y
 same_signal None None same = refl

@@ -11,6 +11,7 @@ use Rattle.rtl_rule.specs.declared.finding.Finding.{Finding}
 use Rattle.rtl_rule.specs.Parts.{At, first_below, first_of, has_some, number, some_below, within}
 use Rattle.rtl_flat.specs.Flats.{Flat, widths}
 use Rattle.rtl_rule.specs.Sites.{AreFindings, AreThose}
+use Rattle.rtl_rule.proofs.Below.{none_at, some_at, some_found}
 use Rattle.rtl_scan.specs.declared.bits.Row.{Row}
 use Rattle.rtl_scan.specs.Sets.{IsInOrder, has_row, has_rows}
 use Rattle.rtl_scan.specs.Usage.{has_row_of}
@@ -21,34 +22,6 @@ use Rattle.check_found.proofs.Inside.{IsInside}
 use Rattle.check_found.proofs.Those.{map_those, those_by_test}
 
 -- ---- numbers below a limit
-
-pub some_at : (n : ℕ) (test : ℕ → Bool) (k : ℕ) → k < n → test k ≡ true → some_below n test ≡ true
-some_at zero test k below is = absurd (omega (arith, below))
-some_at (suc n) test k below is =
-    elim (cases_eq k n) [
-      | inl here ↦ or_right (some_below n test) (test n) (subst (λ j. test j ≡ true) here is)
-      | inr other ↦ or_left (some_below n test) (test n) (some_at n test k (omega (arith, below, other)) is)
-    ]
-
--- a number below a limit of which a test holds
-pub record IsSome (n : ℕ) (test : ℕ → Bool) : Type 0 where
-  pub number : ℕ
-  pub below : number < n
-  pub is : test number ≡ true
-
-pub some_found : (n : ℕ) (test : ℕ → Bool) → some_below n test ≡ true → IsSome n test
-some_found zero test h = absurd (false≢true h)
-some_found (suc n) test h =
-    elim (or_cases (some_below n test) (test n) h) [
-      | inl before ↦
-          let found = some_found n test before in
-          record { number = found.number; below = omega (arith, found.below); is = found.is }
-      | inr here ↦ record { number = n; below = omega arith; is = here }
-    ]
-
-none_at : (n : ℕ) (test : ℕ → Bool) → ((k : ℕ) → k < n → test k ≡ false) → some_below n test ≡ false
-none_at n test none =
-    false_from_ne_true (some_below n test) (λ h. let found = some_found n test h in both_ways (test found.number) (none found.number found.below) found.is)
 
 -- the least number of which a test holds
 pub first_at : (n : ℕ) (test : ℕ → Bool) (k : ℕ) → k < n → test k ≡ true → ((j : ℕ) → j < k → test j ≡ false) → first_below n test ≡ number k

@@ -1,4 +1,5 @@
 pub mod Gathered
+pub mod Marked
 pub mod Masks
 pub mod Scanned
 -- passed on to the crates above

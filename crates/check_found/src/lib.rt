@@ -2,6 +2,7 @@
 //! all of a design, scanned once for all rules.
 #![tactic(auto)]
 
+pub mod marks;
 pub mod masks;
 pub mod order;
 pub mod scans;

@@ -21,7 +21,8 @@ use Rattle.check_laws.specs.Cases.{Does, IsBodyOf}
 use Rattle.check_laws.specs.Expressions.{AreMarked, ExclusiveBodies, FirmAssigns, HasNoDoubt, TameBodies}
 use Rattle.check_laws.proofs.Cases.{full_case, parallel_case}
 use Rattle.check_laws.proofs.Expressions.{divide_variable, select_range, tristate, unknown_literal}
-use Rattle.check_laws.proofs.Sites.{Each, each_all, each_both, each_flat, each_from, each_left, each_passing, each_right, task_of}
+use Rattle.rtl_rule.proofs.Lists.{Each, each_all, each_both, each_flat, each_from, each_left, each_passing, each_right}
+use Rattle.check_laws.proofs.Sites.{task_of}
 use Rattle.check_laws.proofs.Statements.{each_of}
 
 -- ---- from lists of expressions to statements
@@ -105,7 +106,7 @@ one_literal (Beside a b) = refl
 one_literal (Repeated n a) = refl
 one_literal (Recast a) = refl
 
-module _ (d : Flat) (marked : AreMarked d) (none : HasNoDoubt d) (p : ℕ) (task : Task) (there : slice_get d.tasks p ≡ Some task) where
+module _ (d : Flat) (lawful : AreLawful d) (marked : AreMarked d) (none : HasNoDoubt d) (p : ℕ) (task : Task) (there : slice_get d.tasks p ≡ Some task) where
   abbrev IsClearHere : Tree → Type 0
   IsClearHere = IsClear d
 
@@ -132,7 +133,7 @@ module _ (d : Flat) (marked : AreMarked d) (none : HasNoDoubt d) (p : ℕ) (task
       let es = trees task.does in
       each_both IsKnown IsInside IsClearHere (λ e a b. record { x1 = a.0; z1 = a.1; x2 = b.0; x3 = b.1 }) es
       (each_left IsKnown es (filter (λ label. not (is_one_literal label)) (labels task.does)) known)
-      (inside_in es (select_range d marked none.x2 p task there).0 (divide_variable d marked none.x3 p task there).0)
+      (inside_in es (select_range d marked none.x2 p task there).0 (divide_variable d lawful marked none.x2 none.x3 p task there).0)
 
   clear_labels : Each (OfLabel IsClearHere) (labels task.does)
   clear_labels =
@@ -141,7 +142,7 @@ module _ (d : Flat) (marked : AreMarked d) (none : HasNoDoubt d) (p : ℕ) (task
       each_both (λ e. free e ≡ true → IsKnown e) IsInside (OfLabel IsClearHere)
       (λ e a b. λ is. let k = a (not_from_false _ (one_literal e ∙ is)) in record { x1 = k.0; z1 = k.1; x2 = b.0; x3 = b.1 }) es
       (each_passing IsKnown free es (each_right IsKnown (trees task.does) (filter free es) known))
-      (inside_in es (select_range d marked none.x2 p task there).1 (divide_variable d marked none.x3 p task there).1)
+      (inside_in es (select_range d marked none.x2 p task there).1 (divide_variable d lawful marked none.x2 none.x3 p task there).1)
 
 -- the body of a lawful process
 pub lawful_body : (d : Flat) → AreLawful d → (p : ℕ) (body : Actions) → IsBodyOf d p body → IsBody d.signals body
@@ -155,12 +156,12 @@ lawful_body d lawful p body is = by_does is.task.does is.does (lawful p is.task.
 pub firm_assigns : (d : Flat) → FirmAssigns d
 firm_assigns d lawful marked none p target value is =
     let at = task_of d p (Assign target value) is in
-    let clear = subst (λ does. Each (IsClear d) (trees does)) at.is (clear_trees d marked none p at.task at.there) in
+    let clear = subst (λ does. Each (IsClear d) (trees does)) at.is (clear_trees d lawful marked none p at.task at.there) in
     firm.firm d value (lawful p (Assign target value) is).0.sized clear.0
 
 pub tame_bodies : (d : Flat) → TameBodies d
 tame_bodies d lawful marked none p body is =
-    let clear = of_process (IsClear d) is.task.does body is.does (clear_trees d marked none p is.task is.there) (clear_labels d marked none p is.task is.there) in
+    let clear = of_process (IsClear d) is.task.does body is.does (clear_trees d lawful marked none p is.task is.there) (clear_labels d lawful marked none p is.task is.there) in
     firm.tame d body (lawful_body d lawful p body is) clear (full_case d none.c1 p body is)
 
 pub exclusive_bodies : (d : Flat) → ExclusiveBodies d

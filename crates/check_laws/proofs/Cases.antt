@@ -14,7 +14,8 @@ use Rattle.rtl_rule.specs.Parts.{all_of, statements}
 use Rattle.rtl_flat.specs.Flats.{Flat, widths}
 use Rattle.check_case.specs.Cases.{IsFullCase, IsParallelCase, all_disjoint, are_disjoint, disjoint_from, full_case_at, is_false_full, is_false_parallel, items_disjoint, parallel_case_at, some_differ}
 use Rattle.check_laws.specs.Cases.{Does, FullCase, ParallelCase}
-use Rattle.check_laws.proofs.Sites.{Each, each_all, refuted_in}
+use Rattle.rtl_rule.proofs.Lists.{Each, each_all}
+use Rattle.check_laws.proofs.Sites.{refuted_in}
 use Rattle.check_laws.proofs.Statements.{each_of}
 
 -- the statements of a body are those of its process

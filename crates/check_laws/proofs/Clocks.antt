@@ -17,9 +17,10 @@ use Rattle.net_model.specs.Control as control
 use Rattle.rtl_rule.specs.Parts.{At, items_of, within}
 use Rattle.rtl_flat.specs.Flats.{Flat, widths}
 use Rattle.check_xprop.specs.check_chains.Chains.{IsAsyncPair, async_pair_at, has_chain}
-use Rattle.check_xprop.specs.check_clocks.Clocks.{ComesFrom, GoesTo, Itself, Through, IsDerivedClock, IsPlainConnection, IsTwice, derived_clock_at, events_of}
+use Rattle.check_clocks.specs.Clocks.{ComesFrom, GoesTo, Itself, Through, IsDerivedClock, IsPlainConnection, IsTwice, derived_clock_at, events_of}
 use Rattle.check_laws.specs.Clocks.{AsyncPair, AreSourcesDecided, DerivedClock, DerivedClockOnce}
-use Rattle.check_laws.proofs.Sites.{Each, each_all, process_refuted, refuted_in, task_of}
+use Rattle.rtl_rule.proofs.Lists.{Each, each_all}
+use Rattle.check_laws.proofs.Sites.{process_refuted, refuted_in, task_of}
 
 -- ---- what comes from a top input is reached from it
 
@@ -105,4 +106,4 @@ derived_clock_once d none p events body is m n a b first second top comes comes'
 -- R3
 pub async_pair : (d : Flat) → AsyncPair d
 async_pair d none p task there chain is =
-    ltb-false 1 (length chain.resets) (false_from_ne_true (nat_lt 1 (length chain.resets)) (λ more. process_refuted (IsAsyncPair d) (async_pair_at d) d none p task there (subst (λ o. has_chain (λ one. nat_lt 1 (length one.resets)) o ≡ true) (sym is) more)))
+    ltb-false 1 (length chain.resets) (false_from_ne_true (nat_lt 1 (length chain.resets)) (λ more. process_refuted IsAsyncPair (async_pair_at d) d none p task there (subst (λ o. has_chain (λ one. nat_lt 1 (length one.resets)) o ≡ true) (sym is) more)))

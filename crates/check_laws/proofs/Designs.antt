@@ -23,12 +23,14 @@ use Rattle.event_model.specs.Queue as queue
 use Rattle.net_laws.specs.event_laws.Steady.{AreLawful}
 use Rattle.net_laws.proofs.event_laws_proofs.Within.{may_read_outside, outside_inside, target_inside, write_inside}
 use Rattle.net_model.specs.Solution.{IsRegisterBit}
-use Rattle.rtl_rule.specs.Parts.{has_some, written}
-use Rattle.check_sense.specs.Sense.{AreMixedEdges, AreNeverWakes, AreSenseMissing, IsMixedEdges, IsNeverWakes, IsSenseMissing, another_writes, can_wake, first_level, has_item, is_top, misses, mixed_edges_at, never_wakes_at, sense_missing_at}
+use Rattle.rtl_rule.specs.Parts.{has_some, is_clocked, written}
+use Rattle.check_sense.specs.Sense.{AreMixedEdges, AreNeverWakes, AreSenseMissing, IsMixedEdges, IsNeverWakes, IsSenseMissing, another_writes, can_wake, first_level, has_item, misses, mixed_edges_at, never_wakes_at, sense_missing_at}
 use Rattle.check_sense.specs.Sense as sense
-use Rattle.check_xprop.specs.check_assign.Assigned.{AreCombLoop, AreSeveralDrivers, IsBlockingState, IsCombLoop, IsLatchInferred, IsMixedAssign, IsNonblockingComb, IsSeveralDrivers, IsUndriven, blocking_state_at, comb_loop_at, is_clocked, is_comb, is_input, is_written, late, latch_inferred_at, lower_writes, mixed_assign_at, nonblocking_comb_at, now, several_drivers_at, undriven_at}
+use Rattle.check_assign.specs.Assigned.{AreCombLoop, AreSeveralDrivers, IsBlockingState, IsCombLoop, IsLatchInferred, IsMixedAssign, IsNonblockingComb, IsSeveralDrivers, IsUndriven, blocking_state_at, comb_loop_at, is_comb, is_written, late, latch_inferred_at, lower_writes, mixed_assign_at, nonblocking_comb_at, now, several_drivers_at, undriven_at}
 use Rattle.check_laws.specs.Designs.{AreTemporariesDecided, BlockingState, CombLoop, CombLoopAlone, IsComb, IsComputedBit, IsEdge, LatchInferred, MixedAssign, MixedEdges, NeverWakes, NonblockingComb, SenseMissing, SeveralDrivers, Undriven}
-use Rattle.check_laws.proofs.Sites.{any_found, each_numbered, numbered_found, process_refuted, refuted, signal_refuted, signal_there, slice_there, some_at, some_found, task_of}
+use Rattle.rtl_rule.proofs.Below.{some_at, some_found}
+use Rattle.rtl_rule.proofs.Lists.{each_numbered}
+use Rattle.check_laws.proofs.Sites.{any_found, numbered_found, process_refuted, refuted, signal_refuted, signal_there, slice_there, task_of}
 
 -- ---- S1
 
@@ -233,7 +235,7 @@ pub undriven : (d : Flat) → Undriven d
 undriven d none i k inside lasting =
     let (signal, there) = slice_there d.signals i (signal_there d.signals i k inside) in
     let refutes = each_numbered (λ one. IsUndriven d one → ⊥) 0 d.signals (refuted (IsUndriven d) undriven_at (enumerate_from 0 d.signals) none) i i signal there (omega arith) in
-    by_kind signal there refutes (is_input signal.kind) refl
+    by_kind signal there refutes (queue.is_input_kind signal.kind) refl
   where
     by_process : (q : ℕ) (task : Task) → slice_get d.tasks q ≡ Some task → (does : Doing) → task.does ≡ does → MayWrite (flow_of (widths d) task.does) i k → IsRegisterBit d i k ⊎ IsComputedBit d i k
     by_process q task there (Assign target value) is may =
@@ -258,13 +260,8 @@ undriven d none i k inside lasting =
           lasting = lasting;
         })
 
-    by_kind : (signal : Signal) → slice_get d.signals i ≡ Some signal → (IsUndriven d (i, signal) → ⊥) → (b : Bool) → is_input signal.kind ≡ b → IsTrue (queue.is_input d i) ⊎ (IsRegisterBit d i k ⊎ IsComputedBit d i k)
-    by_kind signal there refutes true e = inl (ap queue.is_input_of there ∙ same_kind signal.kind ∙ e)
-      where
-        same_kind : (kind : Kind) → queue.is_input_kind kind ≡ is_input kind
-        same_kind TopInput = refl
-        same_kind Net = refl
-        same_kind Var = refl
+    by_kind : (signal : Signal) → slice_get d.signals i ≡ Some signal → (IsUndriven d (i, signal) → ⊥) → (b : Bool) → queue.is_input_kind signal.kind ≡ b → IsTrue (queue.is_input d i) ⊎ (IsRegisterBit d i k ⊎ IsComputedBit d i k)
+    by_kind signal there refutes true e = inl (ap queue.is_input_of there ∙ e)
     by_kind signal there refutes false e =
         let written_there : is_written d i k ≡ true =
         true_from_ne_false (is_written d i k) (λ missing. refutes (and_from _ _ (not_from_false _ e) (some_at (widths d i) (λ n. not (is_written d i n)) k inside (not_from_false _ missing)))) in
@@ -278,9 +275,9 @@ never_wakes d none p list body is =
     let at = task_of d p (Comb list body) is in
     let wakes : can_wake d p (Comb list body) ≡ true =
     true_from_ne_false (can_wake d p (Comb list body)) (λ missing. process_refuted (IsNeverWakes d) (never_wakes_at d) d none p at.task at.there (subst (λ does. sense.never_wakes d p does ≡ true) (sym at.is) (not_from_false _ missing))) in
-    let found = numbered_found (λ (one : ℕ × Signal). has_some (widths d) (λ s k. listed (widths d) (Comb list body) s k && (is_top one.1.kind || another_writes d p s k)) one.0) d.signals wakes in
+    let found = numbered_found (λ (one : ℕ × Signal). has_some (widths d) (λ s k. listed (widths d) (Comb list body) s k && (queue.is_input_kind one.1.kind || another_writes d p s k)) one.0) d.signals wakes in
     let s = found.place in
-    let bit = some_found (widths d s) (λ k. listed (widths d) (Comb list body) s k && (is_top found.element.kind || another_writes d p s k)) found.passes in
+    let bit = some_found (widths d s) (λ k. listed (widths d) (Comb list body) s k && (queue.is_input_kind found.element.kind || another_writes d p s k)) found.passes in
     let (lists, sources) = and_parts _ _ bit.is in
     record {
       signal = s;
@@ -288,16 +285,11 @@ never_wakes d none p list body is =
       inside = bit.below;
       listed = lists;
       source = elim (or_cases _ _ sources) [
-        | inl top ↦ inl (ap queue.is_input_of found.there ∙ same_kind found.element.kind ∙ top)
+        | inl top ↦ inl (ap queue.is_input_of found.there ∙ top)
         | inr another ↦ inr (writer s bit.number another)
       ];
     }
   where
-    same_kind : (kind : Kind) → queue.is_input_kind kind ≡ is_top kind
-    same_kind TopInput = refl
-    same_kind Net = refl
-    same_kind Var = refl
-
     writer : (s k : ℕ) → another_writes d p s k ≡ true → (q : ℕ) × (q ≡ p → ⊥) × OfProcess MayWrite d.signals d.tasks q s k
     writer s k h =
         let found = numbered_found (λ (one : ℕ × Task). not (one.0 == p) && written d one.1.does s k) d.tasks h in

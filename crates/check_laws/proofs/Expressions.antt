@@ -1,8 +1,9 @@
 -- What expressions without findings are.
-use Rattle.std.proofs.Common.{◌≡◌, ◌∙◌, ◌^◌, ℕ, suc, Bool, true, not, ◌||◌, List, [], ◌∷◌, ◌++◌, Option, None, Some, refl, sym, ap, subst, arith, pow-suc}
-use Rattle.std.specs.Prelude.{ℤ, pos, ◌-ℤ◌, nat_lt}
+use Rattle.std.proofs.Math.Nat.{one-le-pow}
+use Rattle.std.proofs.Common.{◌≡◌, ◌∙◌, ◌+◌, ◌^◌, ◌<◌, ◌≤◌, ℕ, zero, suc, Bool, true, false, not, ◌||◌, List, [], ◌∷◌, ◌++◌, Option, None, Some, length, refl, sym, ap, subst, arith, pow-suc}
+use Rattle.std.specs.Prelude.{ℤ, pos, ◌-ℤ◌, ◌==◌, if◌then◌else◌, nat_le, nat_lt}
 use Rattle.std.specs.List.{All, cons_option, filter, filter_map, flat_map, list_all, list_any, slice_get}
-use Rattle.std.proofs.lemmas.Bool.{and_parts, false≢true, ltb-false, not-true, not_from_false, or_left, or_parts, or_right, true_from_ne_false, false_from_ne_true}
+use Rattle.std.proofs.lemmas.Bool.{and_from, and_parts, both_ways, eq-eqb, false≢true, le-leb, lt-ltb, ltb-false, not-true, not_from_false, or_left, or_parts, or_right, true_from_ne_false, false_from_ne_true}
 use Rattle.rtl_bits.specs.declared.Bit.{Bit}
 use Rattle.rtl_bits.specs.declared.Bit.TheVariants.{Zero, One, X, Z}
 use Rattle.rtl_bits.specs.Bits.{number, same_bit}
@@ -10,21 +11,27 @@ use Rattle.rtl_tree.specs.declared.text.Spot.{Spot}
 use Rattle.rtl_flat.specs.declared.expr.Join.{Join}
 use Rattle.rtl_flat.specs.declared.expr.Join.TheVariants as join
 use Rattle.rtl_flat.specs.Expression.{Tree, Sized, Literal, Whole, BitAt, BitBy, Part, Turned, Joined, Compared, Linked, Folded, Shifted, Chosen, Empty, Beside, Repeated, Recast}
-use Rattle.rtl_flat.specs.Flows.{is_place}
+use Rattle.rtl_flat.specs.Flows.{all_bits, is_place, reads, span}
 use Rattle.rtl_flat.specs.Process.{Piece, Task, Watched}
 use Rattle.rtl_flat.specs.Signs.{sign_of}
-use Rattle.rtl_flat.specs.Sizes.{width_of}
+use Rattle.rtl_flat.specs.Sizes.{IsSized, width_of}
 use Rattle.rtl_flat.specs.Value.{value}
+use Rattle.event_model.specs.Queue.{doing_of}
+use Rattle.net_laws.proofs.Firm.{constant_value}
 use Rattle.net_laws.proofs.event_laws_proofs.Targets.{place_of}
 use Rattle.net_laws.specs.Rules.{DividesBy, DividesByPower, EachPart, HasNone, IsNoSignal, IsPower, SelectsInside}
 use Rattle.net_laws.specs.Tame.{IsPlace}
-use Rattle.rtl_rule.specs.Parts.{is_literal_with, is_one_literal, is_some_name, is_x, is_z, items_of, labels, named, nodes, pieces, reads_signal, some_below, trees, valued_trees}
+use Rattle.rtl_rule.specs.Parts.{constant_of, has_some, is_literal_with, is_one_literal, is_x, is_z, items_of, labels, nodes, pieces, reads_signal, some_below, trees, unknowns, valued_trees}
 use Rattle.rtl_flat.specs.Flats.{Flat, widths}
-use Rattle.check_xprop.specs.check_assign.Assigned.{IsTristate, tristate_at}
-use Rattle.check_xprop.specs.Unknowns.{IsDivideVariable, IsSelectRange, IsUnknownLiteral, Pick, all_nodes, at_node, divides_by_other, has_one, is_power, is_zero, may_miss, pick_in, pick_of, picks, select_range_at, unknown_literal_at}
+use Rattle.check_assign.specs.Assigned.{IsTristate, tristate_at}
+use Rattle.check_xprop.specs.Unknowns.{AreSelectRange, IsDivideVariable, IsSelectRange, IsUnknownLiteral, Pick, all_nodes, at_node, divides_by_other, has_one, is_power, is_zero, may_miss, pick_in, pick_of, picks, select_range_at, unknown_literal_at}
 use Rattle.rtl_rule.specs.declared.rule.Rule.TheVariants as rule
-use Rattle.check_laws.specs.Expressions.{AreMarked, DivideVariable, IsForm, IsMarked, SelectRange, Tristate, UnknownLiteral}
-use Rattle.check_laws.proofs.Sites.{Each, each_all, each_both, each_flat, each_from, each_join, each_kept, each_left, each_right, process_refuted, refuted_in, some_found}
+use Rattle.check_laws.specs.Expressions.{AreMarked, DivideVariable, IsForm, IsMarked, IsRow, SelectRange, Tristate, UnknownLiteral}
+use Rattle.rtl_rule.proofs.Below.{some_at, some_found}
+use Rattle.check_xprop.proofs.Sized.{nodes_of_sized}
+use Rattle.check_xprop.proofs.check_parts_proofs.OwnReads.{width_inside}
+use Rattle.rtl_rule.proofs.Lists.{Each, each_all, each_both, each_flat, each_from, each_join, each_kept, each_left, each_right}
+use Rattle.check_laws.proofs.Sites.{process_refuted, refuted_in}
 use Rattle.check_laws.proofs.Operands.{each_part}
 
 -- ---- lists
@@ -162,8 +169,8 @@ module _ (d : Flat) where
   all_select es marked h =
       each_all (EachPart (SelectsInside d)) es (each_both IsMarked (λ e. Each Inside (nodes e)) (EachPart (SelectsInside d)) selects es marked h)
 
-pub select_range : (d : Flat) → SelectRange d
-select_range d marked none p task there =
+selects_in : (d : Flat) → AreSelectRange d [] → (p : ℕ) (task : Task) → slice_get d.tasks p ≡ Some task → Each (Inside d) (all_nodes task.does)
+selects_in d none p task there =
     let does = task.does in
     let lawful = λ (one : Pick). may_miss (widths d) one one.index ≡ true → ⊥ in
     let all = refuted_in (IsSelectRange d) select_range_at picks d none p task there in
@@ -171,7 +178,12 @@ select_range d marked none p task there =
     let selected = filter_map pick_in (all_nodes does) in
     let written = filter_map (λ (piece : Piece). pick_of piece.signal piece.spot piece.selection) (pieces does) in
     let read = each_right lawful listed selected (each_left lawful (listed ++ selected) written all) in
-    let of_nodes = each_some lawful pick_in (all_nodes does) read in
+    each_some lawful pick_in (all_nodes does) read
+
+pub select_range : (d : Flat) → SelectRange d
+select_range d marked none p task there =
+    let does = task.does in
+    let of_nodes = selects_in d none p task there in
     let of_all = each_flat (Inside d) nodes (trees does ++ labels does) of_nodes in
     let nodes_inside = λ (e : Tree). Each (Inside d) (nodes e) in (
       all_select d (trees does) (each_from IsMarked (trees does) (marked p task there).0) (each_left nodes_inside (trees does) (labels does) of_all),
@@ -203,79 +215,175 @@ power_of (One ∷ bits) h = let none = all_zero bits h in record { exponent = 0;
 power_of (X ∷ bits) h = absurd (false≢true h)
 power_of (Z ∷ bits) h = absurd (false≢true h)
 
-no_signal : (w : ℕ) (s : Bool) (at : Spot) (e : Tree) → IsForm e → (is_some_name (named (Sized w s at e)) ≡ true → ⊥) → IsNoSignal e
-no_signal w s at (Sized w' s' at' e) marked q = absurd marked
-no_signal w s at (Literal bits) marked q = tt
-no_signal w s at (Whole i) marked q = absurd (q refl)
-no_signal w s at (BitAt i low index) marked q = absurd (q refl)
-no_signal w s at (BitBy i low signed index) marked q = absurd (q refl)
-no_signal w s at (Part i low width) marked q = absurd (q refl)
-no_signal w s at (Turned operator a) marked q = tt
-no_signal w s at (Joined operator signed a b) marked q = tt
-no_signal w s at (Compared operator signed a b) marked q = tt
-no_signal w s at (Linked operator a b) marked q = tt
-no_signal w s at (Folded operator a) marked q = tt
-no_signal w s at (Shifted operator signed a amount) marked q = tt
-no_signal w s at (Chosen c a b) marked q = tt
-no_signal w s at Empty marked q = tt
-no_signal w s at (Beside a others) marked q = tt
-no_signal w s at (Repeated times a) marked q = tt
-no_signal w s at (Recast a) marked q = tt
+-- ---- operands of operands
 
-power : (signed : Bool) (e : Tree) → IsMarked e → is_power signed e ≡ true → IsPower e
-power signed e marked h =
-    let (reads, one) = and_parts (not (reads_signal e)) _ h in
-    let is_one_bit = (and_parts (has_one (value (λ i. []) e)) _ one).0 in
-    let exponent = power_of (value (λ i. []) e) is_one_bit in
-    let unread = not-true _ reads in
-    record {
-      constant = each_part IsNoSignal (λ node. is_some_name (named node) ≡ true → ⊥) (λ w s at f. tt) tt (λ a others. tt) no_signal e marked (each_false (λ node. is_some_name (named node)) (nodes e) (λ is. false≢true (sym unread ∙ is)));
-      exponent = exponent.exponent;
-      is = exponent.is;
-    }
+module _ (P : Tree → Type 0) where
+  -- what holds of each operand holds of those of each
+  deep : (e : Tree) → Each P (nodes e) → Each (λ node. Each P (nodes node)) (nodes e)
+  deep (Sized w s at e) h = (h, deep e h.1)
+  deep (Literal bits) h = tt
+  deep (Whole i) h = tt
+  deep (BitAt i low index) h = tt
+  deep (BitBy i low signed index) h = deep index h
+  deep (Part i low width) h = tt
+  deep (Turned operator a) h = deep a h
+  deep (Joined operator signed a b) h = deep_both a b h
+  deep (Compared operator signed a b) h = deep_both a b h
+  deep (Linked operator a b) h = deep_both a b h
+  deep (Folded operator a) h = deep a h
+  deep (Shifted operator signed a amount) h = deep_both a amount h
+  deep (Chosen c a b) h =
+      each_join (λ node. Each P (nodes node)) (nodes c ++ nodes a) (nodes b) (deep_both c a (each_left P (nodes c ++ nodes a) (nodes b) h)) (deep b (each_right P (nodes c ++ nodes a) (nodes b) h))
+  deep Empty h = tt
+  deep (Beside a others) h = deep_both a others h
+  deep (Repeated times a) h = deep a h
+  deep (Recast a) h = deep a h
 
-divides : (w : ℕ) (s : Bool) (at : Spot) (operator : Join) (signed : Bool) (a b : Tree) → IsMarked b → (divides_by_other (Sized w s at (Joined operator signed a b)) ≡ true → ⊥) → DividesBy operator b
-divides w s at join.Add signed a b marked q = tt
-divides w s at join.Subtract signed a b marked q = tt
-divides w s at join.Multiply signed a b marked q = tt
-divides w s at join.Divide signed a b marked q =
-    power signed b marked (true_from_ne_false _ (λ missing. q (not_from_false _ missing)))
-divides w s at join.Remainder signed a b marked q =
-    power signed b marked (true_from_ne_false _ (λ missing. q (not_from_false _ missing)))
-divides w s at join.And signed a b marked q = tt
-divides w s at join.Or signed a b marked q = tt
-divides w s at join.Xor signed a b marked q = tt
-divides w s at join.Xnor signed a b marked q = tt
+  deep_both : (a b : Tree) → Each P (nodes a ++ nodes b) → Each (λ node. Each P (nodes node)) (nodes a ++ nodes b)
+  deep_both a b h =
+      each_join (λ node. Each P (nodes node)) (nodes a) (nodes b) (deep a (each_left P (nodes a) (nodes b) h)) (deep b (each_right P (nodes a) (nodes b) h))
 
-divisor : (w : ℕ) (s : Bool) (at : Spot) (e : Tree) → IsForm e → (divides_by_other (Sized w s at e) ≡ true → ⊥) → DividesByPower e
-divisor w s at (Sized w' s' at' e) marked q = absurd marked
-divisor w s at (Literal bits) marked q = tt
-divisor w s at (Whole i) marked q = tt
-divisor w s at (BitAt i low index) marked q = tt
-divisor w s at (BitBy i low signed index) marked q = tt
-divisor w s at (Part i low width) marked q = tt
-divisor w s at (Turned operator a) marked q = tt
-divisor w s at (Joined operator signed a b) marked q = divides w s at operator signed a b marked.1 q
-divisor w s at (Compared operator signed a b) marked q = tt
-divisor w s at (Linked operator a b) marked q = tt
-divisor w s at (Folded operator a) marked q = tt
-divisor w s at (Shifted operator signed a amount) marked q = tt
-divisor w s at (Chosen c a b) marked q = tt
-divisor w s at Empty marked q = tt
-divisor w s at (Beside a others) marked q = tt
-divisor w s at (Repeated times a) marked q = tt
-divisor w s at (Recast a) marked q = tt
+-- ---- what reads no bit, and selects none outside, has no signal
 
-all_divide : (es : List Tree) → Each IsMarked es → Each (λ e. Each (λ node. divides_by_other node ≡ true → ⊥) (nodes e)) es → All (EachPart DividesByPower) es
-all_divide es marked h =
-    each_all (EachPart DividesByPower) es (each_both IsMarked (λ e. Each (λ node. divides_by_other node ≡ true → ⊥) (nodes e)) (EachPart DividesByPower) (each_part DividesByPower (λ node. divides_by_other node ≡ true → ⊥) (λ w s at f. tt) tt (λ a others. tt) divisor) es marked h)
+module _ (d : Flat) where
+  abbrev Fits : Tree → Type 0
+  Fits = IsSized (length d.signals) (widths d)
+
+  -- no bit that is there is read
+  abbrev Unread : Tree → Type 0
+  Unread e = (s k : ℕ) → k < widths d s → reads (widths d) e s k ≡ false
+
+  on_first : (a b : Tree) → ((s k : ℕ) → k < widths d s → (reads (widths d) a s k || reads (widths d) b s k) ≡ false) → Unread a
+  on_first a b u s k inside =
+      (or_parts (reads (widths d) a s k) (reads (widths d) b s k) (u s k inside)).0
+
+  on_second : (a b : Tree) → ((s k : ℕ) → k < widths d s → (reads (widths d) a s k || reads (widths d) b s k) ≡ false) → Unread b
+  on_second a b u s k inside =
+      (or_parts (reads (widths d) a s k) (reads (widths d) b s k) (u s k inside)).1
+
+  spans : (i low high k : ℕ) → low ≤ k → k < high → k < widths d i → span (widths d) i low high i k ≡ true
+  spans i low high k above below inside =
+      and_from (i == i) _ (eq-eqb i i refl) (and_from (nat_le low k) _ (le-leb low k above) (and_from (nat_lt k high) _ (lt-ltb k high below) (lt-ltb k (widths d i) inside)))
+
+  mutual
+    no_part : (e : Tree) → IsMarked e → Fits e → Each (Inside d) (nodes e) → Unread e → EachPart IsNoSignal e
+    no_part (Sized w s at e) marked fits h u =
+        (tt, no_form w s at e marked fits.1.not_empty fits.2 h.0 h.1 u)
+    no_part _ marked fits h u = absurd marked
+
+    no_form : (w : ℕ) (s : Bool) (at : Spot) (e : Tree) → IsForm e → 1 ≤ width_of (widths d) e → Fits e → Inside d (Sized w s at e) → Each (Inside d) (nodes e) → Unread e → EachPart IsNoSignal e
+    no_form w s at (Sized w' s' at' e) marked some fits here h u = absurd marked
+    no_form w s at (Literal bits) marked some fits here h u = tt
+    no_form w s at (Whole i) marked some fits here h u =
+        absurd (both_ways _ (u i 0 (omega (arith, some))) (spans i 0 (widths d i) 0 (omega arith) (omega (arith, some)) (omega (arith, some))))
+    no_form w s at (BitAt i low index) marked some fits here h u =
+        let inside = true_from_ne_false (some_below (widths d i) (is_place low index)) (λ missing. here _ refl (not_from_false _ missing)) in
+        let found = some_found (widths d i) (is_place low index) inside in
+        absurd (both_ways _ (u i found.number found.below) (and_from (i == i) _ (eq-eqb i i refl) (and_from (nat_lt found.number (widths d i)) _ (lt-ltb found.number (widths d i) found.below) found.is)))
+    no_form w s at (BitBy i low signed index) marked some fits here h u =
+        let tests = or_parts (sign_of index) (nat_lt 0 low || nat_lt (widths d i) (2 ^ width_of (widths d) index)) (false_from_ne_true _ (here _ refl)) in
+        let wide = ltb-false (widths d i) (2 ^ width_of (widths d) index) (or_parts (nat_lt 0 low) (nat_lt (widths d i) (2 ^ width_of (widths d) index)) tests.1).1 in
+        let power = one-le-pow (width_of (widths d) index) 2 (omega arith) in
+        let there : 0 < widths d i = omega (arith, wide, power) in
+        absurd (both_ways _ ((or_parts (reads (widths d) index i 0) (all_bits (widths d) i i 0) (u i 0 there)).1) (spans i 0 (widths d i) 0 (omega arith) there there))
+    no_form w s at (Part i low width) marked some fits here h u =
+        let inside = fits.1 in
+        absurd (both_ways _ (u i low (omega (arith, some, inside))) (spans i low (low + width) low (omega arith) (omega (arith, some)) (omega (arith, some, inside))))
+    no_form w s at (Turned operator a) marked some fits here h u = (tt, no_part a marked fits h u)
+    no_form w s at (Joined operator signed a b) marked some fits here h u =
+        (tt, no_part a marked.0 fits.1 (each_left (Inside d) (nodes a) (nodes b) h) (on_first a b u), no_part b marked.1 fits.2 (each_right (Inside d) (nodes a) (nodes b) h) (on_second a b u))
+    no_form w s at (Compared operator signed a b) marked some fits here h u =
+        (tt, no_part a marked.0 fits.1 (each_left (Inside d) (nodes a) (nodes b) h) (on_first a b u), no_part b marked.1 fits.2 (each_right (Inside d) (nodes a) (nodes b) h) (on_second a b u))
+    no_form w s at (Linked operator a b) marked some fits here h u =
+        (tt, no_part a marked.0 fits.0 (each_left (Inside d) (nodes a) (nodes b) h) (on_first a b u), no_part b marked.1 fits.1 (each_right (Inside d) (nodes a) (nodes b) h) (on_second a b u))
+    no_form w s at (Folded operator a) marked some fits here h u = (tt, no_part a marked fits h u)
+    no_form w s at (Shifted operator signed a amount) marked some fits here h u =
+        (tt, no_part a marked.0 fits.1 (each_left (Inside d) (nodes a) (nodes amount) h) (on_first a amount u), no_part amount marked.1 fits.2 (each_right (Inside d) (nodes a) (nodes amount) h) (on_second a amount u))
+    no_form w s at (Chosen c a b) marked some fits here h u =
+        let front = each_left (Inside d) (nodes c ++ nodes a) (nodes b) h in
+        let arms : (s k : ℕ) → k < widths d s → (reads (widths d) a s k || reads (widths d) b s k) ≡ false = λ s k inside. (or_parts (reads (widths d) c s k) (reads (widths d) a s k || reads (widths d) b s k) (u s k inside)).1 in
+        (tt, no_part c marked.0 fits.1 (each_left (Inside d) (nodes c) (nodes a) front) (λ s k inside. (or_parts (reads (widths d) c s k) (reads (widths d) a s k || reads (widths d) b s k) (u s k inside)).0), no_part a marked.1 fits.2 (each_right (Inside d) (nodes c) (nodes a) front) (on_first a b arms), no_part b marked.2 fits.3 (each_right (Inside d) (nodes c ++ nodes a) (nodes b) h) (on_second a b arms))
+    no_form w s at Empty marked some fits here h u = tt
+    no_form w s at (Beside a others) marked some fits here h u =
+        (tt, no_part a marked.0 fits.0 (each_left (Inside d) (nodes a) (nodes others) h) (on_first a others u), no_row others marked.1 fits.1 (each_right (Inside d) (nodes a) (nodes others) h) (on_second a others u))
+    no_form w s at (Repeated times a) marked some fits here h u = (tt, no_part a marked fits h u)
+    no_form w s at (Recast a) marked some fits here h u = (tt, no_part a marked fits h u)
+
+    no_row : (e : Tree) → IsRow e → Fits e → Each (Inside d) (nodes e) → Unread e → EachPart IsNoSignal e
+    no_row Empty marked fits h u = tt
+    no_row (Beside a others) marked fits h u =
+        (tt, no_part a marked.0 fits.0 (each_left (Inside d) (nodes a) (nodes others) h) (on_first a others u), no_row others marked.1 fits.1 (each_right (Inside d) (nodes a) (nodes others) h) (on_second a others u))
+    no_row _ marked fits h u = absurd marked
+
+  unread_all : (e : Tree) → reads_signal d e ≡ false → Unread e
+  unread_all e none s k inside =
+      false_from_ne_true (reads (widths d) e s k) (λ is.
+      false≢true (sym none ∙ some_at (length d.signals) (has_some (widths d) (reads (widths d) e)) s (width_inside d.signals s (omega (arith, inside))) (some_at (widths d s) (reads (widths d) e s) k inside is)))
+
+  power : (signed : Bool) (e : Tree) → IsMarked e → Fits e → Each (Inside d) (nodes e) → is_power signed (constant_of d e) ≡ true → IsPower e
+  power signed e marked fits h is = by_reads (reads_signal d e) refl is
+    where
+      by_reads : (b : Bool) → reads_signal d e ≡ b → is_power signed (if b then None else Some (value (unknowns d) e)) ≡ true → IsPower e
+      by_reads true reads_one is' = absurd (false≢true is')
+      by_reads false none is' =
+          let constant = no_part e marked fits h (unread_all e none) in
+          let bits = value (unknowns d) e in
+          let exponent = power_of bits (and_parts (has_one bits) _ is').0 in
+          record {
+            constant = constant;
+            exponent = exponent.exponent;
+            is = ap number (constant_value (λ i. []) (unknowns d) e constant) ∙ exponent.is;
+          }
+
+  -- what is known of each operand: it doesn't divide by another, it is sized, and its own select no bit outside
+  record IsDivisor (node : Tree) : Type 0 where
+    divides : divides_by_other d node ≡ true → ⊥
+    fits : Fits node
+    inside : Each (Inside d) (nodes node)
+
+  divided : (operator : Join) (signed : Bool) (b : Tree) → (not (is_power signed (constant_of d b)) ≡ true → ⊥) → IsMarked b → Fits b → Each (Inside d) (nodes b) → IsPower b
+  divided operator signed b q marked fits h =
+      power signed b marked fits h (true_from_ne_false _ (λ missing. q (not_from_false _ missing)))
+
+  divides : (operator : Join) (signed : Bool) (w : ℕ) (s : Bool) (at : Spot) (a b : Tree) → IsMarked b → IsDivisor (Sized w s at (Joined operator signed a b)) → DividesBy operator b
+  divides join.Add signed w s at a b marked q = tt
+  divides join.Subtract signed w s at a b marked q = tt
+  divides join.Multiply signed w s at a b marked q = tt
+  divides join.Divide signed w s at a b marked q =
+      divided join.Divide signed b q.divides marked q.fits.2.2 (each_right (Inside d) (nodes a) (nodes b) q.inside.1)
+  divides join.Remainder signed w s at a b marked q =
+      divided join.Remainder signed b q.divides marked q.fits.2.2 (each_right (Inside d) (nodes a) (nodes b) q.inside.1)
+  divides join.And signed w s at a b marked q = tt
+  divides join.Or signed w s at a b marked q = tt
+  divides join.Xor signed w s at a b marked q = tt
+  divides join.Xnor signed w s at a b marked q = tt
+
+  divisor : (w : ℕ) (s : Bool) (at : Spot) (e : Tree) → IsForm e → IsDivisor (Sized w s at e) → DividesByPower e
+  divisor w s at (Sized w' s' at' e) marked q = absurd marked
+  divisor w s at (Joined operator signed a b) marked q =
+      divides operator signed w s at a b marked.1 q
+  divisor w s at _ marked q = tt
+
+  all_divide : (es : List Tree) → Each IsMarked es → Each (λ e. Each IsDivisor (nodes e)) es → All (EachPart DividesByPower) es
+  all_divide es marked h =
+      each_all (EachPart DividesByPower) es (each_both IsMarked (λ e. Each IsDivisor (nodes e)) (EachPart DividesByPower) (each_part DividesByPower IsDivisor (λ w s at f. tt) tt (λ a others. tt) divisor) es marked h)
+
+  -- of all operands of some expressions
+  deep_all : (es : List Tree) → Each (λ e. Each (Inside d) (nodes e)) es → Each (λ node. Each (Inside d) (nodes node)) (flat_map nodes es)
+  deep_all [] h = tt
+  deep_all (e ∷ es) h =
+      each_join (λ node. Each (Inside d) (nodes node)) (nodes e) (flat_map nodes es) (deep (Inside d) e h.0) (deep_all es h.1)
 
 pub divide_variable : (d : Flat) → DivideVariable d
-divide_variable d marked none p task there =
+divide_variable d lawful marked inside none p task there =
     let does = task.does in
-    let all = refuted_in IsDivideVariable (at_node rule.DivideVariable d) all_nodes d none p task there in
-    let nodes_divide = λ (e : Tree). Each (λ node. divides_by_other node ≡ true → ⊥) (nodes e) in
-    let of_all = each_flat (λ node. divides_by_other node ≡ true → ⊥) nodes (trees does ++ labels does) all in (
-      all_divide (trees does) (each_from IsMarked (trees does) (marked p task there).0) (each_left nodes_divide (trees does) (labels does) of_all),
-      all_divide (labels does) (each_from IsMarked (labels does) (marked p task there).1) (each_right nodes_divide (trees does) (labels does) of_all),
+    let es = trees does ++ labels does in
+    let own = refuted_in (IsDivideVariable d) (at_node rule.DivideVariable d) all_nodes d none p task there in
+    let fits = nodes_of_sized d.signals does (lawful p does (ap doing_of there)) in
+    let within = deep_all d es (each_flat (Inside d) nodes es (selects_in d inside p task there)) in
+    let both = each_both (λ node. divides_by_other d node ≡ true → ⊥) (Fits d) (λ node. (divides_by_other d node ≡ true → ⊥) × Fits d node) (λ node a b. (a, b)) (all_nodes does) own fits in
+    let all = each_both (λ node. (divides_by_other d node ≡ true → ⊥) × Fits d node) (λ node. Each (Inside d) (nodes node)) (IsDivisor d) (λ node a b. record { divides = a.0; fits = a.1; inside = b }) (all_nodes does) both within in
+    let of_all = each_flat (IsDivisor d) nodes es all in (
+      all_divide d (trees does) (each_from IsMarked (trees does) (marked p task there).0) (each_left (λ e. Each (IsDivisor d) (nodes e)) (trees does) (labels does) of_all),
+      all_divide d (labels does) (each_from IsMarked (labels does) (marked p task there).1) (each_right (λ e. Each (IsDivisor d) (nodes e)) (trees does) (labels does) of_all),
     )

@@ -11,6 +11,8 @@ pub mod Stored
 pub mod Bodies
 pub mod Targets
 -- passed on to the crates above
+pub use Rattle.chain_laws.proofs as chain_laws_proofs
 pub use Rattle.event_settling.proofs.event_laws_proofs
 pub use Rattle.event_settling.proofs as event_settling_proofs
+pub use Rattle.check_xprop.proofs.check_parts_proofs
 pub use Rattle.net_laws.proofs as net_laws_proofs

@@ -5,7 +5,7 @@ use Rattle.rtl_flat.specs.Expression.{Tree, Sized, Literal, Whole, BitAt, BitBy,
 use Rattle.net_laws.specs.Rules.{EachPart}
 use Rattle.rtl_rule.specs.Parts.{nodes}
 use Rattle.check_laws.specs.Expressions.{IsForm, IsMarked, IsRow}
-use Rattle.check_laws.proofs.Sites.{Each, each_left, each_right}
+use Rattle.rtl_rule.proofs.Lists.{Each, each_left, each_right}
 
 -- `P` of an operator follows from `Q` of the sized expression that it makes, and is plain of what has no operator
 module _ (P Q : Tree → Type 0) (sized : (w : ℕ) (s : Bool) (at : Spot) (e : Tree) → P (Sized w s at e)) (empty : P Empty) (beside : (a others : Tree) → P (Beside a others)) (from : (w : ℕ) (s : Bool) (at : Spot) (e : Tree) → IsForm e → Q (Sized w s at e) → P e) where

@@ -2,7 +2,7 @@
 use Rattle.rtl_flat.specs.Process.{Action, Set, If, Case, Block, Actions, Done, Then, Otherwise, Without, With, Branches, NoBranch, Branch}
 use Rattle.net_laws.specs.Rules.{EachIn, EachItem, EachOf, EachOther}
 use Rattle.rtl_rule.specs.Parts.{all_branches, all_in, all_of, all_other}
-use Rattle.check_laws.proofs.Sites.{Each, each_left, each_right}
+use Rattle.rtl_rule.proofs.Lists.{Each, each_left, each_right}
 
 module _ (P Q : Action → Type 0) (block : (body : Actions) → P (Block body)) (from : (a : Action) → Q a → P a) where
   mutual

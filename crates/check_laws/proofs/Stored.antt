@@ -23,7 +23,7 @@ use Rattle.rtl_flat.specs.Process.{Action, Actions, Comb, Task, Watched, action,
 use Rattle.rtl_rule.specs.Parts.{all_branches, all_in, all_of, all_other, index_of, indices, items_of, labels, own_labels, own_trees, trees}
 use Rattle.rtl_flat.specs.Flats.{Flat}
 use Rattle.check_laws.specs.Expressions.{IsForm, IsMarked, IsRow, StoredAreMarked}
-use Rattle.check_laws.proofs.Sites.{Each, each_all, each_join}
+use Rattle.rtl_rule.proofs.Lists.{Each, each_all, each_join}
 
 -- ---- expressions
 

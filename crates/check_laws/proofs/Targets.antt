@@ -22,7 +22,9 @@ use Rattle.check_laws.specs.Cases.{Does}
 use Rattle.check_laws.specs.Targets.{SelectTargets}
 use Rattle.check_laws.proofs.Bodies.{lawful_body}
 use Rattle.check_laws.proofs.Expressions.{each_some}
-use Rattle.check_laws.proofs.Sites.{Each, each_flat, each_left, each_right, refuted_in, some_found}
+use Rattle.rtl_rule.proofs.Below.{some_found}
+use Rattle.rtl_rule.proofs.Lists.{Each, each_flat, each_left, each_right}
+use Rattle.check_laws.proofs.Sites.{refuted_in}
 
 -- ---- one part of a target
 

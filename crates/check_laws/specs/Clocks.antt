@@ -6,7 +6,7 @@ use Rattle.net_model.specs.Control.{IsFromTop}
 use Rattle.net_model.specs.Cycle.{Chain}
 use Rattle.rtl_flat.specs.Flats.{Flat}
 use Rattle.check_xprop.specs.check_chains.Chains.{AreAsyncPair, chain_of}
-use Rattle.check_xprop.specs.check_clocks.Clocks.{AreDerivedClock, ComesFrom}
+use Rattle.check_clocks.specs.Clocks.{AreDerivedClock, ComesFrom}
 use Rattle.check_laws.specs.Designs.{IsEdge}
 
 -- whether it is decided which signals come from top inputs
@@ -34,4 +34,4 @@ abbrev pub AsyncPair : Flat → Type 0
 AsyncPair d =
     AreAsyncPair d [] →
     (p : ℕ) (task : Task) → slice_get d.tasks p ≡ Some task →
-    (chain : Chain) → chain_of d task.does ≡ Some chain → length chain.resets ≤ 1
+    (chain : Chain) → chain_of task.does ≡ Some chain → length chain.resets ≤ 1

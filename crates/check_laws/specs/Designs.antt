@@ -12,7 +12,7 @@ use Rattle.rtl_flat.specs.Flats.{Flat, widths}
 use Rattle.net_laws.specs.event_laws.Steady.{AreLawful}
 use Rattle.net_model.specs.Solution.{IsLasting, IsRegisterBit}
 use Rattle.check_sense.specs.Sense.{AreMixedEdges, AreNeverWakes, AreSenseMissing}
-use Rattle.check_xprop.specs.check_assign.Assigned.{AreBlockingState, AreCombLoop, AreLatchInferred, AreMixedAssign, AreNonblockingComb, AreSeveralDrivers, AreUndriven}
+use Rattle.check_assign.specs.Assigned.{AreBlockingState, AreCombLoop, AreLatchInferred, AreMixedAssign, AreNonblockingComb, AreSeveralDrivers, AreUndriven}
 
 -- a process that waits for no edge
 abbrev pub IsComb : Flat → ℕ → Option (List Watched) → Actions → Type 0

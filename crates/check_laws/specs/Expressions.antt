@@ -13,7 +13,7 @@ use Rattle.net_laws.specs.Tame.{AreExclusive, AreTame, IsFirm}
 use Rattle.rtl_rule.specs.Parts.{labels, trees, valued_trees}
 use Rattle.rtl_flat.specs.Flats.{Flat}
 use Rattle.check_case.specs.Cases.{AreFullCase, AreParallelCase}
-use Rattle.check_xprop.specs.check_assign.Assigned.{AreTristate}
+use Rattle.check_assign.specs.Assigned.{AreTristate}
 use Rattle.check_xprop.specs.Unknowns.{AreDivideVariable, AreSelectRange, AreUnknownLiteral}
 use Rattle.check_laws.specs.Cases.{IsBodyOf}
 
@@ -77,10 +77,10 @@ SelectRange d =
     (p : ℕ) (task : Task) → slice_get d.tasks p ≡ Some task →
     All (EachPart (SelectsInside d)) (trees task.does) × All (EachPart (SelectsInside d)) (labels task.does)
 
--- X3: each divisor is a power of two
+-- X3: where no bit-select is outside, either, each divisor is a power of two
 abbrev pub DivideVariable : Flat → Type 0
 DivideVariable d =
-    AreMarked d → AreDivideVariable d [] →
+    AreLawful d → AreMarked d → AreSelectRange d [] → AreDivideVariable d [] →
     (p : ℕ) (task : Task) → slice_get d.tasks p ≡ Some task →
     All (EachPart DividesByPower) (trees task.does) × All (EachPart DividesByPower) (labels task.does)
 

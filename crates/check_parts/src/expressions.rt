@@ -4,12 +4,12 @@ ghost use Rattle.std.specs.Prelude.{ℕ, ◌≡◌, ◌++◌, map, not, IfOk, On
 ghost use Rattle.std.specs.List.{filter, flat_map};
 ghost use Rattle.rtl_flat.specs.Expression.{beside, form, read, tree};
 ghost use Rattle.rtl_flat.specs.Flows.{labels_of};
-ghost use Rattle.rtl_flat.specs.Process.{action, doing, piece, selection, watched};
-ghost use Rattle.rtl_rule.specs.Parts.{index_of, indices, is_one_literal, labels, nodes, own_labels, own_trees, trees, valued_trees};
+ghost use Rattle.rtl_flat.specs.Process.{action, body_of, doing, piece, selection, watched};
+ghost use Rattle.rtl_rule.specs.Parts.{body_trees, index_of, indices, is_one_literal, labels, nodes, own_labels, own_trees, read_trees, trees, valued_trees};
 ghost use Rattle.rtl_scan.specs.Bodies.{branches_of};
 ghost use Rattle.check_parts.specs.Kept.{actions, expressions};
 
-use crate::statements::{USUAL, items, statements};
+use crate::statements::{USUAL, items, statements, statements_of};
 use rtl_flat::act::{Act, CaseItem, Does, EventItem, TargetPart};
 use rtl_flat::expr::{Index, Node, Select, SizedExpr};
 use rtl_tree::memory::Memory;
@@ -38,14 +38,17 @@ pub fn trees<'d>(alloc: Global, does: &'d Does) -> Result<Vec<&'d SizedExpr>, Me
     ensures { IfOk result (λ all. map (λ e. tree e.now) all.items ≡ trees (doing does.now)) }
 {
     let mut found = Vec::new(alloc);
-    if let Does::Assign { target, value } = does {
-        found.push(value)?;
-        push_indices(&target.parts, &mut found)?;
-        return Ok(found);
-    }
-    let all = statements(alloc, does)?;
     push_watched(items(does), &mut found)?;
-    push_all_own(&all, &mut found)?;
+    push_read_trees(alloc, does, &mut found)?;
+    Ok(found)
+}
+
+/// The expressions of a process outside labels and its list.
+pub fn read_trees<'d>(alloc: Global, does: &'d Does) -> Result<Vec<&'d SizedExpr>, Memory>
+    ensures { IfOk result (λ all. map (λ e. tree e.now) all.items ≡ read_trees (doing does.now)) }
+{
+    let mut found = Vec::new(alloc);
+    push_read_trees(alloc, does, &mut found)?;
     Ok(found)
 }
 
@@ -93,6 +96,36 @@ pub fn nodes<'d>(alloc: Global, all: &[&'d SizedExpr]) -> Result<Vec<&'d SizedEx
 }
 
 // ---- what statements hold
+
+fn push_read_trees<'d>(
+    alloc: Global,
+    does: &'d Does,
+    found: &mut Vec<&'d SizedExpr>,
+) -> Result<(), Memory>
+    ensures { let own = read_trees (doing does.now) in
+        OnOk result (expressions found.new.items ≡ expressions found.old.items ++ own) }
+{
+    match does {
+        Does::Assign { target, value } => {
+            found.push(value)?;
+            push_indices(&target.parts, found)
+        }
+        Does::Comb { list: _, body } => push_body_trees(alloc, body, found),
+        Does::Edge { events: _, body } => push_body_trees(alloc, body, found),
+    }
+}
+
+fn push_body_trees<'d>(
+    alloc: Global,
+    body: &'d [Act],
+    found: &mut Vec<&'d SizedExpr>,
+) -> Result<(), Memory>
+    ensures { let own = body_trees (body_of (map action body.now)) in
+        OnOk result (expressions found.new.items ≡ expressions found.old.items ++ own) }
+{
+    let all = statements_of(alloc, body)?;
+    push_all_own(&all, found)
+}
 
 fn push_all_own<'d>(all: &[&'d Act], found: &mut Vec<&'d SizedExpr>) -> Result<(), Memory>
     ensures { let own = flat_map own_trees (actions all.now) in

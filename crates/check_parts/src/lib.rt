@@ -3,6 +3,7 @@
 
 pub mod expressions;
 pub mod places;
+pub mod reads;
 pub mod statements;
 
 // Passed on to the crates above.

@@ -1,16 +1,10 @@
 //! Places in the text, and the first of several.
 
-ghost use Rattle.std.specs.Prelude.{◌≡◌, ◌&&◌, ◌||◌, ◌==◌, nat_lt, if◌then◌else◌};
+ghost use Rattle.std.specs.Prelude.{◌≡◌, if◌then◌else◌};
 ghost use Rattle.rtl_rule.specs.Parts.{is_earlier, least_place};
 
+use rtl_rule::spots::is_earlier;
 use rtl_tree::text::Spot;
-
-/// Whether a place comes before another.
-pub fn is_earlier(one: Spot, other: Spot) -> bool
-    ensures { result ≡ is_earlier one other }
-{
-    one.file < other.file || (one.file == other.file && one.at < other.at)
-}
 
 /// The earlier of two places.
 fn earlier(one: Spot, other: Spot) -> Spot

@@ -43,7 +43,7 @@ gate =
 
 abbrev listed_a : Flat
 listed_a =
-    record { signals = ports; tasks = task_of gate ∷ []; delays = []; dropped = [] }
+    record { signals = ports; tasks = task_of gate ∷ [] }
 
 b_is_missing : misses listed_a gate 1 ≡ true
 b_is_missing = refl
@@ -63,7 +63,7 @@ constant = part.Comb None (set 2 (sized.Sized 1 false (spot_at 0) (sized.Literal
 
 abbrev nothing_listed : Flat
 nothing_listed =
-    record { signals = ports; tasks = task_of constant ∷ []; delays = []; dropped = [] }
+    record { signals = ports; tasks = task_of constant ∷ [] }
 
 nothing_wakes : never_wakes nothing_listed 0 constant ≡ true
 nothing_wakes = refl

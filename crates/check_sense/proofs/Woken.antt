@@ -12,6 +12,7 @@ use Rattle.rtl_flat.specs.PathSets.{listed}
 use Rattle.rtl_flat.specs.Paths.{BitSet}
 use Rattle.rtl_flat.specs.Process.{Doing, Assign, Comb, Edge', Task}
 use Rattle.rtl_rule.specs.declared.finding.Finding.{Finding}
+use Rattle.event_model.specs.Queue.{is_input_kind}
 use Rattle.rtl_rule.specs.Parts.{has_some, within, written}
 use Rattle.rtl_flat.specs.Flats.{Flat, widths}
 use Rattle.check_found.specs.rtl_scan.declared.bits.Row.{Row}
@@ -21,9 +22,9 @@ use Rattle.check_found.specs.Gathered.{Gets, task_sites}
 use Rattle.check_found.specs.Masks.{has_in, mask_in}
 use Rattle.check_found.proofs.Gathering.{gets_nothing, gets_one, take_next}
 use Rattle.check_found.proofs.Inside.{listed_inside}
-use Rattle.check_found.proofs.Signals.{some_at, some_found}
+use Rattle.rtl_rule.proofs.Below.{some_at, some_found}
 use Rattle.check_sense.specs.declared.waking.Writers.{Writers}
-use Rattle.check_sense.specs.Sense.{IsNeverWakes, another_writes, can_wake, is_top, never_wakes, never_wakes_at}
+use Rattle.check_sense.specs.Sense.{IsNeverWakes, another_writes, can_wake, never_wakes, never_wakes_at}
 use Rattle.check_sense.specs.Telling.{AreWriters, GetsWriter, has_level_list, itself, row_wakes, some_write, top_at, two_write, waking_of}
 
 -- a signal with a bit is there
@@ -162,14 +163,14 @@ record Woken (L B : BitSet) (n : ℕ) (signals : List Signal) : Type 0 where
 
 module _ (ws : ℕ → ℕ) (L B : BitSet) where
   abbrev wakes_at : ℕ × Signal → Bool
-  wakes_at one = has_some ws (λ s k. L s k && (is_top one.1.kind || B s k)) one.0
+  wakes_at one = has_some ws (λ s k. L s k && (is_input_kind one.1.kind || B s k)) one.0
 
   woken : (n : ℕ) (signals : List Signal) → list_any wakes_at (enumerate_from n signals) ≡ true → Woken L B n signals
   woken n [] h = absurd (false≢true h)
   woken n (x ∷ signals) h =
       elim (or_cases (wakes_at (n, x)) (list_any wakes_at (enumerate_from (n + 1) signals)) h) [
         | inl here ↦
-            let found = some_found (ws n) (λ k. L n k && (is_top x.kind || B n k)) here in
+            let found = some_found (ws n) (λ k. L n k && (is_input_kind x.kind || B n k)) here in
             record { s = n; k = found.number; i = 0; place = omega arith; is = found.is }
         | inr later ↦
             let rest = woken (n + 1) signals later in
@@ -181,7 +182,7 @@ module _ (ws : ℕ → ℕ) (L B : BitSet) where
   wakes n (x ∷ signals) s k zero place inside below is =
       let here : s ≡ n = omega (arith, place) in
       or_left (wakes_at (n, x)) (list_any wakes_at (enumerate_from (n + 1) signals))
-      (some_at (ws n) (λ j. L n j && (is_top x.kind || B n j)) k (subst (λ m. k < ws m) here below) (subst (λ m. (L m k && (is_top x.kind || B m k)) ≡ true) here is))
+      (some_at (ws n) (λ j. L n j && (is_input_kind x.kind || B n j)) k (subst (λ m. k < ws m) here below) (subst (λ m. (L m k && (is_input_kind x.kind || B m k)) ≡ true) here is))
   wakes n (x ∷ signals) s k (suc i) place inside below is =
       or_right (wakes_at (n, x)) (list_any wakes_at (enumerate_from (n + 1) signals))
       (wakes (n + 1) signals s k i (omega (arith, place)) (omega (arith, inside)) below is)
@@ -284,9 +285,9 @@ module _ (d : Flat) (p : ℕ) (task : Task) where
 
 -- ---- signals
 
-pub top_is : (signals : List Signal) (i : ℕ) (x : Signal) → i < length signals → x ≡ get_or signals i x → is_top x.kind ≡ top_at signals i
+pub top_is : (signals : List Signal) (i : ℕ) (x : Signal) → i < length signals → x ≡ get_or signals i x → is_input_kind x.kind ≡ top_at signals i
 top_is [] i x inside is = absurd (omega (arith, inside))
-top_is (y ∷ signals) zero x inside is = ap (λ (z : Signal). is_top z.kind) is
+top_is (y ∷ signals) zero x inside is = ap (λ (z : Signal). is_input_kind z.kind) is
 top_is (y ∷ signals) (suc i) x inside is = top_is signals i x (omega (arith, inside)) is
 
 pub top_past : (signals : List Signal) (i : ℕ) → length signals ≤ i → top_at signals i ≡ false

@@ -3,14 +3,13 @@
 use Rattle.std.specs.Prelude.{ℕ, ◌≡◌, ◌==◌, Bool, true, false, not, ◌&&◌, ◌||◌, List, ◌++◌, Option, Some, None}
 use Rattle.std.specs.List.{enumerate_from, find, list_any}
 use Rattle.rtl_flat.specs.declared.expr.SigId.{SigId}
-use Rattle.rtl_flat.specs.declared.signal.Kind.{Kind}
-use Rattle.rtl_flat.specs.declared.signal.Kind.TheVariants.{TopInput, Net, Var}
 use Rattle.rtl_flat.specs.declared.signal.Signal.{Signal}
 use Rattle.rtl_flat.specs.Flows.{body_flow}
 use Rattle.rtl_flat.specs.PathSets.{items_list, listed}
 use Rattle.rtl_flat.specs.Paths.{reads_outside}
 use Rattle.rtl_flat.specs.Process.{Watched, Doing, Comb, Edge', Task}
 use Rattle.rtl_flat.specs.WellFormed.{has_edge}
+use Rattle.event_model.specs.Queue.{is_input_kind}
 use Rattle.rtl_rule.specs.declared.finding.Finding.{Finding}
 use Rattle.rtl_rule.specs.declared.rule.Rule.TheVariants.{SenseMissing, NeverWakes, MixedEdges}
 use Rattle.rtl_rule.specs.Order.{ranked}
@@ -37,11 +36,6 @@ AreSenseMissing d = AreFindings (IsSenseMissing d) sense_missing_at (signal_site
 
 -- ---- S2
 
-abbrev pub is_top : Kind → Bool
-is_top TopInput = true
-is_top Net = false
-is_top Var = false
-
 -- whether a process other than that with a number may write a bit
 abbrev pub another_writes : Flat → ℕ → ℕ → ℕ → Bool
 another_writes d p s k =
@@ -50,7 +44,7 @@ another_writes d p s k =
 -- whether a body with a level list lists a bit of a top input, or one that another process may write
 abbrev pub can_wake : Flat → ℕ → Doing → Bool
 can_wake d p does =
-    list_any (λ (one : ℕ × Signal). has_some (widths d) (λ s k. listed (widths d) does s k && (is_top one.1.kind || another_writes d p s k)) one.0) (enumerate_from 0 d.signals)
+    list_any (λ (one : ℕ × Signal). has_some (widths d) (λ s k. listed (widths d) does s k && (is_input_kind one.1.kind || another_writes d p s k)) one.0) (enumerate_from 0 d.signals)
 
 abbrev pub never_wakes : Flat → ℕ → Doing → Bool
 never_wakes d p (Comb list body) = not (can_wake d p (Comb list body))

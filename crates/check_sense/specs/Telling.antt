@@ -7,6 +7,7 @@ use Rattle.rtl_flat.specs.declared.signal.Signal.{Signal}
 use Rattle.rtl_flat.specs.Paths.{BitSet}
 use Rattle.rtl_flat.specs.Process.{Watched, Doing, Comb, Task}
 use Rattle.rtl_flat.specs.WellFormed.{has_edge}
+use Rattle.event_model.specs.Queue.{is_input_kind}
 use Rattle.rtl_rule.specs.declared.finding.Finding.{Finding}
 use Rattle.rtl_rule.specs.Parts.{within, written}
 use Rattle.rtl_flat.specs.Flats.{Flat}
@@ -14,7 +15,7 @@ use Rattle.check_found.specs.rtl_scan.declared.bits.Row.{Row}
 use Rattle.check_found.specs.rtl_scan.Sets.{mask_of}
 use Rattle.check_found.specs.Masks.{has_in, mask_in}
 use Rattle.check_sense.specs.declared.waking.Writers.{Writers}
-use Rattle.check_sense.specs.Sense.{is_top, sense_missing_at}
+use Rattle.check_sense.specs.Sense.{sense_missing_at}
 
 -- a process as its only site
 abbrev pub itself : Doing → List Doing
@@ -49,7 +50,7 @@ has_level_list _ = false
 -- whether the signal with a number is an input of the top module
 abbrev pub top_at : List Signal → ℕ → Bool
 top_at [] i = false
-top_at (signal ∷ signals) zero = is_top signal.kind
+top_at (signal ∷ signals) zero = is_input_kind signal.kind
 top_at (signal ∷ signals) (suc i) = top_at signals i
 
 -- the bits of a row that are of a top input, or may be written by a process beside one that may write its own

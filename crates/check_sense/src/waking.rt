@@ -7,7 +7,8 @@ ghost use Rattle.rtl_flat.specs.Flats.{flat};
 ghost use Rattle.check_found.specs.rtl_scan.Sets.{has_rows};
 ghost use Rattle.check_found.specs.Gathered.{Gets, task_sites};
 ghost use Rattle.check_found.specs.Scanned.{AreScans};
-ghost use Rattle.check_sense.specs.Sense.{AreNeverWakes, IsNeverWakes, can_wake, is_top, never_wakes_at};
+ghost use Rattle.event_model.specs.Queue.{is_input_kind};
+ghost use Rattle.check_sense.specs.Sense.{AreNeverWakes, IsNeverWakes, can_wake, never_wakes_at};
 ghost use Rattle.check_sense.specs.Telling.{AreWriters, GetsWriter, has_level_list, itself, row_wakes, top_at};
 
 use check_found::masks::SignalMasks;
@@ -79,7 +80,7 @@ fn is_top(signals: &[Signal], signal: SigId) -> bool
 }
 
 fn is_input(signal: &Signal) -> bool
-    ensures { result ≡ is_top signal.now.kind }
+    ensures { result ≡ is_input_kind signal.now.kind }
 {
     matches!(signal.kind, Kind::TopInput)
 }

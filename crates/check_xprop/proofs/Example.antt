@@ -1,5 +1,6 @@
 -- The definitions at work on small designs.
 use Rattle.std.proofs.Common.{◌≡◌, refl, ℕ, false, List, [], ◌∷◌, map, length}
+use Rattle.std.specs.Prelude.{pos}
 use Rattle.rtl_bits.specs.declared.Bit.{Bit}
 use Rattle.rtl_bits.specs.declared.Bit.TheVariants.{Zero, One, X}
 use Rattle.rtl_flat.specs.declared.expr.Compare.TheVariants as compare
@@ -13,7 +14,7 @@ use Rattle.rtl_flat.specs.Process.{Piece, Watched, Actions, Doing, Task}
 use Rattle.rtl_flat.specs.Process as part
 use Rattle.rtl_rule.specs.Parts.{At}
 use Rattle.rtl_flat.specs.Flats.{Flat}
-use Rattle.check_xprop.specs.Unknowns.{IsUnknownLiteral, IsDivideVariable, IsCaseEquality, Computed, Pick, picks}
+use Rattle.check_xprop.specs.Unknowns.{IsUnknownLiteral, IsDivideVariable, IsCaseEquality, Computed, Pick, divides_by_other, picks}
 
 abbrev spot_at : ℕ → Spot
 spot_at at = record { file = 0; at = at }
@@ -33,7 +34,7 @@ task_of does = record { does = does; instance = 0; spot = spot_at 38 }
 
 abbrev parts : List Signal → List Doing → Flat
 parts signals does =
-    record { signals = signals; tasks = map task_of does; delays = []; dropped = [] }
+    record { signals = signals; tasks = map task_of does }
 
 abbrev literal : List Bit → sized.Tree
 literal bits = sized.Sized (length bits) false (spot_at 0) (sized.Literal bits)
@@ -61,12 +62,19 @@ one_pick = refl
 x_literal : IsUnknownLiteral (at (part.Assign (piece 3 0) (literal (X ∷ []))) (picked 1))
 x_literal = refl
 
+abbrev stored : Flat
+stored = parts ports (picked 1 ∷ [])
+
 -- `y / w` and `y / 8'd6`
-by_signal : IsDivideVariable (at (sized.Sized 1 false (spot_at 0) (sized.Joined join.Divide false (read 3) (read 3))) (picked 1))
+by_signal : IsDivideVariable stored (at (sized.Sized 1 false (spot_at 0) (sized.Joined join.Divide false (read 3) (read 3))) (picked 1))
 by_signal = refl
 
-by_six : IsDivideVariable (at (sized.Sized 4 false (spot_at 0) (sized.Joined join.Remainder false (literal (Zero ∷ One ∷ One ∷ Zero ∷ [])) (literal (Zero ∷ One ∷ One ∷ Zero ∷ [])))) (picked 1))
+by_six : IsDivideVariable stored (at (sized.Sized 4 false (spot_at 0) (sized.Joined join.Remainder false (literal (Zero ∷ One ∷ One ∷ Zero ∷ [])) (literal (Zero ∷ One ∷ One ∷ Zero ∷ [])))) (picked 1))
 by_six = refl
+
+-- `y / (w[9] === 1'bx)`: the divisor reads no bit, and is 1
+by_no_bit : divides_by_other stored (sized.Sized 1 false (spot_at 0) (sized.Joined join.Divide false (read 3) (sized.Sized 1 false (spot_at 0) (sized.Compared compare.CaseEqual false (sized.Sized 1 false (spot_at 0) (sized.BitAt 2 0 (pos 9))) (literal (X ∷ [])))))) ≡ false
+by_no_bit = refl
 
 equality : IsCaseEquality (at (sized.Sized 1 false (spot_at 0) (sized.Compared compare.CaseEqual false (read 3) (read 3))) (picked 1))
 equality = refl

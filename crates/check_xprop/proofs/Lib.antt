@@ -6,6 +6,8 @@ mod Nodes
 mod Picks
 mod Processes
 mod Regions
-mod Sized
+pub mod Sized
 mod Spreading
 mod Worklist
+-- passed on to the crates above
+pub use Rattle.check_chains.proofs.check_parts_proofs

@@ -16,7 +16,7 @@ use Rattle.check_xprop.proofs.Processes.{literals_all, nodes_all}
 pub record HasBelow (d : Flat) (n : ℕ) (found : NodeFindings) : Type 0 where
   pub literals : found.literals.items ≡ below (literal_found d) 0 d.tasks n
   pub ranges : found.ranges.items ≡ below (λ p one. misses_found (widths d) one.instance (picks one.does)) 0 d.tasks n
-  pub divisions : found.divisions.items ≡ below (λ p one. nodes_found DivideVariable divides_by_other d one) 0 d.tasks n
+  pub divisions : found.divisions.items ≡ below (λ p one. nodes_found DivideVariable (divides_by_other d) d one) 0 d.tasks n
   pub equalities : found.equalities.items ≡ below (λ p one. nodes_found CaseEquality is_case_equality d one) 0 d.tasks n
 
 pub below_also : (d : Flat) (n : ℕ) (task : Task) → slice_get d.tasks n ≡ Some task → (old new : NodeFindings) → HasBelow d n old → AddsProcess d n task old new → HasBelow d (n + 1) new
@@ -24,7 +24,7 @@ below_also d n task there old new h more =
     record {
       literals = below_more (literal_found d) d.tasks n task old.literals.items new.literals.items there h.literals more.literals;
       ranges = below_more (λ p one. misses_found (widths d) one.instance (picks one.does)) d.tasks n task old.ranges.items new.ranges.items there h.ranges more.ranges;
-      divisions = below_more (λ p one. nodes_found DivideVariable divides_by_other d one) d.tasks n task old.divisions.items new.divisions.items there h.divisions more.divisions;
+      divisions = below_more (λ p one. nodes_found DivideVariable (divides_by_other d) d one) d.tasks n task old.divisions.items new.divisions.items there h.divisions more.divisions;
       equalities = below_more (λ p one. nodes_found CaseEquality is_case_equality d one) d.tasks n task old.equalities.items new.equalities.items there h.equalities more.equalities;
     }
 
@@ -33,6 +33,6 @@ below_end d n all found h =
     record {
       literals = literals_all d n all found.literals.items h.literals;
       ranges = misses_all d n all found.ranges.items h.ranges;
-      divisions = nodes_all DivideVariable divides_by_other d n all found.divisions.items h.divisions;
+      divisions = nodes_all DivideVariable (divides_by_other d) d n all found.divisions.items h.divisions;
       equalities = nodes_all CaseEquality is_case_equality d n all found.equalities.items h.equalities;
     }

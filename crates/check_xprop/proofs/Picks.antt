@@ -16,11 +16,12 @@ use Rattle.rtl_flat.specs.Expression.{Sized, read}
 use Rattle.rtl_flat.specs.Flows.{bit_at, is_place, may_select}
 use Rattle.rtl_flat.specs.Process.{Selection, BitAt, Task, selection}
 use Rattle.rtl_rule.specs.declared.finding.Finding.{Finding}
+use Rattle.rtl_rule.proofs.Below.{same_by, some_at, some_found}
 use Rattle.rtl_rule.specs.Parts.{At, some_below, within}
 use Rattle.rtl_flat.specs.Flats.{Flat, widths}
-use Rattle.check_assign.specs.rtl_scan.declared.bits.Row.{Row}
-use Rattle.check_assign.specs.rtl_scan.Sets.{has_row}
-use Rattle.check_assign.proofs.rtl_scan_proofs.Users.{some_bit_is}
+use Rattle.check_chains.specs.rtl_scan.declared.bits.Row.{Row}
+use Rattle.check_chains.specs.rtl_scan.Sets.{has_row}
+use Rattle.check_chains.proofs.rtl_scan_proofs.Users.{some_bit_is}
 use Rattle.check_xprop.specs.Lists.{below, miss_at, misses, misses_found}
 use Rattle.check_xprop.specs.Unknowns.{AreSelectRange, IsSelectRange, Pick, may_miss, pick_in, pick_of, picks, select_range_at}
 use Rattle.check_xprop.proofs.Lists.{found_of}
@@ -35,27 +36,6 @@ pick_is w s spot i (select.Part low width) = refl
 
 -- ---- numbers below a limit
 
-pub some_at : (n : ℕ) (test : ℕ → Bool) (k : ℕ) → k < n → test k ≡ true → some_below n test ≡ true
-some_at zero test k below is = absurd (omega (arith, below))
-some_at (suc n) test k below is =
-    elim (cases_eq k n) [
-      | inl here ↦ or_right (some_below n test) (test n) (subst (λ j. test j ≡ true) here is)
-      | inr other ↦ or_left (some_below n test) (test n) (some_at n test k (omega (arith, below, other)) is)
-    ]
-
-pub some_found : (n : ℕ) (test : ℕ → Bool) → some_below n test ≡ true → (k : ℕ) × (k < n) × (test k ≡ true)
-some_found zero test h = absurd (false≢true h)
-some_found (suc n) test h =
-    elim (or_cases (some_below n test) (test n) h) [
-      | inl before ↦ let (k, below, is) = some_found n test before in (k, omega (arith, below), is)
-      | inr here ↦ (n, omega arith, here)
-    ]
-
-pub same_by : (a b : Bool) → (a ≡ true → b ≡ true) → (b ≡ true → a ≡ true) → a ≡ b
-same_by true b f g = sym (f refl)
-same_by false true f g = g refl
-same_by false false f g = refl
-
 -- a fixed index is outside where it selects no bit
 pub fixed_misses : (ws : ℕ → ℕ) (i low : ℕ) (index : _) (row : Row) → ((s k : ℕ) → has_row row s k ≡ bit_at ws i low index s k) → (row.mask == 0) ≡ not (some_below (ws i) (is_place low index))
 fixed_misses ws i low index row are = by_none (row.mask == 0) (some_below (ws i) (is_place low index)) refl refl
@@ -64,7 +44,10 @@ fixed_misses ws i low index row are = by_none (row.mask == 0) (some_below (ws i)
     by_none true false e h = refl
     by_none false true e h = refl
     by_none true true e h =
-        let (k, below, is) = some_found (ws i) (is_place low index) h in
+        let found = some_found (ws i) (is_place low index) h in
+        let k = found.number in
+        let below = found.below in
+        let is = found.is in
         let bit : has_row row i k ≡ true
         = are i k ∙ and_from (i == i) (nat_lt k (ws i) && is_place low index k) (eq-eqb i i refl) (and_from (nat_lt k (ws i)) (is_place low index k) (lt-ltb k (ws i) below) is) in
         let one = (and_parts (i == row.signal.0) (is_one_at row.mask k) bit).1 in

@@ -12,7 +12,7 @@ use Rattle.rtl_rule.specs.declared.rule.Rule.TheVariants as rule
 use Rattle.rtl_rule.specs.Parts.{At, first_of, has_literal, is_literal_with, is_one_literal, is_x, labels, least_place, literal_places, nodes, place_of, trees, valued_trees, within, written}
 use Rattle.rtl_flat.specs.Flats.{Flat}
 use Rattle.rtl_rule.specs.Sites.{AreFindings}
-use Rattle.check_assign.proofs.rtl_scan_proofs.Processes.{task_at}
+use Rattle.check_chains.proofs.rtl_scan_proofs.Processes.{task_at}
 use Rattle.check_xprop.specs.Lists.{at_spot, at_spots, below, literal_found, nodes_found, tree_spots}
 use Rattle.check_xprop.specs.Unknowns.{AreUnknownLiteral, IsUnknownLiteral, all_nodes, at_node, node_sites, unknown_literal_at}
 use Rattle.check_xprop.proofs.Lists.{found_of, is_empty, none_without, some_spots, spots_if, spots_picked}

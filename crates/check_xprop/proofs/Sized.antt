@@ -1,44 +1,29 @@
--- The expressions of a lawful design are sized, and those that read no signal by themselves.
+-- The expressions of a lawful design are sized.
 use Rattle.std.proofs.Common.{ℕ, zero, suc, ◌≡◌, ◌∙◌, ◌+◌, ◌<◌, ◌≤◌, Bool, false, List, [], ◌∷◌, ◌++◌, map, length, get_or, Option, None, Some, refl, sym, ap, subst, arith}
-use Rattle.std.specs.List.{All, flat_map, list_any, slice_get}
-use Rattle.std.proofs.lemmas.Bool.{false≢true, or_parts}
+use Rattle.std.specs.List.{All, flat_map, slice_get}
 use Rattle.std.proofs.lemmas.List.Elements.{All-head, All-tail}
-use Rattle.rtl_tree.specs.declared.text.Spot.{Spot}
-use Rattle.rtl_flat.specs.declared.expr.Index.TheVariants as index
-use Rattle.rtl_flat.specs.declared.expr.Node.{Node, Row_of-SizedExpr, end_of-SizedExpr, more_of-SizedExpr}
-use Rattle.rtl_flat.specs.declared.expr.Node.TheVariants as node
-use Rattle.rtl_flat.specs.declared.expr.Select.TheVariants as select
-use Rattle.rtl_flat.specs.declared.expr.SizedExpr.{SizedExpr}
 use Rattle.rtl_flat.specs.declared.signal.Signal.{Signal}
-use Rattle.rtl_flat.specs.Expression.{Tree, Sized, Literal, Whole, BitAt, BitBy, Part, Turned, Joined, Compared, Linked, Folded, Shifted, Chosen, Empty, Beside, Repeated, Recast, form, row, tree}
+use Rattle.rtl_flat.specs.Expression.{Tree, Sized, Literal, Whole, BitAt, BitBy, Part, Turned, Joined, Compared, Linked, Folded, Shifted, Chosen, Empty, Beside, Repeated, Recast}
 use Rattle.rtl_flat.specs.Flows.{labels_of}
 use Rattle.rtl_flat.specs.Process.{Selection, Piece, Watched, Action, Set, If, Case, Block, Actions, Done, Then, Otherwise, Without, With, Branches, NoBranch, Branch, Doing, Assign, Comb, Edge', Task}
 use Rattle.rtl_flat.specs.Process as part
 use Rattle.rtl_flat.specs.Signs.{IsExpression, width_in}
-use Rattle.rtl_flat.specs.Sizes.{FitsWidth, IsSized, width_of}
+use Rattle.rtl_flat.specs.Sizes.{IsSized}
 use Rattle.rtl_flat.specs.WellFormed.{AreBranches, IsAction, IsBody, IsList, IsOtherwise, IsProcess, IsSelection, IsWatched}
-use Rattle.rtl_rule.specs.Parts.{all_branches, all_in, all_of, all_other, index_of, indices, is_some_name, items_of, labels, named, nodes, own_labels, own_trees, reads_signal, trees}
+use Rattle.rtl_rule.proofs.Lists.{Each, each_join}
+use Rattle.rtl_rule.specs.Parts.{all_branches, all_in, all_of, all_other, index_of, indices, items_of, labels, nodes, own_labels, own_trees, trees}
 use Rattle.check_xprop.specs.Unknowns.{all_nodes}
-use Rattle.check_xprop.proofs.Lists.{any_left, any_right}
 
 -- ---- each element of a list
 
-abbrev pub Each : {A : Type 0} → (A → Type 0) → List A → Type 0
-Each P [] = Unit {0}
-Each P (x ∷ xs) = P x × Each P xs
+flat_each : {A B : Type 0} (P : B → Type 0) (f : A → List B) (xs : List A) → Each (λ x. Each P (f x)) xs → Each P (flat_map f xs)
+flat_each P f [] h = tt
+flat_each P f (x ∷ xs) h = each_join P (f x) (flat_map f xs) h.0 (flat_each P f xs h.1)
 
-each_join : {A : Type 0} (P : A → Type 0) (xs ys : List A) → Each P xs → Each P ys → Each P (xs ++ ys)
-each_join P [] ys h k = k
-each_join P (x ∷ xs) ys h k = (h.0, each_join P xs ys h.1 k)
-
-each_flat : {A B : Type 0} (P : B → Type 0) (f : A → List B) (xs : List A) → Each (λ x. Each P (f x)) xs → Each P (flat_map f xs)
-each_flat P f [] h = tt
-each_flat P f (x ∷ xs) h = each_join P (f x) (flat_map f xs) h.0 (each_flat P f xs h.1)
-
-each_from : {A : Type 0} (P Q : A → Type 0) → ((x : A) → P x → Q x) → (xs : List A) → All P xs → Each Q xs
-each_from P Q from [] h = tt
-each_from P Q from (x ∷ xs) h =
-    (from x (All-head P x xs h), each_from P Q from xs (All-tail P x xs h))
+each_given : {A : Type 0} (P Q : A → Type 0) → ((x : A) → P x → Q x) → (xs : List A) → All P xs → Each Q xs
+each_given P Q from [] h = tt
+each_given P Q from (x ∷ xs) h =
+    (from x (All-head P x xs h), each_given P Q from xs (All-tail P x xs h))
 
 pub each_at : {A B : Type 0} (P : B → Type 0) (view : A → B) (xs : List A) (all : List B) → map view xs ≡ all → Each P all → (i : ℕ) (x : A) → i < length xs → x ≡ get_or xs i x → P (view x)
 each_at P view xs all is h = at xs (subst (Each P) (sym is) h)
@@ -93,18 +78,18 @@ module _ (signals : List Signal) where
 
   target_sized : (target : List Piece) → All (λ (piece : Piece). IsSelection signals piece.signal piece.selection) target → Each IsFit (indices target)
   target_sized target h =
-      each_flat IsFit (λ (piece : Piece). index_of piece.selection) target
-      (each_from (λ (piece : Piece). IsSelection signals piece.signal piece.selection) (λ (piece : Piece). Each IsFit (index_of piece.selection)) (λ piece. index_sized piece.signal piece.selection) target h)
+      flat_each IsFit (λ (piece : Piece). index_of piece.selection) target
+      (each_given (λ (piece : Piece). IsSelection signals piece.signal piece.selection) (λ (piece : Piece). Each IsFit (index_of piece.selection)) (λ piece. index_sized piece.signal piece.selection) target h)
 
   items_sized : (items : List Watched) → All (IsWatched signals) items → Each IsFit (flat_map (λ (item : Watched). index_of item.selection) items)
   items_sized items h =
-      each_flat IsFit (λ (item : Watched). index_of item.selection) items
-      (each_from (IsWatched signals) (λ (item : Watched). Each IsFit (index_of item.selection)) (λ item k. index_sized item.signal item.selection k.inside) items h)
+      flat_each IsFit (λ (item : Watched). index_of item.selection) items
+      (each_given (IsWatched signals) (λ (item : Watched). Each IsFit (index_of item.selection)) (λ item k. index_sized item.signal item.selection k.inside) items h)
 
   labels_sized : (selector : Tree) (branches : Branches) → AreBranches signals selector branches → Each IsFit (labels_of branches)
   labels_sized selector NoBranch h = tt
   labels_sized selector (Branch labels body others) h =
-      each_join IsFit labels (labels_of others) (each_from (IsExpression signals) IsFit (λ e k. k.widths) labels h.0) (labels_sized selector others h.4)
+      each_join IsFit labels (labels_of others) (each_given (IsExpression signals) IsFit (λ e k. k.widths) labels h.0) (labels_sized selector others h.4)
 
   abbrev IsOwn : Action → Type 0
   IsOwn one = Each IsFit (own_trees one) × Each IsFit (own_labels one)
@@ -174,89 +159,5 @@ module _ (signals : List Signal) where
   all_sized tasks h p one there =
       each_nodes (trees one.does ++ labels one.does) (process_sized one.does (task_sized tasks h p one there))
 
--- ---- an expression that reads no signal is sized over none
-
-abbrev Names : Tree → Bool
-Names one = is_some_name (named one)
-
-abbrev none : ℕ → ℕ
-none i = 0
-
-module _ (n : ℕ) (ws : ℕ → ℕ) where
-  row_width : {m : _} (parts : Row_of-SizedExpr m) → width_of ws (row parts) ≡ width_of none (row parts)
-  row_width end_of-SizedExpr = refl
-  row_width (more_of-SizedExpr w s a at others) = ap (λ k. w + k) (row_width others)
-
-  form_width : (w : ℕ) (s : Bool) (at : Spot) (a : Node) → Names (Sized w s at (form a)) ≡ false → width_of ws (form a) ≡ width_of none (form a)
-  form_width w s at (node.Literal bits) h = refl
-  form_width w s at (node.Read i select.Whole) h = absurd (false≢true (sym h))
-  form_width w s at (node.Read i (select.Bit low (index.Fixed k))) h = refl
-  form_width w s at (node.Read i (select.Bit low (index.Computed' p w' s' a at'))) h = refl
-  form_width w s at (node.Read i (select.Part low width)) h = refl
-  form_width w s at (node.Concat' shape parts) h = row_width parts
-  form_width w s at _ h = refl
-
-  fits_alone : (width : ℕ) (e : Tree) → width_of ws e ≡ width_of none e → FitsWidth ws width e → FitsWidth none width e
-  fits_alone width e same fits =
-      record {
-        not_empty = subst (λ k. 1 ≤ k) same fits.not_empty;
-        inside = subst (λ k. k ≤ width) same fits.inside;
-        whole = λ takes. sym same ∙ fits.whole takes;
-      }
-
-  here : (w : ℕ) (s : Bool) (at : Spot) (a : Node) → list_any Names (nodes (Sized w s at (form a))) ≡ false → Names (Sized w s at (form a)) ≡ false
-  here w s at a h = (or_parts (Names (Sized w s at (form a))) (list_any Names (nodes (form a))) h).0
-
-  rest : (w : ℕ) (s : Bool) (at : Spot) (a : Node) → list_any Names (nodes (Sized w s at (form a))) ≡ false → list_any Names (nodes (form a)) ≡ false
-  rest w s at a h = (or_parts (Names (Sized w s at (form a))) (list_any Names (nodes (form a))) h).1
-
-  whole : (w : ℕ) (s : Bool) (at : Spot) (a : Node) → list_any Names (nodes (Sized w s at (form a))) ≡ false → IsSized n ws (Sized w s at (form a)) → IsSized 0 none (form a) → IsSized 0 none (Sized w s at (form a))
-  whole w s at a h k inner =
-      (k.0, fits_alone w (form a) (form_width w s at a (here w s at a h)) k.1, inner)
-
-  mutual
-    sized_alone : (w : ℕ) (s : Bool) (at : Spot) (a : Node) → list_any Names (nodes (Sized w s at (form a))) ≡ false → IsSized n ws (Sized w s at (form a)) → IsSized 0 none (Sized w s at (form a))
-    sized_alone w s at (node.Literal bits) h k = whole w s at (node.Literal bits) h k tt
-    sized_alone w s at (node.Read i select.Whole) h k = absurd (false≢true (sym (here w s at (node.Read i select.Whole) h)))
-    sized_alone w s at (node.Read i (select.Bit low (index.Fixed j))) h k = absurd (false≢true (sym (here w s at (node.Read i (select.Bit low (index.Fixed j))) h)))
-    sized_alone w s at (node.Read i (select.Bit low (index.Computed' p w' s' a at'))) h k = absurd (false≢true (sym (here w s at (node.Read i (select.Bit low (index.Computed' p w' s' a at'))) h)))
-    sized_alone w s at (node.Read i (select.Part low width)) h k = absurd (false≢true (sym (here w s at (node.Read i (select.Part low width)) h)))
-    sized_alone w s at (node.Turned' operator p w1 s1 a at1) h k =
-        whole w s at (node.Turned' operator p w1 s1 a at1) h k (sized_alone w1 s1 at1 a (rest w s at (node.Turned' operator p w1 s1 a at1) h) k.2)
-    sized_alone w s at (node.Joined' operator p w1 s1 a at1 q w2 s2 b at2) h k =
-        let r = rest w s at (node.Joined' operator p w1 s1 a at1 q w2 s2 b at2) h in
-        whole w s at (node.Joined' operator p w1 s1 a at1 q w2 s2 b at2) h k (k.2.0, sized_alone w1 s1 at1 a (any_left Names (nodes (Sized w1 s1 at1 (form a))) (nodes (Sized w2 s2 at2 (form b))) r) k.2.1, sized_alone w2 s2 at2 b (any_right Names (nodes (Sized w1 s1 at1 (form a))) (nodes (Sized w2 s2 at2 (form b))) r) k.2.2)
-    sized_alone w s at (node.Compared' operator p w1 s1 a at1 q w2 s2 b at2) h k =
-        let r = rest w s at (node.Compared' operator p w1 s1 a at1 q w2 s2 b at2) h in
-        whole w s at (node.Compared' operator p w1 s1 a at1 q w2 s2 b at2) h k (k.2.0, sized_alone w1 s1 at1 a (any_left Names (nodes (Sized w1 s1 at1 (form a))) (nodes (Sized w2 s2 at2 (form b))) r) k.2.1, sized_alone w2 s2 at2 b (any_right Names (nodes (Sized w1 s1 at1 (form a))) (nodes (Sized w2 s2 at2 (form b))) r) k.2.2)
-    sized_alone w s at (node.Linked' operator p w1 s1 a at1 q w2 s2 b at2) h k =
-        let r = rest w s at (node.Linked' operator p w1 s1 a at1 q w2 s2 b at2) h in
-        whole w s at (node.Linked' operator p w1 s1 a at1 q w2 s2 b at2) h k (sized_alone w1 s1 at1 a (any_left Names (nodes (Sized w1 s1 at1 (form a))) (nodes (Sized w2 s2 at2 (form b))) r) k.2.0, sized_alone w2 s2 at2 b (any_right Names (nodes (Sized w1 s1 at1 (form a))) (nodes (Sized w2 s2 at2 (form b))) r) k.2.1)
-    sized_alone w s at (node.Folded' operator p w1 s1 a at1) h k =
-        whole w s at (node.Folded' operator p w1 s1 a at1) h k (sized_alone w1 s1 at1 a (rest w s at (node.Folded' operator p w1 s1 a at1) h) k.2)
-    sized_alone w s at (node.Shifted' operator p w1 s1 a at1 q w2 s2 b at2) h k =
-        let r = rest w s at (node.Shifted' operator p w1 s1 a at1 q w2 s2 b at2) h in
-        whole w s at (node.Shifted' operator p w1 s1 a at1 q w2 s2 b at2) h k (k.2.0, sized_alone w1 s1 at1 a (any_left Names (nodes (Sized w1 s1 at1 (form a))) (nodes (Sized w2 s2 at2 (form b))) r) k.2.1, sized_alone w2 s2 at2 b (any_right Names (nodes (Sized w1 s1 at1 (form a))) (nodes (Sized w2 s2 at2 (form b))) r) k.2.2)
-    sized_alone w s at (node.Chosen' p w1 s1 c at1 q w2 s2 a at2 r w3 s3 b at3) h k =
-        let first = nodes (Sized w1 s1 at1 (form c)) in
-        let second = nodes (Sized w2 s2 at2 (form a)) in
-        let third = nodes (Sized w3 s3 at3 (form b)) in
-        let inner = rest w s at (node.Chosen' p w1 s1 c at1 q w2 s2 a at2 r w3 s3 b at3) h in
-        let left = any_left Names (first ++ second) third inner in
-        whole w s at (node.Chosen' p w1 s1 c at1 q w2 s2 a at2 r w3 s3 b at3) h k (k.2.0, sized_alone w1 s1 at1 c (any_left Names first second left) k.2.1, sized_alone w2 s2 at2 a (any_right Names first second left) k.2.2, sized_alone w3 s3 at3 b (any_right Names (first ++ second) third inner) k.2.3)
-    sized_alone w s at (node.Concat' shape parts) h k =
-        whole w s at (node.Concat' shape parts) h k (row_alone parts (rest w s at (node.Concat' shape parts) h) k.2)
-    sized_alone w s at (node.Repeated' times p w1 s1 a at1) h k =
-        whole w s at (node.Repeated' times p w1 s1 a at1) h k (sized_alone w1 s1 at1 a (rest w s at (node.Repeated' times p w1 s1 a at1) h) k.2)
-    sized_alone w s at (node.Recast' p w1 s1 a at1) h k =
-        whole w s at (node.Recast' p w1 s1 a at1) h k (sized_alone w1 s1 at1 a (rest w s at (node.Recast' p w1 s1 a at1) h) k.2)
-
-    row_alone : {m : _} (parts : Row_of-SizedExpr m) → list_any Names (nodes (row parts)) ≡ false → IsSized n ws (row parts) → IsSized 0 none (row parts)
-    row_alone end_of-SizedExpr h k = tt
-    row_alone (more_of-SizedExpr w s a at others) h k = (
-      sized_alone w s at a (any_left Names (nodes (Sized w s at (form a))) (nodes (row others)) h) k.0,
-      row_alone others (any_right Names (nodes (Sized w s at (form a))) (nodes (row others)) h) k.1,
-    )
-
-  pub alone : (e : SizedExpr) → reads_signal (tree e) ≡ false → IsSized n ws (tree e) → IsSized 0 (λ i. 0) (tree e)
-  alone e = sized_alone e.width e.signed e.spot e.node
+  pub nodes_of_sized : (does : Doing) → IsProcess signals does → Each (IsSized (length signals) (width_in signals)) (all_nodes does)
+  nodes_of_sized does h = each_nodes (trees does ++ labels does) (process_sized does h)

@@ -4,20 +4,20 @@ use Rattle.std.specs.Prelude.{◌==◌}
 use Rattle.std.proofs.lemmas.Bool.{and_parts, cases_eq, eq-eqb, eqb-true, false≢true, or_cases, or_left, or_right}
 use Rattle.std.specs.List.{slice_get}
 use Rattle.std.proofs.lemmas.List.{get_or-set_other, get_or-set_same, length-set, length_push, take_more}
-use Rattle.check_assign.specs.rtl_scan.declared.bits.Row.{Row}
-use Rattle.check_assign.specs.rtl_scan.Sets.{IsInOrder, has_rows}
-use Rattle.check_assign.specs.rtl_scan.Usage.{has_row_of}
+use Rattle.check_chains.specs.rtl_scan.declared.bits.Row.{Row}
+use Rattle.check_chains.specs.rtl_scan.Sets.{IsInOrder, has_rows}
+use Rattle.check_chains.specs.rtl_scan.Usage.{has_row_of}
 use Rattle.rtl_flat.specs.declared.signal.Signal.{Signal}
 use Rattle.rtl_flat.specs.Process.{Task}
 use Rattle.rtl_flat.specs.Signs.{width_in}
 use Rattle.rtl_rule.specs.Parts.{written}
 use Rattle.rtl_flat.specs.Flats.{Flat, widths}
-use Rattle.check_assign.proofs.check_found_proofs.Inside.{written_inside}
-use Rattle.check_assign.proofs.check_found_proofs.Signals.{rows_have_some}
+use Rattle.check_chains.proofs.check_found_proofs.Inside.{written_inside}
+use Rattle.check_chains.proofs.check_found_proofs.Signals.{rows_have_some}
 use Rattle.check_xprop.specs.declared.doubt.Spread.{Spread}
 use Rattle.check_xprop.specs.Spreading.{Among, IsReader, Marks, Visits, is_marked, is_seen, left, writes}
 use Rattle.check_xprop.specs.Unknowns.{Behind}
-use Rattle.check_xprop.proofs.Picks.{some_found}
+use Rattle.rtl_rule.proofs.Below.{some_found}
 use Rattle.check_xprop.proofs.Processes.{same_some}
 
 pub among_push : (xs : List ℕ) (y x : ℕ) → Among (xs ++ y ∷ []) x → Among xs x ⊎ (x ≡ y)
@@ -171,7 +171,10 @@ visited d p seen old new reader inside marks =
           | inl same ↦
               let is = same_some task other (sym reader.there ∙ subst (λ k. slice_get d.tasks k ≡ Some other) same there) in
               let own = subst (λ (t : Task). writes d t s ≡ true) (sym is) w in
-              let (k, below, bit) = some_found (widths d s) (written d task.does s) own in
+              let at_bit = some_found (widths d s) (written d task.does s) own in
+              let k = at_bit.number in
+              let below = at_bit.below in
+              let bit = at_bit.is in
               let wide : 0 < width_in d.signals s = omega (arith, below) in
               let in_signals = width_there d.signals s wide in
               m.to s (let e = h.same_length in omega (arith, in_signals, e)) own

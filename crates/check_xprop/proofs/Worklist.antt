@@ -5,27 +5,26 @@ use Rattle.std.specs.declared.alloc.Global.{Global}
 use Rattle.std.proofs.lemmas.Bool.{and_from, and_parts, cases_eq, eq-eqb, eqb-true, false≢true, or_cases, or_left, or_right}
 use Rattle.std.specs.List.{slice_get}
 use Rattle.std.proofs.lemmas.List.{length-replicate, length-set, take_more}
-use Rattle.check_assign.specs.rtl_scan.declared.bits.Row.{Row}
-use Rattle.check_assign.specs.rtl_scan.Sets.{IsInOrder, has_rows}
-use Rattle.check_assign.specs.rtl_scan.Usage.{has_row_of}
-use Rattle.check_assign.proofs.rtl_scan_proofs.Processes.{below_next, length-tasks}
+use Rattle.check_chains.specs.rtl_scan.declared.bits.Row.{Row}
+use Rattle.check_chains.specs.rtl_scan.Sets.{IsInOrder, has_rows}
+use Rattle.check_chains.specs.rtl_scan.Usage.{has_row_of}
+use Rattle.check_chains.proofs.rtl_scan_proofs.Processes.{below_next, length-tasks}
 use Rattle.rtl_flat.specs.declared.design.Design.{Design}
 use Rattle.rtl_flat.specs.Flows.{flow_of}
 use Rattle.rtl_flat.specs.Paths.{BitSet, reads_outside}
 use Rattle.rtl_flat.specs.PathSets.{IsTemporary}
 use Rattle.rtl_flat.specs.Process.{Task, task}
 use Rattle.rtl_flat.specs.Signs.{width_in}
-use Rattle.rtl_rule.specs.Parts.{has_some, written}
+use Rattle.rtl_rule.specs.Parts.{has_some, is_clocked, written}
 use Rattle.rtl_flat.specs.Flats.{Flat, flat, widths}
-use Rattle.check_assign.specs.Assigned.{is_clocked}
-use Rattle.check_assign.specs.check_chains.Chains.{chain_of, has_chain}
-use Rattle.check_assign.proofs.check_found_proofs.Inside.{outside_inside}
-use Rattle.check_assign.proofs.check_found_proofs.Signals.{rows_have_some}
+use Rattle.check_chains.specs.Chains.{chain_of, has_chain}
+use Rattle.check_chains.proofs.check_found_proofs.Inside.{outside_inside}
+use Rattle.check_chains.proofs.check_found_proofs.Signals.{rows_have_some}
 use Rattle.check_xprop.specs.declared.doubt.Spread.{Spread}
 use Rattle.check_xprop.specs.Spreading.{Among, AreReaders, IsReader, IsSpreading, IsStarting, Marks, Notes, Reaches, Reads, Visits, bucket, is_marked, is_seen, reads, starts, writes}
 use Rattle.check_xprop.specs.Unknowns.{IsDoubtful, IsUnreset, Behind, Unreset}
 use Rattle.check_xprop.proofs.Doubts.{got, got_back, marked_in}
-use Rattle.check_xprop.proofs.Picks.{some_found}
+use Rattle.rtl_rule.proofs.Below.{some_found}
 use Rattle.check_xprop.proofs.Processes.{same_some}
 use Rattle.check_xprop.proofs.Spreading.{among_before, among_last, among_push, has_row_append, width_there}
 
@@ -69,7 +68,10 @@ not_both false h = refl
 -- a set has bits only of signals that are there
 some_there : (d : Flat) (bits : BitSet) (s : ℕ) → has_some (widths d) bits s ≡ true → s < length d.signals
 some_there d bits s h =
-    let (k, below, bit) = some_found (widths d s) (bits s) h in
+    let at_bit = some_found (widths d s) (bits s) h in
+    let k = at_bit.number in
+    let below = at_bit.below in
+    let bit = at_bit.is in
     let wide : 0 < width_in d.signals s = omega (arith, below) in
     width_there d.signals s wide
 
@@ -87,7 +89,7 @@ starting_none d spread n same marked waiting =
 
 module _ (d : Flat) (temporaries : List Bool) (each : (s : ℕ) → slice_get temporaries s ≡ Some true ↔ IsTemporary d.signals d.tasks s) (p : ℕ) (task : Task) (there : slice_get d.tasks p ≡ Some task) where
   abbrev resets : Task → Bool
-  resets one = has_chain (λ chain. nat_lt 0 (length chain.resets)) (chain_of d one.does)
+  resets one = has_chain (λ chain. nat_lt 0 (length chain.resets)) (chain_of one.does)
 
   is_unreset : (s : ℕ) → starts d temporaries task s ≡ true → IsUnreset d s
   is_unreset s h =

@@ -1,21 +1,21 @@
 -- It serves inner contracts and proofs; no answer of the program is stated by it.
 -- Choices that read a signal which is marked.
-use Rattle.std.specs.Prelude.{ℕ, ◌+◌, Bool, true, false, ◌&&◌, List, length, map, slice_index_or}
+use Rattle.std.specs.Prelude.{ℕ, Bool, true, false, List, length, map, slice_index_or}
 use Rattle.std.specs.List.{filter, flat_map, list_any}
 use Rattle.rtl_tree.specs.declared.text.Spot.{Spot}
 use Rattle.rtl_flat.specs.declared.act.CaseKind.{CaseKind}
 use Rattle.rtl_flat.specs.declared.act.CaseKind.TheVariants as case
-use Rattle.rtl_flat.specs.Expression.{Tree, Sized}
-use Rattle.rtl_flat.specs.Expression as tree
-use Rattle.rtl_flat.specs.Flows.{all_bits, bit_at, reads, span}
-use Rattle.rtl_flat.specs.Paths.{BitSet, no_bit}
+use Rattle.rtl_flat.specs.Expression.{Tree}
+use Rattle.rtl_flat.specs.Flows.{reads}
+use Rattle.rtl_flat.specs.Paths.{BitSet}
 use Rattle.rtl_flat.specs.Process.{Action, Task}
 use Rattle.rtl_rule.specs.declared.finding.Finding.{Finding}
 use Rattle.rtl_rule.specs.declared.rule.Rule.{Rule}
 use Rattle.rtl_rule.specs.declared.rule.Rule.TheVariants as rule
-use Rattle.rtl_rule.specs.Parts.{has_some, sites, some_below, statements}
+use Rattle.rtl_rule.specs.Parts.{sites, statements}
 use Rattle.rtl_flat.specs.Flats.{Flat, widths}
 use Rattle.rtl_rule.specs.Sites.{AreFindings}
+use Rattle.check_chains.specs.check_parts.Reads as met
 use Rattle.check_xprop.specs.declared.choices.Sought.{Sought}
 use Rattle.check_xprop.specs.declared.choices.Sought.TheVariants.{Plain, Wild}
 use Rattle.check_xprop.specs.Lists.{at_spots}
@@ -23,16 +23,7 @@ use Rattle.check_xprop.specs.Unknowns.{Choice, IsDoubtfulChoice, at_choice, choi
 
 -- whether a set has a bit of a signal that is marked
 abbrev pub meets : (ℕ → ℕ) → List Bool → BitSet → Bool
-meets ws marks bits =
-    some_below (length marks) (λ s. slice_index_or marks s false && has_some ws bits s)
-
--- the bits that an expression reads itself, without its operands
-abbrev pub own_reads : (ℕ → ℕ) → Tree → BitSet
-own_reads ws (Sized w s spot (tree.Whole i)) = all_bits ws i
-own_reads ws (Sized w s spot (tree.BitAt i low index)) = bit_at ws i low index
-own_reads ws (Sized w s spot (tree.BitBy i low signed index)) = all_bits ws i
-own_reads ws (Sized w s spot (tree.Part i low width)) = span ws i low (low + width)
-own_reads ws _ = no_bit
+meets ws marks = met.meets ws (length marks) (λ s. slice_index_or marks s false)
 
 -- whether some expressions read a signal that is marked
 abbrev pub any_meets : (ℕ → ℕ) → List Bool → List Tree → Bool

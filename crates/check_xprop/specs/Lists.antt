@@ -14,7 +14,6 @@ use Rattle.rtl_flat.specs.declared.instance.Delay.{Delay}
 use Rattle.rtl_flat.specs.declared.instance.DroppedRegion.{DroppedRegion}
 use Rattle.rtl_flat.specs.Expression.{Tree}
 use Rattle.rtl_flat.specs.Process.{Doing, Task}
-use Rattle.rtl_flat.specs.Sizes.{IsSized}
 use Rattle.rtl_rule.specs.declared.finding.Finding.{Finding}
 use Rattle.rtl_rule.specs.declared.rule.Rule.{Rule}
 use Rattle.rtl_rule.specs.declared.rule.Rule.TheVariants as rule
@@ -111,9 +110,3 @@ abbrev pub is_division : Join → Bool
 is_division join.Divide = true
 is_division join.Remainder = true
 is_division _ = false
-
--- an expression that is sized over some signals
-pub record HasSizes (e : Tree) : Type 0 where
-  pub count : ℕ
-  pub widths : ℕ → ℕ
-  pub sized : IsSized count widths e

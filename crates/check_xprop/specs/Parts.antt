@@ -20,7 +20,7 @@ pub record AreNodeFindings (d : Flat) (found : NodeFindings) : Type 0 where
 pub record AddsProcess (d : Flat) (p : ℕ) (task : Task) (old new : NodeFindings) : Type 0 where
   pub literals : new.literals.items ≡ old.literals.items ++ literal_found d p task
   pub ranges : new.ranges.items ≡ old.ranges.items ++ misses_found (widths d) task.instance (picks task.does)
-  pub divisions : new.divisions.items ≡ old.divisions.items ++ nodes_found DivideVariable divides_by_other d task
+  pub divisions : new.divisions.items ≡ old.divisions.items ++ nodes_found DivideVariable (divides_by_other d) d task
   pub equalities : new.equalities.items ≡ old.equalities.items ++ nodes_found CaseEquality is_case_equality d task
 
 -- the findings of literals, selects and operators

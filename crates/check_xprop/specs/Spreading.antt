@@ -6,10 +6,9 @@ use Rattle.std.specs.declared.alloc.Global.{Global}
 use Rattle.rtl_flat.specs.Flows.{flow_of}
 use Rattle.rtl_flat.specs.Paths.{reads_outside}
 use Rattle.rtl_flat.specs.Process.{Task}
-use Rattle.rtl_rule.specs.Parts.{has_some, written}
+use Rattle.rtl_rule.specs.Parts.{has_some, is_clocked, written}
 use Rattle.rtl_flat.specs.Flats.{Flat, widths}
-use Rattle.check_assign.specs.Assigned.{is_clocked}
-use Rattle.check_assign.specs.check_chains.Chains.{chain_of, has_chain}
+use Rattle.check_chains.specs.Chains.{chain_of, has_chain}
 use Rattle.check_xprop.specs.declared.doubt.Spread.{Spread}
 use Rattle.check_xprop.specs.Unknowns.{IsDoubtful, IsUnreset}
 
@@ -46,7 +45,7 @@ reads d task s = has_some (widths d) (reads_outside (flow_of (widths d) task.doe
 -- what a process marks before anything spreads
 abbrev pub starts : Flat → List Bool → Task → ℕ → Bool
 starts d temporaries task s =
-    (is_clocked task.does && not (has_chain (λ chain. nat_lt 0 (length chain.resets)) (chain_of d task.does)))
+    (is_clocked task.does && not (has_chain (λ chain. nat_lt 0 (length chain.resets)) (chain_of task.does)))
     && (writes d task s && not (slice_index_or temporaries s false))
 
 -- a process reads a signal that may be x

@@ -23,16 +23,14 @@ use Rattle.rtl_flat.specs.Process.{Selection, Piece, Watched, Action, Set, If, C
 use Rattle.rtl_flat.specs.Process as part
 use Rattle.rtl_flat.specs.Signs.{sign_of}
 use Rattle.rtl_flat.specs.Sizes.{width_of}
-use Rattle.rtl_flat.specs.Value.{value}
 use Rattle.rtl_rule.specs.declared.finding.Finding.{Finding}
 use Rattle.rtl_rule.specs.declared.rule.Rule.{Rule}
 use Rattle.rtl_rule.specs.declared.rule.Rule.TheVariants as rule
 use Rattle.rtl_rule.specs.Order.{ranked}
-use Rattle.rtl_rule.specs.Parts.{At, sites, process_sites, has_some, some_below, first_written, written, number, found_at, least_place, nodes, place_of, reads_signal, statements, pieces, items_of, trees, labels, is_x, has_literal, literal_places}
+use Rattle.rtl_rule.specs.Parts.{constant_of, At, first_written, found_at, has_literal, has_some, is_clocked, is_x, items_of, labels, least_place, literal_places, nodes, number, pieces, place_of, process_sites, sites, some_below, statements, trees, written}
 use Rattle.rtl_flat.specs.Flats.{Flat, Parts, widths}
 use Rattle.rtl_rule.specs.Sites.{AreFindings}
-use Rattle.check_assign.specs.Assigned.{is_clocked}
-use Rattle.check_assign.specs.check_chains.Chains.{chain_of, has_chain}
+use Rattle.check_chains.specs.Chains.{chain_of, has_chain}
 
 -- all expressions of processes with their operands, labels too
 abbrev pub all_nodes : Doing → List Tree
@@ -119,18 +117,20 @@ has_one (bit.Zero ∷ others) = has_one others
 has_one (bit.One ∷ others) = list_all is_zero others
 has_one (_ ∷ others) = false
 
--- whether a divisor reads no signal and is a power of two, which a negative number isn't
-abbrev pub is_power : Bool → Tree → Bool
-is_power signed e =
-    not (reads_signal e) && (has_one (value (λ i. []) e) && not (signed && is_one (top_bit (value (λ i. []) e))))
+-- whether a divisor is a constant and a power of two, which a negative number isn't
+abbrev pub is_power : Bool → Option (List Bit) → Bool
+is_power signed None = false
+is_power signed (Some bits) = has_one bits && not (signed && is_one (top_bit bits))
 
-abbrev pub divides_by_other : Tree → Bool
-divides_by_other (Sized w s spot (Joined join.Divide signed a b)) = not (is_power signed b)
-divides_by_other (Sized w s spot (Joined join.Remainder signed a b)) = not (is_power signed b)
-divides_by_other _ = false
+abbrev pub divides_by_other : Flat → Tree → Bool
+divides_by_other d (Sized w s spot (Joined join.Divide signed a b)) =
+    not (is_power signed (constant_of d b))
+divides_by_other d (Sized w s spot (Joined join.Remainder signed a b)) =
+    not (is_power signed (constant_of d b))
+divides_by_other d _ = false
 
-abbrev pub IsDivideVariable : At Tree → Type 0
-IsDivideVariable site = divides_by_other site.it ≡ true
+abbrev pub IsDivideVariable : Flat → At Tree → Type 0
+IsDivideVariable d site = divides_by_other d site.it ≡ true
 
 -- at the operator
 abbrev pub at_node : Rule → Flat → At Tree → Finding
@@ -139,7 +139,7 @@ at_node name d site =
 
 abbrev pub AreDivideVariable : Flat → List Finding → Type 0
 AreDivideVariable d =
-    AreFindings IsDivideVariable (at_node rule.DivideVariable d) (node_sites d)
+    AreFindings (IsDivideVariable d) (at_node rule.DivideVariable d) (node_sites d)
 
 -- ---- X4
 
@@ -206,7 +206,7 @@ pub record IsUnreset (d : Flat) (s : ℕ) : Type 0 where
   pub there : slice_get d.tasks process ≡ Some task
   pub clocked : is_clocked task.does ≡ true
   pub writes : has_some (widths d) (written d task.does) s ≡ true
-  pub no_reset : has_chain (λ chain. nat_lt 0 (length chain.resets)) (chain_of d task.does) ≡ false
+  pub no_reset : has_chain (λ chain. nat_lt 0 (length chain.resets)) (chain_of task.does) ≡ false
   pub kept : IsTemporary d.signals d.tasks s → ⊥
 
 -- a signal is doubtful where it is such a register, or is written by a process that reads a doubtful signal before it has

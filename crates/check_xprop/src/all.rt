@@ -2,7 +2,7 @@
 
 ghost use Rattle.std.specs.Prelude.{◌≡◌, IfOk, OnOk};
 ghost use Rattle.rtl_flat.specs.Flats.{flat, parts};
-ghost use Rattle.check_assign.specs.check_found.Scanned.{AreScans};
+ghost use Rattle.check_chains.specs.check_found.Scanned.{AreScans};
 ghost use Rattle.check_xprop.specs.Parts.{AreOfChoices, AreOfDropped, AreOfExpressions};
 ghost use Rattle.check_xprop.specs.Unknowns.{AreUnknownFindings};
 
@@ -10,8 +10,8 @@ use crate::choices::{wild_selector, x_optimism};
 use crate::doubt::doubtful;
 use crate::dropped::{delay_ignored, initial_ignored, translate_off};
 use crate::node_rules::node_findings;
-use check_assign::check_found::order::ranked;
-use check_assign::check_found::scans::Scans;
+use check_chains::check_found::order::ranked;
+use check_chains::check_found::scans::Scans;
 use rtl_flat::design::Design;
 use rtl_rule::finding::Finding;
 use rtl_tree::memory::Memory;

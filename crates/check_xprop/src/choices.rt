@@ -4,18 +4,18 @@ ghost use Rattle.std.specs.Prelude.{ℕ, ◌≡◌, ◌<◌, ◌↔◌, ◌++◌
 ghost use Rattle.std.specs.List.{flat_map, slice_get};
 ghost use Rattle.rtl_flat.specs.Expression.{tree};
 ghost use Rattle.rtl_flat.specs.Process.{Task, action, piece};
-ghost use Rattle.rtl_rule.specs.Parts.{own_labels, own_trees};
+ghost use Rattle.rtl_rule.specs.Parts.{own_labels, own_reads, own_trees};
 ghost use Rattle.rtl_flat.specs.Flats.{flat, widths};
-ghost use Rattle.check_xprop.specs.Doubts.{AreSought, any_meets, choice_spots, choices_found, choices_of, is_plain, meets, own_reads, rule_of, seeks};
+ghost use Rattle.check_xprop.specs.Doubts.{AreSought, any_meets, choice_spots, choices_found, choices_of, is_plain, meets, rule_of, seeks};
 ghost use Rattle.check_xprop.specs.Unknowns.{AreWildSelector, AreXOptimism, IsDoubtful, choice, index_choice};
 
 use crate::places::push_all;
-use check_assign::check_parts::expressions::{nodes, own_labels, own_trees};
-use check_assign::check_parts::statements::statements;
-use check_assign::rtl_scan::selected;
+use check_chains::check_parts::expressions::{nodes, own_labels, own_trees};
+use check_chains::check_parts::reads::own_signal;
+use check_chains::check_parts::statements::statements;
 use rtl_flat::act::{Act, CaseKind, ProcId, TargetPart};
 use rtl_flat::design::Design;
-use rtl_flat::expr::{Index, Node, Select, SigId, SizedExpr};
+use rtl_flat::expr::{Index, Select, SigId, SizedExpr};
 use rtl_rule::finding::Finding;
 use rtl_rule::rule::Rule;
 use rtl_tree::memory::Memory;
@@ -37,11 +37,9 @@ fn reads_mark(design: &Design, marks: &[bool], e: &SizedExpr) -> bool
     ensures { result ≡ meets (widths (flat design.now)) marks.now (own_reads (widths
         (flat design.now)) (tree e.now)) }
 {
-    match &e.node {
-        Node::Read(signal, select) => {
-            is_marked(marks, *signal) && selected(design, *signal, select).mask != 0
-        }
-        _ => false,
+    match own_signal(design, e) {
+        Some(signal) => is_marked(marks, signal),
+        None => false,
     }
 }
 

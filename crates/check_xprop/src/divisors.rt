@@ -7,14 +7,14 @@ ghost use Rattle.rtl_bits.specs.Bits.{top_bit};
 ghost use Rattle.rtl_flat.specs.Expression.{tree};
 ghost use Rattle.rtl_flat.specs.Process.{Task};
 ghost use Rattle.rtl_rule.specs.declared.rule.Rule.TheVariants.{DivideVariable};
-ghost use Rattle.rtl_rule.specs.Parts.{is_some_name, named, reads_signal};
-ghost use Rattle.rtl_flat.specs.Flats.{flat};
-ghost use Rattle.check_xprop.specs.Lists.{AreNodes, HasSizes, is_division, nodes_found};
+ghost use Rattle.rtl_flat.specs.Flats.{flat, widths};
+ghost use Rattle.rtl_flat.specs.Sizes.{IsSized};
+ghost use Rattle.check_chains.specs.check_parts.Reads.{AreUnknowns};
+ghost use Rattle.check_xprop.specs.Lists.{AreNodes, is_division, nodes_found};
 ghost use Rattle.check_xprop.specs.Unknowns.{divides_by_other, has_one, is_power};
 
 use crate::places::push_all;
-use check_assign::check_parts::expressions::nodes;
-use check_assign::rtl_expr::eval;
+use check_chains::check_parts::reads::constant_of;
 use rtl_bits::{Bit, Vec4};
 use rtl_flat::act::ProcId;
 use rtl_flat::design::Design;
@@ -54,39 +54,14 @@ fn has_top(bits: Vec4) -> bool
     }
 }
 
-/// Whether an expression without its operands reads a signal.
-fn is_read(e: &SizedExpr) -> bool
-    ensures { result ≡ is_some_name (named (tree e.now)) }
+/// Whether a divisor is a constant and a power of two, which a negative number isn't.
+fn is_power(signed: bool, divisor: Option<Vec4>) -> bool
+    ensures { result ≡ is_power signed divisor }
 {
-    match &e.node {
-        Node::Read(_, _) => true,
-        _ => false,
+    match divisor {
+        None => false,
+        Some(bits) => has_one(bits) && !(signed && has_top(bits)),
     }
-}
-
-/// Whether an expression reads a signal.
-fn reads_signal(alloc: Global, e: &SizedExpr) -> Result<bool, Memory>
-    ensures { IfOk result (λ reads. reads ≡ reads_signal (tree e.now)) }
-{
-    let all = nodes(alloc, &[e])?;
-    for one in &all {
-        if is_read(one) {
-            return Ok(true);
-        }
-    }
-    Ok(false)
-}
-
-/// Whether a divisor reads no signal and is a power of two, which a negative number isn't.
-fn is_power(alloc: Global, signed: bool, e: &SizedExpr) -> Result<bool, Memory>
-    requires { HasSizes (tree e.now) }
-    ensures { IfOk result (λ is. is ≡ is_power signed (tree e.now)) }
-{
-    if reads_signal(alloc, e)? {
-        return Ok(false);
-    }
-    let bits = eval(e, &[]);
-    Ok(has_one(bits) && !(signed && has_top(bits)))
 }
 
 /// Whether an operator divides.
@@ -99,18 +74,26 @@ fn is_division(operator: Join) -> bool
     }
 }
 
-/// Whether an expression divides by anything but a constant power of two.
-fn divides_by_other(alloc: Global, e: &SizedExpr) -> Result<bool, Memory>
-    requires { HasSizes (tree e.now) }
-    ensures { IfOk result (λ is. is ≡ divides_by_other (tree e.now)) }
+/// Whether an expression divides by anything but a constant power of two, given all signals with
+/// every bit x.
+fn divides_by_other(
+    alloc: Global,
+    design: &Design,
+    unknowns: &[Vec4],
+    e: &SizedExpr,
+) -> Result<bool, Memory>
+    requires unknown { AreUnknowns (flat design.now) unknowns.now }
+    requires sized { let d = flat design.now in
+        IsSized (length d.signals) (widths d) (tree e.now) }
+    ensures { IfOk result (λ is. is ≡ divides_by_other (flat design.now) (tree e.now)) }
 {
     match &e.node {
         Node::Joined(operator, a, b) => {
-            if is_division(*operator) {
-                Ok(!is_power(alloc, a.signed, b)?)
-            } else {
-                Ok(false)
+            if !is_division(*operator) {
+                return Ok(false);
             }
+            let divisor = constant_of(alloc, design, unknowns, b)?;
+            Ok(!is_power(a.signed, divisor))
         }
         _ => Ok(false),
     }
@@ -120,19 +103,21 @@ fn divides_by_other(alloc: Global, e: &SizedExpr) -> Result<bool, Memory>
 pub(crate) fn push_divisions(
     alloc: Global,
     design: &Design,
+    unknowns: &[Vec4],
     p: ProcId,
     all: &[&SizedExpr],
     found: &mut Vec<Finding>,
 ) -> Result<(), Memory>
+    requires unknown { AreUnknowns (flat design.now) unknowns.now }
     requires there { p.0 < length design.now.processes.items }
     requires all { AreNodes (flat design.now) p.0 (map (λ e. tree e.now) all.now) }
     ensures { OnOk result ((task : Task) → slice_get (flat design.now).tasks p.0 ≡ Some task
-        → found.new.items ≡ found.old.items ++ nodes_found DivideVariable divides_by_other
-        (flat design.now) task) }
+        → found.new.items ≡ found.old.items ++ nodes_found DivideVariable
+        (divides_by_other (flat design.now)) (flat design.now) task) }
 {
     let mut spots = Vec::new(alloc);
     for e in all {
-        if divides_by_other(alloc, e)? {
+        if divides_by_other(alloc, design, unknowns, e)? {
             spots.push(e.spot)?;
         }
     }

@@ -3,18 +3,18 @@
 ghost use Rattle.std.specs.Prelude.{ℕ, [], ◌≡◌, ◌↔◌, ◌<◌, ◌==◌, ◌&&◌, nat_lt, not, false, true, slice_index_or, length, Some, IfOk, OnOk};
 ghost use Rattle.std.specs.List.{slice_get};
 ghost use Rattle.rtl_flat.specs.Process.{Task, doing};
-ghost use Rattle.check_assign.specs.Assigned.{is_clocked};
+ghost use Rattle.rtl_rule.specs.Parts.{is_clocked};
 ghost use Rattle.rtl_flat.specs.Flats.{flat};
-ghost use Rattle.check_assign.specs.rtl_scan.Usage.{has_row_of};
-ghost use Rattle.check_assign.specs.check_chains.Chains.{chain_of, has_chain};
-ghost use Rattle.check_assign.specs.check_found.Scanned.{AreScans};
+ghost use Rattle.check_chains.specs.rtl_scan.Usage.{has_row_of};
+ghost use Rattle.check_chains.specs.Chains.{chain_of, has_chain};
+ghost use Rattle.check_chains.specs.check_found.Scanned.{AreScans};
 ghost use Rattle.check_xprop.specs.Spreading.{Among, AreReaders, IsReader, IsStarting, Marks, Notes, Reaches, Visits, bucket, reads, starts};
 ghost use Rattle.check_xprop.specs.Unknowns.{IsDoubtful};
 
 use crate::choices::is_marked;
-use check_assign::check_chains::chain::chain_of;
-use check_assign::check_found::scans::Scans;
-use check_assign::rtl_scan::bits::Row;
+use check_chains::chain::chain_of;
+use check_chains::check_found::scans::Scans;
+use check_chains::rtl_scan::bits::Row;
 use rtl_flat::act::{Does, ProcId};
 use rtl_flat::design::Design;
 use rtl_flat::expr::SigId;
@@ -78,10 +78,10 @@ impl Spread {
 
 /// Whether a clocked process has a chain with an asynchronous reset.
 fn has_reset(alloc: Global, design: &Design, does: &Does) -> Result<bool, Memory>
-    ensures { let chain = chain_of (flat design.now) (doing does.now) in
+    ensures { let chain = chain_of (doing does.now) in
         IfOk result (λ has. has ≡ has_chain (λ one. nat_lt 0 (length one.resets)) chain) }
 {
-    match chain_of(alloc, design, does)? {
+    match chain_of(alloc, does)? {
         Some(chain) => Ok(!chain.resets.is_empty()),
         None => Ok(false),
     }

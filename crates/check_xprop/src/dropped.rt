@@ -5,7 +5,7 @@ ghost use Rattle.rtl_flat.specs.Flats.{flat, parts};
 ghost use Rattle.check_xprop.specs.Lists.{AreFirsts, delays_found, is_kind, regions};
 ghost use Rattle.check_xprop.specs.Unknowns.{AreDelayIgnored, AreInitialIgnored, AreTranslateOff};
 
-use check_assign::check_found::sets::first_written;
+use check_chains::check_found::sets::first_written;
 use rtl_flat::act::ProcId;
 use rtl_flat::design::Design;
 use rtl_flat::expr::SigId;

@@ -10,8 +10,8 @@ ghost use Rattle.check_xprop.specs.Lists.{AreNodes, is_exact, literal_found, nod
 ghost use Rattle.check_xprop.specs.Unknowns.{all_nodes, is_case_equality};
 
 use crate::places::push_all;
-use check_assign::check_parts::expressions::{labels, nodes, trees, valued_trees};
-use check_assign::check_parts::places::least_place;
+use check_chains::check_parts::expressions::{labels, nodes, trees, valued_trees};
+use check_chains::check_parts::places::least_place;
 use rtl_bits::{Bit, Vec4};
 use rtl_flat::act::{Does, ProcId, Process};
 use rtl_flat::design::Design;

@@ -17,4 +17,4 @@ pub use doubt::doubtful;
 pub use dropped::{delay_ignored, initial_ignored, translate_off};
 
 // Passed on to the crates above.
-pub use check_assign;
+pub use check_chains;

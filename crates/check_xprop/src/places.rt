@@ -6,7 +6,7 @@ ghost use Rattle.rtl_flat.specs.Process.{Task};
 ghost use Rattle.rtl_flat.specs.Flats.{flat};
 ghost use Rattle.check_xprop.specs.Lists.{at_spot, at_spots};
 
-use check_assign::check_found::sets::first_written;
+use check_chains::check_found::sets::first_written;
 use rtl_flat::act::ProcId;
 use rtl_flat::design::Design;
 use rtl_flat::expr::SigId;

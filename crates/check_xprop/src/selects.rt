@@ -10,8 +10,8 @@ ghost use Rattle.rtl_flat.specs.Flats.{flat, widths};
 ghost use Rattle.check_xprop.specs.Lists.{AreNodes, misses, misses_found};
 ghost use Rattle.check_xprop.specs.Unknowns.{pick_in, pick_of, picks};
 
-use check_assign::check_parts::statements::{items, pieces};
-use check_assign::rtl_scan::selected;
+use check_chains::check_parts::statements::{items, pieces};
+use check_chains::rtl_scan::selected;
 use rtl_flat::act::{EventItem, ProcId, TargetPart};
 use rtl_flat::design::Design;
 use rtl_flat::expr::{Index, Node, Select, SigId, SizedExpr};

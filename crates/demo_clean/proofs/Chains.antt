@@ -8,7 +8,7 @@ use Rattle.net_model.specs.Cycle.{AreChains, IsChain}
 use Rattle.rtl_rule.specs.declared.rule.Rule.{Rule}
 use Rattle.rtl_rule.specs.declared.rule.Rule.TheVariants.{MixedEdges, ResetPolarity, ResetShape}
 use Rattle.rtl_flat.specs.Flats.{Flat}
-use Rattle.check_clean.specs.check_assign.Assigned.{is_clocked}
+use Rattle.rtl_rule.specs.Parts.{is_clocked}
 use Rattle.check_clean.specs.check_chains.Chains.{chain_of}
 use Rattle.demo_replay.specs.net_list.Chosen.{chain_in, chains_of, no_chain}
 use Rattle.demo_replay.specs.net_list.Faults.{AreFormed, IsFault}
@@ -25,5 +25,5 @@ are_chains d lawful formed p events body is =
     }) in
     let found = chain_at d p task events body does (lawful_at d.signals d.tasks p task lawful there) (free MixedEdges) (free ResetShape) (free ResetPolarity) in
     let same : chains_of d p ≡ found.chain =
-    ap (λ o. unwrap_or (chain_in d o) no_chain) there ∙ ap (λ x. unwrap_or (chain_of d x) no_chain) does ∙ ap (λ o. unwrap_or o no_chain) found.is_chain in
+    ap (λ o. unwrap_or (chain_in o) no_chain) there ∙ ap (λ x. unwrap_or (chain_of x) no_chain) does ∙ ap (λ o. unwrap_or o no_chain) found.is_chain in
     subst (IsChain d events body) (sym same) found.chained

@@ -12,9 +12,9 @@ use Rattle.demo_replay.specs.net_list.Chosen.{chains_of}
 use Rattle.check_clean.proofs.check_laws_proofs.Stored.{stored}
 use Rattle.check_clean.proofs.check_laws_proofs.Temporaries.{temporaries_decided}
 use Rattle.check_clean.specs.Clean.{IsCleanDesign}
-use Rattle.check_clean.specs.Needed.{is_needed}
+use Rattle.rtl_rule.specs.Rows.{is_needed}
 use Rattle.check_clean.proofs.Clean.{clean_design}
-use Rattle.check_clean.proofs.Merged.{none_needed}
+use Rattle.check_clean.proofs.check_all_proofs.Without.{none_needed}
 use Rattle.demo_replay.specs.Compared.{is_trial_of, is_unwoken}
 use Rattle.demo_replay.specs.Firsts.{Never}
 use Rattle.demo_clean.specs.Unshown.{NoneShown}

@@ -5,7 +5,7 @@ use Rattle.rtl_flat.specs.declared.design.Design.{Design}
 use Rattle.rtl_rule.specs.declared.finding.Finding.{Finding}
 use Rattle.rtl_flat.specs.Flats.{flat, parts}
 use Rattle.check_clean.specs.check_all.Findings.{AreAllFindings}
-use Rattle.check_clean.specs.Needed.{has_needed, is_needed}
+use Rattle.rtl_rule.specs.Rows.{has_needed, is_needed}
 use Rattle.demo_replay.specs.Firsts.{IsFirst}
 
 -- where none of all findings of a design is of a rule that agreement stands on, nothing is shown for any of another rule

@@ -6,7 +6,7 @@ use Rattle.rtl_flat.specs.Paths.{first, may_write_late, reads_bit, writes_now}
 use Rattle.rtl_flat.specs.Process.{Set, If, Case, Block, Actions, Done, Then, With}
 use Rattle.net_model.specs.Cycle.{Guard, IsChained, opened}
 use Rattle.demo_clean.proofs.net_laws_proofs.Parts.{Gives, other_gives, taken_gives}
-use Rattle.demo_clean.proofs.chain_laws_proofs.Lists.{Each}
+use Rattle.rtl_rule.proofs.Lists.{Each}
 use Rattle.demo_laws.proofs.Sure.{Reads}
 
 opened_flow : (ws : ℕ → ℕ) (body : Actions) → body_flow ws (opened body) ≡ body_flow ws body

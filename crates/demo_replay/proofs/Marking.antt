@@ -5,13 +5,12 @@ use Rattle.std.specs.List.{slice_get}
 use Rattle.std.proofs.lemmas.Bool.{cases_eq, eq-eqb, eqb-true, false≢true, or_cases, or_left, or_right}
 use Rattle.std.proofs.lemmas.List.{length-replicate}
 use Rattle.rtl_flat.specs.Process.{Task}
-use Rattle.rtl_rule.specs.Parts.{has_some, written}
+use Rattle.rtl_rule.specs.Parts.{has_some, is_clocked, written}
 use Rattle.rtl_flat.specs.Flats.{Flat, widths}
 use Rattle.event_queue.specs.rtl_scan.declared.bits.Row.{Row}
 use Rattle.event_queue.specs.rtl_scan.Arrows.{Among}
 use Rattle.event_queue.specs.rtl_scan.Sets.{IsInOrder, has_rows}
 use Rattle.event_queue.specs.rtl_scan.Usage.{has_row_of}
-use Rattle.netlist_eval.specs.check_assign.Assigned.{is_clocked}
 use Rattle.netlist_eval.specs.check_clocks.Tops.{AreMarkedAlso}
 use Rattle.netlist_eval.proofs.check_found_proofs.Inside.{written_inside}
 use Rattle.netlist_eval.proofs.check_found_proofs.Signals.{AreRows, row_below, rows_have_some}

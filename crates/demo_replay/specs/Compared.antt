@@ -9,7 +9,7 @@ use Rattle.rtl_rule.specs.declared.finding.Finding.{Finding}
 use Rattle.rtl_rule.specs.declared.rule.Rule.{Rule}
 use Rattle.rtl_rule.specs.declared.rule.Rule.TheVariants.{NeverWakes}
 use Rattle.rtl_flat.specs.Flats.{Flat}
-use Rattle.netlist_eval.specs.check_assign.Assigned.{is_clocked}
+use Rattle.rtl_rule.specs.Parts.{is_clocked}
 use Rattle.netlist_eval.specs.check_chains.Chains.{IsRegisterOf}
 
 -- a finding on a list that never wakes its process: nothing but power-up shows it

@@ -17,8 +17,7 @@ use Rattle.netlist_eval.specs.net_list.Faults.{AreAlone, AreFormed}
 use Rattle.netlist_eval.specs.net_start.Stored.{places}
 use Rattle.netlist_eval.specs.Basis.{IsBasisOf}
 use Rattle.rtl_rule.specs.declared.finding.Finding.{Finding}
-use Rattle.rtl_rule.specs.Parts.{has_some, written}
-use Rattle.netlist_eval.specs.check_assign.Assigned.{is_clocked}
+use Rattle.rtl_rule.specs.Parts.{has_some, is_clocked, written}
 use Rattle.demo_replay.specs.declared.compare.Difference.{Difference}
 use Rattle.demo_told.specs.declared.demo.Demo.{Demo}
 use Rattle.demo_told.specs.declared.demo.Shown.{Shown as Values}

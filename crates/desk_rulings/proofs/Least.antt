@@ -11,7 +11,7 @@ use Rattle.std.proofs.lemmas.Option.{get_or_from_slice_get}
 use Rattle.std.proofs.lemmas.Slice.Eq.{bytes_eq-Decides}
 use Rattle.rtl_rule.specs.Rows.{row_of, rule_at, rule_number, rule_with, rules}
 use Rattle.rtl_rule.specs.declared.rule.Rule.{Rule}
-use Rattle.rtl_rule.specs.declared.rule.Rule.TheVariants.{SenseMissing, NeverWakes, MixedEdges, BlockingState, NonblockingComb, MixedAssign, SeveralDrivers, Undriven, CombLoop, DerivedClock, ClockAsData, LatchInferred, Tristate, ResetShape, ResetPolarity, AsyncPair, ResetValue, FullCase, ParallelCase, UnknownItem, UnknownLiteral, SelectRange, DivideVariable, CaseEquality, DelayIgnored, InitialIgnored, TranslateOff, XOptimism, WildSelector}
+use Rattle.rtl_rule.proofs.Rules.{coded, number_tells}
 use Rattle.desk_tables.specs.Rules.{broken_row, broken_meta, first_broken, in_table, is_sound_waiver, or_else, reply_breaks, signoff_breaks, waiver_breaks}
 use Rattle.desk_tables.specs.Tables.{Kept}
 use Rattle.desk_tables.specs.declared.rows.Table.{Table}
@@ -31,76 +31,8 @@ use Rattle.desk_rulings.specs.Rulings.{Site, covers, is_for, standing_in, stands
 
 -- ---- rules by their codes
 
-coded : (rule : Rule) → rule_with (row_of rule).code ≡ Some rule
-coded SenseMissing = refl
-coded NeverWakes = refl
-coded MixedEdges = refl
-coded BlockingState = refl
-coded NonblockingComb = refl
-coded MixedAssign = refl
-coded SeveralDrivers = refl
-coded Undriven = refl
-coded CombLoop = refl
-coded DerivedClock = refl
-coded ClockAsData = refl
-coded LatchInferred = refl
-coded Tristate = refl
-coded ResetShape = refl
-coded ResetPolarity = refl
-coded AsyncPair = refl
-coded ResetValue = refl
-coded FullCase = refl
-coded ParallelCase = refl
-coded UnknownItem = refl
-coded UnknownLiteral = refl
-coded SelectRange = refl
-coded DivideVariable = refl
-coded CaseEquality = refl
-coded DelayIgnored = refl
-coded InitialIgnored = refl
-coded TranslateOff = refl
-coded XOptimism = refl
-coded WildSelector = refl
-
-numbered : (rule : Rule) → slice_get rules (rule_number rule) ≡ Some rule
-numbered SenseMissing = refl
-numbered NeverWakes = refl
-numbered MixedEdges = refl
-numbered BlockingState = refl
-numbered NonblockingComb = refl
-numbered MixedAssign = refl
-numbered SeveralDrivers = refl
-numbered Undriven = refl
-numbered CombLoop = refl
-numbered DerivedClock = refl
-numbered ClockAsData = refl
-numbered LatchInferred = refl
-numbered Tristate = refl
-numbered ResetShape = refl
-numbered ResetPolarity = refl
-numbered AsyncPair = refl
-numbered ResetValue = refl
-numbered FullCase = refl
-numbered ParallelCase = refl
-numbered UnknownItem = refl
-numbered UnknownLiteral = refl
-numbered SelectRange = refl
-numbered DivideVariable = refl
-numbered CaseEquality = refl
-numbered DelayIgnored = refl
-numbered InitialIgnored = refl
-numbered TranslateOff = refl
-numbered XOptimism = refl
-numbered WildSelector = refl
-
 same_some : {X : Type 0} (x y : X) → Some x ≡ Some y → x ≡ y
 same_some x y same = cc
-
-number_tells : (one other : Rule) → Decides (nat_eq (rule_number one) (rule_number other)) (one ≡ other)
-number_tells one other =
-    Decides-like _ (λ (same : rule_number one ≡ rule_number other). same_some one other (sym (numbered one) ∙ ap (slice_get rules) same ∙ numbered other))
-    (λ same. ap rule_number same)
-    (Decides-eqb (rule_number one) (rule_number other))
 
 at_place : (code : List ℕ) (found : Option ℕ) (rule : Rule) → position (λ it. bytes_eq (row_of it).code code) rules ≡ found → rule_at found ≡ Some rule → (row_of rule).code ≡ code
 at_place code None rule place is = absurd (cc)

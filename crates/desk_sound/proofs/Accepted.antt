@@ -7,9 +7,9 @@ use Rattle.std.proofs.lemmas.Bool.{and_from, cond-true, le-leb, leb-false, ltb-f
 use Rattle.std.proofs.lemmas.Slice.Eq.{bytes_eq-Decides}
 use Rattle.desk_tables.specs.Limits.{MAX_BYTES, MAX_ALL_BYTES, MAX_FILES, MAX_REPLIES, MAX_SIGN_OFFS, MAX_WAIVERS}
 use Rattle.sha2.specs.Sha256.{sha256}
+use Rattle.rtl_rule.proofs.Rules.{coded}
 use Rattle.rtl_rule.specs.Rows.{row_of, rule_with}
 use Rattle.rtl_rule.specs.declared.rule.Rule.{Rule}
-use Rattle.rtl_rule.specs.declared.rule.Rule.TheVariants as rule
 use Rattle.waiver_book.specs.Books.{refusal, standing, term, MAX_TERM}
 use Rattle.waiver_book.specs.Waivers.{has_key, Waiver}
 use Rattle.waiver_book.specs.declared.fault.WaiveFault.TheVariants.{NotWaivable, NoSuchFinding, TermPast, TermTooLong, OwnerIsAsker, Already}
@@ -157,35 +157,7 @@ tables_hold (ask.Revoke id) request today kept sound lawful room =
 
 -- a rule is found by its code
 known : (it : Rule) → is_some (rule_with (row_of it).code) ≡ true
-known rule.SenseMissing = refl
-known rule.NeverWakes = refl
-known rule.MixedEdges = refl
-known rule.BlockingState = refl
-known rule.NonblockingComb = refl
-known rule.MixedAssign = refl
-known rule.SeveralDrivers = refl
-known rule.Undriven = refl
-known rule.CombLoop = refl
-known rule.DerivedClock = refl
-known rule.ClockAsData = refl
-known rule.LatchInferred = refl
-known rule.Tristate = refl
-known rule.ResetShape = refl
-known rule.ResetPolarity = refl
-known rule.AsyncPair = refl
-known rule.ResetValue = refl
-known rule.FullCase = refl
-known rule.ParallelCase = refl
-known rule.UnknownItem = refl
-known rule.UnknownLiteral = refl
-known rule.SelectRange = refl
-known rule.DivideVariable = refl
-known rule.CaseEquality = refl
-known rule.DelayIgnored = refl
-known rule.InitialIgnored = refl
-known rule.TranslateOff = refl
-known rule.XOptimism = refl
-known rule.WildSelector = refl
+known it = ap is_some (coded it)
 
 -- where none of these tests passes, the last doesn't
 last_fails : (a b c d e : Bool) (v w x y z : WaiveFault) (rest : Option WaiveFault) → cond a (Some v) (cond b (Some w) (cond c (Some x) (cond d (Some y) (cond e (Some z) rest)))) ≡ None → e ≡ false

@@ -6,7 +6,7 @@ use Rattle.desk_build.specs.elab_scope.Faults.{Answer}
 use Rattle.rtl_flat.specs.Flats.{DesignParts}
 use Rattle.desk_build.specs.rtl_elab.Designs.{library_of}
 use Rattle.desk_build.specs.rtl_elab.Elaborated.{elaborated}
-use Rattle.desk_verdict.specs.check_all.Findings.{has_first_grade}
+use Rattle.rtl_rule.specs.Rows.{has_first_grade}
 use Rattle.desk_top.specs.declared.deliver.Stop.{Stop}
 use Rattle.desk_top.specs.declared.deliver.Stop.TheVariants.{Unread, NoFile, Memory}
 use Rattle.desk_top.specs.declared.deliver.Work.{Work}

@@ -3,7 +3,8 @@ use Rattle.std.proofs.Common.{◌≡◌, Bool, true, false, not, List, [], ◌�
 use Rattle.std.specs.Prelude.{◌↔◌, IsTrue}
 use Rattle.std.proofs.lemmas.Bool.{false≢true}
 use Rattle.rtl_rule.specs.declared.finding.Finding.{Finding}
-use Rattle.sign_off.specs.check_all.Findings.{IsClean, has_first_grade}
+use Rattle.rtl_rule.specs.Rows.{has_first_grade}
+use Rattle.sign_off.specs.check_all.Findings.{IsClean}
 use Rattle.desk_verdict.specs.Verdicts.{is_clean, is_firm}
 
 truth : (r s : Bool) → (r ≡ true → s ≡ true) → (s ≡ true → r ≡ true) → r ≡ s

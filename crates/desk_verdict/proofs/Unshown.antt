@@ -9,7 +9,7 @@ use Rattle.rtl_flat.specs.declared.design.Design.{Design}
 use Rattle.rtl_rule.specs.declared.finding.Finding.{Finding}
 use Rattle.rtl_flat.specs.Flats.{flat, parts}
 use Rattle.sign_off.specs.check_all.Findings.{AreAllFindings}
-use Rattle.sign_off.specs.check_clean.Needed.{has_needed, is_needed}
+use Rattle.rtl_rule.specs.Rows.{has_needed, is_needed}
 use Rattle.demo_told.specs.declared.demo.Demo.{Demo}
 use Rattle.demo_told.specs.declared.demo.Shown.{Shown}
 use Rattle.demo_clean.specs.demo_replay.Firsts.{AreFirsts, IsFirst, Told, told}

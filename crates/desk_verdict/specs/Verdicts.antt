@@ -3,7 +3,8 @@
 use Rattle.std.specs.Prelude.{◌≡◌, Bool, true, false, not, List, [], ◌∷◌, Option, map, take}
 use Rattle.rtl_rule.specs.declared.finding.Finding.{Finding}
 use Rattle.rtl_flat.specs.Flats.{DesignParts}
-use Rattle.sign_off.specs.check_all.Findings.{AreAllFindings, IsClean, has_first_grade}
+use Rattle.rtl_rule.specs.Rows.{has_first_grade}
+use Rattle.sign_off.specs.check_all.Findings.{AreAllFindings, IsClean}
 use Rattle.sign_off.specs.check_clean.Promise.{IsPromised}
 use Rattle.demo_told.specs.declared.demo.Demo.{Demo}
 use Rattle.demo_told.specs.declared.demo.Shown.{Shown}

@@ -7,13 +7,12 @@ ghost use Rattle.demo_clean.specs.demo_replay.Firsts.{AreFirsts, told};
 ghost use Rattle.desk_verdict.specs.Verdicts.{IsVerdict};
 
 use demo_clean::demo_replay::attach_all;
-use demo_clean::has_needed;
 use demo_clean::law::none_shown;
 use demo_told::{Demo, Shown};
 use desk_report::tell;
 use desk_rows::Row;
 use rtl_flat::design::Design;
-use rtl_rule::finding::Finding;
+use rtl_rule::finding::{Finding, has_needed};
 use rtl_tree::memory::Memory;
 use sign_off::rule::rule;
 use std::alloc::Global;

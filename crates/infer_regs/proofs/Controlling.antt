@@ -1,14 +1,11 @@
 -- The top inputs that are clocks or resets, one after another.
-use Rattle.std.proofs.Common.{◌≡◌, ◌∙◌, ◌<◌, ◌≤◌, ◌+◌, ℕ, zero, suc, Bool, true, false, List, [], ◌∷◌, ◌++◌, length, get_or, Option, None, Some, refl, sym, ap, subst, inl, inr, arith}
+use Rattle.std.proofs.Common.{◌≡◌, ◌∙◌, ◌<◌, ◌≤◌, ◌+◌, ℕ, zero, suc, Bool, true, false, List, [], ◌∷◌, ◌++◌, length, get_or, refl, sym, ap, subst, inl, inr, arith}
 use Rattle.std.specs.Prelude.{◌⊎◌, ◌↔◌, Vec}
 use Rattle.std.specs.List.{AllByRecursion, list_any, slice_get}
 use Rattle.std.specs.declared.alloc.Global.{Global}
 use Rattle.std.proofs.lemmas.Bool.{both_ways, cases_eq, false≢true, or_cases, or_left, or_right}
-use Rattle.rtl_flat.specs.declared.signal.Kind.{Kind}
-use Rattle.rtl_flat.specs.declared.signal.Kind.TheVariants.{TopInput, Net, Var}
 use Rattle.rtl_flat.specs.declared.signal.Signal.{Signal}
-use Rattle.event_model.specs.Queue.{is_input_kind, is_input_of}
-use Rattle.net_model.proofs.Gates.{clock_control, clock_or_reset, control_input}
+use Rattle.event_model.specs.Queue.{is_input_of}
 use Rattle.net_model.specs.Control.{IsControl, IsReached, Itself, Through}
 use Rattle.rtl_flat.specs.Flats.{Flat}
 use Rattle.net_list.specs.rtl_scan.Arrows.{Among, AreRising}
@@ -16,7 +13,6 @@ use Rattle.net_list.specs.check_clocks.declared.reach.Link.{Link}
 use Rattle.net_list.specs.check_clocks.Cone.{AreEdgeMarks, ArePassing, ReachesMarked}
 use Rattle.net_list.specs.check_clocks.Links.{AreRows}
 use Rattle.net_list.specs.check_clocks.Reach.{Reaches}
-use Rattle.net_list.specs.check_clocks.Tops.{is_top, is_top_kind}
 use Rattle.net_list.proofs.check_clocks_proofs.Coned.{reached_from, reached_to}
 use Rattle.net_list.proofs.check_clocks_proofs.Linked.{bit_inside}
 use Rattle.net_list.proofs.check_clocks_proofs.Reached.{among_cases, among_left, among_right}
@@ -56,15 +52,6 @@ reaches_is rows marks start found is = (
 )
 
 -- ---- controls
-
-input_of : (o : Option Signal) → is_top o ≡ is_input_of o
-input_of None = refl
-input_of (Some signal) = by_kind signal.kind
-  where
-    by_kind : (kind : Kind) → is_top_kind kind ≡ is_input_kind kind
-    by_kind TopInput = refl
-    by_kind Net = refl
-    by_kind Var = refl
 
 input_below : (signals : List Signal) (c : ℕ) → is_input_of (slice_get signals c) ≡ true → c < length signals
 input_below [] c h = absurd (false≢true h)
@@ -117,15 +104,15 @@ module _ (d : Flat) where
   reached_below c s inside Itself = inside
   reached_below c s inside (Through i j from is) = bit_inside d.signals j is.port_bit
 
-  pub no_top : (n : ℕ) → is_top (slice_get d.signals n) ≡ false → IsControl d n → ⊥
+  pub no_top : (n : ℕ) → is_input_of (slice_get d.signals n) ≡ false → IsControl d n → ⊥
   no_top n other is =
-      both_ways (is_top (slice_get d.signals n)) other (input_of (slice_get d.signals n) ∙ control_input d n is)
+      both_ways (is_input_of (slice_get d.signals n)) other is.input
 
   module _ (links : List Link) (rows : List (Vec ℕ Global)) (are : AreRows (length d.signals) links rows) (all : ArePassing d (length d.tasks) links) (edges : List Bool) (marked : AreEdgeMarks d edges) where
-    pub control_is : (n : ℕ) → is_top (slice_get d.signals n) ≡ true → ReachesMarked rows edges n → IsControl d n
+    pub control_is : (n : ℕ) → is_input_of (slice_get d.signals n) ≡ true → ReachesMarked rows edges n → IsControl d n
     control_is n top it =
-        clock_control d n (record {
-          input = sym (input_of (slice_get d.signals n)) ∙ top;
+        record {
+          input = top;
           signal = it.signal;
           reached = reached_from d links rows are all n it.signal it.reached;
           edges = ((marked.each it.signal).0 it.marked).1;

@@ -9,8 +9,8 @@ use Rattle.rtl_flat.specs.declared.act.EventItem.{EventItem}
 use Rattle.rtl_flat.specs.declared.design.Design.{Design}
 use Rattle.rtl_flat.specs.Process.{Watched, Actions, Doing, Assign, Comb, Edge', Task, watched}
 use Rattle.rtl_rule.specs.declared.rule.Rule.{Rule}
-use Rattle.rtl_rule.specs.declared.rule.Rule.TheVariants.{SenseMissing, NeverWakes, MixedEdges, BlockingState, NonblockingComb, MixedAssign, SeveralDrivers, Undriven, CombLoop, DerivedClock, ClockAsData, LatchInferred, Tristate, ResetShape, ResetPolarity, AsyncPair, ResetValue, FullCase, ParallelCase, UnknownItem, UnknownLiteral, SelectRange, DivideVariable, CaseEquality, DelayIgnored, InitialIgnored, TranslateOff, XOptimism, WildSelector}
-use Rattle.rtl_rule.specs.Parts.{items_of, within}
+use Rattle.rtl_rule.specs.declared.rule.Rule.TheVariants.{MixedEdges, SeveralDrivers, DerivedClock, ResetShape, ResetPolarity, ResetValue}
+use Rattle.rtl_rule.specs.Parts.{is_clocked, items_of, within}
 use Rattle.rtl_flat.specs.Flats.{Flat, flat}
 use Rattle.net_list.proofs.check_found_proofs.Sites.{task_count}
 use Rattle.net_list.specs.check_sense.Sense.{first_level}
@@ -18,7 +18,6 @@ use Rattle.net_list.specs.check_sense.Telling.{level_in}
 use Rattle.net_list.specs.check_clocks.Clocks.{IsDerivedClock, events_of}
 use Rattle.net_list.specs.check_clocks.Tops.{is_derived}
 use Rattle.net_list.proofs.check_clocks_proofs.Derivations.{derived_is}
-use Rattle.net_list.specs.check_assign.Assigned.{is_clocked}
 use Rattle.net_list.specs.Faults.{HasFault, IsFault, Waits}
 use Rattle.infer_regs.specs.Facts.{AreFacts}
 use Rattle.infer_regs.specs.Forms.{AreNone, IsFirstOf, form_rules}
@@ -64,29 +63,7 @@ module _ (d : Flat) (p : ℕ) (task : Task) where
   no_rule none single ResetShape h = none.1.1.0 h
   no_rule none single ResetPolarity h = none.1.1.1.0 h
   no_rule none single ResetValue h = none.1.1.1.1.0 h
-  no_rule none single SenseMissing h = h
-  no_rule none single NeverWakes h = h
-  no_rule none single BlockingState h = h
-  no_rule none single NonblockingComb h = h
-  no_rule none single MixedAssign h = h
-  no_rule none single Undriven h = h
-  no_rule none single CombLoop h = h
-  no_rule none single ClockAsData h = h
-  no_rule none single LatchInferred h = h
-  no_rule none single Tristate h = h
-  no_rule none single AsyncPair h = h
-  no_rule none single FullCase h = h
-  no_rule none single ParallelCase h = h
-  no_rule none single UnknownItem h = h
-  no_rule none single UnknownLiteral h = h
-  no_rule none single SelectRange h = h
-  no_rule none single DivideVariable h = h
-  no_rule none single CaseEquality h = h
-  no_rule none single DelayIgnored h = h
-  no_rule none single InitialIgnored h = h
-  no_rule none single TranslateOff h = h
-  no_rule none single XOptimism h = h
-  no_rule none single WildSelector h = h
+  no_rule none single _ h = h
 
 -- ---- items
 

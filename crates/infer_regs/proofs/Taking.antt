@@ -10,7 +10,7 @@ use Rattle.rtl_rule.specs.declared.rule.Rule.TheVariants.{SeveralDrivers}
 use Rattle.rtl_flat.specs.Flats.{Flat}
 use Rattle.net_list.proofs.check_found_proofs.Gathering.{take_next}
 use Rattle.net_list.proofs.check_found_proofs.Sites.{numbered_push}
-use Rattle.net_list.specs.check_assign.Assigned.{is_clocked}
+use Rattle.rtl_rule.specs.Parts.{is_clocked}
 use Rattle.net_list.specs.declared.clocked.Clocked.{Clocked}
 use Rattle.net_list.specs.Chosen.{AreClocked, IsClocked, number_of}
 use Rattle.net_list.specs.Failing.{IsLeast}

@@ -9,6 +9,7 @@ ghost use Rattle.net_list.specs.check_sense.Telling.{level_in};
 ghost use Rattle.net_list.specs.check_clocks.Clocks.{events_of};
 ghost use Rattle.net_list.specs.check_clocks.Tops.{is_derived};
 ghost use Rattle.net_list.specs.Faults.{Waits};
+ghost use Rattle.net_list.specs.check_chains.check_parts.Reads.{AreUnknowns};
 ghost use Rattle.infer_regs.specs.Facts.{AreFacts};
 ghost use Rattle.infer_regs.specs.Judged.{IsJudged};
 
@@ -68,6 +69,7 @@ pub(crate) fn first_broken(
 ) -> Result<Option<Rule>, Memory>
     requires there { p.0 < length design.now.processes.items }
     requires waits { Waits (flat design.now) p.0 }
+    requires unknown { AreUnknowns (flat design.now) facts.now.unknowns.items }
     requires facts { AreFacts (flat design.now) facts.now.tops.items facts.now.roles.clocks.items facts.now.roles.resets.items facts.now.temporaries.items }
     ensures { let d = flat design.now in
         IfOk result (λ rule. (task : Task) → slice_get d.tasks p.0 ≡ Some task → IsJudged d p.0 task rule) }
@@ -80,13 +82,13 @@ pub(crate) fn first_broken(
     if has_derived(facts, events) {
         return Ok(Some(Rule::DerivedClock));
     }
-    if is_shapeless(alloc, design, does)? {
+    if is_shapeless(alloc, does)? {
         return Ok(Some(Rule::ResetShape));
     }
-    if has_turned(alloc, design, does)? {
+    if has_turned(alloc, does)? {
         return Ok(Some(Rule::ResetPolarity));
     }
-    if has_bad_reset(alloc, design, &facts.temporaries, p)? {
+    if has_bad_reset(alloc, design, &facts.temporaries, &facts.unknowns, p)? {
         return Ok(Some(Rule::ResetValue));
     }
     Ok(None)

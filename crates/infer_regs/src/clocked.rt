@@ -4,6 +4,7 @@ ghost use Rattle.std.specs.Prelude.{◌≡◌, ◌<◌, length, IfErr, IfOk, Mat
 ghost use Rattle.rtl_flat.specs.Flats.{flat};
 ghost use Rattle.net_list.specs.Failing.{IsFirst};
 ghost use Rattle.net_list.specs.Faults.{IsShapeless, Waits};
+ghost use Rattle.net_list.specs.check_chains.check_parts.Reads.{AreUnknowns};
 ghost use Rattle.infer_regs.specs.Facts.{AreFacts};
 ghost use Rattle.infer_regs.specs.Taken.{IsBroken, IsOne, Takes};
 
@@ -31,6 +32,7 @@ fn clocked_of<'d>(
 ) -> Result<Option<Clocked<'d>>, Memory>
     requires there { p.0 < length design.now.processes.items }
     requires waits { Waits (flat design.now) p.0 }
+    requires unknown { AreUnknowns (flat design.now) facts.now.unknowns.items }
     requires facts { AreFacts (flat design.now) facts.now.tops.items facts.now.roles.clocks.items facts.now.roles.resets.items facts.now.temporaries.items }
     ensures { let d = flat design.now in
         IfOk result (λ found. MatchOption found (IsBroken d p.0) (IsOne d p.0)) }
@@ -38,7 +40,7 @@ fn clocked_of<'d>(
     if first_broken(alloc, design, facts, p)?.is_some() {
         return Ok(None);
     }
-    let Some(chain) = chain_of(alloc, design, &design.processes[p.0 as usize].does)? else {
+    let Some(chain) = chain_of(alloc, &design.processes[p.0 as usize].does)? else {
         return Ok(None);
     };
     let clock = top_of(&facts.tops, chain.clock.signal);
@@ -61,6 +63,7 @@ fn take<'d>(
 ) -> Result<bool, Memory>
     requires there { p.0 < length design.now.processes.items }
     requires waits { Waits (flat design.now) p.0 }
+    requires unknown { AreUnknowns (flat design.now) facts.now.unknowns.items }
     requires facts { AreFacts (flat design.now) facts.now.tops.items facts.now.roles.clocks.items facts.now.roles.resets.items facts.now.temporaries.items }
     ensures { IfOk result (λ good. Takes (flat design.now) p.0 good clocked.old.items clocked.new.items) }
 {

@@ -1,2 +1,1 @@
-mod Grades
 pub mod Netlist

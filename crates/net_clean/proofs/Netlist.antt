@@ -14,7 +14,8 @@ use Rattle.check_all.specs.check_assign.Assigned.{IsSeveralDrivers, several_driv
 use Rattle.check_laws.specs.check_chains.Chains.{IsResetPolarity, IsResetShape, IsResetValue, reset_polarity_at, reset_shape_at, reset_value_at}
 use Rattle.check_laws.specs.check_clocks.Clocks.{IsDerivedClock, derived_clock_at, events_of}
 use Rattle.check_laws.proofs.Designs.{comb_loop}
-use Rattle.check_laws.proofs.Sites.{Each, process_refuted, refuted_in, signal_refuted}
+use Rattle.rtl_rule.proofs.Lists.{Each}
+use Rattle.check_laws.proofs.Sites.{process_refuted, refuted_in, signal_refuted}
 use Rattle.netlist_eval.specs.net_list.declared.fault.InferFault.{InferFault}
 use Rattle.netlist_eval.specs.net_list.declared.fault.InferFault.TheVariants.{Memory, Shape}
 use Rattle.netlist_eval.specs.net_list.Failing.{IsFirst}
@@ -25,7 +26,8 @@ use Rattle.netlist_eval.specs.net_order.Order.{IsCyclic, IsRanking}
 use Rattle.netlist_eval.specs.net_solve.Feeds.{IsFeed}
 use Rattle.netlist_eval.specs.declared.fault.NetFault.TheVariants as net_fault
 use Rattle.net_clean.specs.Netlist.{BeginsByRules, HasNetlist, InferredByRules, IsOrdered, NetlistByRules}
-use Rattle.net_clean.proofs.Grades.{HasNoFinding, no_finding}
+use Rattle.check_all.specs.Rules.{HasNoFinding}
+use Rattle.check_all.proofs.Without.{no_finding}
 
 -- ---- faults
 
@@ -44,9 +46,9 @@ module _ (d : Flat) (none : HasNoFinding d) where
       let each = refuted_in (IsDerivedClock d) derived_clock_at events_of d none.a7 p task there in
       none_at (λ item. IsDerivedClock d (within (p, task) item)) (events_of task.does) each n derived
   no_fault p task there ResetShape fault =
-      process_refuted (IsResetShape d) (reset_shape_at d) d none.r1 p task there fault
+      process_refuted IsResetShape (reset_shape_at d) d none.r1 p task there fault
   no_fault p task there ResetPolarity fault =
-      process_refuted (IsResetPolarity d) (reset_polarity_at d) d none.r2 p task there fault
+      process_refuted IsResetPolarity (reset_polarity_at d) d none.r2 p task there fault
   no_fault p task there ResetValue fault =
       process_refuted (IsResetValue d) (reset_value_at d) d none.r4 p task there fault
   no_fault p task there _ fault = absurd fault

@@ -37,7 +37,7 @@ known_literal (Z ∷ bits) no_x no_z = absurd (false≢true (sym no_z))
 -- ---- divisors
 
 -- what reads no signal has one value
-constant_value : (v u : Values) (e : Tree) → EachPart IsNoSignal e → value v e ≡ value u e
+pub constant_value : (v u : Values) (e : Tree) → EachPart IsNoSignal e → value v e ≡ value u e
 constant_value v u (Sized width signed spot e) none =
     ap (extended width signed) (constant_value v u e none.1)
 constant_value v u (Literal bits) none = refl

@@ -6,11 +6,11 @@ use Rattle.std.specs.Option.{IsSomeAnd}
 use Rattle.std.proofs.lemmas.Bool.{and_from, cases_Bool, cases_order, lt-ltb, or_left, or_right}
 use Rattle.rtl_flat.specs.Process.{Task}
 use Rattle.rtl_rule.specs.declared.rule.Rule.TheVariants.{SeveralDrivers}
-use Rattle.rtl_rule.specs.Parts.{written}
+use Rattle.rtl_rule.specs.Parts.{is_clocked, written}
 use Rattle.rtl_flat.specs.Flats.{Flat, widths}
 use Rattle.check_assign.proofs.check_found_proofs.Inside.{written_inside}
-use Rattle.check_assign.proofs.check_found_proofs.Signals.{some_at}
-use Rattle.check_assign.specs.Assigned.{is_clocked, lower_writes}
+use Rattle.rtl_rule.proofs.Below.{some_at}
+use Rattle.check_assign.specs.Assigned.{lower_writes}
 use Rattle.check_assign.proofs.Below.{signal_there}
 use Rattle.net_list.specs.Faults.{AreAlone, AreApart, AreFormed, HasFault, IsFault}
 

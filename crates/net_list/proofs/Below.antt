@@ -7,7 +7,7 @@ use Rattle.std.proofs.lemmas.Bool.{both_ways, cases_eq, true≢false}
 use Rattle.rtl_flat.specs.Process.{Task}
 use Rattle.rtl_rule.specs.declared.rule.Rule.TheVariants.{SeveralDrivers}
 use Rattle.rtl_flat.specs.Flats.{Flat}
-use Rattle.check_assign.specs.Assigned.{is_clocked}
+use Rattle.rtl_rule.specs.Parts.{is_clocked}
 use Rattle.net_list.specs.Failing.{IsLeast}
 use Rattle.net_list.specs.Faults.{AreAlone, HasFault, IsContended}
 

@@ -13,7 +13,7 @@ use Rattle.net_model.specs.Cycle.{AreChains, IsChain}
 use Rattle.rtl_rule.specs.declared.rule.Rule.{Rule}
 use Rattle.rtl_rule.specs.declared.rule.Rule.TheVariants.{MixedEdges, ResetPolarity, ResetShape}
 use Rattle.chain_laws.specs.check_chains.Chains.{chain_of}
-use Rattle.check_assign.specs.Assigned.{is_clocked}
+use Rattle.rtl_rule.specs.Parts.{is_clocked}
 use Rattle.chain_laws.specs.Chained.{HasChain}
 use Rattle.chain_laws.proofs.Chained.{chains_hold}
 use Rattle.net_list.specs.Chosen.{chain_in, chains_of, no_chain}
@@ -63,5 +63,5 @@ are_chains design formed p events body is =
     }) in
     let found = chain_at d p task events body does (lawful_at d.signals d.tasks p task design.is_design.each_process there) (free MixedEdges) (free ResetShape) (free ResetPolarity) in
     let same : chains_of d p ≡ found.chain =
-    ap (λ o. unwrap_or (chain_in d o) no_chain) there ∙ ap (λ x. unwrap_or (chain_of d x) no_chain) does ∙ ap (λ o. unwrap_or o no_chain) found.is_chain in
+    ap (λ o. unwrap_or (chain_in o) no_chain) there ∙ ap (λ x. unwrap_or (chain_of x) no_chain) does ∙ ap (λ o. unwrap_or o no_chain) found.is_chain in
     subst (IsChain (flat design) events body) (sym same) found.chained

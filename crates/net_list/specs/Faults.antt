@@ -7,12 +7,12 @@ use Rattle.std.specs.Option.{IsSomeAnd}
 use Rattle.rtl_flat.specs.Process.{Task}
 use Rattle.rtl_rule.specs.declared.rule.Rule.{Rule}
 use Rattle.rtl_rule.specs.declared.rule.Rule.TheVariants.{MixedEdges, SeveralDrivers, DerivedClock, ResetShape, ResetPolarity, ResetValue}
-use Rattle.rtl_rule.specs.Parts.{within, written}
+use Rattle.rtl_rule.specs.Parts.{is_clocked, within, written}
 use Rattle.rtl_flat.specs.Flats.{Flat}
 use Rattle.chain_laws.specs.check_sense.Sense.{IsMixedEdges}
 use Rattle.chain_laws.specs.check_chains.Chains.{IsResetPolarity, IsResetShape, IsResetValue}
-use Rattle.check_assign.specs.check_clocks.Clocks.{IsDerivedClock, events_of}
-use Rattle.check_assign.specs.Assigned.{IsSeveralDrivers, is_clocked}
+use Rattle.check_clocks.specs.Clocks.{IsDerivedClock, events_of}
+use Rattle.check_assign.specs.Assigned.{IsSeveralDrivers}
 
 -- ---- findings on a process
 
@@ -22,8 +22,8 @@ IsFault d p task MixedEdges = IsMixedEdges (within (p, task) task.does)
 IsFault d p task SeveralDrivers = (s : ℕ) × (s < length d.signals) × IsSeveralDrivers d (within (p, task) s)
 IsFault d p task DerivedClock =
     (n : ℕ) × IsSomeAnd (slice_get (events_of task.does) n) (λ item. IsDerivedClock d (within (p, task) item))
-IsFault d p task ResetShape = IsResetShape d (within (p, task) task.does)
-IsFault d p task ResetPolarity = IsResetPolarity d (within (p, task) task.does)
+IsFault d p task ResetShape = IsResetShape (within (p, task) task.does)
+IsFault d p task ResetPolarity = IsResetPolarity (within (p, task) task.does)
 IsFault d p task ResetValue = IsResetValue d (within (p, task) task.does)
 IsFault d p task _ = ⊥
 

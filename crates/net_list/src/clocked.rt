@@ -2,7 +2,7 @@
 
 ghost use Rattle.std.specs.Prelude.{◌≡◌};
 ghost use Rattle.rtl_flat.specs.Process.{doing};
-ghost use Rattle.check_assign.specs.Assigned.{is_clocked};
+ghost use Rattle.rtl_rule.specs.Parts.{is_clocked};
 
 use chain_laws::check_chains::chain::Chain;
 use rtl_flat::act::{Does, ProcId};

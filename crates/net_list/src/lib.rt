@@ -12,4 +12,5 @@ pub mod registers;
 
 // Passed on to the crates above.
 pub use chain_laws::check_chains;
-pub use check_assign::{check_clocks, check_found, rtl_scan};
+pub use check_assign::{check_found, rtl_scan};
+pub use check_clocks;

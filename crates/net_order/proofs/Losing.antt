@@ -15,7 +15,7 @@ use Rattle.rtl_rule.specs.Parts.{first_below, first_of, has_some, number, some_b
 use Rattle.rtl_flat.specs.Flats.{Flat, widths}
 use Rattle.check_found.proofs.rtl_scan_proofs.Processes.{back, there}
 use Rattle.check_found.proofs.Inside.{written_inside}
-use Rattle.check_found.proofs.Signals.{some_at, some_found}
+use Rattle.rtl_rule.proofs.Below.{some_at, some_found}
 use Rattle.net_order.specs.Ranks.{IsLeastOf, IsLost, lesser_of}
 
 -- ---- the least of two

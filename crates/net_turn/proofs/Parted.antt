@@ -11,7 +11,7 @@ use Rattle.rtl_flat.specs.Flats.{Flat}
 use Rattle.net_model.specs.Cycle.{Chain, Guard, IsChained, opened}
 use Rattle.net_settle.proofs.net_laws_proofs.Parts.{Gives, other_gives, taken_gives}
 use Rattle.net_list.proofs.chain_laws_proofs.Branches.{IsLawfulGuard, chain_lawful}
-use Rattle.net_list.proofs.chain_laws_proofs.Lists.{Each}
+use Rattle.rtl_rule.proofs.Lists.{Each}
 use Rattle.net_settle.specs.net_body.Levels.{levels_of}
 use Rattle.net_turn.specs.Runs.{IsPartOf}
 

@@ -24,11 +24,11 @@ position_none p xs d none =
 abbrev pub has_code : List ℕ → ℕ → Bool
 has_code code k = bytes_eq (row_of (get_or rules k SenseMissing)).code code
 
-pub rule_found : (code : List ℕ) (i : ℕ) → i < 29 → ((k : ℕ) → k < i → has_code code k ≡ false) → has_code code i ≡ true → rule_with code ≡ Some (get_or rules i SenseMissing)
+pub rule_found : (code : List ℕ) (i : ℕ) → i < length rules → ((k : ℕ) → k < i → has_code code k ≡ false) → has_code code i ≡ true → rule_with code ≡ Some (get_or rules i SenseMissing)
 rule_found code i inside none here =
     ap rule_at (position_is (λ rule. bytes_eq (row_of rule).code code) rules i SenseMissing inside none here)
     ∙ slice_get-get_or rules i SenseMissing inside
 
-pub no_rule : (code : List ℕ) → ((k : ℕ) → k < 29 → has_code code k ≡ false) → rule_with code ≡ None
+pub no_rule : (code : List ℕ) → ((k : ℕ) → k < length rules → has_code code k ≡ false) → rule_with code ≡ None
 no_rule code none =
     ap rule_at (position_none (λ rule. bytes_eq (row_of rule).code code) rules SenseMissing none)

@@ -1,2 +1,5 @@
 mod Example
+pub mod Below
 pub mod Codes
+pub mod Lists
+pub mod Rules

@@ -1,24 +1,21 @@
 -- What the rules look at in a flat design, and the processes, statements and expressions in which they look.
 -- Worked examples: crates/tests_rows/stdin.
-use Rattle.std.specs.Prelude.{ℕ, zero, suc, ◌==◌, nat_lt, Bool, true, false, not, ◌&&◌, ◌||◌, if◌then◌else◌, List, [], ◌∷◌, ◌++◌, length, map, Option, Some, None}
+use Rattle.std.specs.Prelude.{ℕ, zero, suc, ◌+◌, ◌==◌, nat_lt, Bool, true, false, not, ◌&&◌, ◌||◌, if◌then◌else◌, List, [], ◌∷◌, ◌++◌, length, map, replicate, Option, Some, None}
 use Rattle.std.specs.List.{enumerate_from, filter, filter_map, flat_map, list_any}
 use Rattle.rtl_bits.specs.declared.Bit.{Bit}
 use Rattle.rtl_bits.specs.declared.Bit.TheVariants as bit
 use Rattle.rtl_tree.specs.declared.text.Spot.{Spot}
-use Rattle.rtl_flat.specs.declared.design.Design.{Design}
 use Rattle.rtl_flat.specs.declared.expr.SigId.{SigId}
-use Rattle.rtl_flat.specs.declared.instance.Delay.{Delay}
-use Rattle.rtl_flat.specs.declared.instance.DroppedRegion.{DroppedRegion}
 use Rattle.rtl_flat.specs.declared.signal.Signal.{Signal}
 use Rattle.rtl_flat.specs.Expression.{Tree, Sized, Literal, Whole, BitAt, BitBy, Part, Turned, Joined, Compared, Linked, Folded, Shifted, Chosen, Empty, Beside, Repeated, Recast}
 -- `nodes` is passed on
 pub use Rattle.rtl_flat.specs.Expression.{nodes}
 use Rattle.rtl_flat.specs.Flats.{Flat, widths}
-use Rattle.rtl_flat.specs.Flows.{flow_of, labels_of}
-use Rattle.rtl_flat.specs.Paths.{BitSet, may_write}
+use Rattle.rtl_flat.specs.Flows.{all_bits, bit_at, flow_of, labels_of, reads, span}
+use Rattle.rtl_flat.specs.Paths.{BitSet, may_write, no_bit}
 use Rattle.rtl_flat.specs.Process.{Selection, Piece, Watched, Action, Set, If, Case, Block, Actions, Done, Then, Otherwise, Without, With, Branches, NoBranch, Branch, Doing, Assign, Comb, Edge', Task, task}
 use Rattle.rtl_flat.specs.Process as part
-use Rattle.rtl_flat.specs.Signs.{width_in}
+use Rattle.rtl_flat.specs.Value.{value}
 use Rattle.rtl_rule.specs.declared.finding.Finding.{Finding}
 use Rattle.rtl_rule.specs.declared.rule.Rule.{Rule}
 
@@ -45,6 +42,11 @@ signal_sites d =
 -- each process
 abbrev pub process_sites : Flat → List (At Doing)
 process_sites d = sites (λ does. does ∷ []) d
+
+-- whether a process waits for an edge
+abbrev pub is_clocked : Doing → Bool
+is_clocked (Edge' events body) = true
+is_clocked _ = false
 
 -- ---- findings at sites
 
@@ -86,6 +88,10 @@ agree false b = not b
 abbrev pub has_some : (ℕ → ℕ) → BitSet → ℕ → Bool
 has_some ws bits s = some_below (ws s) (bits s)
 
+-- whether it has a bit of some signal
+abbrev pub has_any : Flat → BitSet → Bool
+has_any d bits = some_below (length d.signals) (has_some (widths d) bits)
+
 -- the least signal that a set has a bit of
 abbrev pub first_of : Flat → BitSet → Option SigId
 first_of d bits = first_below (length d.signals) (has_some (widths d) bits)
@@ -118,25 +124,25 @@ abbrev pub place_of : Spot → Tree → Spot
 place_of otherwise (Sized width signed spot e) = spot
 place_of otherwise _ = otherwise
 
--- the signal that an expression without its operands reads
-abbrev pub named : Tree → Option ℕ
-named (Sized width signed spot (Whole i)) = Some i
-named (Sized width signed spot (BitAt i low index)) = Some i
-named (Sized width signed spot (BitBy i low s index)) = Some i
-named (Sized width signed spot (Part i low w)) = Some i
-named _ = None
+-- the bits that an expression reads itself, without its operands
+abbrev pub own_reads : (ℕ → ℕ) → Tree → BitSet
+own_reads ws (Sized width signed spot (Whole i)) = all_bits ws i
+own_reads ws (Sized width signed spot (BitAt i low index)) = bit_at ws i low index
+own_reads ws (Sized width signed spot (BitBy i low s index)) = all_bits ws i
+own_reads ws (Sized width signed spot (Part i low w)) = span ws i low (low + w)
+own_reads ws _ = no_bit
 
-abbrev pub is_named : Option ℕ → ℕ → Bool
-is_named None i = false
-is_named (Some s) i = s == i
+-- whether an expression reads a bit of a signal: `a[9]` of 8 bits reads none
+abbrev pub reads_signal : Flat → Tree → Bool
+reads_signal d e = has_any d (reads (widths d) e)
 
-abbrev pub is_some_name : Option ℕ → Bool
-is_some_name None = false
-is_some_name (Some s) = true
+-- every bit of a signal as x
+abbrev pub unknowns : Flat → ℕ → List Bit
+unknowns d i = replicate (widths d i) bit.X
 
--- whether an expression reads a signal, which is said of the text: `a[9]` of 8 bits reads one
-abbrev pub reads_signal : Tree → Bool
-reads_signal e = list_any (λ node. is_some_name (named node)) (nodes e)
+-- the value of an expression that reads no signal: over x in every bit it is what it is over any values
+abbrev pub constant_of : Flat → Tree → Option (List Bit)
+constant_of d e = if reads_signal d e then None else Some (value (unknowns d) e)
 
 -- ---- statements
 
@@ -208,12 +214,16 @@ pieces (Edge' events body) = flat_map own_pieces (all_of body)
 abbrev pub body_trees : Actions → List Tree
 body_trees body = flat_map own_trees (all_of body)
 
+-- the expressions of a process outside labels and its list
+abbrev pub read_trees : Doing → List Tree
+read_trees (Assign target value) = value ∷ indices target
+read_trees (Comb list body) = body_trees body
+read_trees (Edge' events body) = body_trees body
+
 -- the expressions of a process outside labels
 abbrev pub trees : Doing → List Tree
-trees (Assign target value) = value ∷ indices target
-trees (Comb list body) =
-    flat_map (λ item. index_of item.selection) (items_of (Comb list body)) ++ body_trees body
-trees (Edge' events body) = flat_map (λ item. index_of item.selection) events ++ body_trees body
+trees does =
+    flat_map (λ item. index_of item.selection) (items_of does) ++ read_trees does
 
 -- the labels of a process
 abbrev pub labels : Doing → List Tree

@@ -2,8 +2,9 @@
 
 ghost use Rattle.std.specs.Prelude.{◌≡◌, ◌<◌, length, IfOk};
 ghost use Rattle.rtl_rule.specs.Keys.{IsAbout, IsKey, IsTarget};
+ghost use Rattle.rtl_rule.specs.Rows.{has_first_grade, has_needed, is_needed, row_of};
 
-use crate::rule::Rule;
+use crate::rule::{Rule, first_grade, needed};
 use rtl_flat::design::Design;
 use rtl_flat::expr::SigId;
 use rtl_tree::memory::Memory;
@@ -70,6 +71,28 @@ pub struct Key {
     pub file: Text,
     /// The place in the file, in bytes from 0.
     pub at: u32,
+}
+
+/// Whether one of some findings is of the first grade.
+pub fn has_first_grade(findings: &[Finding]) -> bool
+    ensures { result ≡ has_first_grade findings.now }
+{
+    findings.iter().any(
+        |finding|
+            ensures { result ≡ (row_of finding.now.rule).first_grade }
+        { first_grade(finding.rule) },
+    )
+}
+
+/// Whether one of some findings is of a rule on which agreement stands.
+pub fn has_needed(findings: &[Finding]) -> bool
+    ensures { result ≡ has_needed findings.now }
+{
+    findings.iter().any(
+        |finding|
+            ensures { result ≡ is_needed finding.now.rule }
+        { needed(finding.rule) },
+    )
 }
 
 /// The path of a finding's signal, or of its instance where it has none.

@@ -1,7 +1,7 @@
 //! The rules and their table.
 
 ghost use Rattle.std.specs.Prelude.{◌≡◌, true, false};
-ghost use Rattle.rtl_rule.specs.Rows.{row_of, rule_with};
+ghost use Rattle.rtl_rule.specs.Rows.{is_needed, row_of, rule_with};
 
 /// A rule of the desk, in the order of the table.
 #[derive(Clone, Copy, PartialEq, Eq, Debug)]
@@ -109,13 +109,16 @@ pub struct Row {
     pub first_grade: bool,
     /// A waiver may set a finding of it aside.
     pub waivable: bool,
+    /// Agreement stands on it.
+    pub needed: bool,
 }
 
-// A rule of the first grade, which may be waived.
+// A rule of the first grade, which may be waived, and on which agreement stands.
 fn usual(code: &'static str, name: &'static str) -> Row
     ensures code { result.code.now ≡ code.now }
     ensures name { result.name.now ≡ name.now }
     ensures first_grade { result.first_grade ≡ true }
+    ensures needed { result.needed ≡ true }
     ensures waivable { result.waivable ≡ true }
 {
     Row {
@@ -123,14 +126,16 @@ fn usual(code: &'static str, name: &'static str) -> Row
         name,
         first_grade: true,
         waivable: true,
+        needed: true,
     }
 }
 
-// A rule of the first grade, which is never waived.
+// Such a rule, which is never waived.
 fn strict(code: &'static str, name: &'static str) -> Row
     ensures code { result.code.now ≡ code.now }
     ensures name { result.name.now ≡ name.now }
     ensures first_grade { result.first_grade ≡ true }
+    ensures needed { result.needed ≡ true }
     ensures waivable { result.waivable ≡ false }
 {
     Row {
@@ -138,6 +143,24 @@ fn strict(code: &'static str, name: &'static str) -> Row
         name,
         first_grade: true,
         waivable: false,
+        needed: true,
+    }
+}
+
+// A rule of the first grade, which may be waived, and on which agreement doesn't stand.
+fn apart(code: &'static str, name: &'static str) -> Row
+    ensures code { result.code.now ≡ code.now }
+    ensures name { result.name.now ≡ name.now }
+    ensures first_grade { result.first_grade ≡ true }
+    ensures needed { result.needed ≡ false }
+    ensures waivable { result.waivable ≡ true }
+{
+    Row {
+        code,
+        name,
+        first_grade: true,
+        waivable: true,
+        needed: false,
     }
 }
 
@@ -146,6 +169,7 @@ fn second(code: &'static str, name: &'static str) -> Row
     ensures code { result.code.now ≡ code.now }
     ensures name { result.name.now ≡ name.now }
     ensures first_grade { result.first_grade ≡ false }
+    ensures needed { result.needed ≡ false }
     ensures waivable { result.waivable ≡ true }
 {
     Row {
@@ -153,6 +177,7 @@ fn second(code: &'static str, name: &'static str) -> Row
         name,
         first_grade: false,
         waivable: true,
+        needed: false,
     }
 }
 
@@ -165,6 +190,7 @@ impl Rule {
         ensures name { result.name.now ≡ (row_of self).name }
         ensures first_grade { result.first_grade ≡ (row_of self).first_grade }
         ensures waivable { result.waivable ≡ (row_of self).waivable }
+        ensures needed { result.needed ≡ (row_of self).needed }
     {
         match self {
             Rule::SenseMissing => usual("S1", "SenseMissing"),
@@ -186,14 +212,14 @@ impl Rule {
             Rule::ResetValue => usual("R4", "ResetValue"),
             Rule::FullCase => usual("C1", "FullCase"),
             Rule::ParallelCase => usual("C2", "ParallelCase"),
-            Rule::UnknownItem => usual("C3", "UnknownItem"),
+            Rule::UnknownItem => apart("C3", "UnknownItem"),
             Rule::UnknownLiteral => usual("X1", "UnknownLiteral"),
             Rule::SelectRange => usual("X2", "SelectRange"),
             Rule::DivideVariable => usual("X3", "DivideVariable"),
-            Rule::CaseEquality => usual("X4", "CaseEquality"),
-            Rule::DelayIgnored => usual("D1", "DelayIgnored"),
-            Rule::InitialIgnored => usual("D2", "InitialIgnored"),
-            Rule::TranslateOff => usual("D3", "TranslateOff"),
+            Rule::CaseEquality => apart("X4", "CaseEquality"),
+            Rule::DelayIgnored => apart("D1", "DelayIgnored"),
+            Rule::InitialIgnored => apart("D2", "InitialIgnored"),
+            Rule::TranslateOff => apart("D3", "TranslateOff"),
             Rule::XOptimism => second("U1", "XOptimism"),
             Rule::WildSelector => second("U2", "WildSelector"),
         }
@@ -203,37 +229,7 @@ impl Rule {
     pub(crate) fn number(self) -> u32
         ensures { result ≡ rule_number self }
     {
-        match self {
-            Rule::SenseMissing => 0,
-            Rule::NeverWakes => 1,
-            Rule::MixedEdges => 2,
-            Rule::BlockingState => 3,
-            Rule::NonblockingComb => 4,
-            Rule::MixedAssign => 5,
-            Rule::SeveralDrivers => 6,
-            Rule::Undriven => 7,
-            Rule::CombLoop => 8,
-            Rule::DerivedClock => 9,
-            Rule::ClockAsData => 10,
-            Rule::LatchInferred => 11,
-            Rule::Tristate => 12,
-            Rule::ResetShape => 13,
-            Rule::ResetPolarity => 14,
-            Rule::AsyncPair => 15,
-            Rule::ResetValue => 16,
-            Rule::FullCase => 17,
-            Rule::ParallelCase => 18,
-            Rule::UnknownItem => 19,
-            Rule::UnknownLiteral => 20,
-            Rule::SelectRange => 21,
-            Rule::DivideVariable => 22,
-            Rule::CaseEquality => 23,
-            Rule::DelayIgnored => 24,
-            Rule::InitialIgnored => 25,
-            Rule::TranslateOff => 26,
-            Rule::XOptimism => 27,
-            Rule::WildSelector => 28,
-        }
+        self as u32
     }
 }
 
@@ -249,6 +245,13 @@ pub fn waivable(rule: Rule) -> bool
     ensures { result ≡ (row_of rule).waivable }
 {
     rule.row().waivable
+}
+
+/// Whether agreement stands on the rule.
+pub fn needed(rule: Rule) -> bool
+    ensures { result ≡ is_needed rule }
+{
+    rule.row().needed
 }
 
 /// The rule that has a code, as `A4`; None where none has it.

@@ -1,4 +1,3 @@
 mod Example
-pub mod Merging
 -- passed on to the crates above
 pub use Rattle.check_clean.proofs.check_all_proofs

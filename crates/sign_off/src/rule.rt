@@ -7,15 +7,12 @@ ghost use Rattle.net_model.specs.declared.fill.Fill.{Fill};
 ghost use Rattle.net_model.specs.Cycle.{AreChains, Chain};
 ghost use Rattle.check_clean.specs.sign_cycles.Agree.{Agree};
 ghost use Rattle.check_clean.specs.sign_cycles.BringUp.{BringsUp, HaveResets};
-ghost use Rattle.rtl_rule.specs.Rows.{row_of};
-ghost use Rattle.check_clean.specs.check_all.Findings.{AreAllFindings, IsClean, has_first_grade};
+ghost use Rattle.check_clean.specs.check_all.Findings.{AreAllFindings, IsClean};
 
 use crate::promise::vouch;
-use check_clean::check_found::order::merged;
-use check_clean::check_found::scans::Scans;
+use check_clean::check_all::check;
 use rtl_flat::design::Design;
-use rtl_rule::finding::{Finding, Ruling};
-use rtl_rule::rule::first_grade;
+use rtl_rule::finding::{Ruling, has_first_grade};
 use rtl_tree::memory::Memory;
 use std::alloc::Global;
 
@@ -43,7 +40,7 @@ pub fn rule(alloc: Global, design: &Design) -> Result<Ruling, Memory>
         (fill : Fill) → BringsUp (flat design.now) chains fill) }
     ensures ended { IfOk result (λ r. IsTrue r.clean → RunsEnd (flat design.now)) }
 {
-    let findings = all_findings(alloc, design)?;
+    let findings = check(alloc, design)?;
     vouch(design, &findings);
     let clean = !has_first_grade(&findings);
     let firm = findings.is_empty();
@@ -52,28 +49,4 @@ pub fn rule(alloc: Global, design: &Design) -> Result<Ruling, Memory>
         clean,
         firm,
     })
-}
-
-// The findings of the four crates of rules as one list.
-fn all_findings(alloc: Global, design: &Design) -> Result<Vec<Finding>, Memory>
-    ensures { IfOk result (λ all. AreAllFindings (parts design.now) all.items) }
-{
-    let scans = Scans::of(alloc, design)?;
-    let sense = check_clean::check_sense::check(alloc, &scans)?;
-    let assigned = check_clean::check_assign::check(alloc, &scans)?;
-    let cases = check_clean::check_case::check(alloc, &scans)?;
-    let unknown = check_clean::check_xprop::check(alloc, &scans)?;
-    let two = merged(alloc, &sense, &assigned)?;
-    let three = merged(alloc, &two, &cases)?;
-    merged(alloc, &three, &unknown)
-}
-
-fn has_first_grade(findings: &[Finding]) -> bool
-    ensures { result ≡ has_first_grade findings.now }
-{
-    findings.iter().any(
-        |finding|
-            ensures { result ≡ (row_of finding.now.rule).first_grade }
-        { first_grade(finding.rule) },
-    )
 }

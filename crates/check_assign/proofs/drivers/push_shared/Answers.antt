@@ -16,7 +16,7 @@ use Rattle.check_assign.specs.Assigned.{IsSeveralDrivers, lower_writes, several_
 use Rattle.check_assign.specs.Marks.{any_row, shares}
 use Rattle.check_assign.proofs.Hits.{shares_some}
 use Rattle.check_assign.proofs.Sets.{several_inside, several_tells}
-use Rattle.check_assign.proofs.Shown.{gets_shown}
+use Rattle.check_loops.proofs.check_found_proofs.Shown.{gets_shown}
 use Rattle.check_assign.proofs.drivers.push_shared.Goals as goal
 
 pub returns-clause-found : goal.returns-clause-found

@@ -7,9 +7,10 @@ use Rattle.std.proofs.lemmas.Result.{on_ok_weaker}
 use Rattle.rtl_flat.specs.Process.{doing, task}
 use Rattle.rtl_rule.specs.declared.rule.Rule.TheVariants.{BlockingState}
 use Rattle.rtl_flat.specs.Flats.{flat}
-use Rattle.check_assign.specs.Assigned.{IsBlockingState, blocking_state_at, is_clocked}
+use Rattle.rtl_rule.specs.Parts.{is_clocked}
+use Rattle.check_assign.specs.Assigned.{IsBlockingState, blocking_state_at}
 use Rattle.check_assign.proofs.Firsts.{blocking_inside, blocking_tells}
-use Rattle.check_assign.proofs.Shown.{gets_no, gets_shown}
+use Rattle.check_loops.proofs.check_found_proofs.Shown.{gets_no, gets_shown}
 use Rattle.check_assign.proofs.kinds.push_blocking.Goals as goal
 
 pub returns-then-not-is_clocked : goal.returns-then-not-is_clocked

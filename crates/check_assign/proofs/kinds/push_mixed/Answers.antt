@@ -6,9 +6,9 @@ use Rattle.rtl_flat.specs.Process.{task}
 use Rattle.rtl_rule.specs.declared.rule.Rule.TheVariants.{MixedAssign}
 use Rattle.rtl_flat.specs.Flats.{flat}
 use Rattle.check_assign.specs.Assigned.{IsMixedAssign, mixed_assign_at}
-use Rattle.check_assign.specs.Marks.{is_some_spot}
+use Rattle.check_loops.specs.check_found.Marked.{is_some_spot}
 use Rattle.check_assign.proofs.Firsts.{first_of, mixed_inside, mixed_tells}
-use Rattle.check_assign.proofs.Shown.{gets_no, gets_shown}
+use Rattle.check_loops.proofs.check_found_proofs.Shown.{gets_no, gets_shown}
 use Rattle.check_assign.proofs.kinds.push_mixed.Goals as goal
 
 pub returns-then-is_empty : goal.returns-then-is_empty

@@ -9,7 +9,7 @@ use Rattle.rtl_rule.specs.Parts.{has_some}
 use Rattle.rtl_flat.specs.Flats.{flat, widths}
 use Rattle.check_assign.specs.Assigned.{IsNonblockingComb, is_comb, late, nonblocking_comb_at}
 use Rattle.check_assign.proofs.Firsts.{nonblocking_inside, nonblocking_tells}
-use Rattle.check_assign.proofs.Shown.{gets_no, gets_shown}
+use Rattle.check_loops.proofs.check_found_proofs.Shown.{gets_no, gets_shown}
 use Rattle.check_assign.proofs.kinds.push_nonblocking.Goals as goal
 
 pub returns-then-not-is_comb : goal.returns-then-not-is_comb

@@ -19,7 +19,7 @@ use Rattle.check_assign.specs.Assigned.{IsLatchInferred, is_comb, latch_inferred
 use Rattle.check_assign.specs.Marks.{any_row, leaves}
 use Rattle.check_assign.proofs.Hits.{leaves_some}
 use Rattle.check_assign.proofs.Sets.{latch_inside, latch_tells}
-use Rattle.check_assign.proofs.Shown.{gets_no, gets_shown}
+use Rattle.check_loops.proofs.check_found_proofs.Shown.{gets_no, gets_shown}
 use Rattle.check_assign.proofs.latches.push_latches.Goals as goal
 
 pub returns-then-not-is_comb : goal.returns-then-not-is_comb

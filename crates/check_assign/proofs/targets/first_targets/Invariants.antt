@@ -6,7 +6,7 @@ use Rattle.rtl_flat.specs.Process.{action, doing}
 use Rattle.rtl_rule.specs.Parts.{statements}
 use Rattle.rtl_flat.specs.Flats.{flat, widths}
 use Rattle.check_assign.specs.Assigned.{own_targets}
-use Rattle.check_assign.specs.Marks.{joined, least_of}
+use Rattle.check_loops.specs.check_found.Marked.{joined, least_of}
 use Rattle.check_assign.proofs.targets.first_targets.Given as goal
 
 abbrev pub invariant-loop-one : goal.invariant-loop-one

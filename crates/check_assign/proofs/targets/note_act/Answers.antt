@@ -7,9 +7,10 @@ use Rattle.rtl_flat.specs.Expression.{tree}
 use Rattle.rtl_flat.specs.Process.{action, piece}
 use Rattle.rtl_flat.specs.Flats.{flat, widths}
 use Rattle.check_assign.specs.Assigned.{own_targets}
-use Rattle.check_assign.specs.Marks.{joined, least_of, spot_of}
+use Rattle.check_loops.specs.check_found.Marked.{joined, least_of}
+use Rattle.check_assign.specs.Marks.{spot_of}
 use Rattle.check_assign.proofs.Firsts.{own_none, own_same}
-use Rattle.check_assign.proofs.Places.{joined-none}
+use Rattle.check_loops.proofs.check_found_proofs.Places.{joined-none}
 use Rattle.check_assign.proofs.targets.note_act.Goals as goal
 
 pub returns-then-is_delayed-delayed : goal.returns-then-is_delayed-delayed

@@ -6,9 +6,9 @@ use Rattle.std.proofs.lemmas.Result.{on_ok_weaker}
 use Rattle.rtl_flat.specs.Process.{selection}
 use Rattle.rtl_rule.specs.Parts.{spot_if}
 use Rattle.rtl_flat.specs.Flats.{flat, widths}
-use Rattle.check_assign.specs.Marks.{joined}
+use Rattle.check_loops.specs.check_found.Marked.{joined}
 use Rattle.check_assign.proofs.Hits.{part_none, part_some}
-use Rattle.check_assign.proofs.Places.{joined-none, joined_if}
+use Rattle.check_loops.proofs.check_found_proofs.Places.{joined-none, joined_if}
 use Rattle.check_assign.proofs.targets.note_part.Goals as goal
 
 pub returns-then-row-eq0 : goal.returns-then-row-eq0

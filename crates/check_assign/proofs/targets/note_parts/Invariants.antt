@@ -4,7 +4,8 @@ use Rattle.std.specs.Ordering.{nat_cmp}
 use Rattle.std.specs.BTreeMap.{get}
 use Rattle.rtl_flat.specs.Process.{piece}
 use Rattle.rtl_flat.specs.Flats.{flat, widths}
-use Rattle.check_assign.specs.Marks.{joined, least_of, spot_of}
+use Rattle.check_loops.specs.check_found.Marked.{joined, least_of}
+use Rattle.check_assign.specs.Marks.{spot_of}
 use Rattle.check_assign.proofs.targets.note_parts.Given as goal
 
 abbrev pub invariant-loop-part : goal.invariant-loop-part

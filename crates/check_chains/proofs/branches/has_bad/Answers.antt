@@ -5,10 +5,10 @@ use Rattle.check_chains.specs.Views.{guard_view}
 use Rattle.check_chains.proofs.Bad.{all_good, more_good, one_bad, view_at}
 use Rattle.check_chains.proofs.branches.has_bad.Goals as goal
 
-pub is_reset_branch-requires : goal.is_reset_branch-requires
-is_reset_branch-requires c =
+pub is_reset_branch-requires-clause-lawful : goal.is_reset_branch-requires-clause-lawful
+is_reset_branch-requires-clause-lawful c =
     let there = view_at guard_view c.args.resets.now c.loop-guard.guard-index c.guard-item.result c.loop-guard-test.true c.guard-item.is in
-    c.requires c.loop-guard.guard-index (guard_view c.guard-item.result) there
+    c.requires.lawful c.loop-guard.guard-index (guard_view c.guard-item.result) there
 
 pub returns-then-not-branch : goal.returns-then-not-branch
 returns-then-not-branch c =

@@ -4,8 +4,8 @@ use Rattle.check_found.proofs.Sites.{task_at}
 use Rattle.check_chains.proofs.Bad.{branch_formed, has_chain, no_chain}
 use Rattle.check_chains.proofs.branches.has_bad_reset.Goals as goal
 
-pub has_bad-requires : goal.has_bad-requires
-has_bad-requires c =
+pub has_bad-requires-clause-lawful : goal.has_bad-requires-clause-lawful
+has_bad-requires-clause-lawful c =
     branch_formed c.args.design.now c.args.p.0 c.index.result.now c.requires.there c.index.ensures c.in_ok-chain_of.field-0 c.in_ok-chain_of.ensures c.in-Some.chain c.in-Some.is c.deref.result.now c.deref.ensures.value
 
 pub returns-in-None : goal.returns-in-None

@@ -5,7 +5,7 @@ use Rattle.std.proofs.lemmas.Result.{on_ok_weaker}
 use Rattle.rtl_flat.specs.Flats.{flat}
 use Rattle.net_model.specs.Control.{InCone}
 use Rattle.rtl_flat.specs.Process.{task}
-use Rattle.check_clocks.specs.Firsts.{least_of}
+use Rattle.check_chains.specs.check_found.Marked.{least_of}
 use Rattle.check_clocks.specs.Uses.{places_of}
 use Rattle.check_clocks.proofs.AsData.{data_gets}
 use Rattle.check_clocks.proofs.clock_data.push_process.Goals as goal

@@ -2,7 +2,8 @@ use Rattle.std.proofs.Common.{◌≡◌, map, drop}
 use Rattle.std.specs.List.{list_any}
 use Rattle.rtl_flat.specs.Expression.{tree}
 use Rattle.rtl_flat.specs.Flats.{flat, widths}
-use Rattle.check_xprop.specs.Doubts.{meets, own_reads}
+use Rattle.rtl_rule.specs.Parts.{own_reads}
+use Rattle.check_xprop.specs.Doubts.{meets}
 use Rattle.check_xprop.proofs.choices.any_mark.Given as goal
 
 abbrev pub invariant-loop-e : goal.invariant-loop-e

@@ -1,19 +1,13 @@
-use Rattle.std.proofs.Common.{◌∙◌, sym}
+use Rattle.std.proofs.Common.{None, Some, false, refl}
+use Rattle.rtl_flat.specs.Expression.{tree}
 use Rattle.rtl_flat.specs.Flats.{flat, widths}
-use Rattle.check_xprop.proofs.Doubts.{marked_in, none_meets, read_meets, read_misses}
-use Rattle.std.proofs.lemmas.Bool.{false≢true}
+use Rattle.check_xprop.proofs.Doubts.{read_meets}
 use Rattle.check_xprop.proofs.choices.reads_mark.Goals as goal
 
-pub returns-then-is_marked : goal.returns-then-is_marked
-returns-then-is_marked c =
-    let marked = sym c.is_marked.ensures ∙ c.if-is_marked.true in
-    read_meets (widths (flat c.args.design.now)) c.args.marks.now c.args.e.now c.in-Read.signal c.in-Read.select c.selected.result c.in-Read.is c.selected.ensures (marked_in c.args.marks.now c.in-Read.signal.0 marked) marked
+pub returns-in-Some : goal.returns-in-Some
+returns-in-Some c =
+    read_meets (widths (flat c.args.design.now)) c.args.marks.now (tree c.args.e.now) (Some c.in-Some.signal) c.in-Some.ensures c.is_marked.result c.is_marked.ensures
 
-pub returns-else-is_marked : goal.returns-else-is_marked
-returns-else-is_marked c =
-    let unmarked = sym c.is_marked.ensures ∙ c.if-is_marked.false in
-    c.if-is_marked.false ∙ read_misses (widths (flat c.args.design.now)) c.args.marks.now c.args.e.now c.in-Read.signal c.in-Read.select c.in-Read.is (λ there marked. false≢true (sym unmarked ∙ marked))
-
-pub returns-in_default : goal.returns-in_default
-returns-in_default c =
-    none_meets (widths (flat c.args.design.now)) c.args.marks.now c.args.e.now c.in_default.not-Read
+pub returns-in-None : goal.returns-in-None
+returns-in-None c =
+    read_meets (widths (flat c.args.design.now)) c.args.marks.now (tree c.args.e.now) None c.in-None.ensures false refl

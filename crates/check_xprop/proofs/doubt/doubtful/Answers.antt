@@ -1,8 +1,8 @@
 use Rattle.std.proofs.Common.{rules, ℕ, ◌≡◌, ◌∙◌, ◌<◌, [], Bool, false, List, length, replicate, sym, ap, subst, refl, arith}
 use Rattle.std.proofs.lemmas.List.{length-replicate}
 use Rattle.rtl_flat.specs.Flats.{flat}
-use Rattle.check_assign.proofs.rtl_scan_proofs.Processes.{length-tasks}
-use Rattle.check_assign.proofs.rtl_scan_proofs.Users.{written_back}
+use Rattle.check_chains.proofs.rtl_scan_proofs.Processes.{length-tasks}
+use Rattle.check_chains.proofs.rtl_scan_proofs.Users.{written_back}
 use Rattle.check_xprop.specs.declared.doubt.Spread.{Spread}
 use Rattle.check_xprop.specs.Spreading.{Among, IsSpreading, Reaches, bucket}
 use Rattle.check_xprop.proofs.Worklist.{bucket_get, is_reader, popped, reached, spread_all, spreading_first, waits_marked}

@@ -1,8 +1,8 @@
 use Rattle.std.proofs.Common.{◌∙◌, List, sym, ap}
 use Rattle.std.proofs.lemmas.Result.{on_ok_weaker}
 use Rattle.rtl_flat.specs.Flats.{flat}
-use Rattle.check_assign.specs.rtl_scan.declared.bits.Row.{Row}
-use Rattle.check_assign.specs.rtl_scan.Usage.{has_row_of}
+use Rattle.check_chains.specs.rtl_scan.declared.bits.Row.{Row}
+use Rattle.check_chains.specs.rtl_scan.Usage.{has_row_of}
 use Rattle.check_xprop.specs.Spreading.{reads}
 use Rattle.check_xprop.proofs.Worklist.{notes_as, reads_are}
 use Rattle.check_xprop.proofs.doubt.note_process.Goals as goal

@@ -1,8 +1,8 @@
 use Rattle.std.proofs.Common.{[], subst, List}
 use Rattle.std.proofs.lemmas.List.{take_all}
 use Rattle.std.proofs.lemmas.Bool.{false≢true}
-use Rattle.check_assign.specs.rtl_scan.declared.bits.Row.{Row}
-use Rattle.check_assign.specs.rtl_scan.Usage.{has_row_of}
+use Rattle.check_chains.specs.rtl_scan.declared.bits.Row.{Row}
+use Rattle.check_chains.specs.rtl_scan.Usage.{has_row_of}
 use Rattle.check_xprop.specs.Spreading.{Notes}
 use Rattle.check_xprop.proofs.Worklist.{notes_more, notes_none}
 use Rattle.check_xprop.proofs.doubt.note_rows.Goals as goal

@@ -1,7 +1,7 @@
 use Rattle.std.proofs.Common.{◌<◌, length, map, arith}
 use Rattle.rtl_flat.specs.Process.{task}
 use Rattle.rtl_flat.specs.Flats.{flat}
-use Rattle.check_assign.proofs.rtl_scan_proofs.Processes.{length-tasks}
+use Rattle.check_chains.proofs.rtl_scan_proofs.Processes.{length-tasks}
 use Rattle.check_xprop.proofs.Processes.{slice_there}
 use Rattle.check_xprop.proofs.Worklist.{readers_more}
 use Rattle.check_xprop.proofs.doubt.readers.Goals as goal

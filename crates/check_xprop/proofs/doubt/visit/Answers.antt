@@ -1,8 +1,8 @@
 use Rattle.std.proofs.Common.{◌∙◌, ◌<◌, List, sym, ap, length, arith}
 use Rattle.std.proofs.lemmas.Result.{on_ok_weaker}
 use Rattle.rtl_flat.specs.Flats.{flat}
-use Rattle.check_assign.specs.rtl_scan.declared.bits.Row.{Row}
-use Rattle.check_assign.specs.rtl_scan.Usage.{has_row_of}
+use Rattle.check_chains.specs.rtl_scan.declared.bits.Row.{Row}
+use Rattle.check_chains.specs.rtl_scan.Usage.{has_row_of}
 use Rattle.check_xprop.specs.Spreading.{writes}
 use Rattle.check_xprop.proofs.Spreading.{marks_as, visited, writes_are}
 use Rattle.check_xprop.proofs.doubt.visit.Goals as goal

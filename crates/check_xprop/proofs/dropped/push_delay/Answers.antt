@@ -7,7 +7,7 @@ use Rattle.rtl_flat.specs.Process.{task}
 use Rattle.rtl_rule.specs.declared.rule.Rule.TheVariants.{DelayIgnored}
 use Rattle.rtl_rule.specs.Parts.{first_of, written}
 use Rattle.rtl_flat.specs.Flats.{flat}
-use Rattle.check_assign.proofs.rtl_scan_proofs.Processes.{length-tasks, task_at}
+use Rattle.check_chains.proofs.rtl_scan_proofs.Processes.{length-tasks, task_at}
 use Rattle.check_xprop.specs.Lists.{at_spot}
 use Rattle.check_xprop.proofs.Regions.{delay_nowhere, delay_there}
 use Rattle.check_xprop.proofs.dropped.push_delay.Goals as goal

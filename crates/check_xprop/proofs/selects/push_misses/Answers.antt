@@ -5,7 +5,7 @@ use Rattle.rtl_flat.specs.declared.act.TargetPart.{TargetPart}
 use Rattle.rtl_flat.specs.Process.{Piece, Task, Watched, doing, piece, task}
 use Rattle.rtl_rule.specs.Parts.{items_of, pieces}
 use Rattle.rtl_flat.specs.Flats.{flat, widths}
-use Rattle.check_assign.proofs.rtl_scan_proofs.Processes.{task_at}
+use Rattle.check_chains.proofs.rtl_scan_proofs.Processes.{task_at}
 use Rattle.check_xprop.specs.Lists.{misses_found}
 use Rattle.check_xprop.specs.Unknowns.{all_nodes, pick_in, pick_of, picks}
 use Rattle.check_xprop.proofs.Picks.{misses_three}

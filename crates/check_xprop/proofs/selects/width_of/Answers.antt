@@ -1,6 +1,6 @@
 use Rattle.std.proofs.Common.{◌∙◌, ap, sym, length}
 use Rattle.std.proofs.lemmas.Bool.{ltb-true, ltb-false}
-use Rattle.check_assign.proofs.rtl_scan_proofs.Places.{width_at, width_past}
+use Rattle.check_chains.proofs.rtl_scan_proofs.Places.{width_at, width_past}
 use Rattle.check_xprop.proofs.selects.width_of.Goals as goal
 
 pub returns-in-Some : goal.returns-in-Some

@@ -4,7 +4,7 @@ use Rattle.rtl_flat.specs.Process.{Task, task}
 use Rattle.rtl_rule.specs.declared.rule.Rule.TheVariants.{SeveralDrivers}
 use Rattle.rtl_flat.specs.Flats.{flat}
 use Rattle.net_list.proofs.check_found_proofs.Sites.{task_at, task_count}
-use Rattle.net_list.specs.check_assign.Assigned.{is_clocked}
+use Rattle.rtl_rule.specs.Parts.{is_clocked}
 use Rattle.net_list.proofs.check_assign_proofs.Turns.{lower_none}
 use Rattle.infer_regs.specs.Taken.{AreTaken, IsBroken, Takes}
 use Rattle.infer_regs.proofs.Judging.{refuted}

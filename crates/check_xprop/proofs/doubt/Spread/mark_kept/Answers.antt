@@ -1,8 +1,8 @@
 use Rattle.std.proofs.Common.{◌&&◌, not, false, get_or, [], subst, List}
 use Rattle.std.proofs.lemmas.List.{take_all}
 use Rattle.std.proofs.lemmas.Bool.{false≢true}
-use Rattle.check_assign.specs.rtl_scan.declared.bits.Row.{Row}
-use Rattle.check_assign.specs.rtl_scan.Usage.{has_row_of}
+use Rattle.check_chains.specs.rtl_scan.declared.bits.Row.{Row}
+use Rattle.check_chains.specs.rtl_scan.Usage.{has_row_of}
 use Rattle.check_xprop.specs.Spreading.{Marks}
 use Rattle.check_xprop.proofs.Spreading.{kept_more, marks_none}
 use Rattle.check_xprop.proofs.doubt.Spread.mark_kept.Goals as goal

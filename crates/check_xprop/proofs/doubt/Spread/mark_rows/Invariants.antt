@@ -1,5 +1,5 @@
 use Rattle.std.proofs.Common.{take}
-use Rattle.check_assign.specs.rtl_scan.Usage.{has_row_of}
+use Rattle.check_chains.specs.rtl_scan.Usage.{has_row_of}
 use Rattle.check_xprop.specs.Spreading.{Marks}
 use Rattle.check_xprop.proofs.doubt.Spread.mark_rows.Given as goal
 

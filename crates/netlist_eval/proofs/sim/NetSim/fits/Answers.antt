@@ -5,7 +5,7 @@ use Rattle.std.proofs.lemmas.Bool.{eq-eqb, eqb-true, false≢true}
 use Rattle.rtl_bits.specs.Bits.{has_unknown}
 use Rattle.event_model.specs.Queue.{is_input}
 use Rattle.rtl_flat.specs.Flats.{flat, widths}
-use Rattle.netlist_eval.proofs.Fitting.{top_is, width_at}
+use Rattle.netlist_eval.proofs.Fitting.{width_at}
 use Rattle.netlist_eval.proofs.Marked.{input_below}
 use Rattle.netlist_eval.proofs.sim.NetSim.fits.Goals as goal
 use Rattle.netlist_eval.proofs.sim.NetSim.fits.Goals.{then-is_top, else-is_top}
@@ -22,7 +22,7 @@ returns-then-is_known c =
     let facts : IsTrue (is_input (flat design) i) × (has_unknown bits ≡ false) =
     elim c.if-is_top.branch [
       | then-is_top w ↦ (
-        sym (top_is (slice_get design.signals.items i)) ∙ (sym c.is_top.ensures ∙ w.if-is_top.true),
+        sym c.is_top.ensures ∙ w.if-is_top.true,
         not_true (has_unknown bits) (sym w.is_known.ensures ∙ (sym w.value-is ∙ c.if-is_known.true)),
       )
       | else-is_top w ↦ absurd (false≢true (sym w.if-is_top.false ∙ (sym w.value-is ∙ c.if-is_known.true)))
