@@ -7,5 +7,6 @@ ghost use Rattle.check_all.specs.Findings.{AreAllFindings};
 
 /// A design has one list of all findings.
 pub fn alone()
-    ensures { (d : Parts) (one other : List Finding) → AreAllFindings d one → AreAllFindings d other → one ≡ other }
+    ensures { (d : Parts) (one other : List Finding) → AreAllFindings d one → AreAllFindings d other
+        → one ≡ other }
 {}

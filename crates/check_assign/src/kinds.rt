@@ -57,7 +57,8 @@ fn push_blocking(
 ) -> Result<(), Memory>
     requires { AreTemporaries (flat design.now) temporaries.now }
     ensures { let d = flat design.now in OnOk result ((p : ℕ) →
-        Gets (IsBlockingState d) (blocking_state_at d) (task_sites (signal_numbers d) p (task process.now))
+        Gets (IsBlockingState d) (blocking_state_at d)
+        (task_sites (signal_numbers d) p (task process.now))
         found.old.items found.new.items) }
 {
     if !is_clocked(&process.does) {
@@ -94,7 +95,8 @@ fn push_nonblocking(
     found: &mut Vec<Finding>,
 ) -> Result<(), Memory>
     ensures { let d = flat design.now in OnOk result ((p : ℕ) →
-        Gets (IsNonblockingComb d) (nonblocking_comb_at d) (task_sites (signal_numbers d) p (task process.now))
+        Gets (IsNonblockingComb d) (nonblocking_comb_at d)
+        (task_sites (signal_numbers d) p (task process.now))
         found.old.items found.new.items) }
 {
     if !is_comb(&process.does) {
@@ -124,7 +126,8 @@ fn push_mixed(
     found: &mut Vec<Finding>,
 ) -> Result<(), Memory>
     ensures { let d = flat design.now in OnOk result ((p : ℕ) →
-        Gets (IsMixedAssign d) (mixed_assign_at d) (task_sites (signal_numbers d) p (task process.now))
+        Gets (IsMixedAssign d) (mixed_assign_at d)
+        (task_sites (signal_numbers d) p (task process.now))
         found.old.items found.new.items) }
 {
     let late = first_targets(alloc, design, &process.does, true)?;

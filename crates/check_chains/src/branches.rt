@@ -43,7 +43,8 @@ fn is_marked(marks: &[bool], signal: SigId) -> bool
 /// Adds a signal, and tells whether it is new.
 fn add(found: &mut BTreeSet<u32>, signal: SigId) -> Result<bool, Memory>
     ensures new { IfOk result (λ new. new ≡ not (contains nat_cmp found.old signal.0)) }
-    ensures added { OnOk result ((s : ℕ) → contains nat_cmp found.new s ≡ cond (s == signal.0) true (contains nat_cmp found.old s)) }
+    ensures added { OnOk result ((s : ℕ)
+        → contains nat_cmp found.new s ≡ cond (s == signal.0) true (contains nat_cmp found.old s)) }
 {
     let new = found.insert(signal.0)?;
     Ok(new)
@@ -52,7 +53,8 @@ fn add(found: &mut BTreeSet<u32>, signal: SigId) -> Result<bool, Memory>
 /// Adds a signal that isn't marked.
 fn keep(found: &mut BTreeSet<u32>, marks: &[bool], signal: SigId) -> Result<(), Memory>
     ensures { OnOk result ((s : ℕ) → contains nat_cmp found.new s
-        ≡ cond (not (is_marked marks.now signal.0) && (s == signal.0)) true (contains nat_cmp found.old s)) }
+        ≡ cond (not (is_marked marks.now signal.0) && (s == signal.0)) true
+        (contains nat_cmp found.old s)) }
 {
     if is_marked(marks, signal) {
         return Ok(());
@@ -63,7 +65,8 @@ fn keep(found: &mut BTreeSet<u32>, marks: &[bool], signal: SigId) -> Result<(), 
 
 /// The signals of rows that aren't marked.
 fn kept(alloc: Global, rows: &[Row], marks: &[bool]) -> Result<BTreeSet<u32>, Memory>
-    ensures { IfOk result (λ found. (s : ℕ) → contains nat_cmp found s ≡ has_kept marks.now rows.now s) }
+    ensures { IfOk result (λ found. (s : ℕ)
+        → contains nat_cmp found s ≡ has_kept marks.now rows.now s) }
 {
     let mut found = BTreeSet::new(alloc);
     for row in rows {
@@ -80,8 +83,10 @@ fn registers(
     p: ProcId,
 ) -> Result<BTreeSet<u32>, Memory>
     requires there { p.0 < length design.now.processes.items }
-    requires marked { (s : ℕ) → slice_get temporaries.now s ≡ Some true ↔ IsTemporary (flat design.now).signals (flat design.now).tasks s }
-    ensures { IfOk result (λ found. (task : Task) → slice_get (flat design.now).tasks p.0 ≡ Some task → AreRegisters (flat design.now) task.does found) }
+    requires marked { (s : ℕ) → slice_get temporaries.now s ≡ Some true
+        ↔ IsTemporary (flat design.now).signals (flat design.now).tasks s }
+    ensures { IfOk result (λ found. (task : Task) → slice_get (flat design.now).tasks p.0
+        ≡ Some task → AreRegisters (flat design.now) task.does found) }
 {
     let bits = written(alloc, design, p)?;
     kept(alloc, &bits.rows, temporaries)
@@ -97,8 +102,10 @@ fn is_reset_branch(
 ) -> Result<bool, Memory>
     requires unknown { AreUnknowns (flat design.now) unknowns.now }
     requires lawful { IsBody design.now.signals.items (body_of (map action branch.now)) }
-    ensures { IfOk result (λ good. (does : Doing) → AreRegisters (flat design.now) does registers.now
-        → good ≡ true ↔ spec.IsResetBranch (flat design.now) does (all_of (body_of (map action branch.now)))) }
+    ensures { IfOk result (λ good. (does : Doing)
+        → AreRegisters (flat design.now) does registers.now
+        → good ≡ true ↔ spec.IsResetBranch (flat design.now) does
+        (all_of (body_of (map action branch.now)))) }
 {
     let statements = statements_of(alloc, branch)?;
     let mut seen = BTreeSet::new(alloc);
@@ -125,7 +132,8 @@ fn has_bad(
     resets: &[Guard],
 ) -> Result<bool, Memory>
     requires unknown { AreUnknowns (flat design.now) unknowns.now }
-    requires lawful { (k : ℕ) (guard : cycle.Guard) → slice_get (map guard_view resets.now) k ≡ Some guard → IsBody design.now.signals.items guard.branch }
+    requires lawful { (k : ℕ) (guard : cycle.Guard) → slice_get (map guard_view resets.now) k
+        ≡ Some guard → IsBody design.now.signals.items guard.branch }
     ensures { IfOk result (λ bad. (does : Doing) → AreRegisters (flat design.now) does registers.now
         → bad ≡ true ↔ HasBad (flat design.now) does (map guard_view resets.now)) }
 {
@@ -146,7 +154,8 @@ pub fn has_bad_reset(
     p: ProcId,
 ) -> Result<bool, Memory>
     requires there { p.0 < length design.now.processes.items }
-    requires marked { (s : ℕ) → slice_get temporaries.now s ≡ Some true ↔ IsTemporary (flat design.now).signals (flat design.now).tasks s }
+    requires marked { (s : ℕ) → slice_get temporaries.now s ≡ Some true
+        ↔ IsTemporary (flat design.now).signals (flat design.now).tasks s }
     requires unknown { AreUnknowns (flat design.now) unknowns.now }
     ensures { IfOk result (λ bad. (task : Task) → slice_get (flat design.now).tasks p.0 ≡ Some task
         → bad ≡ true ↔ spec.IsResetValue (flat design.now) (within (p.0, task) task.does)) }

@@ -64,7 +64,8 @@ fn take_out<'d>(events: &mut Vec<&'d EventItem>, signal: SigId) -> Option<&'d Ev
     ensures { MatchOption result
         (spec.taken_out signal.0 (events_view events.old.items) ≡ None)
         (λ item. (vec_len events.new + 1 ≡ vec_len events.old)
-        × (spec.taken_out signal.0 (events_view events.old.items) ≡ Some (watched item.now, events_view events.new.items))) }
+        × (spec.taken_out signal.0 (events_view events.old.items)
+        ≡ Some (watched item.now, events_view events.new.items))) }
 {
     let place = place_of(events, signal)?;
     Some(events.remove(place))
@@ -81,7 +82,8 @@ struct Step<'d> {
 fn step_of<'d>(events: &mut Vec<&'d EventItem>, body: &'d [Act]) -> Option<Step<'d>>
     ensures { MatchOption result
         ((go : List Watched → Actions → Option cycle.Chain) →
-        spec.headed go (events_view events.old.items) (cycle.opened (body_of (map action body.now))) ≡ None)
+        spec.headed go (events_view events.old.items) (cycle.opened (body_of (map action body.now)))
+        ≡ None)
         (λ step. (vec_len events.new + 1 ≡ vec_len events.old)
         × IsStep events.old.items (body_of (map action body.now)) step events.new.items) }
 {

@@ -24,7 +24,8 @@ use std::alloc::Global;
 /// Whether there are several events, each with an edge.
 #[tactic(auto, using(crate::proofs::Taken::all_watched))]
 fn are_edges(events: &[EventItem]) -> bool
-    ensures { result ≡ (spec.is_more (map watched events.now) && list_all (λ item. has_edge item.edge) (map watched events.now)) }
+    ensures { result ≡ (spec.is_more (map watched events.now)
+        && list_all (λ item. has_edge item.edge) (map watched events.now)) }
 {
     events.len() > 1 && all_edges(events)
 }

@@ -17,7 +17,8 @@ use std::alloc::Global;
 /// The finding of a rule at a process, with the first signal that the process may write.
 fn finding_of(alloc: Global, design: &Design, rule: Rule, p: ProcId) -> Result<Finding, Memory>
     requires { p.0 < length design.now.processes.items }
-    ensures { IfOk result (λ finding. (task : Task) → slice_get (flat design.now).tasks p.0 ≡ Some task
+    ensures { IfOk result (λ finding. (task : Task) → slice_get (flat design.now).tasks p.0
+        ≡ Some task
         → finding ≡ finding_of (flat design.now) rule p.0 task) }
 {
     let process = &design.processes[p.0 as usize];

@@ -31,7 +31,8 @@ fn mark_item(marks: &mut [bool], item: &EventItem)
 }
 
 fn mark_items(marks: &mut [bool], items: &[EventItem])
-    ensures { AreMarkedAlso (flat_map (λ item. waited_by (watched item)) items.now) marks.old marks.new }
+    ensures { AreMarkedAlso (flat_map (λ item. waited_by (watched item)) items.now) marks.old
+        marks.new }
 {
     for item in items {
         mark_item(marks, item);

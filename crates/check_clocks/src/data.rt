@@ -28,7 +28,8 @@ fn push_statement<'d>(
     one: &'d Act,
     found: &mut Vec<&'d SizedExpr>,
 ) -> Result<(), Memory>
-    ensures { OnOk result (expressions found.new.items ≡ expressions found.old.items ++ spec.statement_trees (action one.now)) }
+    ensures { OnOk result (expressions found.new.items
+        ≡ expressions found.old.items ++ spec.statement_trees (action one.now)) }
 {
     let own = own_trees(alloc, one)?;
     let labels = own_labels(alloc, one)?;
@@ -44,7 +45,8 @@ fn push_body<'d>(
     found: &mut Vec<&'d SizedExpr>,
 ) -> Result<(), Memory>
     ensures { OnOk result (expressions found.new.items
-        ≡ expressions found.old.items ++ flat_map spec.statement_trees (all_of (body_of (map action body.now)))) }
+        ≡ expressions found.old.items ++ flat_map spec.statement_trees
+        (all_of (body_of (map action body.now)))) }
 {
     let all = statements_of(alloc, body)?;
     push_statements(alloc, &all, found)
@@ -56,7 +58,8 @@ fn push_statements<'d>(
     found: &mut Vec<&'d SizedExpr>,
 ) -> Result<(), Memory>
     ensures { OnOk result (expressions found.new.items
-        ≡ expressions found.old.items ++ flat_map spec.statement_trees (map (λ one. action one.now) all.now)) }
+        ≡ expressions found.old.items ++ flat_map spec.statement_trees
+        (map (λ one. action one.now) all.now)) }
 {
     for one in all {
         push_statement(alloc, one, found)?;
@@ -147,7 +150,8 @@ fn data_trees<'d>(
     design: &'d Design,
     process: &'d Process,
 ) -> Result<Vec<&'d SizedExpr>, Memory>
-    ensures { IfOk result (λ all. expressions all.items ≡ spec.data_trees (flat design.now) (task process.now)) }
+    ensures { IfOk result (λ all. expressions all.items
+        ≡ spec.data_trees (flat design.now) (task process.now)) }
 {
     if is_passing(design, process) {
         return Ok(Vec::new(alloc));
@@ -157,7 +161,9 @@ fn data_trees<'d>(
 
 /// Where a process lists signals without an edge or reads them as data.
 pub(crate) fn uses_of(alloc: Global, design: &Design, process: &Process) -> Result<Vec<Use>, Memory>
-    ensures { IfOk result (λ uses. (p s : ℕ) → places_of s uses.items ≡ spec.data_places (flat design.now) (within (p, task process.now) s)) }
+    ensures { IfOk result (λ uses. (p s : ℕ)
+        → places_of s uses.items ≡ spec.data_places (flat design.now)
+        (within (p, task process.now) s)) }
 {
     let mut found = Vec::new(alloc);
     push_levels(design, items(&process.does), &mut found)?;

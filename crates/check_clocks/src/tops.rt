@@ -103,7 +103,8 @@ impl Roles {
 
     /// Notes from which top inputs a clock comes.
     fn note_clock(&mut self, tops: &[Vec<u32>], clock: SigId)
-        ensures clocks { AreMarkedAlso (row tops.now clock.0) self.old.clocks.items self.new.clocks.items }
+        ensures clocks { AreMarkedAlso (row tops.now clock.0) self.old.clocks.items
+            self.new.clocks.items }
         ensures resets { self.new.resets.items ≡ self.old.resets.items }
     {
         mark_all(&mut self.clocks, row_at(tops, clock));
@@ -112,7 +113,8 @@ impl Roles {
     /// Notes from which top inputs resets come.
     fn note_resets(&mut self, tops: &[Vec<u32>], resets: &[Guard<'_>])
         ensures clocks { self.new.clocks.items ≡ self.old.clocks.items }
-        ensures resets { let all = flat_map (λ guard. row tops.now guard.item.now.signal.0) resets.now in
+        ensures resets { let all = flat_map
+            (λ guard. row tops.now guard.item.now.signal.0) resets.now in
             AreMarkedAlso all self.old.resets.items self.new.resets.items }
     {
         mark_resets(&mut self.resets, tops, resets);

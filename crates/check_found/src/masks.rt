@@ -18,7 +18,8 @@ pub struct SignalMasks {
 
 /// Makes room for the mask of a signal.
 fn reach(masks: &mut Vec<u128>, place: usize) -> Result<(), Memory>
-    ensures same { OnOk result ((s : ℕ) → slice_index_or masks.new.items s 0 ≡ slice_index_or masks.old.items s 0) }
+    ensures same { OnOk result ((s : ℕ) → slice_index_or masks.new.items s 0
+        ≡ slice_index_or masks.old.items s 0) }
     ensures there { OnOk result (place < length masks.new.items) }
 {
     while masks.len() <= place {
@@ -45,7 +46,8 @@ impl SignalMasks {
     }
 
     fn insert(&mut self, row: Row) -> Result<(), Memory>
-        ensures { OnOk result ((s k : ℕ) → has_in self.new s k ≡ (has_in self.old s k || has_row row s k)) }
+        ensures { OnOk result ((s k : ℕ)
+            → has_in self.new s k ≡ (has_in self.old s k || has_row row s k)) }
     {
         // A signal with no bit takes no room.
         if row.mask == 0 {
@@ -59,7 +61,8 @@ impl SignalMasks {
 
     /// Adds the bits of rows. Fails where memory runs out.
     pub fn insert_all(&mut self, rows: &[Row]) -> Result<(), Memory>
-        ensures { OnOk result ((s k : ℕ) → has_in self.new s k ≡ (has_in self.old s k || has_rows rows.now s k)) }
+        ensures { OnOk result ((s k : ℕ)
+            → has_in self.new s k ≡ (has_in self.old s k || has_rows rows.now s k)) }
     {
         for row in rows {
             self.insert(*row)?;

@@ -65,7 +65,8 @@ impl<'d> Scans<'d> {
         requires scans { AreScans self.now }
         requires there { p.0 < length self.now.design.now.processes.items }
         ensures { let d = flat self.now.design.now in
-            (task : Task) → slice_get d.tasks p.0 ≡ Some task → result ≡ first_of d (written d task.does) }
+            (task : Task) → slice_get d.tasks p.0 ≡ Some task
+            → result ≡ first_of d (written d task.does) }
     {
         first_signal(self.written(p))
     }

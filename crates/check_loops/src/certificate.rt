@@ -28,7 +28,8 @@ fn all_agreed(
     one: &[Option<Group>],
     other: &[Option<Group>],
 ) -> Result<Option<Vec<Group>>, Memory>
-    ensures { IfOk result (λ all. IfSome all (λ groups. AreAgreed one.now other.now (length one.now) groups.items)) }
+    ensures { IfOk result (λ all. IfSome all
+        (λ groups. AreAgreed one.now other.now (length one.now) groups.items)) }
 {
     let mut groups = Vec::new(alloc);
     for node in 0..one.len() {
@@ -69,7 +70,8 @@ fn inside(groups: &[Group], row: &[u32], own: Group) -> Option<bool>
 }
 
 fn answers(alloc: Global, rows: &[Vec<u32>], groups: &[Group]) -> Result<Option<Vec<bool>>, Memory>
-    ensures { IfOk result (λ all. IfSome all (λ answers. AreAnswered rows.now groups.now (length rows.now) answers.items)) }
+    ensures { IfOk result (λ all. IfSome all
+        (λ answers. AreAnswered rows.now groups.now (length rows.now) answers.items)) }
 {
     let mut answers = Vec::new(alloc);
     for node in 0..rows.len() {

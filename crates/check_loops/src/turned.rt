@@ -21,7 +21,8 @@ fn put(table: &mut Vec<Vec<u32>>, node: u32, from: u32) -> Result<(), Memory>
 
 /// An arrow from a node comes to each of some nodes.
 fn put_all(table: &mut Vec<Vec<u32>>, nodes: &[u32], from: u32) -> Result<(), Memory>
-    ensures { OnOk result (PutsAll nodes.now (length nodes.now) from table.old.items table.new.items) }
+    ensures { OnOk result (PutsAll nodes.now (length nodes.now) from table.old.items
+        table.new.items) }
 {
     for node in nodes {
         put(table, *node, from)?;

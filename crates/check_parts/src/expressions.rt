@@ -179,7 +179,8 @@ fn push_labels<'d>(items: &'d [CaseItem], found: &mut Vec<&'d SizedExpr>) -> Res
 }
 
 fn push_exprs<'d>(all: &'d [SizedExpr], found: &mut Vec<&'d SizedExpr>) -> Result<(), Memory>
-    ensures { OnOk result (expressions found.new.items ≡ expressions found.old.items ++ map tree all.now) }
+    ensures { OnOk result (expressions found.new.items
+        ≡ expressions found.old.items ++ map tree all.now) }
 {
     for e in all {
         found.push(e)?;

@@ -16,7 +16,8 @@ pub(crate) const USUAL: usize = 16;
 
 /// The statements of a process, each before those within it, without blocks.
 pub fn statements<'d>(alloc: Global, does: &'d Does) -> Result<Vec<&'d Act>, Memory>
-    ensures { IfOk result (λ all. map (λ one. action one.now) all.items ≡ statements (doing does.now)) }
+    ensures { IfOk result (λ all. map (λ one. action one.now) all.items
+        ≡ statements (doing does.now)) }
 {
     match does {
         Does::Assign {
@@ -30,7 +31,8 @@ pub fn statements<'d>(alloc: Global, does: &'d Does) -> Result<Vec<&'d Act>, Mem
 
 /// The statements of a body, each before those within it, without blocks.
 pub fn statements_of<'d>(alloc: Global, body: &'d [Act]) -> Result<Vec<&'d Act>, Memory>
-    ensures { IfOk result (λ all. map (λ one. action one.now) all.items ≡ all_of (body_of (map action body.now))) }
+    ensures { IfOk result (λ all. map (λ one. action one.now) all.items
+        ≡ all_of (body_of (map action body.now))) }
 {
     let mut found = Vec::with_capacity(alloc, USUAL)?;
     push_body(body, &mut found)?;
@@ -130,7 +132,8 @@ pub fn pieces<'d>(alloc: Global, does: &'d Does) -> Result<Vec<&'d TargetPart>, 
 
 /// The targets of a statement.
 fn push_targets<'d>(one: &'d Act, found: &mut Vec<&'d TargetPart>) -> Result<(), Memory>
-    ensures { OnOk result (targets found.new.items ≡ targets found.old.items ++ own_pieces (action one.now)) }
+    ensures { OnOk result (targets found.new.items
+        ≡ targets found.old.items ++ own_pieces (action one.now)) }
 {
     match one {
         Act::Set { target, .. } => push_parts(&target.parts, found),
@@ -139,7 +142,8 @@ fn push_targets<'d>(one: &'d Act, found: &mut Vec<&'d TargetPart>) -> Result<(),
 }
 
 fn push_parts<'d>(parts: &'d [TargetPart], found: &mut Vec<&'d TargetPart>) -> Result<(), Memory>
-    ensures { OnOk result (targets found.new.items ≡ targets found.old.items ++ map piece parts.now) }
+    ensures { OnOk result (targets found.new.items
+        ≡ targets found.old.items ++ map piece parts.now) }
 {
     for part in parts {
         found.push(part)?;

@@ -39,7 +39,8 @@ pub(crate) fn process_nodes<'d>(
     p: ProcId,
 ) -> Result<Vec<&'d SizedExpr>, Memory>
     requires { p.0 < length design.now.processes.items }
-    ensures { IfOk result (λ all. AreNodes (flat design.now) p.0 (map (λ e. tree e.now) all.items)) }
+    ensures { IfOk result (λ all. AreNodes (flat design.now) p.0
+        (map (λ e. tree e.now) all.items)) }
 {
     all_nodes(alloc, &design.processes[p.0 as usize].does)
 }

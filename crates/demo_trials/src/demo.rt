@@ -20,7 +20,8 @@ pub struct Demo<'t> {
 impl<'t> Demo<'t> {
     /// Writes the one line of a demonstration behind other text: `trial T step K signal PATH`.
     pub fn write(&self, out: &mut Vec<u8>) -> Result<(), Memory>
-        ensures { OnOk result (out.new.items ≡ out.old.items ++ demo_text self.now.trial.number self.now.step self.now.path.now) }
+        ensures { OnOk result (out.new.items
+            ≡ out.old.items ++ demo_text self.now.trial.number self.now.step self.now.path.now) }
     {
         let mut digits = Buffer::new();
         out.extend_from_slice(b"trial ")?;
@@ -37,9 +38,11 @@ impl<'t> Demo<'t> {
 /// The demonstration that a text tells, in one line that a line feed ends. None where it tells none: numbers have no
 /// leading zeros, there is one space between two words, and all behind the last one is the path.
 pub fn read_demo(text: &[u8]) -> Option<Demo<'_>>
-    ensures read { IfSome result (λ demo. text.now ≡ demo_text demo.trial.number demo.step demo.path.now) }
+    ensures read { IfSome result (λ demo. text.now
+        ≡ demo_text demo.trial.number demo.step demo.path.now) }
     ensures within { IfSome result (λ demo. IsDemo demo.trial.number demo.step demo.path.now) }
-    ensures malformed { IfNone result ((trial step : ℕ) (path : List ℕ) → IsDemo trial step path → text.now ≢ demo_text trial step path) }
+    ensures malformed { IfNone result ((trial step : ℕ) (path : List ℕ) → IsDemo trial step path
+        → text.now ≢ demo_text trial step path) }
 {
     let rest = behind(b"trial ", text)?;
     let (number, rest) = read_number(POWER_UP + 1, rest)?;
@@ -52,7 +55,8 @@ pub fn read_demo(text: &[u8]) -> Option<Demo<'_>>
 fn read_step(text: &[u8]) -> Option<(u8, &[u8])>
     ensures read { IfSome result (λ shown. text.now ≡ step_text shown.0 shown.1.now) }
     ensures within { IfSome result (λ shown. IsShown shown.0 shown.1.now) }
-    ensures malformed { IfNone result ((step : ℕ) (path : List ℕ) → IsShown step path → text.now ≢ step_text step path) }
+    ensures malformed { IfNone result ((step : ℕ) (path : List ℕ) → IsShown step path
+        → text.now ≢ step_text step path) }
 {
     let rest = behind(b"step ", text)?;
     let (step, rest) = read_number(STEPS + 1, rest)?;
@@ -67,7 +71,8 @@ fn read_step(text: &[u8]) -> Option<(u8, &[u8])>
 fn read_signal(text: &[u8]) -> Option<&[u8]>
     ensures read { IfSome result (λ path. text.now ≡ signal_text path.now) }
     ensures within { IfSome result (λ path. is_path path.now ≡ true) }
-    ensures malformed { IfNone result ((path : List ℕ) → is_path path ≡ true → text.now ≢ signal_text path) }
+    ensures malformed { IfNone result ((path : List ℕ) → is_path path ≡ true
+        → text.now ≢ signal_text path) }
 {
     let rest = behind(b"signal ", text)?;
     read_path(rest)
@@ -77,7 +82,8 @@ fn read_signal(text: &[u8]) -> Option<&[u8]>
 fn read_path(text: &[u8]) -> Option<&[u8]>
     ensures read { IfSome result (λ path. text.now ≡ path.now ++ codes "\n") }
     ensures within { IfSome result (λ path. is_path path.now ≡ true) }
-    ensures malformed { IfNone result ((path : List ℕ) → is_path path ≡ true → text.now ≢ path ++ codes "\n") }
+    ensures malformed { IfNone result ((path : List ℕ) → is_path path ≡ true
+        → text.now ≢ path ++ codes "\n") }
 {
     let (last, path) = text.split_last()?;
     if *last == b'\n' && is_path(path) {
@@ -96,9 +102,11 @@ fn is_path(text: &[u8]) -> bool
 
 /// A number below a limit that a space ends, and what is behind it.
 fn read_number(limit: u8, text: &[u8]) -> Option<(u8, &[u8])>
-    ensures read { IfSome result (λ found. text.now ≡ decimal found.0 ++ (codes " " ++ found.1.now)) }
+    ensures read { IfSome result (λ found. text.now
+        ≡ decimal found.0 ++ (codes " " ++ found.1.now)) }
     ensures below { IfSome result (λ found. found.0 < limit) }
-    ensures malformed { IfNone result ((number : ℕ) → number < limit → (rest : List ℕ) → text.now ≢ decimal number ++ (codes " " ++ rest)) }
+    ensures malformed { IfNone result ((number : ℕ) → number < limit → (rest : List ℕ)
+        → text.now ≢ decimal number ++ (codes " " ++ rest)) }
 {
     for number in 0..limit {
         if let Some(rest) = behind_number(number, text) {
@@ -111,7 +119,8 @@ fn read_number(limit: u8, text: &[u8]) -> Option<(u8, &[u8])>
 /// What is behind a number and a space.
 fn behind_number(number: u8, text: &[u8]) -> Option<&[u8]>
     ensures read { IfSome result (λ rest. text.now ≡ decimal number ++ (codes " " ++ rest.now)) }
-    ensures malformed { IfNone result ((rest : List ℕ) → text.now ≢ decimal number ++ (codes " " ++ rest)) }
+    ensures malformed { IfNone result ((rest : List ℕ)
+        → text.now ≢ decimal number ++ (codes " " ++ rest)) }
 {
     let mut digits = Buffer::new();
     let rest = behind(digits.format(number).as_bytes(), text)?;
@@ -120,7 +129,8 @@ fn behind_number(number: u8, text: &[u8]) -> Option<&[u8]>
 
 /// What is behind a text at the begin of another.
 fn behind<'t>(head: &[u8], text: &'t [u8]) -> Option<&'t [u8]>
-    ensures { MatchOption result ((rest : List ℕ) → text.now ≢ head.now ++ rest) (λ rest. text.now ≡ head.now ++ rest.now) }
+    ensures { MatchOption result ((rest : List ℕ) → text.now ≢ head.now ++ rest) (λ rest. text.now
+        ≡ head.now ++ rest.now) }
 {
     text.strip_prefix(head)
 }

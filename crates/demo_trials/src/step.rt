@@ -16,9 +16,12 @@ use std::alloc::Global;
 impl Trial {
     /// What a step sets, where the inputs have these values before it. Inputs stand in the order of the header.
     pub fn step(self, alloc: Global, step: u8, inputs: &[Input<'_>]) -> Result<Vec<Setting>, Memory>
-        ensures exact { IfOk result (λ settings. settings.items ≡ step_of self.number step (map input inputs.now)) }
-        ensures fitting { IfOk result (λ settings. (test : ℕ → ℕ → Bool) → InputsMeet test inputs.now → SettingsMeet test settings.items) }
-        ensures known { IfOk result (λ settings. (self.number < 32 → AreInputsKnown inputs.now) → AreSettingsKnown settings.items) }
+        ensures exact { IfOk result (λ settings. settings.items
+            ≡ step_of self.number step (map input inputs.now)) }
+        ensures fitting { IfOk result (λ settings. (test : ℕ → ℕ → Bool)
+            → InputsMeet test inputs.now → SettingsMeet test settings.items) }
+        ensures known { IfOk result (λ settings. (self.number < 32 → AreInputsKnown inputs.now)
+            → AreSettingsKnown settings.items) }
     {
         settings_of(alloc, self.number, step, inputs)
     }
@@ -50,7 +53,8 @@ fn turning_step(
     step: u8,
     inputs: &[Input<'_>],
 ) -> Result<Vec<Setting>, Memory>
-    ensures { IfOk result (λ settings. settings.items ≡ turning_step trial step (map input inputs.now)) }
+    ensures { IfOk result (λ settings. settings.items
+        ≡ turning_step trial step (map input inputs.now)) }
 {
     let mut settings = Vec::new(alloc);
     if !inputs.is_empty() {
@@ -68,7 +72,8 @@ fn drawn_step(
     step: u8,
     inputs: &[Input<'_>],
 ) -> Result<Vec<Setting>, Memory>
-    ensures { IfOk result (λ settings. settings.items ≡ drawn_step trial step (map input inputs.now)) }
+    ensures { IfOk result (λ settings. settings.items
+        ≡ drawn_step trial step (map input inputs.now)) }
 {
     let controls = count_controls(inputs);
     if is_control_step(step, controls, inputs.len()) {
@@ -99,7 +104,8 @@ fn complement_control(
     before: usize,
     inputs: &[Input<'_>],
 ) -> Result<Vec<Setting>, Memory>
-    ensures { IfOk result (λ settings. settings.items ≡ complement_of (slice_get (controls (map input inputs.now)) before)) }
+    ensures { IfOk result (λ settings. settings.items
+        ≡ complement_of (slice_get (controls (map input inputs.now)) before)) }
 {
     let mut settings = Vec::new(alloc);
     if let Some(input) = control_at(before, inputs) {
@@ -110,7 +116,8 @@ fn complement_control(
 
 /// The clock or reset before which so many stand.
 fn control_at<'a, 'd>(before: usize, inputs: &'a [Input<'d>]) -> Option<&'a Input<'d>>
-    ensures { option_map (λ found. input found.now) result ≡ slice_get (controls (map input inputs.now)) before }
+    ensures { option_map (λ found. input found.now) result
+        ≡ slice_get (controls (map input inputs.now)) before }
 {
     let mut left = before;
     for input in inputs {
@@ -131,7 +138,9 @@ fn draw_data(
     step: u8,
     inputs: &[Input<'_>],
 ) -> Result<Vec<Setting>, Memory>
-    ensures { IfOk result (λ settings. settings.items ≡ map (λ kept. drawn_setting trial step (input kept)) (filter (λ kept. not kept.is_control) inputs.now)) }
+    ensures { IfOk result (λ settings. settings.items
+        ≡ map (λ kept. drawn_setting trial step (input kept))
+        (filter (λ kept. not kept.is_control) inputs.now)) }
 {
     let settings = inputs
         .iter()
@@ -143,7 +152,8 @@ fn draw_data(
 
 /// Sets all inputs to 0.
 fn zero_step(alloc: Global, inputs: &[Input<'_>]) -> Result<Vec<Setting>, Memory>
-    ensures { IfOk result (λ settings. settings.items ≡ map (λ kept. zero_setting (input kept)) inputs.now) }
+    ensures { IfOk result (λ settings. settings.items
+        ≡ map (λ kept. zero_setting (input kept)) inputs.now) }
 {
     let settings = inputs.iter().map(|input| input.zero()).collect(alloc)?;
     Ok(settings)

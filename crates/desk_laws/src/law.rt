@@ -18,13 +18,16 @@ use desk_refusals::law::one_line;
 
 /// A design shows one thing of given steps: the same lines, and the same of whether all of them came to rest.
 pub fn one_run()
-    ensures { (signals : List Signal) (tasks : List Task) (instances : List Instance) (steps : Steps) (one other : Shown) →
-        IsSimulated signals tasks instances steps one → IsSimulated signals tasks instances steps other → one ≡ other }
+    ensures { (signals : List Signal) (tasks : List Task) (instances : List Instance)
+        (steps : Steps) (one other : Shown) →
+        IsSimulated signals tasks instances steps one
+        → IsSimulated signals tasks instances steps other → one ≡ other }
 {}
 
 /// Texts make one thing of a top: one flat design, or one line that says why there is none.
 pub fn one_built()
-    ensures { (top : List ℕ) (sources : List SourceFile) (texts : List (List ℕ)) (one other : Built) →
+    ensures { (top : List ℕ) (sources : List SourceFile) (texts : List (List ℕ)) (one other : Built)
+        →
         IsBuilt top sources texts one → IsBuilt top sources texts other → one ≡ other }
 {
     one_line();
@@ -41,9 +44,11 @@ pub fn one_outcome()
 /// What `desk` answers over files that are told is a function of its words and those files: the same status, and the same
 /// bytes written. Left out are a read or a write that failed and want of memory, which come from outside.
 pub fn one_answer()
-    ensures { (files : Files) (words : List (List ℕ)) (one other : ℕ) (before now old new : Option (List ℕ)) →
+    ensures { (files : Files) (words : List (List ℕ)) (one other : ℕ)
+        (before now old new : Option (List ℕ)) →
         IsUndisturbed one → IsUndisturbed other →
-        OverWorld (Some files) (IsAnswered words one before now) → OverWorld (Some files) (IsAnswered words other old new) →
+        OverWorld (Some files) (IsAnswered words one before now)
+        → OverWorld (Some files) (IsAnswered words other old new) →
         AreSame one other before now old new }
 {
     one_line();

@@ -76,7 +76,8 @@ impl<'a> Sources<'a> {
 
     /// Writes a place as `file:line:column` behind other text, and nothing where there is no such file.
     pub fn push_place(&self, out: &mut Vec<u8>, spot: Spot) -> Result<(), Memory>
-        ensures { OnOk result (out.new.items ≡ out.old.items ++ place_in (sources_of self.now) spot) }
+        ensures { OnOk result (out.new.items
+            ≡ out.old.items ++ place_in (sources_of self.now) spot) }
     {
         match self.files.get(spot.file as usize) {
             Some(file) => file.push_place(self.alloc, out, spot.at),

@@ -64,7 +64,8 @@ pub fn design_refusal(
     fault: &ElabFault,
 ) -> Result<Vec<u8>, Memory>
     ensures told { IfOk result (λ _. IsSome (design_notice (answer fault.now))) }
-    ensures line { IfOk result (λ line. line.items ≡ design_line (sources_of sources.now) (answer fault.now)) }
+    ensures line { IfOk result (λ line. line.items
+        ≡ design_line (sources_of sources.now) (answer fault.now)) }
 {
     line(alloc, sources, design_reason(fault))
 }

@@ -94,7 +94,8 @@ pub fn source_refusal(
     fault: &FileFault,
 ) -> Result<Vec<u8>, Memory>
     ensures told { IfOk result (λ _. IsSome (file_notice file fault.now)) }
-    ensures line { IfOk result (λ line. line.items ≡ source_line (sources_of sources.now) file fault.now) }
+    ensures line { IfOk result (λ line. line.items
+        ≡ source_line (sources_of sources.now) file fault.now) }
 {
     match u32::try_from(file) {
         Ok(number) => line(alloc, sources, file_reason(number, fault)),

@@ -13,7 +13,8 @@ use rtl_tree::text::Spot;
 use std::alloc::Global;
 
 fn push_spot(sources: &Sources<'_>, spot: Option<Spot>, out: &mut Vec<u8>) -> Result<(), Memory>
-    ensures { OnOk result (out.new.items ≡ out.old.items ++ place_part (sources_of sources.now) spot) }
+    ensures { OnOk result (out.new.items
+        ≡ out.old.items ++ place_part (sources_of sources.now) spot) }
 {
     let Some(spot) = spot else {
         return Ok(());
@@ -23,7 +24,8 @@ fn push_spot(sources: &Sources<'_>, spot: Option<Spot>, out: &mut Vec<u8>) -> Re
 }
 
 fn push_line(sources: &Sources<'_>, reason: Reason<'_>, out: &mut Vec<u8>) -> Result<(), Memory>
-    ensures { OnOk result (out.new.items ≡ out.old.items ++ notice_line (sources_of sources.now) (notice reason.entry)) }
+    ensures { OnOk result (out.new.items
+        ≡ out.old.items ++ notice_line (sources_of sources.now) (notice reason.entry)) }
 {
     out.extend_from_slice(b"refused ")?;
     out.extend_from_slice(reason.name)?;
@@ -40,7 +42,8 @@ pub fn line(
     reason: Option<Reason<'_>>,
 ) -> Result<Vec<u8>, Memory>
     ensures told { IfOk result (λ _. IsSome reason.entry) }
-    ensures line { IfOk result (λ bytes. bytes.items ≡ line (sources_of sources.now) (option_map notice reason.entry)) }
+    ensures line { IfOk result (λ bytes. bytes.items
+        ≡ line (sources_of sources.now) (option_map notice reason.entry)) }
 {
     let Some(reason) = reason else {
         return Err(Memory);

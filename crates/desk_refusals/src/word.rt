@@ -37,7 +37,8 @@ fn push_text(text: &[u8], out: &mut Vec<u8>) -> Result<(), Memory>
 
 /// The text of a fault that carries one, behind a space.
 pub fn push_word(word: Option<&[u8]>, out: &mut Vec<u8>) -> Result<(), Memory>
-    ensures { OnOk result (out.new.items ≡ out.old.items ++ word_part (option_map (λ text. text.now) word.entry)) }
+    ensures { OnOk result (out.new.items
+        ≡ out.old.items ++ word_part (option_map (λ text. text.now) word.entry)) }
 {
     let Some(text) = word else {
         return Ok(());

@@ -46,7 +46,8 @@ fn push_signal(
     out: &mut Vec<u8>,
 ) -> Result<(), Memory>
     requires { number.0 < length (flat_of sim.now).signals }
-    ensures { OnOk result (out.new.items ≡ out.old.items ++ signal_text instances.now (state_of sim.now).value number.0 signal.now) }
+    ensures { OnOk result (out.new.items
+        ≡ out.old.items ++ signal_text instances.now (state_of sim.now).value number.0 signal.now) }
 {
     if signal.top_output {
         push_output(alloc, top_name(instances, signal), sim.value(number), out)
@@ -63,7 +64,9 @@ fn push_outputs(
     out: &mut Vec<u8>,
 ) -> Result<(), Memory>
     requires { (flat_of sim.now).signals ≡ design.now.signals.items }
-    ensures { OnOk result (out.new.items ≡ out.old.items ++ outputs_text design.now.instances.items (state_of sim.now).value 0 design.now.signals.items) }
+    ensures { OnOk result (out.new.items
+        ≡ out.old.items ++ outputs_text design.now.instances.items
+        (state_of sim.now).value 0 design.now.signals.items) }
 {
     for (number, signal) in design.signals.iter().enumerate() {
         push_signal(
@@ -87,7 +90,9 @@ pub(crate) fn push_rested(
     out: &mut Vec<u8>,
 ) -> Result<(), Memory>
     requires { (flat_of sim.now).signals ≡ design.now.signals.items }
-    ensures { OnOk result (out.new.items ≡ out.old.items ++ rested_line design.now.instances.items design.now.signals.items number (state_of sim.now).value) }
+    ensures { OnOk result (out.new.items
+        ≡ out.old.items ++ rested_line design.now.instances.items design.now.signals.items number
+        (state_of sim.now).value) }
 {
     push_number(out, number)?;
     push_outputs(alloc, design, sim, out)?;

@@ -42,7 +42,8 @@ impl<'d> Run<'d> {
 
     /// A run of a design before its first step. It fails only for want of memory.
     pub fn new(alloc: Global, design: &'d Design, steps: &'d Steps) -> Result<Run<'d>, Memory>
-        requires { All (λ step. AreFitting design.now.signals.items step.items) steps.now.steps.items }
+        requires { All (λ step. AreFitting design.now.signals.items step.items)
+            steps.now.steps.items }
         ensures at { IfOk result (λ run. IsAt run []) }
         ensures design { IfOk result (λ run. design_of run ≡ design.now) }
         ensures steps { IfOk result (λ run. steps_of run ≡ steps.now) }
@@ -60,7 +61,8 @@ impl<'d> Run<'d> {
     /// top in the order of the signals; or `step K unsettled` where the step's events cost more than a step may cost.
     pub fn next(&mut self, alloc: Global, line: &mut Vec<u8>) -> Result<Progress, Memory>
         requires { (bytes : List ℕ) × IsAt self.old bytes }
-        ensures goes { (bytes : List ℕ) → IsAt self.old bytes → Goes self.old self.new result bytes line.new.items }
+        ensures goes { (bytes : List ℕ) → IsAt self.old bytes
+            → Goes self.old self.new result bytes line.new.items }
         ensures fewer { result ≡ Ok Progress.Rested → steps_left self.new < steps_left self.old }
         ensures design { design_of self.new ≡ design_of self.old }
         ensures steps { steps_of self.new ≡ steps_of self.old }

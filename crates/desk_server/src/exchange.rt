@@ -72,7 +72,8 @@ fn fault_reply<S: Service>(alloc: Global, fault: BadRequest) -> Reply
 // The reply where no request was heard; none where a call of the link failed.
 fn refusal_of<S: Service>(alloc: Global, unheard: Unheard) -> Option<Reply>
     ensures reply { IfSome result (λ reply. (input : List ℕ) (around : Around) (kept : Kept)
-        → IsHeard (Err unheard) input → IsReply S.serves input around around kept kept (said reply)) }
+        → IsHeard (Err unheard) input → IsReply S.serves input around around kept kept
+        (said reply)) }
     ensures status { IfSome result (λ reply. IsStatus reply.status) }
     ensures none { IfNone result (unheard ≡ Unheard.Failed) }
 {

@@ -23,7 +23,8 @@ pub fn serve_links<S: Service, D: Door, K: Keeper, C: Clock>(
     count: u32,
 ) -> Result<(), Failed>
     requires { IfSome (K.tables keeper.old) (λ held. held ≡ S.kept service.old) }
-    ensures serves { Tells (D.visits door.old) (D.visits door.new) (ServesCount S.serves count result
+    ensures serves { Tells (D.visits door.old) (D.visits door.new)
+        (ServesCount S.serves count result
         (around (C.days clock.old) (C.faults clock.old) (K.count keeper.old))
         (around (C.days clock.new) (C.faults clock.new) (K.count keeper.new))
         (S.kept service.old) (S.kept service.new)) }

@@ -53,7 +53,8 @@ pub(crate) fn next_line(text: &[u8]) -> (&[u8], &[u8])
 /// The text up to the first space, and what is behind it, if there is one.
 
 pub(crate) fn next_part(text: &[u8]) -> (&[u8], Option<&[u8]>)
-    ensures part { parts 32 text.now ≡ result.0.now ∷ parts_behind (option_map (λ rest. rest.now) result.1) }
+    ensures part { parts 32 text.now
+        ≡ result.0.now ∷ parts_behind (option_map (λ rest. rest.now) result.1) }
     ensures shorter { IfSome result.1 (λ rest. length rest.now < length text.now) }
 {
     match cut_at(b' ', text) {

@@ -79,8 +79,10 @@ fn read_lines(
     before: u32,
 ) -> Result<Vec<Vec<Setting>>, StepsFault>
     requires { before ≤ 1 }
-    ensures read { IfOk result (λ made. steps_from (names_of names.now) before (lines text.now) ≡ Ok (map step made.items)) }
-    ensures malformed { IfErr result (λ fault. IsTold fault (steps_from (names_of names.now) before (lines text.now))) }
+    ensures read { IfOk result (λ made. steps_from (names_of names.now) before (lines text.now)
+        ≡ Ok (map step made.items)) }
+    ensures malformed { IfErr result
+        (λ fault. IsTold fault (steps_from (names_of names.now) before (lines text.now))) }
 {
     let mut steps = Vec::new(alloc);
     let mut number = before;
@@ -108,8 +110,11 @@ fn read_from(
     before: u32,
 ) -> Result<Steps, StepsFault>
     requires { before ≤ 1 }
-    ensures read { IfOk result (λ made. under policy (steps_from (names_of names.now) before (lines text.now)) ≡ Ok (steps made)) }
-    ensures malformed { IfErr result (λ fault. IsTold fault (under policy (steps_from (names_of names.now) before (lines text.now)))) }
+    ensures read { IfOk result (λ made.
+        under policy (steps_from (names_of names.now) before (lines text.now)) ≡ Ok (steps made)) }
+    ensures malformed { IfErr result
+        (λ fault. IsTold fault (under policy
+        (steps_from (names_of names.now) before (lines text.now)))) }
 {
     let steps = read_lines(alloc, names, text, before)?;
     Ok(Steps { policy, steps })
@@ -118,7 +123,8 @@ fn read_from(
 /// The steps of a file for inputs with these names.
 fn read_with(alloc: Global, names: &Names, text: &[u8]) -> Result<Steps, StepsFault>
     ensures read { IfOk result (λ made. file_of (names_of names.now) text.now ≡ Ok (steps made)) }
-    ensures malformed { IfErr result (λ fault. IsTold fault (file_of (names_of names.now) text.now)) }
+    ensures malformed { IfErr result
+        (λ fault. IsTold fault (file_of (names_of names.now) text.now)) }
 {
     if text.is_empty() {
         return Ok(Steps {
@@ -140,8 +146,10 @@ fn read_with(alloc: Global, names: &Names, text: &[u8]) -> Result<Steps, StepsFa
 /// 10,000 lines.
 pub fn read_steps(alloc: Global, design: &Design, text: &[u8]) -> Result<Steps, StepsFault>
     ensures read { IfOk result (λ made. file_of (inputs_of design.now) text.now ≡ Ok (steps made)) }
-    ensures fitting { IfOk result (λ made. All (λ step. AreFitting design.now.signals.items step.items) made.steps.items) }
-    ensures malformed { IfErr result (λ fault. IsTold fault (file_of (inputs_of design.now) text.now)) }
+    ensures fitting { IfOk result (λ made.
+        All (λ step. AreFitting design.now.signals.items step.items) made.steps.items) }
+    ensures malformed { IfErr result
+        (λ fault. IsTold fault (file_of (inputs_of design.now) text.now)) }
 {
     let names = Names::of(alloc, design)?;
     read_with(alloc, &names, text)

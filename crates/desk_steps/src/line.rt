@@ -38,7 +38,8 @@ impl Marks {
     }
 
     fn add(&mut self, signal: SigId) -> Result<(), Memory>
-        ensures { OnOk result ((other : ℕ) → is_marked self.new other ≡ (is_marked self.old other || (signal.0 == other))) }
+        ensures { OnOk result ((other : ℕ)
+            → is_marked self.new other ≡ (is_marked self.old other || (signal.0 == other))) }
     {
         self.signals.insert(signal.0, true)?;
         Ok(())
@@ -52,7 +53,8 @@ fn set_input(
     input: Input,
     text: &[u8],
 ) -> Result<Option<Setting>, Memory>
-    ensures { (earlier : List Plain) → AreMarks marks.now earlier → IfOk result (λ made. option_map setting made ≡ set_signal earlier text.now (Some input)) }
+    ensures { (earlier : List Plain) → AreMarks marks.now earlier
+        → IfOk result (λ made. option_map setting made ≡ set_signal earlier text.now (Some input)) }
 {
     let Some(value) = value_bits(alloc, input.width, text)? else {
         return Ok(None);
@@ -73,7 +75,9 @@ fn read_setting(
     marks: &Marks,
     text: &[u8],
 ) -> Result<Option<Setting>, Memory>
-    ensures { (earlier : List Plain) → AreMarks marks.now earlier → IfOk result (λ made. option_map setting made ≡ setting_of (names_of names.now) earlier text.now) }
+    ensures { (earlier : List Plain) → AreMarks marks.now earlier
+        → IfOk result (λ made. option_map setting made
+        ≡ setting_of (names_of names.now) earlier text.now) }
 {
     let Some((name, value)) = cut_at(b'=', text) else {
         return Ok(None);
@@ -86,7 +90,8 @@ fn read_setting(
 
 /// Settings with one space between two of them.
 fn read_settings(alloc: Global, names: &Names, text: &[u8]) -> Result<Option<Vec<Setting>>, Memory>
-    ensures { IfOk result (λ made. option_map step made ≡ settings_of (names_of names.now) [] (parts 32 text.now)) }
+    ensures { IfOk result (λ made. option_map step made
+        ≡ settings_of (names_of names.now) [] (parts 32 text.now)) }
 {
     let mut marks = Marks::new(alloc);
     let mut settings = Vec::new(alloc);

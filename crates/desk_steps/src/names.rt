@@ -63,7 +63,8 @@ impl Names {
 
     /// Adds a signal with this number, if it is an input.
     fn add(&mut self, skipped: usize, number: u32, signal: &Signal) -> Result<(), Memory>
-        ensures { OnOk result (names_of self.new ≡ with_signal skipped number signal.now (names_of self.old)) }
+        ensures { OnOk result (names_of self.new
+            ≡ with_signal skipped number signal.now (names_of self.old)) }
     {
         match signal.kind {
             Kind::TopInput => {

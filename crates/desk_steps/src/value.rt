@@ -90,7 +90,8 @@ fn digit_bits(base: Base, byte: u8) -> Option<Vec4>
 fn digits_bits(base: Base, high: Vec4, digits: &[u8]) -> Option<Vec4>
     requires { length high + digits_width base digits.now ≤ 128 }
     ensures bits { result ≡ digits_bits base high digits.now }
-    ensures width { IfSome result (λ bits. length bits ≡ length high + digits_width base digits.now) }
+    ensures width { IfSome result (λ bits. length bits
+        ≡ length high + digits_width base digits.now) }
 {
     let Some((first, others)) = digits.split_first() else {
         return Some(high);

@@ -49,18 +49,21 @@ pub trait Keeper {
 
         // A call that fails is counted, and nothing else is.
         ensures later { count self.old ≤ count self.new }
-        ensures failed { IsErrOf result KeeperFault.Failed → Rose (count self.old) (count self.new) }
+        ensures failed { IsErrOf result KeeperFault.Failed
+            → Rose (count self.old) (count self.new) }
         ensures no_memory { IsErrOf result KeeperFault.Memory → count self.new ≡ count self.old }
         ensures calm { OnOk result (count self.new ≡ count self.old) };
 
     /// Does one change whole, or leaves the tables.
     fn commit(&mut self, change: &Change) -> Result<(), KeeperFault>
-        ensures done { OnOk result (tables self.new ≡ option_map (changed change.now) (tables self.old)) }
+        ensures done { OnOk result (tables self.new
+            ≡ option_map (changed change.now) (tables self.old)) }
         ensures same { OnErr result (tables self.new ≡ tables self.old) }
 
         // A call that fails is counted, and nothing else is.
         ensures later { count self.old ≤ count self.new }
-        ensures failed { IsErrOf result KeeperFault.Failed → Rose (count self.old) (count self.new) }
+        ensures failed { IsErrOf result KeeperFault.Failed
+            → Rose (count self.old) (count self.new) }
         ensures no_memory { IsErrOf result KeeperFault.Memory → count self.new ≡ count self.old }
         ensures calm { OnOk result (count self.new ≡ count self.old) };
 }

@@ -166,7 +166,8 @@ pub fn finish<S: Sink>(work: Result<Work, Stop>, out: &mut S) -> u8
 /// Writes these bytes, and answers the exit status of the ending, or [`UNWRITTEN`] where a write fails.
 pub fn deliver<S: Sink>(ending: Ending, bytes: &[u8], out: &mut S) -> u8
     ensures done { gave_up result ≡ false }
-    ensures delivers { Delivers (record { status = status_of ending; bytes = bytes.now }) result (S.taken out.old) (S.taken out.new) }
+    ensures delivers { Delivers (record { status = status_of ending; bytes = bytes.now }) result
+        (S.taken out.old) (S.taken out.new) }
     ensures unwritten { result ≡ UNWRITTEN → Rose (S.faults out.old) (S.faults out.new) }
     ensures failed { S.faults out.old < S.faults out.new → result ≡ UNWRITTEN }
     ensures later { S.faults out.old ≤ S.faults out.new }

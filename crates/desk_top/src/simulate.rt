@@ -76,7 +76,8 @@ fn try_steps(alloc: Global, top: &str, steps: &[u8], files: &[SourceFile]) -> Re
 
 // How a design is run through the steps of a text, or that the text is none of steps.
 fn make_plan(alloc: Global, text: &[u8], design: Design) -> Result<Plan, Stop>
-    ensures plan { IsPlan (IsRun (flat_in design) (file_of (names_in (flat_in design)) text.now)) result }
+    ensures plan { IsPlan (IsRun (flat_in design) (file_of (names_in (flat_in design)) text.now))
+        result }
     ensures fitting { HasFitting result }
     ensures read { result ≢ Err Stop.Unread }
 {

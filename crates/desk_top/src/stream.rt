@@ -34,7 +34,8 @@ pub fn perform<S: Sink>(alloc: Global, plan: Result<Plan, Stop>, out: &mut S) ->
 /// Runs a design through steps, writes the line of each when the step is at rest, and answers the exit status.
 pub fn stream<S: Sink>(alloc: Global, design: &Design, steps: &Steps, out: &mut S) -> u8
     requires { All (λ step. AreFitting design.now.signals.items step.items) steps.now.steps.items }
-    ensures streamed { IsStreamed (flat_in design.now) (plain steps.now) result (S.taken out.old) (S.taken out.new) }
+    ensures streamed { IsStreamed (flat_in design.now) (plain steps.now) result (S.taken out.old)
+        (S.taken out.new) }
     ensures unwritten { result ≡ UNWRITTEN → Rose (S.faults out.old) (S.faults out.new) }
     ensures failed { S.faults out.old < S.faults out.new → result ≡ UNWRITTEN }
     ensures later { S.faults out.old ≤ S.faults out.new }

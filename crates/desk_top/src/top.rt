@@ -46,8 +46,10 @@ pub fn desk<F: Shelf, S: Sink>(alloc: Global, words: &[String], shelf: &mut F, o
     ensures a_command { gave_up result ≡ true → IsSome (order (texts words.now)) }
 
     // No failure is passed over. A shelf that tells nothing counts a missing file too.
-    ensures read_failed { IsSome (F.files shelf.old) → F.faults shelf.old < F.faults shelf.new → result ≡ UNREAD }
-    ensures untold_failed { F.faults shelf.old < F.faults shelf.new → result ≢ NO_FILE → result ≡ UNREAD }
+    ensures read_failed { IsSome (F.files shelf.old) → F.faults shelf.old < F.faults shelf.new
+        → result ≡ UNREAD }
+    ensures untold_failed { F.faults shelf.old < F.faults shelf.new → result ≢ NO_FILE
+        → result ≡ UNREAD }
     ensures write_failed { S.faults out.old < S.faults out.new → result ≡ UNWRITTEN }
     ensures shelf_later { F.faults shelf.old ≤ F.faults shelf.new }
     ensures sink_later { S.faults out.old ≤ S.faults out.new }

@@ -70,9 +70,11 @@ pub(crate) fn first_broken(
     requires there { p.0 < length design.now.processes.items }
     requires waits { Waits (flat design.now) p.0 }
     requires unknown { AreUnknowns (flat design.now) facts.now.unknowns.items }
-    requires facts { AreFacts (flat design.now) facts.now.tops.items facts.now.roles.clocks.items facts.now.roles.resets.items facts.now.temporaries.items }
+    requires facts { AreFacts (flat design.now) facts.now.tops.items facts.now.roles.clocks.items
+        facts.now.roles.resets.items facts.now.temporaries.items }
     ensures { let d = flat design.now in
-        IfOk result (λ rule. (task : Task) → slice_get d.tasks p.0 ≡ Some task → IsJudged d p.0 task rule) }
+        IfOk result (λ rule. (task : Task) → slice_get d.tasks p.0 ≡ Some task
+        → IsJudged d p.0 task rule) }
 {
     let does = &design.processes[p.0 as usize].does;
     let events = events_of(does);

@@ -33,7 +33,8 @@ fn clocked_of<'d>(
     requires there { p.0 < length design.now.processes.items }
     requires waits { Waits (flat design.now) p.0 }
     requires unknown { AreUnknowns (flat design.now) facts.now.unknowns.items }
-    requires facts { AreFacts (flat design.now) facts.now.tops.items facts.now.roles.clocks.items facts.now.roles.resets.items facts.now.temporaries.items }
+    requires facts { AreFacts (flat design.now) facts.now.tops.items facts.now.roles.clocks.items
+        facts.now.roles.resets.items facts.now.temporaries.items }
     ensures { let d = flat design.now in
         IfOk result (λ found. MatchOption found (IsBroken d p.0) (IsOne d p.0)) }
 {
@@ -64,8 +65,10 @@ fn take<'d>(
     requires there { p.0 < length design.now.processes.items }
     requires waits { Waits (flat design.now) p.0 }
     requires unknown { AreUnknowns (flat design.now) facts.now.unknowns.items }
-    requires facts { AreFacts (flat design.now) facts.now.tops.items facts.now.roles.clocks.items facts.now.roles.resets.items facts.now.temporaries.items }
-    ensures { IfOk result (λ good. Takes (flat design.now) p.0 good clocked.old.items clocked.new.items) }
+    requires facts { AreFacts (flat design.now) facts.now.tops.items facts.now.roles.clocks.items
+        facts.now.roles.resets.items facts.now.temporaries.items }
+    ensures { IfOk result (λ good.
+        Takes (flat design.now) p.0 good clocked.old.items clocked.new.items) }
 {
     match clocked_of(alloc, design, facts, p)? {
         Some(one) => {

@@ -30,7 +30,9 @@ impl Facts {
     pub(crate) fn of(alloc: Global, design: &Design) -> Result<Facts, Memory>
         ensures unknowns { IfOk result (λ facts.
             AreUnknowns (flat design.now) facts.unknowns.items) }
-        ensures facts { IfOk result (λ facts. AreFacts (flat design.now) facts.tops.items facts.roles.clocks.items facts.roles.resets.items facts.temporaries.items) }
+        ensures facts { IfOk result (λ facts.
+            AreFacts (flat design.now) facts.tops.items facts.roles.clocks.items
+            facts.roles.resets.items facts.temporaries.items) }
     {
         let tops = tops_of(alloc, design)?;
         let roles = roles_of(alloc, design, &tops)?;

@@ -31,7 +31,8 @@ pub enum Form<'d> {
 
 /// The items of resets.
 fn items_of<'d>(alloc: Global, resets: &[Guard<'d>]) -> Result<Vec<&'d EventItem>, Memory>
-    ensures { IfOk result (λ items. map (λ item. watched item.now) items.items ≡ map (λ guard. guard.item) (map guard_view resets.now)) }
+    ensures { IfOk result (λ items. map (λ item. watched item.now) items.items
+        ≡ map (λ guard. guard.item) (map guard_view resets.now)) }
 {
     let mut items = Vec::new(alloc);
     for guard in resets {
@@ -46,7 +47,8 @@ fn items_of<'d>(alloc: Global, resets: &[Guard<'d>]) -> Result<Vec<&'d EventItem
 pub fn form_of<'d>(alloc: Global, design: &'d Design, p: ProcId) -> Result<Form<'d>, Memory>
     requires { Waits (flat design.now) p.0 }
     ensures { let d = flat design.now in
-        IfOk result (λ form. (task : Task) → slice_get d.tasks p.0 ≡ Some task → IsForm d p.0 task form) }
+        IfOk result (λ form. (task : Task) → slice_get d.tasks p.0 ≡ Some task
+        → IsForm d p.0 task form) }
 {
     let facts = Facts::of(alloc, design)?;
     if let Some(rule) = first_broken(alloc, design, &facts, p)? {

@@ -34,7 +34,8 @@ fn reaches_marked(
 ///
 /// Fails where memory runs out.
 pub fn controls(alloc: Global, design: &Design) -> Result<Vec<SigId>, Memory>
-    ensures { IfOk result (λ found. AreControls (flat design.now) (map (λ one. one.0) found.items)) }
+    ensures { IfOk result (λ found.
+        AreControls (flat design.now) (map (λ one. one.0) found.items)) }
 {
     let count = design.signals.len();
     let scans = Scans::of(alloc, design)?;

@@ -32,7 +32,8 @@ fn any_shares(bits: &BitSet, rows: &[Row]) -> bool
 
 /// Adds rows to a set.
 fn add(bits: &mut BitSet, rows: &[Row]) -> Result<(), Memory>
-    ensures { OnOk result ((s k : ℕ) → has bits.new.masks s k ≡ (has bits.old.masks s k || has_rows rows.now s k)) }
+    ensures { OnOk result ((s k : ℕ)
+        → has bits.new.masks s k ≡ (has bits.old.masks s k || has_rows rows.now s k)) }
 {
     for row in rows {
         bits.insert(*row)?;
@@ -50,7 +51,8 @@ pub fn drives_again(
 ) -> Result<bool, Memory>
     requires inside { p.0 < length design.now.processes.items }
     requires lower { AreLower (flat design.now) p.0 lower.old }
-    ensures again { IfOk result (λ again. again ≡ true ↔ HasFault (flat design.now) p.0 SeveralDrivers) }
+    ensures again { IfOk result (λ again. again ≡ true
+        ↔ HasFault (flat design.now) p.0 SeveralDrivers) }
     ensures lower { OnOk result (AreLower (flat design.now) (p.0 + 1) lower.new) }
 {
     let written = written(alloc, design, p)?;

@@ -14,5 +14,6 @@ pub fn apart()
 /// Each process that waits for edges is one `if` for each of its resets, with a test that is true
 /// just where the reset is active, and the event that is left is its clock.
 pub fn chains()
-    ensures { (design : Design) → AreFormed (flat design) → AreChains (flat design) (chains_of (flat design)) }
+    ensures { (design : Design) → AreFormed (flat design)
+        → AreChains (flat design) (chains_of (flat design)) }
 {}

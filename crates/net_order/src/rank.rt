@@ -29,7 +29,8 @@ fn place(
 ) -> Result<(), Memory>
     requires inside { number < length design.now.processes.items }
     requires depths { number < length depths.now }
-    ensures { let d = flat design.now in OnOk result (ArePlaced d.tasks depths.now number found.old.items →
+    ensures { let d = flat design.now in
+        OnOk result (ArePlaced d.tasks depths.now number found.old.items →
         ArePlaced d.tasks depths.now (number + 1) found.new.items) }
 {
     if !is_node(&design.processes[number as usize].does) {
@@ -65,7 +66,8 @@ pub(crate) fn ranked(
     depths: &[Option<u32>],
 ) -> Result<Vec<ProcId>, Memory>
     requires { length depths.now ≡ length design.now.processes.items }
-    ensures { let d = flat design.now in IfOk result (λ order. IsRanked d.tasks depths.now (map (λ (p : ProcId). p.0) order.items)) }
+    ensures { let d = flat design.now in
+        IfOk result (λ order. IsRanked d.tasks depths.now (map (λ (p : ProcId). p.0) order.items)) }
 {
     let mut sorted = places(alloc, design, depths)?;
     sorted.sort_by_key(
@@ -101,7 +103,8 @@ fn lost_at(
 ) -> Result<Option<SigId>, Memory>
     requires inside { number < length design.now.processes.items }
     requires depths { number < length depths.now }
-    ensures { let d = flat design.now in IfOk result (λ next. IsLeastOf (IsLost d.signals d.tasks depths.now number) least →
+    ensures { let d = flat design.now in
+        IfOk result (λ next. IsLeastOf (IsLost d.signals d.tasks depths.now number) least →
         IsLeastOf (IsLost d.signals d.tasks depths.now (number + 1)) next) }
 {
     if !is_node(&design.processes[number as usize].does) || depths[number as usize].is_some() {
@@ -119,7 +122,8 @@ pub(crate) fn lost(
 ) -> Result<Option<SigId>, Memory>
     requires { length depths.now ≡ length design.now.processes.items }
     ensures { let d = flat design.now in
-        IfOk result (λ least. IsLeastOf (IsLost d.signals d.tasks depths.now (length d.tasks)) least) }
+        IfOk result (λ least. IsLeastOf (IsLost d.signals d.tasks depths.now (length d.tasks))
+        least) }
 {
     let mut least = None;
     for number in 0..design.processes.len() {

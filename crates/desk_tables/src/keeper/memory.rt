@@ -70,13 +70,16 @@ impl Keeper for MemoryKeeper {
     fn load(&mut self) -> Result<Tables, KeeperFault>
         ensures told { IfOk result (λ got. kept_of got ≡ held self.old) }
         ensures same { held self.new ≡ held self.old }
-        ensures fails { IsErrOf result KeeperFault.Failed ↔ IsTrue (next_fails (schedule self.old)) }
+        ensures fails { IsErrOf result KeeperFault.Failed
+            ↔ IsTrue (next_fails (schedule self.old)) }
         ensures calls { schedule self.new ≡ after_call (schedule self.old) }
         ensures counted { fault_count self.new ≡ (if next_fails (schedule self.old)
             then min (fault_count self.old + 1) (2 ^ 64 - 1) else fault_count self.old) }
         ensures later { fault_count self.old ≤ fault_count self.new }
-        ensures failed { IsErrOf result KeeperFault.Failed → Rose (fault_count self.old) (fault_count self.new) }
-        ensures no_memory { IsErrOf result KeeperFault.Memory → fault_count self.new ≡ fault_count self.old }
+        ensures failed { IsErrOf result KeeperFault.Failed
+            → Rose (fault_count self.old) (fault_count self.new) }
+        ensures no_memory { IsErrOf result KeeperFault.Memory
+            → fault_count self.new ≡ fault_count self.old }
         ensures calm { OnOk result (fault_count self.new ≡ fault_count self.old) }
     {
         if self.calls.next_fails() {
@@ -89,13 +92,16 @@ impl Keeper for MemoryKeeper {
     fn commit(&mut self, change: &Change) -> Result<(), KeeperFault>
         ensures done { OnOk result (held self.new ≡ changed change.now (held self.old)) }
         ensures same { OnErr result (held self.new ≡ held self.old) }
-        ensures fails { IsErrOf result KeeperFault.Failed ↔ IsTrue (next_fails (schedule self.old)) }
+        ensures fails { IsErrOf result KeeperFault.Failed
+            ↔ IsTrue (next_fails (schedule self.old)) }
         ensures calls { schedule self.new ≡ after_call (schedule self.old) }
         ensures counted { fault_count self.new ≡ (if next_fails (schedule self.old)
             then min (fault_count self.old + 1) (2 ^ 64 - 1) else fault_count self.old) }
         ensures later { fault_count self.old ≤ fault_count self.new }
-        ensures failed { IsErrOf result KeeperFault.Failed → Rose (fault_count self.old) (fault_count self.new) }
-        ensures no_memory { IsErrOf result KeeperFault.Memory → fault_count self.new ≡ fault_count self.old }
+        ensures failed { IsErrOf result KeeperFault.Failed
+            → Rose (fault_count self.old) (fault_count self.new) }
+        ensures no_memory { IsErrOf result KeeperFault.Memory
+            → fault_count self.new ≡ fault_count self.old }
         ensures calm { OnOk result (fault_count self.new ≡ fault_count self.old) }
     {
         if self.calls.next_fails() {

@@ -30,7 +30,8 @@ impl Seen {
     }
 
     pub(crate) fn add(&mut self, text: &Text) -> Result<(), Memory>
-        ensures { OnOk result (seen self.new ≡ (λ other. bytes_eq text.now other || seen self.old other)) }
+        ensures { OnOk result (seen self.new
+            ≡ (λ other. bytes_eq text.now other || seen self.old other)) }
     {
         self.texts.put(text, ())?;
         Ok(())
