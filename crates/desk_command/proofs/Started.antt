@@ -1,10 +1,12 @@
 -- Where the desk starts, and where it doesn't.
-use Rattle.std.proofs.Common.{◌≡◌, ℕ, Option, Ok, Err, subst}
+use Rattle.std.proofs.Common.{◌≡◌, ◌<◌, ℕ, Option, Ok, Err, arith, refl, subst}
 use Rattle.desk_tables.specs.Tables.{Kept}
 use Rattle.desk_tables.specs.declared.rows.Table.{Table}
 use Rattle.desk_core.specs.Machine.{Machine}
 use Rattle.desk_core.specs.Starting.{IsStart}
+use Rattle.desk_core.specs.declared.start.StartFault.{StartFault}
 use Rattle.desk_core.specs.declared.start.StartFault.TheVariants as fault
+use Rattle.desk_command.specs.Statuses.{UNKEPT}
 use Rattle.desk_command.specs.Commands.{BadTables, IsUnstarted, OverTables, Taken, Writes, bad_tables}
 
 -- what holds of a started desk's tables is over those that the keeper tells
@@ -21,3 +23,11 @@ over_tables told desk P start holds =
 pub on_bad_tables : (told : Option Kept) (faults faults' : ℕ) (table : Table) (row status : ℕ) (taken : Taken) → IsStart told (Err (fault.BadTables table row)) → faults' ≡ faults → Writes (bad_tables table row) status taken → IsUnstarted told faults faults' status taken
 on_bad_tables told faults faults' table row status taken start calm writes =
     BadTables start.held table row start.are_told start.over calm writes
+
+-- where the keeper's count rose the desk didn't start for that
+pub load_cause : (why : StartFault) (status before now : ℕ) → (why ≡ fault.Keeper → status ≡ UNKEPT) → ((why ≡ fault.Keeper → ⊥) → now ≡ before) → before < now → status ≡ UNKEPT
+load_cause fault.Keeper status before now unkept calm more = unkept refl
+load_cause (fault.BadTables table row) status before now unkept calm more =
+    let same : now ≡ before = calm (λ is. cc) in absurd (omega (arith, same, more))
+load_cause fault.Memory status before now unkept calm more =
+    let same : now ≡ before = calm (λ is. cc) in absurd (omega (arith, same, more))

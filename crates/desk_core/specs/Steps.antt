@@ -12,9 +12,7 @@ use Rattle.desk_tables.specs.declared.change.Change.TheVariants.{PutFile, DropFi
 use Rattle.desk_requests.specs.Replies.{Said}
 use Rattle.desk_service.specs.Service.{no_memory, unavailable}
 use Rattle.desk_records.specs.Outcomes.{kept_said}
-use Rattle.design_db.specs.desk_memo.declared.answer.Answer.TheVariants.{Ruled, Refused}
 use Rattle.design_db.specs.Stores.{Store, answer_of}
-use Rattle.design_db.specs.Answers.{Answer}
 use Rattle.desk_core.specs.declared.next.Next.{Next}
 use Rattle.desk_core.specs.declared.next.Next.TheVariants.{Puts, Drops, Stays}
 

@@ -1,8 +1,7 @@
 -- Files in the order of their names.
 -- Worked examples: crates/desk_answers/proofs/FreshExample.antt.
-use Rattle.std.specs.Prelude.{◌≡◌, ◌≤◌, true, List, [], ◌∷◌, length, ⊤}
+use Rattle.std.specs.Prelude.{◌≡◌, true, List, [], ◌∷◌, ⊤}
 use Rattle.std.specs.List.{All}
-use Rattle.desk_files.specs.Limits.{MAX_BYTES}
 use Rattle.desk_files.specs.Sources.{is_before}
 use Rattle.source_file.specs.declared.SourceFile.{SourceFile}
 

@@ -30,7 +30,10 @@ pub fn unwaived(alloc: Global, rows: &[Row]) -> Result<Vec<WaivedRow<'_>>, Memor
 {
     let mut made = Vec::new(alloc);
     for row in rows {
-        made.push(WaivedRow { row, waiver: None })?;
+        match made.push(WaivedRow { row, waiver: None }) {
+            Ok(()) => {}
+            Err(_) => return Err(Memory),
+        }
     }
     Ok(made)
 }

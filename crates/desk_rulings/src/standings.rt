@@ -72,7 +72,10 @@ pub fn standing<'r>(
         let row = &ruled.rows[number];
         let site = site_of(ruled.files, &digests, row);
         let waiver = standing_at(alloc, &index, site)?;
-        found.push(WaivedRow { row, waiver })?;
+        match found.push(WaivedRow { row, waiver }) {
+            Ok(()) => {}
+            Err(_) => return Err(Memory),
+        }
     }
     Ok(found)
 }

@@ -4,10 +4,9 @@ use Rattle.std.specs.Prelude.{pos, negsuc}
 use Rattle.desk_tables.specs.Changes.{with_file, without_file}
 use Rattle.desk_tables.specs.Days.{day_of}
 use Rattle.desk_tables.specs.Names.{is_name}
-use Rattle.desk_tables.specs.Rules.{broken_meta, has_reply, is_file_name, waiver_breaks}
+use Rattle.desk_tables.specs.Rules.{broken_meta, has_reply, is_file_name}
 use Rattle.desk_tables.specs.declared.rows.FileRow.{FileRow}
 use Rattle.desk_tables.specs.declared.rows.ReplyRow.{ReplyRow}
-use Rattle.desk_tables.specs.declared.rows.WaiverRow.{WaiverRow}
 
 a_name : is_name (codes "jo_2-b") ≡ true
 a_name = refl
@@ -61,25 +60,3 @@ reply its_user its_request =
 -- the same letters, parted elsewhere, are another request
 another_pair : has_reply (codes "jo") (codes "b1") (reply (codes "job") (codes "1") ∷ []) ≡ false
 another_pair = refl
-
-abbrev waiver : List ℕ → WaiverRow
-waiver its_file = record {
-  id = record { 0 = 1 };
-  top = codes "top";
-  rule = codes "S1";
-  target = codes "top.y";
-  file = its_file;
-  at = 0;
-  digest = [];
-  owner = codes "jo";
-  asker = codes "bo";
-  reason = [];
-  last_day = pos 0;
-  ended = None;
-}
-
-a_waiver_names_a_file : waiver_breaks [] (waiver (codes "top.v")) ≡ false
-a_waiver_names_a_file = refl
-
-no_waiver_names_a_folder : waiver_breaks [] (waiver (codes "src/top.v")) ≡ true
-no_waiver_names_a_folder = refl

@@ -1,15 +1,11 @@
 //! Findings and their keys.
 
-ghost use Rattle.std.specs.Prelude.{◌≡◌, ◌<◌, length, IfOk};
-ghost use Rattle.rtl_rule.specs.Keys.{IsAbout, IsKey, IsTarget};
+ghost use Rattle.std.specs.Prelude.{◌≡◌};
 ghost use Rattle.rtl_rule.specs.Rows.{has_first_grade, has_needed, is_needed, row_of};
 
 use crate::rule::{Rule, first_grade, needed};
-use rtl_flat::design::Design;
 use rtl_flat::expr::SigId;
-use rtl_tree::memory::Memory;
 use rtl_tree::text::{Spot, Text};
-use std::alloc::Global;
 
 /// A rule that a design breaks, with the signal, the instance and the place in the text.
 #[derive(Clone, Copy, PartialEq, Eq, Debug)]
@@ -93,36 +89,4 @@ pub fn has_needed(findings: &[Finding]) -> bool
             ensures { result ≡ is_needed finding.now.rule }
         { needed(finding.rule) },
     )
-}
-
-/// The path of a finding's signal, or of its instance where it has none.
-pub fn target(alloc: Global, design: &Design, finding: &Finding) -> Result<Text, Memory>
-    requires { IsAbout design.now.signals.items design.now.instances.items finding.now }
-    ensures { IfOk result (λ path.
-        IsTarget design.now.signals.items design.now.instances.items finding.now path) }
-{
-    let path = match finding.signal {
-        Some(signal) => design.signals[signal.0 as usize].path.as_bytes(),
-        None => design.instances[finding.instance as usize].path.as_bytes(),
-    };
-    Ok(Text::from_bytes(alloc, path)?)
-}
-
-/// The key of a finding with a target, where the files have these names.
-pub fn key_of(
-    alloc: Global,
-    target: &Text,
-    files: &[Text],
-    finding: &Finding,
-) -> Result<Key, Memory>
-    requires { finding.now.spot.file < length files.now }
-    ensures { IfOk result (λ key. IsKey target.now files.now finding.now key) }
-{
-    let file = files[finding.spot.file as usize].as_bytes();
-    Ok(Key {
-        rule: finding.rule,
-        target: Text::from_bytes(alloc, target.as_bytes())?,
-        file: Text::from_bytes(alloc, file)?,
-        at: finding.spot.at,
-    })
 }

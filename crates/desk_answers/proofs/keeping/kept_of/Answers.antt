@@ -41,7 +41,7 @@ returns-clause-current g c =
     let first = extract numbers (library_of (circuits_of c.modules.result.now)) in
     let made = elaborated first c.args.top.now in
     let ruling = ruling_of c.in_ok-kept.kept in
-    made_current c.args.files.now (readings_of c.args.readings.now) (modules_of c.args.readings.now) (circuits_of c.modules.result.now) c.args.top.now numbers ruling c.modules.ensures
+    made_current {says = g.J.Judge.says} c.args.files.now (readings_of c.args.readings.now) (modules_of c.args.readings.now) (circuits_of c.modules.result.now) c.args.top.now numbers ruling c.modules.ensures
     c.in_ok-kept.ensures.top
     (record {
       names = c.same_names.ensures;

@@ -10,4 +10,4 @@ loop-number-preserved c =
     standings_on c.args.today (kept_of c.args.tables.now) (verdict_of ruled).files ruled.rows.now c.loop-number.number _ _ c.deref.result.now c.deref-2.result.now _ _ c.loop-number.found.items c.push.new.self.items _ c.loop-number-test.true refl c.deref.ensures.value c.deref-2.ensures.value
     (c.site_of-site.ensures c.deref-2.result.now (c.deref-in-loop-number.ensures.value ∙ c.in_ok-digests.ensures))
     (ap (λ waiver. record { row = _; waiver = waiver }) (c.in_ok-waiver.ensures c.args.today c.deref.result.now c.in_ok-index.ensures))
-    c.in_ok-push.ensures.items c.loop-number.invariant
+    c.in-Ok.ensures.items c.loop-number.invariant

@@ -17,3 +17,15 @@ returns-in-None-clause-fresh c =
     (λ zero none ruling right current.
     c.still_fresh.ensures seen.files (circuits_in seen) ruling c.self.invariant.store.in_order right current
     (c.all_spelled.ensures seen.files seen.readings (circuits_in seen) c.self.invariant.store.readings zero none)))
+
+pub returns-in-Some-clause-fresh : goal.returns-in-Some-clause-fresh
+returns-in-Some-clause-fresh c =
+    let seen : Store = store c.self.inside.files c.self.inside.readings c.self.inside.memo in
+    let P : Store → Type 0 = λ (it : Store). IfSome (answer_of it c.args.top.now) (IsFresh it.files c.args.top.now) in
+    subst P c.self.view_is
+    (are_fresh seen c.args.top.now c.self.invariant.store.rulings
+    (λ zero answer is. unread_fresh seen.files c.args.top.now answer
+    (c.all_refused.ensures seen.files seen.readings (circuits_in seen) answer c.self.invariant.store.readings zero is))
+    (λ zero none ruling right current.
+    c.still_fresh.ensures seen.files (circuits_in seen) ruling c.self.invariant.store.in_order right current
+    (c.all_spelled.ensures seen.files seen.readings (circuits_in seen) c.self.invariant.store.readings zero none)))

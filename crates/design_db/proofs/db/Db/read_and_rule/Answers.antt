@@ -1,12 +1,14 @@
 use Rattle.std.proofs.Common.{◌≡◌, ◌∙◌, List, ap, arith, subst, sym}
-use Rattle.std.specs.Prelude.{IsSome}
+use Rattle.std.specs.Prelude.{IsSome, Option}
 use Rattle.desk_files.specs.Shown.{list_of}
 use Rattle.source_file.specs.declared.SourceFile.{SourceFile}
 use Rattle.source_file.specs.SourceFiles.{texts_in}
 use Rattle.desk_memo.specs.Readings.{AreDefined, changed_count}
 use Rattle.desk_memo.specs.ShownReadings.{modules_of, readings_of}
 use Rattle.desk_memo.specs.Rulings.{current_of}
-use Rattle.design_db.specs.Stores.{Store, all_rulings, changed_in}
+use Rattle.desk_memo.specs.Shown.{absent_of, rulings_of}
+use Rattle.design_db.specs.Answers.{Ruling}
+use Rattle.design_db.specs.Stores.{KeepsRulings, Store, all_rulings, changed_in}
 use Rattle.design_db.proofs.Whole.{is_found_now, is_read_now, rulings_same}
 use Rattle.design_db.proofs.db.Db.read_and_rule.Goals as goal
 
@@ -41,3 +43,16 @@ returns-in-Ok-clause-untouched g c =
     ∙ ap (λ (it : List SourceFile). changed_count it (readings_of c.self.inside.readings)) (sym c.as_slice.ensures)
     in
     omega (arith, c.rule.ensures.untouched found, c.in_ok-aside.ensures.counted, changed)
+
+pub returns-in-Ok-clause-keeps : goal.returns-in-Ok-clause-keeps
+returns-in-Ok-clause-keeps g c =
+    let news = rulings_of c.rule.new.memo in
+    let new = absent_of c.rule.new.memo in
+    let olds : rulings_of c.doubt.new.self ≡ c.args.self.now.rulings =
+    c.doubt.ensures.rulings ∙ ap (λ (it : Store). it.rulings) c.self.view_is
+    in
+    let old : absent_of c.doubt.new.self ≡ c.args.self.now.absent =
+    c.doubt.ensures.absent ∙ ap (λ (it : Store). it.absent) c.self.view_is
+    in
+    subst (λ (it : List Ruling). KeepsRulings c.args.top.now it c.args.self.now.absent news new) olds
+    (subst (λ (it : Option Ruling). KeepsRulings c.args.top.now (rulings_of c.doubt.new.self) it news new) old c.in-Ok.ensures.keeps)
