@@ -21,7 +21,7 @@ use Rattle.net_model.specs.Control.{InClockCone, InCone}
 use Rattle.net_model.specs.Cycle.{Chain, Guard, IsChain, IsChained, Tests, opened}
 use Rattle.net_model.specs.Solution.{IsLasting}
 use Rattle.sign_cycles.specs.Formed.{IsConstant, IsFormed, TestsAlone}
-use Rattle.rtl_rule.specs.Parts.{agree, all_of, labels, nodes, trees, within}
+use Rattle.rtl_rule.specs.Parts.{agree, all_of, labels, nodes, read_trees, trees, within}
 use Rattle.rtl_flat.specs.Flats.{Flat, widths}
 use Rattle.check_laws.specs.check_chains.Chains.{IsRegisterOf, IsResetBranch, IsResetPolarity, IsResetShape, IsResetValue, chain_in, chain_of, goes_up, has_chain, is_more, is_turned, reset_polarity_at, reset_shape_at, reset_value_at, tested}
 use Rattle.check_laws.specs.check_clocks.Clocks.{but_tests, chain_trees, data_trees, passes, statement_trees}

@@ -57,11 +57,15 @@ module _ (ws : ℕ → ℕ) (i : ℕ) where
     unread_form w s at (Part j low width) marked here h k =
         none_in (span ws j low (low + width)) (in_span j low (low + width)) here k
     unread_form w s at (Turned operator a) marked here h k = unread a marked h k
-    unread_form w s at (Joined operator signed a b) marked here h k = unread_both a b marked.0 marked.1 h k
-    unread_form w s at (Compared operator signed a b) marked here h k = unread_both a b marked.0 marked.1 h k
-    unread_form w s at (Linked operator a b) marked here h k = unread_both a b marked.0 marked.1 h k
+    unread_form w s at (Joined operator signed a b) marked here h k =
+        or_from _ _ (unread a marked.0 (each_left IsUnnamed (nodes a) (nodes b) h) k) (unread b marked.1 (each_right IsUnnamed (nodes a) (nodes b) h) k)
+    unread_form w s at (Compared operator signed a b) marked here h k =
+        or_from _ _ (unread a marked.0 (each_left IsUnnamed (nodes a) (nodes b) h) k) (unread b marked.1 (each_right IsUnnamed (nodes a) (nodes b) h) k)
+    unread_form w s at (Linked operator a b) marked here h k =
+        or_from _ _ (unread a marked.0 (each_left IsUnnamed (nodes a) (nodes b) h) k) (unread b marked.1 (each_right IsUnnamed (nodes a) (nodes b) h) k)
     unread_form w s at (Folded operator a) marked here h k = unread a marked h k
-    unread_form w s at (Shifted operator signed a amount) marked here h k = unread_both a amount marked.0 marked.1 h k
+    unread_form w s at (Shifted operator signed a amount) marked here h k =
+        or_from _ _ (unread a marked.0 (each_left IsUnnamed (nodes a) (nodes amount) h) k) (unread amount marked.1 (each_right IsUnnamed (nodes a) (nodes amount) h) k)
     unread_form w s at (Chosen c a b) marked here h k =
         let front = each_left IsUnnamed (nodes c ++ nodes a) (nodes b) h in
         or_from _ _ (unread c marked.0 (each_left IsUnnamed (nodes c) (nodes a) front) k)
@@ -71,10 +75,6 @@ module _ (ws : ℕ → ℕ) (i : ℕ) where
         or_from _ _ (unread a marked.0 (each_left IsUnnamed (nodes a) (nodes others) h) k) (unread_row others marked.1 (each_right IsUnnamed (nodes a) (nodes others) h) k)
     unread_form w s at (Repeated times a) marked here h k = unread a marked h k
     unread_form w s at (Recast a) marked here h k = unread a marked h k
-
-    unread_both : (a b : Tree) → IsMarked a → IsMarked b → Each IsUnnamed (nodes a ++ nodes b) → (k : ℕ) → (reads ws a i k || reads ws b i k) ≡ false
-    unread_both a b first second h k =
-        or_from _ _ (unread a first (each_left IsUnnamed (nodes a) (nodes b) h) k) (unread b second (each_right IsUnnamed (nodes a) (nodes b) h) k)
 
     unread_row : (e : Tree) → IsRow e → Each IsUnnamed (nodes e) → (k : ℕ) → reads ws e i k ≡ false
     unread_row Empty marked h k = refl

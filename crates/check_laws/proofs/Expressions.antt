@@ -218,6 +218,10 @@ power_of (Z ∷ bits) h = absurd (false≢true h)
 -- ---- operands of operands
 
 module _ (P : Tree → Type 0) where
+  deep_join : (a b : Tree) → (Each P (nodes a) → Each (λ node. Each P (nodes node)) (nodes a)) → (Each P (nodes b) → Each (λ node. Each P (nodes node)) (nodes b)) → Each P (nodes a ++ nodes b) → Each (λ node. Each P (nodes node)) (nodes a ++ nodes b)
+  deep_join a b first second h =
+      each_join (λ node. Each P (nodes node)) (nodes a) (nodes b) (first (each_left P (nodes a) (nodes b) h)) (second (each_right P (nodes a) (nodes b) h))
+
   -- what holds of each operand holds of those of each
   deep : (e : Tree) → Each P (nodes e) → Each (λ node. Each P (nodes node)) (nodes e)
   deep (Sized w s at e) h = (h, deep e h.1)
@@ -227,21 +231,18 @@ module _ (P : Tree → Type 0) where
   deep (BitBy i low signed index) h = deep index h
   deep (Part i low width) h = tt
   deep (Turned operator a) h = deep a h
-  deep (Joined operator signed a b) h = deep_both a b h
-  deep (Compared operator signed a b) h = deep_both a b h
-  deep (Linked operator a b) h = deep_both a b h
+  deep (Joined operator signed a b) h = deep_join a b (λ k. deep a k) (λ k. deep b k) h
+  deep (Compared operator signed a b) h = deep_join a b (λ k. deep a k) (λ k. deep b k) h
+  deep (Linked operator a b) h = deep_join a b (λ k. deep a k) (λ k. deep b k) h
   deep (Folded operator a) h = deep a h
-  deep (Shifted operator signed a amount) h = deep_both a amount h
+  deep (Shifted operator signed a amount) h =
+      deep_join a amount (λ k. deep a k) (λ k. deep amount k) h
   deep (Chosen c a b) h =
-      each_join (λ node. Each P (nodes node)) (nodes c ++ nodes a) (nodes b) (deep_both c a (each_left P (nodes c ++ nodes a) (nodes b) h)) (deep b (each_right P (nodes c ++ nodes a) (nodes b) h))
+      each_join (λ node. Each P (nodes node)) (nodes c ++ nodes a) (nodes b) (deep_join c a (λ k. deep c k) (λ k. deep a k) (each_left P (nodes c ++ nodes a) (nodes b) h)) (deep b (each_right P (nodes c ++ nodes a) (nodes b) h))
   deep Empty h = tt
-  deep (Beside a others) h = deep_both a others h
+  deep (Beside a others) h = deep_join a others (λ k. deep a k) (λ k. deep others k) h
   deep (Repeated times a) h = deep a h
   deep (Recast a) h = deep a h
-
-  deep_both : (a b : Tree) → Each P (nodes a ++ nodes b) → Each (λ node. Each P (nodes node)) (nodes a ++ nodes b)
-  deep_both a b h =
-      each_join (λ node. Each P (nodes node)) (nodes a) (nodes b) (deep a (each_left P (nodes a) (nodes b) h)) (deep b (each_right P (nodes a) (nodes b) h))
 
 -- ---- what reads no bit, and selects none outside, has no signal
 

@@ -255,7 +255,8 @@ fn put_parts(alloc: Global, out: &mut Vec<u8>) -> Result<(), Stop> {
         put_letters(got, out)?;
     }
     let known = (mixed.is_known(), ff.is_known());
-    let number = ff.extend(12, false).number();
+    let wide = ff.extend(12, false);
+    let number = if wide.is_known() { wide.number() } else { 0 };
     let told = format!(in alloc; "known {} {} number {number}\n", known.0, known.1)?;
     out.extend_from_slice(told.as_bytes())?;
     Ok(())

@@ -1,5 +1,5 @@
 use Rattle.std.proofs.Common.{refl}
-use Rattle.rtl_flat.specs.Flats.{flat}
+use Rattle.rtl_flat.specs.Flats.{flat, parts}
 use Rattle.check_clean.proofs.event_laws_proofs.Steady.{lawful_processes}
 use Rattle.sign_off.proofs.promise.vouch.Goals as goal
 
@@ -8,4 +8,4 @@ returns c =
     let d = c.args.design.now in
     let lawful = lawful_processes (flat d) d.is_design.each_process in
     let marked = c.stored.ensures (flat d) d.processes.items refl in
-    c.promised.ensures (flat d) lawful marked c.args.findings.now c.requires
+    c.promised.ensures (parts d) lawful marked c.args.findings.now c.requires
