@@ -10,7 +10,7 @@ use Rattle.check_clocks.specs.check_chains.Findings.{AreResetFindings}
 use Rattle.check_clocks.specs.Findings.{AreClockFindings}
 use Rattle.check_assign.specs.Findings.{AreAssignFindings}
 use Rattle.check_case.specs.Cases.{AreCaseFindings}
-use Rattle.check_xprop.specs.Unknowns.{AreUnknownFindings}
+use Rattle.check_unknown.specs.Unknowns.{AreUnknownFindings}
 use Rattle.check_all.specs.Findings.{AreAllFindings}
 
 those_alone : {A : Type 0} (P : A → Type 0) (xs a b : List A) → AreThose P xs a → AreThose P xs b → a ≡ b

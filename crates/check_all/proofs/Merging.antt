@@ -12,7 +12,7 @@ use Rattle.check_assign.specs.Findings.{AreAssignFindings}
 use Rattle.check_clocks.specs.check_chains.Findings.{AreResetFindings}
 use Rattle.check_clocks.specs.Findings.{AreClockFindings}
 use Rattle.check_case.specs.Cases.{AreCaseFindings}
-use Rattle.check_xprop.specs.Unknowns.{AreUnknownFindings}
+use Rattle.check_unknown.specs.Unknowns.{AreUnknownFindings}
 use Rattle.check_all.specs.Findings.{AreAllFindings}
 
 -- what is ranked stays as it is when it is ranked again

@@ -20,8 +20,8 @@ use Rattle.check_clocks.specs.check_chains.Chains as chains
 use Rattle.check_clocks.specs.Clocks as clocks
 use Rattle.check_case.specs.Cases.{AreCaseFindings}
 use Rattle.check_case.specs.Cases as cases
-use Rattle.check_xprop.specs.Unknowns.{AreUnknownFindings}
-use Rattle.check_xprop.specs.Unknowns as unknowns
+use Rattle.check_unknown.specs.Unknowns.{AreUnknownFindings}
+use Rattle.check_unknown.specs.Unknowns as unknowns
 use Rattle.rtl_rule.specs.declared.rule.Rule.{Rule}
 use Rattle.rtl_rule.specs.declared.rule.Rule.TheVariants as rule
 use Rattle.check_all.specs.Findings.{AreAllFindings, IsClean}

@@ -10,7 +10,7 @@ use Rattle.check_clocks.specs.check_chains.Findings.{AreResetFindings}
 use Rattle.check_clocks.specs.Findings.{AreClockFindings}
 use Rattle.check_assign.specs.Findings.{AreAssignFindings}
 use Rattle.check_case.specs.Cases.{AreCaseFindings}
-use Rattle.check_xprop.specs.Unknowns.{AreUnknownFindings}
+use Rattle.check_unknown.specs.Unknowns.{AreUnknownFindings}
 
 -- whether these are all findings of a design, in their order
 pub record AreAllFindings (d : Parts) (findings : List Finding) : Type 0 where

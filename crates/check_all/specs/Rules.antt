@@ -8,7 +8,7 @@ use Rattle.check_assign.specs.Assigned.{AreBlockingState, AreCombLoop, AreLatchI
 use Rattle.check_clocks.specs.check_chains.Chains.{AreAsyncPair, AreResetPolarity, AreResetShape, AreResetValue}
 use Rattle.check_clocks.specs.Clocks.{AreClockAsData, AreDerivedClock}
 use Rattle.check_case.specs.Cases.{AreFullCase, AreParallelCase}
-use Rattle.check_xprop.specs.Unknowns.{AreDivideVariable, AreSelectRange, AreUnknownLiteral}
+use Rattle.check_unknown.specs.Unknowns.{AreDivideVariable, AreSelectRange, AreUnknownLiteral}
 
 -- no finding of each of them
 pub record HasNoFinding (d : Flat) : Type 0 where

@@ -23,7 +23,7 @@ pub fn check(alloc: Global, design: &Design) -> Result<Vec<Finding>, Memory>
     let clocked = check_clocks::check(alloc, &scans)?;
     let reset = check_clocks::check_chains::check(alloc, &scans)?;
     let cases = check_case::check(alloc, &scans)?;
-    let unknown = check_xprop::check(alloc, &scans)?;
+    let unknown = check_unknown::check(alloc, &scans)?;
     let two = merged(alloc, &sense, &assigned)?;
     let three = merged(alloc, &two, &clocked)?;
     let four = merged(alloc, &three, &reset)?;

@@ -12,4 +12,4 @@ pub use check_case;
 pub use check_clocks;
 pub use check_sense;
 pub use check_sense::check_found;
-pub use check_xprop;
+pub use check_unknown;

@@ -8,7 +8,7 @@ use Rattle.check_laws.proofs.event_settling_proofs.Conditions.{rules_settle}
 use Rattle.check_laws.proofs.event_settling_proofs.Ends as every
 use Rattle.net_model.specs.Control.{InClockCone}
 use Rattle.rtl_flat.specs.Flats.{Parts, widths}
-use Rattle.check_all.specs.check_xprop.Unknowns.{AreSelectRange}
+use Rattle.check_all.specs.check_unknown.Unknowns.{AreSelectRange}
 use Rattle.check_laws.specs.Cases.{Does, IsBodyOf}
 use Rattle.check_laws.proofs.Clocks.{derived_clock}
 use Rattle.check_laws.proofs.Designs.{comb_loop, mixed_edges, nonblocking_comb, several_drivers}

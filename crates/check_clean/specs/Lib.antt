@@ -9,7 +9,7 @@ pub use Rattle.check_laws.specs.check_chains
 pub use Rattle.check_laws.specs.check_clocks
 pub use Rattle.check_laws.specs as check_laws
 pub use Rattle.check_all.specs.check_sense
-pub use Rattle.check_all.specs.check_xprop
+pub use Rattle.check_all.specs.check_unknown
 pub use Rattle.check_laws.specs.event_settling
 pub use Rattle.check_laws.specs.event_laws
 pub use Rattle.check_laws.specs.net_laws

@@ -16,7 +16,7 @@ use Rattle.net_model.specs.Control.{IsFromTop, IsPassedOn, IsReached, ReadsAlone
 use Rattle.net_model.specs.Control as control
 use Rattle.rtl_rule.specs.Parts.{At, items_of, within}
 use Rattle.rtl_flat.specs.Flats.{Flat, widths}
-use Rattle.check_xprop.specs.check_chains.Chains.{IsAsyncPair, async_pair_at, has_chain}
+use Rattle.check_unknown.specs.check_chains.Chains.{IsAsyncPair, async_pair_at, has_chain}
 use Rattle.check_clocks.specs.Clocks.{ComesFrom, GoesTo, Itself, Through, IsDerivedClock, IsPlainConnection, IsTwice, derived_clock_at, events_of}
 use Rattle.check_laws.specs.Clocks.{AsyncPair, AreSourcesDecided, DerivedClock, DerivedClockOnce}
 use Rattle.rtl_rule.proofs.Lists.{Each, each_all}

@@ -24,12 +24,12 @@ use Rattle.net_laws.specs.Tame.{IsPlace}
 use Rattle.rtl_rule.specs.Parts.{constant_of, has_some, is_literal_with, is_one_literal, is_x, is_z, items_of, labels, nodes, pieces, reads_signal, some_below, trees, unknowns, valued_trees}
 use Rattle.rtl_flat.specs.Flats.{Flat, widths}
 use Rattle.check_assign.specs.Assigned.{IsTristate, tristate_at}
-use Rattle.check_xprop.specs.Unknowns.{AreSelectRange, IsDivideVariable, IsSelectRange, IsUnknownLiteral, Pick, all_nodes, at_node, divides_by_other, has_one, is_power, is_zero, may_miss, pick_in, pick_of, picks, select_range_at, unknown_literal_at}
+use Rattle.check_unknown.specs.Unknowns.{AreSelectRange, IsDivideVariable, IsSelectRange, IsUnknownLiteral, Pick, all_nodes, at_node, divides_by_other, has_one, is_power, is_zero, may_miss, pick_in, pick_of, picks, select_range_at, unknown_literal_at}
 use Rattle.rtl_rule.specs.declared.rule.Rule.TheVariants as rule
 use Rattle.check_laws.specs.Expressions.{AreMarked, DivideVariable, IsForm, IsMarked, IsRow, SelectRange, Tristate, UnknownLiteral}
 use Rattle.rtl_rule.proofs.Below.{some_at, some_found}
-use Rattle.check_xprop.proofs.Sized.{nodes_of_sized}
-use Rattle.check_xprop.proofs.check_parts_proofs.OwnReads.{width_inside}
+use Rattle.check_unknown.proofs.Sized.{nodes_of_sized}
+use Rattle.check_unknown.proofs.check_parts_proofs.OwnReads.{width_inside}
 use Rattle.rtl_rule.proofs.Lists.{Each, each_all, each_both, each_flat, each_from, each_join, each_kept, each_left, each_right}
 use Rattle.check_laws.proofs.Sites.{process_refuted, refuted_in}
 use Rattle.check_laws.proofs.Operands.{each_part}

@@ -14,5 +14,5 @@ pub mod Targets
 pub use Rattle.chain_laws.proofs as chain_laws_proofs
 pub use Rattle.event_settling.proofs.event_laws_proofs
 pub use Rattle.event_settling.proofs as event_settling_proofs
-pub use Rattle.check_xprop.proofs.check_parts_proofs
+pub use Rattle.check_unknown.proofs.check_parts_proofs
 pub use Rattle.net_laws.proofs as net_laws_proofs

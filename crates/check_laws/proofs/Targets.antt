@@ -17,7 +17,7 @@ use Rattle.rtl_flat.specs.WellFormed.{AreBranches, IsAction, IsBody, IsOtherwise
 use Rattle.event_settling.specs.Conditions.{AllSelect, AllSelectBranches, AllSelectIn, AllSelectOther, SelectsSome}
 use Rattle.rtl_rule.specs.Parts.{all_branches, all_in, all_of, all_other, items_of, own_pieces, pieces}
 use Rattle.rtl_flat.specs.Flats.{Flat, widths}
-use Rattle.check_xprop.specs.Unknowns.{IsSelectRange, Pick, all_nodes, may_miss, pick_in, pick_of, picks, select_range_at}
+use Rattle.check_unknown.specs.Unknowns.{IsSelectRange, Pick, all_nodes, may_miss, pick_in, pick_of, picks, select_range_at}
 use Rattle.check_laws.specs.Cases.{Does}
 use Rattle.check_laws.specs.Targets.{SelectTargets}
 use Rattle.check_laws.proofs.Bodies.{lawful_body}

@@ -5,7 +5,7 @@ use Rattle.rtl_flat.specs.Process.{Watched, Actions, Task}
 use Rattle.net_model.specs.Control.{IsFromTop}
 use Rattle.net_model.specs.Cycle.{Chain}
 use Rattle.rtl_flat.specs.Flats.{Flat}
-use Rattle.check_xprop.specs.check_chains.Chains.{AreAsyncPair, chain_of}
+use Rattle.check_unknown.specs.check_chains.Chains.{AreAsyncPair, chain_of}
 use Rattle.check_clocks.specs.Clocks.{AreDerivedClock, ComesFrom}
 use Rattle.check_laws.specs.Designs.{IsEdge}
 

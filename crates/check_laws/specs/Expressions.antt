@@ -14,7 +14,7 @@ use Rattle.rtl_rule.specs.Parts.{labels, trees, valued_trees}
 use Rattle.rtl_flat.specs.Flats.{Flat}
 use Rattle.check_case.specs.Cases.{AreFullCase, AreParallelCase}
 use Rattle.check_assign.specs.Assigned.{AreTristate}
-use Rattle.check_xprop.specs.Unknowns.{AreDivideVariable, AreSelectRange, AreUnknownLiteral}
+use Rattle.check_unknown.specs.Unknowns.{AreDivideVariable, AreSelectRange, AreUnknownLiteral}
 use Rattle.check_laws.specs.Cases.{IsBodyOf}
 
 -- ---- the form of stored expressions

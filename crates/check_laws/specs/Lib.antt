@@ -4,7 +4,7 @@ pub mod Expressions
 pub mod Clocks
 pub mod Targets
 -- passed on to the crates above
-pub use Rattle.check_xprop.specs.check_chains
+pub use Rattle.check_unknown.specs.check_chains
 pub use Rattle.check_clocks.specs as check_clocks
 pub use Rattle.event_settling.specs.event_laws
 pub use Rattle.event_settling.specs.event_runs

@@ -4,7 +4,7 @@ use Rattle.rtl_flat.specs.Process.{Actions}
 use Rattle.net_laws.specs.event_laws.Steady.{AreLawful}
 use Rattle.event_settling.specs.Conditions.{AllSelectIn}
 use Rattle.rtl_flat.specs.Flats.{Flat, widths}
-use Rattle.check_xprop.specs.Unknowns.{AreSelectRange}
+use Rattle.check_unknown.specs.Unknowns.{AreSelectRange}
 use Rattle.check_laws.specs.Cases.{IsBodyOf}
 
 -- X2: each nonblocking assignment of a body may write some bit

@@ -1,7 +1,0 @@
-use Rattle.std.proofs.Common.{ℕ, [], ◌≡◌, length}
-use Rattle.check_xprop.specs.Spreading.{bucket}
-use Rattle.check_xprop.proofs.doubt.no_readers.Given as goal
-
-abbrev pub invariant-loop : goal.invariant-loop
-invariant-loop l =
-    (length l.table.items ≡ l.counter) × ((s : ℕ) → bucket l.table.items s ≡ [])

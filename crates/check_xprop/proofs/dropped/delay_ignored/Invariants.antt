@@ -1,8 +1,0 @@
-use Rattle.std.proofs.Common.{◌≡◌, take}
-use Rattle.rtl_flat.specs.Flats.{flat}
-use Rattle.check_xprop.specs.Lists.{delays_found}
-use Rattle.check_xprop.proofs.dropped.delay_ignored.Given as goal
-
-abbrev pub invariant-loop-delay : goal.invariant-loop-delay
-invariant-loop-delay l =
-    l.found.items ≡ delays_found (flat l.design) (take l.delay-index l.design.delays.items)
