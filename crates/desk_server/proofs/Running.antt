@@ -27,10 +27,10 @@ pub record IsRunning (serves : Serving) (count : ℕ) (around around' : Around) 
   pub linked : ServesLinks serves around around' kept kept' before after
   pub counted : length linked.inputs ≡ count
 
-pub running_none : {serves : Serving} (visits : Option Visits) (around : Around) (kept : Kept)
+pub running_none : (serves : Serving) (visits : Option Visits) (around : Around) (kept : Kept)
     → Tells visits visits (IsRunning serves 0 around around kept kept)
-running_none None around kept = tt
-running_none (Some visits) around kept = record {
+running_none serves None around kept = tt
+running_none serves (Some visits) around kept = record {
   linked = record {
     inputs = [];
     links = [];
@@ -110,23 +110,23 @@ running_more (Some v) (Some v') (Some v'') (Some v''') talk talk' faults faults'
     served_more v v' v'' v''' talk talk' faults faults' a a' a'' k k' k'' count served it gives takes over later
 
 -- all are served that were wanted
-pub served_all : {serves : Serving} (v v' : Option Visits) (a a' : Around) (k k' : Kept) (count wanted : ℕ)
+pub served_all : (serves : Serving) (v v' : Option Visits) (a a' : Around) (k k' : Kept) (count wanted : ℕ)
     → Tells v v' (IsRunning serves count a a' k k') → count ≡ wanted
     → Tells v v' (ServesCount serves wanted (Ok tt) a a' k k')
-served_all None v' a a' k k' count wanted it same = tt
-served_all (Some v) None a a' k k' count wanted it same = absurd it
-served_all (Some v) (Some v') a a' k k' count wanted it same =
+served_all serves None v' a a' k k' count wanted it same = tt
+served_all serves (Some v) None a a' k k' count wanted it same = absurd it
+served_all serves (Some v) (Some v') a a' k k' count wanted it same =
     let counted : length it.linked.inputs ≡ count = it.counted in
     record { served = it.linked; most = omega (arith, counted, same); all = counted ∙ same }
 
 -- the door gives no link more
-pub served_some : {serves : Serving} (v v' v'' : Option Visits) (a a' : Around) (k k' : Kept) (count wanted : ℕ) (fault : Failed)
+pub served_some : (serves : Serving) (v v' v'' : Option Visits) (a a' : Around) (k k' : Kept) (count wanted : ℕ) (fault : Failed)
     → Tells v v' (IsRunning serves count a a' k k') → Tells v' v'' IsSameVisits → count ≤ wanted
     → Tells v v'' (ServesCount serves wanted (Err fault) a a' k k')
-served_some None v' v'' a a' k k' count wanted fault it stays fits = tt
-served_some (Some v) None v'' a a' k k' count wanted fault it stays fits = absurd it
-served_some (Some v) (Some v') None a a' k k' count wanted fault it stays fits = absurd stays
-served_some {serves} (Some v) (Some v') (Some v'') a a' k k' count wanted fault it stays fits =
+served_some serves None v' v'' a a' k k' count wanted fault it stays fits = tt
+served_some serves (Some v) None v'' a a' k k' count wanted fault it stays fits = absurd it
+served_some serves (Some v) (Some v') None a a' k k' count wanted fault it stays fits = absurd stays
+served_some serves (Some v) (Some v') (Some v'') a a' k k' count wanted fault it stays fits =
     let counted : length it.linked.inputs ≡ count = it.counted in
     subst (λ w. ServesCount serves wanted (Err fault) a a' k k' v w) (sym stays)
     (record { served = it.linked; most = omega (arith, counted, fits); all = tt })

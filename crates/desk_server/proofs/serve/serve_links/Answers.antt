@@ -5,7 +5,7 @@ use Rattle.desk_server.proofs.serve.serve_links.Goals as goal
 
 pub loop-init : goal.loop-init
 loop-init g c = record {
-  so_far = running_none (g.D.Door.visits c.args.door.now)
+  so_far = running_none g.S.Service.serves (g.D.Door.visits c.args.door.now)
       (around (g.C.Clock.days c.args.clock.now) (g.C.Clock.faults c.args.clock.now) (g.K.Keeper.count c.args.keeper.now))
       (g.S.Service.kept c.args.service.now);
   held = c.requires;
@@ -32,7 +32,7 @@ loop-preserved g c = record {
 
 pub returns-in-Err-clause-serves : goal.returns-in-Err-clause-serves
 returns-in-Err-clause-serves g c =
-    served_some (g.D.Door.visits c.args.door.now) (g.D.Door.visits c.loop.door) (g.D.Door.visits c.next.new.self)
+    served_some g.S.Service.serves (g.D.Door.visits c.args.door.now) (g.D.Door.visits c.loop.door) (g.D.Door.visits c.next.new.self)
     (around (g.C.Clock.days c.args.clock.now) (g.C.Clock.faults c.args.clock.now) (g.K.Keeper.count c.args.keeper.now))
     (around (g.C.Clock.days c.loop.clock) (g.C.Clock.faults c.loop.clock) (g.K.Keeper.count c.loop.keeper))
     (g.S.Service.kept c.args.service.now) (g.S.Service.kept c.loop.service) c.loop.counter c.args.count c.in-Err.field-0
@@ -40,7 +40,7 @@ returns-in-Err-clause-serves g c =
 
 pub returns-clause-serves : goal.returns-clause-serves
 returns-clause-serves g c =
-    served_all (g.D.Door.visits c.args.door.now) (g.D.Door.visits c.loop.door)
+    served_all g.S.Service.serves (g.D.Door.visits c.args.door.now) (g.D.Door.visits c.loop.door)
     (around (g.C.Clock.days c.args.clock.now) (g.C.Clock.faults c.args.clock.now) (g.K.Keeper.count c.args.keeper.now))
     (around (g.C.Clock.days c.loop.clock) (g.C.Clock.faults c.loop.clock) (g.K.Keeper.count c.loop.keeper))
     (g.S.Service.kept c.args.service.now) (g.S.Service.kept c.loop.service) c.loop.counter c.args.count
