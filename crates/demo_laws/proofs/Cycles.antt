@@ -31,7 +31,7 @@ use Rattle.demo_clean.specs.rtl_scan.Arrows.{Among}
 use Rattle.demo_clean.specs.check_clocks.Clocks.{IsDerivedClock, events_of}
 use Rattle.demo_clean.proofs.chain_laws_proofs.Branches.{IsLawfulGuard, chain_lawful}
 use Rattle.rtl_rule.proofs.Lists.{Each, each_from, each_map}
-use Rattle.demo_clean.proofs.net_cycles_proofs.Carried.{carried}
+use Rattle.demo_clean.proofs.net_settle_proofs.Carried.{carried}
 use Rattle.demo_clean.proofs.net_laws_proofs.Known.{both}
 use Rattle.demo_clean.specs.net_list.Chosen.{chains_of}
 use Rattle.demo_clean.specs.net_list.Faults.{AreFormed, IsFault}

@@ -63,7 +63,7 @@ fn push_name(
     names: &mut Vec<Text>,
 ) -> Result<(), Memory>
     ensures { OnOk result
-        (names.new.items ≡ names.old.items ++ names_of sources_at (number ∷ []) files.now) }
+        (names.new.items ≡ names.old.items ++ names_of (sources_at (number ∷ []) files.now)) }
 {
     match files.get(number) {
         Some(file) => {

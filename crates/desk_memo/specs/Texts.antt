@@ -1,5 +1,5 @@
 -- The refusal of a file that spells no modules.
--- Worked examples: crates/desk_answers/proofs/FreshExample.antt.
+-- Worked examples: examples/stored/undeclared.out.
 use Rattle.std.specs.Prelude.{◌≡◌, ℕ, List, [], ◌∷◌}
 use Rattle.rtl_front.specs.declared.fault.FileFault.{FileFault}
 use Rattle.desk_refusals.specs.Refusals.{source_line}

@@ -20,7 +20,7 @@ use Rattle.desk_records.specs.Outcomes.{Outcome, Told}
 use Rattle.desk_rulings.specs.Grants.{grant, waive_outcome, waiver_row}
 use Rattle.desk_rulings.specs.Rulings.{Site, Verdict, left_of, standing_of}
 use Rattle.desk_rulings.specs.SignOffs.{grade_of, signoff_outcome}
-use Rattle.desk_tables.specs.declared.rows.Grade.TheVariants.{Clean, Waived}
+use Rattle.desk_tables.specs.declared.rows.Grade.TheVariants as grade
 
 -- a file that jo put last, with this digest
 abbrev file : List ℕ → FileRow
@@ -170,8 +170,8 @@ a_finding_stands = refl
 who_put_a_file_last_may_not_sign : signed (codes "jo") (waiver None ∷ []) ≡ refused (codes "SignerEdited a.v\n")
 who_put_a_file_last_may_not_sign = refl
 
-the_grade_is_waived : grade_of (finding LatchInferred ∷ []) ≡ Waived
+the_grade_is_waived : grade_of (row LatchInferred ∷ []) ≡ grade.Waived
 the_grade_is_waived = refl
 
-the_grade_is_clean : grade_of (finding WildSelector ∷ []) ≡ Clean
+the_grade_is_clean : grade_of (row WildSelector ∷ []) ≡ grade.Clean
 the_grade_is_clean = refl

@@ -3,6 +3,7 @@ use Rattle.std.proofs.Common.{◌≡◌, ◌∙◌, Bor, ℕ, suc, ◌<◌, ◌+
 use Rattle.std.specs.Prelude.{ℤ, Option, count_by, cond}
 use Rattle.std.specs.Option.{option_and_then}
 use Rattle.std.proofs.lemmas.List.{append_assoc, at_drop_more, map-append, take_more}
+use Rattle.std.proofs.lemmas.List.Sums.{sum_by-cons}
 use Rattle.source_file.specs.declared.SourceFile.{SourceFile}
 use Rattle.desk_tables.specs.Tables.{Kept}
 use Rattle.desk_tables.specs.declared.rows.FileRow.{FileRow}
@@ -27,18 +28,21 @@ sources_on files place file olds news inside read before made =
 -- how many of the rows are open, with their waivers
 pub left_mapped : (rows : List WaivedRow) → count_by is_open (map waived rows) ≡ count_by (λ one. is_open (waived one)) rows
 left_mapped [] = refl
-left_mapped (one ∷ rows) = ap (λ n. cond (is_open (waived one)) (1 + n) n) (left_mapped rows)
+left_mapped (one ∷ rows) =
+    sum_by-cons (λ row. cond (is_open row) 1 0) (waived one) (map waived rows)
+    ∙ ap (λ n. cond (is_open (waived one)) 1 0 + n) (left_mapped rows)
+    ∙ sym (sum_by-cons (λ row. cond (is_open (waived row)) 1 0) one rows)
 
 -- one finding more
-pub standings_on : (today : ℤ) (kept : Kept) (files : List SourceFile) (rows : List Row) (place : ℕ) (row d : Row) (waivers : List WaiverRow) (kept_rows : List FileRow) (site : Option Site) (one : WaivedRow) (olds news : List WaivedRow) (whole : List Waived) → place < length rows → row ≡ get_or rows place d → waivers ≡ kept.waivers → kept_rows ≡ kept.files → site ≡ site_of kept_rows files row → waived one ≡ record { row = row; waiver = option_and_then (standing_in today waivers) site } → news ≡ olds ++ one ∷ [] → map waived olds ++ map (standing_for today kept files) (drop place rows) ≡ whole → map waived news ++ map (standing_for today kept files) (drop (place + 1) rows) ≡ whole
-standings_on today kept files rows place row d waivers kept_rows site one olds news whole inside read kept_waivers kept_files its is made before =
+pub standings_on : (today : ℤ) (kept : Kept) (files : List SourceFile) (rows : List Row) (place : ℕ) (d : Row) (waivers : List WaiverRow) (kept_rows : List FileRow) (site : Option Site) (one : WaivedRow) (olds news : List WaivedRow) (whole : List Waived) → place < length rows → news ≡ olds ++ one ∷ [] → one.row.now ≡ get_or rows place d → waivers ≡ kept.waivers → kept_rows ≡ kept.files → site ≡ site_of kept_rows files one.row.now → one.waiver ≡ option_and_then (standing_in today waivers) site → map waived olds ++ map (standing_for today kept files) (drop place rows) ≡ whole → map waived news ++ map (standing_for today kept files) (drop (place + 1) rows) ≡ whole
+standings_on today kept files rows place d waivers kept_rows site one olds news whole inside made read kept_waivers kept_files its is before =
     let it : List Waived = map (standing_for today kept files) (drop (place + 1) rows) in
-    let with_waiver : Option (WaiverId × ℤ) → Waived = λ waiver. record { row = row; waiver = waiver } in
+    let with_waiver : Option (WaiverId × ℤ) → Waived = λ waiver. record { row = one.row.now; waiver = waiver } in
     let one_is : waived one ≡ standing_for today kept files (get_or rows place d) =
-    is
+    ap with_waiver is
     ∙ ap (λ s. with_waiver (option_and_then (standing_in today waivers) s)) its
-    ∙ ap (λ ws. with_waiver (option_and_then (standing_in today ws) (site_of kept_rows files row))) kept_waivers
-    ∙ ap (λ rs. with_waiver (option_and_then (standing_in today kept.waivers) (site_of rs files row))) kept_files
+    ∙ ap (λ ws. with_waiver (option_and_then (standing_in today ws) (site_of kept_rows files one.row.now))) kept_waivers
+    ∙ ap (λ rs. with_waiver (option_and_then (standing_in today kept.waivers) (site_of rs files one.row.now))) kept_files
     ∙ ap (standing_for today kept files) read in
     ap (λ xs. map waived xs ++ it) made
     ∙ ap (λ xs. xs ++ it) (map-append waived olds (one ∷ []))

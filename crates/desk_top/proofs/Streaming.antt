@@ -3,7 +3,7 @@ use Rattle.std.proofs.Common.{◌≡◌, ◌≢◌, ◌<◌, ℕ, List, [], ◌�
 use Rattle.std.specs.Io.KnownBytes.{Appends}
 use Rattle.std.proofs.KnownBytes.{Appends-nil, Appends-trans}
 use Rattle.rtl_flat.specs.declared.design.Design.{Design}
-use Rattle.desk_build.specs.rtl_elab.Designs.{flat_in}
+use Rattle.rtl_flat.specs.Flats.{flat_in}
 use Rattle.desk_steps.specs.declared.file.Steps.{Steps as Read}
 use Rattle.desk_steps.specs.Steps.{steps as plain}
 use Rattle.desk_runs.specs.declared.run.Run.{Run as Running}

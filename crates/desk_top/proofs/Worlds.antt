@@ -223,7 +223,7 @@ pub stepped_texts : (files : Option Files) (top steps : List ℕ) (names : List 
     → IfSome files (λ held. texts_of held names ≡ Some (texts_in made)) → names_in made ≡ names → AreShort made → are_files names ≡ true
     → IsPlan (IsStepped top made (texts_in made) bytes) plan → OverWorld files (λ world. IsPlan (IsSimulating top names (reading (world.before steps)) (texts_of world.files names)) plan)
 stepped_texts files top steps names text bytes made plan had fits same told called short are is =
-    over_ahead (λ r o. IsPlan (IsSimulating top names r o) plan) files steps names text made had fits told count short are
+    over_ahead (λ r o. IsPlan (IsSimulating top names r o) plan) files steps names text made had fits told called short are
     (subst (λ (all : List SourceFile). IsPlan (IsStepped top all (texts_in made) text.items) plan) (sym (named_by names made called))
     (subst (λ (all : List ℕ). IsPlan (IsStepped top made (texts_in made) all) plan) same is))
 
@@ -255,7 +255,7 @@ pub replayed_texts : (files : Option Files) (top demo : List ℕ) (names : List 
     → IfSome files (λ held. texts_of held names ≡ Some (texts_in made)) → names_in made ≡ names → AreShort made → are_files names ≡ true
     → IsWork (IsReplayIn top made (texts_in made) bytes) work → OverWorld files (λ world. IsWork (IsReplaying top names (reading (world.before demo)) (texts_of world.files names)) work)
 replayed_texts files top demo names text bytes made work had fits same told called short are is =
-    over_ahead (λ r o. IsWork (IsReplaying top names r o) work) files demo names text made had fits told count short are
+    over_ahead (λ r o. IsWork (IsReplaying top names r o) work) files demo names text made had fits told called short are
     (subst (λ (all : List SourceFile). IsWork (IsReplayIn top all (texts_in made) text.items) work) (sym (named_by names made called))
     (subst (λ (all : List ℕ). IsWork (IsReplayIn top made (texts_in made) all) work) same is))
 

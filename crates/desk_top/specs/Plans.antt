@@ -2,8 +2,7 @@
 use Rattle.std.specs.Prelude.{◌≡◌, ◌≢◌, ℕ, List, [], Option, Result, Ok, Err, false, ⊤}
 use Rattle.std.specs.Io.KnownBytes.{Appends}
 use Rattle.std.specs.List.{All}
-use Rattle.rtl_flat.specs.Flats.{DesignParts}
-use Rattle.desk_build.specs.rtl_elab.Designs.{flat_in}
+use Rattle.rtl_flat.specs.Flats.{DesignParts, flat_in}
 use Rattle.desk_steps.specs.Fitting.{AreFitting}
 use Rattle.desk_steps.specs.Steps.{Steps, steps as plain}
 use Rattle.desk_top.specs.declared.deliver.Stop.{Stop}

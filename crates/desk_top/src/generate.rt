@@ -2,7 +2,7 @@
 
 ghost use Rattle.std.specs.Prelude.{◌≡◌, ◌≢◌, ◌≤◌, Err, IfOk};
 ghost use Rattle.source_file.specs.SourceFiles.{AreShort};
-ghost use Rattle.desk_build.specs.rtl_elab.Designs.{flat_in};
+ghost use Rattle.rtl_flat.specs.Flats.{flat_in};
 ghost use Rattle.desk_top.specs.Delivery.{IsWork};
 ghost use Rattle.desk_top.specs.Outcome.{IsCounted, IsGenerated, generated_sources};
 

@@ -4,7 +4,7 @@ ghost use Rattle.std.specs.Prelude.{◌≡◌, ◌≢◌, ◌≤◌, ℕ, List, 
 ghost use Rattle.source_file.specs.SourceFiles.{AreShort, texts_in};
 ghost use Rattle.desk_io.specs.Causes.{Rose};
 ghost use Rattle.desk_io.specs.Shelf.{reading};
-ghost use Rattle.desk_build.specs.rtl_elab.Designs.{flat_in};
+ghost use Rattle.rtl_flat.specs.Flats.{flat_in};
 ghost use Rattle.desk_demo.specs.Files.{Leads};
 ghost use Rattle.desk_report.specs.Tellings.{signal_path};
 ghost use Rattle.desk_top.specs.Answers.{OverWorld};

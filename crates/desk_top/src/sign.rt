@@ -3,7 +3,7 @@
 ghost use Rattle.std.specs.Prelude.{◌≡◌, ◌≢◌, ◌≤◌, IfOk, if◌then◌else◌, map, true};
 ghost use Rattle.source_file.specs.SourceFiles.{AreShort, texts_in};
 ghost use Rattle.desk_io.specs.Causes.{Rose};
-ghost use Rattle.desk_build.specs.rtl_elab.Designs.{flat_in};
+ghost use Rattle.rtl_flat.specs.Flats.{flat_in};
 ghost use Rattle.desk_places.specs.Places.{sources_of};
 ghost use Rattle.desk_report.specs.Reports.{report_text};
 ghost use Rattle.desk_rows.specs.Rows.{unwaived};

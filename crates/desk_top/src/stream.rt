@@ -3,7 +3,7 @@
 ghost use Rattle.std.specs.Prelude.{◌≡◌, ◌≤◌, ◌<◌};
 ghost use Rattle.std.specs.List.{All};
 ghost use Rattle.desk_io.specs.Causes.{Rose};
-ghost use Rattle.desk_build.specs.rtl_elab.Designs.{flat_in};
+ghost use Rattle.rtl_flat.specs.Flats.{flat_in};
 ghost use Rattle.desk_steps.specs.Fitting.{AreFitting};
 ghost use Rattle.desk_steps.specs.Steps.{steps as plain};
 ghost use Rattle.desk_top.specs.Plans.{HasFitting, IsStreamed, Performs};

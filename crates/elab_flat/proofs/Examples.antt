@@ -66,11 +66,11 @@ abbrev met : List Visit
 met = visits two 2 (top two (with_items 116 0 (holds 108 ∷ [])))
 
 -- the signals of l come behind those of t
-signals : map (λ s. s.path) (flat_of two (placements 0 0 met)).signals ≡ (116 ∷ 46 ∷ 97 ∷ []) ∷ (116 ∷ 46 ∷ 121 ∷ []) ∷ (116 ∷ 46 ∷ 117 ∷ 46 ∷ 97 ∷ []) ∷ (116 ∷ 46 ∷ 117 ∷ 46 ∷ 121 ∷ []) ∷ []
+signals : map (λ s. s.path) (flat_of two (placements 0 0 met)).parts.flat.signals ≡ (116 ∷ 46 ∷ 97 ∷ []) ∷ (116 ∷ 46 ∷ 121 ∷ []) ∷ (116 ∷ 46 ∷ 117 ∷ 46 ∷ 97 ∷ []) ∷ (116 ∷ 46 ∷ 117 ∷ 46 ∷ 121 ∷ []) ∷ []
 signals = refl
 
 -- the processes of connections belong to the instance that holds the other
-instances : map (λ task. task.instance) (flat_of two (placements 0 0 met)).tasks ≡ 0 ∷ 0 ∷ 1 ∷ []
+instances : map (λ task. task.instance) (flat_of two (placements 0 0 met)).parts.flat.tasks ≡ 0 ∷ 0 ∷ 1 ∷ []
 instances = refl
 
 -- where a signal is assigned to another, the two numbers
@@ -91,5 +91,5 @@ abbrev both : Library
 both = library_of (chained ∷ leaf ∷ [])
 
 -- t has a, y and b as 0, 1 and 2, u has a and y as 3 and 4, and w as 5 and 6; each connection is with those of its own
-wired : map (λ task. ends task.does) (flat_of both (placements 0 0 (visits both 2 (top both chained)))).tasks ≡ (3 ∷ 0 ∷ []) ∷ (2 ∷ 4 ∷ []) ∷ (5 ∷ 2 ∷ []) ∷ (1 ∷ 6 ∷ []) ∷ (4 ∷ 3 ∷ []) ∷ (6 ∷ 5 ∷ []) ∷ []
+wired : map (λ task. ends task.does) (flat_of both (placements 0 0 (visits both 2 (top both chained)))).parts.flat.tasks ≡ (3 ∷ 0 ∷ []) ∷ (2 ∷ 4 ∷ []) ∷ (5 ∷ 2 ∷ []) ∷ (1 ∷ 6 ∷ []) ∷ (4 ∷ 3 ∷ []) ∷ (6 ∷ 5 ∷ []) ∷ []
 wired = refl

@@ -7,6 +7,7 @@ use Rattle.std.proofs.lemmas.Bool.{both_ways, cases_eq, false≢true, or_cases, 
 use Rattle.rtl_flat.specs.declared.signal.Signal.{Signal}
 use Rattle.event_model.specs.Queue.{is_input_of}
 use Rattle.net_model.specs.Control.{IsControl, IsReached, Itself, Through}
+use Rattle.net_model.proofs.Gates.{clock_control, clock_or_reset, control_input}
 use Rattle.rtl_flat.specs.Flats.{Flat}
 use Rattle.net_list.specs.rtl_scan.Arrows.{Among, AreRising}
 use Rattle.net_list.specs.check_clocks.declared.reach.Link.{Link}
@@ -106,12 +107,12 @@ module _ (d : Flat) where
 
   pub no_top : (n : ℕ) → is_input_of (slice_get d.signals n) ≡ false → IsControl d n → ⊥
   no_top n other is =
-      both_ways (is_input_of (slice_get d.signals n)) other is.input
+      both_ways (is_input_of (slice_get d.signals n)) other (control_input d n is)
 
   module _ (links : List Link) (rows : List (Vec ℕ Global)) (are : AreRows (length d.signals) links rows) (all : ArePassing d (length d.tasks) links) (edges : List Bool) (marked : AreEdgeMarks d edges) where
     pub control_is : (n : ℕ) → is_input_of (slice_get d.signals n) ≡ true → ReachesMarked rows edges n → IsControl d n
     control_is n top it =
-        record {
+        clock_control d n (record {
           input = top;
           signal = it.signal;
           reached = reached_from d links rows are all n it.signal it.reached;

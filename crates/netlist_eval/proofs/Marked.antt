@@ -8,6 +8,7 @@ use Rattle.rtl_flat.specs.declared.signal.Signal.{Signal}
 use Rattle.event_model.specs.Queue.{is_input_of}
 use Rattle.rtl_flat.specs.Flats.{flat}
 use Rattle.net_model.specs.Control.{IsControl}
+use Rattle.net_model.proofs.Gates.{control_input}
 use Rattle.net_start.specs.rtl_scan.Arrows.{Among}
 use Rattle.infer_regs.specs.check_clocks.Tops.{AreMarkedAlso}
 use Rattle.infer_regs.proofs.check_clocks_proofs.Reached.{none_marked}
@@ -21,7 +22,7 @@ input_below (s ∷ signals) (suc c) h = let below = input_below signals c h in o
 module _ (design : Design) (old marks : List Bool) (found : List ℕ) (none : old ≡ replicate (length design.signals.items) false) (size : length old ≡ length design.signals.items) (are : AreControls (flat design) found) (marked : AreMarkedAlso found old marks) where
   control : (s : ℕ) → IsControl (flat design) s → get_or marks s false ≡ true
   control s is =
-      (marked.each s).1 (inr (subst (λ n. s < n) (sym size) (input_below design.signals.items s is.input), (are.each s).1 is))
+      (marked.each s).1 (inr (subst (λ n. s < n) (sym size) (input_below design.signals.items s (control_input (flat design) s is)), (are.each s).1 is))
 
   from : (s : ℕ) → (get_or old s false ≡ true) ⊎ ((s < length old) × Among found s) → IsControl (flat design) s
   from s (inl h) =

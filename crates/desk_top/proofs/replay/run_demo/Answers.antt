@@ -1,5 +1,5 @@
 use Rattle.std.proofs.Common.{◌≡◌, Some, sym, subst}
-use Rattle.desk_build.specs.rtl_elab.Designs.{flat_in}
+use Rattle.rtl_flat.specs.Flats.{flat_in}
 use Rattle.desk_top.specs.Outcome.{Differs, Fails, IsRerun, fault_outcome, replay_outcome}
 use Rattle.desk_top.proofs.Answered.{work_map}
 use Rattle.desk_top.proofs.replay.run_demo.Goals as goal

@@ -1,5 +1,5 @@
 use Rattle.std.proofs.Common.{sym, subst}
-use Rattle.desk_build.specs.rtl_elab.Designs.{flat_in}
+use Rattle.rtl_flat.specs.Flats.{flat_in}
 use Rattle.desk_demo.specs.Files.{IsMalformed}
 use Rattle.desk_demo.specs.declared.file.Malformed.{Malformed}
 use Rattle.desk_top.specs.Outcome.{IsDemoRun, IsRerun, Read, Unread}

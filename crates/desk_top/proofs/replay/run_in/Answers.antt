@@ -1,7 +1,7 @@
 use Rattle.std.proofs.Common.{subst}
 use Rattle.source_file.specs.SourceFiles.{texts_in}
 use Rattle.desk_build.specs.declared.front.Built.{Built as Made}
-use Rattle.desk_build.specs.rtl_elab.Designs.{flat_in}
+use Rattle.rtl_flat.specs.Flats.{flat_in}
 use Rattle.desk_build.specs.Building.{Designed, IsBuilt, Refused, built}
 use Rattle.desk_top.proofs.Buildings.{replayed_of}
 use Rattle.desk_top.proofs.replay.run_in.Goals as goal

@@ -1,5 +1,5 @@
 use Rattle.std.proofs.Common.{◌≡◌, Err, Ok, ℕ, Result, subst, sym}
-use Rattle.desk_build.specs.rtl_elab.Designs.{flat_in}
+use Rattle.rtl_flat.specs.Flats.{flat_in}
 use Rattle.desk_steps.specs.declared.file.StepsFault.{StepsFault}
 use Rattle.desk_steps.specs.Files.{IsTold}
 use Rattle.desk_steps.specs.Steps.{Steps, file_of}
