@@ -62,7 +62,7 @@ taken r (first ∷ events) item others e =
 -- a reset with its test
 pub record IsTested (d : Flat) (guard : Guard) : Type 0 where
   pub test : Test
-  pub is : tested guard.test ≡ Some test
+  pub is : tested d guard.test ≡ Some test
   pub signal : guard.item.signal ≡ test.signal
 
 -- what a chain is
@@ -77,7 +77,7 @@ module _ (d : Flat) where
   Finds go =
       (events : List Watched) (body : Actions) (chain : Chain) → go events body ≡ Some chain → IsFound d events body chain
 
-  alone : Finds (chain_in zero)
+  alone : Finds (chain_in d zero)
   alone [] body chain e = absurd (cc)
   alone (clock ∷ []) body chain e =
       let same : record { resets = []; clock = clock; part = body } ≡ chain = cc in
@@ -86,7 +86,7 @@ module _ (d : Flat) where
 
   module _ (go : List Watched → Actions → Option Chain) (finds : Finds go) (events : List Watched) (body : Actions) (chain : Chain) where
     module _ (test : Tree) (branch other : Actions) (spot : Spot) (is : opened body ≡ Then (If test branch (With other) spot) Done) where
-      by_chain : (one : Test) → tested test ≡ Some one → (item : Watched) (rest : List Watched) → IsTaken one.signal events item rest → (o : Option Chain) → go rest other ≡ o → guarded (record { item = item; test = test; branch = branch }) o ≡ Some chain → IsFound d events body chain
+      by_chain : (one : Test) → tested d test ≡ Some one → (item : Watched) (rest : List Watched) → IsTaken one.signal events item rest → (o : Option Chain) → go rest other ≡ o → guarded (record { item = item; test = test; branch = branch }) o ≡ Some chain → IsFound d events body chain
       by_chain one is_test item rest taken' None e e' = absurd (cc)
       by_chain one is_test item rest taken' (Some inner) e e' =
           let guard : Guard = record { item = item; test = test; branch = branch } in
@@ -99,21 +99,21 @@ module _ (d : Flat) where
             tests = (record { test = one; is = is_test; signal = taken'.signal }, found.tests);
           })
 
-      by_item : (one : Test) → tested test ≡ Some one → (o : Option (Watched × List Watched)) → taken_out one.signal events ≡ o → with_item go test branch other o ≡ Some chain → IsFound d events body chain
+      by_item : (one : Test) → tested d test ≡ Some one → (o : Option (Watched × List Watched)) → taken_out one.signal events ≡ o → with_item go test branch other o ≡ Some chain → IsFound d events body chain
       by_item one is_test None e e' = absurd (cc)
       by_item one is_test (Some (item, rest)) e e' =
           by_chain one is_test item rest (taken one.signal events item rest e) (go rest other) refl e'
 
-      by_test : (o : Option Test) → tested test ≡ o → with_test go events test branch other o ≡ Some chain → IsFound d events body chain
+      by_test : (o : Option Test) → tested d test ≡ o → with_test go events test branch other o ≡ Some chain → IsFound d events body chain
       by_test None e e' = absurd (cc)
       by_test (Some one) e e' = by_item one e (taken_out one.signal events) refl e'
 
-    by_body : (b : Actions) → opened body ≡ b → headed go events b ≡ Some chain → IsFound d events body chain
+    by_body : (b : Actions) → opened body ≡ b → headed d go events b ≡ Some chain → IsFound d events body chain
     by_body (Then (If test branch (With other) spot) Done) is e =
-        by_test test branch other spot is (tested test) refl e
+        by_test test branch other spot is (tested d test) refl e
     by_body b is e = absurd (cc)
 
-  pub chain_found : (n : ℕ) → Finds (chain_in n)
+  pub chain_found : (n : ℕ) → Finds (chain_in d n)
   chain_found zero = alone
   chain_found (suc n) =
-      λ events body chain e. by_body (chain_in n) (chain_found n) events body chain (opened body) refl e
+      λ events body chain e. by_body (chain_in d n) (chain_found n) events body chain (opened body) refl e

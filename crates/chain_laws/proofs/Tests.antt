@@ -16,6 +16,7 @@ use Rattle.rtl_flat.specs.Expression.{Tree, Sized, Literal, Turned, Compared, Fo
 use Rattle.rtl_flat.specs.Expression as tree
 use Rattle.rtl_flat.specs.Flows.{reads}
 use Rattle.rtl_flat.specs.Signs.{IsExpression}
+use Rattle.rtl_flat.specs.Sizing.{signed_in}
 use Rattle.rtl_flat.specs.WellFormed.{has_edge}
 use Rattle.event_model.specs.Writes.{Values}
 use Rattle.net_model.specs.declared.fill.Fill.{Fill}
@@ -170,8 +171,9 @@ module _ (d : Flat) where
     known : has_unknown bits ≡ false
     digit : 1 ≤ length bits → IsDigit bits (as_bit one.level)
 
-  compared_is : (signed : Bool) (r : ℕ) (bits : List Bit) (one : Test) → compared signed r bits ≡ Some one → IsCompared signed r bits one
-  compared_is signed r bits one e = by_known (signed || list_any is_unknown bits) refl e
+  compared_is : (signed own : Bool) (r : ℕ) (bits : List Bit) (one : Test) → compared signed own r bits ≡ Some one → IsCompared signed r bits one
+  compared_is signed own r bits one e =
+      by_known (signed || (own && not (length bits == 1)) || list_any is_unknown bits) refl e
     where
       by_zero : (b : Bool) → (number_where is_one bits == 0) ≡ b → signed ≡ false → has_unknown bits ≡ false → (if b then test_of r false else None) ≡ Some one → IsCompared signed r bits one
       by_zero true is unsigned known e' =
@@ -196,10 +198,11 @@ module _ (d : Flat) where
       by_one false isnt unsigned known e' =
           by_zero (number_where is_one bits == 0) refl unsigned known e'
 
-      by_known : (b : Bool) → (signed || list_any is_unknown bits) ≡ b → (if b then None else if number_where is_one bits == 1 then test_of r true else if number_where is_one bits == 0 then test_of r false else None) ≡ Some one → IsCompared signed r bits one
+      by_known : (b : Bool) → (signed || (own && not (length bits == 1)) || list_any is_unknown bits) ≡ b → (if b then None else if number_where is_one bits == 1 then test_of r true else if number_where is_one bits == 0 then test_of r false else None) ≡ Some one → IsCompared signed r bits one
       by_known true is e' = absurd (cc)
       by_known false isnt e' =
-          let (unsigned, known) = or_parts signed (list_any is_unknown bits) isnt in
+          let (both, known) = or_parts (signed || (own && not (length bits == 1))) (list_any is_unknown bits) isnt in
+          let (unsigned, narrow) = or_parts signed (own && not (length bits == 1)) both in
           by_one (number_where is_one bits == 1) refl unsigned known e'
 
   module _ (f : Fill) (n : Values) (are : AreNumbers d n) where
@@ -210,7 +213,7 @@ module _ (d : Flat) where
     signal_bit : (r : ℕ) → widths d r ≡ 1 → IsKnownBit (n r)
     signal_bit r one = known_bit (n r) (are.wide r ∙ one) (are.known r)
 
-    truth : (e : Tree) → IsExpression d.signals e → (one : Test) → tested e ≡ Some one → widths d one.signal ≡ 1 → IsTrueAt e one
+    truth : (e : Tree) → IsExpression d.signals e → (one : Test) → tested d e ≡ Some one → widths d one.signal ≡ 1 → IsTrueAt e one
     truth (Sized w s at (tree.Whole r)) sized one e wide =
         let same : record { signal = r; level = true } ≡ one = cc (e) in
         let here = signal_bit r (ap (λ (t : Test). widths d t.signal) same ∙ wide) in
@@ -250,7 +253,7 @@ module _ (d : Flat) where
             ∙ ap (λ bits. same_bit (slice_index_or bits 0 X) Zero) (sym here.is))
         by_width false isnt e' = absurd (cc)
     truth (Sized w s at (Compared compare.Equal t (Sized w' s' at' (tree.Whole r)) (Sized w'' s'' at'' (Literal bits)))) sized one e wide =
-        let is = compared_is s' r bits one e in
+        let is = compared_is s' (signed_in d.signals r) r bits one e in
         let here = signal_bit r (ap (widths d) is.signal ∙ wide) in
         let digit = is.digit sized.widths.2.2.1.not_empty in
         let whole = sized.widths.2.2.1.whole refl in
@@ -282,14 +285,14 @@ module _ (d : Flat) where
   active Neg true b edged same = absurd (false≢true same)
   active Neg false b edged same = refl
 
-  pub tests_level : (guard : Guard) (one : Test) → IsExpression d.signals guard.test → tested guard.test ≡ Some one → guard.item.signal ≡ one.signal → widths d guard.item.signal ≡ 1 → IsTrue (has_edge guard.item.edge) → agree (goes_up guard.item.edge) one.level ≡ true → Tests d guard
+  pub tests_level : (guard : Guard) (one : Test) → IsExpression d.signals guard.test → tested d guard.test ≡ Some one → guard.item.signal ≡ one.signal → widths d guard.item.signal ≡ 1 → IsTrue (has_edge guard.item.edge) → agree (goes_up guard.item.edge) one.level ≡ true → Tests d guard
   tests_level guard one sized is signal wide edged same f n are =
       truth f n are guard.test sized one is (ap (widths d) (sym signal) ∙ wide)
       ∙ ap (λ i. same_bit (bit n i 0) (as_bit one.level)) (sym signal)
       ∙ active guard.item.edge one.level (bit n guard.item.signal 0) edged same
 
   -- and reads nothing else
-  pub reads_signal_alone : (e : Tree) (one : Test) → tested e ≡ Some one → (i k : ℕ) → reads (widths d) e i k ≡ true → i ≡ one.signal
+  pub reads_signal_alone : (e : Tree) (one : Test) → tested d e ≡ Some one → (i k : ℕ) → reads (widths d) e i k ≡ true → i ≡ one.signal
   reads_signal_alone (Sized w s at (tree.Whole r)) one e i k read =
       let same : record { signal = r; level = true } ≡ one = cc (e) in
       eqb-true i r (and_parts (i == r) _ read).0 ∙ ap (λ (t : Test). t.signal) same
@@ -306,7 +309,7 @@ module _ (d : Flat) where
       by_width false e' = absurd (cc)
   reads_signal_alone (Sized w s at (Compared compare.Equal t (Sized w' s' at' (tree.Whole r)) (Sized w'' s'' at'' (Literal bits)))) one e i k read =
       elim (or_cases _ false read) [
-        | inl here ↦ eqb-true i r (and_parts (i == r) _ here).0 ∙ (compared_is s' r bits one e).signal
+        | inl here ↦ eqb-true i r (and_parts (i == r) _ here).0 ∙ (compared_is s' (signed_in d.signals r) r bits one e).signal
         | inr none ↦ absurd (false≢true none)
       ]
   reads_signal_alone e one e' i k read = absurd (cc)

@@ -12,7 +12,7 @@ use Rattle.check_chains.specs.Chains.{chain_of, has_chain, is_shapeless, is_turn
 -- a process that has a chain
 pub record HasChain (d : Flat) (events : List Watched) (body : Actions) : Type 0 where
   pub chain : Chain
-  pub is_chain : chain_of (Edge' events body) ≡ Some chain
+  pub is_chain : chain_of d (Edge' events body) ≡ Some chain
   pub chained : IsChain d events body chain
 
 -- where each item has an edge, the body has the shape, and tests are at the levels of edges, there is a chain
@@ -20,6 +20,6 @@ abbrev pub ChainsHold : Flat → Type 0
 ChainsHold d =
     (events : List Watched) (body : Actions) → IsProcess d.signals (Edge' events body) →
     (has_item (first_level (Edge' events body)) ≡ true → ⊥) →
-    (is_shapeless (Edge' events body) ≡ true → ⊥) →
-    (has_chain (λ chain. list_any (λ (guard : Guard). is_turned guard.item.edge (tested guard.test)) chain.resets) (chain_of (Edge' events body)) ≡ true → ⊥) →
+    (is_shapeless d (Edge' events body) ≡ true → ⊥) →
+    (has_chain (λ chain. list_any (λ (guard : Guard). is_turned guard.item.edge (tested d guard.test)) chain.resets) (chain_of d (Edge' events body)) ≡ true → ⊥) →
     HasChain d events body

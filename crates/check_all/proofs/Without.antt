@@ -169,9 +169,9 @@ module _ (among : Rule → Bool) (needed : (one : Rule) → is_needed one ≡ tr
         let (front2, h_pair) = any_parts is_first (are.shape ++ are.polarity) are.pair front3 in
         let (h_shape, h_polarity) = any_parts is_first are.shape are.polarity front2 in
         record {
-          r1 = none_of chains.IsResetShape (chains.reset_shape_at d) _ are.shape (λ site. needed rule.ResetShape refl) are.are_shape h_shape;
-          r2 = none_of chains.IsResetPolarity (chains.reset_polarity_at d) _ are.polarity (λ site. needed rule.ResetPolarity refl) are.are_polarity h_polarity;
-          r3 = none_of chains.IsAsyncPair (chains.async_pair_at d) _ are.pair (λ site. needed rule.AsyncPair refl) are.are_pair h_pair;
+          r1 = none_of (chains.IsResetShape d) (chains.reset_shape_at d) _ are.shape (λ site. needed rule.ResetShape refl) are.are_shape h_shape;
+          r2 = none_of (chains.IsResetPolarity d) (chains.reset_polarity_at d) _ are.polarity (λ site. needed rule.ResetPolarity refl) are.are_polarity h_polarity;
+          r3 = none_of (chains.IsAsyncPair d) (chains.async_pair_at d) _ are.pair (λ site. needed rule.AsyncPair refl) are.are_pair h_pair;
           r4 = none_of (chains.IsResetValue d) (chains.reset_value_at d) _ are.reset (λ site. needed rule.ResetValue refl) are.are_value h_reset;
         }
 

@@ -89,28 +89,28 @@ module _ (design : Design) (p : ℕ) (x : Process) (below : p < length design.pr
           subst (λ (one : Task). IsProcess design.signals.items one.does) same (all k t inside)
 
   -- the branches of its chain
-  pub branch_formed : (found : Option Chain) → option_map chain_view found ≡ chain_of (doing x.does) → (chain : Chain) → found ≡ Some chain → (resets : List Guard) → resets ≡ chain.resets.items → (k : ℕ) (guard : cycle.Guard) → slice_get (map guard_view resets) k ≡ Some guard → IsBody design.signals.items guard.branch
+  pub branch_formed : (found : Option Chain) → option_map chain_view found ≡ chain_of D (doing x.does) → (chain : Chain) → found ≡ Some chain → (resets : List Guard) → resets ≡ chain.resets.items → (k : ℕ) (guard : cycle.Guard) → slice_get (map guard_view resets) k ≡ Some guard → IsBody design.signals.items guard.branch
   branch_formed found of chain some resets same k guard there =
-      guard_formed design.signals.items (doing x.does) (chain_view chain) process_formed (sym of ∙ ap (option_map chain_view) some) k guard
+      guard_formed design.signals.items D (doing x.does) (chain_view chain) process_formed (sym of ∙ ap (option_map chain_view) some) k guard
       (ap (λ (gs : List Guard). slice_get (map guard_view gs) k) (sym same) ∙ there)
 
   -- a process without a chain
-  pub no_chain : (found : Option Chain) → option_map chain_view found ≡ chain_of (doing x.does) → found ≡ None → (t : Task) → slice_get D.tasks p ≡ Some t → false ≡ true ↔ IsResetValue D (within (p, t) t.does)
+  pub no_chain : (found : Option Chain) → option_map chain_view found ≡ chain_of D (doing x.does) → found ≡ None → (t : Task) → slice_get D.tasks p ≡ Some t → false ≡ true ↔ IsResetValue D (within (p, t) t.does)
   no_chain found of none t there =
       (λ h. absurd (false≢true h), λ bad. absurd (clash bad))
     where
       clash : IsResetValue D (within (p, t) t.does) → ⊥
       clash bad =
-          let here : chain_of (doing x.does) ≡ None = sym of ∙ ap (option_map chain_view) none in
-          let is_some = ap (λ (one : Task). chain_of one.does) (only_task t there) ∙ bad.is_chain in
+          let here : chain_of D (doing x.does) ≡ None = sym of ∙ ap (option_map chain_view) none in
+          let is_some = ap (λ (one : Task). chain_of D one.does) (only_task t there) ∙ bad.is_chain in
           absurd (let e : None ≡ Some bad.chain = sym here ∙ is_some in cc)
 
   -- one with a chain
-  pub has_chain : (found : Option Chain) → option_map chain_view found ≡ chain_of (doing x.does) → (chain : Chain) → found ≡ Some chain → (resets : List Guard) → resets ≡ chain.resets.items → (bad : Bool) → bad ≡ true ↔ HasBad D (doing x.does) (map guard_view resets) → (t : Task) → slice_get D.tasks p ≡ Some t → bad ≡ true ↔ IsResetValue D (within (p, t) t.does)
+  pub has_chain : (found : Option Chain) → option_map chain_view found ≡ chain_of D (doing x.does) → (chain : Chain) → found ≡ Some chain → (resets : List Guard) → resets ≡ chain.resets.items → (bad : Bool) → bad ≡ true ↔ HasBad D (doing x.does) (map guard_view resets) → (t : Task) → slice_get D.tasks p ≡ Some t → bad ≡ true ↔ IsResetValue D (within (p, t) t.does)
   has_chain found of chain some resets same bad decides t there =
       subst (λ (one : Task). bad ≡ true ↔ IsResetValue D (within (p, one) one.does)) (only_task t there) (λ h. forward (decides.0 h), λ h. decides.1 (backward h))
     where
-      chain_is : chain_of (doing x.does) ≡ Some (chain_view chain)
+      chain_is : chain_of D (doing x.does) ≡ Some (chain_view chain)
       chain_is = sym of ∙ ap (option_map chain_view) some
 
       forward : HasBad D (doing x.does) (map guard_view resets) → IsResetValue D (within (p, task x) (doing x.does))

@@ -10,11 +10,13 @@ use Rattle.rtl_flat.specs.declared.act.CaseKind.{CaseKind}
 use Rattle.rtl_flat.specs.declared.act.Target.{Target}
 use Rattle.rtl_flat.specs.declared.expr.SizedExpr.{SizedExpr}
 use Rattle.rtl_flat.specs.Expression.{tree}
-use Rattle.rtl_flat.specs.Process.{Action, Actions, Block, Case, Done, If, Set, Then, Watched, With, Without, action, body_of}
+use Rattle.rtl_flat.specs.Process.{Action, Set, If, Case, Block, Actions, Done, Then, Without, With, action, body_of}
 use Rattle.rtl_flat.specs.WellFormed.{statements_of}
 use Rattle.rtl_flat.proofs.ActViews.{block_is, if_else_is}
 use Rattle.net_model.specs.Cycle.{opened}
 use Rattle.net_model.specs.Cycle as cycle
+use Rattle.rtl_flat.specs.Flats.{Flat}
+use Rattle.rtl_flat.specs.Process.{Watched}
 use Rattle.check_chains.specs.Chains.{headed}
 
 -- ---- blocks that hold nothing but one statement
@@ -65,8 +67,8 @@ module _ (body : List Act) (one : Act) (is_one : body ≡ one ∷ []) where
 
 -- ---- the `if` that a body is
 
-module _ (go : List Watched → Actions → Option cycle.Chain) (events : List Watched) where
-  two_unheaded : (a b : Action) (others : Actions) → headed go events (Then a (Then b others)) ≡ None
+module _ (d : Flat) (go : List Watched → Actions → Option cycle.Chain) (events : List Watched) where
+  two_unheaded : (a b : Action) (others : Actions) → headed d go events (Then a (Then b others)) ≡ None
   two_unheaded (Set target e delayed spot) b others = refl
   two_unheaded (If test taken Without spot) b others = refl
   two_unheaded (If test taken (With other) spot) b others = refl
@@ -74,7 +76,7 @@ module _ (go : List Watched → Actions → Option cycle.Chain) (events : List W
   two_unheaded (Block body) b others = refl
 
   -- a body that isn't one statement
-  pub several_unheaded : (body : List Act) → (length body ≡ 1 → ⊥) → headed go events (body_of (map action body)) ≡ None
+  pub several_unheaded : (body : List Act) → (length body ≡ 1 → ⊥) → headed d go events (body_of (map action body)) ≡ None
   several_unheaded [] h = refl
   several_unheaded (a ∷ []) h = absurd (h refl)
   several_unheaded (a ∷ b ∷ others) h =

@@ -1,6 +1,6 @@
 -- The branches of resets are bodies as a design's are.
 use Rattle.std.proofs.Common.{◌≡◌, ℕ, zero, suc, List, [], ◌∷◌, ◌++◌, length, Option, None, Some, refl, subst, inl, inr}
-use Rattle.std.specs.List.{AllByRecursion, list_all, slice_get}
+use Rattle.std.specs.List.{list_all, slice_get}
 use Rattle.std.proofs.lemmas.Bool.{cases_Bool}
 use Rattle.rtl_flat.specs.declared.signal.Signal.{Signal}
 use Rattle.rtl_flat.specs.Expression.{Tree}
@@ -9,10 +9,8 @@ use Rattle.rtl_flat.specs.WellFormed.{AreBranches, IsAction, IsBody, IsOtherwise
 use Rattle.net_model.specs.Cycle.{Chain, Guard, opened}
 use Rattle.rtl_rule.specs.Parts.{all_branches, all_in, all_of, all_other}
 use Rattle.rtl_flat.specs.Flats.{Flat}
+use Rattle.rtl_rule.proofs.Lists.{Each}
 use Rattle.check_chains.specs.Chains.{Test, chain_in, chain_of, guarded, headed, taken_out, tested, with_item, with_test}
-
-abbrev Each : {A : Type 0} → (A → Type 0) → List A → Type 0
-Each P xs = AllByRecursion P xs
 
 each_append : {A : Type 0} (P : A → Type 0) (xs ys : List A) → Each P xs → Each P ys → Each P (xs ++ ys)
 each_append P [] ys h k = k
@@ -73,7 +71,7 @@ module _ (signals : List Signal) where
       let same : guard ∷ inner.resets ≡ chain.resets = cc in
       subst (Each IsGuard) same (first, others inner refl)
 
-  module _ (go : List Watched → Actions → Option Chain) (of_rest : (events : List Watched) (body : Actions) (chain : Chain) → IsBody signals body → go events body ≡ Some chain → Each IsGuard chain.resets) where
+  module _ (d : Flat) (go : List Watched → Actions → Option Chain) (of_rest : (events : List Watched) (body : Actions) (chain : Chain) → IsBody signals body → go events body ≡ Some chain → Each IsGuard chain.resets) where
     item_formed : (test : Tree) (branch other : Actions) (taken : Option (Watched × List Watched)) → IsBody signals branch → IsBody signals other → (chain : Chain) → with_item go test branch other taken ≡ Some chain → Each IsGuard chain.resets
     item_formed test branch other None first rest chain is = absurd (cc)
     item_formed test branch other (Some (item, events)) first rest chain is =
@@ -85,30 +83,30 @@ module _ (signals : List Signal) where
     test_formed events test branch other (Some one) first rest chain is =
         item_formed test branch other (taken_out one.signal events) first rest chain is
 
-    headed_formed : (events : List Watched) (body : Actions) → IsBody signals body → (chain : Chain) → headed go events body ≡ Some chain → Each IsGuard chain.resets
+    headed_formed : (events : List Watched) (body : Actions) → IsBody signals body → (chain : Chain) → headed d go events body ≡ Some chain → Each IsGuard chain.resets
     headed_formed events (Then (If test branch (With other) spot) Done) h chain is =
-        test_formed events test branch other (tested test) h.0.1 h.0.2 chain is
+        test_formed events test branch other (tested d test) h.0.1 h.0.2 chain is
     headed_formed events _ h chain is = absurd (cc)
 
-  in_chain_formed : (n : ℕ) (events : List Watched) (body : Actions) (chain : Chain) → IsBody signals body → chain_in n events body ≡ Some chain → Each IsGuard chain.resets
-  in_chain_formed zero [] body chain h is = absurd (cc)
-  in_chain_formed zero (clock ∷ []) body chain h is =
+  in_chain_formed : (d : Flat) (n : ℕ) (events : List Watched) (body : Actions) (chain : Chain) → IsBody signals body → chain_in d n events body ≡ Some chain → Each IsGuard chain.resets
+  in_chain_formed d zero [] body chain h is = absurd (cc)
+  in_chain_formed d zero (clock ∷ []) body chain h is =
       let same : [] ≡ chain.resets = cc in subst (Each IsGuard) same tt
-  in_chain_formed zero (a ∷ b ∷ others) body chain h is = absurd (cc)
-  in_chain_formed (suc n) events body chain h is =
-      headed_formed (chain_in n) (λ events body chain h is. in_chain_formed n events body chain h is) events (opened body) (opened_formed body h) chain is
+  in_chain_formed d zero (a ∷ b ∷ others) body chain h is = absurd (cc)
+  in_chain_formed d (suc n) events body chain h is =
+      headed_formed d (chain_in d n) (λ events body chain h is. in_chain_formed d n events body chain h is) events (opened body) (opened_formed body h) chain is
 
-  chain_formed : (does : Doing) (chain : Chain) → IsProcess signals does → chain_of does ≡ Some chain → Each IsGuard chain.resets
-  chain_formed (Assign target value) chain h is = absurd (cc)
-  chain_formed (Comb list body) chain h is = absurd (cc)
-  chain_formed (Edge' [] body) chain h is = absurd (cc)
-  chain_formed (Edge' (first ∷ others) body) chain h is =
+  chain_formed : (d : Flat) (does : Doing) (chain : Chain) → IsProcess signals does → chain_of d does ≡ Some chain → Each IsGuard chain.resets
+  chain_formed d (Assign target value) chain h is = absurd (cc)
+  chain_formed d (Comb list body) chain h is = absurd (cc)
+  chain_formed d (Edge' [] body) chain h is = absurd (cc)
+  chain_formed d (Edge' (first ∷ others) body) chain h is =
       elim (cases_Bool (list_all (λ (item : Watched). has_edge item.edge) (first ∷ others))) [
-        | inl all ↦ in_chain_formed (length others) (first ∷ others) body chain h.2 (rw all at is)
+        | inl all ↦ in_chain_formed d (length others) (first ∷ others) body chain h.2 (rw all at is)
         | inr not' ↦ let none = rw not' at is in absurd (cc)
       ]
 
   -- a reset of a chain
-  pub guard_formed : (does : Doing) (chain : Chain) → IsProcess signals does → chain_of does ≡ Some chain → (k : ℕ) (guard : Guard) → slice_get chain.resets k ≡ Some guard → IsBody signals guard.branch
-  guard_formed does chain h is k guard there =
-      each_at IsGuard chain.resets k guard (chain_formed does chain h is) there
+  pub guard_formed : (d : Flat) (does : Doing) (chain : Chain) → IsProcess signals does → chain_of d does ≡ Some chain → (k : ℕ) (guard : Guard) → slice_get chain.resets k ≡ Some guard → IsBody signals guard.branch
+  guard_formed d does chain h is k guard there =
+      each_at IsGuard chain.resets k guard (chain_formed d does chain h is) there

@@ -6,6 +6,7 @@ pub mod Given
 pub mod Nodes
 pub mod Registers
 pub mod Resets
+pub mod Signals
 pub mod Steps
 pub mod Taken
 pub mod Told

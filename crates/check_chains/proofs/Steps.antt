@@ -8,6 +8,7 @@ use Rattle.rtl_flat.specs.Process.{Actions, Edge', Watched, action, body_of, wat
 use Rattle.rtl_flat.specs.WellFormed.{has_edge}
 use Rattle.net_model.specs.Cycle as cycle
 use Rattle.net_model.specs.Cycle.{opened}
+use Rattle.rtl_flat.specs.Flats.{Flat}
 use Rattle.check_chains.specs.Chains.{chain_in, chain_of, guarded, headed}
 use Rattle.check_chains.specs.Inner.{IsStep, events_view, prefixed}
 use Rattle.check_chains.specs.Views.{guard_view}
@@ -28,53 +29,53 @@ prefixed_some (x ∷ gs) clock part = ap (guarded x) (prefixed_some gs clock par
 
 -- ---- the events of a process
 
-module _ (events : List Watched) (body : Actions) where
-  pub begins : list_all (λ item. has_edge item.edge) events ≡ true → chain_in (length events - 1) events body ≡ chain_of (Edge' events body)
+module _ (d : Flat) (events : List Watched) (body : Actions) where
+  pub begins : list_all (λ item. has_edge item.edge) events ≡ true → chain_in d (length events - 1) events body ≡ chain_of d (Edge' events body)
   begins all = by_events events all
     where
-      by_events : (events : List Watched) → list_all (λ item. has_edge item.edge) events ≡ true → chain_in (length events - 1) events body ≡ chain_of (Edge' events body)
+      by_events : (events : List Watched) → list_all (λ item. has_edge item.edge) events ≡ true → chain_in d (length events - 1) events body ≡ chain_of d (Edge' events body)
       by_events [] all = refl
       by_events (first ∷ others) all =
           let count : length (first ∷ others) - 1 ≡ length others = omega arith in
           rw (all, count) refl
 
-  pub without_edge : list_all (λ item. has_edge item.edge) events ≡ false → None ≡ chain_of (Edge' events body)
+  pub without_edge : list_all (λ item. has_edge item.edge) events ≡ false → None ≡ chain_of d (Edge' events body)
   without_edge some' = by_events events some'
     where
-      by_events : (events : List Watched) → list_all (λ item. has_edge item.edge) events ≡ false → None ≡ chain_of (Edge' events body)
+      by_events : (events : List Watched) → list_all (λ item. has_edge item.edge) events ≡ false → None ≡ chain_of d (Edge' events body)
       by_events [] h = refl
       by_events (first ∷ others) h = rw h refl
 
 -- ---- one reset more
 
-headed_at : (n m : ℕ) (events : List Watched) (body : Actions) → n ≡ suc m → chain_in n events body ≡ headed (chain_in m) events (opened body)
-headed_at n m events body same = ap (λ k. chain_in k events body) same
+headed_at : (d : Flat) (n m : ℕ) (events : List Watched) (body : Actions) → n ≡ suc m → chain_in d n events body ≡ headed d (chain_in d m) events (opened body)
+headed_at d n m events body same = ap (λ k. chain_in d k events body) same
 
-module _ (resets : List Guard) (left : List (Bor EventItem)) (n : ℕ) (body : Actions) (more : 1 < n) where
+module _ (d : Flat) (resets : List Guard) (left : List (Bor EventItem)) (n : ℕ) (body : Actions) (more : 1 < n) where
   -- the number of events that are left, less the clock
   count : n - 1 ≡ suc (n - 2)
   count = omega arith
 
   abbrev So_far : Option cycle.Chain
-  So_far = prefixed (map guard_view resets) (chain_in (n - 1) (events_view left) body)
+  So_far = prefixed (map guard_view resets) (chain_in d (n - 1) (events_view left) body)
 
-  pub step_more : (step : Step) (left' : List (Bor EventItem)) (m : ℕ) → m + 1 ≡ n → IsStep left body step left' → (resets' : List Guard) → resets' ≡ resets ++ step.guard ∷ [] → prefixed (map guard_view resets') (chain_in (m - 1) (events_view left') (body_of (map action step.rest.now))) ≡ So_far
+  pub step_more : (step : Step) (left' : List (Bor EventItem)) (m : ℕ) → m + 1 ≡ n → IsStep d left body step left' → (resets' : List Guard) → resets' ≡ resets ++ step.guard ∷ [] → prefixed (map guard_view resets') (chain_in d (m - 1) (events_view left') (body_of (map action step.rest.now))) ≡ So_far
   step_more step left' m fewer is resets' pushed =
       let number : n - 2 ≡ m - 1 = omega arith in
-      ap (λ gs. prefixed (map guard_view gs) (chain_in (m - 1) (events_view left') (body_of (map action step.rest.now)))) pushed
-      ∙ ap (λ gs. prefixed gs (chain_in (m - 1) (events_view left') (body_of (map action step.rest.now)))) (map-append guard_view resets (step.guard ∷ []))
-      ∙ prefixed_push (map guard_view resets) (guard_view step.guard) (chain_in (m - 1) (events_view left') (body_of (map action step.rest.now)))
-      ∙ ap (prefixed (map guard_view resets)) (sym (headed_at (n - 1) (m - 1) (events_view left) body (count ∙ ap suc number) ∙ is (chain_in (m - 1))))
+      ap (λ gs. prefixed (map guard_view gs) (chain_in d (m - 1) (events_view left') (body_of (map action step.rest.now)))) pushed
+      ∙ ap (λ gs. prefixed gs (chain_in d (m - 1) (events_view left') (body_of (map action step.rest.now)))) (map-append guard_view resets (step.guard ∷ []))
+      ∙ prefixed_push (map guard_view resets) (guard_view step.guard) (chain_in d (m - 1) (events_view left') (body_of (map action step.rest.now)))
+      ∙ ap (prefixed (map guard_view resets)) (sym (headed_at d (n - 1) (m - 1) (events_view left) body (count ∙ ap suc number) ∙ is (chain_in d (m - 1))))
 
-  pub step_none : ((go : List Watched → Actions → Option cycle.Chain) → headed go (events_view left) (opened body) ≡ None) → None ≡ So_far
+  pub step_none : ((go : List Watched → Actions → Option cycle.Chain) → headed d go (events_view left) (opened body) ≡ None) → None ≡ So_far
   step_none none =
-      sym (ap (prefixed (map guard_view resets)) (headed_at (n - 1) (n - 2) (events_view left) body count ∙ none (chain_in (n - 2))) ∙ prefixed_none (map guard_view resets))
+      sym (ap (prefixed (map guard_view resets)) (headed_at d (n - 1) (n - 2) (events_view left) body count ∙ none (chain_in d (n - 2))) ∙ prefixed_none (map guard_view resets))
 
 -- ---- the clock
 
-module _ (resets : List Guard) (left : List (Bor EventItem)) (n : ℕ) (body : Actions) (few : n ≤ 1) where
+module _ (d : Flat) (resets : List Guard) (left : List (Bor EventItem)) (n : ℕ) (body : Actions) (few : n ≤ 1) where
   abbrev At_end : Option cycle.Chain
-  At_end = prefixed (map guard_view resets) (chain_in (n - 1) (events_view left) body)
+  At_end = prefixed (map guard_view resets) (chain_in d (n - 1) (events_view left) body)
 
   none' : n - 1 ≡ 0
   none' = omega arith
@@ -82,15 +83,15 @@ module _ (resets : List Guard) (left : List (Bor EventItem)) (n : ℕ) (body : A
   pub last_is : (before : List (Bor EventItem)) (clock : Bor EventItem) → before ≡ [] → left ≡ before ++ clock ∷ [] → Some (record { resets = map guard_view resets; clock = watched clock.now; part = body }) ≡ At_end
   last_is before clock empty is =
       sym (
-      ap (λ k. prefixed (map guard_view resets) (chain_in k (events_view left) body)) none'
-      ∙ ap (λ (xs : List (Bor EventItem)). prefixed (map guard_view resets) (chain_in 0 (events_view xs) body)) (is ∙ ap (λ xs. xs ++ clock ∷ []) empty)
+      ap (λ k. prefixed (map guard_view resets) (chain_in d k (events_view left) body)) none'
+      ∙ ap (λ (xs : List (Bor EventItem)). prefixed (map guard_view resets) (chain_in d 0 (events_view xs) body)) (is ∙ ap (λ xs. xs ++ clock ∷ []) empty)
       ∙ prefixed_some (map guard_view resets) (watched clock.now) body
       )
 
   pub none_is : (before : List (Bor EventItem)) → before ≡ [] → left ≡ before ++ [] → None ≡ At_end
   none_is before empty is =
       sym (
-      ap (λ k. prefixed (map guard_view resets) (chain_in k (events_view left) body)) none'
-      ∙ ap (λ (xs : List (Bor EventItem)). prefixed (map guard_view resets) (chain_in 0 (events_view xs) body)) (is ∙ ap (λ xs. xs ++ []) empty)
+      ap (λ k. prefixed (map guard_view resets) (chain_in d k (events_view left) body)) none'
+      ∙ ap (λ (xs : List (Bor EventItem)). prefixed (map guard_view resets) (chain_in d 0 (events_view xs) body)) (is ∙ ap (λ xs. xs ++ []) empty)
       ∙ prefixed_none (map guard_view resets)
       )

@@ -7,6 +7,7 @@ use Rattle.rtl_tree.specs.declared.text.Spot.{Spot}
 use Rattle.rtl_flat.specs.Expression.{Tree, Sized, Literal, Whole, BitAt, BitBy, Part, Turned, Joined, Compared, Linked, Folded, Shifted, Chosen, Empty, Beside, Repeated, Recast, tree}
 use Rattle.rtl_flat.specs.Process as part
 use Rattle.rtl_flat.specs.Signs.{sign_of}
+use Rattle.rtl_flat.specs.Sizing.{signed_in}
 use Rattle.rtl_flat.specs.Process.{Actions, Doing, Done, If, Piece, Task, Then, Watched, With, action, body_of, watched}
 use Rattle.rtl_flat.specs.declared.act.EventItem.{EventItem}
 use Rattle.net_model.specs.Cycle as cycle
@@ -42,16 +43,16 @@ abbrev pub complement_test : ℕ → Option ℕ → Option spec.Test
 complement_test width signal = if width == 1 then level_test false signal else None
 
 -- a test by `==`
-abbrev pub literal_test : Bool → ℕ → Tree → Option spec.Test
-literal_test signed r (Sized w s at (Literal bits)) = compared signed r bits
-literal_test signed r _ = None
+abbrev pub literal_test : Flat → Bool → ℕ → Tree → Option spec.Test
+literal_test d signed r (Sized w s at (Literal bits)) = compared signed (signed_in d.signals r) r bits
+literal_test d signed r _ = None
 
-abbrev pub signal_test : Bool → Option ℕ → Tree → Option spec.Test
-signal_test signed None e = None
-signal_test signed (Some r) e = literal_test signed r e
+abbrev pub signal_test : Flat → Bool → Option ℕ → Tree → Option spec.Test
+signal_test d signed None e = None
+signal_test d signed (Some r) e = literal_test d signed r e
 
-abbrev pub compared_with : Tree → Tree → Option spec.Test
-compared_with e other = signal_test (sign_of e) (whole_of e) other
+abbrev pub compared_with : Flat → Tree → Tree → Option spec.Test
+compared_with d e other = signal_test d (sign_of e) (whole_of e) other
 
 -- ---- bodies
 
@@ -72,10 +73,10 @@ prefixed [] chain = chain
 prefixed (guard ∷ others) chain = guarded guard (prefixed others chain)
 
 -- a reset leads a body, and its event is taken out
-abbrev pub IsStep : List (Bor EventItem) → Actions → Step → List (Bor EventItem) → Type 0
-IsStep events body step left =
+abbrev pub IsStep : Flat → List (Bor EventItem) → Actions → Step → List (Bor EventItem) → Type 0
+IsStep d events body step left =
     (go : List Watched → Actions → Option cycle.Chain) →
-    headed go (events_view events) (opened body) ≡ guarded (guard_view step.guard) (go (events_view left) (body_of (map action step.rest.now)))
+    headed d go (events_view events) (opened body) ≡ guarded (guard_view step.guard) (go (events_view left) (body_of (map action step.rest.now)))
 
 -- ---- findings at processes
 
@@ -89,15 +90,15 @@ finding_of d rule number task =
     found rule (within (number, task) task.does) (first_written d (within (number, task) task.does))
 
 -- a reset that is tested at the level that its edge leaves
-abbrev pub is_turned_guard : cycle.Guard → Bool
-is_turned_guard guard = is_turned guard.item.edge (tested guard.test)
+abbrev pub is_turned_guard : Flat → cycle.Guard → Bool
+is_turned_guard d guard = is_turned guard.item.edge (tested d guard.test)
 
-abbrev pub has_turned : Doing → Bool
-has_turned does =
-    has_chain (λ chain. list_any is_turned_guard chain.resets) (chain_of does)
+abbrev pub has_turned : Flat → Doing → Bool
+has_turned d does =
+    has_chain (λ chain. list_any (is_turned_guard d) chain.resets) (chain_of d does)
 
-abbrev pub has_pair : Doing → Bool
-has_pair does = has_chain (λ chain. nat_lt 1 (length chain.resets)) (chain_of does)
+abbrev pub has_pair : Flat → Doing → Bool
+has_pair d does = has_chain (λ chain. nat_lt 1 (length chain.resets)) (chain_of d does)
 
 -- ---- constants
 

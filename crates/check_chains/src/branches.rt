@@ -161,7 +161,7 @@ pub fn has_bad_reset(
         → bad ≡ true ↔ spec.IsResetValue (flat design.now) (within (p.0, task) task.does)) }
 {
     let does = &design.processes[p.0 as usize].does;
-    match chain_of(alloc, does)? {
+    match chain_of(alloc, design, does)? {
         None => Ok(false),
         Some(chain) => {
             let registers = registers(alloc, design, temporaries, p)?;

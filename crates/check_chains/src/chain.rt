@@ -6,6 +6,7 @@ ghost use Rattle.std.specs.Option.{option_map};
 ghost use Rattle.net_model.specs.Cycle as cycle;
 ghost use Rattle.rtl_flat.specs.Process.{Actions, Edge', Watched, action, body_of, doing, watched};
 ghost use Rattle.rtl_flat.specs.WellFormed.{has_edge};
+ghost use Rattle.rtl_flat.specs.Flats.{flat};
 ghost use Rattle.check_chains.specs.Chains as spec;
 ghost use Rattle.check_chains.specs.Inner.{IsStep, events_view};
 ghost use Rattle.check_chains.specs.Views.{chain_view};
@@ -14,6 +15,7 @@ use crate::choice::choice_of;
 use crate::tested::tested;
 use rtl_bits::Edge;
 use rtl_flat::act::{Act, Does, EventItem};
+use rtl_flat::design::Design;
 use rtl_flat::expr::{SigId, SizedExpr};
 use rtl_tree::memory::Memory;
 use std::alloc::Global;
@@ -79,16 +81,20 @@ struct Step<'d> {
 }
 
 /// The reset that leads a body; its event is taken out.
-fn step_of<'d>(events: &mut Vec<&'d EventItem>, body: &'d [Act]) -> Option<Step<'d>>
+fn step_of<'d>(
+    design: &Design,
+    events: &mut Vec<&'d EventItem>,
+    body: &'d [Act],
+) -> Option<Step<'d>>
     ensures { MatchOption result
         ((go : List Watched → Actions → Option cycle.Chain) →
-        spec.headed go (events_view events.old.items) (cycle.opened (body_of (map action body.now)))
-        ≡ None)
+        spec.headed (flat design.now) go (events_view events.old.items)
+        (cycle.opened (body_of (map action body.now))) ≡ None)
         (λ step. (vec_len events.new + 1 ≡ vec_len events.old)
-        × IsStep events.old.items (body_of (map action body.now)) step events.new.items) }
+        × IsStep (flat design.now) events.old.items (body_of (map action body.now)) step events.new.items) }
 {
     let choice = choice_of(body)?;
-    let test = tested(choice.test)?;
+    let test = tested(design, choice.test)?;
     let item = take_out(events, test.signal)?;
     Some(Step {
         guard: Guard {
@@ -101,14 +107,18 @@ fn step_of<'d>(events: &mut Vec<&'d EventItem>, body: &'d [Act]) -> Option<Step<
 }
 
 /// The chain of a process whose items all have edges, if its body is an `if` for each but one.
-pub fn chain_of<'d>(alloc: Global, does: &'d Does) -> Result<Option<Chain<'d>>, Memory>
+pub fn chain_of<'d>(
+    alloc: Global,
+    design: &'d Design,
+    does: &'d Does,
+) -> Result<Option<Chain<'d>>, Memory>
     ensures { IfOk result (λ found.
-        option_map chain_view found ≡ spec.chain_of (doing does.now)) }
+        option_map chain_view found ≡ spec.chain_of (flat design.now) (doing does.now)) }
 {
     match does {
         Does::Assign { .. } => Ok(None),
         Does::Comb { .. } => Ok(None),
-        Does::Edge { events, body } => edge_chain(alloc, events, body),
+        Does::Edge { events, body } => edge_chain(alloc, design, events, body),
     }
 }
 
@@ -126,11 +136,12 @@ fn all_of<'d>(alloc: Global, events: &'d [EventItem]) -> Result<Vec<&'d EventIte
 /// The chain of a body that waits for events.
 fn edge_chain<'d>(
     alloc: Global,
+    design: &'d Design,
     events: &'d [EventItem],
     body: &'d [Act],
 ) -> Result<Option<Chain<'d>>, Memory>
     ensures { IfOk result (λ found. option_map chain_view found
-        ≡ spec.chain_of (Edge' (map watched events.now) (body_of (map action body.now)))) }
+        ≡ spec.chain_of (flat design.now) (Edge' (map watched events.now) (body_of (map action body.now)))) }
 {
     if !all_edges(events) {
         return Ok(None);
@@ -139,7 +150,7 @@ fn edge_chain<'d>(
     let mut resets = Vec::new(alloc);
     let mut rest = body;
     while left.len() > 1 {
-        let Some(step) = step_of(&mut left, rest) else {
+        let Some(step) = step_of(design, &mut left, rest) else {
             return Ok(None);
         };
         resets.push(step.guard)?;

@@ -4,6 +4,7 @@ ghost use Rattle.std.specs.Prelude.{◌≡◌, ◌<◌, [], ◌∷◌, List, Opt
 ghost use Rattle.net_model.specs.Cycle as cycle;
 ghost use Rattle.rtl_flat.specs.Process.{Actions, Watched, action, body_of};
 ghost use Rattle.rtl_flat.specs.WellFormed.{statements_of};
+ghost use Rattle.rtl_flat.specs.Flats.{Flat};
 ghost use Rattle.check_chains.specs.Chains.{headed};
 ghost use Rattle.check_chains.specs.Inner.{IsChoice};
 
@@ -58,8 +59,8 @@ fn opened<'d>(body: &'d [Act]) -> &'d [Act]
 pub(crate) fn choice_of<'d>(body: &'d [Act]) -> Option<Choice<'d>>
     ensures { let all = cycle.opened (body_of (map action body.now)) in
         MatchOption result
-        ((go : List Watched → Actions → Option cycle.Chain) (events : List Watched) →
-        headed go events all ≡ None) (IsChoice all) }
+        ((d : Flat) (go : List Watched → Actions → Option cycle.Chain) (events : List Watched) →
+        headed d go events all ≡ None) (IsChoice all) }
 {
     match only(opened(body))? {
         Act::If {

@@ -31,8 +31,8 @@ fn are_edges(events: &[EventItem]) -> bool
 }
 
 /// Whether a process waits for several edges, and its body is no chain of resets.
-pub fn is_shapeless(alloc: Global, does: &Does) -> Result<bool, Memory>
-    ensures { IfOk result (λ shapeless. shapeless ≡ spec.is_shapeless (doing does.now)) }
+pub fn is_shapeless(alloc: Global, design: &Design, does: &Does) -> Result<bool, Memory>
+    ensures { IfOk result (λ shapeless. shapeless ≡ spec.is_shapeless (flat design.now) (doing does.now)) }
 {
     match does {
         Does::Assign { .. } => Ok(false),
@@ -41,7 +41,7 @@ pub fn is_shapeless(alloc: Global, does: &Does) -> Result<bool, Memory>
             if !are_edges(events) {
                 return Ok(false);
             }
-            match chain_of(alloc, does)? {
+            match chain_of(alloc, design, does)? {
                 None => Ok(true),
                 Some(_) => Ok(false),
             }
@@ -56,7 +56,7 @@ pub fn reset_shape(alloc: Global, design: &Design) -> Result<Vec<Finding>, Memor
     let mut found = Vec::new(alloc);
     for number in 0..design.processes.len() {
         let p = ProcId(number as u32);
-        let broken = is_shapeless(alloc, &design.processes[number].does)?;
+        let broken = is_shapeless(alloc, design, &design.processes[number].does)?;
         push_if(alloc, design, Rule::ResetShape, p, broken, &mut found)?;
     }
     Ok(found)
@@ -74,20 +74,20 @@ fn goes_to(edge: Edge, level: bool) -> bool
 }
 
 /// Whether a reset is tested at the level that its edge leaves.
-fn is_turned(guard: &Guard) -> bool
-    ensures { result ≡ is_turned_guard (guard_view guard.now) }
+fn is_turned(design: &Design, guard: &Guard) -> bool
+    ensures { result ≡ is_turned_guard (flat design.now) (guard_view guard.now) }
 {
-    match tested(guard.test) {
+    match tested(design, guard.test) {
         None => false,
         Some(test) => !goes_to(guard.item.edge, test.level),
     }
 }
 
-fn any_turned(guards: &[Guard]) -> bool
-    ensures { result ≡ list_any is_turned_guard (map guard_view guards.now) }
+fn any_turned(design: &Design, guards: &[Guard]) -> bool
+    ensures { result ≡ list_any (is_turned_guard (flat design.now)) (map guard_view guards.now) }
 {
     for guard in guards {
-        if is_turned(guard) {
+        if is_turned(design, guard) {
             return true;
         }
     }
@@ -95,12 +95,12 @@ fn any_turned(guards: &[Guard]) -> bool
 }
 
 /// Whether a process has a chain with such a reset.
-pub fn has_turned(alloc: Global, does: &Does) -> Result<bool, Memory>
-    ensures { IfOk result (λ turned. turned ≡ has_turned (doing does.now)) }
+pub fn has_turned(alloc: Global, design: &Design, does: &Does) -> Result<bool, Memory>
+    ensures { IfOk result (λ turned. turned ≡ has_turned (flat design.now) (doing does.now)) }
 {
-    match chain_of(alloc, does)? {
+    match chain_of(alloc, design, does)? {
         None => Ok(false),
-        Some(chain) => Ok(any_turned(&chain.resets)),
+        Some(chain) => Ok(any_turned(design, &chain.resets)),
     }
 }
 
@@ -111,17 +111,17 @@ pub fn reset_polarity(alloc: Global, design: &Design) -> Result<Vec<Finding>, Me
     let mut found = Vec::new(alloc);
     for number in 0..design.processes.len() {
         let p = ProcId(number as u32);
-        let broken = has_turned(alloc, &design.processes[number].does)?;
+        let broken = has_turned(alloc, design, &design.processes[number].does)?;
         push_if(alloc, design, Rule::ResetPolarity, p, broken, &mut found)?;
     }
     Ok(found)
 }
 
 /// Whether a process has a chain of several resets.
-fn has_pair(alloc: Global, does: &Does) -> Result<bool, Memory>
-    ensures { IfOk result (λ several. several ≡ has_pair (doing does.now)) }
+fn has_pair(alloc: Global, design: &Design, does: &Does) -> Result<bool, Memory>
+    ensures { IfOk result (λ several. several ≡ has_pair (flat design.now) (doing does.now)) }
 {
-    match chain_of(alloc, does)? {
+    match chain_of(alloc, design, does)? {
         None => Ok(false),
         Some(chain) => Ok(chain.resets.len() > 1),
     }
@@ -134,7 +134,7 @@ pub fn async_pair(alloc: Global, design: &Design) -> Result<Vec<Finding>, Memory
     let mut found = Vec::new(alloc);
     for number in 0..design.processes.len() {
         let p = ProcId(number as u32);
-        let broken = has_pair(alloc, &design.processes[number].does)?;
+        let broken = has_pair(alloc, design, &design.processes[number].does)?;
         push_if(alloc, design, Rule::AsyncPair, p, broken, &mut found)?;
     }
     Ok(found)

@@ -3,11 +3,15 @@
 ghost use Rattle.std.specs.Prelude.{◌≡◌, ◌==◌};
 ghost use Rattle.std.specs.Option.{option_map};
 ghost use Rattle.rtl_flat.specs.Expression.{tree};
+ghost use Rattle.rtl_flat.specs.Flats.{flat};
+ghost use Rattle.rtl_flat.specs.Sizing.{signed_in};
 ghost use Rattle.check_chains.specs.Chains as spec;
 ghost use Rattle.check_chains.specs.Inner.{compared_with, complement_test, level_test, test_view, whole_of};
 
 use rtl_bits::Vec4;
+use rtl_flat::design::Design;
 use rtl_flat::expr::{Compare, Fold, Node, Select, SigId, SizedExpr, Turn};
+use rtl_flat::signal::Signal;
 
 /// A test of a reset: its signal, and the level at which it holds.
 #[derive(Clone, Copy)]
@@ -30,11 +34,20 @@ fn whole_of(e: &SizedExpr) -> Option<SigId>
     }
 }
 
-/// The test of a signal by `==` with a literal, where the comparison isn't signed.
-fn compared(signed: bool, signal: SigId, bits: Vec4) -> Option<Test>
-    ensures { option_map test_view result ≡ spec.compared signed signal.0 bits }
+fn is_signed(signals: &[Signal], signal: SigId) -> bool
+    ensures { result ≡ signed_in signals.now signal.0 }
 {
-    if signed || !bits.is_known() {
+    match signals.get(signal.0 as usize) {
+        Some(signal) => signal.signed,
+        None => false,
+    }
+}
+
+/// The test of a signal by `==` with a literal, where the comparison isn't signed, and a signed signal has no wider one.
+fn compared(signed: bool, own: bool, signal: SigId, bits: Vec4) -> Option<Test>
+    ensures { option_map test_view result ≡ spec.compared signed own signal.0 bits }
+{
+    if signed || (own && bits.width() != 1) || !bits.is_known() {
         return None;
     }
     match bits.number() {
@@ -51,12 +64,16 @@ fn compared(signed: bool, signal: SigId, bits: Vec4) -> Option<Test>
 }
 
 /// The test of an expression by `==` with another.
-fn compared_with(e: &SizedExpr, other: &SizedExpr) -> Option<Test>
-    ensures { option_map test_view result ≡ compared_with (tree e.now) (tree other.now) }
+fn compared_with(design: &Design, e: &SizedExpr, other: &SizedExpr) -> Option<Test>
+    ensures { option_map test_view result
+        ≡ compared_with (flat design.now) (tree e.now) (tree other.now) }
 {
     let signal = whole_of(e)?;
     match &other.node {
-        Node::Literal(bits) => compared(e.signed, signal, *bits),
+        Node::Literal(bits) => {
+            let own = is_signed(&design.signals, signal);
+            compared(e.signed, own, signal, *bits)
+        }
         _ => None,
     }
 }
@@ -79,8 +96,8 @@ fn complemented(a: &SizedExpr) -> Option<Test>
 }
 
 /// What an expression tests: `r`, `!r`, `~r`, `r == 1'b1` or `r == 1'b0`.
-pub fn tested(e: &SizedExpr) -> Option<Test>
-    ensures { option_map test_view result ≡ spec.tested (tree e.now) }
+pub fn tested(design: &Design, e: &SizedExpr) -> Option<Test>
+    ensures { option_map test_view result ≡ spec.tested (flat design.now) (tree e.now) }
 {
     match &e.node {
         Node::Read(_, _) => test_of(e, true),
@@ -93,7 +110,7 @@ pub fn tested(e: &SizedExpr) -> Option<Test>
             _ => None,
         },
         Node::Compared(operator, a, b) => match operator {
-            Compare::Equal => compared_with(a, b),
+            Compare::Equal => compared_with(design, a, b),
             _ => None,
         },
         Node::Literal(_) => None,

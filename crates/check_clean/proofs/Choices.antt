@@ -25,7 +25,7 @@ use Rattle.net_model.specs.Numbers.{AreNumbers, bit, digits}
 use Rattle.sign_cycles.specs.Formed.{IsConstant, IsFormed, TestsAlone}
 use Rattle.rtl_flat.specs.Flats.{Flat, widths}
 use Rattle.rtl_rule.proofs.Lists.{Each, each_from}
-use Rattle.check_clean.proofs.Formed.{IsEdgeItem}
+use Rattle.check_laws.proofs.chain_laws_proofs.Chained.{IsEdgeItem}
 
 -- ---- numbers in which one reset is active and another isn't
 

@@ -41,7 +41,8 @@ use Rattle.check_laws.proofs.Sites.{task_of}
 use Rattle.check_clean.specs.Clean.{CleanByRules, IsCleanDesign}
 use Rattle.check_all.specs.Rules.{HasNoFinding}
 use Rattle.check_clean.proofs.Cone.{goes, heard}
-use Rattle.check_clean.proofs.Formed.{IsEdgeItem, chain, formed, has_chained, is_chain, items, tests}
+use Rattle.check_laws.proofs.chain_laws_proofs.Chained.{IsEdgeItem}
+use Rattle.check_clean.proofs.Formed.{chain, formed, has_chained, is_chain, items, tests}
 use Rattle.check_clean.proofs.Choices.{formed_too}
 use Rattle.check_clean.proofs.Levels.{ascends, level_of}
 use Rattle.check_all.proofs.Without.{no_finding}
@@ -196,7 +197,7 @@ module _ (d : Flat) (lawful : AreLawful d) (marked : AreMarked d) (none : HasNoF
 
   abbrev chain_at : Option Doing → Option Chain
   chain_at None = None
-  chain_at (Some does) = chain_of does
+  chain_at (Some does) = chain_of d does
 
   chains : ℕ → Chain
   chains p = or_none (chain_at (doing_at d p))

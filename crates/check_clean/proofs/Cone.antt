@@ -161,7 +161,7 @@ module _ (d : Flat) (lawful : AreLawful d) (marked : AreMarked d) (none : AreClo
         (λ is. not_data p task there i cone below (place_right (level_items d i task.does) (data_reads d i task) is))
 
     -- the expressions of a process that passes nothing on and has no chain
-    pub plain_unread : is_passing d task ≡ false → chain_of task.does ≡ None → (k : ℕ) → Each (Unread (widths d) i k) (read_trees task.does ++ labels task.does)
+    pub plain_unread : is_passing d task ≡ false → chain_of d task.does ≡ None → (k : ℕ) → Each (Unread (widths d) i k) (read_trees task.does ++ labels task.does)
     plain_unread passes_not no_chain k =
         unread_all (widths d) i (read_trees task.does ++ labels task.does)
         (each_join IsMarked (read_trees task.does) (labels task.does) (each_right IsMarked (flat_map (λ (item : Watched). index_of item.selection) (items_of task.does)) (read_trees task.does) (each_from IsMarked (trees task.does) (marked p task there).0)) (each_from IsMarked (labels task.does) (marked p task there).1))
@@ -169,7 +169,7 @@ module _ (d : Flat) (lawful : AreLawful d) (marked : AreMarked d) (none : AreClo
       where
         same : data_trees d task ≡ read_trees task.does ++ labels task.does
         same =
-            ap (λ b. if b then [] else but_tests (chain_of task.does) (read_trees task.does ++ labels task.does)) passes_not
+            ap (λ b. if b then [] else but_tests (chain_of d task.does) (read_trees task.does ++ labels task.does)) passes_not
             ∙ ap (λ o. but_tests o (read_trees task.does ++ labels task.does)) no_chain
 
   -- ---- assignments
@@ -200,7 +200,7 @@ module _ (d : Flat) (lawful : AreLawful d) (marked : AreMarked d) (none : AreClo
           let here : reads (widths d) (Sized 1 passed.signed passed.spot (tree.Whole passed.signal)) i k ≡ true = subst (λ x. reads (widths d) x i k ≡ true) passed.copy read in
           (passed, sym (eqb-true i passed.signal (and_parts (i == passed.signal) _ here).0))
       by_passing false isnt =
-          let all = plain_unread p task there i cone below isnt (ap chain_of does) k in
+          let all = plain_unread p task there i cone below isnt (ap (chain_of d) does) k in
           let own = subst (λ (one : Doing). Each (Unread (widths d) i k) (read_trees one ++ labels one)) does all in
           absurd (true≢false (sym read ∙ own.0))
 
@@ -258,7 +258,7 @@ module _ (d : Flat) (lawful : AreLawful d) (marked : AreMarked d) (none : AreClo
       by_list None is reads' =
           let at = task_of d p (Comb None body) is in
           let below = signal_there d.signals i k (lists_within d lawful p (Comb None body) is i k reads') in
-          let all = plain_unread p at.task at.there i cone below (ap (passes d at.task.instance) at.is) (ap chain_of at.is) k in
+          let all = plain_unread p at.task at.there i cone below (ap (passes d at.task.instance) at.is) (ap (chain_of d) at.is) k in
           let own = subst (λ (one : Doing). Each (Unread (widths d) i k) (read_trees one ++ labels one)) at.is all in
           let quiet = quiet_body (widths d) i k body (comb_statements (Unread (widths d) i k) None body (each_left (Unread (widths d) i k) (read_trees (Comb None body)) (labels (Comb None body)) own) (each_right (Unread (widths d) i k) (read_trees (Comb None body)) (labels (Comb None body)) own)) in
           true≢false (sym reads' ∙ quiet)

@@ -1,71 +1,48 @@
 -- Blocks that wait for edges are registers.
-use Rattle.std.proofs.Common.{◌≡◌, ◌∙◌, ◌<◌, ℕ, zero, suc, Bool, true, false, not, List, [], ◌∷◌, ◌++◌, Option, None, Some, length, map, refl, sym, ap, subst, arith}
-use Rattle.std.specs.Prelude.{◌==◌, IsTrue, if◌then◌else◌, nat_le, nat_lt}
-use Rattle.std.specs.List.{flat_map, list_all, list_any}
-use Rattle.std.proofs.lemmas.Bool.{and_from, eq-eqb, false_from_ne_true, false≢true, lt-ltb, not_from_false, or_from, or_left, or_right, true_from_ne_false, true≢false}
-use Rattle.std.proofs.lemmas.List.Sorted.{All-permutation}
-use Rattle.rtl_flat.specs.declared.signal.Signal.{Signal}
+use Rattle.std.proofs.Common.{◌≡◌, ◌∙◌, ◌<◌, ℕ, zero, suc, Bool, true, false, List, [], ◌∷◌, ◌++◌, Option, None, Some, length, map, refl, sym, ap, subst, arith}
+use Rattle.std.specs.Prelude.{◌==◌, if◌then◌else◌, nat_le, nat_lt}
+use Rattle.std.specs.List.{flat_map, list_any}
+use Rattle.std.proofs.lemmas.Bool.{and_from, eq-eqb, false_from_ne_true, lt-ltb, or_from, or_left, or_right, true_from_ne_false, true≢false}
 use Rattle.rtl_flat.specs.Expression.{Tree}
 use Rattle.rtl_flat.specs.Flows.{body_flow, may_select, reads}
 use Rattle.rtl_flat.specs.Paths.{MayWrite, ReadsOutside, reads_bit, some}
 use Rattle.rtl_flat.specs.PathSets.{items_list}
 use Rattle.rtl_flat.specs.Process.{Selection, Watched, Action, Set, If, Case, Block, Actions, Done, Then, With, Doing, Edge', Task}
 use Rattle.rtl_flat.specs.Process as part
-use Rattle.rtl_flat.specs.Signs.{Has, width_in}
-use Rattle.rtl_flat.specs.WellFormed.{IsWatched, IsWhole, has_edge}
+use Rattle.rtl_flat.specs.WellFormed.{IsProcess, IsWhole}
 use Rattle.rtl_flat.proofs.Paths.{decided}
 use Rattle.check_laws.proofs.event_laws_proofs.Within.{may_read_outside, outside_inside, write_inside}
 use Rattle.check_laws.specs.event_laws.Steady.{AreLawful}
 use Rattle.net_model.proofs.Gates.{clock_cone}
 use Rattle.net_model.specs.Control.{InClockCone, InCone}
-use Rattle.net_model.specs.Cycle.{Chain, Guard, IsChain, IsChained, Tests, opened}
+use Rattle.net_model.specs.Cycle.{Chain, Guard, IsChain, IsChained, opened}
 use Rattle.net_model.specs.Solution.{IsLasting}
 use Rattle.sign_cycles.specs.Formed.{IsConstant, IsFormed, TestsAlone}
-use Rattle.rtl_rule.specs.Parts.{agree, all_of, labels, nodes, read_trees, trees, within}
+use Rattle.rtl_rule.specs.Parts.{all_of, labels, nodes, read_trees, trees, within}
 use Rattle.rtl_flat.specs.Flats.{Flat, widths}
-use Rattle.check_laws.specs.check_chains.Chains.{IsRegisterOf, IsResetBranch, IsResetPolarity, IsResetShape, IsResetValue, chain_in, chain_of, goes_up, has_chain, is_more, is_turned, reset_polarity_at, reset_shape_at, reset_value_at, tested}
+use Rattle.check_laws.specs.check_chains.Chains.{IsRegisterOf, IsResetBranch, IsResetPolarity, IsResetShape, IsResetValue, chain_of, has_chain, is_shapeless, is_turned, reset_polarity_at, reset_shape_at, reset_value_at, tested}
 use Rattle.check_laws.specs.check_clocks.Clocks.{but_tests, chain_trees, data_trees, passes, statement_trees}
 use Rattle.check_laws.specs.Cases.{Does, IsBodyOf}
 use Rattle.check_laws.specs.Designs.{IsEdge}
 use Rattle.check_laws.specs.Expressions.{AreMarked, HasNoDoubt, IsMarked}
 use Rattle.check_laws.proofs.Bodies.{exclusive_bodies, tame_bodies}
 use Rattle.check_laws.proofs.Clocks.{async_pair}
-use Rattle.check_laws.proofs.Designs.{edge_body, mixed_assign, mixed_edges}
-use Rattle.check_laws.proofs.Expressions.{each_false}
+use Rattle.check_laws.proofs.Designs.{edge_body, mixed_assign}
 use Rattle.rtl_rule.proofs.Below.{some_at}
-use Rattle.rtl_rule.proofs.Lists.{Each, each_all, each_both, each_flat, each_from, each_left, each_map, each_right}
+use Rattle.rtl_rule.proofs.Lists.{Each, each_all, each_both, each_flat, each_from, each_left, each_more, each_right}
 use Rattle.check_laws.proofs.Sites.{IsTask, process_refuted, signal_there, task_of}
 use Rattle.check_all.specs.Rules.{HasNoFinding}
-use Rattle.check_laws.proofs.chain_laws_proofs.Branches.{IsLawfulGuard, chain_lawful}
+use Rattle.check_all.specs.check_sense.Sense.{IsMixedEdges, first_level, has_item, mixed_edges_at}
+use Rattle.check_laws.proofs.chain_laws_proofs.Branches.{chain_lawful}
+use Rattle.check_laws.proofs.chain_laws_proofs.Chained.{IsEdgeItem, IsReset}
+use Rattle.check_laws.proofs.chain_laws_proofs.Chained as law
 use Rattle.check_clean.proofs.Branches.{OfGuard, chain_each}
-use Rattle.check_laws.proofs.chain_laws_proofs.Chains.{IsFound, IsTested, chain_found}
 use Rattle.check_clean.proofs.Cone.{OfStatement, edge_statements, quiet_statements, unnamed_data}
 use Rattle.check_clean.proofs.Resets.{constant, each_by_place}
-use Rattle.check_laws.proofs.chain_laws_proofs.Tests.{reads_signal_alone, tests_level}
+use Rattle.check_laws.proofs.chain_laws_proofs.Tests.{reads_signal_alone}
 use Rattle.check_clean.proofs.Unread.{IsUnnamed, Unread, unread}
 
--- ---- lists
-
-each_more : {A : Type 0} (P Q : A → Type 0) → ((x : A) → P x → Q x) → (xs : List A) → Each P xs → Each Q xs
-each_more P Q from [] h = tt
-each_more P Q from (x ∷ xs) h = (from x h.0, each_more P Q from xs h.1)
-
-all_pass : {A : Type 0} (test : A → Bool) (xs : List A) → Each (λ x. IsTrue (test x)) xs → list_all test xs ≡ true
-all_pass test [] h = refl
-all_pass test (x ∷ xs) h = and_from (test x) _ h.0 (all_pass test xs h.1)
-
 -- ---- items
-
--- an edge of a whole signal of one bit
-pub record IsEdgeItem (ws : ℕ → ℕ) (item : Watched) : Type 0 where
-  pub edged : IsTrue (has_edge item.edge)
-  pub whole : IsWhole item.selection
-  pub one_bit : ws item.signal ≡ 1
-
-width_one : (signals : List Signal) (i : ℕ) → Has (λ s. s.width ≡ 1) signals i → width_in signals i ≡ 1
-width_one [] i h = absurd h
-width_one (s ∷ signals) zero h = h
-width_one (s ∷ signals) (suc i) h = width_one signals i h
 
 module _ (ws : ℕ → ℕ) where
   whole_listed : (i : ℕ) (selection : Selection) → IsWhole selection → ws i ≡ 1 → may_select ws i selection i 0 ≡ true
@@ -119,117 +96,57 @@ module _ (d : Flat) (lawful : AreLawful d) (marked : AreMarked d) (none : HasNoF
   at : IsTask d p (Edge' events body)
   at = task_of d p (Edge' events body) is
 
-  edged : Each (λ item. IsTrue (has_edge item.edge)) events
-  edged = each_from (λ item. IsTrue (has_edge item.edge)) events (mixed_edges d none.s3 p events body is)
+  -- what S3, R1 and R2 have no finding of
+  own : IsProcess d.signals (Edge' events body)
+  own = lawful p (Edge' events body) is
+
+  levels : has_item (first_level (Edge' events body)) ≡ true → ⊥
+  levels level =
+      process_refuted IsMixedEdges mixed_edges_at d none.s3 p at.task at.there
+      (subst (λ does. has_item (first_level does) ≡ true) (sym at.is) level)
+
+  shaped : is_shapeless d (Edge' events body) ≡ true → ⊥
+  shaped shapeless =
+      process_refuted (IsResetShape d) (reset_shape_at d) d none.r1 p at.task at.there
+      (subst (λ does. IsResetShape d (within (p, at.task) does)) (sym at.is) shapeless)
+
+  straight : has_chain (λ chain. list_any (λ (guard : Guard). is_turned guard.item.edge (tested d guard.test)) chain.resets) (chain_of d (Edge' events body)) ≡ true → ⊥
+  straight turned =
+      process_refuted (IsResetPolarity d) (reset_polarity_at d) d none.r2 p at.task at.there
+      (subst (λ does. IsResetPolarity d (within (p, at.task) does)) (sym at.is) turned)
 
   pub items : Each (IsEdgeItem (widths d)) events
-  items =
-      each_both (λ item. IsTrue (has_edge item.edge)) (IsWatched d.signals) (IsEdgeItem (widths d))
-      (λ item edge watched. record { edged = edge; whole = watched.whole edge; one_bit = width_one d.signals item.signal (watched.one_bit edge) }) events edged
-      (each_from (IsWatched d.signals) events (lawful p (Edge' events body) is).0)
-
-  -- ---- R1
-
-  pub record HasChain : Type 0 where
-    pub chain : Chain
-    pub is_chain : chain_of (Edge' events body) ≡ Some chain
-
-  shaped : is_more events ≡ true → chain_of (Edge' events body) ≡ None → ⊥
-  shaped more missing =
-      process_refuted (IsResetShape) (reset_shape_at d) d none.r1 p at.task at.there
-      (subst (λ does. IsResetShape (within (p, at.task) does)) (sym at.is)
-      (and_from _ _ (and_from (is_more events) _ more (all_pass (λ item. has_edge item.edge) events edged)) (ap (λ o. not (has_chain (λ chain. true) o)) missing)))
-
-  has_chain_of : HasChain
-  has_chain_of = by_chain (chain_of (Edge' events body)) refl
-    where
-      none_missing : (all : List Watched) → Each (λ item. IsTrue (has_edge item.edge)) all → list_any (λ item. has_edge item.edge) all ≡ true → (is_more all ≡ true → chain_of (Edge' all body) ≡ None → ⊥) → chain_of (Edge' all body) ≡ None → ⊥
-      none_missing [] edges any refutes missing = false≢true any
-      none_missing (clock ∷ []) edges any refutes missing =
-          let found : (if list_all (λ item. has_edge item.edge) (clock ∷ []) then chain_in 0 (clock ∷ []) body else None) ≡ chain_in 0 (clock ∷ []) body = ap (λ b. if b then chain_in 0 (clock ∷ []) body else None) (all_pass (λ item. has_edge item.edge) (clock ∷ []) edges) in
-          let same = sym found ∙ missing in
-          absurd (cc)
-      none_missing (clock ∷ next ∷ others) edges any refutes missing =
-          refutes (lt-ltb 1 (length (clock ∷ next ∷ others)) (omega arith)) missing
-
-      by_chain : (o : Option Chain) → chain_of (Edge' events body) ≡ o → HasChain
-      by_chain None missing =
-          absurd (none_missing events edged (lawful p (Edge' events body) is).1 shaped missing)
-      by_chain (Some chain) found = record { chain = chain; is_chain = found }
+  items = law.items d events body own levels shaped straight
 
   pub chain : Chain
-  chain = has_chain_of.chain
+  chain = (law.chain_there d events body own levels shaped straight).chain
 
-  pub is_chain : chain_of (Edge' events body) ≡ Some chain
+  pub is_chain : chain_of d (Edge' events body) ≡ Some chain
   unfolding chain
-  is_chain = has_chain_of.is_chain
+  is_chain = (law.chain_there d events body own levels shaped straight).is_chain
 
-  task_chain : chain_of at.task.does ≡ Some chain
-  task_chain = ap chain_of at.is ∙ is_chain
+  task_chain : chain_of d at.task.does ≡ Some chain
+  task_chain = ap (chain_of d) at.is ∙ is_chain
 
-  found : IsFound d events body chain
-  found = by_events events is_chain edged
-    where
-      by_events : (all : List Watched) → chain_of (Edge' all body) ≡ Some chain → Each (λ item. IsTrue (has_edge item.edge)) all → IsFound d all body chain
-      by_events [] e edges = absurd (cc)
-      by_events (first ∷ others) e edges =
-          chain_found d (length others) (first ∷ others) body chain
-          (sym (ap (λ b. if b then chain_in (length others) (first ∷ others) body else None) (all_pass (λ item. has_edge item.edge) (first ∷ others) edges)) ∙ e)
+  pub has_chained : IsChain d events body chain
+  unfolding chain
+  has_chained = (law.chain_there d events body own levels shaped straight).chained
 
   -- ---- what is known of each reset
 
-  of_items : (P : Watched → Type 0) → Each P events → Each (λ (guard : Guard). P guard.item) chain.resets
-  of_items P h =
-      let all = each_from P (chain.clock ∷ map (λ (guard : Guard). guard.item) chain.resets) (All-permutation P events (chain.clock ∷ map (λ (guard : Guard). guard.item) chain.resets) found.items (each_all P events h)) in
-      each_map P (λ (guard : Guard). guard.item) chain.resets all.1
+  -- it is one, and its item is among the events
+  abbrev IsListedReset : Guard → Type 0
+  IsListedReset guard = IsReset d guard × (items_list (widths d) events guard.item.signal 0 ≡ true)
 
-  -- R2
-  levels : Each (λ (guard : Guard). is_turned guard.item.edge (tested guard.test) ≡ true → ⊥) chain.resets
-  levels =
-      each_false (λ (guard : Guard). is_turned guard.item.edge (tested guard.test)) chain.resets
-      (λ turned. process_refuted (IsResetPolarity) (reset_polarity_at d) d none.r2 p at.task at.there
-      (subst (λ o. has_chain (λ chain. list_any (λ (guard : Guard). is_turned guard.item.edge (tested guard.test)) chain.resets) o ≡ true) (sym task_chain) turned))
-
-  lawful_parts : Each (IsLawfulGuard d.signals) chain.resets
-  lawful_parts = (chain_lawful d.signals chain.resets chain.part body found.chained (edge_body d lawful p events body is)).0
-
-  -- a reset with its item and its test
-  record IsReset (guard : Guard) : Type 0 where
-    item : IsEdgeItem (widths d) guard.item
-    listed : items_list (widths d) events guard.item.signal 0 ≡ true
-    test : IsTested d guard
-    level : is_turned guard.item.edge (tested guard.test) ≡ true → ⊥
-    sized : IsLawfulGuard d.signals guard
-
-  resets : Each IsReset chain.resets
+  resets : Each IsListedReset chain.resets
   resets =
-      let gs = chain.resets in
-      let of_item = each_both (λ (guard : Guard). IsEdgeItem (widths d) guard.item) (λ (guard : Guard). items_list (widths d) events guard.item.signal 0 ≡ true) (λ guard. IsEdgeItem (widths d) guard.item × (items_list (widths d) events guard.item.signal 0 ≡ true)) (λ g a b. (a, b)) gs (of_items (IsEdgeItem (widths d)) items) (of_items (λ item. items_list (widths d) events item.signal 0 ≡ true) (all_listed (widths d) events items)) in
-      let of_test = each_both (IsTested d) (λ (guard : Guard). is_turned guard.item.edge (tested guard.test) ≡ true → ⊥) (λ guard. IsTested d guard × (is_turned guard.item.edge (tested guard.test) ≡ true → ⊥)) (λ g a b. (a, b)) gs found.tests levels in
-      let of_both = each_both (λ (guard : Guard). IsEdgeItem (widths d) guard.item × (items_list (widths d) events guard.item.signal 0 ≡ true)) (λ guard. IsTested d guard × (is_turned guard.item.edge (tested guard.test) ≡ true → ⊥)) (λ guard. (IsEdgeItem (widths d) guard.item × (items_list (widths d) events guard.item.signal 0 ≡ true)) × (IsTested d guard × (is_turned guard.item.edge (tested guard.test) ≡ true → ⊥))) (λ g a b. (a, b)) gs of_item of_test in
-      each_both (λ (guard : Guard). (IsEdgeItem (widths d) guard.item × (items_list (widths d) events guard.item.signal 0 ≡ true)) × (IsTested d guard × (is_turned guard.item.edge (tested guard.test) ≡ true → ⊥))) (IsLawfulGuard d.signals) IsReset
-      (λ g a b. record { item = a.0.0; listed = a.0.1; test = a.1.0; level = a.1.1; sized = b }) gs of_both lawful_parts
+      each_both (IsReset d) (λ (guard : Guard). items_list (widths d) events guard.item.signal 0 ≡ true) IsListedReset (λ g a b. (a, b)) chain.resets
+      (law.resets d events body own levels shaped straight chain is_chain)
+      (law.of_items d events body own levels shaped straight chain is_chain (λ item. items_list (widths d) events item.signal 0 ≡ true) (all_listed (widths d) events items))
 
-  agrees : (guard : Guard) → (reset : IsReset guard) → agree (goes_up guard.item.edge) reset.test.test.level ≡ true
-  agrees guard reset =
-      true_from_ne_false (agree (goes_up guard.item.edge) reset.test.test.level)
-      (λ isnt. reset.level (ap (is_turned guard.item.edge) reset.test.is ∙ not_from_false _ isnt))
-
-  tests_of : (guard : Guard) → IsReset guard → Tests d guard
-  tests_of guard reset =
-      tests_level d guard reset.test.test reset.sized.0 reset.test.is reset.test.signal reset.item.one_bit reset.item.edged (agrees guard reset)
-
-  alone_of : (guard : Guard) → IsReset guard → TestsAlone d guard
-  alone_of guard reset i k read =
+  alone_of : (guard : Guard) → IsListedReset guard → TestsAlone d guard
+  alone_of guard (reset, listed) i k read =
       reads_signal_alone d guard.test reset.test.test reset.test.is i k read ∙ sym reset.test.signal
-
-  pub has_chained : IsChain d events body chain
-  has_chained =
-      record {
-        chained = found.chained;
-        items = found.items;
-        tests = each_all (Tests d) chain.resets (each_more IsReset (Tests d) tests_of chain.resets resets);
-      }
 
   -- ---- R4
 
@@ -240,7 +157,7 @@ module _ (d : Flat) (lawful : AreLawful d) (marked : AreMarked d) (none : HasNoF
 
   marked_chain : Each (OfGuard (OfStatement IsMarked) IsMarked (λ test taken other spot m. m.0)) chain.resets × Each (OfStatement IsMarked) (all_of chain.part)
   marked_chain =
-      chain_each (OfStatement IsMarked) IsMarked (λ test taken other spot m. m.0) chain.resets chain.part body found.chained marked_statements
+      chain_each (OfStatement IsMarked) IsMarked (λ test taken other spot m. m.0) chain.resets chain.part body has_chained.chained marked_statements
 
   pub inside : (i k : ℕ) → MayWrite (body_flow (widths d) body) i k → k < widths d i
   inside i k may = write_inside d.signals body (edge_body d lawful p events body is) i k may
@@ -285,7 +202,7 @@ module _ (d : Flat) (lawful : AreLawful d) (marked : AreMarked d) (none : HasNoF
         passes_none does e o e' = ap (λ x. chosen_trees d at.task.instance x o) e ∙ ap (chosen_trees d at.task.instance (Edge' events body)) e'
 
         same : data_trees d at.task ≡ chain_trees chain
-        same = passes_none at.task.does at.is (chain_of at.task.does) task_chain
+        same = passes_none at.task.does at.is (chain_of d at.task.does) task_chain
 
     unread_statements : (all : Actions) → Each (OfStatement IsMarked) (all_of all) → Each IsUnnamedTree (flat_map statement_trees (all_of all)) → (k : ℕ) → some (reads_bit i k) (body_flow (widths d) all) ≡ false
     unread_statements all marks unnamed k =
@@ -308,20 +225,20 @@ module _ (d : Flat) (lawful : AreLawful d) (marked : AreMarked d) (none : HasNoF
     among_events : (k : ℕ) → k < widths d i → some (reads_bit i k) (body_flow (widths d) body) ≡ true → items_list (widths d) events i k ≡ true
     among_events k inside' read =
         true_from_ne_false (items_list (widths d) events i k) (λ missing.
-        true≢false (sym read ∙ chain_unread (widths d) i k chain.resets chain.part body found.chained (guards missing) (part_unread k)))
+        true≢false (sym read ∙ chain_unread (widths d) i k chain.resets chain.part body has_chained.chained (guards missing) (part_unread k)))
       where
-        test_unread : items_list (widths d) events i k ≡ false → (guard : Guard) → IsReset guard → Unread (widths d) i k guard.test
+        test_unread : items_list (widths d) events i k ≡ false → (guard : Guard) → IsListedReset guard → Unread (widths d) i k guard.test
         test_unread missing guard reset =
             false_from_ne_true (reads (widths d) guard.test i k) (λ reads'.
             let same = alone_of guard reset i k reads' in
-            let one = reset.item.one_bit in
+            let one = reset.0.item.one_bit in
             let wide : widths d i ≡ 1 = ap (widths d) same ∙ one in
             let first : 0 ≡ k = omega (arith, inside', wide) in
-            true≢false (sym (subst (λ n. items_list (widths d) events i n ≡ true) first (subst (λ s. items_list (widths d) events s 0 ≡ true) (sym same) reset.listed)) ∙ missing))
+            true≢false (sym (subst (λ n. items_list (widths d) events i n ≡ true) first (subst (λ s. items_list (widths d) events s 0 ≡ true) (sym same) reset.1)) ∙ missing))
 
         guards : items_list (widths d) events i k ≡ false → Each (λ (guard : Guard). Unread (widths d) i k guard.test × (some (reads_bit i k) (body_flow (widths d) guard.branch) ≡ false)) chain.resets
         guards missing =
-            each_both IsReset (λ (guard : Guard). some (reads_bit i k) (body_flow (widths d) guard.branch) ≡ false) (λ guard. Unread (widths d) i k guard.test × (some (reads_bit i k) (body_flow (widths d) guard.branch) ≡ false))
+            each_both IsListedReset (λ (guard : Guard). some (reads_bit i k) (body_flow (widths d) guard.branch) ≡ false) (λ guard. Unread (widths d) i k guard.test × (some (reads_bit i k) (body_flow (widths d) guard.branch) ≡ false))
             (λ guard reset quiet. (test_unread missing guard reset, quiet)) chain.resets resets (branches_unread k)
 
   pub tests : (i k : ℕ) → InClockCone d i → ReadsOutside (body_flow (widths d) body) i k → items_list (widths d) events i k ≡ true
@@ -331,7 +248,7 @@ module _ (d : Flat) (lawful : AreLawful d) (marked : AreMarked d) (none : HasNoF
 
   apart : (i k : ℕ) → ReadsOutside (body_flow (widths d) chain.part) i k → InClockCone d i → ⊥
   apart i k outside cone =
-      let lawful_part = (chain_lawful d.signals chain.resets chain.part body found.chained (edge_body d lawful p events body is)).1 in
+      let lawful_part = (chain_lawful d.signals chain.resets chain.part body has_chained.chained (edge_body d lawful p events body is)).1 in
       let within = outside_inside d.signals chain.part lawful_part i k outside in
       true≢false (sym ((decided (body_flow (widths d) chain.part) i k).reads.1 (may_read_outside (body_flow (widths d) chain.part) i k outside)) ∙ part_unread i (clock_cone d i cone) (signal_there d.signals i k within) k)
 
@@ -349,7 +266,7 @@ module _ (d : Flat) (lawful : AreLawful d) (marked : AreMarked d) (none : HasNoF
       record {
         chained = has_chained;
         one_reset = async_pair d none.r3 p at.task at.there chain task_chain;
-        alone = each_all (TestsAlone d) chain.resets (each_more IsReset (TestsAlone d) alone_of chain.resets resets);
+        alone = each_all (TestsAlone d) chain.resets (each_more IsListedReset (TestsAlone d) alone_of chain.resets resets);
         constants = each_all (λ (guard : Guard). IsConstant d body guard.branch) chain.resets constants;
         apart = apart;
         tame = tame_bodies d lawful marked no_doubt p body body_at;

@@ -247,13 +247,13 @@ module _ (d : Flat) (tops : List (Vec ℕ Global)) (are : AreTops d (length d.si
 
   -- the process with the number n
   module _ (n : ℕ) (task : Task) (there : slice_get d.tasks n ≡ Some task) (clocks resets : List Bool) (roles : AreRoles d n clocks resets) where
-    has_to : (chain : Chain) → IsSomeAnd (slice_get d.tasks n) (λ task. chain_of task.does ≡ Some chain) → chain_of task.does ≡ Some chain
-    has_to chain h = subst (λ o. IsSomeAnd o (λ task. chain_of task.does ≡ Some chain)) there h
+    has_to : (chain : Chain) → IsSomeAnd (slice_get d.tasks n) (λ task. chain_of d task.does ≡ Some chain) → chain_of d task.does ≡ Some chain
+    has_to chain h = subst (λ o. IsSomeAnd o (λ task. chain_of d task.does ≡ Some chain)) there h
 
-    has_from : (chain : Chain) → chain_of task.does ≡ Some chain → IsSomeAnd (slice_get d.tasks n) (λ task. chain_of task.does ≡ Some chain)
-    has_from chain h = subst (λ o. IsSomeAnd o (λ task. chain_of task.does ≡ Some chain)) (sym there) h
+    has_from : (chain : Chain) → chain_of d task.does ≡ Some chain → IsSomeAnd (slice_get d.tasks n) (λ task. chain_of d task.does ≡ Some chain)
+    has_from chain h = subst (λ o. IsSomeAnd o (λ task. chain_of d task.does ≡ Some chain)) (sym there) h
 
-    pub roles_pass : chain_of task.does ≡ None → AreRoles d (n + 1) clocks resets
+    pub roles_pass : chain_of d task.does ≡ None → AreRoles d (n + 1) clocks resets
     roles_pass none =
         record {
           size = roles.size;
@@ -264,17 +264,17 @@ module _ (d : Flat) (tops : List (Vec ℕ Global)) (are : AreTops d (length d.si
       where
         clock_from : (top : ℕ) → (p : ℕ) × (p < n + 1) × IsClockOf d top p → get_or clocks top false ≡ true
         clock_from top (p, below, is) = elim (cases_eq p n) [
-          | inl same ↦ absurd (none-some is.chain (sym none ∙ has_to is.chain (subst (λ q. IsSomeAnd (slice_get d.tasks q) (λ task. chain_of task.does ≡ Some is.chain)) same is.has)))
+          | inl same ↦ absurd (none-some is.chain (sym none ∙ has_to is.chain (subst (λ q. IsSomeAnd (slice_get d.tasks q) (λ task. chain_of d task.does ≡ Some is.chain)) same is.has)))
           | inr other ↦ (roles.clock top).1 (p, omega (arith, below, other), is)
         ]
 
         reset_from : (top : ℕ) → (p : ℕ) × (p < n + 1) × IsResetOf d top p → get_or resets top false ≡ true
         reset_from top (p, below, is) = elim (cases_eq p n) [
-          | inl same ↦ absurd (none-some is.chain (sym none ∙ has_to is.chain (subst (λ q. IsSomeAnd (slice_get d.tasks q) (λ task. chain_of task.does ≡ Some is.chain)) same is.has)))
+          | inl same ↦ absurd (none-some is.chain (sym none ∙ has_to is.chain (subst (λ q. IsSomeAnd (slice_get d.tasks q) (λ task. chain_of d task.does ≡ Some is.chain)) same is.has)))
           | inr other ↦ (roles.reset top).1 (p, omega (arith, below, other), is)
         ]
 
-    pub roles_next : (chain : Chain) (clocks' resets' : List Bool) → chain_of task.does ≡ Some chain → AreMarkedAlso (row tops chain.clock.signal) clocks clocks' → AreMarkedAlso (flat_map (λ (guard : Guard). row tops guard.item.signal) chain.resets) resets resets' → AreRoles d (n + 1) clocks' resets'
+    pub roles_next : (chain : Chain) (clocks' resets' : List Bool) → chain_of d task.does ≡ Some chain → AreMarkedAlso (row tops chain.clock.signal) clocks clocks' → AreMarkedAlso (flat_map (λ (guard : Guard). row tops guard.item.signal) chain.resets) resets resets' → AreRoles d (n + 1) clocks' resets'
     roles_next chain clocks' resets' is c r =
         record {
           size = c.size ∙ roles.size;
@@ -287,13 +287,13 @@ module _ (d : Flat) (tops : List (Vec ℕ Global)) (are : AreTops d (length d.si
         clock_to top (inl h) = let (p, below, was) = (roles.clock top).0 h in (p, omega (arith, below), was)
         clock_to top (inr h) = (n, omega arith, record { chain = chain; has = has_from chain is; comes = (comes_from chain.clock.signal top).0 h.1 })
 
-        same_chain : (other : Chain) → IsSomeAnd (slice_get d.tasks n) (λ task. chain_of task.does ≡ Some other) → other ≡ chain
+        same_chain : (other : Chain) → IsSomeAnd (slice_get d.tasks n) (λ task. chain_of d task.does ≡ Some other) → other ≡ chain
         same_chain other h = same_Some other chain (sym (has_to other h) ∙ is)
 
         clock_from : (top : ℕ) → (p : ℕ) × (p < n + 1) × IsClockOf d top p → (get_or clocks top false ≡ true) ⊎ ((top < length clocks) × Among (row tops chain.clock.signal) top)
         clock_from top (p, below, was) = elim (cases_eq p n) [
           | inl same ↦
-              let one = same_chain was.chain (subst (λ q. IsSomeAnd (slice_get d.tasks q) (λ task. chain_of task.does ≡ Some was.chain)) same was.has) in
+              let one = same_chain was.chain (subst (λ q. IsSomeAnd (slice_get d.tasks q) (λ task. chain_of d task.does ≡ Some was.chain)) same was.has) in
               let comes = subst (λ (one : Chain). ComesFrom d top one.clock.signal) one was.comes in
               let below = top_below top chain.clock.signal comes in
               inr (omega (arith, below, roles.size), (comes_from chain.clock.signal top).1 comes)
@@ -314,14 +314,14 @@ module _ (d : Flat) (tops : List (Vec ℕ Global)) (are : AreTops d (length d.si
         reset_from : (top : ℕ) → (p : ℕ) × (p < n + 1) × IsResetOf d top p → (get_or resets top false ≡ true) ⊎ ((top < length resets) × Among (flat_map (λ (guard : Guard). row tops guard.item.signal) chain.resets) top)
         reset_from top (p, below, was) = elim (cases_eq p n) [
           | inl same ↦
-              let one = same_chain was.chain (subst (λ q. IsSomeAnd (slice_get d.tasks q) (λ task. chain_of task.does ≡ Some was.chain)) same was.has) in
+              let one = same_chain was.chain (subst (λ q. IsSomeAnd (slice_get d.tasks q) (λ task. chain_of d task.does ≡ Some was.chain)) same was.has) in
               let comes = subst (λ (one : Chain). IsSomeAnd (slice_get one.resets was.place) (λ guard. ComesFrom d top guard.item.signal)) one was.comes in
               let below = some_below' chain.resets top was.place comes in
               inr (omega (arith, below, roles.size_of_resets), reset_among chain.resets top was.place comes)
           | inr other ↦ inl ((roles.reset top).1 (p, omega (arith, below, other), was))
         ]
 
-    pub roles_noted' : (o : Option Chain) → chain_of task.does ≡ o → (old new : Roles) → clocks ≡ old.clocks.items → resets ≡ old.resets.items → NotesChain tops o old new → AreRoles d (n + 1) new.clocks.items new.resets.items
+    pub roles_noted' : (o : Option Chain) → chain_of d task.does ≡ o → (old new : Roles) → clocks ≡ old.clocks.items → resets ≡ old.resets.items → NotesChain tops o old new → AreRoles d (n + 1) new.clocks.items new.resets.items
     roles_noted' None is old new c r notes =
         subst (λ l. AreRoles d (n + 1) l new.resets.items) (c ∙ sym notes.0) (subst (λ l. AreRoles d (n + 1) clocks l) (r ∙ sym notes.1) (roles_pass is))
     roles_noted' (Some chain) is old new c r notes =
@@ -329,9 +329,9 @@ module _ (d : Flat) (tops : List (Vec ℕ Global)) (are : AreTops d (length d.si
         (subst (λ l. AreMarkedAlso (row tops chain.clock.signal) l new.clocks.items) (sym c) notes.0)
         (subst (λ l. AreMarkedAlso (flat_map (λ (guard : Guard). row tops guard.item.signal) chain.resets) l new.resets.items) (sym r) notes.1)
 
-  pub roles_noted : (n : ℕ) (task : Task) → slice_get d.tasks n ≡ Some task → (old new : Roles) → AreRoles d n old.clocks.items old.resets.items → NotesChain tops (chain_of task.does) old new → AreRoles d (n + 1) new.clocks.items new.resets.items
+  pub roles_noted : (n : ℕ) (task : Task) → slice_get d.tasks n ≡ Some task → (old new : Roles) → AreRoles d n old.clocks.items old.resets.items → NotesChain tops (chain_of d task.does) old new → AreRoles d (n + 1) new.clocks.items new.resets.items
   roles_noted n task there old new roles notes =
-      roles_noted' n task there old.clocks.items old.resets.items roles (chain_of task.does) refl old new refl refl notes
+      roles_noted' n task there old.clocks.items old.resets.items roles (chain_of d task.does) refl old new refl refl notes
 
 -- resets by their plain forms
 pub resets_as : (tops : List (Vec ℕ Global)) (guards : List code.Guard) → flat_map (λ (guard : code.Guard). row tops guard.item.now.signal.0) guards ≡ flat_map (λ (guard : Guard). row tops guard.item.signal) (map guard_view guards)

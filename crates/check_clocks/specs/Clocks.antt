@@ -53,14 +53,14 @@ pub record IsTwice (d : Flat) (events : List Watched) (top : ℕ) : Type 0 where
 -- a top input is the clock of a process that has the chain
 pub record IsClockOf (d : Flat) (top p : ℕ) : Type 0 where
   pub chain : Chain
-  pub has : IsSomeAnd (slice_get d.tasks p) (λ task. chain_of task.does ≡ Some chain)
+  pub has : IsSomeAnd (slice_get d.tasks p) (λ task. chain_of d task.does ≡ Some chain)
   pub comes : ComesFrom d top chain.clock.signal
 
 -- it is a reset of such a process
 pub record IsResetOf (d : Flat) (top p : ℕ) : Type 0 where
   pub chain : Chain
   pub place : ℕ
-  pub has : IsSomeAnd (slice_get d.tasks p) (λ task. chain_of task.does ≡ Some chain)
+  pub has : IsSomeAnd (slice_get d.tasks p) (λ task. chain_of d task.does ≡ Some chain)
   pub comes : IsSomeAnd (slice_get chain.resets place) (λ guard. ComesFrom d top guard.item.signal)
 
 -- it is a clock and a reset
@@ -128,7 +128,7 @@ is_passing d task = passes d task.instance task.does
 -- goes on
 abbrev pub data_trees : Flat → Task → List Tree
 data_trees d task =
-    if is_passing d task then [] else but_tests (chain_of task.does) (read_trees task.does ++ labels task.does)
+    if is_passing d task then [] else but_tests (chain_of d task.does) (read_trees task.does ++ labels task.does)
 
 -- where they read a bit of a signal
 abbrev pub data_reads : Flat → ℕ → Task → List Spot

@@ -10,8 +10,8 @@ use Rattle.check_chains.specs.Chains.{chain_of}
 use Rattle.check_clocks.specs.Clocks.{but_tests, in_instance, is_whole}
 
 -- the expressions of a process outside its list, but for the tests of its chain
-abbrev pub but_tests_of : Doing → List Tree
-but_tests_of does = but_tests (chain_of does) (read_trees does ++ labels does)
+abbrev pub but_tests_of : Flat → Doing → List Tree
+but_tests_of d does = but_tests (chain_of d does) (read_trees does ++ labels does)
 
 -- a signal of one bit goes to one part, a signal of one bit that isn't in the instance
 abbrev pub passes_to : Flat → ℕ → ℕ → Piece → Bool

@@ -80,10 +80,15 @@ fn chain_trees<'d>(alloc: Global, chain: &Chain<'d>) -> Result<Vec<&'d SizedExpr
 }
 
 /// The expressions of a process outside its list, but for the tests of its chain.
-fn but_tests<'d>(alloc: Global, does: &'d Does) -> Result<Vec<&'d SizedExpr>, Memory>
-    ensures { IfOk result (λ all. expressions all.items ≡ but_tests_of (doing does.now)) }
+fn but_tests<'d>(
+    alloc: Global,
+    design: &'d Design,
+    does: &'d Does,
+) -> Result<Vec<&'d SizedExpr>, Memory>
+    ensures { IfOk result (λ all. expressions all.items
+        ≡ but_tests_of (flat design.now) (doing does.now)) }
 {
-    match chain_of(alloc, does)? {
+    match chain_of(alloc, design, does)? {
         Some(chain) => chain_trees(alloc, &chain),
         None => {
             let mut found = read_trees(alloc, does)?;
@@ -156,7 +161,7 @@ fn data_trees<'d>(
     if is_passing(design, process) {
         return Ok(Vec::new(alloc));
     }
-    but_tests(alloc, &process.does)
+    but_tests(alloc, design, &process.does)
 }
 
 /// Where a process lists signals without an edge or reads them as data.

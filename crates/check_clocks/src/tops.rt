@@ -128,10 +128,10 @@ impl Roles {
         tops: &[Vec<u32>],
         does: &Does,
     ) -> Result<(), Memory>
-        ensures { let chain = chain_of (doing does.now) in
+        ensures { let chain = chain_of (flat design.now) (doing does.now) in
             OnOk result (NotesChain tops.now chain self.old self.new) }
     {
-        match chain_of(alloc, does)? {
+        match chain_of(alloc, design, does)? {
             Some(chain) => {
                 self.note_clock(tops, chain.clock.signal);
                 self.note_resets(tops, &chain.resets);

@@ -106,4 +106,4 @@ derived_clock_once d none p events body is m n a b first second top comes comes'
 -- R3
 pub async_pair : (d : Flat) → AsyncPair d
 async_pair d none p task there chain is =
-    ltb-false 1 (length chain.resets) (false_from_ne_true (nat_lt 1 (length chain.resets)) (λ more. process_refuted IsAsyncPair (async_pair_at d) d none p task there (subst (λ o. has_chain (λ one. nat_lt 1 (length one.resets)) o ≡ true) (sym is) more)))
+    ltb-false 1 (length chain.resets) (false_from_ne_true (nat_lt 1 (length chain.resets)) (λ more. process_refuted (IsAsyncPair d) (async_pair_at d) d none p task there (subst (λ o. has_chain (λ one. nat_lt 1 (length one.resets)) o ≡ true) (sym is) more)))

@@ -34,4 +34,4 @@ abbrev pub AsyncPair : Flat → Type 0
 AsyncPair d =
     AreAsyncPair d [] →
     (p : ℕ) (task : Task) → slice_get d.tasks p ≡ Some task →
-    (chain : Chain) → chain_of task.does ≡ Some chain → length chain.resets ≤ 1
+    (chain : Chain) → chain_of d task.does ≡ Some chain → length chain.resets ≤ 1

@@ -89,23 +89,34 @@ starting_none d spread n same marked waiting =
 
 module _ (d : Flat) (temporaries : List Bool) (each : (s : ℕ) → slice_get temporaries s ≡ Some true ↔ IsTemporary d.signals d.tasks s) (p : ℕ) (task : Task) (there : slice_get d.tasks p ≡ Some task) where
   abbrev resets : Task → Bool
-  resets one = has_chain (λ chain. nat_lt 0 (length chain.resets)) (chain_of one.does)
+  resets one = has_chain (λ chain. nat_lt 0 (length chain.resets)) (chain_of d one.does)
 
   is_unreset : (s : ℕ) → starts d temporaries task s ≡ true → IsUnreset d s
   is_unreset s h =
       let (free, own) = and_parts (is_clocked task.does && not (resets task)) (writes d task s && not (get_or temporaries s false)) h in
       let (clocked, no_reset) = and_parts (is_clocked task.does) (not (resets task)) free in
       let (writes', kept) = and_parts (writes d task s) (not (get_or temporaries s false)) own in
-      record { process = p; task = task; there = there; clocked = clocked; writes = writes'; no_reset = not_true (resets task) no_reset; kept = λ is. false≢true (sym (ap not (got_back temporaries s ((each s).1 is))) ∙ kept) }
+      record {
+        process = p;
+        task = task;
+        there = there;
+        clocked = clocked;
+        register = record {
+          inside = some_there d (written d task.does) s writes';
+          writes = writes';
+          kept = λ is. false≢true (sym (ap not (got_back temporaries s ((each s).1 is))) ∙ kept);
+        };
+        no_reset = not_true (resets task) no_reset;
+      }
 
   starts_at : (s : ℕ) (is : IsUnreset d s) → is.process ≡ p → starts d temporaries task s ≡ true
   starts_at s is here =
       let same = same_some task is.task (sym there ∙ subst (λ k. slice_get d.tasks k ≡ Some is.task) here is.there) in
-      let kept = not_both (get_or temporaries s false) (λ h. is.kept ((each s).0 (got temporaries s h))) in
+      let kept = not_both (get_or temporaries s false) (λ h. is.register.kept ((each s).0 (got temporaries s h))) in
       subst (λ (one : Task). starts d temporaries one s ≡ true) (sym same)
       (and_from (is_clocked is.task.does && not (resets is.task)) (writes d is.task s && not (get_or temporaries s false))
       (and_from (is_clocked is.task.does) (not (resets is.task)) is.clocked (ap not is.no_reset))
-      (and_from (writes d is.task s) (not (get_or temporaries s false)) is.writes kept))
+      (and_from (writes d is.task s) (not (get_or temporaries s false)) is.register.writes kept))
 
   pub starting_more : (old new : Spread) → Marks (starts d temporaries task) old new → IsStarting d p old → IsStarting d (p + 1) new
   starting_more old new m h =
@@ -118,7 +129,7 @@ module _ (d : Flat) (temporaries : List Bool) (each : (s : ℕ) → slice_get te
         began = λ s is below. elim (below_next is.process p below) [
           | inl before ↦ m.keeps s (h.began s is before)
           | inr here ↦
-              let inside = some_there d (written d is.task.does) s is.writes in
+              let inside = is.register.inside in
               let same = h.same_length in
               m.to s (omega (arith, inside, same)) (starts_at s is here)
         ];

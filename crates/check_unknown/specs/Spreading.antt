@@ -45,7 +45,7 @@ reads d task s = has_some (widths d) (reads_outside (flow_of (widths d) task.doe
 -- what a process marks before anything spreads
 abbrev pub starts : Flat → List Bool → Task → ℕ → Bool
 starts d temporaries task s =
-    (is_clocked task.does && not (has_chain (λ chain. nat_lt 0 (length chain.resets)) (chain_of task.does)))
+    (is_clocked task.does && not (has_chain (λ chain. nat_lt 0 (length chain.resets)) (chain_of d task.does)))
     && (writes d task s && not (slice_index_or temporaries s false))
 
 -- a process reads a signal that may be x

@@ -18,7 +18,6 @@ use Rattle.rtl_flat.specs.Expression.{Tree, Sized, Compared, Joined}
 use Rattle.rtl_flat.specs.Expression as tree
 use Rattle.rtl_flat.specs.Flows.{flow_of, is_place, labels_of, reads}
 use Rattle.rtl_flat.specs.Paths.{reads_outside}
-use Rattle.rtl_flat.specs.PathSets.{IsTemporary}
 use Rattle.rtl_flat.specs.Process.{Selection, Piece, Watched, Action, Set, If, Case, Block, Doing, Task}
 use Rattle.rtl_flat.specs.Process as part
 use Rattle.rtl_flat.specs.Signs.{sign_of}
@@ -30,7 +29,7 @@ use Rattle.rtl_rule.specs.Order.{ranked}
 use Rattle.rtl_rule.specs.Parts.{constant_of, At, first_written, found_at, has_literal, has_some, is_clocked, is_x, items_of, labels, least_place, literal_places, nodes, number, pieces, place_of, process_sites, sites, some_below, statements, trees, written}
 use Rattle.rtl_flat.specs.Flats.{Flat, Parts, widths}
 use Rattle.rtl_rule.specs.Sites.{AreFindings}
-use Rattle.check_chains.specs.Chains.{chain_of, has_chain}
+use Rattle.check_chains.specs.Chains.{IsRegisterOf, chain_of, has_chain}
 
 -- all expressions of processes with their operands, labels too
 abbrev pub all_nodes : Doing → List Tree
@@ -199,15 +198,14 @@ AreTranslateOff d = AreFindings IsTranslateOff (at_region rule.TranslateOff) d.d
 
 -- ---- what may be x after power-up
 
--- a register that a clocked process without an asynchronous reset may write
+-- a register of a clocked process without an asynchronous reset
 pub record IsUnreset (d : Flat) (s : ℕ) : Type 0 where
   pub process : ℕ
   pub task : Task
   pub there : slice_get d.tasks process ≡ Some task
   pub clocked : is_clocked task.does ≡ true
-  pub writes : has_some (widths d) (written d task.does) s ≡ true
-  pub no_reset : has_chain (λ chain. nat_lt 0 (length chain.resets)) (chain_of task.does) ≡ false
-  pub kept : IsTemporary d.signals d.tasks s → ⊥
+  pub register : IsRegisterOf d task.does s
+  pub no_reset : has_chain (λ chain. nat_lt 0 (length chain.resets)) (chain_of d task.does) ≡ false
 
 -- a signal is doubtful where it is such a register, or is written by a process that reads a doubtful signal before it has
 -- written it

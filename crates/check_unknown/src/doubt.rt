@@ -78,10 +78,10 @@ impl Spread {
 
 /// Whether a clocked process has a chain with an asynchronous reset.
 fn has_reset(alloc: Global, design: &Design, does: &Does) -> Result<bool, Memory>
-    ensures { let chain = chain_of (doing does.now) in
+    ensures { let chain = chain_of (flat design.now) (doing does.now) in
         IfOk result (λ has. has ≡ has_chain (λ one. nat_lt 0 (length one.resets)) chain) }
 {
-    match chain_of(alloc, does)? {
+    match chain_of(alloc, design, does)? {
         Some(chain) => Ok(!chain.resets.is_empty()),
         None => Ok(false),
     }

@@ -25,5 +25,5 @@ are_chains d lawful formed p events body is =
     }) in
     let found = chain_at d p task events body does (lawful_at d.signals d.tasks p task lawful there) (free MixedEdges) (free ResetShape) (free ResetPolarity) in
     let same : chains_of d p ≡ found.chain =
-    ap (λ o. unwrap_or (chain_in o) no_chain) there ∙ ap (λ x. unwrap_or (chain_of x) no_chain) does ∙ ap (λ o. unwrap_or o no_chain) found.is_chain in
+    ap (λ o. unwrap_or (chain_in d o) no_chain) there ∙ ap (λ x. unwrap_or (chain_of d x) no_chain) does ∙ ap (λ o. unwrap_or o no_chain) found.is_chain in
     subst (IsChain d events body) (sym same) found.chained

@@ -58,15 +58,15 @@ module _ (design : Design) (p : ℕ) (x : Process) (below : p < length design.pr
       subst (λ a. a ≡ true ↔ IsFault D p t DerivedClock) (sym e)
       (derived_fault D tops clocks resets temporaries facts p t (waits_of D p t there waits) events (same ∙ ap events_of same_does))
 
-  pub shape : (b : Bool) → b ≡ is_shapeless (doing x.does) → b ≡ true ↔ IsFault D p t ResetShape
-  shape b e = same_truth b _ (e ∙ ap is_shapeless same_does)
+  pub shape : (b : Bool) → b ≡ is_shapeless D (doing x.does) → b ≡ true ↔ IsFault D p t ResetShape
+  shape b e = same_truth b _ (e ∙ ap (is_shapeless D) same_does)
 
-  pub turned : (b : Bool) → b ≡ has_turned (doing x.does) → b ≡ true ↔ IsFault D p t ResetPolarity
-  turned b e = same_truth b _ (e ∙ ap has_turned same_does)
+  pub turned : (b : Bool) → b ≡ has_turned D (doing x.does) → b ≡ true ↔ IsFault D p t ResetPolarity
+  turned b e = same_truth b _ (e ∙ ap (has_turned D) same_does)
 
-  pub chain_is : (found : Option code.Chain) → option_map chain_view found ≡ chain_of (doing x.does) → (chain : code.Chain) → found ≡ Some chain → chain_of t.does ≡ Some (chain_view chain)
+  pub chain_is : (found : Option code.Chain) → option_map chain_view found ≡ chain_of D (doing x.does) → (chain : code.Chain) → found ≡ Some chain → chain_of D t.does ≡ Some (chain_view chain)
   chain_is found e chain some =
-      sym (ap chain_of same_does) ∙ sym e ∙ ap (option_map chain_view) some
+      sym (ap (chain_of D) same_does) ∙ sym e ∙ ap (option_map chain_view) some
 
   -- ---- where no rule has a finding
 
@@ -87,17 +87,17 @@ module _ (design : Design) (p : ℕ) (x : Process) (below : p < length design.pr
           chain = chain_at D p t events body does (lawful_at D.signals D.tasks p t design.is_design.each_process there) none.0 none.1.1.0 none.1.1.1.0;
         }
 
-    pub chain_there : (found : Option code.Chain) → option_map chain_view found ≡ chain_of (doing x.does) → ((chain : code.Chain) → found ≡ Some chain → ⊥) → ⊥
+    pub chain_there : (found : Option code.Chain) → option_map chain_view found ≡ chain_of D (doing x.does) → ((chain : code.Chain) → found ≡ Some chain → ⊥) → ⊥
     chain_there (Some chain) e never = never chain refl
     chain_there None e never =
         let w = whole in
-        let one = e ∙ ap chain_of same_does ∙ ap chain_of w.does ∙ w.chain.is_chain in
+        let one = e ∙ ap (chain_of D) same_does ∙ ap (chain_of D) w.does ∙ w.chain.is_chain in
         absurd (cc)
 
-    pub topped : (tops : List (Vec ℕ Global)) → AreTops D (length D.signals) tops → (chain : Chain) → chain_of t.does ≡ Some chain → HasTop tops chain.clock.signal × Each (λ (guard : Guard). HasTop tops guard.item.signal) chain.resets
+    pub topped : (tops : List (Vec ℕ Global)) → AreTops D (length D.signals) tops → (chain : Chain) → chain_of D t.does ≡ Some chain → HasTop tops chain.clock.signal × Each (λ (guard : Guard). HasTop tops guard.item.signal) chain.resets
     topped tops are chain e =
         let w = whole in
-        let same : w.chain.chain ≡ chain = let two = sym w.chain.is_chain ∙ sym (ap chain_of w.does) ∙ e in cc in
+        let same : w.chain.chain ≡ chain = let two = sym w.chain.is_chain ∙ sym (ap (chain_of D) w.does) ∙ e in cc in
         let each = subst (λ items. Each (λ (item : Watched). HasTop tops item.signal) items) (ap events_of w.does) (each_top D tops are p t none.1.0) in
         let own = w.chain.chain in
         subst (λ (one : Chain). HasTop tops one.clock.signal × Each (λ (guard : Guard). HasTop tops guard.item.signal) one.resets) same

@@ -32,7 +32,7 @@ AreNone P (one ∷ others) = (P one → ⊥) × AreNone P others
 -- the clock and the resets of a chain, the strongest reset first
 pub record HasItems (d : Flat) (task : Task) (clock : Watched) (resets : List Watched) : Type 0 where
   pub chain : Chain
-  pub is_chain : chain_of task.does ≡ Some chain
+  pub is_chain : chain_of d task.does ≡ Some chain
   pub clock_is : chain.clock ≡ clock
   pub resets_are : map (λ (guard : Guard). guard.item) chain.resets ≡ resets
 

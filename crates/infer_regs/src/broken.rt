@@ -84,10 +84,10 @@ pub(crate) fn first_broken(
     if has_derived(facts, events) {
         return Ok(Some(Rule::DerivedClock));
     }
-    if is_shapeless(alloc, does)? {
+    if is_shapeless(alloc, design, does)? {
         return Ok(Some(Rule::ResetShape));
     }
-    if has_turned(alloc, does)? {
+    if has_turned(alloc, design, does)? {
         return Ok(Some(Rule::ResetPolarity));
     }
     if has_bad_reset(alloc, design, &facts.temporaries, &facts.unknowns, p)? {

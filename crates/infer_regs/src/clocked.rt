@@ -41,7 +41,7 @@ fn clocked_of<'d>(
     if first_broken(alloc, design, facts, p)?.is_some() {
         return Ok(None);
     }
-    let Some(chain) = chain_of(alloc, &design.processes[p.0 as usize].does)? else {
+    let Some(chain) = chain_of(alloc, design, &design.processes[p.0 as usize].does)? else {
         return Ok(None);
     };
     let clock = top_of(&facts.tops, chain.clock.signal);

@@ -54,7 +54,7 @@ pub fn form_of<'d>(alloc: Global, design: &'d Design, p: ProcId) -> Result<Form<
     if let Some(rule) = first_broken(alloc, design, &facts, p)? {
         return Ok(Form::Bad(rule));
     }
-    match chain_of(alloc, &design.processes[p.0 as usize].does)? {
+    match chain_of(alloc, design, &design.processes[p.0 as usize].does)? {
         Some(chain) => {
             let resets = items_of(alloc, &chain.resets)?;
             Ok(Form::Clock {

@@ -46,9 +46,9 @@ module _ (d : Flat) (none : HasNoFinding d) where
       let each = refuted_in (IsDerivedClock d) derived_clock_at events_of d none.a7 p task there in
       none_at (λ item. IsDerivedClock d (within (p, task) item)) (events_of task.does) each n derived
   no_fault p task there ResetShape fault =
-      process_refuted IsResetShape (reset_shape_at d) d none.r1 p task there fault
+      process_refuted (IsResetShape d) (reset_shape_at d) d none.r1 p task there fault
   no_fault p task there ResetPolarity fault =
-      process_refuted IsResetPolarity (reset_polarity_at d) d none.r2 p task there fault
+      process_refuted (IsResetPolarity d) (reset_polarity_at d) d none.r2 p task there fault
   no_fault p task there ResetValue fault =
       process_refuted (IsResetValue d) (reset_value_at d) d none.r4 p task there fault
   no_fault p task there _ fault = absurd fault

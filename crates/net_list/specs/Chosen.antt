@@ -24,13 +24,13 @@ no_chain =
       part = Done;
     }
 
-abbrev pub chain_in : Option Task → Option Chain
-chain_in None = None
-chain_in (Some task) = chain_of task.does
+abbrev pub chain_in : Flat → Option Task → Option Chain
+chain_in d None = None
+chain_in d (Some task) = chain_of d task.does
 
 -- the chain of each process
 abbrev pub chains_of : Flat → ℕ → Chain
-chains_of d p = unwrap_or (chain_in (slice_get d.tasks p)) no_chain
+chains_of d p = unwrap_or (chain_in d (slice_get d.tasks p)) no_chain
 
 -- ---- registers
 
@@ -45,7 +45,7 @@ waiting_numbers d = filter_map (λ (one : ℕ × Task). number_of one.0 one.1.do
 
 -- a process with its chain, and the top inputs that its clock and its resets come from by plain connections
 pub record IsClocked (d : Flat) (clocked : Clocked) : Type 0 where
-  pub chain : IsSomeAnd (slice_get d.tasks clocked.process.0) (λ task. chain_of task.does ≡ Some (chain_view clocked.chain))
+  pub chain : IsSomeAnd (slice_get d.tasks clocked.process.0) (λ task. chain_of d task.does ≡ Some (chain_view clocked.chain))
   pub clock : ComesFrom d clocked.clock.0 (chain_view clocked.chain).clock.signal
   pub as_many : length clocked.resets.items ≡ length (chain_view clocked.chain).resets
   pub resets :

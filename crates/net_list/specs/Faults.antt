@@ -22,8 +22,8 @@ IsFault d p task MixedEdges = IsMixedEdges (within (p, task) task.does)
 IsFault d p task SeveralDrivers = (s : ℕ) × (s < length d.signals) × IsSeveralDrivers d (within (p, task) s)
 IsFault d p task DerivedClock =
     (n : ℕ) × IsSomeAnd (slice_get (events_of task.does) n) (λ item. IsDerivedClock d (within (p, task) item))
-IsFault d p task ResetShape = IsResetShape (within (p, task) task.does)
-IsFault d p task ResetPolarity = IsResetPolarity (within (p, task) task.does)
+IsFault d p task ResetShape = IsResetShape d (within (p, task) task.does)
+IsFault d p task ResetPolarity = IsResetPolarity d (within (p, task) task.does)
 IsFault d p task ResetValue = IsResetValue d (within (p, task) task.does)
 IsFault d p task _ = ⊥
 

@@ -55,18 +55,18 @@ module _ (design : Design) (formed : AreFormed (flat design)) where
   waiting : (one : Clocked) → IsClocked (flat design) one → Waiting one
   waiting one clocked = by_task (slice_get (flat design).tasks one.process.0) refl clocked.chain
     where
-      by_doing : (task : Task) → slice_get (flat design).tasks one.process.0 ≡ Some task → (does : Doing) → task.does ≡ does → chain_of does ≡ Some (chain_view one.chain) → Waiting one
+      by_doing : (task : Task) → slice_get (flat design).tasks one.process.0 ≡ Some task → (does : Doing) → task.does ≡ does → chain_of (flat design) does ≡ Some (chain_view one.chain) → Waiting one
       by_doing task there (Assign target e) is none = absurd (cc)
       by_doing task there (Comb list body) is none = absurd (cc)
       by_doing task there (Edge' events body) is some = record {
         events = events;
         body = body;
         does = ap doing_of there ∙ ap Some is;
-        chain = ap (λ o. unwrap_or (chain_in o) no_chain) there
-            ∙ (ap (λ x. unwrap_or (chain_of x) no_chain) is ∙ ap (λ o. unwrap_or o no_chain) some);
+        chain = ap (λ o. unwrap_or (chain_in (flat design) o) no_chain) there
+            ∙ (ap (λ x. unwrap_or (chain_of (flat design) x) no_chain) is ∙ ap (λ o. unwrap_or o no_chain) some);
       }
 
-      by_task : (o : Option Task) → slice_get (flat design).tasks one.process.0 ≡ o → IsSomeAnd o (λ task. chain_of task.does ≡ Some (chain_view one.chain)) → Waiting one
+      by_task : (o : Option Task) → slice_get (flat design).tasks one.process.0 ≡ o → IsSomeAnd o (λ task. chain_of (flat design) task.does ≡ Some (chain_view one.chain)) → Waiting one
       by_task None there none = absurd none
       by_task (Some task) there is = by_doing task there task.does refl is
 

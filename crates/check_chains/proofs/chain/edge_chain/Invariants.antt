@@ -8,8 +8,8 @@ use Rattle.check_chains.proofs.chain.edge_chain.Given as goal
 
 abbrev pub invariant-loop-left : goal.invariant-loop-left
 invariant-loop-left l =
-    prefixed (map guard_view l.resets.items) (chain_in (vec_len l.left - 1) (events_view l.left.items) (body_of (map action l.rest)))
-    ≡ chain_in (length (map watched l.events) - 1) (map watched l.events) (body_of (map action l.body))
+    prefixed (map guard_view l.resets.items) (chain_in (flat l.design) (vec_len l.left - 1) (events_view l.left.items) (body_of (map action l.rest)))
+    ≡ chain_in (flat l.design) (length (map watched l.events) - 1) (map watched l.events) (body_of (map action l.body))
 
 abbrev pub decreases-loop-left : goal.decreases-loop-left
 decreases-loop-left l = vec_len l.left

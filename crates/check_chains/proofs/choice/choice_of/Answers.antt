@@ -5,7 +5,7 @@ use Rattle.check_chains.proofs.choice.choice_of.Goals as goal
 pub returns-in_err-test : goal.returns-in_err-test
 returns-in_err-test c =
     rw (c.from_residual.ensures, ← c.opened.ensures)
-    (λ go events. several_unheaded go events c.opened.result.now (λ h. c.in_err-test.ensures h))
+    (λ d go events. several_unheaded d go events c.opened.result.now (λ h. c.in_err-test.ensures h))
 
 pub returns-in-Some : goal.returns-in-Some
 returns-in-Some c =

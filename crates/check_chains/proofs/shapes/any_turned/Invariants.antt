@@ -7,4 +7,4 @@ use Rattle.check_chains.proofs.shapes.any_turned.Given as goal
 
 abbrev pub invariant-loop-guard : goal.invariant-loop-guard
 invariant-loop-guard l =
-    list_any is_turned_guard (map guard_view (drop l.guard-index l.guards)) ≡ list_any is_turned_guard (map guard_view l.guards)
+    list_any (is_turned_guard (flat l.design)) (map guard_view (drop l.guard-index l.guards)) ≡ list_any (is_turned_guard (flat l.design)) (map guard_view l.guards)

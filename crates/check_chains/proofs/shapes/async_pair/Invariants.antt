@@ -7,4 +7,4 @@ use Rattle.check_chains.proofs.shapes.async_pair.Given as goal
 
 abbrev pub invariant-loop-number : goal.invariant-loop-number
 invariant-loop-number l =
-    AreFindings IsAsyncPair (async_pair_at (flat l.design)) (sites_below itself (flat l.design) l.number) l.found.items
+    AreFindings (IsAsyncPair (flat l.design)) (async_pair_at (flat l.design)) (sites_below itself (flat l.design) l.number) l.found.items

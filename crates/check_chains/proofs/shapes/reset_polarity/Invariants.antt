@@ -7,4 +7,4 @@ use Rattle.check_chains.proofs.shapes.reset_polarity.Given as goal
 
 abbrev pub invariant-loop-number : goal.invariant-loop-number
 invariant-loop-number l =
-    AreFindings IsResetPolarity (reset_polarity_at (flat l.design)) (sites_below itself (flat l.design) l.number) l.found.items
+    AreFindings (IsResetPolarity (flat l.design)) (reset_polarity_at (flat l.design)) (sites_below itself (flat l.design) l.number) l.found.items

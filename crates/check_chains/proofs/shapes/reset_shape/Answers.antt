@@ -10,4 +10,4 @@ loop-number-preserved c =
     let design = c.args.design.now in
     let x = c.index.result.now in
     let below : c.loop-number.number < length design.processes.items = omega arith in
-    next_told design IsResetShape ResetShape c.loop-number.number x below c.index.ensures c.in_ok-broken.broken (same_truth _ _ c.in_ok-broken.ensures) c.loop-number.found.items c.push_if.new.found.items (λ t there. c.in_ok-push_if.ensures t there) c.loop-number.invariant
+    next_told design (IsResetShape (flat design)) ResetShape c.loop-number.number x below c.index.ensures c.in_ok-broken.broken (same_truth _ _ c.in_ok-broken.ensures) c.loop-number.found.items c.push_if.new.found.items (λ t there. c.in_ok-push_if.ensures t there) c.loop-number.invariant

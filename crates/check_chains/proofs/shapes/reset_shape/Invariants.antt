@@ -7,4 +7,4 @@ use Rattle.check_chains.proofs.shapes.reset_shape.Given as goal
 
 abbrev pub invariant-loop-number : goal.invariant-loop-number
 invariant-loop-number l =
-    AreFindings IsResetShape (reset_shape_at (flat l.design)) (sites_below itself (flat l.design) l.number) l.found.items
+    AreFindings (IsResetShape (flat l.design)) (reset_shape_at (flat l.design)) (sites_below itself (flat l.design) l.number) l.found.items

@@ -23,11 +23,11 @@ returns c =
     let same = same_task c.args.scans.now.design.now.processes.items c.args.p.0 one c.requires.there c.index.ensures other there in
     let clocked : is_clocked other.does ≡ true
     = ap (λ (t : Task). is_clocked t.does) (sym same) ∙ sym c.is_clocked.ensures ∙ c.if-not-is_clocked.false in
-    let free : has_chain (λ chain. nat_lt 0 (length chain.resets)) (chain_of other.does) ≡ false
-    = ap (λ (t : Task). has_chain (λ chain. nat_lt 0 (length chain.resets)) (chain_of t.does)) (sym same) ∙ sym c.in_ok-has_reset.ensures ∙ c.if-branch.false in
+    let free : has_chain (λ chain. nat_lt 0 (length chain.resets)) (chain_of d other.does) ≡ false
+    = ap (λ (t : Task). has_chain (λ chain. nat_lt 0 (length chain.resets)) (chain_of d t.does)) (sym same) ∙ sym c.in_ok-has_reset.ensures ∙ c.if-branch.false in
     marks_as (λ s. has_row_of rows s && not (get_or temporaries s false)) (starts d temporaries other) c.args.spread.now c.mark_kept.new.self
     (λ s.
-    ap (λ b. (b && not (has_chain (λ chain. nat_lt 0 (length chain.resets)) (chain_of other.does))) && (writes d other s && not (get_or temporaries s false))) clocked
+    ap (λ b. (b && not (has_chain (λ chain. nat_lt 0 (length chain.resets)) (chain_of d other.does))) && (writes d other s && not (get_or temporaries s false))) clocked
     ∙ ap (λ b. not b && (writes d other s && not (get_or temporaries s false))) free
     ∙ ap (λ b. b && not (get_or temporaries s false)) (writes_are d other c.written.result.now.rows.items (c.written.ensures.bits other there) c.written.ensures.order s ∙ ap (λ (rs : List Row). has_row_of rs s) (sym c.deref.ensures.value)))
     h)

@@ -75,7 +75,7 @@ returns c =
     record {
       process = refl;
       clocked = record {
-        chain = subst (λ o. IsSomeAnd o (λ (one : Task). chain_of one.does ≡ Some (chain_view chain))) (sym there) is;
+        chain = subst (λ o. IsSomeAnd o (λ (one : Task). chain_of d one.does ≡ Some (chain_view chain))) (sym there) is;
         clock = (comes_from d tops are chain.clock.now.signal.0 c.top_of-clock.result.0).0 among;
         as_many = reset_count tops (map guard_view chain.resets.items) c.in_ok-resets.resets.items resets;
         resets = λ k guard top at at'. (comes_from d tops are guard.item.signal top.0).0 (reset_at tops (map guard_view chain.resets.items) c.in_ok-resets.resets.items resets k guard top at at');
