@@ -8,7 +8,7 @@ use Rattle.rtl_rule.specs.contracts.rule.Rule.{the_type}
 use Rattle.rtl_rule.specs.declared.finding.Finding.{Finding}
 use Rattle.rtl_rule.specs.declared.rule.Rule.{Rule}
 use Rattle.rtl_rule.specs.declared.rule.TheConstants.{RULES}
-use Rattle.rtl_rule.specs.declared.rule.Rule.TheVariants.{SenseMissing, NeverWakes, MixedEdges, BlockingState, NonblockingComb, MixedAssign, SeveralDrivers, Undriven, CombLoop, DerivedClock, ClockAsData, LatchInferred, Tristate, ResetShape, ResetPolarity, AsyncPair, ResetValue, FullCase, ParallelCase, UnknownItem, UnknownLiteral, SelectRange, DivideVariable, CaseEquality, DelayIgnored, InitialIgnored, TranslateOff, XOptimism, WildSelector}
+use Rattle.rtl_rule.specs.declared.rule.Rule.TheVariants.{SenseMissing, NeverWakes, MixedEdges, BlockingState, NonblockingComb, MixedAssign, SeveralDrivers, Undriven, CombLoop, DerivedClock, ClockAsData, LatchInferred, Tristate, ResetShape, ResetPolarity, AsyncPair, ResetValue, FullCase, ParallelCase, UnknownItem, UnknownLiteral, SelectRange, DivideVariable, CaseEquality, DelayIgnored, InitialIgnored, TranslateOff, XOptimism, WildSelector, TargetIndex, ListIndex, WholeSelect}
 
 -- what the table says of a rule: its code, its name, whether it is of the first grade, whether a waiver may set its findings
 -- aside, and whether agreement stands on it
@@ -28,7 +28,8 @@ abbrev pub strict : List ℕ → List ℕ → Line
 strict c name = record { code = c; name = name; first_grade = true; waivable = false; needed = true }
 
 -- a rule of the first grade on which agreement doesn't stand: one on what synthesis leaves out of the text, which the flat
--- design hasn't either, or on expressions that have one value where signals are known
+-- design hasn't either, on expressions that have one value where signals are known, or on text that another tool reads
+-- otherwise than the flat design
 abbrev pub apart : List ℕ → List ℕ → Line
 apart c name = record { code = c; name = name; first_grade = true; waivable = true; needed = false }
 
@@ -66,6 +67,9 @@ row_of InitialIgnored = apart (codes "D2") (codes "InitialIgnored")
 row_of TranslateOff = apart (codes "D3") (codes "TranslateOff")
 row_of XOptimism = second (codes "U1") (codes "XOptimism")
 row_of WildSelector = second (codes "U2") (codes "WildSelector")
+row_of TargetIndex = apart (codes "P5") (codes "TargetIndex")
+row_of ListIndex = apart (codes "P6") (codes "ListIndex")
+row_of WholeSelect = apart (codes "P12") (codes "WholeSelect")
 
 -- whether agreement stands on a rule
 abbrev pub is_needed : Rule → Bool

@@ -64,10 +64,16 @@ pub enum Rule {
     XOptimism,
     /// The selector or labels of a `casez` or `casex` that may read x.
     WildSelector,
+    /// A part of a concatenated target with a computed index.
+    TargetIndex,
+    /// An item of a list, without an edge, with a computed index.
+    ListIndex,
+    /// A part-select of all bits of a signed signal that is an amount or an index.
+    WholeSelect,
 }
 
 /// All rules, in the order of the table.
-pub const RULES: [Rule; 29] = [
+pub const RULES: [Rule; 32] = [
     Rule::SenseMissing,
     Rule::NeverWakes,
     Rule::MixedEdges,
@@ -97,6 +103,9 @@ pub const RULES: [Rule; 29] = [
     Rule::TranslateOff,
     Rule::XOptimism,
     Rule::WildSelector,
+    Rule::TargetIndex,
+    Rule::ListIndex,
+    Rule::WholeSelect,
 ];
 
 /// What the table says of a rule.
@@ -222,6 +231,9 @@ impl Rule {
             Rule::TranslateOff => apart("D3", "TranslateOff"),
             Rule::XOptimism => second("U1", "XOptimism"),
             Rule::WildSelector => second("U2", "WildSelector"),
+            Rule::TargetIndex => apart("P5", "TargetIndex"),
+            Rule::ListIndex => apart("P6", "ListIndex"),
+            Rule::WholeSelect => apart("P12", "WholeSelect"),
         }
     }
 
