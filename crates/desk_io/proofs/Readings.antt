@@ -4,9 +4,9 @@ use Rattle.std.proofs.lemmas.Bool.{cases_lt}
 use Rattle.std.proofs.lemmas.Bool.Decides.{nat_tests}
 use Rattle.std.proofs.lemmas.List.{length-replicate, length-take-le, take_all}
 use Rattle.std.specs.declared.alloc.Global.{Global}
-use Rattle.desk_io.specs.declared.shelf.TheConstants.{MAX_FILE_BYTES}
 use Rattle.desk_io.specs.declared.shelf.ShelfFault.{ShelfFault}
 use Rattle.desk_io.specs.declared.shelf.ShelfFault.TheVariants.{Failed, NoSuchFile, TooLong, Memory}
+use Rattle.desk_io.specs.Limits.{MAX_FILE_BYTES}
 use Rattle.desk_io.specs.Shelf.{IsReading, reading}
 
 -- a file that is not too long is read whole

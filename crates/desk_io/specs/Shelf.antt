@@ -2,7 +2,7 @@
 -- Worked examples: crates/tests_lines/src/outside.rt.
 use Rattle.std.specs.Prelude.{◌≡◌, ℕ, List, length, nat_le, bytes_eq, if◌then◌else◌, ⊤, Some, None, Ok, Err, Vec, Option, Result, IfSome}
 use Rattle.std.specs.declared.alloc.Global.{Global}
-use Rattle.desk_io.specs.declared.shelf.TheConstants.{MAX_FILE_BYTES}
+use Rattle.desk_io.specs.Limits.{MAX_FILE_BYTES}
 use Rattle.desk_io.specs.declared.shelf.ShelfFault.{ShelfFault}
 use Rattle.desk_io.specs.declared.shelf.ShelfFault.TheVariants.{Failed, NoSuchFile, TooLong, Memory}
 

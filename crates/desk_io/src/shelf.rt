@@ -2,6 +2,7 @@
 ghost use Rattle.std.specs.Prelude.{◌≡◌, ◌≤◌, ℕ, Option, vec_len, IfOk, IfSome, IfNone, IsErrOf};
 ghost use Rattle.desk_io.specs.declared.shelf.ShelfFault.TheVariants.{Memory};
 ghost use Rattle.desk_io.specs.Causes.{Rose};
+ghost use Rattle.desk_io.specs.Limits.{MAX_FILE_BYTES};
 ghost use Rattle.desk_io.specs.Shelf.{Files, IsCalm, IsReading, reading};
 
 mod files;
@@ -15,7 +16,7 @@ pub use opening::{Opener, SystemFiles};
 use std::alloc::AllocError;
 use thiserror::Error;
 
-/// The most bytes that a file may have.
+/// How many bytes a file may have.
 pub const MAX_FILE_BYTES: usize = 1 << 20;
 
 /// Why a file isn't read.

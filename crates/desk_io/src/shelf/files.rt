@@ -2,8 +2,8 @@
 ghost use Rattle.std.specs.Prelude.{◌≡◌, ◌≢◌, ◌≤◌, None, Err, vec_len, IfOk, IfSome, IsErrOf};
 ghost use Rattle.desk_io.specs.Causes.{Rose};
 ghost use Rattle.desk_io.specs.FileShelf.{fault_count, opener_of};
+ghost use Rattle.desk_io.specs.Limits.{MAX_FILE_BYTES};
 ghost use Rattle.desk_io.specs.Shelf.{IsReading, reading};
-ghost use Rattle.desk_io.specs.declared.shelf.TheConstants.{MAX_FILE_BYTES};
 
 use super::lengths::read_whole;
 use super::opening::Opener;

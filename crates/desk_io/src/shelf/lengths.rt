@@ -1,5 +1,6 @@
 // Whole files, up to the length that a file may have.
 ghost use Rattle.std.specs.Prelude.{◌≡◌, ◌≢◌, ◌≤◌, Some, Err, vec_len, IfSome, IfOk, IfErr};
+ghost use Rattle.desk_io.specs.Limits.{MAX_FILE_BYTES};
 ghost use Rattle.desk_io.specs.Shelf.{IsFreeFault, IsReading, reading};
 
 use super::{MAX_FILE_BYTES, ShelfFault};

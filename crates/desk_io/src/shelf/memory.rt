@@ -3,9 +3,9 @@ ghost use Rattle.std.specs.Prelude.{◌≡◌, ◌≢◌, ◌≤◌, ◌+◌, �
 ghost use Rattle.std.specs.BTreeMap.{get_by_text};
 ghost use Rattle.desk_io.specs.Calls.{after_call, next_fails};
 ghost use Rattle.desk_io.specs.Causes.{Rose};
+ghost use Rattle.desk_io.specs.Limits.{MAX_FILE_BYTES};
 ghost use Rattle.desk_io.specs.MemoryShelf.{held_files, schedule, fault_count};
 ghost use Rattle.desk_io.specs.Shelf.{IsReading, reading};
-ghost use Rattle.desk_io.specs.declared.shelf.TheConstants.{MAX_FILE_BYTES};
 
 use super::lengths::at_most;
 use super::{Shelf, ShelfFault};

@@ -1,0 +1,7 @@
+-- How long a file may be.
+-- Worked examples: crates/tests_lines/src/outside.rt.
+use Rattle.std.specs.Prelude.{ℕ}
+
+-- the bytes of a file
+abbrev pub MAX_FILE_BYTES : ℕ
+MAX_FILE_BYTES = 1048576
