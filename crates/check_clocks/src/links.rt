@@ -31,7 +31,7 @@ fn whole_of(e: &SizedExpr) -> Option<SigId>
 }
 
 /// The signal that an expression of one bit is.
-pub fn bit_named(value: &SizedExpr) -> Option<SigId>
+pub(crate) fn bit_named(value: &SizedExpr) -> Option<SigId>
     ensures { option_map (λ signal. signal.0) result ≡ bit_named (tree value.now) }
 {
     if value.width != 1 {
@@ -52,7 +52,7 @@ pub fn whole_target(target: &Target) -> Option<SigId>
 }
 
 /// Whether a signal is there with one bit.
-pub fn is_bit(design: &Design, signal: SigId) -> bool
+pub(crate) fn is_bit(design: &Design, signal: SigId) -> bool
     ensures { result ≡ (widths (flat design.now) signal.0 == 1) }
 {
     match design.signals.get(signal.0 as usize) {
@@ -62,7 +62,7 @@ pub fn is_bit(design: &Design, signal: SigId) -> bool
 }
 
 /// Whether a signal is there in another instance.
-pub fn is_elsewhere(design: &Design, instance: u32, signal: SigId) -> bool
+pub(crate) fn is_elsewhere(design: &Design, instance: u32, signal: SigId) -> bool
     ensures { result ≡ is_elsewhere instance (slice_get design.now.signals.items signal.0) }
 {
     match design.signals.get(signal.0 as usize) {
@@ -72,7 +72,7 @@ pub fn is_elsewhere(design: &Design, instance: u32, signal: SigId) -> bool
 }
 
 /// The link of a connection, if it goes from a signal of one bit to one of another instance.
-pub fn link_if(design: &Design, instance: u32, source: SigId, target: SigId) -> Option<Link>
+pub(crate) fn link_if(design: &Design, instance: u32, source: SigId, target: SigId) -> Option<Link>
     ensures { let holds = is_link (flat design.now) instance source.0 target.0 in
         result ≡ link_if holds source.0 target.0 }
 {
@@ -101,7 +101,7 @@ fn plain_link(design: &Design, process: &Process) -> Option<Link>
 }
 
 /// All plain connections.
-pub fn plain_links(alloc: Global, design: &Design) -> Result<Vec<Link>, Memory>
+pub(crate) fn plain_links(alloc: Global, design: &Design) -> Result<Vec<Link>, Memory>
     ensures { IfOk result (λ links.
         links.items ≡ filter_map (plain_of (flat design.now)) (flat design.now).tasks) }
 {

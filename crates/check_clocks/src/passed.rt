@@ -42,7 +42,7 @@ fn connection(design: &Design, instance: u32, reads: &[Row], target: &Target) ->
 }
 
 /// The link of a process, if it is the connection of a port that reads one signal alone.
-pub fn passing_link(scans: &Scans, p: ProcId) -> Option<Link>
+pub(crate) fn passing_link(scans: &Scans, p: ProcId) -> Option<Link>
     requires scans { AreScans scans.now }
     requires there { p.0 < length scans.now.design.now.processes.items }
     ensures { let d = flat scans.now.design.now in

@@ -95,7 +95,7 @@ pub struct Roles {
 
 impl Roles {
     /// Whether a top input is a clock and a reset.
-    pub fn has_both(&self, top: u32) -> bool
+    pub(crate) fn has_both(&self, top: u32) -> bool
         ensures { result ≡ has_both self.now.clocks.items self.now.resets.items top }
     {
         is_marked(&self.clocks, top) && is_marked(&self.resets, top)

@@ -25,7 +25,7 @@ use std::alloc::Global;
 /// Two searches put the nodes into groups that reach one another, and a look at each arrow shows that none leads
 /// back to an earlier group. That takes time in proportion to the arrows. Were a group wrong, which no proof rules
 /// out, each node would be searched by itself.
-pub fn on_cycles(alloc: Global, rows: &[Vec<u32>]) -> Result<Vec<bool>, Memory>
+pub(crate) fn on_cycles(alloc: Global, rows: &[Vec<u32>]) -> Result<Vec<bool>, Memory>
     requires { AreRows rows.now }
     ensures { IfOk result (λ answers. AreOnCycles rows.now answers.items) }
 {

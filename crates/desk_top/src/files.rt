@@ -13,7 +13,7 @@ use source_file::SourceFile;
 use std::alloc::Global;
 
 /// The files of these names, read one after the other up to the first that isn't had.
-pub fn read_sources<F: Shelf>(
+pub(crate) fn read_sources<F: Shelf>(
     alloc: Global,
     names: &[String],
     shelf: &mut F,
