@@ -1,7 +1,7 @@
 -- The breadths of trees that hold vectors.
 use Rattle.std.specs.Prelude.{ℕ, List, ◌++◌, map, Vec, Box, Option}
 use Rattle.std.specs.declared.alloc.Global.{Global}
-use Rattle.std.proofs.Common.{◌≡◌, ◌∙◌, ap, refl, arith}
+use Rattle.std.proofs.Common.{◌≡◌, ◌∙◌, ap, refl, sym, arith}
 use Rattle.std.proofs.lemmas.Bool.Decides.{nat_tests}
 use Rattle.rtl_tree.specs.declared.tree.expr.Expr.{Expr}
 use Rattle.rtl_tree.specs.declared.tree.expr.Expr.TheVariants as expr
@@ -69,20 +69,20 @@ row_alone scope no_formulas = refl
 row_alone scope (more_formulas first others) = none_beside (breadth scope first) (row_breadth scope others)
 
 -- what is told after the faults of a concatenation
-pub concat_told : (scope : Meanings) (best : Option Refusal) (at : ℕ) (parts : Vec Expr Global) (e : Expr) → e ≡ expr.Concat at parts → after best (faults scope (formula e)) ≡ after (after best (row_faults scope (formula_row (map formula parts.items)))) (width_faults at (fit (row_breadth scope (formula_row (map formula parts.items)))))
+pub concat_told : (scope : Meanings) (best : Option Refusal) (at : ℕ) (parts : Vec Expr Global) (e : Expr) → e ≡ expr.Concat at parts → after best (faults scope (formula e)) ≡ after best (row_faults scope (formula_row (map formula parts.items)) ++ width_faults at (fit (row_breadth scope (formula_row (map formula parts.items)))))
 concat_told scope best at parts e is =
-    let row : Formulas = formula_row (map formula parts.items) in
     ap (λ e. after best (faults scope (formula e))) is
     ∙ ap (λ e. after best (faults scope e)) (concat_is at parts)
-    ∙ after_append best (row_faults scope row) (width_faults at (fit (row_breadth scope row)))
 
-pub repeat_told : (scope : Meanings) (best : Option Refusal) (at : ℕ) (times : Box Expr Global) (parts : Vec Expr Global) (e : Expr) → e ≡ expr.Repeat at times parts → after best (faults scope (formula e)) ≡ after (after (after (after best (faults scope (formula times.value))) (times_faults at (constant (numbers_in scope) (formula times.value)))) (row_faults scope (formula_row (map formula parts.items)))) (width_faults at (repeated (constant (numbers_in scope) (formula times.value)) (fit (row_breadth scope (formula_row (map formula parts.items))))))
+pub repeat_told : (scope : Meanings) (best : Option Refusal) (at : ℕ) (times : Box Expr Global) (parts : Vec Expr Global) (e : Expr) → e ≡ expr.Repeat at times parts → after best (faults scope (formula e)) ≡ after (after (after best (faults scope (formula times.value))) (times_faults at (constant (numbers_in scope) (formula times.value)))) (row_faults scope (formula_row (map formula parts.items)) ++ width_faults at (repeated (constant (numbers_in scope) (formula times.value)) (fit (row_breadth scope (formula_row (map formula parts.items))))))
 repeat_told scope best at times parts e is =
     let row : Formulas = formula_row (map formula parts.items) in
     let count : List Refusal = times_faults at (constant (numbers_in scope) (formula times.value)) in
     let own : List Refusal = width_faults at (repeated (constant (numbers_in scope) (formula times.value)) (fit (row_breadth scope row))) in
+    let counted : Option Refusal = after (after best (faults scope (formula times.value))) count in
     ap (λ e. after best (faults scope (formula e))) is
     ∙ ap (λ e. after best (faults scope e)) (repeat_is at times parts)
     ∙ after_append best ((faults scope (formula times.value) ++ count) ++ row_faults scope row) own
     ∙ ap (λ best. after best own) (after_append best (faults scope (formula times.value) ++ count) (row_faults scope row))
     ∙ ap (λ best. after (after best (row_faults scope row)) own) (after_append best (faults scope (formula times.value)) count)
+    ∙ sym (after_append counted (row_faults scope row) own)

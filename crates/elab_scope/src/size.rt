@@ -1,12 +1,13 @@
 //! Sized trees of expressions, in one walk from the root downwards.
 
-ghost use Rattle.std.specs.Prelude.{◌≡◌, ◌≤◌, IfOk, map};
+ghost use Rattle.std.specs.Prelude.{◌≡◌, ◌≤◌, IfOk, false, map};
 ghost use Rattle.rtl_const.specs.Constant.{constant};
-ghost use Rattle.rtl_flat.specs.Expression.{Sized, bit, form, tree};
-ghost use Rattle.rtl_tree.specs.TreeExpr.{formula, formula_row};
+ghost use Rattle.rtl_flat.specs.Expression.{Recast, Repeated, Sized, bit, form, tree};
+ghost use Rattle.rtl_tree.specs.TreeExpr.{Read, ReadBit, ReadPart, Unary, formula, formula_row, identifier};
 ghost use Rattle.elab_scope.specs.Names.{meanings, numbers_in};
-ghost use Rattle.elab_scope.specs.Own.{sign};
+ghost use Rattle.elab_scope.specs.Own.{row_breadth, sign};
 ghost use Rattle.elab_scope.specs.Trees.{bit_form, copies_of, field_in, low_of, named_form, operation_form, own_context, part_form, prefix_form, row_tree, signal_of, spot_in, tree_of};
+ghost use Rattle.elab_scope.specs.Widths.{bits, fit};
 
 use crate::context::{Context, left_context, operand_context, own_context, right_context};
 use crate::known::Known;
@@ -21,6 +22,8 @@ use rtl_flat::expr::{Index, Node, Select, SigId, SizedExpr};
 use rtl_tree::memory::Memory;
 use rtl_tree::text::Spot;
 use rtl_tree::tree::expr::Expr;
+use rtl_tree::tree::names::Name;
+use rtl_tree::tree::operators::UnaryOperator;
 use std::alloc::Global;
 
 /// Where expressions stand.
@@ -152,9 +155,39 @@ fn sized(site: Site, at: u32, context: Context, node: Node) -> SizedExpr
     }
 }
 
+/// A name that is read whole.
+fn sized_name(name: &Name, context: Context, names: &Names, site: Site) -> SizedExpr
+    requires not_empty { 1 ≤ context.width }
+    requires at_most { context.width ≤ 128 }
+    ensures tree { tree result
+        ≡ tree_of site.file site.base (meanings names.now) (Read (identifier name.now)) context }
+    ensures signed { result.signed ≡ context.signed }
+{
+    let node = named(names.find(&name.text), context, site.base);
+    sized(site, name.at, context, node)
+}
+
+/// A part that is selected.
+fn sized_part(
+    name: &Name,
+    msb: &Expr,
+    lsb: &Expr,
+    context: Context,
+    names: &Names,
+    site: Site,
+) -> SizedExpr
+    ensures tree { tree result ≡ tree_of site.file site.base (meanings names.now)
+        (ReadPart (identifier name.now) (formula msb.now) (formula lsb.now)) context }
+    ensures signed { result.signed ≡ context.signed }
+{
+    let known = names.find(&name.text);
+    let field = field_in(known, constant(msb, names), constant(lsb, names));
+    sized(site, name.at, context, part(known, field, site.base))
+}
+
 /// The tree of an expression in a context.
 #[cycle(size)]
-#[tactic(auto, using(crate::proofs::Nodes::concat_tree, crate::proofs::Nodes::repeat_tree))]
+#[tactic(auto, using(crate::proofs::Nodes::concat_tree))]
 pub fn size(e: &Expr, context: Context, names: &Names, site: Site) -> Result<SizedExpr, Memory>
     requires not_empty { 1 ≤ context.width }
     requires at_most { context.width ≤ 128 }
@@ -167,44 +200,17 @@ pub fn size(e: &Expr, context: Context, names: &Names, site: Site) -> Result<Siz
             let bits = literals::literal(value, context.width, context.signed);
             Ok(sized(site, *at, context, Node::Literal(bits)))
         }
-        Expr::Read(name) => {
-            let node = named(names.find(&name.text), context, site.base);
-            Ok(sized(site, name.at, context, node))
-        }
-        Expr::ReadBit(name, index) => {
-            let node = bit(index, names.find(&name.text), names, site)?;
-            Ok(sized(site, name.at, context, node))
-        }
-        Expr::ReadPart(name, msb, lsb) => {
-            let known = names.find(&name.text);
-            let field = field_in(known, constant(msb, names), constant(lsb, names));
-            Ok(sized(site, name.at, context, part(known, field, site.base)))
-        }
+        Expr::Read(name) => Ok(sized_name(name, context, names, site)),
+        Expr::ReadBit(name, index) => sized_bit(name, index, context, names, site),
+        Expr::ReadPart(name, msb, lsb) => Ok(sized_part(name, msb, lsb, context, names, site)),
         Expr::Parens(_, inner) => size(inner, context, names, site),
-        Expr::Convert(_, at, inner) => {
-            let node = Node::Recast(boxed(inner, own_context(inner, names), names, site)?);
-            Ok(sized(site, *at, context, node))
-        }
-        Expr::Concat(at, parts) => {
-            let node = row(parts, names, site)?;
-            Ok(sized(site, *at, context, node))
-        }
+        Expr::Convert(_, at, inner) => Ok(sized(site, *at, context, recast(inner, names, site)?)),
+        Expr::Concat(at, parts) => Ok(sized(site, *at, context, row(parts, names, site)?)),
         Expr::Repeat(at, times, parts) => {
-            let row = row(parts, names, site)?;
-            let own = Context {
-                width: row_breadth(parts, names).fit().bits(),
-                signed: false,
-            };
-            let copied = Box::new(site.alloc, sized(site, *at, own, row))?;
-            let node = Node::Repeated(copies_of(constant(times, names)), copied);
-            Ok(sized(site, *at, context, node))
+            let copies = copies_of(constant(times, names));
+            repeated(copies, *at, parts, context, names, site)
         }
-        Expr::Unary(operator, at, a) => {
-            let operator = unary(*operator);
-            let own = operand_context(operator, a, context, names);
-            let node = prefixed(operator, boxed(a, own, names, site)?);
-            Ok(sized(site, *at, context, node))
-        }
+        Expr::Unary(operator, at, a) => applied(*operator, *at, a, context, names, site),
         Expr::Binary(operator, at, a, b) => {
             let operator = binary(*operator);
             let left = left_context(operator, a, b, context, names);
@@ -221,6 +227,83 @@ pub fn size(e: &Expr, context: Context, names: &Names, site: Site) -> Result<Siz
             Ok(sized(site, *at, context, node))
         }
     }
+}
+
+/// A bit that is selected.
+#[cycle(size)]
+fn sized_bit(
+    name: &Name,
+    index: &Expr,
+    context: Context,
+    names: &Names,
+    site: Site,
+) -> Result<SizedExpr, Memory>
+    ensures tree { IfOk result (λ made. tree made ≡ tree_of site.file site.base (meanings names.now)
+        (ReadBit (identifier name.now) (formula index.now)) context) }
+    ensures signed { IfOk result (λ made. made.signed ≡ context.signed) }
+{
+    let node = bit(index, names.find(&name.text), names, site)?;
+    Ok(sized(site, name.at, context, node))
+}
+
+/// An expression that is sized by itself, where its sign is converted.
+#[cycle(size)]
+fn recast(inner: &Expr, names: &Names, site: Site) -> Result<Node, Memory>
+    ensures { IfOk result (λ made. form made
+        ≡ Recast (tree_of site.file site.base (meanings names.now) (formula inner.now)
+        (own_context (meanings names.now) (formula inner.now)))) }
+{
+    let inner = boxed(inner, own_context(inner, names), names, site)?;
+    Ok(Node::Recast(inner))
+}
+
+/// Copies of parts beside one another.
+#[cycle(size)]
+fn repeated(
+    copies: u32,
+    at: u32,
+    parts: &[Expr],
+    context: Context,
+    names: &Names,
+    site: Site,
+) -> Result<SizedExpr, Memory>
+    ensures tree { let parts = formula_row (map formula parts.now) in
+        let width = bits (fit (row_breadth (meanings names.now) parts)) in
+        let row = row_tree site.file site.base (meanings names.now) parts in
+        let spot = spot_in site.file at in
+        IfOk result (λ made. tree made
+        ≡ Sized context.width context.signed spot (Repeated copies (Sized width false spot row))) }
+    ensures signed { IfOk result (λ made. made.signed ≡ context.signed) }
+{
+    let row = row(parts, names, site)?;
+    let own = Context {
+        width: row_breadth(parts, names).fit().bits(),
+        signed: false,
+    };
+    let copied = Box::new(site.alloc, sized(site, at, own, row))?;
+    Ok(sized(site, at, context, Node::Repeated(copies, copied)))
+}
+
+/// An operator before its operand.
+#[cycle(size)]
+fn applied(
+    operator: UnaryOperator,
+    at: u32,
+    a: &Expr,
+    context: Context,
+    names: &Names,
+    site: Site,
+) -> Result<SizedExpr, Memory>
+    requires not_empty { 1 ≤ context.width }
+    requires at_most { context.width ≤ 128 }
+    ensures tree { IfOk result (λ made. tree made ≡ tree_of site.file site.base (meanings names.now)
+        (Unary operator at (formula a.now)) context) }
+    ensures signed { IfOk result (λ made. made.signed ≡ context.signed) }
+{
+    let operator = unary(operator);
+    let own = operand_context(operator, a, context, names);
+    let node = prefixed(operator, boxed(a, own, names, site)?);
+    Ok(sized(site, at, context, node))
 }
 
 /// The boxed tree of an operand.

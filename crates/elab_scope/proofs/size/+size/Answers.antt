@@ -16,7 +16,7 @@ pub row-returns : goal.row-returns
 row-returns t c =
     row_done c.args.site.file c.args.site.base (meanings c.args.names.now) c.args.parts.now c.loop-part.part-index c.loop-part.made (omega arith) c.loop-part.invariant
 
-pub size-returns-in_ok-copied-in-Repeat-clause-tree : goal.size-returns-in_ok-copied-in-Repeat-clause-tree
-size-returns-in_ok-copied-in-Repeat-clause-tree t c =
+pub size-returns-in-Repeat-clause-tree : goal.size-returns-in-Repeat-clause-tree
+size-returns-in-Repeat-clause-tree t c =
     let told = repeat_tree c.args.site.file c.args.site.base (meanings c.args.names.now) c.args.context c.in-Repeat.at c.in-Repeat.times c.in-Repeat.parts c.args.e.now c.in-Repeat.is in
     grind (arith, common_steps, told)
