@@ -1,21 +1,23 @@
--- Every bring-up ends in a settled state: its inputs are set, and its registers have the constants of their resets.
-use Rattle.std.proofs.Common.{◌≡◌, ◌≢◌, ◌∙◌, ◌⊎◌, ◌≤◌, ◌==◌, ℕ, true, false, List, [], ◌∷◌, length, get_or, Option, Some, refl, sym, ap, subst, inl, inr, arith}
-use Rattle.std.specs.Prelude.{unwrap_or}
+-- Steps from power-up end in a settled state where inputs and registers are known. So they are after every bring-up: inputs
+-- are set, and registers have the constants of their resets.
+use Rattle.std.proofs.Common.{◌≡◌, ◌≢◌, ◌∙◌, ◌⊎◌, ◌≤◌, ◌==◌, ℕ, true, false, List, [], ◌∷◌, length, get_or, Option, None, Some, refl, sym, ap, subst, inl, inr, arith}
+use Rattle.std.specs.Prelude.{IsTrue, unwrap_or}
 use Rattle.std.specs.List.{All, list_any}
-use Rattle.std.proofs.lemmas.Bool.{cases_eq, false≢true, ne_eqb, or_cases}
-use Rattle.std.proofs.lemmas.List.Elements.{All-cons, All-head, All-nil, All-tail}
+use Rattle.std.proofs.lemmas.Bool.{cases_Bool, cases_eq, cond-false, cond-true, false≢true, ne_eqb, or_cases}
+use Rattle.std.proofs.lemmas.List.Elements.{All-head, All-tail}
 use Rattle.rtl_bits.specs.declared.Bit.{Bit}
 use Rattle.rtl_bits.specs.declared.Bit.TheVariants.{X}
 use Rattle.rtl_bits.specs.Bit.{is_unknown}
 use Rattle.rtl_bits.specs.Bits.{has_unknown}
 use Rattle.rtl_flat.specs.Process.{Watched, Actions, Edge'}
-use Rattle.event_model.specs.Queue.{State, IsAtRest, doing_at, offer, power_up, run}
+use Rattle.event_model.specs.Queue.{State, IsAtRest, doing_at, is_input, offer, power_up, run}
 use Rattle.rtl_flat.specs.Flats.{Flat, widths}
 use Rattle.event_model.specs.Writes.{Values, put}
 use Rattle.event_edges.proofs.event_laws_proofs.Lengths.{put_at, put_other}
+use Rattle.event_edges.proofs.event_laws_proofs.Unheard.{same_bits}
 use Rattle.net_model.specs.declared.fill.Fill.{Fill}
 use Rattle.net_model.specs.Block.{block_bit}
-use Rattle.net_model.specs.Cycle.{Chain, Guard, Setting, given_after, level}
+use Rattle.net_model.specs.Cycle.{Chain, Guard, Setting, given_after, is_active, level, strongest}
 use Rattle.net_model.specs.Numbers.{AreNumbers, bit}
 use Rattle.net_model.specs.Solution.{IsRegisterBit}
 use Rattle.event_edges.specs.event_runs.Nets.{AreDriven, AreOffered, AreResolved, given_with}
@@ -37,12 +39,12 @@ use Rattle.event_edges.proofs.Cone.{item_clock}
 use Rattle.event_edges.proofs.Laws.{resets_set, set_at_rest}
 use Rattle.event_edges.proofs.Ports.{follows, one_bit}
 use Rattle.sign_cycles.specs.Agree.{AreReset, AreRuns, IsSettledKnown}
+use Rattle.sign_cycles.specs.Known.{AreKnown, KnownSettlesClean}
 use Rattle.sign_cycles.specs.BringUp.{HaveResets, IsAtLevel, IsBringUp, SetsInput, given_by, last, sets}
 use Rattle.sign_cycles.specs.Formed.{IsCleanClocked}
 use Rattle.sign_cycles.specs.Laws.{BringsUpClean}
-use Rattle.sign_cycles.proofs.Chains.{strongest_is}
 use Rattle.sign_cycles.proofs.DataSteps.{given_pairs, pairs}
-use Rattle.sign_cycles.proofs.Edges.{clock_bit, settled_known}
+use Rattle.sign_cycles.proofs.Edges.{clock_bit, item_lasts, settled_known}
 use Rattle.sign_cycles.proofs.Resets as reset
 
 -- ---- what inputs are set to
@@ -178,6 +180,89 @@ module _ (d : Flat) (chains : ℕ → Chain) (level_of : ℕ → ℕ) (clean : I
 
   -- ---- where they come to rest
 
+  -- inputs have what they were given
+  input_is :
+      (given : Values) (t : State) → IsRising d given t → IsAtRest d t →
+      (i : ℕ) → IsTrue (is_input d i) → t.value i ≡ given i
+  input_is given t rising rest i input =
+      ap (λ (o : Option (List Bit)). unwrap_or o (t.value i)) (sym (rest.no_active.inputs i input))
+      ∙ rising.offered.comes i input
+
+  -- the strongest reset of a process that has one at most is its only one, and active
+  only_one :
+      (n : Values) (resets : List Guard) → length resets ≤ 1 → (guard : Guard) → strongest n resets ≡ Some guard →
+      (resets ≡ guard ∷ []) × (is_active n guard.item ≡ true)
+  only_one n [] one guard found = absurd (cc)
+  only_one n (first ∷ other ∷ others) one guard found = absurd (omega (arith, one))
+  only_one n (first ∷ []) one guard found =
+      elim (cases_Bool (is_active n first.item)) [
+        | inl on ↦
+            let chosen : Some first ≡ Some guard = sym (cond-true (is_active n first.item) (Some first) None on) ∙ found in
+            let same : first ≡ guard = cc in
+            (ap (λ (one : Guard). one ∷ []) same, ap (λ (one : Guard). is_active n one.item) (sym same) ∙ on)
+        | inr off ↦
+            let none : ◌≡◌ {A = Option Guard} None (Some guard) = sym (cond-false (is_active n first.item) (Some first) None off) ∙ found in
+            absurd (cc)
+      ]
+
+  -- registers whose resets are active have their constants
+  resets_hold :
+      (f : Fill) (given : Values) (t : State) → IsRising d given t →
+      (n : Values) → IsSettled d f t n → AreReset d chains f n
+  resets_hold f given t rising n settled p events body does guard found i k may lasts =
+      let formed = clean.formed p events body does in
+      let (only, active) = only_one n (chains p).resets formed.one_reset guard found in
+      let item = reset.item d chains level_of clean f p events body does guard only in
+      let at_level : bit t.value guard.item.signal 0 ≡ level guard.item.edge =
+      settled.shows guard.item.signal 0 (item_lasts d chains level_of clean p events body does guard.item item)
+      ∙ same_bits (bit n guard.item.signal 0) (level guard.item.edge) active in
+      let constant = block_bit (widths d) f n guard.branch i k in
+      let is = reset.is_reset d chains level_of clean f p events body does guard only n settled.solution.numbers i k may lasts in
+      sym (settled.shows i k lasts)
+      ∙ set_at_rest d clean.solvable.lawful p guard.item.signal (level guard.item.edge) i k constant is t settled.rest
+      (rising.set p guard.item.signal (level guard.item.edge) i k constant is) at_level
+
+  -- so a state whose inputs and registers are known is settled
+  known_settled :
+      CanAllWake d → (f : Fill) (steps : List (List Setting)) → steps ≢ [] → All (All (SetsInput d)) steps →
+      (states : List State) → AreRuns d (power_up d) steps states → AreKnown d (last (power_up d) states).value →
+      IsSettledKnown d chains f (last (power_up d) states) (numbers_of d f (last (power_up d) states).value)
+  known_settled wakes f steps some set states runs known =
+      settled_known d chains f t (numbers_of d f t.value) settled
+      (resets_hold f given t rising (numbers_of d f t.value) settled)
+    where
+      t : State
+      t = last (power_up d) states
+
+      given : Values
+      given = given_by (power_up d).value steps
+
+      rising : IsRising d given t
+      rising = rises (power_up d).value (power_up d) steps set states runs begins
+
+      rest : IsAtRest d t
+      rest = some_rest d (power_up d) steps some states runs
+
+      all : AreTheRounds d (power_up d) steps t
+      all = the_rounds d (power_up d) steps set states runs
+
+      settled : IsSettled d f t (numbers_of d f t.value)
+      settled =
+          subst (λ (u : State). IsSettled d f u (numbers_of d f u.value)) all.ends
+          (round.brings_up d level_of clean.solvable wakes f all.rounds
+          (record {
+            can = all.can;
+            rest = subst (IsAtRest d) (sym all.ends) rest;
+            inputs = λ i input.
+                ap (λ (v : Values). has_unknown (v i)) (all.given (power_up d).value)
+                ∙ ap has_unknown (sym (input_is given t rising rest i input))
+                ∙ known.inputs i input;
+            registers = λ i k register.
+                ap (λ (u : State). is_unknown (bit u.value i k)) all.ends ∙ known.registers i k register;
+          }))
+
+  -- ---- after a bring-up
+
   -- the one reset of a process that has some
   one_guard : (resets : List Guard) → length resets ≤ 1 → resets ≢ [] → (guard : Guard) × (resets ≡ guard ∷ [])
   one_guard [] one some = absurd (some refl)
@@ -207,7 +292,7 @@ module _ (d : Flat) (chains : ℕ → Chain) (level_of : ℕ → ℕ) (clean : I
           let top = clean.synchronous.clocks p register.events register.body guard.item item in
           let top_clock = item_clock d clean.synchronous p register.events register.body guard.item item top.top top.input top.reached in
           let there = All-head (IsAtLevel d given) guard [] (subst (All (IsAtLevel d given)) guarded.1 (levels p register.events register.body register.does)) in
-          let value_is : t.value top.top ≡ given top.top = ap (λ (o : Option (List Bit)). unwrap_or o (t.value top.top)) (sym (rest.no_active.inputs top.top top.input)) ∙ rising.offered.comes top.top top.input in
+          let value_is : t.value top.top ≡ given top.top = input_is given t rising rest top.top top.input in
           let start : t.value top.top ≡ level guard.item.edge ∷ [] =
           one_bit (t.value top.top) (level guard.item.edge) (rising.orderly.steady.widths top.top ∙ clock_bit d clean.synchronous top.top top_clock)
           (ap (λ (bits : List Bit). get_or bits 0 X) value_is ∙ there top.top top.input top.reached) in
@@ -229,53 +314,34 @@ module _ (d : Flat) (chains : ℕ → Chain) (level_of : ℕ → ℕ) (clean : I
           ∙ block_known d f n guard.branch i k (are_numbers d f t.value)
           (reset.branch d chains level_of clean f p register.events register.body register.does guard guarded.1).lawful (register_inside d level_of clean.solvable i k register)
 
-    resets_hold : (n : Values) → IsSettled d f t n → AreReset d chains f n
-    resets_hold n settled q events body is first found i k may lasts =
-        let register : IsRegisterBit d i k = record { process = q; events = events; body = body; does = is; may = may; lasting = lasts } in
-        let holds : bit n i k ≡ block_bit (widths d) f n (guard i k register).branch i k = sym (settled.shows i k lasts) ∙ has_constant i k register n settled.solution.numbers in
-        let all = All-cons (λ (one : Guard). bit n i k ≡ block_bit (widths d) f n one.branch i k) (guard i k register) [] holds (All-nil (λ (one : Guard). bit n i k ≡ block_bit (widths d) f n one.branch i k)) in
-        strongest_is d (λ (one : Guard). bit n i k ≡ block_bit (widths d) f n one.branch i k) n (chains q).resets
-        (subst (All (λ (one : Guard). bit n i k ≡ block_bit (widths d) f n one.branch i k)) (sym (guarded i k register).1) all) first found
+  bring_up_known :
+      HaveResets d chains → (f : Fill) (steps : List (List Setting)) → IsBringUp d chains steps →
+      (states : List State) → AreRuns d (power_up d) steps states → AreKnown d (last (power_up d) states).value
+  bring_up_known have f steps is states runs =
+      let given = given_by (power_up d).value steps in
+      let t = last (power_up d) states in
+      let rising : IsRising d given t = rises (power_up d).value (power_up d) steps is.settings states runs begins in
+      let rest : IsAtRest d t = some_rest d (power_up d) steps is.some_step states runs in
+      record {
+        inputs = λ i input.
+            ap has_unknown (input_is given t rising rest i input)
+            ∙ steps_known d (power_up d).value steps is.settings i (inl (is.all_set i input));
+        registers = λ i k register. register_known have f given t rising rest is.resets i k register;
+      }
 
-  brought_up :
-      CanAllWake d → HaveResets d chains → (f : Fill) (steps : List (List Setting)) → IsBringUp d chains steps → (states : List State) → AreRuns d (power_up d) steps states →
-      IsSettledKnown d chains f (last (power_up d) states) (numbers_of d f (last (power_up d) states).value)
-  brought_up wakes have f steps is states runs =
-      settled_known d chains f t (numbers_of d f t.value) settled (resets_hold have f given t rising rest is.resets (numbers_of d f t.value) settled)
-    where
-      t : State
-      t = last (power_up d) states
-
-      given : Values
-      given = given_by (power_up d).value steps
-
-      rising : IsRising d given t
-      rising = rises (power_up d).value (power_up d) steps is.settings states runs begins
-
-      rest : IsAtRest d t
-      rest = some_rest d (power_up d) steps is.some_step states runs
-
-      all : AreTheRounds d (power_up d) steps t
-      all = the_rounds d (power_up d) steps is.settings states runs
-
-      settled : IsSettled d f t (numbers_of d f t.value)
-      settled =
-          subst (λ (u : State). IsSettled d f u (numbers_of d f u.value)) all.ends
-          (round.brings_up d level_of clean.solvable wakes f all.rounds
-          (record {
-            can = all.can;
-            rest = subst (IsAtRest d) (sym all.ends) rest;
-            inputs = λ i input.
-                ap (λ (v : Values). has_unknown (v i)) (all.given (power_up d).value)
-                ∙ steps_known d (power_up d).value steps is.settings i (inl (is.all_set i input));
-            registers = λ i k register.
-                ap (λ (u : State). is_unknown (bit u.value i k)) all.ends
-                ∙ register_known have f given t rising rest is.resets i k register;
-          }))
+pub known_settles : (d : Flat) (chains : ℕ → Chain) (level_of : ℕ → ℕ) → KnownSettlesClean d chains level_of
+known_settles d chains level_of clean wakes f =
+    record {
+      settles = λ steps some set states runs known. (
+        numbers_of d f (last (power_up d) states).value,
+        known_settled d chains level_of clean wakes f steps some set states runs known,
+      );
+    }
 
 pub brings_up : (d : Flat) (chains : ℕ → Chain) (level_of : ℕ → ℕ) → BringsUpClean d chains level_of
 brings_up d chains level_of clean wakes have f =
     record {
       settles = λ steps is states runs.
-          (numbers_of d f (last (power_up d) states).value, brought_up d chains level_of clean wakes have f steps is states runs);
+          (known_settles d chains level_of clean wakes f).settles steps is.some_step is.settings states runs
+          (bring_up_known d chains level_of clean have f steps is states runs);
     }

@@ -188,10 +188,10 @@ no_assign p target e is =
     let kinds : Assign target e ≡ Edge' list body = (one_process p (Assign target e) is).1 in
     cc (kinds)
 
-no_comb : (p : ℕ) (l : Option (List Watched)) (b : Actions) → doing_at design p ≡ Some (Comb l b) → ⊥
+pub no_comb : (p : ℕ) (l : Option (List Watched)) (b : Actions) → doing_at design p ≡ Some (Comb l b) → ⊥
 no_comb p l b is = let kinds : Comb l b ≡ Edge' list body = (one_process p (Comb l b) is).1 in cc (kinds)
 
-solvable : IsSolvable design (λ p. 0)
+pub solvable : IsSolvable design (λ p. 0)
 solvable =
     record {
       lawful = lawful;
@@ -259,7 +259,7 @@ its_form p events b is =
     subst (λ l. IsFormed design l b chain) (sym (own p events b is).0)
     (subst (λ x. IsFormed design list x chain) (sym (own p events b is).1) formed)
 
-clean : IsCleanClocked design (λ p. chain) (λ p. 0)
+pub clean : IsCleanClocked design (λ p. chain) (λ p. 0)
 clean = record { solvable = solvable; synchronous = synchronous; formed = its_form }
 
 -- ---- so the laws hold of it

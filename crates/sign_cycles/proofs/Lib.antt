@@ -5,6 +5,7 @@ mod Clean
 pub mod DataSteps
 pub mod Edges
 pub mod Followed
+mod KnownExample
 pub mod Lists
 mod Register
 pub mod Resets

@@ -39,7 +39,7 @@ use Rattle.sign_cycles.specs.BringUp.{IsAtLevel, IsBringUp, SetsInput, given_by,
 pub spot : Spot
 spot = record { file = 0; at = 0 }
 
-abbrev signal : Kind → Bool → Signal
+abbrev pub signal : Kind → Bool → Signal
 signal kind output =
     record { path = []; width = 1; signed = false; low = 0; kind = kind; top_output = output; instance = 0; spot = spot }
 
@@ -129,7 +129,7 @@ first_known (suc (suc zero)) = refl
 first_known (suc (suc (suc zero))) = refl
 first_known (suc (suc (suc (suc i)))) = refl
 
-one_bit : (b : Bit) → is_unknown b ≡ false → (k : ℕ) → k < 1 → is_unknown (slice_index_or (b ∷ []) k X) ≡ false
+pub one_bit : (b : Bit) → is_unknown b ≡ false → (k : ℕ) → k < 1 → is_unknown (slice_index_or (b ∷ []) k X) ≡ false
 one_bit b known zero below = known
 one_bit b known (suc k) below = absurd (omega (arith, below))
 
@@ -225,7 +225,7 @@ shows_one = refl
 some_delayed : (us : List Write) (others : List (List Write)) → ◌≢◌ {A = List (List Write)} (us ∷ others) []
 some_delayed us others h = omega (arith, ap (λ (all : List (List Write)). length all) h)
 
-none_offered : (o : ℕ → Option (List Bit)) → o 0 ≡ None → o 1 ≡ None → o 2 ≡ None → (i : ℕ) → IsTrue (is_input design i) → o i ≡ None
+pub none_offered : (o : ℕ → Option (List Bit)) → o 0 ≡ None → o 1 ≡ None → o 2 ≡ None → (i : ℕ) → IsTrue (is_input design i) → o i ≡ None
 none_offered o clk rst a zero is = clk
 none_offered o clk rst a (suc zero) is = rst
 none_offered o clk rst a (suc (suc zero)) is = a
@@ -236,7 +236,7 @@ none_assigned : (p : ℕ) → is_assignment (doing_at design p) ≡ false
 none_assigned zero = refl
 none_assigned (suc p) = refl
 
-all_wait : (woken : ℕ → Bool) → woken 0 ≡ false → (p : ℕ) → IsSome (doing_at design p) → woken p ≡ false
+pub all_wait : (woken : ℕ → Bool) → woken 0 ≡ false → (p : ℕ) → IsSome (doing_at design p) → woken p ≡ false
 all_wait woken waits zero there = waits
 all_wait woken waits (suc p) there = absurd (false≢true there)
 
@@ -277,7 +277,7 @@ rises_next =
 
 -- ---- a bring-up: one step that sets all inputs, with the reset active
 
-abbrev set_to : ℕ → Bit → Setting
+abbrev pub set_to : ℕ → Bit → Setting
 set_to i b = record { input = i; number = b ∷ [] }
 
 abbrev all_set : List Setting

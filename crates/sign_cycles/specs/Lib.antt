@@ -1,6 +1,7 @@
 pub mod Agree
 pub mod BringUp
 pub mod Formed
+pub mod Known
 pub mod Laws
 pub mod PowerUp
 pub mod Round

@@ -7,6 +7,7 @@ ghost use Rattle.net_model.specs.Cycle.{Chain};
 ghost use Rattle.net_rest.specs.Rest.{IsSolvable};
 ghost use Rattle.sign_cycles.specs.Agree.{Agree};
 ghost use Rattle.sign_cycles.specs.Formed.{IsCleanClocked};
+ghost use Rattle.sign_cycles.specs.Known.{KnownSettlesClean};
 ghost use Rattle.sign_cycles.specs.Laws.{BringsUpClean, DataFollows, DataStaysKnown, KnownForBoth, RegistersAre, SettlesBoth, StepsAreAlone, StepsFollow, TurnsFollow};
 
 /// Where each step from a settled state leads to numbers that follow, and to no others, all lists of steps agree.
@@ -73,4 +74,10 @@ pub fn known_both()
 /// Every bring-up of a clean design, with any clocks among its inputs and in every order of events, ends in a settled state.
 pub fn brings_up()
     ensures { (d : Flat) (chains : ℕ → Chain) (level : ℕ → ℕ) → BringsUpClean d chains level }
+{}
+
+/// Wherever steps from power-up come to rest with every input and every register of a clean design known, the state is
+/// settled.
+pub fn known_settles()
+    ensures { (d : Flat) (chains : ℕ → Chain) (level : ℕ → ℕ) → KnownSettlesClean d chains level }
 {}
