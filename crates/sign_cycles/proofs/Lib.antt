@@ -6,6 +6,8 @@ pub mod DataSteps
 pub mod Edges
 pub mod Followed
 mod KnownExample
+pub mod Lacking
+mod LackingExample
 pub mod Lists
 mod Register
 pub mod Resets

@@ -2,6 +2,7 @@ pub mod Agree
 pub mod BringUp
 pub mod Formed
 pub mod Known
+pub mod Lacking
 pub mod Laws
 pub mod PowerUp
 pub mod Round

@@ -8,6 +8,7 @@ ghost use Rattle.net_rest.specs.Rest.{IsSolvable};
 ghost use Rattle.sign_cycles.specs.Agree.{Agree};
 ghost use Rattle.sign_cycles.specs.Formed.{IsCleanClocked};
 ghost use Rattle.sign_cycles.specs.Known.{KnownSettlesClean};
+ghost use Rattle.sign_cycles.specs.Lacking.{BringUpsAre};
 ghost use Rattle.sign_cycles.specs.Laws.{BringsUpClean, DataFollows, DataStaysKnown, KnownForBoth, RegistersAre, SettlesBoth, StepsAreAlone, StepsFollow, TurnsFollow};
 
 /// Where each step from a settled state leads to numbers that follow, and to no others, all lists of steps agree.
@@ -80,4 +81,9 @@ pub fn brings_up()
 /// settled.
 pub fn known_settles()
     ensures { (d : Flat) (chains : ℕ → Chain) (level : ℕ → ℕ) → KnownSettlesClean d chains level }
+{}
+
+/// A clean design has a bring-up, or an input resets one process at 1 and another at 0, and not both.
+pub fn bring_ups()
+    ensures { (d : Flat) (chains : ℕ → Chain) (level : ℕ → ℕ) → IsCleanClocked d chains level → BringUpsAre d chains }
 {}
