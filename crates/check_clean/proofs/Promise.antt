@@ -1,5 +1,5 @@
 -- A design without findings of the first grade keeps its promise.
-use Rattle.sign_cycles.proofs.BringUp.{brings_up}
+use Rattle.sign_cycles.proofs.BringUp.{brings_up, known_settles}
 use Rattle.sign_cycles.proofs.Steps.{agreement}
 use Rattle.rtl_flat.specs.Flats.{Parts}
 use Rattle.check_clean.specs.Promise.{PromisedByRules}
@@ -14,5 +14,7 @@ promised d lawful marked findings are is =
       chained = design.chained;
       agrees = λ choice chained fill. agreement d.flat choice design.level (design.clean choice chained) fill;
       ends = ends d lawful findings are is;
+      known = λ choice chained fill.
+          known_settles d.flat choice design.level (design.clean choice chained) design.wakes fill;
       brought_up = λ choice chained resets fill. brings_up d.flat choice design.level (design.clean choice chained) design.wakes resets fill;
     }

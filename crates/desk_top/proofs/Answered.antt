@@ -140,6 +140,7 @@ zero_is_clean words world wanted before now asked is zero written = by_order (or
           chains = promised.chains;
           chained = promised.chained;
           agrees = promised.agrees promised.chains promised.chained;
+          known = promised.known promised.chains promised.chained;
           brought_up = promised.brought_up promised.chains promised.chained;
           ends = promised.ends;
         }

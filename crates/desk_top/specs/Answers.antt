@@ -12,6 +12,7 @@ use Rattle.net_model.specs.declared.fill.Fill.{Fill}
 use Rattle.net_model.specs.Cycle.{AreChains, Chain}
 use Rattle.desk_verdict.specs.sign_cycles.Agree.{Agree}
 use Rattle.desk_verdict.specs.sign_cycles.BringUp.{BringsUp, HaveResets}
+use Rattle.desk_verdict.specs.sign_cycles.Known.{KnownSettles}
 use Rattle.rtl_rule.specs.declared.finding.Finding.{Finding}
 use Rattle.desk_verdict.specs.check_all.Findings.{AreAllFindings, IsClean}
 use Rattle.desk_top.specs.Delivery.{Outcome, Delivers, IsCut, gave_up}
@@ -45,8 +46,9 @@ pub record IsAnswered (words : List (List ℕ)) (status : ℕ) (before now : Opt
 -- The headline. The words are `sign TOP FILE..`; the files hold texts that spell modules, and no others; of these
 -- the module with the top's name means a flat design; none of its findings, which the report tells, is of the first
 -- grade; blocks that wait for edges have clocks and resets, with which simulation agrees with synthesis on that design,
--- whatever the order of events and whatever the fill of what nothing drives; where each register has a reset, a bring-up
--- reaches the states from which it does; and from wherever a step starts, every run comes to rest
+-- whatever the order of events and whatever the fill of what nothing drives; it does from wherever steps from power-up come
+-- to rest with inputs and registers known, and so after a bring-up where each register has a reset; and from wherever a step
+-- starts, every run comes to rest
 pub record IsSignedClean (words : List (List ℕ)) (before now : Option (List ℕ)) (world : World) : Type 0 where
   pub top : List ℕ
   pub files : List (List ℕ)
@@ -66,5 +68,6 @@ pub record IsSignedClean (words : List (List ℕ)) (before now : Option (List �
   pub chains : ℕ → Chain
   pub chained : AreChains design.parts.flat chains
   pub agrees : (fill : Fill) → Agree design.parts.flat chains fill
+  pub known : (fill : Fill) → KnownSettles design.parts.flat chains fill
   pub brought_up : HaveResets design.parts.flat chains → (fill : Fill) → BringsUp design.parts.flat chains fill
   pub ends : RunsEnd design.parts.flat

@@ -7,6 +7,7 @@ ghost use Rattle.net_model.specs.declared.fill.Fill.{Fill};
 ghost use Rattle.net_model.specs.Cycle.{AreChains, Chain};
 ghost use Rattle.check_clean.specs.sign_cycles.Agree.{Agree};
 ghost use Rattle.check_clean.specs.sign_cycles.BringUp.{BringsUp, HaveResets};
+ghost use Rattle.check_clean.specs.sign_cycles.Known.{KnownSettles};
 ghost use Rattle.check_clean.specs.check_all.Findings.{AreAllFindings, IsClean};
 
 use crate::promise::vouch;
@@ -27,13 +28,16 @@ pub fn rule(alloc: Global, design: &Design) -> Result<Ruling, Memory>
     ensures firm { IfOk result (λ r. IsTrue r.firm ↔ (r.findings.items ≡ [])) }
 
     // What a clean design promises: blocks that wait for edges have clocks and resets, with which every run of the
-    // event queue shows the synthesised values, from states that a bring-up reaches where each register has a reset; and
-    // every run comes to rest.
+    // event queue shows the synthesised values, from each state with inputs and registers known to which steps from
+    // power-up lead, as a bring-up does where each register has a reset; and every run comes to rest.
     ensures chained { IfOk result (λ r. IsTrue r.clean →
         (chains : ℕ → Chain) × AreChains (flat design.now) chains) }
     ensures sound { IfOk result (λ r. IsTrue r.clean →
         (chains : ℕ → Chain) → AreChains (flat design.now) chains →
         (fill : Fill) → Agree (flat design.now) chains fill) }
+    ensures known { IfOk result (λ r. IsTrue r.clean →
+        (chains : ℕ → Chain) → AreChains (flat design.now) chains →
+        (fill : Fill) → KnownSettles (flat design.now) chains fill) }
     ensures brought_up { IfOk result (λ r. IsTrue r.clean →
         (chains : ℕ → Chain) → AreChains (flat design.now) chains →
         HaveResets (flat design.now) chains →

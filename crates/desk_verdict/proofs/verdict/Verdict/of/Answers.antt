@@ -32,6 +32,7 @@ returns c =
         chains = (is.chained (is.clean.1 none)).0;
         chained = (is.chained (is.clean.1 none)).1;
         agrees = is.sound (is.clean.1 none);
+        known = is.known (is.clean.1 none);
         brought_up = is.brought_up (is.clean.1 none);
         ends = is.ended (is.clean.1 none);
       });
