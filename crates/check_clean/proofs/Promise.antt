@@ -1,5 +1,6 @@
 -- A design without findings of the first grade keeps its promise.
 use Rattle.sign_cycles.proofs.BringUp.{brings_up, known_settles}
+use Rattle.sign_cycles.proofs.Lacking.{bring_ups}
 use Rattle.sign_cycles.proofs.Steps.{agreement}
 use Rattle.rtl_flat.specs.Flats.{Parts}
 use Rattle.check_clean.specs.Promise.{PromisedByRules}
@@ -14,6 +15,7 @@ promised d lawful marked findings are is =
       chained = design.chained;
       agrees = λ choice chained fill. agreement d.flat choice design.level (design.clean choice chained) fill;
       ends = ends d lawful findings are is;
+      bring_ups = λ choice chained. bring_ups d.flat choice design.level (design.clean choice chained);
       known = λ choice chained fill.
           known_settles d.flat choice design.level (design.clean choice chained) design.wakes fill;
       brought_up = λ choice chained resets fill. brings_up d.flat choice design.level (design.clean choice chained) design.wakes resets fill;

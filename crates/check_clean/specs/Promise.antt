@@ -11,19 +11,22 @@ use Rattle.net_model.specs.Cycle.{AreChains, Chain}
 use Rattle.sign_cycles.specs.Agree.{Agree}
 use Rattle.sign_cycles.specs.BringUp.{BringsUp, HaveResets}
 use Rattle.sign_cycles.specs.Known.{KnownSettles}
+use Rattle.sign_cycles.specs.Lacking.{BringUpsAre}
 use Rattle.rtl_rule.specs.declared.finding.Finding.{Finding}
 use Rattle.check_all.specs.Findings.{AreAllFindings, IsClean}
 use Rattle.check_laws.specs.Expressions.{AreMarked}
 
 -- blocks that wait for edges have clocks and resets. Whichever are taken for them, simulation agrees with synthesis in every
 -- order of events. It does from wherever steps from power-up come to rest with inputs and registers known, and so after every
--- bring-up where each register has a reset. From wherever a step starts, every run comes to rest
+-- bring-up where each register has a reset; there is one but where an input resets one process at 1 and another at 0. From
+-- wherever a step starts, every run comes to rest
 pub record IsPromised (d : Flat) : Type 0 where
   pub chains : ℕ → Chain
   pub chained : AreChains d chains
   pub agrees : (choice : ℕ → Chain) → AreChains d choice → (fill : Fill) → Agree d choice fill
   pub known : (choice : ℕ → Chain) → AreChains d choice → (fill : Fill) → KnownSettles d choice fill
   pub brought_up : (choice : ℕ → Chain) → AreChains d choice → HaveResets d choice → (fill : Fill) → BringsUp d choice fill
+  pub bring_ups : (choice : ℕ → Chain) → AreChains d choice → BringUpsAre d choice
   pub ends : RunsEnd d
 
 -- so it is where none of all findings of a lawful design is of the first grade

@@ -142,6 +142,7 @@ zero_is_clean words world wanted before now asked is zero written = by_order (or
           agrees = promised.agrees promised.chains promised.chained;
           known = promised.known promised.chains promised.chained;
           brought_up = promised.brought_up promised.chains promised.chained;
+          bring_ups = promised.bring_ups promised.chains promised.chained;
           ends = promised.ends;
         }
 

@@ -13,6 +13,7 @@ use Rattle.net_model.specs.Cycle.{AreChains, Chain}
 use Rattle.desk_verdict.specs.sign_cycles.Agree.{Agree}
 use Rattle.desk_verdict.specs.sign_cycles.BringUp.{BringsUp, HaveResets}
 use Rattle.desk_verdict.specs.sign_cycles.Known.{KnownSettles}
+use Rattle.desk_verdict.specs.sign_cycles.Lacking.{BringUpsAre}
 use Rattle.rtl_rule.specs.declared.finding.Finding.{Finding}
 use Rattle.desk_verdict.specs.check_all.Findings.{AreAllFindings, IsClean}
 use Rattle.desk_top.specs.Delivery.{Outcome, Delivers, IsCut, gave_up}
@@ -47,8 +48,8 @@ pub record IsAnswered (words : List (List ℕ)) (status : ℕ) (before now : Opt
 -- the module with the top's name means a flat design; none of its findings, which the report tells, is of the first
 -- grade; blocks that wait for edges have clocks and resets, with which simulation agrees with synthesis on that design,
 -- whatever the order of events and whatever the fill of what nothing drives; it does from wherever steps from power-up come
--- to rest with inputs and registers known, and so after a bring-up where each register has a reset; and from wherever a step
--- starts, every run comes to rest
+-- to rest with inputs and registers known, and so after a bring-up where each register has a reset; there is a bring-up but
+-- where an input resets one process at 1 and another at 0; and from wherever a step starts, every run comes to rest
 pub record IsSignedClean (words : List (List ℕ)) (before now : Option (List ℕ)) (world : World) : Type 0 where
   pub top : List ℕ
   pub files : List (List ℕ)
@@ -70,4 +71,5 @@ pub record IsSignedClean (words : List (List ℕ)) (before now : Option (List �
   pub agrees : (fill : Fill) → Agree design.parts.flat chains fill
   pub known : (fill : Fill) → KnownSettles design.parts.flat chains fill
   pub brought_up : HaveResets design.parts.flat chains → (fill : Fill) → BringsUp design.parts.flat chains fill
+  pub bring_ups : BringUpsAre design.parts.flat chains
   pub ends : RunsEnd design.parts.flat

@@ -8,6 +8,7 @@ ghost use Rattle.net_model.specs.Cycle.{AreChains, Chain};
 ghost use Rattle.check_clean.specs.sign_cycles.Agree.{Agree};
 ghost use Rattle.check_clean.specs.sign_cycles.BringUp.{BringsUp, HaveResets};
 ghost use Rattle.check_clean.specs.sign_cycles.Known.{KnownSettles};
+ghost use Rattle.check_clean.specs.sign_cycles.Lacking.{BringUpsAre};
 ghost use Rattle.check_clean.specs.check_all.Findings.{AreAllFindings, IsClean};
 
 use crate::promise::vouch;
@@ -29,7 +30,8 @@ pub fn rule(alloc: Global, design: &Design) -> Result<Ruling, Memory>
 
     // What a clean design promises: blocks that wait for edges have clocks and resets, with which every run of the
     // event queue shows the synthesised values, from each state with inputs and registers known to which steps from
-    // power-up lead, as a bring-up does where each register has a reset; and every run comes to rest.
+    // power-up lead, as a bring-up does where each register has a reset; there is one, or an input resets one process at
+    // 1 and another at 0, and not both; and every run comes to rest.
     ensures chained { IfOk result (λ r. IsTrue r.clean →
         (chains : ℕ → Chain) × AreChains (flat design.now) chains) }
     ensures sound { IfOk result (λ r. IsTrue r.clean →
@@ -42,6 +44,9 @@ pub fn rule(alloc: Global, design: &Design) -> Result<Ruling, Memory>
         (chains : ℕ → Chain) → AreChains (flat design.now) chains →
         HaveResets (flat design.now) chains →
         (fill : Fill) → BringsUp (flat design.now) chains fill) }
+    ensures bring_ups { IfOk result (λ r. IsTrue r.clean →
+        (chains : ℕ → Chain) → AreChains (flat design.now) chains →
+        BringUpsAre (flat design.now) chains) }
     ensures ended { IfOk result (λ r. IsTrue r.clean → RunsEnd (flat design.now)) }
 {
     let findings = check(alloc, design)?;

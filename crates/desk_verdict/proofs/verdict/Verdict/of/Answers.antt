@@ -34,6 +34,7 @@ returns c =
         agrees = is.sound (is.clean.1 none);
         known = is.known (is.clean.1 none);
         brought_up = is.brought_up (is.clean.1 none);
+        bring_ups = is.bring_ups (is.clean.1 none);
         ends = is.ended (is.clean.1 none);
       });
     }
