@@ -5,8 +5,6 @@ use Rattle.hex.specs.Hex.{encode_lower}
 use Rattle.json.specs.Print.{quoted}
 use Rattle.desk_dates.specs.Dates.{date_text}
 use Rattle.desk_tables.specs.declared.rows.FileRow.{FileRow}
-use Rattle.desk_tables.specs.declared.rows.Grade.{Grade}
-use Rattle.desk_tables.specs.declared.rows.Grade.TheVariants.{Clean, Waived}
 use Rattle.desk_tables.specs.declared.rows.SignOffRow.{SignOffRow}
 use Rattle.desk_tables.specs.declared.rows.WaiverRow.{WaiverRow}
 
@@ -65,24 +63,20 @@ name_text name = with_text (codes "{\"name\":") name ++ codes "}"
 
 -- ---- sign-offs
 
-abbrev pub grade_text : Grade → List ℕ
-grade_text Clean = codes "clean"
-grade_text Waived = codes "waived"
-
 -- a number alone
 unfoldable pub id_text : ℕ → List ℕ
 id_text id = with_number (codes "{\"id\":") id ++ codes "}"
 
--- the grade and the number of a sign-off
-unfoldable pub granted_text : Grade → ℕ → List ℕ
+-- the word of a grade, and the number of a sign-off
+unfoldable pub granted_text : List ℕ → ℕ → List ℕ
 granted_text grade id =
-    with_text (codes "{\"grade\":") (grade_text grade)
+    with_text (codes "{\"grade\":") grade
     ++ with_number (codes ",\"id\":") id ++ codes "}"
 
 -- the members from `day` to `id`
 unfoldable pub signoff_front : SignOffRow → List ℕ
 signoff_front row =
-    with_day (codes "{\"day\":") row.day ++ with_text (codes ",\"grade\":") (grade_text row.grade)
+    with_day (codes "{\"day\":") row.day ++ with_text (codes ",\"grade\":") row.grade
     ++ with_number (codes ",\"id\":") row.id
 
 -- the members from `reach` to `who`

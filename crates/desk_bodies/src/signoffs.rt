@@ -1,23 +1,14 @@
 // The bodies of replies on sign-offs.
 ghost use Rattle.std.specs.Prelude.{◌≡◌, ◌++◌, codes, flat_map, IfOk, OnOk};
-ghost use Rattle.desk_bodies.specs.Bodies.{array, grade_text, granted_text, id_text, listed, signoff_end, signoff_front, signoff_text, with_day};
+ghost use Rattle.desk_bodies.specs.Bodies.{array, granted_text, id_text, listed, signoff_end, signoff_front, signoff_text, with_day};
 
 use crate::files::{push_count, push_digest, push_text};
 use desk_dates::date_digits;
 use desk_json::push_bytes;
-use desk_tables::{Day, Grade, SignOffRow};
+use desk_tables::{Day, SignOffRow};
 use rtl_tree::memory::Memory;
+use rtl_tree::text::Text;
 use std::alloc::Global;
-
-/// The grade of a sign-off as it is written.
-fn grade_text(grade: Grade) -> &'static [u8]
-    ensures { result.now ≡ grade_text grade }
-{
-    match grade {
-        Grade::Clean => b"clean",
-        Grade::Waived => b"waived",
-    }
-}
 
 // Writes what leads to a day, and the day.
 #[tactic(auto, unfolding(crate::specs::Bodies::with_day))]
@@ -41,13 +32,13 @@ pub fn id_body(alloc: Global, id: u32) -> Result<Vec<u8>, Memory>
     Ok(out)
 }
 
-/// What is told of a module that was signed off.
+/// What is told of a module that was signed off: the word of the grade, and the number.
 #[tactic(auto, unfolding(crate::specs::Bodies::granted_text))]
-pub fn granted_body(alloc: Global, grade: Grade, id: u32) -> Result<Vec<u8>, Memory>
-    ensures { IfOk result (λ body. body.items ≡ granted_text grade id) }
+pub fn granted_body(alloc: Global, grade: &Text, id: u32) -> Result<Vec<u8>, Memory>
+    ensures { IfOk result (λ body. body.items ≡ granted_text grade.now id) }
 {
     let mut out = Vec::new(alloc);
-    push_text(&mut out, b"{\"grade\":", grade_text(grade))?;
+    push_text(&mut out, b"{\"grade\":", grade.as_bytes())?;
     push_count(&mut out, b",\"id\":", u64::from(id))?;
     push_bytes(&mut out, b"}")?;
     Ok(out)
@@ -58,7 +49,7 @@ fn push_front(out: &mut Vec<u8>, row: &SignOffRow) -> Result<(), Memory>
     ensures { OnOk result (out.new.items ≡ out.old.items ++ signoff_front row.now) }
 {
     push_day(out, b"{\"day\":", row.day)?;
-    push_text(out, b",\"grade\":", grade_text(row.grade))?;
+    push_text(out, b",\"grade\":", row.grade.as_bytes())?;
     push_count(out, b",\"id\":", u64::from(row.id))
 }
 

@@ -23,6 +23,7 @@ use Rattle.demo_told.specs.declared.demo.Shown.{Shown}
 use Rattle.desk_rows.specs.declared.Row.{Row}
 use Rattle.desk_report.specs.Tellings.{tellings}
 use Rattle.desk_tables.specs.Changes.{reply_of}
+use Rattle.desk_tables.specs.Grades.{grade_word}
 use Rattle.desk_tables.specs.Tables.{Kept}
 use Rattle.desk_tables.specs.declared.rows.FileRow.{FileRow}
 use Rattle.desk_tables.specs.declared.rows.Grade.{Grade}
@@ -37,7 +38,7 @@ use Rattle.desk_bodies.specs.Bodies.{granted_text, with_number, with_text}
 use Rattle.desk_records.specs.Machine.{by_tables, change_outcome, full_refusal, full_table, request_outcome, unless_full, unless_kept}
 use Rattle.desk_records.specs.Outcomes.{Outcome, Told, Done, Open, kept_said}
 use Rattle.desk_rulings.specs.Rulings.{Verdict, has_first_grade, left_of, standing_of}
-use Rattle.desk_rulings.specs.SignOffs.{accepted, edited_by, findings_stand, rows_of, signoff_outcome, signoff_row, unless_edited}
+use Rattle.desk_rulings.specs.SignOffs.{accepted, edited_by, findings_stand, grade_of, rows_of, signoff_outcome, signoff_row, unless_edited}
 use Rattle.source_file.specs.SourceFiles.{texts_in}
 use Rattle.design_db.specs.desk_answers.Fresh.{sources_at}
 use Rattle.design_db.specs.desk_memo.declared.answer.Answer.TheVariants.{Ruled, Refused}
@@ -51,7 +52,7 @@ use Rattle.desk_core.specs.Serving.{IsServed, Answered, Accepted, Serves, Served
 -- ---- grades by their texts
 
 -- their texts differ at the first letter
-graded_clean : (grade : Grade) (id id' : ℕ) → granted_text grade id ≡ granted_text Clean id' → grade ≡ Clean
+graded_clean : (grade : Grade) (id id' : ℕ) → granted_text (grade_word grade) id ≡ granted_text (grade_word Clean) id' → grade ≡ Clean
 unfolding granted_text with_text with_number escape_byte
 graded_clean Clean id id' same = refl
 graded_clean Waived id id' same =
@@ -71,23 +72,24 @@ first_clean : (b : Bool) → (if b then Waived else Clean) ≡ Clean → b ≡ f
 first_clean true is = absurd (cc)
 first_clean false is = refl
 
-clean_row : (row : SignOffRow) (request : Request) → SaysCleanIn (accepted row request) → row.grade ≡ Clean
-clean_row row request says = graded_clean row.grade row.id says.id says.graded
+clean_row : (grade : Grade) (row : SignOffRow) (request : Request) → row.grade ≡ grade_word grade → SaysCleanIn (accepted row request) → grade ≡ Clean
+clean_row grade row request named says =
+    graded_clean grade row.id says.id (ap (λ word. granted_text word row.id) (sym named) ∙ says.graded)
 
-unedited_clean : (found : Option FileRow) (row : SignOffRow) (request : Request) → SaysCleanIn (unless_edited found (accepted row request)) → row.grade ≡ Clean
-unedited_clean None row request says = clean_row row request says
-unedited_clean (Some held) row request says = absurd (let no : 409 ≡ 201 = says.accepted in omega (arith, no))
+unedited_clean : (found : Option FileRow) (grade : Grade) (row : SignOffRow) (request : Request) → row.grade ≡ grade_word grade → SaysCleanIn (unless_edited found (accepted row request)) → grade ≡ Clean
+unedited_clean None grade row request named says = clean_row grade row request named says
+unedited_clean (Some held) grade row request named says = absurd (let no : 409 ≡ 201 = says.accepted in omega (arith, no))
 
-signed_by : (stand : Bool) (left : ℕ) (found : Option FileRow) (row : SignOffRow) (request : Request) → SaysCleanIn (if stand then findings_stand left else unless_edited found (accepted row request)) → row.grade ≡ Clean
-signed_by true left found row request says = absurd (let no : 409 ≡ 201 = says.accepted in omega (arith, no))
-signed_by false left found row request says = unedited_clean found row request says
+signed_by : (stand : Bool) (left : ℕ) (found : Option FileRow) (grade : Grade) (row : SignOffRow) (request : Request) → row.grade ≡ grade_word grade → SaysCleanIn (if stand then findings_stand left else unless_edited found (accepted row request)) → grade ≡ Clean
+signed_by true left found grade row request named says = absurd (let no : 409 ≡ 201 = says.accepted in omega (arith, no))
+signed_by false left found grade row request named says = unedited_clean found grade row request named says
 
 signed_clean : (top : List ℕ) (request : Request) (today : ℤ) (kept : Kept) (verdict : Verdict) → SaysCleanIn (signoff_outcome top request today kept verdict) → has_first_grade verdict.rows ≡ false
 signed_clean top request today kept verdict says =
     let left : ℕ = left_of (standing_of today kept verdict) in
     first_clean (has_first_grade verdict.rows)
     (signed_by (nat_lt 0 left) left (edited_by request.user (rows_of kept.files verdict.reached))
-    (signoff_row top request today kept verdict) request says)
+    (grade_of verdict.rows) (signoff_row top request today kept verdict) request refl says)
 
 -- ---- the design of an answer
 

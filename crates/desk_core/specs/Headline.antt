@@ -12,6 +12,7 @@ use Rattle.design_db.specs.rtl_elab.Designs.{library_of}
 use Rattle.design_db.specs.rtl_elab.Elaborated.{elaborated}
 use Rattle.rtl_front.specs.Fronts.{AreSpelled}
 use Rattle.source_file.specs.declared.SourceFile.{SourceFile}
+use Rattle.desk_tables.specs.Grades.{grade_word}
 use Rattle.desk_tables.specs.Tables.{Kept}
 use Rattle.desk_tables.specs.declared.rows.Grade.TheVariants.{Clean}
 use Rattle.desk_requests.specs.Replies.{Said}
@@ -32,7 +33,7 @@ pub record IsNewSignOff (request : Request) (kept : Kept) (top : List ℕ) : Typ
 pub record SaysClean (answer : Said) : Type 0 where
   pub id : ℕ
   pub accepted : answer.status ≡ 201
-  pub graded : answer.body ≡ granted_text Clean id
+  pub graded : answer.body ≡ granted_text (grade_word Clean) id
 
 -- The headline. The texts of the files of the rows spell modules, and no others; of these the
 -- module with the top's name means a flat design, in the files that it uses, numbered among

@@ -6,6 +6,7 @@ use Rattle.hex.specs.Hex.{encode_lower}
 use Rattle.sha2.specs.Sha256.{sha256}
 use Rattle.desk_rows.specs.declared.Row.{Row}
 use Rattle.desk_tables.specs.Changes.{has_name}
+use Rattle.desk_tables.specs.Grades.{grade_word}
 use Rattle.desk_tables.specs.Tables.{Kept}
 use Rattle.desk_tables.specs.declared.change.Change.TheVariants as change
 use Rattle.desk_tables.specs.declared.rows.FileRow.{FileRow}
@@ -46,7 +47,7 @@ signoff_row top request today kept verdict = record {
   top = top;
   who = request.user;
   day = today;
-  grade = grade_of verdict.rows;
+  grade = grade_word (grade_of verdict.rows);
   reach = reach_of (rows_of kept.files verdict.reached);
 }
 

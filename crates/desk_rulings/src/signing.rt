@@ -126,7 +126,7 @@ fn signoff_row(
         top: Text::from_bytes(alloc, top.as_bytes())?,
         who: request.user.copied(),
         day: today,
-        grade: grade_of(ruled.rows),
+        grade: Text::from_bytes(alloc, grade_of(ruled.rows).word())?,
         reach: reach_of(alloc, &tables.files, ruled.reached)?,
     })
 }
@@ -134,7 +134,7 @@ fn signoff_row(
 fn accepted(alloc: Global, row: SignOffRow, request: &Request) -> Result<Decision, Memory>
     ensures { IfOk result (λ made. outcome made ≡ accepted row request.now) }
 {
-    let body = granted_body(alloc, row.grade, row.id)?;
+    let body = granted_body(alloc, &row.grade, row.id)?;
     let reply = kept_row(alloc, request, 201, body)?;
     Ok(Decision::Makes(Change::SignOff(row, reply)))
 }

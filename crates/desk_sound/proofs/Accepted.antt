@@ -17,10 +17,13 @@ use Rattle.waiver_book.specs.declared.fault.WaiveFault.{WaiveFault}
 use Rattle.waiver_book.specs.declared.fault.RevokeFault.{RevokeFault}
 use Rattle.waiver_book.specs.declared.fault.RevokeFault.TheVariants.{NoSuchWaiver, NotOwner, Ended}
 use Rattle.desk_tables.specs.Changes.{has_id, has_name, reply_of, without_file}
+use Rattle.desk_tables.specs.Grades.{grade_word, is_grade_word}
 use Rattle.desk_tables.specs.Rules.{all_bytes, is_sound_waiver}
 use Rattle.desk_tables.specs.Tables.{Kept}
 use Rattle.desk_tables.specs.declared.change.Change.TheVariants as change
 use Rattle.desk_tables.specs.declared.rows.FileRow.{FileRow}
+use Rattle.desk_tables.specs.declared.rows.Grade.{Grade}
+use Rattle.desk_tables.specs.declared.rows.Grade.TheVariants.{Clean, Waived}
 use Rattle.desk_tables.specs.declared.rows.ReplyRow.{ReplyRow}
 use Rattle.desk_tables.specs.declared.rows.Table.{Table}
 use Rattle.desk_tables.specs.declared.rows.WaiverId.{WaiverId}
@@ -34,7 +37,7 @@ use Rattle.desk_records.specs.Machine.{by_tables, change_outcome, drop_outcome, 
 use Rattle.desk_records.specs.Outcomes.{Outcome, Told, Done, Open}
 use Rattle.desk_rulings.specs.Rulings.{Site, Verdict, left_of, standing_in, standing_of}
 use Rattle.desk_rulings.specs.Grants.{asked_site, grant_unless, refused_at, waive_at, waive_outcome, waiver_of, waiver_row}
-use Rattle.desk_rulings.specs.SignOffs.{accepted, edited_by, findings_stand, rows_of, signoff_outcome, signoff_row, unless_edited}
+use Rattle.desk_rulings.specs.SignOffs.{accepted, edited_by, findings_stand, grade_of, rows_of, signoff_outcome, signoff_row, unless_edited}
 use Rattle.desk_sound.specs.Lawful.{IsLawfulAsk, IsLawfulWaiver}
 use Rattle.desk_sound.proofs.FilesKept.{put_kept}
 use Rattle.desk_sound.proofs.RowsKept.{signoff_more, waiver_more}
@@ -204,10 +207,16 @@ waive_holds it request today kept verdict sound lawful room =
 
 -- ---- sign-offs
 
+-- a grade's word is one
+worded : (grade : Grade) → is_grade_word (grade_word grade) ≡ true
+worded Clean = refl
+worded Waived = refl
+
 signed_holds : (top : List ℕ) (request : Request) (today : ℤ) (kept : Kept) (verdict : Verdict) (edited : Option FileRow) → AreSound kept → is_utf8 top ≡ true → length kept.signoffs < MAX_SIGN_OFFS → Holds kept request (unless_edited edited (accepted (signoff_row top request today kept verdict) request))
 signed_holds top request today kept verdict (Some row) sound utf8 room = tt
 signed_holds top request today kept verdict None sound utf8 room = (
-  signoff_more kept.signoffs (signoff_row top request today kept verdict) utf8 room refl sound.signoffs,
+  signoff_more kept.signoffs (signoff_row top request today kept verdict)
+      (and_from _ _ utf8 (worded (grade_of verdict.rows))) room refl sound.signoffs,
   reply_201 request _,
 )
 

@@ -2,12 +2,11 @@
 use Rattle.std.proofs.Common.{◌≡◌, ◌∙◌, ℕ, ◌+◌, ◌<◌, true, false, not, ◌||◌, List, [], ◌∷◌, ◌++◌, length, zero, suc, Option, Some, None, refl, sym, ap, arith}
 use Rattle.std.specs.Prelude.{ℤ, nat_le, find, position, slice_get, slice_set}
 use Rattle.std.specs.Bool.{◌==◌}
-use Rattle.std.specs.Str.{is_utf8}
 use Rattle.std.proofs.lemmas.Bool.{eq-eqb, lt-leb, not_from_true, or_from}
 use Rattle.std.proofs.lemmas.List.{length_push}
 use Rattle.std.proofs.lemmas.Option.{same_Some}
 use Rattle.desk_tables.specs.Changes.{end_at, end_found, has_id, with_end}
-use Rattle.desk_tables.specs.Rules.{first_broken, has_reply, is_sound_reply, is_sound_waiver, reply_breaks, signoff_breaks, waiver_breaks}
+use Rattle.desk_tables.specs.Rules.{first_broken, has_reply, is_sound_reply, is_sound_signoff, is_sound_waiver, reply_breaks, signoff_breaks, waiver_breaks}
 use Rattle.desk_tables.specs.declared.rows.ReplyRow.{ReplyRow}
 use Rattle.desk_tables.specs.declared.rows.SignOffRow.{SignOffRow}
 use Rattle.desk_tables.specs.declared.rows.WaiverId.{WaiverId}
@@ -28,7 +27,7 @@ waiver_more rows row sound room numbered none =
     (or_from _ _ (or_from _ _ (not_from_true _ sound) (lt-leb MAX_WAIVERS (length rows) room))
     (ap (λ n. not (n == length rows + 1)) numbered ∙ next_number (length rows)))
 
-pub signoff_more : (rows : List SignOffRow) (row : SignOffRow) → is_utf8 row.top ≡ true → length rows < MAX_SIGN_OFFS → row.id ≡ length rows + 1 → first_broken signoff_breaks [] rows ≡ None → first_broken signoff_breaks [] (rows ++ row ∷ []) ≡ None
+pub signoff_more : (rows : List SignOffRow) (row : SignOffRow) → is_sound_signoff row ≡ true → length rows < MAX_SIGN_OFFS → row.id ≡ length rows + 1 → first_broken signoff_breaks [] rows ≡ None → first_broken signoff_breaks [] (rows ++ row ∷ []) ≡ None
 signoff_more rows row sound room numbered none =
     unbroken_more signoff_breaks [] rows row none
     (or_from _ _ (or_from _ _ (not_from_true _ sound) (lt-leb MAX_SIGN_OFFS (length rows) room))

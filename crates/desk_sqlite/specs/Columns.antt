@@ -1,11 +1,9 @@
 -- The columns of the database in which the rows of the tables stand.
 -- Worked examples: crates/tests_keeper/src/changes.rt.
-use Rattle.std.specs.Prelude.{◌≡◌, ℕ, ℤ, ◌+◌, pos, codes, List, [], ◌∷◌, Option, Some, None}
+use Rattle.std.specs.Prelude.{◌≡◌, ℕ, ℤ, ◌+◌, pos, List, [], ◌∷◌, Option, Some, None}
 use Rattle.sqlite_value.specs.declared.value.Value.{Value}
 use Rattle.sqlite_value.specs.declared.value.Value.TheVariants.{Null, Int, Text, Blob}
 use Rattle.sqlite_value.specs.Order.{Row, column}
-use Rattle.desk_tables.specs.declared.rows.Grade.{Grade}
-use Rattle.desk_tables.specs.declared.rows.Grade.TheVariants.{Clean, Waived}
 use Rattle.desk_tables.specs.declared.rows.MetaRow.{MetaRow}
 use Rattle.desk_tables.specs.declared.rows.FileRow.{FileRow}
 use Rattle.desk_tables.specs.declared.rows.WaiverRow.{WaiverRow}
@@ -15,11 +13,6 @@ use Rattle.desk_tables.specs.declared.rows.ReplyRow.{ReplyRow}
 -- a number of the tables
 abbrev pub number : ℕ → Value
 number n = Int (pos n)
-
--- the word of a grade
-abbrev pub grade_word : Grade → List ℕ
-grade_word Clean = codes "clean"
-grade_word Waived = codes "waived"
 
 -- the day on which a waiver was revoked, or NULL
 abbrev pub end_day : Option ℤ → Value
@@ -40,7 +33,7 @@ waiver_columns row =
 
 abbrev pub signoff_columns : SignOffRow → List Value
 signoff_columns row =
-    number row.id ∷ Text row.top ∷ Text row.who ∷ Int row.day ∷ Text (grade_word row.grade) ∷ Blob row.reach ∷ []
+    number row.id ∷ Text row.top ∷ Text row.who ∷ Int row.day ∷ Text row.grade ∷ Blob row.reach ∷ []
 
 abbrev pub reply_columns : ReplyRow → List Value
 reply_columns row =

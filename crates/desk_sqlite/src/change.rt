@@ -1,8 +1,7 @@
 // What a change does to the database.
 
 use crate::values::{
-    blob_value, day_value, digest_value, end_value, grade_value, name_value, number_value,
-    text_value,
+    blob_value, day_value, digest_value, end_value, name_value, number_value, text_value,
 };
 use desk_tables::{Change, Day, FileRow, ReplyRow, SignOffRow, WaiverId, WaiverRow};
 use rtl_tree::text::Text;
@@ -67,7 +66,7 @@ fn add_signoff<S: Alter>(tx: &mut Transaction<'_, S>, signoff: &SignOffRow) -> R
             text_value(&signoff.top),
             name_value(&signoff.who),
             day_value(signoff.day),
-            grade_value(signoff.grade),
+            text_value(&signoff.grade),
             digest_value(&signoff.reach),
         ],
     )?;

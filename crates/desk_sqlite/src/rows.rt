@@ -3,9 +3,7 @@ ghost use Rattle.std.specs.Prelude.{List, IfOk};
 ghost use Rattle.sqlite_value.specs.declared.value.Value.{Value};
 ghost use Rattle.desk_sqlite.specs.Columns.{Holds, HoldAll, file_columns, meta_columns, reply_columns, signoff_columns, waiver_columns};
 
-use crate::values::{
-    blob_at, day_at, digest_at, end_at, grade_at, name_at, number_at, status_at, text_at,
-};
+use crate::values::{blob_at, day_at, digest_at, end_at, name_at, number_at, status_at, text_at};
 use desk_tables::{FileRow, MetaRow, ReplyRow, SignOffRow, Tables, WaiverId, WaiverRow};
 use sqlite::{Alter, Connection, Error, Row};
 use std::alloc::Global;
@@ -86,7 +84,7 @@ impl Stored for SignOffRow {
             top: text_at(alloc, row, 1)?,
             who: name_at(row, 2)?,
             day: day_at(row, 3)?,
-            grade: grade_at(row, 4)?,
+            grade: text_at(alloc, row, 4)?,
             reach: digest_at(row, 5)?,
         })
     }

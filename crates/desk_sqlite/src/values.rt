@@ -3,17 +3,13 @@ ghost use Rattle.std.specs.Prelude.{◌≡◌, pos, IfOk};
 ghost use Rattle.sqlite_value.specs.Order.{column};
 ghost use Rattle.sqlite_value.specs.Value.{owned};
 ghost use Rattle.sqlite_value.specs.declared.value.Value.TheVariants.{Int, Text as TextValue, Blob as BlobValue};
-ghost use Rattle.desk_sqlite.specs.Columns.{end_day, grade_word, number};
+ghost use Rattle.desk_sqlite.specs.Columns.{end_day, number};
 
-use desk_tables::{Day, Digest, Grade, Name};
+use desk_tables::{Day, Digest, Name};
 use rtl_tree::text::Text;
 use sqlite::types::{Type, ValueRef};
 use sqlite::{Error, Row};
 use std::alloc::Global;
-
-const CLEAN: &[u8] = b"clean";
-
-const WAIVED: &[u8] = b"waived";
 
 // ---- read
 
@@ -114,19 +110,6 @@ pub(crate) fn end_at(row: &Row, at: usize) -> Result<Option<Day>, Error>
     }
 }
 
-pub(crate) fn grade_at(row: &Row, at: usize) -> Result<Grade, Error>
-    ensures { IfOk result (λ grade. column row.now at ≡ TextValue (grade_word grade)) }
-{
-    let word = text_bytes(row, at)?;
-    if word == CLEAN {
-        Ok(Grade::Clean)
-    } else if word == WAIVED {
-        Ok(Grade::Waived)
-    } else {
-        Err(Error::InvalidColumnType(at, Type::Text))
-    }
-}
-
 // ---- written
 
 pub(crate) fn text_value(text: &Text) -> ValueRef<'_>
@@ -171,14 +154,5 @@ pub(crate) fn end_value<'v>(ended: Option<Day>) -> ValueRef<'v>
     match ended {
         Some(day) => day_value(day),
         None => ValueRef::Null,
-    }
-}
-
-pub(crate) fn grade_value(grade: Grade) -> ValueRef<'static>
-    ensures { owned result ≡ TextValue (grade_word grade) }
-{
-    match grade {
-        Grade::Clean => ValueRef::Text(CLEAN),
-        Grade::Waived => ValueRef::Text(WAIVED),
     }
 }

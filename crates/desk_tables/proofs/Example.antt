@@ -3,9 +3,11 @@ use Rattle.std.proofs.Common.{◌≡◌, true, false, List, ℕ, [], ◌∷◌, 
 use Rattle.std.specs.Prelude.{pos, negsuc}
 use Rattle.desk_tables.specs.Changes.{with_file, without_file}
 use Rattle.desk_tables.specs.Days.{day_of}
+use Rattle.desk_tables.specs.Grades.{grade_word, is_grade_word}
 use Rattle.desk_tables.specs.Names.{is_name}
 use Rattle.desk_tables.specs.Rules.{broken_meta, has_reply, is_file_name}
 use Rattle.desk_tables.specs.declared.rows.FileRow.{FileRow}
+use Rattle.desk_tables.specs.declared.rows.Grade.TheVariants.{Waived}
 use Rattle.desk_tables.specs.declared.rows.ReplyRow.{ReplyRow}
 
 a_name : is_name (codes "jo_2-b") ≡ true
@@ -52,6 +54,12 @@ no_version_breaks_at_the_first_row = refl
 
 two_versions_break_at_the_second : broken_meta (record { version = 1 } ∷ record { version = 1 } ∷ []) ≡ Some 2
 two_versions_break_at_the_second = refl
+
+a_grade_has_its_word : grade_word Waived ≡ codes "waived"
+a_grade_has_its_word = refl
+
+no_other_letters : is_grade_word (codes "Clean") ≡ false
+no_other_letters = refl
 
 abbrev reply : List ℕ → List ℕ → ReplyRow
 reply its_user its_request =

@@ -2,13 +2,12 @@
 use Rattle.std.proofs.Common.{◌≡◌, ◌∙◌, ℕ, ◌+◌, ◌<◌, ◌≤◌, Bool, true, false, ◌||◌, ◌&&◌, not, nat_le, nat_lt, List, [], ◌∷◌, ◌++◌, length, take, get_or, bytes_eq, ap, sym, refl, subst, arith}
 use Rattle.std.specs.Bool.{◌==◌}
 use Rattle.std.specs.List.{list_any}
-use Rattle.std.specs.Str.{is_utf8}
 use Rattle.std.specs.Cmp.Lexicographic.{bytes_decides}
 use Rattle.std.proofs.lemmas.Bool.{and_from, and_parts, ltb-false, or_parts}
 use Rattle.std.proofs.lemmas.List.{append_cancel_left, length-take-le, take_at}
 use Rattle.std.proofs.lemmas.List.Folds.{list_any-append}
 use Rattle.std.proofs.lemmas.List.Sums.{sum_by_push}
-use Rattle.desk_tables.specs.Rules.{all_bytes, file_breaks, has_file, has_reply, is_sound_file, is_sound_reply, is_sound_waiver, reply_breaks, signoff_breaks, waiver_breaks}
+use Rattle.desk_tables.specs.Rules.{all_bytes, file_breaks, has_file, has_reply, is_sound_file, is_sound_reply, is_sound_signoff, is_sound_waiver, reply_breaks, signoff_breaks, waiver_breaks}
 use Rattle.desk_tables.specs.Seen.{key_of}
 use Rattle.desk_tables.specs.declared.rows.FileRow.{FileRow}
 use Rattle.desk_tables.specs.declared.rows.ReplyRow.{ReplyRow}
@@ -88,7 +87,7 @@ bad_waiver_is rows place row result inside answer =
 -- what the loop's test says of a row
 abbrev pub bad_signoff : SignOffRow → ℕ → Bool
 bad_signoff row place =
-    not (is_utf8 row.top) || nat_le MAX_SIGN_OFFS place || not (row.id == place + 1)
+    not (is_sound_signoff row) || nat_le MAX_SIGN_OFFS place || not (row.id == place + 1)
 
 pub bad_signoff_is : (rows : List SignOffRow) (place : ℕ) (row : SignOffRow) (result : Bool) → place < length rows → result ≡ bad_signoff row place → result ≡ signoff_breaks (take place rows) row
 bad_signoff_is rows place row result inside answer =

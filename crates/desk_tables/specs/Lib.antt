@@ -1,6 +1,7 @@
 pub mod Limits
 pub mod Days
 pub mod Names
+pub mod Grades
 pub mod Tables
 pub mod Changes
 pub mod Rules

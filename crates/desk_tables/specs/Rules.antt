@@ -6,6 +6,7 @@ use Rattle.std.specs.Char.{is_ascii_alphanumeric}
 use Rattle.std.specs.Str.{byte, is_utf8}
 use Rattle.sha2.specs.Sha256.{sha256}
 use Rattle.rtl_rule.specs.Rows.{rule_with}
+use Rattle.desk_tables.specs.Grades.{is_grade_word}
 use Rattle.desk_tables.specs.Limits.{MAX_BYTES, MAX_ALL_BYTES, MAX_FILES, MAX_FILE_NAME_BYTES, MAX_REPLIES, MAX_SIGN_OFFS, MAX_WAIVERS}
 use Rattle.desk_tables.specs.Tables.{Kept}
 use Rattle.desk_tables.specs.declared.rows.MetaRow.{MetaRow}
@@ -59,9 +60,13 @@ waiver_breaks before row =
 
 -- ---- sign-offs
 
+-- the row keeps the rules of a sign-off that look at no other row
+abbrev pub is_sound_signoff : SignOffRow → Bool
+is_sound_signoff row = is_utf8 row.top && is_grade_word row.grade
+
 abbrev pub signoff_breaks : List SignOffRow → SignOffRow → Bool
 signoff_breaks before row =
-    not (is_utf8 row.top) || nat_le MAX_SIGN_OFFS (length before) || not (row.id == length before + 1)
+    not (is_sound_signoff row) || nat_le MAX_SIGN_OFFS (length before) || not (row.id == length before + 1)
 
 -- ---- replies
 

@@ -1,5 +1,6 @@
 // The tables, and the rows that they are made of.
 ghost use Rattle.std.specs.Prelude.{◌≡◌, IfOk};
+ghost use Rattle.desk_tables.specs.Grades.{grade_word};
 ghost use Rattle.desk_tables.specs.Tables.{kept_of, new_tables};
 
 mod copies;
@@ -34,6 +35,18 @@ pub enum Grade {
     Clean,
     /// Each finding of a rule of the first grade has a waiver.
     Waived,
+}
+
+impl Grade {
+    /// Its word in rows and replies.
+    pub fn word(self) -> &'static [u8]
+        ensures { result.now ≡ grade_word self }
+    {
+        match self {
+            Grade::Clean => b"clean",
+            Grade::Waived => b"waived",
+        }
+    }
 }
 
 /// The row that names the form of the tables.
@@ -84,7 +97,8 @@ pub struct SignOffRow {
     pub top: Text,
     pub who: Name,
     pub day: Day,
-    pub grade: Grade,
+    /// The word of its grade.
+    pub grade: Text,
     /// The digest of the files that the module reaches.
     pub reach: Digest,
 }

@@ -1,7 +1,6 @@
 // The rules of the tables, and the first row that breaks one.
 ghost use Rattle.std.specs.Prelude.{◌≡◌, ◌≤◌, ◌+◌, ◌==◌, ◌||◌, not, nat_le, nat_lt, length, [], Some, None, IfOk};
-ghost use Rattle.std.specs.Str.{is_utf8};
-ghost use Rattle.desk_tables.specs.Rules.{broken_meta, broken_row, file_breaks, first_broken, is_sound_file, is_sound_reply, is_sound_waiver, reply_breaks, signoff_breaks, waiver_breaks};
+ghost use Rattle.desk_tables.specs.Rules.{broken_meta, broken_row, file_breaks, first_broken, is_sound_file, is_sound_reply, is_sound_signoff, is_sound_waiver, reply_breaks, signoff_breaks, waiver_breaks};
 ghost use Rattle.desk_tables.specs.Tables.{kept_of};
 
 mod seen;
@@ -10,7 +9,7 @@ mod sound;
 use crate::{FileRow, MetaRow, ReplyRow, SignOffRow, Table, Tables, WaiverRow};
 use rtl_tree::memory::Memory;
 use seen::{Seen, reply_key};
-use sound::{is_sound_file, is_sound_reply, is_sound_waiver, is_utf8};
+use sound::{is_sound_file, is_sound_reply, is_sound_signoff, is_sound_waiver};
 use std::alloc::Global;
 
 /// How many bytes the name of a file may have.
@@ -97,10 +96,10 @@ fn broken_waiver(rows: &[WaiverRow]) -> Option<usize>
 
 // Whether a row breaks a rule, behind so many sign-offs.
 fn is_bad_signoff(place: usize, row: &SignOffRow) -> bool
-    ensures { result ≡ (not (is_utf8 row.now.top) || nat_le MAX_SIGN_OFFS place
+    ensures { result ≡ (not (is_sound_signoff row.now) || nat_le MAX_SIGN_OFFS place
         || not (row.now.id == place + 1)) }
 {
-    !is_utf8(&row.top) || place >= MAX_SIGN_OFFS || row.id as usize != place + 1
+    !is_sound_signoff(row) || place >= MAX_SIGN_OFFS || row.id as usize != place + 1
 }
 
 fn broken_signoff(rows: &[SignOffRow]) -> Option<usize>

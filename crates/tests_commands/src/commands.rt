@@ -1,21 +1,39 @@
 //! The commands over the tables, with what fails.
 
-use crate::outside::{new_outside, outside_over};
-use desk_tables::{FileRow, Name};
+use crate::outside::{new_outside, outside_over, outside_signed};
+use desk_tables::{Day, FileRow, Name, SignOffRow};
 use rtl_tree::text::Text;
 use sha2::{Digest, Sha256};
 use std::alloc::Global;
 use std::test::Fail;
 
+fn ann() -> Result<Name, Fail> {
+    match Name::new(b"ann") {
+        Some(name) => Ok(name),
+        None => Err(Fail::new("no name")),
+    }
+}
+
 fn file(alloc: Global, name: &[u8], text: &[u8]) -> Result<FileRow, Fail> {
-    let Some(editor) = Name::new(b"ann") else {
-        return Err(Fail::new("no name"));
-    };
     Ok(FileRow {
         name: Text::from_bytes(alloc, name)?,
         text: Text::from_bytes(alloc, text)?,
         digest: Sha256::digest(text),
-        editor,
+        editor: ann()?,
+    })
+}
+
+fn signoff(alloc: Global, id: u32, grade: &str) -> Result<SignOffRow, Fail> {
+    let Some(day) = Day::new(0) else {
+        return Err(Fail::new("no day"));
+    };
+    Ok(SignOffRow {
+        id,
+        top: Text::from_bytes(alloc, b"top")?,
+        who: ann()?,
+        day,
+        grade: Text::from_bytes(alloc, grade.as_bytes())?,
+        reach: [0; 32],
     })
 }
 
@@ -58,6 +76,30 @@ fn are_told(alloc: Global) -> Result<bool, Fail> {
 #[test]
 fn a_row_that_breaks_a_rule_is_told(rt: HostRuntime) -> Result<(), Fail> {
     assert_eq!(rt; are_told(rt.alloc())?, true);
+    Ok(())
+}
+
+// Sign-offs with these words as their grades.
+fn signoffs(alloc: Global, grades: &[&str]) -> Result<Vec<SignOffRow>, Fail> {
+    let mut rows = Vec::new(alloc);
+    for grade in grades {
+        rows.push(signoff(alloc, rows.len() as u32 + 1, grade)?)?;
+    }
+    Ok(rows)
+}
+
+// Whether another grade than the two is told, and these aren't.
+fn is_other_grade_told(alloc: Global) -> Result<bool, Fail> {
+    let mut other = outside_signed(alloc, signoffs(alloc, &["clean", "Clean"])?)?;
+    let line = b"bad table signoffs row 2\n";
+    let bad = other.answers("serve 8080 1", 14, line)? && other.answers("report top", 14, line)?;
+    let mut both = outside_signed(alloc, signoffs(alloc, &["clean", "waived"])?)?;
+    Ok(bad && both.answers("report top", 2, b"refused NoSuchModule top\n")?)
+}
+
+#[test]
+fn a_sign_off_of_another_grade_is_told(rt: HostRuntime) -> Result<(), Fail> {
+    assert_eq!(rt; is_other_grade_told(rt.alloc())?, true);
     Ok(())
 }
 

@@ -3,7 +3,7 @@
 use desk_command::desk;
 use desk_io::{MemoryShelf, MemorySink};
 use desk_links::{MemoryClock, MemoryDoor, MemoryLink};
-use desk_tables::{Day, FileRow, MemoryKeeper, Tables};
+use desk_tables::{Day, FileRow, MemoryKeeper, SignOffRow, Tables};
 use std::alloc::Global;
 use std::test::Fail;
 
@@ -32,12 +32,17 @@ fn boxed<T: Drop>(alloc: Global, it: T) -> Result<Box<T>, Fail> {
     }
 }
 
-// New tables with these files.
-fn new_keeper(alloc: Global, files: Vec<FileRow>) -> Result<Box<MemoryKeeper>, Fail> {
+// A keeper of new tables with these files and sign-offs.
+fn new_keeper(
+    alloc: Global,
+    files: Vec<FileRow>,
+    signoffs: Vec<SignOffRow>,
+) -> Result<Box<MemoryKeeper>, Fail> {
     let Ok(mut tables) = Tables::new(alloc) else {
         return Err(Fail::new("no memory"));
     };
     tables.files = files;
+    tables.signoffs = signoffs;
     boxed(alloc, MemoryKeeper::new(alloc, tables))
 }
 
@@ -68,7 +73,17 @@ pub fn new_outside(alloc: Global) -> Result<Box<Outside>, Fail> {
 
 /// The same over tables with these files.
 pub fn outside_over(alloc: Global, files: Vec<FileRow>) -> Result<Box<Outside>, Fail> {
-    let keeper = new_keeper(alloc, files)?;
+    let keeper = new_keeper(alloc, files, Vec::new(alloc))?;
+    outside_of(alloc, keeper)
+}
+
+/// The same over tables with these sign-offs.
+pub fn outside_signed(alloc: Global, signoffs: Vec<SignOffRow>) -> Result<Box<Outside>, Fail> {
+    let keeper = new_keeper(alloc, Vec::new(alloc), signoffs)?;
+    outside_of(alloc, keeper)
+}
+
+fn outside_of(alloc: Global, keeper: Box<MemoryKeeper>) -> Result<Box<Outside>, Fail> {
     let door = boxed(alloc, MemoryDoor::new(alloc))?;
     let clock = new_clock(alloc, 100)?;
     boxed(

@@ -30,7 +30,7 @@ fn keeper_after(alloc: Global, sql: &str) -> Result<Box<MemoryDatabase>, Fail> {
 }
 
 // What a type can't hold.
-const FAULTS: [&str; 16] = [
+const FAULTS: [&str; 15] = [
     "UPDATE meta SET version = -1",
     "UPDATE meta SET version = 4294967296",
     "UPDATE meta SET version = '1'",
@@ -44,7 +44,6 @@ const FAULTS: [&str; 16] = [
     "UPDATE waivers SET ended = 2932897",
     "UPDATE waivers SET owner = 'Al'",
     "UPDATE signoffs SET day = -719529",
-    "UPDATE signoffs SET grade = 'Clean'",
     "UPDATE replies SET status = 65536",
     "DROP TABLE replies",
 ];
@@ -75,7 +74,7 @@ fn what_a_type_cannot_hold_is_a_fault(rt: HostRuntime) -> Result<(), Fail> {
 fn loaded_rows(alloc: Global) -> Result<([usize; 5], u64), Fail> {
     let sql = "INSERT INTO meta VALUES (7); UPDATE files SET name = CAST(x'ff' AS TEXT); \
          INSERT INTO waivers SELECT * FROM waivers; UPDATE waivers SET rule = ''; \
-         UPDATE replies SET status = 404";
+         UPDATE signoffs SET grade = 'Clean'; UPDATE replies SET status = 404";
     let mut keeper = keeper_after(alloc, sql)?;
     let tables = loaded(alloc, &mut keeper)?;
     Ok((counts(&tables), keeper.faults()))

@@ -216,7 +216,7 @@ fn signoff(alloc: Global, id: u32, grade: Grade) -> Result<SignOffRow, Fail> {
         top: text(alloc, b"top")?,
         who: name(b"al")?,
         day: day(-719_528)?,
-        grade,
+        grade: text(alloc, grade.word())?,
         reach: digest(3),
     })
 }
@@ -234,7 +234,10 @@ fn sign(
 }
 
 fn is_signed(row: &SignOffRow, id: u32, grade: Grade) -> bool {
-    row.id == id && row.grade == grade && row.day.number() == -719_528 && row.reach == digest(3)
+    row.id == id
+        && row.grade.as_bytes() == grade.word()
+        && row.day.number() == -719_528
+        && row.reach == digest(3)
 }
 
 // Whether the tables have two sign-offs, and the replies to both.

@@ -62,7 +62,7 @@ impl Row for SignOffRow {
             top: copied_text(alloc, &self.top)?,
             who: self.who.copied(),
             day: self.day,
-            grade: self.grade,
+            grade: copied_text(alloc, &self.grade)?,
             reach: self.reach,
         })
     }

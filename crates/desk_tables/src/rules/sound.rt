@@ -3,10 +3,11 @@ ghost use Rattle.std.specs.Prelude.{◌≡◌, bytes_eq};
 ghost use Rattle.sha2.specs.Sha256.{sha256};
 ghost use Rattle.std.specs.List.{list_all};
 ghost use Rattle.std.specs.Str.{is_utf8};
-ghost use Rattle.desk_tables.specs.Rules.{is_file_letter, is_file_name, is_sound_file, is_sound_reply, is_sound_waiver};
+ghost use Rattle.desk_tables.specs.Grades.{is_grade_word};
+ghost use Rattle.desk_tables.specs.Rules.{is_file_letter, is_file_name, is_sound_file, is_sound_reply, is_sound_signoff, is_sound_waiver};
 
 use super::MAX_FILE_NAME_BYTES;
-use crate::{FileRow, ReplyRow, WaiverRow};
+use crate::{FileRow, Grade, ReplyRow, SignOffRow, WaiverRow};
 use rtl_rule::rule::rule_of;
 use rtl_tree::text::{MAX_BYTES, Text};
 use sha2::{Digest, Sha256};
@@ -29,7 +30,7 @@ fn is_file_name(name: &[u8]) -> bool
     !name.is_empty() && name.len() <= MAX_FILE_NAME_BYTES && are_file_letters(name)
 }
 
-pub(crate) fn is_utf8(text: &Text) -> bool
+fn is_utf8(text: &Text) -> bool
     ensures { result ≡ is_utf8 text.now }
 {
     match str::from_utf8(text.as_bytes()) {
@@ -63,6 +64,18 @@ pub(crate) fn is_sound_waiver(row: &WaiverRow) -> bool
         && is_utf8(&row.reason)
         && rule_of(row.rule.as_bytes()).is_some()
         && row.owner.as_bytes() != row.asker.as_bytes()
+}
+
+fn is_grade_word(word: &[u8]) -> bool
+    ensures { result ≡ is_grade_word word.now }
+{
+    word == Grade::Clean.word() || word == Grade::Waived.word()
+}
+
+pub(crate) fn is_sound_signoff(row: &SignOffRow) -> bool
+    ensures { result ≡ is_sound_signoff row.now }
+{
+    is_utf8(&row.top) && is_grade_word(row.grade.as_bytes())
 }
 
 pub(crate) fn is_sound_reply(row: &ReplyRow) -> bool
