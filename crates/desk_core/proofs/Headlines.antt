@@ -1,7 +1,6 @@
 -- What is signed clean shows in every simulation what its hardware shows.
 use Rattle.std.proofs.Common.{◌≡◌, ◌∙◌, Bool, true, false, ℕ, List, [], ◌∷◌, Option, Some, None, drop, get_or, refl, sym, ap, subst, arith}
-use Rattle.std.specs.Prelude.{ℤ, nat_lt, Result, Ok, Err, ◌||◌, if◌then◌else◌}
-use Rattle.std.specs.List.{list_any}
+use Rattle.std.specs.Prelude.{ℤ, nat_lt, Result, Ok, Err, if◌then◌else◌}
 use Rattle.std.proofs.lemmas.Bool.{cond-true}
 use Rattle.json.specs.Print.{escape_byte}
 use Rattle.rtl_tree.specs.TreeModule.{Circuit}
@@ -16,7 +15,7 @@ use Rattle.design_db.specs.desk_build.Building.{Front, IsFront, Modules, Faulty}
 use Rattle.source_file.specs.declared.SourceFile.{SourceFile}
 use Rattle.rtl_flat.specs.declared.instance.Instance.{Instance}
 use Rattle.rtl_flat.specs.declared.signal.Signal.{Signal}
-use Rattle.rtl_rule.specs.Rows.{row_of}
+use Rattle.rtl_rule.specs.Rows.{has_first_grade}
 use Rattle.rtl_rule.specs.declared.finding.Finding.{Finding}
 use Rattle.demo_told.specs.declared.demo.Demo.{Demo}
 use Rattle.demo_told.specs.declared.demo.Shown.{Shown}
@@ -37,8 +36,8 @@ use Rattle.desk_requests.specs.declared.ask.Request.{Request}
 use Rattle.desk_bodies.specs.Bodies.{granted_text, with_number, with_text}
 use Rattle.desk_records.specs.Machine.{by_tables, change_outcome, full_refusal, full_table, request_outcome, unless_full, unless_kept}
 use Rattle.desk_records.specs.Outcomes.{Outcome, Told, Done, Open, kept_said}
-use Rattle.desk_rulings.specs.Rulings.{Verdict, has_first_grade, left_of, standing_of}
-use Rattle.desk_rulings.specs.SignOffs.{accepted, edited_by, findings_stand, grade_of, rows_of, signoff_outcome, signoff_row, unless_edited}
+use Rattle.desk_rulings.specs.Rulings.{Verdict, left_of, standing_of}
+use Rattle.desk_rulings.specs.SignOffs.{accepted, edited_by, findings_of, findings_stand, grade_of, rows_of, signoff_outcome, signoff_row, unless_edited}
 use Rattle.source_file.specs.SourceFiles.{texts_in}
 use Rattle.design_db.specs.desk_answers.Fresh.{sources_at}
 use Rattle.design_db.specs.desk_memo.declared.answer.Answer.TheVariants.{Ruled, Refused}
@@ -84,28 +83,28 @@ signed_by : (stand : Bool) (left : ℕ) (found : Option FileRow) (grade : Grade)
 signed_by true left found grade row request named says = absurd (let no : 409 ≡ 201 = says.accepted in omega (arith, no))
 signed_by false left found grade row request named says = unedited_clean found grade row request named says
 
-signed_clean : (top : List ℕ) (request : Request) (today : ℤ) (kept : Kept) (verdict : Verdict) → SaysCleanIn (signoff_outcome top request today kept verdict) → has_first_grade verdict.rows ≡ false
+signed_clean : (top : List ℕ) (request : Request) (today : ℤ) (kept : Kept) (verdict : Verdict) → SaysCleanIn (signoff_outcome top request today kept verdict) → has_first_grade (findings_of verdict.rows) ≡ false
 signed_clean top request today kept verdict says =
     let left : ℕ = left_of (standing_of today kept verdict) in
-    first_clean (has_first_grade verdict.rows)
+    first_clean (has_first_grade (findings_of verdict.rows))
     (signed_by (nat_lt 0 left) left (edited_by request.user (rows_of kept.files verdict.reached))
     (grade_of verdict.rows) (signoff_row top request today kept verdict) request refl says)
 
 -- ---- the design of an answer
 
--- whether a row is of the first grade is settled by its finding
-graded_rows : (signals : List Signal) (instances : List Instance) (found : List Finding) (shown : List (Option (Demo × Shown))) → has_first_grade (tellings signals instances found shown) ≡ list_any (λ finding. (row_of finding.rule).first_grade) found
-graded_rows signals instances [] shown = refl
-graded_rows signals instances (one ∷ others) shown =
-    ap (λ b. (row_of one.rule).first_grade || b) (graded_rows signals instances others (drop 1 shown))
+-- the findings of the rows are those that were found
+told_findings : (signals : List Signal) (instances : List Instance) (found : List Finding) (shown : List (Option (Demo × Shown))) → findings_of (tellings signals instances found shown) ≡ found
+told_findings signals instances [] shown = refl
+told_findings signals instances (one ∷ others) shown =
+    ap (λ rest. one ∷ rest) (told_findings signals instances others (drop 1 shown))
 
-rows_clean : (signals : List Signal) (instances : List Instance) (found : List Finding) (shown : List (Option (Demo × Shown))) (rows : List Row) → rows ≡ tellings signals instances found shown → has_first_grade rows ≡ false → list_any (λ finding. (row_of finding.rule).first_grade) found ≡ false
+rows_clean : (signals : List Signal) (instances : List Instance) (found : List Finding) (shown : List (Option (Demo × Shown))) (rows : List Row) → rows ≡ tellings signals instances found shown → has_first_grade (findings_of rows) ≡ false → has_first_grade found ≡ false
 rows_clean signals instances found shown rows are clean =
-    sym (ap has_first_grade are ∙ graded_rows signals instances found shown) ∙ clean
+    sym (ap (λ its. has_first_grade (findings_of its)) are ∙ ap has_first_grade (told_findings signals instances found shown)) ∙ clean
 
 of_design : (kept : Kept) (top : List ℕ) (files : List SourceFile) → AreFilesOf kept.files files → (circuits : List (List Circuit)) → AreSpelled (texts_in files) circuits → (numbers : List ℕ) → AreUsed (library_of circuits) top numbers → (made : Result DesignParts Fault) → elaborated (extract numbers (library_of circuits)) top ≡ made → (answer : Answer) → IsOfDesign (sources_at numbers files) made answer → (request : Request) (today : ℤ) → SaysCleanIn (judged_with (ask.SignOff top) request today kept files answer) → IsSignedClean kept top
 of_design kept top files are circuits spelled numbers used (Ok flat) same (Ruled verdict reached) is request today says =
-    let graded : has_first_grade verdict.rows.items ≡ false = signed_clean top request today kept (verdict_in files verdict reached.items) says in
+    let graded : has_first_grade (findings_of verdict.rows.items) ≡ false = signed_clean top request today kept (verdict_in files verdict reached.items) says in
     let clean = rows_clean flat.parts.flat.signals flat.instances is.0.found is.0.shown verdict.rows.items is.0.told_is graded in
     record {
       files = files;

@@ -1,4 +1,5 @@
 mod Example
+mod FirstGrade
 pub mod Indexed
 mod Keys
 pub mod Kept

@@ -1,7 +1,6 @@
 -- Which waivers of the tables stand for the findings of a module on a day.
 -- Worked examples: crates/desk_rulings/proofs/Example.antt.
 use Rattle.std.specs.Prelude.{ℕ, ℤ, int_le, Bool, ◌&&◌, ◌==◌, bytes_eq, List, count_by, find, is_none, map, option_map, slice_get, Option}
-use Rattle.std.specs.List.{list_any}
 use Rattle.std.specs.Option.{option_and_then}
 use Rattle.rtl_rule.specs.Rows.{row_of}
 use Rattle.rtl_rule.specs.declared.finding.Key.{Key}
@@ -95,7 +94,3 @@ is_open one = (row_of one.row.finding.rule).first_grade && is_none one.waiver
 -- how many findings of the first grade have no waiver
 abbrev pub left_of : List Waived → ℕ
 left_of rows = count_by is_open rows
-
--- some finding is of the first grade
-abbrev pub has_first_grade : List Row → Bool
-has_first_grade rows = list_any (λ one. (row_of one.finding.rule).first_grade) rows

@@ -1,9 +1,11 @@
 -- What a request for a sign-off comes to, with what the rules say of its module.
 -- Worked examples: crates/desk_rulings/proofs/Example.antt.
-use Rattle.std.specs.Prelude.{ℕ, ◌+◌, ℤ, nat_lt, bytes_eq, codes, decimal, List, ◌++◌, length, find, flat_map, Option, Some, None, if◌then◌else◌}
+use Rattle.std.specs.Prelude.{ℕ, ◌+◌, ℤ, nat_lt, bytes_eq, codes, decimal, List, ◌++◌, length, find, flat_map, map, Option, Some, None, if◌then◌else◌}
 use Rattle.std.specs.List.{filter_map}
 use Rattle.hex.specs.Hex.{encode_lower}
 use Rattle.sha2.specs.Sha256.{sha256}
+use Rattle.rtl_rule.specs.Rows.{has_first_grade}
+use Rattle.rtl_rule.specs.declared.finding.Finding.{Finding}
 use Rattle.desk_rows.specs.declared.Row.{Row}
 use Rattle.desk_tables.specs.Changes.{has_name}
 use Rattle.desk_tables.specs.Grades.{grade_word}
@@ -18,7 +20,7 @@ use Rattle.desk_bodies.specs.Bodies.{granted_text}
 use Rattle.desk_bodies.specs.Refusals.{conflict_with, value_line}
 use Rattle.desk_records.specs.Machine.{kept_row}
 use Rattle.desk_records.specs.Outcomes.{Outcome, Told, Done}
-use Rattle.desk_rulings.specs.Rulings.{Verdict, has_first_grade, left_of, standing_of}
+use Rattle.desk_rulings.specs.Rulings.{Verdict, left_of, standing_of}
 
 -- the rows of the files of these names
 abbrev pub rows_of : List FileRow → List (List ℕ) → List FileRow
@@ -36,9 +38,13 @@ reach_line row = row.name ++ codes " " ++ encode_lower row.digest ++ codes "\n"
 abbrev pub reach_of : List FileRow → List ℕ
 reach_of rows = sha256 (flat_map reach_line rows)
 
+-- the findings of rows
+abbrev pub findings_of : List Row → List Finding
+findings_of rows = map (λ one. one.finding) rows
+
 -- clean where no finding is of the first grade
 abbrev pub grade_of : List Row → Grade
-grade_of rows = if has_first_grade rows then Waived else Clean
+grade_of rows = if has_first_grade (findings_of rows) then Waived else Clean
 
 -- the next row of the sign-offs
 abbrev pub signoff_row : List ℕ → Request → ℤ → Kept → Verdict → SignOffRow

@@ -1,12 +1,13 @@
 // Requests for sign-offs.
 ghost use Rattle.std.specs.Prelude.{◌≡◌, ◌<◌, ◌∷◌, ◌++◌, [], find, flat_map, length, option_copied, IfOk, OnOk};
+ghost use Rattle.rtl_rule.specs.Rows.{has_first_grade};
 ghost use Rattle.desk_tables.specs.Changes.{has_name};
 ghost use Rattle.desk_rulings.specs.Steps.{edited_one};
 ghost use Rattle.desk_tables.specs.Tables.{kept_of};
 ghost use Rattle.desk_tables.specs.Limits.{MAX_SIGN_OFFS};
 ghost use Rattle.desk_records.specs.Outcomes.{outcome};
-ghost use Rattle.desk_rulings.specs.Rulings.{has_first_grade, verdict_of};
-ghost use Rattle.desk_rulings.specs.SignOffs.{accepted, edited_by, findings_stand, grade_of, reach_line, reach_of, rows_of, signoff_outcome, signoff_row, unless_edited};
+ghost use Rattle.desk_rulings.specs.Rulings.{verdict_of};
+ghost use Rattle.desk_rulings.specs.SignOffs.{accepted, edited_by, findings_of, findings_stand, grade_of, reach_line, reach_of, rows_of, signoff_outcome, signoff_row, unless_edited};
 
 use crate::Ruled;
 use crate::site::file_of;
@@ -85,8 +86,9 @@ fn reach_of(alloc: Global, files: &[FileRow], reached: &[Text]) -> Result<Digest
     Ok(Sha256::digest(&lines))
 }
 
+// Whether one of their findings is of the first grade.
 fn has_first_grade(rows: &[Row]) -> bool
-    ensures { result ≡ has_first_grade rows.now }
+    ensures { result ≡ has_first_grade (findings_of rows.now) }
 {
     rows.iter().any(|one| first_grade(one.finding.rule))
 }
