@@ -1,7 +1,7 @@
 -- The branches of an `if` that are left, and the views of statements that hold vectors.
-use Rattle.std.specs.Prelude.{ℕ, Bool, List, ◌∷◌, ◌++◌, map, Vec, Box, Option, Ok, Err}
+use Rattle.std.specs.Prelude.{ℕ, Bool, List, [], ◌∷◌, ◌++◌, map, Vec, Box, Option, Ok, Err}
 use Rattle.std.specs.declared.alloc.Global.{Global}
-use Rattle.std.proofs.Common.{◌≡◌, ◌∙◌, ap, refl, inl, inr, append_assoc}
+use Rattle.std.proofs.Common.{◌≡◌, ◌∙◌, ap, refl, sym, inl, inr, append_assoc}
 use Rattle.std.proofs.lemmas.Bool.{cases_Bool}
 use Rattle.rtl_const.specs.Constant.{Outcome, is_true}
 use Rattle.rtl_tree.specs.declared.tree.expr.Expr.{Expr}
@@ -17,6 +17,8 @@ use Rattle.elab_nodes.specs.elab_scope.Expressions.{faults}
 use Rattle.elab_nodes.specs.elab_scope.Faults.{Refusal}
 use Rattle.elab_nodes.specs.elab_scope.Names.{Meanings}
 use Rattle.elab_nodes.specs.Totals.{case_count}
+use Rattle.elab_body.specs.declared.branches.Chosen.{Chosen}
+use Rattle.elab_body.specs.declared.branches.Chosen.TheVariants.{Taken, Otherwise, Both}
 use Rattle.elab_body.specs.Bodies.{Head, all_turns, body_steps, branch_steps, branches_steps, loop_faults, steps}
 use Rattle.elab_body.specs.Courses.{chosen, chosen_steps, condition_steps}
 use Rattle.elab_body.specs.Steps.{Course, Step, Statement, Nodes, faulty, passed, stepped}
@@ -36,11 +38,25 @@ passed_branches course at outcome nodes condition taken otherwise =
     ap (passed course) (branches_are at outcome nodes condition taken otherwise)
     ∙ passed_append course (condition_steps at outcome nodes condition) (chosen_steps (chosen outcome) taken otherwise)
 
-pub case_passed : (course : Course) (scope : Meanings) (at : ℕ) (kind : CaseKind) (full parallel : Bool) (selector : Expr) (items : Vec CaseItem Global) (s : Stmt) → s ≡ stmt.Case at kind full parallel selector items → passed course (steps (action s) scope) ≡ passed (passed (stepped (stepped course (Statement at)) (Nodes at (case_count scope (formula selector) (branch_row (map branch items.items))))) (faulty (faults scope (formula selector)))) (branches_steps (branch_row (map branch items.items)) scope)
+-- both branches, one after the other
+passed_chosen : (course : Course) (chosen : Chosen) (taken otherwise : List Step) → passed course (chosen_steps chosen taken otherwise) ≡ passed (passed course (chosen_steps chosen taken [])) (chosen_steps chosen [] otherwise)
+passed_chosen course Taken taken otherwise = refl
+passed_chosen course Otherwise taken otherwise = refl
+passed_chosen course Both taken otherwise =
+    passed_append course taken otherwise
+    ∙ ap (λ course. passed course otherwise) (sym (passed_append course taken []))
+
+-- an `if` with `else` is the same without, and its `else`
+pub passed_else : (course : Course) (at : ℕ) (outcome : Outcome) (nodes : ℕ) (condition : List Refusal) (taken otherwise : List Step) → passed course (branch_steps at outcome nodes condition taken otherwise) ≡ passed (passed course (branch_steps at outcome nodes condition taken [])) (chosen_steps (chosen outcome) [] otherwise)
+passed_else course at outcome nodes condition taken otherwise =
+    passed_branches course at outcome nodes condition taken otherwise
+    ∙ passed_chosen (passed course (condition_steps at outcome nodes condition)) (chosen outcome) taken otherwise
+    ∙ ap (λ course. passed course (chosen_steps (chosen outcome) [] otherwise)) (sym (passed_branches course at outcome nodes condition taken []))
+
+pub case_passed : (course : Course) (scope : Meanings) (at : ℕ) (kind : CaseKind) (full parallel : Bool) (selector : Expr) (items : Vec CaseItem Global) (s : Stmt) → s ≡ stmt.Case at kind full parallel selector items → passed course (steps (action s) scope) ≡ passed course (Statement at ∷ Nodes at (case_count scope (formula selector) (branch_row (map branch items.items))) ∷ faulty (faults scope (formula selector)) ++ branches_steps (branch_row (map branch items.items)) scope)
 case_passed course scope at kind full parallel selector items s is =
     ap (λ s. passed course (steps (action s) scope)) is
     ∙ ap (λ a. passed course (steps a scope)) (case_is at kind full parallel selector items)
-    ∙ passed_append (stepped (stepped course (Statement at)) (Nodes at (case_count scope (formula selector) (branch_row (map branch items.items))))) (faulty (faults scope (formula selector))) (branches_steps (branch_row (map branch items.items)) scope)
 
 pub block_passed : (course : Course) (scope : Meanings) (at : ℕ) (label : Option Name) (body : Vec Stmt Global) (s : Stmt) → s ≡ stmt.Block at label body → passed course (steps (action s) scope) ≡ passed (stepped course (Statement at)) (body_steps (action_row (map action body.items)) scope)
 block_passed course scope at label body s is =

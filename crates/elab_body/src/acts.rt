@@ -3,9 +3,9 @@
 
 ghost use Rattle.std.specs.Prelude.{◌≡◌, ◌≤◌, ◌∷◌, [], ◌++◌, ℤ, IfOk, Option, map};
 ghost use Rattle.rtl_flat.specs.Expression.{tree};
-ghost use Rattle.rtl_flat.specs.Process.{Block, Branches, If, NoBranch, action as made_action, body_of};
+ghost use Rattle.rtl_flat.specs.Process.{Block, Branches, If as MadeIf, NoBranch, With, action as made_action, body_of};
 ghost use Rattle.rtl_tree.specs.TreeExpr.{formula};
-ghost use Rattle.rtl_tree.specs.TreeStmt.{Case, action, action_row, branch, branch_row, target};
+ghost use Rattle.rtl_tree.specs.TreeStmt.{Case, If, action, action_row, branch, branch_row, target};
 ghost use Rattle.elab_nodes.specs.elab_scope.Names.{indexed, meanings};
 ghost use Rattle.elab_nodes.specs.elab_scope.Trees.{own_context, spot_in, tree_of};
 ghost use Rattle.elab_body.specs.Acts.{act_turns, acts, body_acts, case_branches, fallback, loop_acts, set_of, with_branch};
@@ -60,7 +60,7 @@ fn assigned(
 }
 
 fn branched(test: SizedExpr, yes: Vec<Act>, no: Option<Vec<Act>>, spot: Spot) -> Act
-    ensures { made_action result ≡ If (tree test) (body_of (map made_action yes.items))
+    ensures { made_action result ≡ MadeIf (tree test) (body_of (map made_action yes.items))
         (otherwise_of no) spot }
 {
     Act::If {
@@ -106,7 +106,7 @@ fn push_branches(
     spot: Spot,
 ) -> Result<Vec<Act>, Memory>
     ensures { IfOk result (λ all. map made_action all.items ≡ map made_action made.items
-        ++ (If (tree test.value) (body_of (map made_action yes.items)) (otherwise_of no) spot
+        ++ (MadeIf (tree test.value) (body_of (map made_action yes.items)) (otherwise_of no) spot
         ∷ [])) }
 {
     with(made, branched(Box::into_inner(test), yes, no, spot))
@@ -136,17 +136,6 @@ fn push_assignment(
 {
     made.push(assigned(written, kind, value, names, site)?)?;
     Ok(made)
-}
-
-/// The head of a case: all of it but its items.
-#[derive(Clone, Copy)]
-struct CaseHead<'a> {
-    /// The place of the word.
-    at: u32,
-    kind: CaseKind,
-    full: bool,
-    parallel: bool,
-    selector: &'a Expr,
 }
 
 /// The labels of an item of a case.
@@ -197,24 +186,14 @@ fn push_acts(body: &Stmt, names: &mut Names, site: Site, made: Vec<Act>) -> Resu
         Stmt::Assign(written, kind, _, value) => {
             push_assignment(written, *kind, value, names, site, made)
         }
-        Stmt::If(at, condition, taken) => match branches_of(constant(condition, names)) {
-            Chosen::Taken => push_acts(taken, names, site, made),
-            Chosen::Otherwise => Ok(made),
-            Chosen::Both => {
-                let test = test(condition, names, site)?;
-                let yes = acts_of(taken, names, site)?;
-                push_branches(made, test, yes, None, spot_at(site, *at))
-            }
-        },
+        Stmt::If(at, condition, taken) => push_if(taken, *at, condition, names, site, made),
         Stmt::IfElse(at, condition, taken, otherwise) => {
             match branches_of(constant(condition, names)) {
                 Chosen::Taken => push_acts(taken, names, site, made),
                 Chosen::Otherwise => push_acts(otherwise, names, site, made),
                 Chosen::Both => {
-                    let test = test(condition, names, site)?;
                     let yes = acts_of(taken, names, site)?;
-                    let no = acts_of(otherwise, names, site)?;
-                    push_branches(made, test, yes, Some(no), spot_at(site, *at))
+                    push_both(otherwise, yes, *at, condition, names, site, made)
                 }
             }
         }
@@ -225,16 +204,9 @@ fn push_acts(body: &Stmt, names: &mut Names, site: Site, made: Vec<Act>) -> Resu
             parallel,
             selector,
             items,
-        } => {
-            let head = CaseHead {
-                at: *at,
-                kind: *kind,
-                full: *full,
-                parallel: *parallel,
-                selector,
-            };
-            push_case(head, items, names, site, made)
-        }
+        } => push_case(
+            items, *at, *kind, *full, *parallel, selector, names, site, made,
+        ),
         Stmt::For {
             at,
             index,
@@ -244,48 +216,94 @@ fn push_acts(body: &Stmt, names: &mut Names, site: Site, made: Vec<Act>) -> Resu
             step,
             body,
         } => {
-            let head = Head {
-                at: *at,
-                index,
-                start,
-                condition,
-                stepped,
-                step,
-            };
+            let head = Head::new(*at, index, start, condition, stepped, step);
             push_loop(head, body, names, site, made)
         }
         Stmt::Block(_, _, all) => push_block(all, names, site, made),
     }
 }
 
-/// A case, behind other statements.
+/// An `if` without `else`, behind other statements.
 #[cycle(acts)]
-fn push_case(
-    head: CaseHead<'_>,
-    items: &[CaseItem],
+#[tactic(auto, using(crate::proofs::Acting::branches_decided))]
+fn push_if(
+    taken: &Stmt,
+    at: u32,
+    condition: &Expr,
     names: &mut Names,
     site: Site,
     made: Vec<Act>,
 ) -> Result<Vec<Act>, Memory>
     ensures made { IfOk result (λ all. map made_action all.items ≡ map made_action made.items
-        ++ acts site.file site.base
-        (Case head.entry.at head.entry.kind head.entry.full head.entry.parallel
-        (formula head.entry.selector.now) (branch_row (map branch items.now)))
+        ++ acts site.file site.base (If at (formula condition.now) (action taken.now))
         (meanings names.old)) }
     ensures same { meanings names.new ≡ meanings names.old }
 {
-    let context = case_context(head.selector, items, names);
-    let selector = boxed(head.selector, context, names, site)?;
+    match branches_of(constant(condition, names)) {
+        Chosen::Taken => push_acts(taken, names, site, made),
+        Chosen::Otherwise => Ok(made),
+        Chosen::Both => {
+            let test = test(condition, names, site)?;
+            let yes = acts_of(taken, names, site)?;
+            push_branches(made, test, yes, None, spot_at(site, at))
+        }
+    }
+}
+
+/// An `if` of which both branches are left, and the first is made, behind other statements.
+#[cycle(acts)]
+fn push_both(
+    otherwise: &Stmt,
+    yes: Vec<Act>,
+    at: u32,
+    condition: &Expr,
+    names: &mut Names,
+    site: Site,
+    made: Vec<Act>,
+) -> Result<Vec<Act>, Memory>
+    ensures made { let scope = meanings names.old in
+        let test = tree_of site.file site.base scope (formula condition.now)
+        (own_context scope (formula condition.now)) in
+        let no = With (body_of (acts site.file site.base (action otherwise.now) scope)) in
+        IfOk result (λ all. map made_action all.items ≡ map made_action made.items
+        ++ (MadeIf test (body_of (map made_action yes.items)) no (spot_in site.file at) ∷ [])) }
+    ensures same { meanings names.new ≡ meanings names.old }
+{
+    let test = test(condition, names, site)?;
+    let no = acts_of(otherwise, names, site)?;
+    push_branches(made, test, yes, Some(no), spot_at(site, at))
+}
+
+/// A case, behind other statements.
+#[cycle(acts)]
+fn push_case(
+    items: &[CaseItem],
+    at: u32,
+    kind: CaseKind,
+    full: bool,
+    parallel: bool,
+    selector: &Expr,
+    names: &mut Names,
+    site: Site,
+    made: Vec<Act>,
+) -> Result<Vec<Act>, Memory>
+    ensures made { IfOk result (λ all. map made_action all.items ≡ map made_action made.items
+        ++ acts site.file site.base (Case at kind full parallel (formula selector.now)
+        (branch_row (map branch items.now))) (meanings names.old)) }
+    ensures same { meanings names.new ≡ meanings names.old }
+{
+    let context = case_context(selector, items, names);
+    let selector = boxed(selector, context, names, site)?;
     let items_made = items_of(items, context, names, site)?;
     let fallback = fallback_of(items, names, site)?;
     let act = Act::Case {
-        kind: kind_of(head.kind),
-        full: head.full,
-        parallel: head.parallel,
+        kind: kind_of(kind),
+        full,
+        parallel,
         selector: Box::into_inner(selector),
         items: items_made,
         fallback,
-        spot: spot_at(site, head.at),
+        spot: spot_at(site, at),
     };
     with(made, act)
 }

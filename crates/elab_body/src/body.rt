@@ -1,12 +1,15 @@
 //! The faults of bodies, in one walk: `for` is its turns, and an `if` whose condition is constant is the branch that
 //! it takes. The walk takes no memory.
 
-ghost use Rattle.std.specs.Prelude.{◌≡◌, ℤ, Option, map};
-ghost use Rattle.rtl_tree.specs.TreeStmt.{action, action_row, branch, branch_row};
+ghost use Rattle.std.specs.Prelude.{◌≡◌, ◌∷◌, [], ◌++◌, ℤ, Option, map};
+ghost use Rattle.rtl_tree.specs.TreeExpr.{formula};
+ghost use Rattle.rtl_tree.specs.TreeStmt.{If, action, action_row, branch, branch_row};
+ghost use Rattle.elab_nodes.specs.elab_scope.Expressions.{faults};
 ghost use Rattle.elab_nodes.specs.elab_scope.Names.{indexed, meanings};
+ghost use Rattle.elab_nodes.specs.Totals.{case_count};
 ghost use Rattle.elab_body.specs.Bodies.{all_turns, body_steps, branch_item_steps, branches_steps, counted, steps, turns};
-ghost use Rattle.elab_body.specs.Courses.{course, head_of};
-ghost use Rattle.elab_body.specs.Steps.{passed};
+ghost use Rattle.elab_body.specs.Courses.{chosen_steps, course, head_of};
+ghost use Rattle.elab_body.specs.Steps.{Nodes, Statement, faulty, passed};
 
 use crate::branches::{Chosen, branches_of, goes_on, judge_condition};
 use crate::head::Head;
@@ -15,6 +18,7 @@ use crate::progress::Progress;
 use elab_nodes::elab_scope::names::Names;
 use rtl_const::evaluate::constant;
 use rtl_const::params::Lookup;
+use rtl_tree::tree::expr::Expr;
 use rtl_tree::tree::stmt::{CaseItem, Stmt};
 
 /// How many turns a loop may have.
@@ -22,7 +26,7 @@ pub(crate) const TURNS: u32 = 4096;
 
 /// A body, after what came before it.
 #[cycle(judge_body)]
-#[tactic(auto, using(crate::proofs::Passing::passed_append, crate::proofs::Deciding::passed_branches))]
+#[tactic(auto, using(crate::proofs::Passing::passed_append, crate::proofs::Deciding::passed_else))]
 pub fn judge_body<'a>(body: &'a Stmt, names: &mut Names, so_far: Progress<'a>) -> Progress<'a>
     ensures told { course result ≡ passed (course so_far.entry)
         (steps (action body.now) (meanings names.old)) }
@@ -34,34 +38,18 @@ pub fn judge_body<'a>(body: &'a Stmt, names: &mut Names, so_far: Progress<'a>) -
         Stmt::Assign(written, kind, delay, value) => {
             assignment(written, *kind, delay, value, names, so_far)
         }
-        Stmt::If(at, condition, taken) => {
-            let so_far = judge_condition(*at, condition, names, so_far);
-            match branches_of(constant(condition, names)) {
-                Chosen::Taken | Chosen::Both => judge_body(taken, names, so_far),
-                Chosen::Otherwise => so_far,
-            }
-        }
+        Stmt::If(at, condition, taken) => judge_if(taken, *at, condition, names, so_far),
         Stmt::IfElse(at, condition, taken, otherwise) => {
-            let so_far = judge_condition(*at, condition, names, so_far);
-            match branches_of(constant(condition, names)) {
-                Chosen::Taken => judge_body(taken, names, so_far),
-                Chosen::Otherwise => judge_body(otherwise, names, so_far),
-                Chosen::Both => {
-                    let so_far = judge_body(taken, names, so_far);
-                    judge_body(otherwise, names, so_far)
-                }
-            }
+            let so_far = judge_if(taken, *at, condition, names, so_far);
+            let chosen = branches_of(constant(condition, names));
+            judge_otherwise(chosen, otherwise, names, so_far)
         }
         Stmt::Case {
             at,
             selector,
             items,
             ..
-        } => {
-            let so_far = so_far.count(*at);
-            let so_far = so_far.spend_case(*at, selector, items, names);
-            judge_items(items, names, so_far.judge(selector, names))
-        }
+        } => judge_case(*at, items, selector, names, so_far),
         Stmt::For {
             at,
             index,
@@ -71,19 +59,75 @@ pub fn judge_body<'a>(body: &'a Stmt, names: &mut Names, so_far: Progress<'a>) -
             step,
             body,
         } => {
-            let head = Head {
-                at: *at,
-                index,
-                start,
-                condition,
-                stepped,
-                step,
-            };
+            let head = Head::new(*at, index, start, condition, stepped, step);
             let so_far = head.judge(names, so_far);
             judge_loop(head, body, names, so_far)
         }
         Stmt::Block(at, _, body) => judge_bodies(body, names, so_far.count(*at)),
     }
+}
+
+/// An `if` without `else`.
+#[cycle(judge_body)]
+#[tactic(auto, using(crate::proofs::Passing::passed_append, crate::proofs::Deciding::passed_branches))]
+fn judge_if<'a>(
+    taken: &'a Stmt,
+    at: u32,
+    condition: &'a Expr,
+    names: &mut Names,
+    so_far: Progress<'a>,
+) -> Progress<'a>
+    ensures told { course result ≡ passed (course so_far.entry)
+        (steps (If at (formula condition.now) (action taken.now)) (meanings names.old)) }
+    ensures same { meanings names.new ≡ meanings names.old }
+{
+    let so_far = judge_condition(at, condition, names, so_far);
+    match branches_of(constant(condition, names)) {
+        Chosen::Taken | Chosen::Both => judge_body(taken, names, so_far),
+        Chosen::Otherwise => so_far,
+    }
+}
+
+/// The `else` of an `if` that is judged already.
+#[cycle(judge_body)]
+fn judge_otherwise<'a>(
+    chosen: Chosen,
+    otherwise: &'a Stmt,
+    names: &mut Names,
+    so_far: Progress<'a>,
+) -> Progress<'a>
+    ensures told { course result ≡ passed (course so_far.entry)
+        (chosen_steps chosen [] (steps (action otherwise.now) (meanings names.old))) }
+    ensures same { meanings names.new ≡ meanings names.old }
+{
+    match chosen {
+        Chosen::Taken => so_far,
+        Chosen::Otherwise => judge_body(otherwise, names, so_far),
+        Chosen::Both => judge_body(otherwise, names, so_far),
+    }
+}
+
+/// A case.
+#[cycle(judge_body)]
+#[tactic(auto, using(crate::proofs::Passing::passed_append))]
+fn judge_case<'a>(
+    at: u32,
+    items: &'a [CaseItem],
+    selector: &'a Expr,
+    names: &mut Names,
+    so_far: Progress<'a>,
+) -> Progress<'a>
+    ensures told { let branches = branch_row (map branch items.now) in
+        course result ≡ passed (course so_far.entry)
+        (Statement at
+        ∷ Nodes at (case_count (meanings names.old) (formula selector.now) branches)
+        ∷ faulty (faults (meanings names.old) (formula selector.now))
+        ++ branches_steps branches (meanings names.old)) }
+    ensures same { meanings names.new ≡ meanings names.old }
+{
+    let so_far = so_far.count(at);
+    let so_far = so_far.spend_case(at, selector, items, names);
+    judge_items(items, names, so_far.judge(selector, names))
 }
 
 /// Statements in a row.

@@ -1,7 +1,7 @@
 //! The heads of loops: their faults, and what their turns look at.
 
 ghost use Rattle.std.specs.Prelude.{◌≡◌};
-ghost use Rattle.rtl_tree.specs.TreeExpr.{formula};
+ghost use Rattle.rtl_tree.specs.TreeExpr.{formula, identifier};
 ghost use Rattle.elab_nodes.specs.elab_scope.Names.{meanings};
 ghost use Rattle.elab_body.specs.Bodies.{head_faults, in_head, loop_faults};
 ghost use Rattle.elab_body.specs.Courses.{course, first_of, head_of};
@@ -29,6 +29,33 @@ pub struct Head<'a> {
 }
 
 impl<'a> Head<'a> {
+    pub fn new(
+        at: u32,
+        index: &'a Name,
+        start: &'a Expr,
+        condition: &'a Expr,
+        stepped: &'a Name,
+        step: &'a Expr,
+    ) -> Head<'a>
+        ensures { head_of result ≡ record {
+          at = at;
+          index = identifier index.now;
+          start = formula start.now;
+          condition = formula condition.now;
+          stepped = identifier stepped.now;
+          step = formula step.now;
+        } }
+    {
+        Head {
+            at,
+            index,
+            start,
+            condition,
+            stepped,
+            step,
+        }
+    }
+
     /// The faults of the head.
     pub fn judge(self, names: &mut Names, so_far: Progress<'a>) -> Progress<'a>
         ensures told { course result ≡ passed (course so_far.entry)

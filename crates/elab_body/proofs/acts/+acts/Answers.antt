@@ -88,5 +88,5 @@ push_acts-returns-in-Case-clause-made t c =
 
 pub push_case-returns-clause-made : goal.push_case-returns-clause-made
 push_case-returns-clause-made t c =
-    let act = case_made c.kind_of.result c.args.head.full c.args.head.parallel c.into_inner.result c.in_ok-items_made.items_made c.in_ok-fallback.fallback c.spot_at.result in
+    let act = case_made c.kind_of.result c.args.full c.args.parallel c.into_inner.result c.in_ok-items_made.items_made c.in_ok-fallback.fallback c.spot_at.result in
     grind (arith, common_steps, act)
