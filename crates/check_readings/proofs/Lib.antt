@@ -1,0 +1,4 @@
+mod Example
+pub mod Amounts
+pub mod Once
+pub mod Telling
