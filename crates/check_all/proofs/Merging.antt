@@ -1,4 +1,4 @@
--- Six lists of findings in order, put together one after the other.
+-- Seven lists of findings in order, put together one after the other.
 use Rattle.std.proofs.Common.{◌≡◌, ◌∙◌, List, ◌++◌, Result, Ok, Err, Vec, IfOk, ap, sym}
 use Rattle.std.specs.declared.alloc.Global.{Global}
 use Rattle.rtl_tree.specs.declared.memory.Memory.{Memory}
@@ -13,6 +13,8 @@ use Rattle.check_clocks.specs.check_chains.Findings.{AreResetFindings}
 use Rattle.check_clocks.specs.Findings.{AreClockFindings}
 use Rattle.check_case.specs.Cases.{AreCaseFindings}
 use Rattle.check_unknown.specs.Unknowns.{AreUnknownFindings}
+use Rattle.check_readings.specs.Readings.{AreReadingFindings}
+use Rattle.check_readings.proofs.Once.{once_ranked}
 use Rattle.check_all.specs.Findings.{AreAllFindings}
 
 -- what is ranked stays as it is when it is ranked again
@@ -23,8 +25,8 @@ again xs =
 in_order : (all xs : List Finding) → all ≡ ranked xs → all ≡ ranked all
 in_order all xs is = is ∙ sym (again xs) ∙ sym (ap ranked is)
 
-module _ (d : Parts) (sense assigned clocked reset cases unknown two three four five : List Finding) (s : AreSenseFindings d.flat sense) (a : AreAssignFindings d.flat assigned) (k : AreClockFindings (InCone d.flat) d.flat clocked) (r : AreResetFindings d.flat reset) (c : AreCaseFindings d.flat cases) (u : AreUnknownFindings d unknown) where
-  told : (all : List Finding) → all ≡ ranked (sense ++ assigned ++ clocked ++ reset ++ cases ++ unknown) → AreAllFindings d all
+module _ (d : Parts) (sense assigned clocked reset cases unknown readings two three four five six : List Finding) (s : AreSenseFindings d.flat sense) (a : AreAssignFindings d.flat assigned) (k : AreClockFindings (InCone d.flat) d.flat clocked) (r : AreResetFindings d.flat reset) (c : AreCaseFindings d.flat cases) (u : AreUnknownFindings d unknown) (g : AreReadingFindings d.flat readings) where
+  told : (all : List Finding) → all ≡ ranked (sense ++ assigned ++ clocked ++ reset ++ cases ++ unknown ++ readings) → AreAllFindings d all
   told all is =
       record {
         sense = sense;
@@ -33,28 +35,31 @@ module _ (d : Parts) (sense assigned clocked reset cases unknown two three four 
         reset = reset;
         cases = cases;
         unknown = unknown;
+        readings = readings;
         are_sense = s;
         are_assigned = a;
         are_clocked = k;
         are_reset = r;
         are_cases = c;
         are_unknown = u;
+        are_readings = g;
         in_order = is;
       }
 
-  by_result : (o : Result (Vec Finding Global) Memory) → IfOk o (λ all. all.items ≡ ranked (sense ++ assigned ++ clocked ++ reset ++ cases ++ unknown)) → IfOk o (λ all. AreAllFindings d all.items)
+  by_result : (o : Result (Vec Finding Global) Memory) → IfOk o (λ all. all.items ≡ ranked (sense ++ assigned ++ clocked ++ reset ++ cases ++ unknown ++ readings)) → IfOk o (λ all. AreAllFindings d all.items)
   by_result (Ok all) is = told all.items is
   by_result (Err fault) is = tt
 
-  -- what is made of the six lists is all findings
+  -- what is made of the seven lists is all findings
   pub all_of : (o : Result (Vec Finding Global) Memory)
       → ((xs ys : List Finding) → sense ≡ ranked xs → assigned ≡ ranked ys → two ≡ ranked (xs ++ ys))
       → ((xs ys : List Finding) → two ≡ ranked xs → clocked ≡ ranked ys → three ≡ ranked (xs ++ ys))
       → ((xs ys : List Finding) → three ≡ ranked xs → reset ≡ ranked ys → four ≡ ranked (xs ++ ys))
       → ((xs ys : List Finding) → four ≡ ranked xs → cases ≡ ranked ys → five ≡ ranked (xs ++ ys))
-      → ((xs ys : List Finding) → five ≡ ranked xs → unknown ≡ ranked ys → IfOk o (λ all. all.items ≡ ranked (xs ++ ys)))
+      → ((xs ys : List Finding) → five ≡ ranked xs → unknown ≡ ranked ys → six ≡ ranked (xs ++ ys))
+      → ((xs ys : List Finding) → six ≡ ranked xs → readings ≡ ranked ys → IfOk o (λ all. all.items ≡ ranked (xs ++ ys)))
       → IfOk o (λ all. AreAllFindings d all.items)
-  all_of o first second third fourth fifth =
+  all_of o first second third fourth fifth sixth =
       let of_sense = in_order sense (s.missing ++ s.never ++ s.mixed) s.in_order in
       let of_assigned =
       in_order assigned (a.blocking ++ a.nonblocking ++ a.mixed ++ a.several ++ a.undriven ++ a.loop ++ a.latch ++ a.tristate) a.in_order in
@@ -67,4 +72,7 @@ module _ (d : Parts) (sense assigned clocked reset cases unknown two three four 
       let of_three = second (sense ++ assigned) clocked of_two of_clocked in
       let of_four = third (sense ++ assigned ++ clocked) reset of_three of_reset in
       let of_five = fourth (sense ++ assigned ++ clocked ++ reset) cases of_four of_cases in
-      by_result o (fifth (sense ++ assigned ++ clocked ++ reset ++ cases) unknown of_five of_unknown)
+      let of_readings =
+      g.in_order ∙ once_ranked (g.target ++ g.listed ++ g.select) ∙ sym (ap ranked g.in_order) in
+      let of_six = fifth (sense ++ assigned ++ clocked ++ reset ++ cases) unknown of_five of_unknown in
+      by_result o (sixth (sense ++ assigned ++ clocked ++ reset ++ cases ++ unknown) readings of_six of_readings)

@@ -204,8 +204,9 @@ module _ (among : Rule → Bool) (needed : (one : Rule) → is_needed one ≡ tr
 
     pub none_needed : (findings : List Finding) → AreAllFindings whole findings → list_any is_first findings ≡ false → HasNoFinding d
     none_needed findings are clean =
-        let all = unranked findings (are.sense ++ are.assigned ++ are.clocked ++ are.reset ++ are.cases ++ are.unknown) are.in_order clean in
-        let (five, h_unknown) = any_parts is_first (are.sense ++ are.assigned ++ are.clocked ++ are.reset ++ are.cases) are.unknown all in
+        let all = unranked findings (are.sense ++ are.assigned ++ are.clocked ++ are.reset ++ are.cases ++ are.unknown ++ are.readings) are.in_order clean in
+        let (six, h_readings) = any_parts is_first (are.sense ++ are.assigned ++ are.clocked ++ are.reset ++ are.cases ++ are.unknown) are.readings all in
+        let (five, h_unknown) = any_parts is_first (are.sense ++ are.assigned ++ are.clocked ++ are.reset ++ are.cases) are.unknown six in
         let (four, h_cases) = any_parts is_first (are.sense ++ are.assigned ++ are.clocked ++ are.reset) are.cases five in
         let (three, h_reset) = any_parts is_first (are.sense ++ are.assigned ++ are.clocked) are.reset four in
         let (two, h_clocked) = any_parts is_first (are.sense ++ are.assigned) are.clocked three in

@@ -11,6 +11,7 @@ use Rattle.check_clocks.specs.Findings.{AreClockFindings}
 use Rattle.check_assign.specs.Findings.{AreAssignFindings}
 use Rattle.check_case.specs.Cases.{AreCaseFindings}
 use Rattle.check_unknown.specs.Unknowns.{AreUnknownFindings}
+use Rattle.check_readings.specs.Readings.{AreReadingFindings}
 
 -- whether these are all findings of a design, in their order
 pub record AreAllFindings (d : Parts) (findings : List Finding) : Type 0 where
@@ -20,13 +21,15 @@ pub record AreAllFindings (d : Parts) (findings : List Finding) : Type 0 where
   pub reset : List Finding
   pub cases : List Finding
   pub unknown : List Finding
+  pub readings : List Finding
   pub are_sense : AreSenseFindings d.flat sense
   pub are_assigned : AreAssignFindings d.flat assigned
   pub are_clocked : AreClockFindings (InCone d.flat) d.flat clocked
   pub are_reset : AreResetFindings d.flat reset
   pub are_cases : AreCaseFindings d.flat cases
   pub are_unknown : AreUnknownFindings d unknown
-  pub in_order : findings ≡ ranked (sense ++ assigned ++ clocked ++ reset ++ cases ++ unknown)
+  pub are_readings : AreReadingFindings d.flat readings
+  pub in_order : findings ≡ ranked (sense ++ assigned ++ clocked ++ reset ++ cases ++ unknown ++ readings)
 
 -- whether the design of these findings is clean: none of them is of the first grade
 abbrev pub IsClean : List Finding → Type 0

@@ -24,9 +24,11 @@ pub fn check(alloc: Global, design: &Design) -> Result<Vec<Finding>, Memory>
     let reset = check_clocks::check_chains::check(alloc, &scans)?;
     let cases = check_case::check(alloc, &scans)?;
     let unknown = check_unknown::check(alloc, &scans)?;
+    let readings = check_readings::check(alloc, design)?;
     let two = merged(alloc, &sense, &assigned)?;
     let three = merged(alloc, &two, &clocked)?;
     let four = merged(alloc, &three, &reset)?;
     let five = merged(alloc, &four, &cases)?;
-    merged(alloc, &five, &unknown)
+    let six = merged(alloc, &five, &unknown)?;
+    merged(alloc, &six, &readings)
 }

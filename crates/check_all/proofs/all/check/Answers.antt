@@ -13,16 +13,18 @@ use Rattle.check_all.proofs.all.check.Goals as goal
 pub returns : goal.returns
 returns c =
     let same = c.in_ok-scans.ensures.design in
-    all_of (parts c.args.design.now) c.in_ok-sense.sense.items c.in_ok-assigned.assigned.items c.in_ok-clocked.clocked.items c.in_ok-reset.reset.items c.in_ok-cases.cases.items c.in_ok-unknown.unknown.items c.in_ok-two.two.items c.in_ok-three.three.items c.in_ok-four.four.items c.in_ok-five.five.items
+    all_of (parts c.args.design.now) c.in_ok-sense.sense.items c.in_ok-assigned.assigned.items c.in_ok-clocked.clocked.items c.in_ok-reset.reset.items c.in_ok-cases.cases.items c.in_ok-unknown.unknown.items c.in_ok-readings.readings.items c.in_ok-two.two.items c.in_ok-three.three.items c.in_ok-four.four.items c.in_ok-five.five.items c.in_ok-six.six.items
     (subst (λ d. AreSenseFindings (flat d) c.in_ok-sense.sense.items) same c.in_ok-sense.ensures)
     (subst (λ d. AreAssignFindings (flat d) c.in_ok-assigned.assigned.items) same c.in_ok-assigned.ensures)
     (subst (λ d. AreClockFindings (InCone (flat d)) (flat d) c.in_ok-clocked.clocked.items) same c.in_ok-clocked.ensures)
     (subst (λ d. AreResetFindings (flat d) c.in_ok-reset.reset.items) same c.in_ok-reset.ensures)
     (subst (λ d. AreCaseFindings (flat d) c.in_ok-cases.cases.items) same c.in_ok-cases.ensures)
     (subst (λ d. AreUnknownFindings (parts d) c.in_ok-unknown.unknown.items) same c.in_ok-unknown.ensures)
-    c.merged-5.result
+    c.in_ok-readings.ensures
+    c.merged-6.result
     (λ xs ys one other. c.in_ok-two.ensures xs ys (c.deref.ensures.value ∙ one) (c.deref-2.ensures.value ∙ other))
     (λ xs ys one other. c.in_ok-three.ensures xs ys (c.deref-3.ensures.value ∙ one) (c.deref-4.ensures.value ∙ other))
     (λ xs ys one other. c.in_ok-four.ensures xs ys (c.deref-5.ensures.value ∙ one) (c.deref-6.ensures.value ∙ other))
     (λ xs ys one other. c.in_ok-five.ensures xs ys (c.deref-7.ensures.value ∙ one) (c.deref-8.ensures.value ∙ other))
-    (λ xs ys one other. c.merged-5.ensures xs ys (c.deref-9.ensures.value ∙ one) (c.deref-10.ensures.value ∙ other))
+    (λ xs ys one other. c.in_ok-six.ensures xs ys (c.deref-9.ensures.value ∙ one) (c.deref-10.ensures.value ∙ other))
+    (λ xs ys one other. c.merged-6.ensures xs ys (c.deref-11.ensures.value ∙ one) (c.deref-12.ensures.value ∙ other))
