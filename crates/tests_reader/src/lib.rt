@@ -1,11 +1,12 @@
 //! Rows of an input, for the programs of rows, and how what they answer is written.
 //!
 //! A row is a title behind `== `, words behind `$ ` or `> `, faults behind `! `, and files: a name behind `@ `, each line behind
-//! `|`, and a last line without its line feed behind `\`. `*N LINE` stands for N lines, `%N TEXT` for N times a text without a
-//! line feed, and `& HEX HEX` for bytes. Lines that begin with `#` and empty lines say nothing.
+//! `|`, one that ends in a carriage return and a line feed behind `^`, and a last line without its line feed behind `\`. `*N LINE`
+//! stands for N lines, `%N TEXT` for N times a text without a line feed, and `& HEX HEX` for bytes. Lines that begin with `#` and
+//! empty lines say nothing.
 #![tactic(auto)]
 
-use std::alloc::Global;
+use std::alloc::{AllocError, Global};
 use std::io;
 use std::io::ErrorKind;
 
@@ -62,6 +63,8 @@ impl Row {
     pub fn read(&mut self, line: &str) -> io::Result<()> {
         if let Some(text) = line.strip_prefix("|") {
             self.add(1, text, "\n")
+        } else if let Some(text) = line.strip_prefix("^") {
+            self.add(1, text, "\r\n")
         } else if let Some(text) = line.strip_prefix("\\") {
             self.add(1, text, "")
         } else if let Some(more) = line.strip_prefix("*") {
@@ -135,19 +138,88 @@ impl Row {
     }
 }
 
-/// Writes each line behind `|`, and one without its line feed behind `\`; of more than so many lines the first and the last.
+/// Writes a line behind `|`, one that ends in a carriage return behind `^`, and one without its line feed behind `\`.
+fn show_line(rt: &impl Print, line: &str) -> io::Result<()> {
+    if let Some(line) = line.strip_suffix("\r\n") {
+        println!(rt; "^{line}")
+    } else if let Some(line) = line.strip_suffix("\n") {
+        println!(rt; "|{line}")
+    } else {
+        println!(rt; "\\{line}")
+    }
+}
+
+/// Writes each line as a row has it; of more than so many lines the first and the last.
 pub fn show(rt: &impl Print, text: &[u8], most: usize) -> io::Result<()> {
     let text = str::from_utf8(text).map_err(|_| malformed())?;
     let count = text.split_inclusive("\n").count();
     for (at, line) in text.split_inclusive("\n").enumerate() {
         if count <= most || at < SHOWN_LINES || count.saturating_sub(at) <= SHOWN_LINES {
-            match line.strip_suffix("\n") {
-                Some(line) => println!(rt; "|{line}")?,
-                None => println!(rt; "\\{line}")?,
-            }
+            show_line(rt, line)?;
         } else if at == SHOWN_LINES {
             println!(rt; "..")?;
         }
     }
+    Ok(())
+}
+
+/// Adds the byte that a letter behind a backslash stands for, and what follows it.
+fn push_escape(text: &[u8], out: &mut Vec<u8>) -> io::Result<()> {
+    let (letter, rest) = text.split_first().ok_or(malformed())?;
+    let byte = match *letter {
+        b'n' => b'\n',
+        b'r' => b'\r',
+        b't' => b'\t',
+        b'"' => b'"',
+        b'x' => return push_byte(rest, out),
+        _ => return Err(malformed()),
+    };
+    out.push(byte)?;
+    Ok(out.extend_from_slice(rest)?)
+}
+
+/// Adds the byte of two digits, and what follows them.
+fn push_byte(text: &[u8], out: &mut Vec<u8>) -> io::Result<()> {
+    let (digits, rest) = text.split_at_checked(2).ok_or(malformed())?;
+    let digits = str::from_utf8(digits).map_err(|_| malformed())?;
+    out.push(u8::from_str_radix(digits, 16).map_err(|_| malformed())?)?;
+    Ok(out.extend_from_slice(rest)?)
+}
+
+/// The bytes of a text in which `\n`, `\r`, `\t`, `\"`, `\\` and `\xHH` stand for one byte each.
+pub fn unescaped(alloc: Global, text: &[u8]) -> io::Result<Vec<u8>> {
+    let mut out = Vec::new(alloc);
+    let mut is_escaped = false;
+    for part in text.split(|b| *b == b'\\') {
+        if is_escaped && part.is_empty() {
+            out.push(b'\\')?;
+        } else if is_escaped {
+            push_escape(part, &mut out)?;
+        } else {
+            out.extend_from_slice(part)?;
+        }
+        is_escaped = !is_escaped || !part.is_empty();
+    }
+    Ok(out)
+}
+
+/// Writes bytes between quotes, so that `unescaped` reads what stands between them.
+pub fn push_quoted(alloc: Global, bytes: &[u8], out: &mut Vec<u8>) -> Result<(), AllocError> {
+    out.push(b'"')?;
+    for byte in bytes {
+        match *byte {
+            b'\n' => out.extend_from_slice(b"\\n")?,
+            b'\r' => out.extend_from_slice(b"\\r")?,
+            b'\t' => out.extend_from_slice(b"\\t")?,
+            b'"' => out.extend_from_slice(b"\\\"")?,
+            b'\\' => out.extend_from_slice(b"\\\\")?,
+            b' '..=b'~' => out.push(*byte)?,
+            other => {
+                let escape = format!(in alloc; "\\x{other:02x}")?;
+                out.extend_from_slice(escape.as_bytes())?;
+            }
+        }
+    }
+    out.push(b'"')?;
     Ok(())
 }
