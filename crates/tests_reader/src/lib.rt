@@ -1,8 +1,9 @@
 //! Rows of an input, for the programs of rows, and how what they answer is written.
 //!
-//! A row is a title behind `== `, words behind `$ ` or `> `, faults behind `! `, and files: a name behind `@ `, each line behind
-//! `|`, one that ends in a carriage return and a line feed behind `^`, and a last line without its line feed behind `\`. `*N LINE`
-//! stands for N lines, `%N TEXT` for N times a text without a line feed, and `& HEX HEX` for bytes. Lines that begin with `#` and
+//! A row is a title behind `== `, words behind `$ ` or `> `, faults behind `! `, and files: a name
+//! behind `@ `, each line behind `|`, one that ends in a carriage return and a line feed behind
+//! `^`, and a last line without its line feed behind `\`. `*N LINE` stands for N lines, `%N TEXT`
+//! for N times a text without a line feed, and `& HEX HEX` for bytes. Lines that begin with `#` and
 //! empty lines say nothing.
 #![tactic(auto)]
 
@@ -138,7 +139,8 @@ impl Row {
     }
 }
 
-/// Writes a line behind `|`, one that ends in a carriage return behind `^`, and one without its line feed behind `\`.
+/// Writes a line behind `|`, one that ends in a carriage return behind `^`, and one without its
+/// line feed behind `\`.
 fn show_line(rt: &impl Print, line: &str) -> io::Result<()> {
     if let Some(line) = line.strip_suffix("\r\n") {
         println!(rt; "^{line}")
