@@ -1,5 +1,5 @@
 -- What files say of a top by the rules.
--- Worked examples: crates/tests_desk/src/rows.rt.
+-- Worked examples: crates/tests_serving/stdin.
 use Rattle.std.specs.Prelude.{ℕ, List, Result}
 use Rattle.rtl_flat.specs.Flats.{DesignParts}
 use Rattle.desk_answers.specs.elab_scope.Faults.{Answer as Fault}

@@ -1,5 +1,5 @@
 -- The files of the desk with what was read of them and the rulings: what contracts see.
--- Worked examples: proofs/Example.antt, crates/tests_desk/src/rows.rt.
+-- Worked examples: proofs/Example.antt, crates/tests_serving/stdin.
 use Rattle.std.specs.Prelude.{ℕ, ◌≡◌, ◌==◌, List, ◌++◌, Option, Some, None, if◌then◌else◌, option_to_list, Vec}
 use Rattle.std.specs.List.{All}
 use Rattle.std.specs.declared.alloc.Global.{Global}

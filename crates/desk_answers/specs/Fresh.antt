@@ -1,5 +1,5 @@
 -- What files say of a top module, worked out from their texts alone, by what is said of a design.
--- Worked examples: proofs/FreshExample.antt, crates/tests_desk/src/rows.rt.
+-- Worked examples: proofs/FreshExample.antt, crates/tests_serving/stdin.
 use Rattle.std.specs.Prelude.{◌≡◌, ℕ, List, map, slice_get, Result, Ok, Err}
 use Rattle.std.specs.List.{filter_map}
 use Rattle.rtl_tree.specs.TreeModule.{Circuit}

@@ -1,5 +1,5 @@
 -- What a ruling is that is kept.
--- Worked examples: crates/tests_desk/src/rows.rt.
+-- Worked examples: crates/tests_serving/stdin.
 use Rattle.std.specs.Prelude.{ℕ, ◌≡◌, List}
 use Rattle.rtl_tree.specs.TreeModule.{Circuit}
 use Rattle.rtl_front.specs.Fronts.{AreRead}

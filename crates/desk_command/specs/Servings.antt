@@ -1,5 +1,5 @@
 -- What the desk does with the links of a door, and how many of them are told that it is unavailable.
--- Worked examples: crates/tests_desk/src/bytes.rt.
+-- Worked examples: crates/tests_serving/stdin.
 use Rattle.std.specs.Prelude.{◌≡◌, ◌≤◌, ◌<◌, ◌+◌, ◌-◌, ◌^◌, ◌==◌, ℕ, Bool, false, List, count_by, None, Result}
 use Rattle.desk_io.specs.declared.failed.Failed.{Failed}
 use Rattle.desk_tables.specs.Rules.{broken_row}

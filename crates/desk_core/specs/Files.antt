@@ -1,5 +1,5 @@
 -- The files of the rows of the tables, in the order of their names.
--- Worked examples: crates/tests_desk/src/rows.rt.
+-- Worked examples: crates/tests_serving/stdin.
 use Rattle.std.specs.Prelude.{◌≡◌, ℕ, List, find}
 use Rattle.std.specs.Option.{option_map}
 use Rattle.desk_tables.specs.Changes.{has_name}

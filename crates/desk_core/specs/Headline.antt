@@ -1,5 +1,5 @@
 -- What a sign-off with the grade `clean` promises of its module.
--- Worked examples: crates/tests_desk/src/rows.rt.
+-- Worked examples: crates/tests_serving/stdin.
 use Rattle.std.specs.Prelude.{◌≡◌, ℕ, List, find, None, Ok}
 use Rattle.rtl_tree.specs.TreeModule.{Circuit}
 use Rattle.rtl_rule.specs.declared.finding.Finding.{Finding}

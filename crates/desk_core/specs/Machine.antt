@@ -1,5 +1,5 @@
 -- The desk as contracts see it.
--- Worked examples: crates/tests_desk/src/rows.rt.
+-- Worked examples: crates/tests_serving/stdin.
 use Rattle.std.specs.Prelude.{◌≡◌, ℕ, ⊤, true, List, Option, Some, None, IsSome}
 use Rattle.std.specs.List.{All}
 use Rattle.desk_tables.specs.Tables.{Kept}

@@ -1,5 +1,5 @@
 -- What is told of a module on a day.
--- Worked examples: crates/tests_desk/src/rows.rt.
+-- Worked examples: crates/tests_serving/stdin.
 use Rattle.std.specs.Prelude.{◌≡◌, ℕ, ℤ, Bool, true, false, find, List}
 use Rattle.std.specs.List.{filter_map}
 use Rattle.desk_report.specs.Reports.{report_text}

@@ -1,5 +1,5 @@
 -- What a request is answered, and what the tables are after it.
--- Worked examples: crates/tests_desk/src/rows.rt.
+-- Worked examples: crates/tests_serving/stdin.
 use Rattle.std.specs.Prelude.{◌≡◌, ℕ, ℤ, false}
 use Rattle.desk_io.specs.Causes.{Rose}
 use Rattle.desk_tables.specs.Changes.{changed, reply_of}

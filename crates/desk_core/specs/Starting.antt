@@ -1,5 +1,5 @@
 -- What the desk starts with.
--- Worked examples: crates/tests_desk/src/rows.rt.
+-- Worked examples: crates/tests_serving/stdin.
 use Rattle.std.specs.Prelude.{◌≡◌, Option, Some, None, Result, Ok, Err, IfSome, ⊤}
 use Rattle.desk_tables.specs.Rules.{broken_row}
 use Rattle.desk_tables.specs.Tables.{Kept}

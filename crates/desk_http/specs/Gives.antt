@@ -1,5 +1,5 @@
 -- Answers of calls that may want memory.
--- Worked examples: crates/tests_desk/src/bytes.rt.
+-- Worked examples: crates/tests_serving/stdin.
 use Rattle.std.specs.Prelude.{◌≡◌, ⊤, Option, Some, None, Result, Ok, Err}
 use Rattle.desk_http.specs.declared.fault.BadRequest.{BadRequest}
 use Rattle.desk_http.specs.declared.fault.BadRequest.TheVariants.{Malformed, NotFound, Memory}

@@ -1,5 +1,5 @@
 -- Heads of requests (RFC 9112, sections 2 to 6): what is at the front of bytes.
--- Worked examples: crates/tests_desk/src/bytes.rt.
+-- Worked examples: crates/tests_serving/stdin.
 use Rattle.std.specs.Prelude.{◌≡◌, ℕ, ◌<◌, ◌≤◌, ◌⊎◌, List, ◌++◌, length, take, map, option_map, Some, None}
 use Rattle.httparse.specs.Grammar.{RequestHead, ReadsRequest, print_request}
 use Rattle.httparse.specs.Spans.{name_and_value, span_bytes}

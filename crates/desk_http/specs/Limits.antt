@@ -1,5 +1,5 @@
 -- How large requests may be.
--- Worked examples: crates/tests_desk/src/bytes.rt.
+-- Worked examples: crates/tests_serving/stdin.
 use Rattle.std.specs.Prelude.{ℕ}
 
 -- the bytes of a head

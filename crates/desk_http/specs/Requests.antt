@@ -1,5 +1,5 @@
 -- The request of a head and its body: the first check that fails decides.
--- Worked examples: crates/tests_desk/src/bytes.rt.
+-- Worked examples: crates/tests_serving/stdin.
 use Rattle.std.specs.Prelude.{ℕ, bytes_eq, codes, List, ◌++◌, Option, Some, None, Result, Ok, Err, if◌then◌else◌}
 use Rattle.sha2.specs.Sha256.{sha256}
 use Rattle.desk_tables.specs.Names.{name_of}

@@ -1,5 +1,5 @@
 -- Counts of faults, which never fall, and the errors that have a cause in them.
--- Worked examples: crates/tests_lines/src/outside.rt.
+-- Worked examples: crates/tests_parts/stdin.
 use Rattle.std.specs.Prelude.{ℕ, ◌+◌, ◌-◌, ◌^◌, ◌≤◌, min, OnErr, Result}
 
 -- the count has risen, or has stood at the last value of a `u64` already

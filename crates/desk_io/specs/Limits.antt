@@ -1,5 +1,5 @@
 -- How long a file may be.
--- Worked examples: crates/tests_lines/src/outside.rt.
+-- Worked examples: crates/tests_parts/stdin.
 use Rattle.std.specs.Prelude.{ℕ}
 
 -- the bytes of a file

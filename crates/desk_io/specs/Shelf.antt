@@ -1,5 +1,5 @@
 -- Files by name, and what a shelf answers where one of them is read.
--- Worked examples: crates/tests_lines/src/outside.rt.
+-- Worked examples: crates/tests_parts/stdin.
 use Rattle.std.specs.Prelude.{◌≡◌, ℕ, List, length, nat_le, bytes_eq, if◌then◌else◌, ⊤, Some, None, Ok, Err, Vec, Option, Result, IfSome}
 use Rattle.std.specs.declared.alloc.Global.{Global}
 use Rattle.desk_io.specs.Limits.{MAX_FILE_BYTES}

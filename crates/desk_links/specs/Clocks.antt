@@ -1,5 +1,5 @@
 -- Days that a clock gives.
--- Worked examples: crates/tests_desk/src/failing.rt.
+-- Worked examples: crates/tests_serving/stdin.
 use Rattle.std.specs.Prelude.{◌≡◌, ℤ, List, ◌∷◌, Option, None, Some, Result, Ok, Err, ⊤}
 use Rattle.desk_io.specs.declared.failed.Failed.{Failed}
 

@@ -1,5 +1,5 @@
 -- Links that come through a door.
--- Worked examples: crates/tests_desk/src/failing.rt.
+-- Worked examples: crates/tests_serving/stdin.
 use Rattle.std.specs.Prelude.{◌≡◌, ℕ, List, [], ◌∷◌, ◌++◌, Option, None, Some, Result, Ok, Err, ⊤}
 use Rattle.desk_io.specs.declared.failed.Failed.{Failed}
 use Rattle.desk_links.specs.Links.{Talk, fresh_talk}

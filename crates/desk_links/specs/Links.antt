@@ -1,5 +1,5 @@
 -- What is said on a link.
--- Worked examples: crates/tests_desk/src/failing.rt.
+-- Worked examples: crates/tests_serving/stdin.
 use Rattle.std.specs.Prelude.{◌≡◌, ℕ, List, [], ◌++◌, take, Option, None, Some, Result, Ok, Err, ⊤}
 use Rattle.desk_io.specs.declared.failed.Failed.{Failed}
 

@@ -1,5 +1,5 @@
 -- Where the lines of a text begin.
--- Worked examples: crates/tests_lines/src/places.rt.
+-- Worked examples: crates/tests_parts/stdin.
 use Rattle.std.specs.Prelude.{ℕ, ◌+◌, ◌==◌, List, [], ◌∷◌, Bool, cond}
 
 abbrev pub is_line_feed : ℕ → Bool

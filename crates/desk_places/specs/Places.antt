@@ -1,5 +1,5 @@
 -- Places in texts and files as an engineer reads them.
--- Worked examples: crates/tests_lines/src/places.rt.
+-- Worked examples: crates/tests_parts/stdin.
 use Rattle.std.specs.Prelude.{ℕ, ◌+◌, List, [], ◌++◌, map, take, not, count_by, codes, slice_get, Option, None, Some}
 use Rattle.std.specs.List.{suffix_len}
 use Rattle.std.specs.Fmt.{decimal}

@@ -1,5 +1,5 @@
 -- Values as they are written: a width, a base and digits (IEEE 1364-2001 section 2.5.1).
--- Worked examples: proofs/Examples.antt, crates/tests_lines/src/values.rt.
+-- Worked examples: proofs/Examples.antt, crates/tests_parts/stdin.
 use Rattle.std.specs.Prelude.{ℕ, ◌+◌, nat_lt, not, ◌&&◌, if◌then◌else◌, List, [], ◌∷◌, ◌++◌, length, map, reverse, codes}
 use Rattle.std.specs.Fmt.{decimal}
 use Rattle.rtl_bits.specs.declared.Bit.{Bit}

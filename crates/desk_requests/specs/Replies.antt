@@ -1,5 +1,5 @@
 -- Replies in their plain form.
--- Worked examples: crates/tests_desk/src/bytes.rt.
+-- Worked examples: crates/tests_serving/stdin.
 use Rattle.std.specs.Prelude.{ℕ, List}
 use Rattle.desk_requests.specs.declared.reply.BodyKind.{BodyKind}
 use Rattle.desk_requests.specs.declared.reply.Reply.{Reply}

@@ -1,5 +1,5 @@
 -- What a connection does: it hears its input, and says a reply or a front of one.
--- Worked examples: crates/tests_desk/src/bytes.rt.
+-- Worked examples: crates/tests_serving/stdin.
 use Rattle.std.specs.Prelude.{◌≡◌, ℕ, List, [], ◌++◌, Option, None, Some, ⊤}
 use Rattle.desk_io.specs.Causes.{Rose}
 use Rattle.desk_tables.specs.Tables.{Kept}

@@ -1,5 +1,5 @@
 -- What is asked on a connection by the whole of its input, and what is answered (RFC 9112).
--- Worked examples: crates/tests_desk/src/bytes.rt.
+-- Worked examples: crates/tests_serving/stdin.
 use Rattle.std.specs.Prelude.{◌≡◌, ℕ, ℤ, List, ◌∷◌, ◌++◌, length, take, codes, nat_lt, ◌==◌, Option, None, Some, Result, Ok, Err, ⊤, if◌then◌else◌}
 use Rattle.httparse.specs.Grammar.{RequestHead}
 use Rattle.desk_io.specs.Causes.{Rose}

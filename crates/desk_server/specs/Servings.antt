@@ -1,5 +1,5 @@
 -- What a server does: links are taken from a door and given back, one after the other.
--- Worked examples: crates/tests_desk/src/bytes.rt.
+-- Worked examples: crates/tests_serving/stdin.
 use Rattle.std.specs.Prelude.{◌≡◌, ◌≤◌, ℕ, List, [], ◌∷◌, ◌++◌, length, OnOk, Result}
 use Rattle.desk_io.specs.declared.failed.Failed.{Failed}
 use Rattle.desk_tables.specs.Tables.{Kept}

@@ -1,5 +1,5 @@
 -- What serves requests, as the server sees it.
--- Worked examples: crates/tests_desk/src/rows.rt.
+-- Worked examples: crates/tests_serving/stdin.
 use Rattle.std.specs.Prelude.{◌≤◌, ◌==◌, ◌||◌, [], ℕ, ℤ, Bool, List, length, codes, ⊤}
 use Rattle.desk_tables.specs.Limits.{MAX_BYTES}
 use Rattle.desk_tables.specs.Tables.{Kept}

@@ -1,5 +1,5 @@
 -- The columns of the database in which the rows of the tables stand.
--- Worked examples: crates/tests_keeper/src/changes.rt.
+-- Worked examples: crates/tests_parts/stdin.
 use Rattle.std.specs.Prelude.{◌≡◌, ℕ, ℤ, ◌+◌, pos, List, [], ◌∷◌, Option, Some, None}
 use Rattle.sqlite_value.specs.declared.value.Value.{Value}
 use Rattle.sqlite_value.specs.declared.value.Value.TheVariants.{Null, Int, Text, Blob}

@@ -1,5 +1,5 @@
 -- The lines of a text, and the parts of a line.
--- Worked examples: crates/tests_lines/src/step_files.rt.
+-- Worked examples: crates/tests_parts/stdin.
 use Rattle.std.specs.Prelude.{ℕ, ◌==◌, cond, List, [], ◌∷◌, Option, None, Some}
 
 -- a byte before the first part

@@ -1,5 +1,5 @@
 -- The top inputs of a design by their names.
--- Worked examples: crates/tests_lines/src/step_files.rt.
+-- Worked examples: crates/tests_parts/stdin.
 use Rattle.std.specs.Prelude.{ℕ, ◌+◌, if◌then◌else◌, List, [], ◌∷◌, drop, length, Option, None, Some}
 use Rattle.std.specs.BTreeMap.{get_by}
 use Rattle.std.specs.Cmp.Lexicographic.{slice_cmp}

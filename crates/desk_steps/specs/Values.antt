@@ -1,5 +1,5 @@
 -- The values that inputs are set to, as numbers with a width and base 2 or 16 (IEEE 1364-2001 section 2.5.1).
--- Worked examples: crates/tests_lines/src/step_files.rt.
+-- Worked examples: crates/tests_parts/stdin.
 use Rattle.std.specs.Prelude.{ℕ, ◌+◌, ◌-◌, ◌/◌, ◌==◌, nat_lt, cond, ◌&&◌, if◌then◌else◌, List, [], ◌∷◌, ◌++◌, length, replicate, take, Option, None, Some}
 use Rattle.std.specs.Fmt.{decimal}
 use Rattle.std.specs.Str.{bytes_eq}
