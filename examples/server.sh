@@ -1,7 +1,7 @@
 #!/bin/sh
 # Signs a module off through the desk's server: two people put a file each, one asks for the ruling,
 # a finding is waived, the module is signed off, a request comes again and gets the reply that was
-# kept, and the database is read. What it writes is in examples/stored/server.out, where TODAY and
+# kept, the database is read, and a row of it is made a bad one. What it writes is in examples/stored/server.out, where TODAY and
 # LATER stand for the dates.
 #
 # Usage: examples/server.sh [PORT]
@@ -64,6 +64,13 @@ read_database() {
   sqlite3 desk.db 'SELECT id, top, who, grade FROM signoffs ORDER BY id'
 }
 
+# A grade that is none makes its row a bad one.
+break_database() {
+  sqlite3 desk.db "UPDATE signoffs SET grade = 'perfect'"
+  "$program" report pair || echo "report: $?"
+}
+
 serve_and_ask >told
 read_database >>told
+break_database >>told
 sed "s/$today/TODAY/g; s/$later/LATER/g" told
