@@ -5,7 +5,7 @@ use crate::requests::{Asked, all_asked, fail, outside_of, outside_with};
 use crate::stop::Stop;
 use desk_links::MemoryLink;
 use std::alloc::Global;
-use tests_reader::Row;
+use tests_reader::{Row, show};
 
 /// How many bytes a link moves at a time.
 const PIECE_BYTES: usize = 7;
@@ -15,13 +15,6 @@ fn number(word: &str) -> Result<u64, Stop> {
         Ok(number) => Ok(number),
         Err(_) => Err(Stop::NoFault),
     }
-}
-
-/// A command where nothing fails.
-fn whole(alloc: Global, row: &Row, words: &[String]) -> Result<Box<Outside>, Stop> {
-    let mut outside = outside_with(alloc, row, &[])?;
-    outside.call(words);
-    Ok(outside)
 }
 
 /// A command, where a call fails.
@@ -45,13 +38,15 @@ fn put_failing(
     Ok(())
 }
 
-/// A command, where each of the first calls fails in turn.
+/// A command where nothing fails, and where each of the first calls fails in turn.
 pub fn told(rt: &(impl Print + AllocGlobal), row: &Row, words: &[String]) -> Result<(), Stop> {
     let [what, count, words @ ..] = words else {
         return Err(Stop::NoLook);
     };
-    let whole = whole(rt.alloc(), row, words)?;
-    println!(rt; "{} bytes", whole.sink.bytes().len())?;
+    let mut whole = outside_with(rt.alloc(), row, &[])?;
+    let status = whole.call(words);
+    println!(rt; "status {status}, {} bytes", whole.sink.bytes().len())?;
+    show(rt, whole.sink.bytes(), usize::MAX)?;
     for call in 1..=number(count)? {
         put_failing(rt, row, what, call, words, whole.sink.bytes())?;
     }
@@ -84,8 +79,8 @@ fn served(
     Ok(outside)
 }
 
-/// How many bytes a client is written where each of the first calls of its link fails in turn, and
-/// whether they are a front of the reply where none fails.
+/// The reply where no call of a link fails, and how many bytes are written where each of the first
+/// fails in turn, and whether they are a front of it.
 pub fn of_link(rt: &(impl Print + AllocGlobal), row: &Row, words: &[String]) -> Result<(), Stop> {
     let alloc: Global = rt.alloc();
     let [what, count] = words else {
@@ -97,6 +92,7 @@ pub fn of_link(rt: &(impl Print + AllocGlobal), row: &Row, words: &[String]) -> 
     let whole = served(alloc, row, input, what, 0)?;
     let reply = whole.reply(0);
     println!(rt; "{} bytes", reply.len())?;
+    show(rt, reply, usize::MAX)?;
     for call in 1..=number(count)? {
         let outside = served(alloc, row, input, what, call)?;
         let written = outside.reply(0);
