@@ -1,6 +1,6 @@
 -- The flat design that instances make.
 -- Worked examples: proofs/Examples.antt.
-use Rattle.std.specs.Prelude.{List, map}
+use Rattle.std.specs.Prelude.{List, [], map}
 use Rattle.std.specs.List.{flat_map}
 use Rattle.rtl_flat.specs.declared.instance.Delay.{Delay}
 use Rattle.rtl_flat.specs.declared.instance.DroppedRegion.{DroppedRegion}
@@ -18,10 +18,11 @@ with_works all works =
         flat = record { signals = flat_map signals_at all; tasks = works.tasks };
         delays = works.delays;
         dropped = flat_map regions_at all;
+        notes = [];
       };
       instances = map instance_of all;
     }
 
--- the design of these instances
+-- the design of these instances, before their texts are looked at for what other tools read otherwise
 abbrev pub flat_of : Library → List Placement → DesignParts
 flat_of library all = with_works all (with_placements library no_works all)

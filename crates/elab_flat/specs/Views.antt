@@ -1,6 +1,6 @@
 -- It serves inner contracts and proofs; no answer of the program is stated by it.
 -- What the code makes, as contracts see it.
-use Rattle.std.specs.Prelude.{map}
+use Rattle.std.specs.Prelude.{[], map}
 use Rattle.rtl_flat.specs.Process.{task}
 use Rattle.elab_flat.specs.declared.flat.DesignParts.{DesignParts as Kept}
 use Rattle.elab_flat.specs.declared.works.Works.{Works as Made}
@@ -20,6 +20,7 @@ flat made =
         };
         delays = made.works.delays.items;
         dropped = made.dropped.items;
+        notes = [];
       };
       instances = made.instances.items;
     }

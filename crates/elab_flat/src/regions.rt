@@ -18,8 +18,8 @@ fn is_of(kind: DropKind, region: Dropped) -> bool
     match (kind, region.kind) {
         (DropKind::Initial, DropKind::Initial) => true,
         (DropKind::TranslateOff, DropKind::TranslateOff) => true,
-        (DropKind::Initial, DropKind::TranslateOff) => false,
-        (DropKind::TranslateOff, DropKind::Initial) => false,
+        (DropKind::Comment, DropKind::Comment) => true,
+        _ => false,
     }
 }
 
@@ -122,5 +122,7 @@ pub fn dropped_in(alloc: Global, written: &Module) -> Result<Vec<Dropped>, Memor
     let constructs = of_kind(alloc, DropKind::Initial, &written.dropped)?;
     let regions = merged(alloc, &pragmas, &constructs)?;
     let values = initials(alloc, &written.items)?;
-    merged(alloc, &regions, &values)
+    let dropped = merged(alloc, &regions, &values)?;
+    let comments = of_kind(alloc, DropKind::Comment, &written.dropped)?;
+    merged(alloc, &dropped, &comments)
 }

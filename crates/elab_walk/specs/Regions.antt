@@ -1,9 +1,10 @@
--- What synthesis doesn't see of a module: regions that preparation dropped, and the initial values of variables.
+-- What of a module has no meaning in the design: regions that preparation dropped, the initial values of variables, and comments
+-- that are worded like pragmas and tell nothing.
 -- Worked examples: crates/tests_layers/stdin.
 use Rattle.std.specs.Prelude.{ℕ, nat_lt, Bool, true, false, cond, List, [], ◌∷◌, ◌++◌}
 use Rattle.std.specs.List.{filter}
 use Rattle.rtl_tree.specs.declared.dropped.DropKind.{DropKind}
-use Rattle.rtl_tree.specs.declared.dropped.DropKind.TheVariants.{Initial, TranslateOff}
+use Rattle.rtl_tree.specs.declared.dropped.DropKind.TheVariants.{Comment, Initial, TranslateOff}
 use Rattle.rtl_tree.specs.declared.dropped.Dropped.{Dropped}
 use Rattle.rtl_tree.specs.TreeItem.{Variable, ModuleItem, Ports, Nets, Variables, Integers, Parameters, Drives, Always, Instances}
 use Rattle.rtl_tree.specs.TreeModule.{Circuit}
@@ -37,6 +38,7 @@ initials (first ∷ others) = item_initials first ++ initials others
 abbrev pub is_kind : DropKind → DropKind → Bool
 is_kind Initial Initial = true
 is_kind TranslateOff TranslateOff = true
+is_kind Comment Comment = true
 is_kind _ _ = false
 
 abbrev pub is_of : DropKind → Dropped → Bool
@@ -60,4 +62,6 @@ merged regions (first ∷ others) = up_to first.at regions ++ first ∷ merged (
 -- what a module doesn't show, by place
 abbrev pub dropped_in : Circuit → List Dropped
 dropped_in circuit =
-    merged (merged (filter (is_of TranslateOff) circuit.dropped) (filter (is_of Initial) circuit.dropped)) (initials circuit.items)
+    merged
+    (merged (merged (filter (is_of TranslateOff) circuit.dropped) (filter (is_of Initial) circuit.dropped)) (initials circuit.items))
+    (filter (is_of Comment) circuit.dropped)

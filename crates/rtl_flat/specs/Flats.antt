@@ -5,6 +5,7 @@ use Rattle.rtl_flat.specs.declared.design.Design.{Design}
 use Rattle.rtl_flat.specs.declared.instance.Delay.{Delay}
 use Rattle.rtl_flat.specs.declared.instance.DroppedRegion.{DroppedRegion}
 use Rattle.rtl_flat.specs.declared.instance.Instance.{Instance}
+use Rattle.rtl_flat.specs.declared.note.Note.{Note}
 use Rattle.rtl_flat.specs.declared.signal.Signal.{Signal}
 use Rattle.rtl_flat.specs.Process.{Task, task}
 use Rattle.rtl_flat.specs.Signs.{width_in}
@@ -14,11 +15,13 @@ pub record Flat : Type 0 where
   pub signals : List Signal
   pub tasks : List Task
 
--- besides, what has no meaning in it: delays, and regions of the text that synthesis leaves out
+-- besides, what has no meaning in it: delays, regions of the text that synthesis leaves out, and places that other tools read
+-- otherwise
 pub record Parts : Type 0 where
   pub flat : Flat
   pub delays : List Delay
   pub dropped : List DroppedRegion
+  pub notes : List Note
 
 -- besides, the instances by which findings are told: all that a design is made of
 pub record DesignParts : Type 0 where
@@ -31,7 +34,7 @@ flat design =
 
 abbrev pub parts : Design → Parts
 parts design =
-    record { flat = flat design; delays = design.delays.items; dropped = design.dropped.items }
+    record { flat = flat design; delays = design.delays.items; dropped = design.dropped.items; notes = design.notes.items }
 
 abbrev pub flat_in : Design → DesignParts
 flat_in design = record { parts = parts design; instances = design.instances.items }

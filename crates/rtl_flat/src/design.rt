@@ -8,6 +8,7 @@ ghost use Rattle.rtl_flat.specs.Propositions.{design_one};
 use crate::act::Process;
 use crate::expr::SigId;
 use crate::instance::{Delay, DroppedRegion, Instance};
+use crate::note::Note;
 use crate::signal::{Signal, place};
 
 /// All instances of a top module: what elaboration makes and everything behind it works on.
@@ -21,6 +22,8 @@ pub struct Design {
     pub instances: Vec<Instance>,
     pub dropped: Vec<DroppedRegion>,
     pub delays: Vec<Delay>,
+    /// What other tools read otherwise; it has no part in what the design means.
+    pub notes: Vec<Note>,
     pub ghost is_design: { IsDesign signals.items (map task processes.items) instances.items dropped.items delays.items } by { design_one signals.items (map task processes.items) instances.items dropped.items delays.items },
 }
 

@@ -6,4 +6,5 @@ pub mod act;
 pub mod design;
 pub mod expr;
 pub mod instance;
+pub mod note;
 pub mod signal;

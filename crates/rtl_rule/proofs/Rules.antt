@@ -7,7 +7,7 @@ use Rattle.std.proofs.lemmas.Bool.Decides.{Decides-eqb, Decides-like}
 use denote.Enum.Bare.{sameb}
 use Rattle.rtl_rule.specs.contracts.rule.Rule.{the_type}
 use Rattle.rtl_rule.specs.declared.rule.Rule.{Rule}
-use Rattle.rtl_rule.specs.declared.rule.Rule.TheVariants.{SenseMissing, NeverWakes, MixedEdges, BlockingState, NonblockingComb, MixedAssign, SeveralDrivers, Undriven, CombLoop, DerivedClock, ClockAsData, LatchInferred, Tristate, ResetShape, ResetPolarity, AsyncPair, ResetValue, FullCase, ParallelCase, UnknownItem, UnknownLiteral, SelectRange, DivideVariable, CaseEquality, DelayIgnored, InitialIgnored, TranslateOff, XOptimism, WildSelector, TargetIndex, ListIndex, WholeSelect}
+use Rattle.rtl_rule.specs.declared.rule.Rule.TheVariants.{SenseMissing, NeverWakes, MixedEdges, BlockingState, NonblockingComb, MixedAssign, SeveralDrivers, Undriven, CombLoop, DerivedClock, ClockAsData, LatchInferred, Tristate, ResetShape, ResetPolarity, AsyncPair, ResetValue, FullCase, ParallelCase, UnknownItem, UnknownLiteral, SelectRange, DivideVariable, CaseEquality, DelayIgnored, InitialIgnored, TranslateOff, XOptimism, WildSelector, ParameterFormat, ConstantValue, PortContext, CaseSigns, TargetIndex, ListIndex, PragmaWords, UnsizedNumber, PortSign, LateParameter, WholeSelect, LoopSign}
 use Rattle.rtl_rule.specs.Rows.{is_needed, row_of, rule_number, rule_with, rules}
 
 -- a rule stands at its place in the table
@@ -41,9 +41,18 @@ at_place InitialIgnored = refl
 at_place TranslateOff = refl
 at_place XOptimism = refl
 at_place WildSelector = refl
+at_place ParameterFormat = refl
+at_place ConstantValue = refl
+at_place PortContext = refl
+at_place CaseSigns = refl
 at_place TargetIndex = refl
 at_place ListIndex = refl
+at_place PragmaWords = refl
+at_place UnsizedNumber = refl
+at_place PortSign = refl
+at_place LateParameter = refl
 at_place WholeSelect = refl
+at_place LoopSign = refl
 
 passes_at : (test : Rule → Bool) (all : List Rule) (n : ℕ) (rule : Rule) → list_all test all ≡ true → slice_get all n ≡ Some rule → test rule ≡ true
 passes_at test [] n rule each there = absurd (cc)

@@ -8,7 +8,7 @@ use Rattle.rtl_rule.specs.contracts.rule.Rule.{the_type}
 use Rattle.rtl_rule.specs.declared.finding.Finding.{Finding}
 use Rattle.rtl_rule.specs.declared.rule.Rule.{Rule}
 use Rattle.rtl_rule.specs.declared.rule.TheConstants.{RULES}
-use Rattle.rtl_rule.specs.declared.rule.Rule.TheVariants.{SenseMissing, NeverWakes, MixedEdges, BlockingState, NonblockingComb, MixedAssign, SeveralDrivers, Undriven, CombLoop, DerivedClock, ClockAsData, LatchInferred, Tristate, ResetShape, ResetPolarity, AsyncPair, ResetValue, FullCase, ParallelCase, UnknownItem, UnknownLiteral, SelectRange, DivideVariable, CaseEquality, DelayIgnored, InitialIgnored, TranslateOff, XOptimism, WildSelector, TargetIndex, ListIndex, WholeSelect}
+use Rattle.rtl_rule.specs.declared.rule.Rule.TheVariants.{SenseMissing, NeverWakes, MixedEdges, BlockingState, NonblockingComb, MixedAssign, SeveralDrivers, Undriven, CombLoop, DerivedClock, ClockAsData, LatchInferred, Tristate, ResetShape, ResetPolarity, AsyncPair, ResetValue, FullCase, ParallelCase, UnknownItem, UnknownLiteral, SelectRange, DivideVariable, CaseEquality, DelayIgnored, InitialIgnored, TranslateOff, XOptimism, WildSelector, ParameterFormat, ConstantValue, PortContext, CaseSigns, TargetIndex, ListIndex, PragmaWords, UnsizedNumber, PortSign, LateParameter, WholeSelect, LoopSign}
 
 -- what the table says of a rule: its code, its name, whether it is of the first grade, whether a waiver may set its findings
 -- aside, and whether agreement stands on it
@@ -67,9 +67,18 @@ row_of InitialIgnored = apart (codes "D2") (codes "InitialIgnored")
 row_of TranslateOff = apart (codes "D3") (codes "TranslateOff")
 row_of XOptimism = second (codes "U1") (codes "XOptimism")
 row_of WildSelector = second (codes "U2") (codes "WildSelector")
+row_of ParameterFormat = apart (codes "P1") (codes "ParameterFormat")
+row_of ConstantValue = apart (codes "P2") (codes "ConstantValue")
+row_of PortContext = apart (codes "P3") (codes "PortContext")
+row_of CaseSigns = apart (codes "P4") (codes "CaseSigns")
 row_of TargetIndex = apart (codes "P5") (codes "TargetIndex")
 row_of ListIndex = apart (codes "P6") (codes "ListIndex")
+row_of PragmaWords = apart (codes "P8") (codes "PragmaWords")
+row_of UnsizedNumber = apart (codes "P9") (codes "UnsizedNumber")
+row_of PortSign = apart (codes "P10") (codes "PortSign")
+row_of LateParameter = apart (codes "P11") (codes "LateParameter")
 row_of WholeSelect = apart (codes "P12") (codes "WholeSelect")
+row_of LoopSign = apart (codes "P13") (codes "LoopSign")
 
 -- whether agreement stands on a rule
 abbrev pub is_needed : Rule → Bool

@@ -64,16 +64,34 @@ pub enum Rule {
     XOptimism,
     /// The selector or labels of a `casez` or `casex` that may read x.
     WildSelector,
+    /// An expression whose parameters have another format or value by the standard.
+    ParameterFormat,
+    /// A constant expression that has another value by the standard.
+    ConstantValue,
+    /// An argument that is narrower than its port, and that is extended before or after it is worked out.
+    PortContext,
+    /// A case whose selector and labels are extended by one sign or another.
+    CaseSigns,
     /// A part of a concatenated target with a computed index.
     TargetIndex,
     /// An item of a list, without an edge, with a computed index.
     ListIndex,
+    /// A comment that is worded like a pragma and tells the desk nothing.
+    PragmaWords,
+    /// A number without a width where its width counts.
+    UnsizedNumber,
+    /// A port that is signed in one of its two declarations.
+    PortSign,
+    /// An argument that names a parameter which is declared behind it.
+    LateParameter,
     /// A part-select of all bits of a signed signal that is an amount or an index.
     WholeSelect,
+    /// The start or the step of a loop without a sign.
+    LoopSign,
 }
 
 /// All rules, in the order of the table.
-pub const RULES: [Rule; 32] = [
+pub const RULES: [Rule; 41] = [
     Rule::SenseMissing,
     Rule::NeverWakes,
     Rule::MixedEdges,
@@ -103,9 +121,18 @@ pub const RULES: [Rule; 32] = [
     Rule::TranslateOff,
     Rule::XOptimism,
     Rule::WildSelector,
+    Rule::ParameterFormat,
+    Rule::ConstantValue,
+    Rule::PortContext,
+    Rule::CaseSigns,
     Rule::TargetIndex,
     Rule::ListIndex,
+    Rule::PragmaWords,
+    Rule::UnsizedNumber,
+    Rule::PortSign,
+    Rule::LateParameter,
     Rule::WholeSelect,
+    Rule::LoopSign,
 ];
 
 /// What the table says of a rule.
@@ -231,9 +258,18 @@ impl Rule {
             Rule::TranslateOff => apart("D3", "TranslateOff"),
             Rule::XOptimism => second("U1", "XOptimism"),
             Rule::WildSelector => second("U2", "WildSelector"),
+            Rule::ParameterFormat => apart("P1", "ParameterFormat"),
+            Rule::ConstantValue => apart("P2", "ConstantValue"),
+            Rule::PortContext => apart("P3", "PortContext"),
+            Rule::CaseSigns => apart("P4", "CaseSigns"),
             Rule::TargetIndex => apart("P5", "TargetIndex"),
             Rule::ListIndex => apart("P6", "ListIndex"),
+            Rule::PragmaWords => apart("P8", "PragmaWords"),
+            Rule::UnsizedNumber => apart("P9", "UnsizedNumber"),
+            Rule::PortSign => apart("P10", "PortSign"),
+            Rule::LateParameter => apart("P11", "LateParameter"),
             Rule::WholeSelect => apart("P12", "WholeSelect"),
+            Rule::LoopSign => apart("P13", "LoopSign"),
         }
     }
 

@@ -1,6 +1,6 @@
 -- Which tokens a text splits into (IEEE 1364-2001 clause 2).
 -- Worked examples: crates/tests_layers/stdin.
-use Rattle.std.specs.Prelude.{◌≡◌, ℕ, ◌+◌, ◌≤◌, Bool, true, false, ◌||◌, ◌&&◌, if◌then◌else◌, IsTrue, Option, Some, None, List, [], ◌∷◌, ◌++◌, length, drop, codes}
+use Rattle.std.specs.Prelude.{◌≡◌, ℕ, ◌+◌, ◌≤◌, Bool, true, false, ◌||◌, ◌&&◌, if◌then◌else◌, IsTrue, Option, Some, None, List, [], ◌∷◌, ◌++◌, length, take, drop, codes}
 use Rattle.std.specs.Str.{bytes_eq}
 use Rattle.rtl_tree.specs.declared.token.Tok.{Tok}
 use Rattle.rtl_tree.specs.declared.token.Tok.TheVariants.{Word, Number, Str, Mark, Directive}
@@ -8,7 +8,7 @@ use Rattle.rtl_tree.specs.declared.token.Tok.TheVariants as kinds
 use Rattle.rtl_tree.specs.declared.token.Token.{Token}
 use Rattle.rtl_tree.specs.declared.token.TheConstants.{MAX_WORD}
 use Rattle.rtl_tree.specs.declared.token.Pragma.{Pragma}
-use Rattle.rtl_tree.specs.declared.token.Pragma.TheVariants.{TranslateOff, TranslateOn, Case}
+use Rattle.rtl_tree.specs.declared.token.Pragma.TheVariants.{TranslateOff, TranslateOn, Case, Loose}
 use Rattle.rtl_tree.specs.Token.{token}
 use Rattle.rtl_tree.specs.Literal.{literal}
 use Rattle.rtl_tree.specs.Lexemes.{is_blank, is_in_line, is_ascii, Each, Stops, HasForm, IsLongest, leads, has_end}
@@ -54,9 +54,36 @@ told (v ∷ w ∷ []) = if is_vendor v then told_by_one w else None
 told (v ∷ w ∷ x ∷ []) = if is_vendor v then told_by_two w x else None
 told (v ∷ w ∷ x ∷ y ∷ ws) = None
 
--- what a comment with this inside tells synthesis: it has exactly the words, with nothing else
+-- the words by which comments for tools begin, as their handbooks have them
+abbrev pub is_tool : List ℕ → Bool
+is_tool word =
+    is_vendor word || bytes_eq word (codes "pragma") || bytes_eq word (codes "cadence") || bytes_eq word (codes "ambit")
+    || bytes_eq word (codes "exemplar") || bytes_eq word (codes "altera") || bytes_eq word (codes "xilinx")
+
+-- whether a part stands somewhere in a text
+abbrev pub holds : List ℕ → List ℕ → Bool
+holds part [] = false
+holds part (b ∷ bs) = bytes_eq (take (length part) (b ∷ bs)) part || holds part bs
+
+-- whether one of the words that pragmas have stands anywhere in it
+abbrev pub has_pragma_word : List ℕ → Bool
+has_pragma_word text =
+    holds (codes "full_case") text || holds (codes "parallel_case") text || holds (codes "translate_off") text
+    || holds (codes "translate_on") text
+
+-- whether a comment with these words and this inside is worded like a pragma
+abbrev pub is_loose : List (List ℕ) → List ℕ → Bool
+is_loose [] inside = false
+is_loose (word ∷ words) inside = is_tool word && has_pragma_word inside
+
+abbrev pub told_or_loose : Option Pragma → Bool → Option Pragma
+told_or_loose (Some p) loose = Some p
+told_or_loose None loose = if loose then Some Loose else None
+
+-- what a comment with this inside tells synthesis: it has exactly the words, with nothing else; one that is worded like a
+-- pragma and has others tells nothing, and is kept, since other tools read such comments in their own ways
 unfoldable pub pragma : List ℕ → Option Pragma
-pragma inside = told (words inside)
+pragma inside = told_or_loose (told (words inside)) (is_loose (words inside) inside)
 
 -- ---- pieces
 

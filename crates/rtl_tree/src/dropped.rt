@@ -1,4 +1,4 @@
-// Regions of a text that synthesis doesn't see.
+// What of a text has no meaning in the design.
 
 /// Why a region is dropped.
 #[derive(Clone, Copy, PartialEq, Eq, Debug)]
@@ -7,6 +7,8 @@ pub enum DropKind {
     Initial,
     /// What stands between the pragmas `translate_off` and `translate_on`.
     TranslateOff,
+    /// A comment that other tools take for a pragma, and that tells the desk nothing.
+    Comment,
 }
 
 /// A dropped region.

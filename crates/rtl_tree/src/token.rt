@@ -53,6 +53,8 @@ pub enum Pragma {
     TranslateOn,
     /// The case statement that it follows is full, parallel, or both.
     Case { full: bool, parallel: bool },
+    /// Nothing: it is worded like a pragma, and isn't one.
+    Loose,
 }
 
 /// A token of a text.
