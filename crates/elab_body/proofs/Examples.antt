@@ -29,7 +29,7 @@ abbrev i : ℕ → Identifier
 i at = record { text = 105 ∷ []; at = at }
 
 abbrev whole : ℕ → ℕ → Formula
-whole n at = Number (record { width = 32; val = n; unk = 0; signed = true; sized = false }) at
+whole n at = Number (record { width = 32; val = n; unk = 0; signed = true; sized = false; radix = 10 }) at
 
 -- for (i = 0; i < 2; i = i + 1) body
 abbrev twice : Action → Action

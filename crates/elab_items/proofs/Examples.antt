@@ -25,7 +25,7 @@ abbrev w : ℕ → Identifier
 w at = record { text = 87 ∷ []; at = at }
 
 abbrev whole : ℕ → ℕ → Formula
-whole n at = Number (record { width = 32; val = n; unk = 0; signed = true; sized = false }) at
+whole n at = Number (record { width = 32; val = n; unk = 0; signed = true; sized = false; radix = 10 }) at
 
 -- [W-1:0]
 abbrev down_from_w : ℕ → Bounds

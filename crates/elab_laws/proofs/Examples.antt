@@ -76,7 +76,7 @@ abbrev i : ℕ → Identifier
 i at = record { text = 105 ∷ []; at = at }
 
 abbrev whole : ℕ → ℕ → Formula
-whole n at = Number (record { width = 32; val = n; unk = 0; signed = true; sized = false }) at
+whole n at = Number (record { width = 32; val = n; unk = 0; signed = true; sized = false; radix = 10 }) at
 
 -- {y[0], y[1:1]}
 abbrev halves : Target

@@ -22,7 +22,7 @@ abbrev a : Identifier
 a = record { text = 97 ∷ []; at = 1 }
 
 abbrev three : Formula
-three = Number (record { width = 32; val = 3; unk = 0; signed = true; sized = false }) 2
+three = Number (record { width = 32; val = 3; unk = 0; signed = true; sized = false; radix = 10 }) 2
 
 -- (a) + 3: parentheses have no node
 sum : node_count scope (Binary Add 4 (Parens 0 (Read a)) three) ≡ 3

@@ -187,6 +187,7 @@ fn based_of(sized: bool, signed: bool, radix: u8, width: u8, digits: &[u8]) -> L
         unk: low_bits(true, radix, width, digits),
         signed,
         sized,
+        radix,
     }
 }
 
@@ -262,6 +263,7 @@ fn decimal(digits: &[u8]) -> Option<Literal>
         unk: 0,
         signed: true,
         sized: false,
+        radix: 10,
     })
 }
 

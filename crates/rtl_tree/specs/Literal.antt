@@ -59,7 +59,7 @@ radix_of b = if b == 98 || b == 66 then 2 else if b == 111 || b == 79 then 8 els
 
 abbrev pub based_of : Bool → Bool → ℕ → ℕ → List ℕ → Literal
 based_of sized signed radix width digits =
-    record { width = width; val = low_bits false radix width digits; unk = low_bits true radix width digits; signed = signed; sized = sized }
+    record { width = width; val = low_bits false radix width digits; unk = low_bits true radix width digits; signed = signed; sized = sized; radix = radix }
 
 -- an unsized literal has 32 bits, and none above them that isn't 0
 abbrev pub unsized : Bool → ℕ → List ℕ → Option Literal
@@ -92,7 +92,7 @@ from_quote width text = if is_sign (slice_index text 0) then from_base width tru
 
 -- a decimal without a base is signed, has 32 bits, and is at most 2147483647
 abbrev pub decimal_of : ℕ → Option Literal
-decimal_of n = if nat_le n 2147483647 then Some (record { width = 32; val = n; unk = 0; signed = true; sized = false }) else None
+decimal_of n = if nat_le n 2147483647 then Some (record { width = 32; val = n; unk = 0; signed = true; sized = false; radix = 10 }) else None
 
 -- the bytes before the quote
 abbrev pub before_quote : List ℕ → ℕ

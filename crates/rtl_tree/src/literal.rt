@@ -12,4 +12,6 @@ pub struct Literal {
     pub signed: bool,
     /// A width is written before the base.
     pub sized: bool,
+    /// What its digits count by: 2, 8, 10 or 16.
+    pub radix: u8,
 }
