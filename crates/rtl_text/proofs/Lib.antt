@@ -3,6 +3,7 @@ mod Runs
 mod Chains
 mod FormTakes
 mod FormAgain
+mod Parts
 mod Pragmas
 mod Ends
 mod Fronts

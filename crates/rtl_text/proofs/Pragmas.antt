@@ -1,11 +1,11 @@
 -- A comment's words, one after the other.
-use Rattle.std.proofs.Common.{◌≡◌, ℕ, ◌+◌, Bool, true, false, cond, not, ◌==◌, List, [], ◌∷◌, length, take, drop, Option, None, refl, sym, ap, ap₂, subst, ◌∙◌, arith}
+use Rattle.std.proofs.Common.{◌≡◌, ℕ, ◌+◌, Bool, true, false, cond, not, ◌==◌, ◌&&◌, List, [], ◌∷◌, length, take, drop, Option, None, refl, sym, ap, ap₂, subst, ◌∙◌, arith}
 use Rattle.std.proofs.lemmas.Bool.Decides.{nat_tests}
 use Rattle.std.specs.List.{prefix_len}
 use Rattle.rtl_tree.specs.declared.token.Pragma.{Pragma}
 use Rattle.rtl_tree.specs.Lexemes.{is_blank, Stops}
-use Rattle.rtl_tree.specs.Splits.{join, words, is_vendor, told_by_one, told_by_two, told, pragma}
-use Rattle.rtl_text.specs.Fronts.{is_no_blank, without_blanks, word_of, after_word, told_at, told_after, pragma_at}
+use Rattle.rtl_tree.specs.Splits.{join, words, is_vendor, told_by_one, told_by_two, told, is_tool, has_pragma_word, is_loose, told_or_loose, pragma}
+use Rattle.rtl_text.specs.Fronts.{is_no_blank, without_blanks, word_of, after_word, told_at, told_after, exact_at, loose_at, pragma_at}
 use Rattle.rtl_text.proofs.Runs.{take_more, drop_more, stops_prefix}
 
 blanks_by : (o : Bool) (b : ℕ) (bs : List ℕ) → is_blank b ≡ o → words bs ≡ words (without_blanks bs) → words (b ∷ bs) ≡ words (drop (cond o (1 + prefix_len is_blank bs) 0) (b ∷ bs))
@@ -117,6 +117,10 @@ told_first : (text w : List ℕ) → word_of text ≡ w → told (words text) �
 told_first text [] e = ap (λ ws. told ws) (no_words text e)
 told_first text (w ∷ ws) e = ap (λ xs. told xs) (some_words text w ws e) ∙ told_second (w ∷ ws) (after_word text) (word_of (after_word text)) refl
 
+loose_first : (text w : List ℕ) → word_of text ≡ w → is_loose (words text) text ≡ (is_tool w && has_pragma_word text)
+loose_first text [] e = ap (λ ws. is_loose ws text) (no_words text e)
+loose_first text (w ∷ ws) e = ap (λ xs. is_loose xs text) (some_words text w ws e)
+
 pub pragma_is : (text : List ℕ) → pragma_at text ≡ pragma text
 unfolding pragma_at pragma
-pragma_is text = sym (told_first text (word_of text) refl)
+pragma_is text = ap₂ told_or_loose (sym (told_first text (word_of text) refl)) (sym (loose_first text (word_of text) refl))

@@ -12,7 +12,7 @@ use Rattle.rtl_tree.specs.declared.token.Pragma.{Pragma}
 use Rattle.rtl_tree.specs.declared.literal.Literal.{Literal}
 use Rattle.rtl_tree.specs.Literal.{literal}
 use Rattle.rtl_tree.specs.Lexemes.{is_blank, is_in_line, is_ascii}
-use Rattle.rtl_tree.specs.Splits.{is_vendor, told_by_one, told_by_two}
+use Rattle.rtl_tree.specs.Splits.{is_vendor, told_by_one, told_by_two, is_tool, has_pragma_word, told_or_loose}
 use Rattle.rtl_text.specs.Forms.{first, form_at}
 use Rattle.rtl_text.specs.declared.front.Front.{Front}
 use Rattle.rtl_text.specs.declared.front.Front.TheVariants.{Gap, Note, Star, One, NotAscii, BadNumber, BadCharacter, LongWord, OpenComment}
@@ -39,8 +39,16 @@ told_at v w x =
 abbrev pub told_after : List ℕ → Option Pragma
 told_after text = told_at (word_of text) (word_of (after_word text)) (word_of (after_word (after_word text)))
 
+-- what it tells where it is exactly a pragma
+abbrev pub exact_at : List ℕ → Option Pragma
+exact_at text = if is_vendor (word_of text) then told_after (after_word text) else None
+
+-- whether it is worded like a pragma
+abbrev pub loose_at : List ℕ → Bool
+loose_at text = is_tool (word_of text) && has_pragma_word text
+
 unfoldable pub pragma_at : List ℕ → Option Pragma
-pragma_at text = if is_vendor (word_of text) then told_after (after_word text) else None
+pragma_at text = told_or_loose (exact_at text) (loose_at text)
 
 abbrev pub noted : ℕ → Option Pragma → Front
 noted size None = Gap size

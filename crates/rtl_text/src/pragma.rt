@@ -102,14 +102,67 @@ fn told_after(text: &[u8]) -> Option<Pragma>
     told(word(text), word(rest), word(after_word(rest)))
 }
 
-#[tactic(auto, unfolding(crate::specs::Fronts::pragma_at))]
-/// What a comment with this inside tells synthesis: it has exactly the words, with nothing else.
-pub fn pragma(inside: &[u8]) -> Option<Pragma>
-    ensures { result ≡ spec.pragma_at inside.now }
+/// What a comment that is exactly a pragma tells.
+fn exact(inside: &[u8]) -> Option<Pragma>
+    ensures { result ≡ spec.exact_at inside.now }
 {
     if is_vendor(word(inside)) {
         told_after(after_word(inside))
     } else {
         None
+    }
+}
+
+/// Whether comments for tools begin by this word.
+fn is_tool(word: &[u8]) -> bool
+    ensures { result ≡ split.is_tool word.now }
+{
+    is_vendor(word)
+        || word == b"pragma".as_slice()
+        || word == b"cadence".as_slice()
+        || word == b"ambit".as_slice()
+        || word == b"exemplar".as_slice()
+        || word == b"altera".as_slice()
+        || word == b"xilinx".as_slice()
+}
+
+/// Whether a part stands somewhere in a text.
+fn holds(part: &[u8], text: &[u8]) -> bool
+    ensures { result ≡ split.holds part.now text.now }
+{
+    for at in 0..text.len() {
+        if take(skip(text, at), part.len()) == part {
+            return true;
+        }
+    }
+    false
+}
+
+fn has_pragma_word(text: &[u8]) -> bool
+    ensures { result ≡ split.has_pragma_word text.now }
+{
+    holds(b"full_case", text)
+        || holds(b"parallel_case", text)
+        || holds(b"translate_off", text)
+        || holds(b"translate_on", text)
+}
+
+/// Whether a comment is worded like a pragma.
+fn is_loose(inside: &[u8]) -> bool
+    ensures { result ≡ spec.loose_at inside.now }
+{
+    is_tool(word(inside)) && has_pragma_word(inside)
+}
+
+#[tactic(auto, unfolding(crate::specs::Fronts::pragma_at))]
+/// What a comment with this inside tells synthesis: it has exactly the words, with nothing else. One that is worded like
+/// a pragma and has others is `Loose`.
+pub fn pragma(inside: &[u8]) -> Option<Pragma>
+    ensures { result ≡ spec.pragma_at inside.now }
+{
+    match exact(inside) {
+        Some(told) => Some(told),
+        None if is_loose(inside) => Some(Pragma::Loose),
+        None => None,
     }
 }
