@@ -28,10 +28,10 @@ or_second : (a b : Bool) → (a || b) ≡ false → b ≡ false
 or_second true b h = cc
 or_second false b h = h
 
-first_not : {A : Type 0} (p : A → Bool) (x : A) (xs : List A) → list_any p (x ∷ xs) ≡ false → p x ≡ false
+pub first_not : {A : Type 0} (p : A → Bool) (x : A) (xs : List A) → list_any p (x ∷ xs) ≡ false → p x ≡ false
 first_not p x xs h = or_first (p x) (list_any p xs) h
 
-others_not : {A : Type 0} (p : A → Bool) (x : A) (xs : List A) → list_any p (x ∷ xs) ≡ false → list_any p xs ≡ false
+pub others_not : {A : Type 0} (p : A → Bool) (x : A) (xs : List A) → list_any p (x ∷ xs) ≡ false → list_any p xs ≡ false
 others_not p x xs h = or_second (p x) (list_any p xs) h
 
 nothing_behind : {A : Type 0} (xs : List A) → xs ++ [] ≡ xs
@@ -52,6 +52,7 @@ cut_kept tok.Directive ts t h = refl
 cut_kept (tok.Pragma pragma.TranslateOff) ts t h = cc
 cut_kept (tok.Pragma pragma.TranslateOn) ts t h = cc
 cut_kept (tok.Pragma (pragma.Case full parallel)) ts t h = refl
+cut_kept (tok.Pragma pragma.Loose) ts t h = refl
 
 all_cut : (front ts : List Token) → list_any bounds_region ts ≡ false → each cut (outside front) ts ≡ Ok (outside (front ++ ts))
 unfolding each cut

@@ -5,3 +5,4 @@ mod Passes
 mod Resumes
 mod Tables
 mod Kept
+mod Noted

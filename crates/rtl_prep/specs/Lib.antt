@@ -1,6 +1,7 @@
 pub mod Stops
 pub mod Regions
 pub mod Initials
+pub mod Comments
 pub mod Directives
 pub mod Macros
 pub mod Reading

@@ -1,12 +1,14 @@
--- Preparation as a whole: regions are dropped first, then macros and conditional text are read, then `initial` constructs are dropped.
+-- Preparation as a whole: regions are dropped first, then macros and conditional text are read, then `initial` constructs are
+-- dropped, and among the tokens that are left the comments that tell nothing are found.
 -- Worked examples: crates/tests_layers/stdin.
-use Rattle.std.specs.Prelude.{ℕ, Option, Some, None, List, [], ◌∷◌, Result, Ok, Err}
+use Rattle.std.specs.Prelude.{ℕ, Option, Some, None, List, [], ◌∷◌, ◌++◌, Result, Ok, Err}
 use Rattle.rtl_tree.specs.declared.token.Token.{Token}
 use Rattle.rtl_tree.specs.Prepared.{Ready}
 use Rattle.rtl_prep.specs.declared.directive.Chain.{Chain}
 use Rattle.rtl_prep.specs.Stops.{Stop, Alone, and_then}
 use Rattle.rtl_prep.specs.Regions.{regions}
 use Rattle.rtl_prep.specs.Initials.{initials}
+use Rattle.rtl_prep.specs.Comments.{comments}
 use Rattle.rtl_prep.specs.Macros.{no_macros}
 use Rattle.rtl_prep.specs.Reading.{Place, read}
 
@@ -33,4 +35,4 @@ conditions text ts = and_then (read text ts start) (λ p. finished p)
 unfoldable pub prepared : List ℕ → List Token → Result Ready Stop
 prepared text ts =
     and_then (regions ts) (λ c. and_then (conditions text c.kept) (λ kept. and_then (initials text c.dropped kept) (λ s.
-    Ok (record { tokens = s.kept; dropped = s.dropped; text = text }))))
+    Ok (record { tokens = s.kept; dropped = s.dropped ++ comments text s.kept; text = text }))))

@@ -1,6 +1,7 @@
-// Preparation: what the parser sees of a list of tokens, and which regions of the text it doesn't see.
+// Preparation: what the parser sees of a list of tokens, and what of the text has no meaning for it.
 #![tactic(auto)]
 
+mod comments;
 mod directive;
 mod fault;
 mod initial;

@@ -7,6 +7,7 @@ ghost use Rattle.rtl_prep.specs.Stops.{Tells};
 ghost use Rattle.rtl_prep.specs.Tables.{seen};
 ghost use Rattle.rtl_prep.specs.Prepares as spec;
 
+use crate::comments::comments;
 use crate::directive::Chain;
 use crate::fault::PrepFault;
 use crate::initial::initials;
@@ -84,8 +85,10 @@ fn directed(alloc: Global, text: &[u8], tokens: &[Token]) -> Result<Vec<Token>, 
     finished(reader)
 }
 
-/// Prepares the tokens of a text: drops the regions in `translate_off`, reads directives and replaces macros, and drops
-/// `initial` constructs. A token of a macro's body keeps its slice of the text, and has the place of the use.
+/// Prepares the tokens of a text: drops the regions in `translate_off`, reads directives and replaces macros, drops
+/// `initial` constructs, and finds the comments that are worded like pragmas and tell nothing. It tells the regions, then
+/// the constructs, then the comments, each by place. A token of a macro's body keeps its slice of the text, and has the
+/// place of the use.
 #[tactic(auto, unfolding(crate::specs::Prepares::prepared))]
 pub fn prepare(alloc: Global, tokens: Tokens, text: &[u8]) -> Result<Prepared, PrepFault>
     ensures { Tells (λ p. p) (spec.prepared text.now tokens) result }
@@ -93,6 +96,7 @@ pub fn prepare(alloc: Global, tokens: Tokens, text: &[u8]) -> Result<Prepared, P
     let cut = regions(alloc, tokens.into_vec())?;
     let kept = conditions(alloc, text, cut.kept)?;
     let shed = initials(alloc, text, cut.dropped, kept)?;
+    let dropped = comments(alloc, text, shed.dropped, shed.kept.as_slice())?;
     let text = Text::from_bytes(alloc, text)?;
-    Ok(Prepared::new(shed.kept, shed.dropped, text))
+    Ok(Prepared::new(shed.kept, dropped, text))
 }

@@ -5,7 +5,7 @@ use Rattle.std.specs.List.{prefix_len}
 use Rattle.rtl_tree.specs.declared.token.Pragma.{Pragma}
 use Rattle.rtl_tree.specs.Lexemes.{is_blank, Stops}
 use Rattle.rtl_tree.specs.Splits.{join, words, is_vendor, told_by_one, told_by_two, told, is_tool, has_pragma_word, is_loose, told_or_loose, pragma}
-use Rattle.rtl_text.specs.Fronts.{is_no_blank, without_blanks, word_of, after_word, told_at, told_after, exact_at, loose_at, pragma_at}
+use Rattle.rtl_text.specs.Fronts.{is_no_blank, without_blanks, word_of, after_word, told_at, told_after, pragma_at}
 use Rattle.rtl_text.proofs.Runs.{take_more, drop_more, stops_prefix}
 
 blanks_by : (o : Bool) (b : ℕ) (bs : List ℕ) → is_blank b ≡ o → words bs ≡ words (without_blanks bs) → words (b ∷ bs) ≡ words (drop (cond o (1 + prefix_len is_blank bs) 0) (b ∷ bs))

@@ -155,8 +155,8 @@ fn is_loose(inside: &[u8]) -> bool
 }
 
 #[tactic(auto, unfolding(crate::specs::Fronts::pragma_at))]
-/// What a comment with this inside tells synthesis: it has exactly the words, with nothing else. One that is worded like
-/// a pragma and has others is `Loose`.
+/// What a comment with this inside tells synthesis: it has exactly the words, with nothing else. One that is worded
+/// like a pragma and has others is `Loose`.
 pub fn pragma(inside: &[u8]) -> Option<Pragma>
     ensures { result ≡ spec.pragma_at inside.now }
 {

@@ -2,8 +2,9 @@
 //!
 //! `tests_reader` tells a row's form. Its words say at which layer it looks:
 //!
-//! - `tokens FILE`: which tokens of a text are kept, and a letter and the place of each region that is dropped, `I` for an `initial`
-//!   and `T` for text that is hidden. `count FILE`: how many are kept. `numbers FILE`: of each number its width, the digits of its 1 and z, those of its x and z,
+//! - `tokens FILE`: which tokens of a text are kept, and a letter and the place of each region that is dropped, `I` for an `initial`,
+//!   `T` for text that is hidden and `C` for a comment that tells nothing. `count FILE`: how many are kept.
+//!   `numbers FILE`: of each number its width, the digits of its 1 and z, those of its x and z,
 //!   and whether it is signed and has a size. `ladder N`: the tokens of a use of the last of N macros, each a use of the one before.
 //! - `modules FILE`: the names of the modules of an empty file, and of this one, each behind a slash. `place FILE`: where the outermost
 //!   operator of the last assignment's value stands. `layers FILE`: what each call of the front end makes of a text.

@@ -121,6 +121,7 @@ fn kept(alloc: Global, ready: &Prepared) -> Result<Vec<u8>, Stop> {
         let letter = match region.kind {
             DropKind::Initial => 'I',
             DropKind::TranslateOff => 'T',
+            DropKind::Comment => 'C',
         };
         let told = format!(in alloc; "{letter}{}", region.at)?;
         words::say(&mut all, &told)?;

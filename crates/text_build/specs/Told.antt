@@ -5,4 +5,4 @@ use Rattle.rtl_tree.specs.declared.dropped.Dropped.{Dropped}
 use Rattle.text_build.specs.declared.regions.Regions.{Regions}
 
 abbrev pub told : Regions → List Dropped
-told r = r.front.regions.now ++ (r.middle.regions.now ++ r.rest.now)
+told r = r.front.regions.now ++ (r.middle.regions.now ++ (r.back.regions.now ++ r.rest.now))

@@ -12,11 +12,13 @@ use crate::run::{Run, first_run, is_between};
 use rtl_tree::dropped::Dropped;
 use std::alloc::Global;
 
-/// All regions of a text. Preparation tells first those between pragmas, by place, then the `initial` constructs, by place.
+/// All regions of a text. Preparation tells first those between pragmas, then the `initial` constructs, then the comments that
+/// tell nothing, each by place.
 #[derive(Clone, Copy)]
 pub struct Regions<'a> {
     pub front: Run<'a>,
     pub middle: Run<'a>,
+    pub back: Run<'a>,
     /// In any order: none, where preparation told them.
     pub rest: &'a [Dropped],
 }
@@ -27,10 +29,12 @@ impl<'a> Regions<'a> {
         ensures { told result ≡ regions.now }
     {
         let (front, others) = first_run(regions);
-        let (middle, rest) = first_run(others);
+        let (middle, others) = first_run(others);
+        let (back, rest) = first_run(others);
         Regions {
             front,
             middle,
+            back,
             rest,
         }
     }
@@ -43,6 +47,7 @@ impl<'a> Regions<'a> {
         let mut all = Vec::new(alloc);
         self.front.add_between(&mut all, first, last)?;
         self.middle.add_between(&mut all, first, last)?;
+        self.back.add_between(&mut all, first, last)?;
         for region in self.rest {
             if is_between(first, last, *region) {
                 all.push(*region)?;

@@ -5,4 +5,6 @@ use Rattle.text_build.proofs.regions.Regions.between.Given as goal
 
 abbrev pub invariant-loop-region : goal.invariant-loop-region
 invariant-loop-region l =
-    l.all.items ≡ filter (is_between l.first l.last) (l.self.front.regions.now ++ (l.self.middle.regions.now ++ take l.region-index l.self.rest.now))
+    l.all.items
+    ≡ filter (is_between l.first l.last)
+    (l.self.front.regions.now ++ (l.self.middle.regions.now ++ (l.self.back.regions.now ++ take l.region-index l.self.rest.now)))
