@@ -11,7 +11,7 @@ use Rattle.check_clocks.specs.Findings.{AreClockFindings}
 use Rattle.check_assign.specs.Findings.{AreAssignFindings}
 use Rattle.check_case.specs.Cases.{AreCaseFindings}
 use Rattle.check_unknown.specs.Unknowns.{AreUnknownFindings}
-use Rattle.check_readings.specs.Readings.{AreReadingFindings, once}
+use Rattle.check_readings.specs.Readings.{AreReadingFindings, comments, note_at, once}
 use Rattle.check_all.specs.Findings.{AreAllFindings}
 
 those_alone : {A : Type 0} (P : A → Type 0) (xs a b : List A) → AreThose P xs a → AreThose P xs b → a ≡ b
@@ -53,9 +53,12 @@ unknown_alone : (d : Parts) (a b : List Finding) → AreUnknownFindings d a → 
 unknown_alone d a b one other =
     one.in_order ∙ ap ranked (both (both (both (both (both (both (both (both (findings_alone one.are_literal other.are_literal) (findings_alone one.are_range other.are_range)) (findings_alone one.are_divide other.are_divide)) (findings_alone one.are_equality other.are_equality)) (findings_alone one.are_delay other.are_delay)) (findings_alone one.are_initial other.are_initial)) (findings_alone one.are_region other.are_region)) (findings_alone one.are_optimism other.are_optimism)) (findings_alone one.are_wild other.are_wild)) ∙ sym other.in_order
 
-reading_alone : (d : Flat) (a b : List Finding) → AreReadingFindings d a → AreReadingFindings d b → a ≡ b
+reading_alone : (d : Parts) (a b : List Finding) → AreReadingFindings d a → AreReadingFindings d b → a ≡ b
 reading_alone d a b one other =
-    one.in_order ∙ ap once (both (both (findings_alone one.are_target other.are_target) (findings_alone one.are_listed other.are_listed)) (findings_alone one.are_select other.are_select)) ∙ sym other.in_order
+    one.in_order
+    ∙ ap (λ found. once (found ++ comments d.dropped ++ map note_at d.notes))
+    (both (both (findings_alone one.are_target other.are_target) (findings_alone one.are_listed other.are_listed)) (findings_alone one.are_select other.are_select))
+    ∙ sym other.in_order
 
 pub alone : (d : Parts) (a b : List Finding) → AreAllFindings d a → AreAllFindings d b → a ≡ b
 alone d a b one other =
@@ -66,5 +69,5 @@ alone d a b one other =
     (reset_alone d.flat one.reset other.reset one.are_reset other.are_reset))
     (case_alone d.flat one.cases other.cases one.are_cases other.are_cases))
     (unknown_alone d one.unknown other.unknown one.are_unknown other.are_unknown))
-    (reading_alone d.flat one.readings other.readings one.are_readings other.are_readings))
+    (reading_alone d one.readings other.readings one.are_readings other.are_readings))
     ∙ sym other.in_order

@@ -25,7 +25,7 @@ again xs =
 in_order : (all xs : List Finding) → all ≡ ranked xs → all ≡ ranked all
 in_order all xs is = is ∙ sym (again xs) ∙ sym (ap ranked is)
 
-module _ (d : Parts) (sense assigned clocked reset cases unknown readings two three four five six : List Finding) (s : AreSenseFindings d.flat sense) (a : AreAssignFindings d.flat assigned) (k : AreClockFindings (InCone d.flat) d.flat clocked) (r : AreResetFindings d.flat reset) (c : AreCaseFindings d.flat cases) (u : AreUnknownFindings d unknown) (g : AreReadingFindings d.flat readings) where
+module _ (d : Parts) (sense assigned clocked reset cases unknown readings two three four five six : List Finding) (s : AreSenseFindings d.flat sense) (a : AreAssignFindings d.flat assigned) (k : AreClockFindings (InCone d.flat) d.flat clocked) (r : AreResetFindings d.flat reset) (c : AreCaseFindings d.flat cases) (u : AreUnknownFindings d unknown) (g : AreReadingFindings d readings) where
   told : (all : List Finding) → all ≡ ranked (sense ++ assigned ++ clocked ++ reset ++ cases ++ unknown ++ readings) → AreAllFindings d all
   told all is =
       record {

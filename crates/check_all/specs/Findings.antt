@@ -28,7 +28,7 @@ pub record AreAllFindings (d : Parts) (findings : List Finding) : Type 0 where
   pub are_reset : AreResetFindings d.flat reset
   pub are_cases : AreCaseFindings d.flat cases
   pub are_unknown : AreUnknownFindings d unknown
-  pub are_readings : AreReadingFindings d.flat readings
+  pub are_readings : AreReadingFindings d readings
   pub in_order : findings ≡ ranked (sense ++ assigned ++ clocked ++ reset ++ cases ++ unknown ++ readings)
 
 -- whether the design of these findings is clean: none of them is of the first grade

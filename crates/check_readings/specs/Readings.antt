@@ -1,17 +1,24 @@
 -- Texts that simulators and synthesis tools were seen to read in two ways, one of which the flat design has.
 -- Worked examples: proofs/Example.antt, crates/tests_rows/stdin.
-use Rattle.std.specs.Prelude.{ℕ, ◌≡◌, ◌==◌, Bool, true, false, not, ◌&&◌, if◌then◌else◌, List, [], ◌∷◌, ◌++◌, Option, Some, None}
-use Rattle.std.specs.List.{dedup, flat_map, slice_get}
+use Rattle.std.specs.Prelude.{ℕ, ◌≡◌, ◌==◌, Bool, true, false, not, ◌&&◌, if◌then◌else◌, List, [], ◌∷◌, ◌++◌, map, Option, Some, None}
+use Rattle.std.specs.List.{dedup, filter, flat_map, slice_get}
 use Rattle.std.specs.Option.{is_some}
 use Rattle.std.specs.Str.{bytes_eq}
+use Rattle.rtl_tree.specs.declared.dropped.DropKind.{DropKind}
+use Rattle.rtl_tree.specs.declared.dropped.DropKind.TheVariants.{Comment, Initial, TranslateOff}
 use Rattle.rtl_flat.specs.declared.expr.SigId.{SigId}
+use Rattle.rtl_flat.specs.declared.instance.DroppedRegion.{DroppedRegion}
+use Rattle.rtl_flat.specs.declared.note.Note.{Note}
+use Rattle.rtl_flat.specs.declared.note.Reading.{Reading}
+use Rattle.rtl_flat.specs.declared.note.Reading.TheVariants as reading
 use Rattle.rtl_flat.specs.declared.signal.Signal.{Signal}
 use Rattle.rtl_flat.specs.Expression.{Tree, Sized, BitBy, Part, Shifted}
-use Rattle.rtl_flat.specs.Flats.{Flat}
+use Rattle.rtl_flat.specs.Flats.{Flat, Parts}
 use Rattle.rtl_flat.specs.Process.{Selection, Piece, Watched, Action, Doing, Assign, Comb, Edge'}
 use Rattle.rtl_flat.specs.Process as part
 use Rattle.rtl_flat.specs.WellFormed.{has_edge}
 use Rattle.rtl_rule.specs.declared.finding.Finding.{Finding}
+use Rattle.rtl_rule.specs.declared.rule.Rule.{Rule}
 use Rattle.rtl_rule.specs.declared.rule.Rule.TheVariants as rule
 use Rattle.rtl_rule.specs.Order.{rank_of, ranked}
 use Rattle.rtl_rule.specs.Parts.{At, all_of, found_at, index_of, items_of, labels, nodes, number, own_pieces, pieces, place_of, sites, trees}
@@ -102,6 +109,38 @@ whole_select_at d site =
 abbrev pub AreWholeSelect : Flat → List Finding → Type 0
 AreWholeSelect d = AreFindings (IsWholeSelect d) (whole_select_at d) (sites amounts d)
 
+-- ---- P8: a comment that is worded like a pragma and tells the desk nothing, which another tool may obey (IEEE 1364.1-2002
+-- section 6.1)
+
+abbrev pub is_comment : DropKind → Bool
+is_comment Comment = true
+is_comment Initial = false
+is_comment TranslateOff = false
+
+abbrev pub comment_at : DroppedRegion → Finding
+comment_at region =
+    record { rule = rule.PragmaWords; signal = None; instance = region.instance; spot = region.spot }
+
+abbrev pub comments : List DroppedRegion → List Finding
+comments dropped = map comment_at (filter (λ region. is_comment region.kind) dropped)
+
+-- ---- P1 to P4, P9 to P11 and P13: what elaboration noted of the text
+
+-- the rule that a note is about
+abbrev pub rule_of : Reading → Rule
+rule_of reading.ParameterFormat = rule.ParameterFormat
+rule_of reading.ConstantValue = rule.ConstantValue
+rule_of reading.PortContext = rule.PortContext
+rule_of reading.CaseSigns = rule.CaseSigns
+rule_of reading.UnsizedNumber = rule.UnsizedNumber
+rule_of reading.PortSign = rule.PortSign
+rule_of reading.LateParameter = rule.LateParameter
+rule_of reading.LoopSign = rule.LoopSign
+
+abbrev pub note_at : Note → Finding
+note_at note =
+    record { rule = rule_of note.reading; signal = note.signal; instance = note.instance; spot = note.spot }
+
 -- ---- all of them
 
 -- whether two findings are ranked alike, so that all they say is the same
@@ -113,11 +152,11 @@ abbrev pub once : List Finding → List Finding
 once findings = dedup is_same (ranked findings)
 
 -- whether these are all findings about readings, in their order
-pub record AreReadingFindings (d : Flat) (findings : List Finding) : Type 0 where
+pub record AreReadingFindings (d : Parts) (findings : List Finding) : Type 0 where
   pub target : List Finding
   pub listed : List Finding
   pub select : List Finding
-  pub are_target : AreTargetIndex d target
-  pub are_listed : AreListIndex d listed
-  pub are_select : AreWholeSelect d select
-  pub in_order : findings ≡ once (target ++ listed ++ select)
+  pub are_target : AreTargetIndex d.flat target
+  pub are_listed : AreListIndex d.flat listed
+  pub are_select : AreWholeSelect d.flat select
+  pub in_order : findings ≡ once (target ++ listed ++ select ++ comments d.dropped ++ map note_at d.notes)
