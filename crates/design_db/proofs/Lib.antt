@@ -1,4 +1,5 @@
 mod Example
+mod StepsExample
 pub mod Finds
 pub mod InOrder
 pub mod Kept

@@ -1,0 +1,140 @@
+-- How many steps rulings take while files come and go: what the clauses `counted`, `untouched` and `again` of `ruling` say of the
+-- stores that the clauses of `put` and `drop_file` make, one after the other.
+use Rattle.std.proofs.Common.{◌≡◌, ℕ, ◌+◌, List, [], ◌∷◌, codes, refl}
+use Rattle.std.specs.Prelude.{Bool, Option, Some, None, if◌then◌else◌, is_some}
+use Rattle.source_file.specs.declared.SourceFile.{SourceFile}
+use Rattle.rtl_tree.specs.TreeModule.{Absent, Circuit}
+use Rattle.desk_files.specs.Sources.{with_file, without_file}
+use Rattle.desk_memo.specs.elab_links.declared.module_set.Lookup.{Lookup}
+use Rattle.desk_memo.specs.elab_links.declared.module_set.Lookup.TheVariants.{Found}
+use Rattle.desk_memo.specs.elab_links.declared.module_set.Place.{Place}
+use Rattle.desk_memo.specs.Readings.{changed_count, with_blank, without}
+use Rattle.desk_memo.specs.Rulings.{current_answer, current_of}
+use Rattle.elab_lookups.specs.declared.look_up.LookUp.{LookUp}
+use Rattle.design_db.specs.Answers.{Answer, Reading, Ruling}
+
+-- files, what was read of each last, the modules that each text defines, and the rulings
+record Desk : Type 0 where
+  files : List SourceFile
+  readings : List (Option Reading)
+  modules : List (List Circuit)
+  rulings : List Ruling
+
+abbrev file : List ℕ → List ℕ → SourceFile
+file its_name its_text = record { name = its_name; text = its_text }
+
+abbrev read : SourceFile → Option Reading
+read its_file = Some (record { file = its_file; refusal = None })
+
+-- module NAME; endmodule
+abbrev module_of : List ℕ → Circuit
+module_of its_name =
+    record {
+      at = 0;
+      name = record { text = its_name; at = 0 };
+      parameters = [];
+      header = Absent;
+      items = [];
+      dropped = [];
+    }
+
+-- at most one step for each file that is new or has another text than when it was read last, and one more where no ruling of the
+-- top still holds among what the texts define now
+abbrev most_steps : Desk → ℕ
+most_steps desk =
+    changed_count desk.files desk.readings
+    + (if is_some (current_of desk.files desk.modules (codes "top") desk.rulings) then 0 else 1)
+
+-- a file that defines one module of a name is put
+abbrev put : SourceFile → List ℕ → Desk → Desk
+put its_file its_module desk =
+    record {
+      files = with_file its_file desk.files;
+      readings = with_blank None its_file.name desk.files desk.readings;
+      modules = with_blank (module_of its_module ∷ []) its_file.name desk.files desk.modules;
+      rulings = desk.rulings;
+    }
+
+abbrev drop_file : List ℕ → Desk → Desk
+drop_file its_name desk =
+    record {
+      files = without_file its_name desk.files;
+      readings = without its_name desk.files desk.readings;
+      modules = without its_name desk.files desk.modules;
+      rulings = desk.rulings;
+    }
+
+-- each file was read as it is, and the ruling of the top still holds
+abbrev all_read : List SourceFile → List (Option Reading)
+all_read [] = []
+all_read (first ∷ others) = read first ∷ all_read others
+
+abbrev ruled : Desk → Desk
+ruled desk =
+    record { files = desk.files; readings = all_read desk.files; modules = desk.modules; rulings = desk.rulings }
+
+abbrev first second third : SourceFile
+first = file (codes "a.v") (codes "1")
+second = file (codes "b.v") (codes "2")
+third = file (codes "z.v") (codes "3")
+
+abbrev meant : List ℕ → ℕ → LookUp
+meant its_name number =
+    let place : Place = record { file = number; index = 0 } in
+    record { name = its_name; meant = Found place }
+
+-- the top stands in a.v and holds an instance of a module of b.v
+abbrev ruling : Answer → Ruling
+ruling answer =
+    record {
+      top = codes "top";
+      look_ups = meant (codes "top") 0 ∷ meant (codes "half") 1 ∷ [];
+      used = first ∷ second ∷ [];
+      answer = answer;
+    }
+
+-- three files, of which z.v has a module that the top doesn't look up, after a ruling
+abbrev at_first : Answer → Desk
+at_first answer =
+    record {
+      files = first ∷ second ∷ third ∷ [];
+      readings = all_read (first ∷ second ∷ third ∷ []);
+      modules = (module_of (codes "top") ∷ []) ∷ (module_of (codes "half") ∷ []) ∷ (module_of (codes "other") ∷ []) ∷ [];
+      rulings = ruling answer ∷ [];
+    }
+
+-- z.v is put with another text
+abbrev edited : Answer → Desk
+edited answer = put (file (codes "z.v") (codes "3 ")) (codes "other") (at_first answer)
+
+one : (answer : Answer) → most_steps (edited answer) ≡ 1
+one answer = refl
+
+-- a ruling after that
+none : (answer : Answer) → most_steps (ruled (edited answer)) ≡ 0
+none answer = refl
+
+-- a file that comes before all others
+abbrev widened : Answer → Desk
+widened answer = put (file (codes "0.v") (codes "0")) (codes "zero") (ruled (edited answer))
+
+one_again : (answer : Answer) → most_steps (widened answer) ≡ 1
+one_again answer = refl
+
+-- z.v is dropped after a ruling
+abbrev narrowed : Answer → Desk
+narrowed answer = drop_file (codes "z.v") (ruled (widened answer))
+
+none_again : (answer : Answer) → most_steps (narrowed answer) ≡ 0
+none_again answer = refl
+
+-- the file that the top's instance stands in is put with another text
+abbrev touched : Answer → Desk
+touched answer = put (file (codes "b.v") (codes "2 ")) (codes "half") (ruled (narrowed answer))
+
+two : (answer : Answer) → most_steps (touched answer) ≡ 2
+two answer = refl
+
+-- where no step is left to take, the answer is there
+answered : (answer : Answer) → current_answer (narrowed answer).files (narrowed answer).modules (codes "top") (narrowed answer).rulings ≡ Some answer
+answered answer = refl
