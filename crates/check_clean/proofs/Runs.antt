@@ -2,10 +2,18 @@
 use Rattle.std.proofs.Common.{ℕ, [], Option, Some, subst, sym, refl}
 use Rattle.std.specs.Prelude.{◌≡◌, List}
 use Rattle.rtl_flat.specs.Process.{Watched, Actions, Comb}
-use Rattle.event_model.specs.Queue.{doing_at, offer}
+use Rattle.event_model.specs.Queue.{State, doing_at, offer}
 use Rattle.check_laws.specs.event_settling.Conditions.{AllSelectIn}
 use Rattle.check_laws.proofs.event_settling_proofs.Conditions.{rules_settle}
 use Rattle.check_laws.proofs.event_settling_proofs.Ends as every
+use Rattle.check_laws.proofs.event_settling_proofs.Rests as by_level
+use Rattle.check_laws.specs.event_settling.Ending.{IsReached}
+use Rattle.check_laws.specs.event_settling.Settling.{Fits, IsBegun}
+use Rattle.check_laws.specs.event_laws.Steady.{AreLawful}
+use Rattle.rtl_bits.specs.declared.Bit.{Bit}
+use Rattle.rtl_rule.specs.declared.finding.Finding.{Finding}
+use Rattle.check_all.specs.Findings.{AreAllFindings, IsClean}
+use Rattle.check_clean.specs.Levelled.{AreLevels, RestsByLevel}
 use Rattle.net_model.specs.Control.{InClockCone}
 use Rattle.rtl_flat.specs.Flats.{Parts, widths}
 use Rattle.check_all.specs.check_unknown.Unknowns.{AreSelectRange}
@@ -48,3 +56,25 @@ ends d lawful findings are is s step reached fits =
     let kept = settles d lawful findings are is level (are_levels d.flat lawful loops) in
     every.ends d.flat lawful level (InClockCone d.flat) (rules_settle d.flat lawful level kept) (offer s step)
     (every.steps_start d.flat lawful s step reached fits)
+
+-- the states behind what a step offers are ones in which it may begin
+pub levelled : (d : Parts) → AreLawful d.flat → (findings : List Finding) → AreAllFindings d findings → IsClean findings → (level : ℕ → Option ℕ) → AreLevels d.flat level → RestsByLevel d.flat level
+levelled d lawful findings are is level levels =
+    let settling = rules_settle d.flat lawful level (settles d lawful findings are is level levels) in
+    let begun : (s : State) (step : List (ℕ × List Bit)) → IsReached d.flat s → Fits d.flat step → IsBegun d.flat (offer s step) =
+    (λ s step reached fits.
+        let start = every.steps_start d.flat lawful s step reached fits in
+        record { orderly = start.orderly; drivers = start.drivers }) in
+    record {
+      rests = λ s step reached fits.
+          let come = by_level.rests d.flat lawful level (InClockCone d.flat) settling (offer s step) (begun s step reached fits) in
+          record {
+            spent = come.spent;
+            state = come.state;
+            run = come.run;
+            within = come.within;
+            rest = come.rest (λ none. (every.steps_start d.flat lawful s step reached fits).delayed);
+          };
+      never_dear = λ s t step spent left reached fits run all dear.
+          by_level.settles d.flat lawful level (InClockCone d.flat) settling (offer s step) t spent left (begun s step reached fits) run all dear;
+    }

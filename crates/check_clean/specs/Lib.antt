@@ -1,5 +1,6 @@
 pub mod Clean
 pub mod Ending
+pub mod Levelled
 pub mod Promise
 -- passed on to the crates above
 pub use Rattle.check_all.specs as check_all

@@ -1,7 +1,6 @@
 -- What is promised of a design without a finding of the first grade.
 -- Worked examples: crates/tests_rows/stdin.
-use Rattle.std.specs.Prelude.{◌<◌, ℕ, List, length, Option}
-use Rattle.rtl_flat.specs.Levels.{IsLevel}
+use Rattle.std.specs.Prelude.{ℕ, List, Option}
 use Rattle.rtl_flat.specs.Flats.{Flat, Parts}
 use Rattle.check_laws.specs.event_laws.Steady.{AreLawful}
 use Rattle.check_laws.specs.event_settling.Conditions.{AreRulesKept}
@@ -15,11 +14,12 @@ use Rattle.sign_cycles.specs.Lacking.{BringUpsAre}
 use Rattle.rtl_rule.specs.declared.finding.Finding.{Finding}
 use Rattle.check_all.specs.Findings.{AreAllFindings, IsClean}
 use Rattle.check_laws.specs.Expressions.{AreMarked}
+use Rattle.check_clean.specs.Levelled.{AreLevels, RestsByLevel}
 
 -- blocks that wait for edges have clocks and resets. Whichever are taken for them, simulation agrees with synthesis in every
 -- order of events. It does from wherever steps from power-up come to rest with inputs and registers known, and so after every
 -- bring-up where each register has a reset; there is one but where an input resets one process at 1 and another at 0. From
--- wherever a step starts, every run comes to rest
+-- wherever a step starts, every run comes to rest, and by level within the budget of a step
 pub record IsPromised (d : Flat) : Type 0 where
   pub chains : ℕ → Chain
   pub chained : AreChains d chains
@@ -28,6 +28,7 @@ pub record IsPromised (d : Flat) : Type 0 where
   pub brought_up : (choice : ℕ → Chain) → AreChains d choice → HaveResets d choice → (fill : Fill) → BringsUp d choice fill
   pub bring_ups : (choice : ℕ → Chain) → AreChains d choice → BringUpsAre d choice
   pub ends : RunsEnd d
+  pub levelled : (level : ℕ → Option ℕ) → AreLevels d level → RestsByLevel d level
 
 -- so it is where none of all findings of a lawful design is of the first grade
 abbrev pub PromisedByRules : Parts → Type 0
@@ -40,5 +41,4 @@ abbrev pub SettlesByRules : Parts → Type 0
 SettlesByRules d =
     AreLawful d.flat →
     (findings : List Finding) → AreAllFindings d findings → IsClean findings →
-    (level : ℕ → Option ℕ) → ((p : ℕ) → p < length d.flat.tasks → IsLevel d.flat.signals d.flat.tasks p (level p)) →
-    AreRulesKept d.flat level
+    (level : ℕ → Option ℕ) → AreLevels d.flat level → AreRulesKept d.flat level

@@ -119,6 +119,7 @@ of_design kept top files are circuits spelled numbers used (Ok flat) same (Ruled
       found = is.0.are_all;
       clean = clean;
       promised = is.0.promised clean;
+      hardware = is.0.hardware clean;
     }
 of_design kept top files are circuits spelled numbers used (Ok flat) same (Refused line) is request today says = absurd is
 of_design kept top files are circuits spelled numbers used (Err fault) same (Ruled verdict reached) is request today says = absurd is

@@ -5,6 +5,7 @@ use Rattle.rtl_tree.specs.TreeModule.{Circuit}
 use Rattle.rtl_rule.specs.declared.finding.Finding.{Finding}
 use Rattle.design_db.specs.check_all.Findings.{AreAllFindings, IsClean}
 use Rattle.design_db.specs.check_clean.Promise.{IsPromised}
+use Rattle.design_db.specs.net_clean.Netlist.{HasHardware}
 use Rattle.rtl_flat.specs.Flats.{DesignParts}
 use Rattle.design_db.specs.elab_names.Extracts.{extract}
 use Rattle.design_db.specs.elab_names.LookUps.{AreUsed}
@@ -38,7 +39,7 @@ pub record SaysClean (answer : Said) : Type 0 where
 -- The headline. The texts of the files of the rows spell modules, and no others; of these the
 -- module with the top's name means a flat design, in the files that it uses, numbered among
 -- themselves; none of its findings is of the first grade; and simulation agrees with synthesis on
--- that design
+-- that design, of which synthesis refuses nothing
 pub record IsSignedClean (kept : Kept) (top : List ℕ) : Type 0 where
   pub files : List SourceFile
   pub are_files : AreFilesOf kept.files files
@@ -52,6 +53,7 @@ pub record IsSignedClean (kept : Kept) (top : List ℕ) : Type 0 where
   pub found : AreAllFindings design.parts findings
   pub clean : IsClean findings
   pub promised : IsPromised design.parts.flat
+  pub hardware : HasHardware design.parts.flat
 
 -- a reply that says that a new sign-off of a module is clean says so of a module that is
 abbrev pub IsTrustworthy : Request → Kept → Said → Type 0

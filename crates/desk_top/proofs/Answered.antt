@@ -144,6 +144,8 @@ zero_is_clean words world wanted before now asked is zero written = by_order (or
           brought_up = promised.brought_up promised.chains promised.chained;
           bring_ups = promised.bring_ups promised.chains promised.chained;
           ends = promised.ends;
+          levelled = promised.levelled;
+          hardware = ruled.hardware none;
         }
 
     by_built : (top : List ℕ) (files texts : List (List ℕ)) (circuits : List (List Circuit)) → order words ≡ Some (Sign top files) → texts_of world.files files ≡ Some texts

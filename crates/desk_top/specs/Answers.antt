@@ -8,6 +8,8 @@ use Rattle.rtl_flat.specs.Flats.{DesignParts}
 use Rattle.desk_build.specs.rtl_elab.Designs.{library_of}
 use Rattle.desk_build.specs.rtl_elab.Elaborated.{elaborated}
 use Rattle.desk_verdict.specs.event_settling.Ending.{RunsEnd}
+use Rattle.desk_verdict.specs.check_clean.Levelled.{AreLevels, RestsByLevel}
+use Rattle.desk_verdict.specs.net_clean.Netlist.{HasHardware}
 use Rattle.net_model.specs.declared.fill.Fill.{Fill}
 use Rattle.net_model.specs.Cycle.{AreChains, Chain}
 use Rattle.desk_verdict.specs.sign_cycles.Agree.{Agree}
@@ -49,7 +51,8 @@ pub record IsAnswered (words : List (List ℕ)) (status : ℕ) (before now : Opt
 -- grade; blocks that wait for edges have clocks and resets, with which simulation agrees with synthesis on that design,
 -- whatever the order of events and whatever the fill of what nothing drives; it does from wherever steps from power-up come
 -- to rest with inputs and registers known, and so after a bring-up where each register has a reset; there is a bring-up but
--- where an input resets one process at 1 and another at 0; and from wherever a step starts, every run comes to rest
+-- where an input resets one process at 1 and another at 0; from wherever a step starts, every run comes to rest, and by level within
+-- the budget of a step; and synthesis refuses nothing of the design
 pub record IsSignedClean (words : List (List ℕ)) (before now : Option (List ℕ)) (world : World) : Type 0 where
   pub top : List ℕ
   pub files : List (List ℕ)
@@ -73,3 +76,5 @@ pub record IsSignedClean (words : List (List ℕ)) (before now : Option (List �
   pub brought_up : HaveResets design.parts.flat chains → (fill : Fill) → BringsUp design.parts.flat chains fill
   pub bring_ups : BringUpsAre design.parts.flat chains
   pub ends : RunsEnd design.parts.flat
+  pub levelled : (level : ℕ → Option ℕ) → AreLevels design.parts.flat level → RestsByLevel design.parts.flat level
+  pub hardware : HasHardware design.parts.flat

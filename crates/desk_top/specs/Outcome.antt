@@ -8,6 +8,7 @@ use Rattle.rtl_flat.specs.Flats.{DesignParts}
 use Rattle.rtl_rule.specs.declared.finding.Finding.{Finding}
 use Rattle.desk_verdict.specs.check_all.Findings.{AreAllFindings, IsClean}
 use Rattle.desk_verdict.specs.check_clean.Promise.{IsPromised}
+use Rattle.desk_verdict.specs.net_clean.Netlist.{HasHardware}
 use Rattle.demo_told.specs.declared.demo.Demo.{Demo}
 use Rattle.demo_told.specs.declared.demo.Shown.{Shown as Values}
 use Rattle.desk_verdict.specs.demo_replay.declared.fault.Part.{Part}
@@ -62,6 +63,7 @@ pub record IsRuled (top : List ℕ) (sources : List SourceFile) (design : Design
   pub are_shown : AreShown design found shown
   pub is : outcome ≡ ruling_outcome top sources design found shown
   pub promised : IsClean found → IsPromised design.parts.flat
+  pub hardware : IsClean found → HasHardware design.parts.flat
 
 -- the source is refused
 abbrev pub refused : List ℕ → Outcome

@@ -12,7 +12,7 @@ mod Inner
 mod Orders
 pub mod Policies
 pub mod Quiet
-mod Rests
+pub mod Rests
 mod Selecting
 mod Shares
 pub mod Totals

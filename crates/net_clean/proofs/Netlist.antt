@@ -1,11 +1,12 @@
 -- A design without findings of the first grade has a netlist.
-use Rattle.std.proofs.Common.{◌≡◌, ℕ, zero, suc, List, [], ◌∷◌, Option, None, Some, refl, inl}
+use Rattle.std.proofs.Common.{◌≡◌, ◌∙◌, ℕ, zero, suc, sym, List, [], ◌∷◌, Option, None, Some, refl, inl}
+use Rattle.std.proofs.lemmas.Bool.{false≢true}
 use Rattle.std.specs.List.{slice_get}
 use Rattle.std.specs.Option.{IsSomeAnd}
-use Rattle.rtl_flat.specs.declared.design.Design.{Design}
+use Rattle.rtl_bits.specs.declared.Bit.{Bit}
 use Rattle.rtl_flat.specs.Levels.{Chain, Here, Then, IsArrow, IsBehindCycle}
 use Rattle.rtl_flat.specs.Process.{Task}
-use Rattle.rtl_flat.specs.Flats.{Flat, Parts, flat, parts}
+use Rattle.rtl_flat.specs.Flats.{Flat, Parts}
 use Rattle.rtl_rule.specs.declared.rule.Rule.{Rule}
 use Rattle.rtl_rule.specs.declared.rule.Rule.TheVariants.{MixedEdges, SeveralDrivers, DerivedClock, ResetShape, ResetPolarity, ResetValue}
 use Rattle.rtl_rule.specs.Parts.{within}
@@ -24,8 +25,11 @@ use Rattle.netlist_eval.specs.net_order.declared.order.Ranking.{Ranking}
 use Rattle.netlist_eval.specs.net_order.declared.order.Ranking.TheVariants.{Cyclic, Order}
 use Rattle.netlist_eval.specs.net_order.Order.{IsCyclic, IsRanking}
 use Rattle.netlist_eval.specs.net_solve.Feeds.{IsFeed}
+use Rattle.netlist_eval.specs.declared.fault.NetFault.{NetFault}
 use Rattle.netlist_eval.specs.declared.fault.NetFault.TheVariants as net_fault
-use Rattle.net_clean.specs.Netlist.{BeginsByRules, HasNetlist, InferredByRules, IsOrdered, NetlistByRules}
+use Rattle.netlist_eval.specs.Steps.{IsFault as IsNetFault}
+use Rattle.net_start.specs.Start.{AreKnown}
+use Rattle.net_clean.specs.Netlist.{HardwareByRules, HasNetlist, IsOrdered}
 use Rattle.check_all.specs.Rules.{HasNoFinding}
 use Rattle.check_all.proofs.Without.{no_finding}
 
@@ -96,37 +100,37 @@ module _ (d : Flat) where
   no_cycle none s cyclic =
       comb_loop d none.a6 cyclic.process (behind cyclic.process cyclic.behind)
 
--- ---- laws
+-- ---- the hardware
 
-pub has_netlist : (d : Parts) → NetlistByRules d
-has_netlist d findings are clean =
-    let none = no_finding d findings are clean in
-    record { formed = formed d.flat none; alone = alone d.flat none; no_cycle = no_cycle d.flat none }
+has_netlist : (d : Flat) → HasNoFinding d → HasNetlist d
+has_netlist d none = record { formed = formed d none; alone = alone d none; no_cycle = no_cycle d none }
 
-module _ (design : Design) (netlist : HasNetlist (flat design)) where
-  registers : (fault : InferFault) → IsFirst (IsShapeless (flat design)) fault → fault ≡ Memory
+module _ (d : Flat) (netlist : HasNetlist d) where
+  registers : (fault : InferFault) → IsFirst (IsShapeless d) fault → fault ≡ Memory
   registers (Shape p) least = absurd (netlist.formed p.0 least.holds)
   registers Memory least = refl
 
-  blocks : (fault : InferFault) → IsFirst (IsContended (flat design)) fault → fault ≡ Memory
+  blocks : (fault : InferFault) → IsFirst (IsContended d) fault → fault ≡ Memory
   blocks (Shape p) least = absurd (netlist.alone p.0 least.holds)
   blocks Memory least = refl
 
-  ordered : (ranking : Ranking) → IsRanking (flat design) ranking → IsOrdered ranking
+  ordered : (ranking : Ranking) → IsRanking d ranking → IsOrdered ranking
   ordered (Order order) is = record { order = order; is = refl }
   ordered (Cyclic signal) least = absurd (netlist.no_cycle signal.0 least.cyclic)
 
-pub inferred : (design : Design) → InferredByRules design
-inferred design findings are clean =
-    let netlist = has_netlist (parts design) findings are clean in
-    record {
-      registers = registers design netlist;
-      blocks = blocks design netlist;
-      ordered = ordered design netlist;
-    }
+  begins : (values : List (List Bit)) → AreKnown values → (found : NetFault) → IsNetFault d values found → found ≡ net_fault.Memory
+  begins values known (net_fault.Cyclic signal) is = absurd (netlist.no_cycle signal.0 is.cyclic)
+  begins values known (net_fault.NotKnown at) is =
+      absurd (false≢true (sym (known at is.1.there) ∙ is.1.unknown))
+  begins values known net_fault.Memory is = refl
 
-pub begins : (design : Design) → BeginsByRules design
-begins design findings are clean values (net_fault.Cyclic signal) is =
-    absurd ((has_netlist (parts design) findings are clean).no_cycle signal.0 is.cyclic)
-begins design findings are clean values (net_fault.NotKnown at) is = tt
-begins design findings are clean values net_fault.Memory is = tt
+pub hardware : (d : Parts) → HardwareByRules d
+hardware d findings are clean =
+    let netlist = has_netlist d.flat (no_finding d findings are clean) in
+    record {
+      netlist = netlist;
+      registers = registers d.flat netlist;
+      blocks = blocks d.flat netlist;
+      ordered = ordered d.flat netlist;
+      begins = begins d.flat netlist;
+    }

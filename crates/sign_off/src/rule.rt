@@ -1,6 +1,6 @@
 //! All rules over a design.
 
-ghost use Rattle.std.specs.Prelude.{◌≡◌, ◌↔◌, ℕ, [], IsTrue, IfOk};
+ghost use Rattle.std.specs.Prelude.{◌≡◌, ◌↔◌, ℕ, [], Option, IsTrue, IfOk};
 ghost use Rattle.rtl_flat.specs.Flats.{flat, parts};
 ghost use Rattle.check_clean.specs.event_settling.Ending.{RunsEnd};
 ghost use Rattle.net_model.specs.declared.fill.Fill.{Fill};
@@ -10,6 +10,8 @@ ghost use Rattle.check_clean.specs.sign_cycles.BringUp.{BringsUp, HaveResets};
 ghost use Rattle.check_clean.specs.sign_cycles.Known.{KnownSettles};
 ghost use Rattle.check_clean.specs.sign_cycles.Lacking.{BringUpsAre};
 ghost use Rattle.check_clean.specs.check_all.Findings.{AreAllFindings, IsClean};
+ghost use Rattle.check_clean.specs.Levelled.{AreLevels, RestsByLevel};
+ghost use Rattle.net_clean.specs.Netlist.{HasHardware};
 
 use crate::promise::vouch;
 use check_clean::check_all::check;
@@ -48,6 +50,13 @@ pub fn rule(alloc: Global, design: &Design) -> Result<Ruling, Memory>
         (chains : ℕ → Chain) → AreChains (flat design.now) chains →
         BringUpsAre (flat design.now) chains) }
     ensures ended { IfOk result (λ r. IsTrue r.clean → RunsEnd (flat design.now)) }
+
+    // By level each step does so within its budget. And synthesis refuses nothing of the design: registers and blocks are
+    // inferred, and a simulator of them begins with whatever known values.
+    ensures levelled { IfOk result (λ r. IsTrue r.clean →
+        (level : ℕ → Option ℕ) → AreLevels (flat design.now) level →
+        RestsByLevel (flat design.now) level) }
+    ensures hardware { IfOk result (λ r. IsTrue r.clean → HasHardware (flat design.now)) }
 {
     let findings = check(alloc, design)?;
     vouch(design, &findings);

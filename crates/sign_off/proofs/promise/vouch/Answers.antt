@@ -3,9 +3,13 @@ use Rattle.rtl_flat.specs.Flats.{flat, parts}
 use Rattle.check_clean.proofs.event_laws_proofs.Steady.{lawful_processes}
 use Rattle.sign_off.proofs.promise.vouch.Goals as goal
 
-pub returns : goal.returns
-returns c =
+pub returns-clause-promised : goal.returns-clause-promised
+returns-clause-promised c =
     let d = c.args.design.now in
     let lawful = lawful_processes (flat d) d.is_design.each_process in
     let marked = c.stored.ensures (flat d) d.processes.items refl in
     c.promised.ensures (parts d) lawful marked c.args.findings.now c.requires
+
+pub returns-clause-hardware : goal.returns-clause-hardware
+returns-clause-hardware c =
+    c.hardware.ensures (parts c.args.design.now) c.args.findings.now c.requires

@@ -36,5 +36,7 @@ returns c =
         brought_up = is.brought_up (is.clean.1 none);
         bring_ups = is.bring_ups (is.clean.1 none);
         ends = is.ended (is.clean.1 none);
+        levelled = is.levelled (is.clean.1 none);
       });
+      hardware = λ none. is.hardware (is.clean.1 none);
     }
