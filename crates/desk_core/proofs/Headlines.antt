@@ -107,19 +107,21 @@ of_design kept top files are circuits spelled numbers used (Ok flat) same (Ruled
     let graded : has_first_grade (findings_of verdict.rows.items) ≡ false = signed_clean top request today kept (verdict_in files verdict reached.items) says in
     let clean = rows_clean flat.parts.flat.signals flat.instances is.0.found is.0.shown verdict.rows.items is.0.told_is graded in
     record {
-      files = files;
-      are_files = are;
-      circuits = circuits;
-      spelled = spelled;
-      numbers = numbers;
-      used = used;
       design = flat;
-      flat = same;
+      claim = record {
+        files = files;
+        are_files = are;
+        circuits = circuits;
+        spelled = spelled;
+        numbers = numbers;
+        used = used;
+        flat = same;
+        promised = is.0.promised clean;
+        hardware = is.0.hardware clean;
+      };
       findings = is.0.found;
       found = is.0.are_all;
       clean = clean;
-      promised = is.0.promised clean;
-      hardware = is.0.hardware clean;
     }
 of_design kept top files are circuits spelled numbers used (Ok flat) same (Refused line) is request today says = absurd is
 of_design kept top files are circuits spelled numbers used (Err fault) same (Ruled verdict reached) is request today says = absurd is

@@ -36,24 +36,27 @@ pub record SaysClean (answer : Said) : Type 0 where
   pub accepted : answer.status ≡ 201
   pub graded : answer.body ≡ granted_text (grade_word Clean) id
 
--- The headline. The texts of the files of the rows spell modules, and no others; of these the
--- module with the top's name means a flat design, in the files that it uses, numbered among
--- themselves; none of its findings is of the first grade; and simulation agrees with synthesis on
--- that design, of which synthesis refuses nothing
-pub record IsSignedClean (kept : Kept) (top : List ℕ) : Type 0 where
+-- What is claimed of a module of the files in the rows: their texts spell modules, and no others; of these the module with the
+-- top's name means a flat design, in the files that it uses, numbered among themselves; simulation agrees with synthesis on that
+-- design, of which synthesis refuses nothing. Nothing of this speaks of rules or findings
+pub record IsClaimed (kept : Kept) (top : List ℕ) (design : DesignParts) : Type 0 where
   pub files : List SourceFile
   pub are_files : AreFilesOf kept.files files
   pub circuits : List (List Circuit)
   pub spelled : AreSpelled (texts_in files) circuits
   pub numbers : List ℕ
   pub used : AreUsed (library_of circuits) top numbers
-  pub design : DesignParts
   pub flat : elaborated (extract numbers (library_of circuits)) top ≡ Ok design
+  pub promised : IsPromised design.parts.flat
+  pub hardware : HasHardware design.parts.flat
+
+-- The headline: the claim of a design of which no finding is of the first grade
+pub record IsSignedClean (kept : Kept) (top : List ℕ) : Type 0 where
+  pub design : DesignParts
+  pub claim : IsClaimed kept top design
   pub findings : List Finding
   pub found : AreAllFindings design.parts findings
   pub clean : IsClean findings
-  pub promised : IsPromised design.parts.flat
-  pub hardware : HasHardware design.parts.flat
 
 -- a reply that says that a new sign-off of a module is clean says so of a module that is
 abbrev pub IsTrustworthy : Request → Kept → Said → Type 0

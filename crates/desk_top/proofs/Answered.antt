@@ -120,32 +120,28 @@ zero_is_clean words world wanted before now asked is zero written = by_order (or
         → (b : Bool) → has_first_grade ruled.found ≡ b → wanted ≡ record { status = cond (not b) 0 1; bytes = report_of top (named files texts) design ruled.found ruled.shown } → IsSignedClean words before now world
     by_grade top files texts circuits design command held spelled made ruled true some outcome = clash 1 (ap (λ o. o.status) outcome) (λ same. omega (arith, same))
     by_grade top files texts circuits design command held spelled made ruled false none outcome =
-        let promised = ruled.promised none in
         record {
           top = top;
           files = files;
           texts = texts;
-          circuits = circuits;
           design = design;
-          findings = ruled.found;
-          command = command;
-          held = held;
-          spelled = spelled;
-          flat = made;
-          found = ruled.are_all;
-          clean = none;
-          shown = ruled.shown;
-          are_shown = ruled.are_shown;
-          reported = rw (← ap (λ o. o.bytes) outcome) written;
-          chains = promised.chains;
-          chained = promised.chained;
-          agrees = promised.agrees promised.chains promised.chained;
-          known = promised.known promised.chains promised.chained;
-          brought_up = promised.brought_up promised.chains promised.chained;
-          bring_ups = promised.bring_ups promised.chains promised.chained;
-          ends = promised.ends;
-          levelled = promised.levelled;
-          hardware = ruled.hardware none;
+          claim = record {
+            command = command;
+            held = held;
+            circuits = circuits;
+            spelled = spelled;
+            flat = made;
+            promised = ruled.promised none;
+            hardware = ruled.hardware none;
+          };
+          report = record {
+            findings = ruled.found;
+            found = ruled.are_all;
+            clean = none;
+            shown = ruled.shown;
+            are_shown = ruled.are_shown;
+            reported = rw (← ap (λ o. o.bytes) outcome) written;
+          };
         }
 
     by_built : (top : List ℕ) (files texts : List (List ℕ)) (circuits : List (List Circuit)) → order words ≡ Some (Sign top files) → texts_of world.files files ≡ Some texts

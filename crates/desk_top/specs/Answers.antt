@@ -7,15 +7,8 @@ use Rattle.rtl_tree.specs.TreeModule.{Circuit}
 use Rattle.rtl_flat.specs.Flats.{DesignParts}
 use Rattle.desk_build.specs.rtl_elab.Designs.{library_of}
 use Rattle.desk_build.specs.rtl_elab.Elaborated.{elaborated}
-use Rattle.desk_verdict.specs.event_settling.Ending.{RunsEnd}
-use Rattle.desk_verdict.specs.check_clean.Levelled.{AreLevels, RestsByLevel}
+use Rattle.desk_verdict.specs.check_clean.Promise.{IsPromised}
 use Rattle.desk_verdict.specs.net_clean.Netlist.{HasHardware}
-use Rattle.net_model.specs.declared.fill.Fill.{Fill}
-use Rattle.net_model.specs.Cycle.{AreChains, Chain}
-use Rattle.desk_verdict.specs.sign_cycles.Agree.{Agree}
-use Rattle.desk_verdict.specs.sign_cycles.BringUp.{BringsUp, HaveResets}
-use Rattle.desk_verdict.specs.sign_cycles.Known.{KnownSettles}
-use Rattle.desk_verdict.specs.sign_cycles.Lacking.{BringUpsAre}
 use Rattle.rtl_rule.specs.declared.finding.Finding.{Finding}
 use Rattle.desk_verdict.specs.check_all.Findings.{AreAllFindings, IsClean}
 use Rattle.desk_top.specs.Delivery.{Outcome, Delivers, IsCut, gave_up}
@@ -46,35 +39,33 @@ pub record IsAnswered (words : List (List ℕ)) (status : ℕ) (before now : Opt
   pub unread : status ≡ 4 → Appends before now []
   pub no_memory : status ≡ 20 → IsCut (λ wanted. (is_simulate (order words) ≡ true) × IsOutcome words world wanted) before now
 
--- The headline. The words are `sign TOP FILE..`; the files hold texts that spell modules, and no others; of these
--- the module with the top's name means a flat design; none of its findings, which the report tells, is of the first
--- grade; blocks that wait for edges have clocks and resets, with which simulation agrees with synthesis on that design,
--- whatever the order of events and whatever the fill of what nothing drives; it does from wherever steps from power-up come
--- to rest with inputs and registers known, and so after a bring-up where each register has a reset; there is a bring-up but
--- where an input resets one process at 1 and another at 0; from wherever a step starts, every run comes to rest, and by level within
--- the budget of a step; and synthesis refuses nothing of the design
-pub record IsSignedClean (words : List (List ℕ)) (before now : Option (List ℕ)) (world : World) : Type 0 where
-  pub top : List ℕ
-  pub files : List (List ℕ)
-  pub texts : List (List ℕ)
-  pub circuits : List (List Circuit)
-  pub design : DesignParts
-  pub findings : List Finding
+-- What is claimed of the top of a command line: its words are `sign TOP FILE..`; the files hold texts that spell modules, and no
+-- others; of these the module with the top's name means a flat design; simulation agrees with synthesis on that design, to
+-- which steps from power-up lead, and by level within its budget; and synthesis refuses nothing of it. Nothing of this speaks of
+-- rules or findings
+pub record IsClaimed (words : List (List ℕ)) (world : World) (top : List ℕ) (files texts : List (List ℕ)) (design : DesignParts) : Type 0 where
   pub command : order words ≡ Some (Sign top files)
   pub held : texts_of world.files files ≡ Some texts
+  pub circuits : List (List Circuit)
   pub spelled : AreSpelled texts circuits
   pub flat : elaborated (library_of circuits) top ≡ Ok design
+  pub promised : IsPromised design.parts.flat
+  pub hardware : HasHardware design.parts.flat
+
+-- What is written: the report of all findings of the design, none of which is of the first grade
+pub record IsWritten (top : List ℕ) (files texts : List (List ℕ)) (design : DesignParts) (before now : Option (List ℕ)) : Type 0 where
+  pub findings : List Finding
   pub found : AreAllFindings design.parts findings
   pub clean : IsClean findings
   pub shown : List (Option (Demo × Shown))
   pub are_shown : AreShown design findings shown
   pub reported : Appends before now (report_of top (named files texts) design findings shown)
-  pub chains : ℕ → Chain
-  pub chained : AreChains design.parts.flat chains
-  pub agrees : (fill : Fill) → Agree design.parts.flat chains fill
-  pub known : (fill : Fill) → KnownSettles design.parts.flat chains fill
-  pub brought_up : HaveResets design.parts.flat chains → (fill : Fill) → BringsUp design.parts.flat chains fill
-  pub bring_ups : BringUpsAre design.parts.flat chains
-  pub ends : RunsEnd design.parts.flat
-  pub levelled : (level : ℕ → Option ℕ) → AreLevels design.parts.flat level → RestsByLevel design.parts.flat level
-  pub hardware : HasHardware design.parts.flat
+
+-- The headline: the claim and the report of one design
+pub record IsSignedClean (words : List (List ℕ)) (before now : Option (List ℕ)) (world : World) : Type 0 where
+  pub top : List ℕ
+  pub files : List (List ℕ)
+  pub texts : List (List ℕ)
+  pub design : DesignParts
+  pub claim : IsClaimed words world top files texts design
+  pub report : IsWritten top files texts design before now
