@@ -1,5 +1,5 @@
 -- The order by level, in a design without a finding of the first grade: no step is stopped for its budget.
--- Worked examples: crates/event_settling/proofs/Example.antt.
+-- Worked examples: crates/tests_rows/stdin.
 use Rattle.std.specs.Prelude.{◌≡◌, ◌+◌, ◌<◌, ◌≤◌, ℕ, List, length, Option}
 use Rattle.rtl_bits.specs.declared.Bit.{Bit}
 use Rattle.rtl_flat.specs.Flats.{Flat}

@@ -117,8 +117,8 @@ of_design kept top files are circuits spelled numbers used (Ok flat) same (Ruled
         used = used;
         flat = same;
         promised = is.0.promised clean;
-        hardware = is.0.hardware clean;
       };
+      hardware = is.0.hardware clean;
       findings = is.0.found;
       found = is.0.are_all;
       clean = clean;

@@ -37,8 +37,8 @@ pub record SaysClean (answer : Said) : Type 0 where
   pub graded : answer.body ≡ granted_text (grade_word Clean) id
 
 -- What is claimed of a module of the files in the rows: their texts spell modules, and no others; of these the module with the
--- top's name means a flat design, in the files that it uses, numbered among themselves; simulation agrees with synthesis on that
--- design, of which synthesis refuses nothing. Nothing of this speaks of rules or findings
+-- top's name means a flat design, in the files that it uses, numbered among themselves; and simulation agrees with synthesis on
+-- that design. Nothing of this speaks of rules or findings
 pub record IsClaimed (kept : Kept) (top : List ℕ) (design : DesignParts) : Type 0 where
   pub files : List SourceFile
   pub are_files : AreFilesOf kept.files files
@@ -48,12 +48,12 @@ pub record IsClaimed (kept : Kept) (top : List ℕ) (design : DesignParts) : Typ
   pub used : AreUsed (library_of circuits) top numbers
   pub flat : elaborated (extract numbers (library_of circuits)) top ≡ Ok design
   pub promised : IsPromised design.parts.flat
-  pub hardware : HasHardware design.parts.flat
 
--- The headline: the claim of a design of which no finding is of the first grade
+-- The headline: the claim of a design of which no finding is of the first grade, and synthesis refuses nothing
 pub record IsSignedClean (kept : Kept) (top : List ℕ) : Type 0 where
   pub design : DesignParts
   pub claim : IsClaimed kept top design
+  pub hardware : HasHardware design.parts.flat
   pub findings : List Finding
   pub found : AreAllFindings design.parts findings
   pub clean : IsClean findings

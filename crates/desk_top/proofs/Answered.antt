@@ -132,8 +132,8 @@ zero_is_clean words world wanted before now asked is zero written = by_order (or
             spelled = spelled;
             flat = made;
             promised = ruled.promised none;
-            hardware = ruled.hardware none;
           };
+          hardware = ruled.hardware none;
           report = record {
             findings = ruled.found;
             found = ruled.are_all;

@@ -41,8 +41,7 @@ pub record IsAnswered (words : List (List ℕ)) (status : ℕ) (before now : Opt
 
 -- What is claimed of the top of a command line: its words are `sign TOP FILE..`; the files hold texts that spell modules, and no
 -- others; of these the module with the top's name means a flat design; simulation agrees with synthesis on that design, to
--- which steps from power-up lead, and by level within its budget; and synthesis refuses nothing of it. Nothing of this speaks of
--- rules or findings
+-- which steps from power-up lead, and by level within its budget. Nothing of this speaks of rules or findings
 pub record IsClaimed (words : List (List ℕ)) (world : World) (top : List ℕ) (files texts : List (List ℕ)) (design : DesignParts) : Type 0 where
   pub command : order words ≡ Some (Sign top files)
   pub held : texts_of world.files files ≡ Some texts
@@ -50,7 +49,6 @@ pub record IsClaimed (words : List (List ℕ)) (world : World) (top : List ℕ) 
   pub spelled : AreSpelled texts circuits
   pub flat : elaborated (library_of circuits) top ≡ Ok design
   pub promised : IsPromised design.parts.flat
-  pub hardware : HasHardware design.parts.flat
 
 -- What is written: the report of all findings of the design, none of which is of the first grade
 pub record IsWritten (top : List ℕ) (files texts : List (List ℕ)) (design : DesignParts) (before now : Option (List ℕ)) : Type 0 where
@@ -61,11 +59,12 @@ pub record IsWritten (top : List ℕ) (files texts : List (List ℕ)) (design : 
   pub are_shown : AreShown design findings shown
   pub reported : Appends before now (report_of top (named files texts) design findings shown)
 
--- The headline: the claim and the report of one design
+-- The headline: the claim and the report of one design, of which synthesis refuses nothing
 pub record IsSignedClean (words : List (List ℕ)) (before now : Option (List ℕ)) (world : World) : Type 0 where
   pub top : List ℕ
   pub files : List (List ℕ)
   pub texts : List (List ℕ)
   pub design : DesignParts
   pub claim : IsClaimed words world top files texts design
+  pub hardware : HasHardware design.parts.flat
   pub report : IsWritten top files texts design before now

@@ -1,6 +1,6 @@
 -- What synthesis makes of a design without a finding of the first grade: registers, blocks between them, and an order in
 -- which these are worked out (IEEE 1364.1-2002 sections 5.2 and 5.3).
--- Worked examples: crates/tests_netlists/stdin.
+-- Worked examples: crates/tests_rows/stdin.
 use Rattle.std.specs.Prelude.{◌≡◌, ℕ, List, Vec}
 use Rattle.std.specs.declared.alloc.Global.{Global}
 use Rattle.rtl_bits.specs.declared.Bit.{Bit}
