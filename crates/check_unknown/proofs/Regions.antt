@@ -5,7 +5,7 @@ use Rattle.std.proofs.lemmas.List.{map-append, take_more}
 use Rattle.std.proofs.lemmas.List.Elements.{filter_map-append}
 use Rattle.std.proofs.lemmas.Bool.{false≢true}
 use Rattle.rtl_tree.specs.declared.dropped.DropKind.{DropKind}
-use Rattle.rtl_tree.specs.declared.dropped.DropKind.TheVariants.{Initial, TranslateOff}
+use Rattle.rtl_tree.specs.declared.dropped.DropKind.TheVariants.{Comment, Initial, TranslateOff}
 use Rattle.rtl_flat.specs.declared.instance.Delay.{Delay}
 use Rattle.rtl_flat.specs.declared.instance.DroppedRegion.{DroppedRegion}
 use Rattle.rtl_flat.specs.Process.{Task}
@@ -21,7 +21,12 @@ kind_is : (one other : DropKind) → (is_kind one other ≡ true) ↔ (one ≡ o
 kind_is Initial Initial = (λ _. refl, λ _. refl)
 kind_is Initial TranslateOff = (λ h. absurd (false≢true h), λ h. absurd (cc))
 kind_is TranslateOff Initial = (λ h. absurd (false≢true h), λ h. absurd (cc))
+kind_is Initial Comment = (λ h. absurd (false≢true h), λ h. absurd (cc))
 kind_is TranslateOff TranslateOff = (λ _. refl, λ _. refl)
+kind_is TranslateOff Comment = (λ h. absurd (false≢true h), λ h. absurd (cc))
+kind_is Comment Initial = (λ h. absurd (false≢true h), λ h. absurd (cc))
+kind_is Comment TranslateOff = (λ h. absurd (false≢true h), λ h. absurd (cc))
+kind_is Comment Comment = (λ _. refl, λ _. refl)
 
 pub regions_found : (name : Rule) (kind : DropKind) (dropped seen : List DroppedRegion) (found : List Finding) → seen ≡ dropped → found ≡ regions name kind seen → AreFindings (λ (one : DroppedRegion). one.kind ≡ kind) (at_region name) dropped found
 regions_found name kind dropped seen found same is =

@@ -3,7 +3,7 @@
 use Rattle.std.specs.Prelude.{ℕ, zero, suc, ◌≡◌, ◌+◌, ◌<◌, Bool, true, false, List, [], ◌∷◌, ◌++◌, length, map, Option, Some, None}
 use Rattle.std.specs.List.{filter, filter_map, slice_get}
 use Rattle.rtl_tree.specs.declared.dropped.DropKind.{DropKind}
-use Rattle.rtl_tree.specs.declared.dropped.DropKind.TheVariants.{Initial, TranslateOff}
+use Rattle.rtl_tree.specs.declared.dropped.DropKind.TheVariants.{Comment, Initial, TranslateOff}
 use Rattle.rtl_tree.specs.declared.text.Spot.{Spot}
 use Rattle.rtl_flat.specs.declared.expr.Compare.{Compare}
 use Rattle.rtl_flat.specs.declared.expr.Compare.TheVariants as compare
@@ -73,6 +73,7 @@ literal_found d =
 abbrev pub is_kind : DropKind → DropKind → Bool
 is_kind Initial Initial = true
 is_kind TranslateOff TranslateOff = true
+is_kind Comment Comment = true
 is_kind _ _ = false
 
 abbrev pub regions : Rule → DropKind → List DroppedRegion → List Finding

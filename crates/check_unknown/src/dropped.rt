@@ -23,6 +23,7 @@ fn is_kind(one: DropKind, other: DropKind) -> bool
     match (one, other) {
         (DropKind::Initial, DropKind::Initial) => true,
         (DropKind::TranslateOff, DropKind::TranslateOff) => true,
+        (DropKind::Comment, DropKind::Comment) => true,
         _ => false,
     }
 }
