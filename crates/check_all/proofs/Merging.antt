@@ -1,5 +1,5 @@
 -- Seven lists of findings in order, put together one after the other.
-use Rattle.std.proofs.Common.{◌≡◌, ◌∙◌, List, ◌++◌, Result, Ok, Err, Vec, IfOk, ap, sym}
+use Rattle.std.proofs.Common.{◌≡◌, map, ◌∙◌, List, ◌++◌, Result, Ok, Err, Vec, IfOk, ap, sym}
 use Rattle.std.specs.declared.alloc.Global.{Global}
 use Rattle.rtl_tree.specs.declared.memory.Memory.{Memory}
 use Rattle.net_model.specs.Control.{InCone}
@@ -13,7 +13,7 @@ use Rattle.check_clocks.specs.check_chains.Findings.{AreResetFindings}
 use Rattle.check_clocks.specs.Findings.{AreClockFindings}
 use Rattle.check_case.specs.Cases.{AreCaseFindings}
 use Rattle.check_unknown.specs.Unknowns.{AreUnknownFindings}
-use Rattle.check_readings.specs.Readings.{AreReadingFindings}
+use Rattle.check_readings.specs.Readings.{AreReadingFindings, comments, note_at}
 use Rattle.check_readings.proofs.Once.{once_ranked}
 use Rattle.check_all.specs.Findings.{AreAllFindings}
 
@@ -73,6 +73,6 @@ module _ (d : Parts) (sense assigned clocked reset cases unknown readings two th
       let of_four = third (sense ++ assigned ++ clocked) reset of_three of_reset in
       let of_five = fourth (sense ++ assigned ++ clocked ++ reset) cases of_four of_cases in
       let of_readings =
-      g.in_order ∙ once_ranked (g.target ++ g.listed ++ g.select) ∙ sym (ap ranked g.in_order) in
+      g.in_order ∙ once_ranked (g.target ++ g.listed ++ g.select ++ comments d.dropped ++ map note_at d.notes) ∙ sym (ap ranked g.in_order) in
       let of_six = fifth (sense ++ assigned ++ clocked ++ reset ++ cases) unknown of_five of_unknown in
       by_result o (sixth (sense ++ assigned ++ clocked ++ reset ++ cases ++ unknown) readings of_six of_readings)
