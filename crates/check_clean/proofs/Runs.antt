@@ -63,8 +63,8 @@ levelled d lawful findings are is level levels =
     let settling = rules_settle d.flat lawful level (settles d lawful findings are is level levels) in
     let begun : (s : State) (step : List (ℕ × List Bit)) → IsReached d.flat s → Fits d.flat step → IsBegun d.flat (offer s step) =
     (λ s step reached fits.
-        let start = every.steps_start d.flat lawful s step reached fits in
-        record { orderly = start.orderly; drivers = start.drivers }) in
+    let start = every.steps_start d.flat lawful s step reached fits in
+    record { orderly = start.orderly; drivers = start.drivers }) in
     record {
       rests = λ s step reached fits.
           let come = by_level.rests d.flat lawful level (InClockCone d.flat) settling (offer s step) (begun s step reached fits) in

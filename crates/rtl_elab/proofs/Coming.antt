@@ -13,10 +13,9 @@ use Rattle.elab_lawful.specs.elab_walk.Placements.{placements}
 use Rattle.elab_lawful.specs.elab_walk.Visits.{Library, Visit, all_visits, top_visit}
 use Rattle.elab_lawful.proofs.elab_walk_proofs.Ending.{all_come_to}
 use Rattle.elab_lawful.specs.elab_flat.Children.{HaveChildren}
-use Rattle.elab_lawful.specs.elab_flat.Flats.{flat_of}
 use Rattle.rtl_flat.specs.Flats.{DesignParts}
 use Rattle.elab_lawful.proofs.Trees.{all_have_children}
-use Rattle.rtl_elab.specs.Elaborated.{decided, elaborated, elaborated_at, elaborated_found, refused, visited, visited_found, visited_from}
+use Rattle.rtl_elab.specs.Elaborated.{decided, elaborated, elaborated_at, elaborated_found, made_of, refused, visited, visited_found, visited_from}
 
 -- ---- what is told
 
@@ -30,23 +29,23 @@ decided_made (Some answer) made is = absurd cc
 
 -- ---- the design
 
-at_made : (library : Library) (top : List ℕ) (place : Place) (circuit : Option Circuit) → refused (elaborated_at library top place circuit) ≡ None → elaborated_at library top place circuit ≡ Ok (flat_of library (placements 0 0 (visited_from library place circuit)))
+at_made : (library : Library) (top : List ℕ) (place : Place) (circuit : Option Circuit) → refused (elaborated_at library top place circuit) ≡ None → elaborated_at library top place circuit ≡ Ok (made_of library (placements 0 0 (visited_from library place circuit)))
 at_made library top place None is = absurd cc
 at_made library top place (Some circuit) is =
     let all = all_visits library (top_visit place circuit) in
     let told = refusal library whole_room all in
-    let made = flat_of library (placements 0 0 all) in
+    let made = made_of library (placements 0 0 all) in
     let nothing : told ≡ None = sym (refused_decided told made) ∙ is in
     decided_made told made nothing
-    ∙ ap (λ (vs : List Visit). Ok (flat_of library (placements 0 0 vs))) (sym (all_come_to library whole_room all nothing))
+    ∙ ap (λ (vs : List Visit). Ok (made_of library (placements 0 0 vs))) (sym (all_come_to library whole_room all nothing))
 
-found_made : (library : Library) (top : List ℕ) (lookup : Lookup) → refused (elaborated_found library top lookup) ≡ None → elaborated_found library top lookup ≡ Ok (flat_of library (placements 0 0 (visited_found library lookup)))
+found_made : (library : Library) (top : List ℕ) (lookup : Lookup) → refused (elaborated_found library top lookup) ≡ None → elaborated_found library top lookup ≡ Ok (made_of library (placements 0 0 (visited_found library lookup)))
 found_made library top Missing is = absurd cc
 found_made library top Twice is = absurd cc
 found_made library top (Found place) is = at_made library top place (circuit_at library.files place) is
 
 -- a top of which nothing is told has the design of the instances to which the walk comes
-pub elaborated_made : (library : Library) (top : List ℕ) → refused (elaborated library top) ≡ None → elaborated library top ≡ Ok (flat_of library (placements 0 0 (visited library top)))
+pub elaborated_made : (library : Library) (top : List ℕ) → refused (elaborated library top) ≡ None → elaborated library top ≡ Ok (made_of library (placements 0 0 (visited library top)))
 elaborated_made library top is = found_made library top (library.lookups top) is
 
 -- ---- the children of its instances
@@ -57,7 +56,7 @@ at_held library top place (Some circuit) is =
     let v = top_visit place circuit in
     let all = all_visits library v in
     let nothing : refusal library whole_room all ≡ None
-    = sym (refused_decided (refusal library whole_room all) (flat_of library (placements 0 0 all))) ∙ is in
+    = sym (refused_decided (refusal library whole_room all) (made_of library (placements 0 0 all))) ∙ is in
     subst (λ (vs : List Visit). HaveChildren library (placements 0 0 vs)) (sym (all_come_to library whole_room all nothing)) (all_have_children library v refl)
 
 found_held : (library : Library) (top : List ℕ) (lookup : Lookup) → refused (elaborated_found library top lookup) ≡ None → HaveChildren library (placements 0 0 (visited_found library lookup))

@@ -11,11 +11,10 @@ use Rattle.elab_lawful.specs.elab_walk.Refusals.{refusal}
 use Rattle.elab_lawful.specs.elab_walk.Rooms.{whole_room}
 use Rattle.elab_lawful.specs.elab_walk.Placements.{placements}
 use Rattle.elab_lawful.specs.elab_walk.Visits.{Library, Visit, all_visits, top_visit}
-use Rattle.elab_lawful.specs.elab_flat.Flats.{flat_of}
 use Rattle.rtl_flat.specs.Flats.{DesignParts}
 use Rattle.elab_lawful.specs.Laws.{IsLawful}
 use Rattle.elab_lawful.proofs.Designs.{lawful}
-use Rattle.rtl_elab.specs.Elaborated.{decided, elaborated, elaborated_at, elaborated_found, elaborated_of}
+use Rattle.rtl_elab.specs.Elaborated.{decided, elaborated, elaborated_at, elaborated_found, made_of}
 
 by_told : (told : Option Answer) (made f : DesignParts) → (told ≡ None → IsLawful made) → decided told made ≡ Ok f → IsLawful f
 by_told None made f law is =
@@ -27,7 +26,7 @@ at_place : (library : Library) (top : List ℕ) (place : Place) (circuit : Optio
 at_place library top place None f is = absurd cc
 at_place library top place (Some circuit) f is =
     let v = top_visit place circuit in
-    by_told (refusal library whole_room (all_visits library v)) (flat_of library (placements 0 0 (all_visits library v))) f (lawful library v refl) is
+    by_told (refusal library whole_room (all_visits library v)) (made_of library (placements 0 0 (all_visits library v))) f (lawful library v refl) is
 
 found_there : (library : Library) (top : List ℕ) (lookup : Lookup) (f : DesignParts) → elaborated_found library top lookup ≡ Ok f → IsLawful f
 found_there library top Missing f is = absurd cc

@@ -9,10 +9,29 @@ use Rattle.elab_lawful.specs.elab_links.declared.module_set.Place.{Place}
 use Rattle.elab_lawful.specs.elab_links.Modules.{circuit_at}
 use Rattle.elab_lawful.specs.elab_walk.Refusals.{come_to, refusal}
 use Rattle.elab_lawful.specs.elab_walk.Rooms.{whole_room}
-use Rattle.elab_lawful.specs.elab_walk.Placements.{placements}
+use Rattle.elab_lawful.specs.elab_walk.Placements.{Placement, placements}
 use Rattle.elab_lawful.specs.elab_walk.Visits.{Library, Visit, all_visits, top_visit}
 use Rattle.elab_lawful.specs.elab_flat.Flats.{flat_of}
+use Rattle.elab_readings.specs.Readings.{notes_of}
+use Rattle.rtl_flat.specs.declared.note.Note.{Note}
 use Rattle.rtl_flat.specs.Flats.{DesignParts}
+
+-- a design with what other tools read otherwise in its texts
+abbrev pub noted : List Note → DesignParts → DesignParts
+noted notes design =
+    record {
+      parts = record {
+        flat = design.parts.flat;
+        delays = design.parts.delays;
+        dropped = design.parts.dropped;
+        notes = notes;
+      };
+      instances = design.instances;
+    }
+
+-- the design that instances make
+abbrev pub made_of : Library → List Placement → DesignParts
+made_of library all = noted (notes_of all) (flat_of library all)
 
 abbrev pub decided : Option Answer → DesignParts → Result DesignParts Answer
 decided None flat = Ok flat
@@ -20,7 +39,7 @@ decided (Some answer) flat = Err answer
 
 abbrev pub elaborated_of : Library → List Visit → Result DesignParts Answer
 elaborated_of library all =
-    decided (refusal library whole_room all) (flat_of library (placements 0 0 all))
+    decided (refusal library whole_room all) (made_of library (placements 0 0 all))
 
 abbrev pub elaborated_at : Library → List ℕ → Place → Option Circuit → Result DesignParts Answer
 elaborated_at library top place None = Err (Named (NoSuchModule top))

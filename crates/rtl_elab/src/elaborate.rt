@@ -3,8 +3,9 @@
 ghost use Rattle.std.specs.Prelude.{◌≡◌, [], IfErr, IfOk, Some, map};
 ghost use Rattle.std.specs.Option.{option_map};
 ghost use Rattle.elab_lawful.specs.elab_scope.Faults.{answer};
-ghost use Rattle.rtl_elab.specs.Elaborated.{elaborated, refused, visited};
-ghost use Rattle.elab_lawful.specs.elab_flat.Views.{flat};
+ghost use Rattle.rtl_elab.specs.Designs.{noted_parts};
+ghost use Rattle.rtl_elab.specs.Elaborated.{elaborated, made_of, refused, visited};
+ghost use Rattle.elab_lawful.specs.elab_flat.Children.{HaveChildren};
 ghost use Rattle.elab_lawful.specs.elab_walk.Placements.{placements};
 ghost use Rattle.elab_lawful.specs.elab_walk.Trails.{AreDeclared, IsTold, placement};
 ghost use Rattle.elab_lawful.specs.elab_walk.Visits.{library};
@@ -14,6 +15,9 @@ use elab_lawful::elab_links::module_set::{Lookup, module_at};
 use elab_lawful::elab_scope::fault::ElabFault;
 use elab_lawful::elab_walk::library::Library;
 use elab_lawful::elab_walk::top::{Walked, top_visit, walk};
+use elab_lawful::elab_walk::trail::Placement;
+use elab_readings::readings::notes_of;
+use rtl_flat::note::Note;
 use rtl_tree::memory::Memory;
 use rtl_tree::text::Text;
 use std::alloc::Global;
@@ -50,13 +54,38 @@ fn unmet<'a>(alloc: Global, fault: ElabFault) -> Walked<'a>
     }
 }
 
+/// A flat design, and what other tools read otherwise in its texts.
+#[derive(Drop)]
+pub struct NotedParts {
+    pub flat: DesignParts,
+    pub notes: Vec<Note>,
+}
+
+/// What these instances make, where those right under each are the ones that its items place. What they declare is taken
+/// from them.
+fn made_of(
+    alloc: Global,
+    all: Library<'_>,
+    placements: &mut [Placement<'_>],
+) -> Result<NotedParts, Memory>
+    requires declared { AreDeclared placements.old }
+    requires held { HaveChildren (library all) (map placement placements.old) }
+    ensures { IfOk result (λ made. noted_parts made
+        ≡ made_of (library all.entry) (map placement placements.old)) }
+{
+    let notes = notes_of(alloc, placements)?;
+    let flat = flat_of(alloc, all, placements)?;
+    Ok(NotedParts { flat, notes })
+}
+
 /// What elaboration makes of the module with a name, but for the proof that it is lawful.
 pub(crate) fn flat_design(
     alloc: Global,
     all: Library<'_>,
     top: &Text,
-) -> Result<DesignParts, ElabFault>
-    ensures design { IfOk result (λ made. elaborated (library all.entry) top.now ≡ Ok (flat made)) }
+) -> Result<NotedParts, ElabFault>
+    ensures design { IfOk result (λ made. elaborated (library all.entry) top.now
+        ≡ Ok (noted_parts made)) }
     ensures told { IfErr result (λ error.
         IsTold (answer error) (refused (elaborated (library all.entry) top.now))) }
 {
@@ -65,7 +94,7 @@ pub(crate) fn flat_design(
         fault,
     } = walk_from(alloc, all, top)?;
     match fault {
-        None => Ok(flat_of(alloc, all, &mut placements)?),
+        None => Ok(made_of(alloc, all, &mut placements)?),
         Some(fault) => Err(fault),
     }
 }

@@ -2,16 +2,15 @@
 
 ghost use Rattle.std.specs.Prelude.{◌≡◌, ◌+◌, IfErr, IfOk, Ok};
 ghost use Rattle.elab_lawful.specs.elab_scope.Faults.{answer};
-ghost use Rattle.elab_lawful.specs.elab_flat.Views.{flat};
 ghost use Rattle.elab_lawful.specs.elab_links.Modules.{all_placed, circuits_of, found, lookups_of};
 ghost use Rattle.elab_lawful.specs.elab_walk.Trails.{IsTold};
 ghost use Rattle.elab_lawful.specs.elab_walk.Visits.{library};
 ghost use Rattle.elab_lawful.specs.Laws.{IsLawful};
-ghost use Rattle.rtl_elab.specs.Designs.{library_of};
+ghost use Rattle.rtl_elab.specs.Designs.{library_of, noted_parts};
 ghost use Rattle.rtl_flat.specs.Flats.{flat_in};
 ghost use Rattle.rtl_elab.specs.Elaborated.{elaborated, refused};
 
-use crate::elaborate::flat_design;
+use crate::elaborate::{NotedParts, flat_design};
 use elab_lawful::elab_flat::flat::DesignParts;
 use elab_lawful::elab_flat::works::Works;
 use elab_lawful::elab_links::module_set::ModuleSet;
@@ -25,16 +24,17 @@ use std::sync::ledger::Ledger;
 use steps::Steps;
 
 /// The design that is made of these parts.
-pub fn design_of(made: DesignParts) -> Design
-    requires { IsLawful (flat made) }
-    ensures { flat_in result ≡ flat made }
+pub fn design_of(made: NotedParts) -> Design
+    requires { IsLawful (noted_parts made) }
+    ensures { flat_in result ≡ noted_parts made }
 {
+    let NotedParts { flat, notes } = made;
     let DesignParts {
         signals,
         works,
         instances,
         dropped,
-    } = made;
+    } = flat;
     let Works { processes, delays } = works;
     Design {
         signals,
@@ -42,6 +42,7 @@ pub fn design_of(made: DesignParts) -> Design
         instances,
         dropped,
         delays,
+        notes,
     }
 }
 

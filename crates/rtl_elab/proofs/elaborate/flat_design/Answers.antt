@@ -15,10 +15,10 @@ returns-in-None-clause-design c =
     let top = c.args.top.now in
     let nothing : refused (elaborated all top) ≡ None
     = sym c.in_ok-placements.ensures.told ∙ ap (option_map answer) c.in-None.is in
-    cc (elaborated_made all top nothing, c.in_ok-placements.ensures.visited, c.in_ok-flat_of-in-None.ensures, c.deref_mut.ensures.value)
+    cc (elaborated_made all top nothing, c.in_ok-placements.ensures.visited, c.in_ok-made_of-in-None.ensures, c.deref_mut.ensures.value)
 
-pub flat_of-requires-clause-held : goal.flat_of-requires-clause-held
-flat_of-requires-clause-held c =
+pub made_of-requires-clause-held : goal.made_of-requires-clause-held
+made_of-requires-clause-held c =
     let all = library c.args.all in
     let top = c.args.top.now in
     let nothing : refused (elaborated all top) ≡ None

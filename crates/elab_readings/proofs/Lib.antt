@@ -1,0 +1,4 @@
+pub mod Borrowed
+mod Examples
+pub mod Steps
+pub mod Unsigned
