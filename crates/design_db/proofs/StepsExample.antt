@@ -73,9 +73,13 @@ abbrev ruled : Desk → Desk
 ruled desk =
     record { files = desk.files; readings = all_read desk.files; modules = desk.modules; rulings = desk.rulings }
 
-abbrev first second third : SourceFile
+abbrev first : SourceFile
 first = file (codes "a.v") (codes "1")
+
+abbrev second : SourceFile
 second = file (codes "b.v") (codes "2")
+
+abbrev third : SourceFile
 third = file (codes "z.v") (codes "3")
 
 abbrev meant : List ℕ → ℕ → LookUp
