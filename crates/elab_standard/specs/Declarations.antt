@@ -1,5 +1,5 @@
--- What other tools read otherwise in the declarations of a module, and in what instances give its parameters (IEEE 1364-2001
--- sections 3.11 and 12.2).
+-- What other tools read otherwise in the declarations of a module, and in what instances give its parameters (IEEE
+-- 1364-2001 sections 3.11 and 12.2).
 -- Worked examples: crates/tests_rows/stdin.
 use Rattle.std.specs.Prelude.{ℕ, ◌+◌, Bool, true, false, List, [], ◌∷◌, ◌++◌, Option, None, Some}
 use Rattle.std.specs.List.{slice_get}

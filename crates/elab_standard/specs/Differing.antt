@@ -1,4 +1,5 @@
--- Expressions that are sized otherwise where parameters have their standard formats (IEEE 1364-2001 sections 4.4 and 4.5).
+-- Expressions that are sized otherwise where parameters have their standard formats (IEEE 1364-2001 sections 4.4 and
+-- 4.5).
 -- Worked examples: crates/tests_rows/stdin.
 use Rattle.std.specs.Prelude.{ℕ, ◌==◌, Bool, false, not, ◌&&◌, ◌||◌, if◌then◌else◌, List, Option}
 use Rattle.rtl_bits.specs.Bits.{all_with, extended, same_bit}

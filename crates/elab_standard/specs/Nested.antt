@@ -1,5 +1,5 @@
--- What other tools read otherwise in an expression that is worked out while the design runs, and in the constants and the
--- computed indices within it.
+-- What other tools read otherwise in an expression that is worked out while the design runs, and in the constants and
+-- the computed indices within it.
 -- Worked examples: crates/tests_rows/stdin.
 use Rattle.std.specs.Prelude.{ℕ, Bool, List, [], ◌∷◌, ◌++◌, Ok, Err}
 use Rattle.rtl_const.specs.Constant.{Outcome}

@@ -1,5 +1,5 @@
--- What the names of a module stand for in an instance, and what its parameters are by the standard (IEEE 1364-2001 sections
--- 3.11.1 and 12.2).
+-- What the names of a module stand for in an instance, and what its parameters are by the standard (IEEE 1364-2001
+-- sections 3.11.1 and 12.2).
 -- Worked examples: proofs/Examples.antt.
 use Rattle.std.specs.Prelude.{ℕ, ℤ, List, Option, None, Some}
 use Rattle.name_map.specs.Values.{Values, values_of}

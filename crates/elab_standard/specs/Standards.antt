@@ -1,4 +1,5 @@
--- The parameters of an instance by the standard, in the order of their declarations (IEEE 1364-2001 sections 3.11.1 and 12.2).
+-- The parameters of an instance by the standard, in the order of their declarations (IEEE 1364-2001 sections 3.11.1 and
+-- 12.2).
 -- Worked examples: crates/tests_rows/stdin.
 use Rattle.std.specs.Prelude.{ℕ, ◌+◌, Bool, true, false, not, cond, if◌then◌else◌, List, [], ◌∷◌, ◌++◌, Option, None, Some}
 use Rattle.std.specs.List.{slice_get}

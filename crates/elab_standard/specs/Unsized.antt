@@ -43,7 +43,8 @@ is_unsized s (Binary operator at a b) =
 is_unsized s (Choose at condition taken otherwise) = is_unsized s taken || is_unsized s otherwise
 is_unsized s _ = false
 
--- a number without a width that tools read otherwise: one of base 2, 8 or 16 with a sign, and one whose 32nd bit isn't 0
+-- a number without a width that tools read otherwise: one of base 2, 8 or 16 with a sign, and one whose 32nd bit
+-- isn't 0
 abbrev pub is_misread : Literal → Bool
 is_misread value =
     not value.sized

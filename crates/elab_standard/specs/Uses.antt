@@ -19,8 +19,8 @@ use Rattle.elab_standard.specs.Numbers.{count_notes, number_notes, truth_notes}
 use Rattle.elab_standard.specs.Scopes.{Scopes, restated}
 use Rattle.elab_standard.specs.Unsized.{unsized_notes}
 
--- an expression as it is used: a value that is worked out while the design runs, in at least so many bits; a case, whose selector
--- and labels are sized together; and constants of which the number counts, the truth, or what an `integer` takes of it
+-- an expression as it is used: a value that is worked out while the design runs, in at least so many bits; a case, whose
+-- selector and labels are sized together; and constants of which the number counts, the truth, or what an `integer` takes of it
 pub data Use : Type 0 where
   Value : (value : Formula) (wanted : ℕ) → Use
   Case : (at : ℕ) (selector : Formula) (branches : Branches) → Use

@@ -1,5 +1,5 @@
--- What a constant expression is worth by the standard: the bits that it has in the sizes and signs of its operands (IEEE
--- 1364-2001 sections 4.1, 4.4 and 4.5), where the design's own expressions are worked out so. It is worth x where it has no
+-- What a constant expression is worth by the standard: the bits that it has in the sizes and signs of its operands, by
+-- the operators of the design's own expressions (IEEE 1364-2001 sections 4.1, 4.4 and 4.5). Bits are x where it has no
 -- value, as a division by 0 has none.
 -- Worked examples: proofs/Examples.antt.
 use Rattle.std.specs.Prelude.{ℕ, ◌^◌, max, min, ℤ, not, cond, List, [], ◌∷◌, Option, None, Some, Bool, true, false, Ok, Err}
