@@ -10,4 +10,4 @@ returns-clause-bring_ups c =
     false_from_ne_true c.has_first_grade-clean.result (λ is. false≢true (sym (ap not is) ∙ clean)) in
     let same : has_first_grade c.deref.result.now ≡ false =
     ap has_first_grade (c.deref.ensures.value ∙ sym c.deref-2.ensures.value) ∙ sym c.has_first_grade-clean.ensures ∙ none in
-    (c.vouch.ensures same).bring_ups chains are
+    (c.vouch.ensures.promised same).bring_ups chains are
