@@ -1,6 +1,6 @@
 -- What other tools read otherwise in a design: in the text of each instance's module, with what the instance sets its
 -- parameters to (IEEE 1364-2001 section 12.2), and in the connections of its ports in the module that holds it.
--- Worked examples: proofs/Examples.antt, crates/tests_rows/stdin.
+-- Worked examples: crates/tests_rows/stdin.
 use Rattle.std.specs.Prelude.{ℕ, ◌+◌, List, [], ◌∷◌, ◌++◌, drop, map, Option, None, Some}
 use Rattle.std.specs.List.{flat_map}
 use Rattle.name_map.specs.Values.{Values, entered, no_values}
