@@ -7,8 +7,7 @@ use Rattle.rtl_elab.specs.elab_links.declared.module_set.Place.{Place}
 use Rattle.rtl_elab.specs.elab_links.Modules.{circuit_at}
 use Rattle.rtl_elab.specs.elab_walk.Placements.{placements}
 use Rattle.rtl_elab.specs.elab_walk.Visits.{Library}
-use Rattle.rtl_elab.specs.elab_flat.Flats.{flat_of}
-use Rattle.rtl_elab.specs.Elaborated.{elaborated, refused, visited}
+use Rattle.rtl_elab.specs.Elaborated.{elaborated, made_of, refused, visited}
 use Rattle.elab_names.specs.Extracts.{extract, files_at, place_in}
 use Rattle.elab_names.specs.LookUps.{AreUsed, looked_up}
 use Rattle.elab_names.specs.Moves.{moved_answer, moved_place, moved_placement, moved_visit}
@@ -43,6 +42,6 @@ pub refusal_moved : (library : Library) (top : List ℕ) (numbers : List ℕ) �
 refusal_moved library top numbers are =
     refused_by (place_in numbers) library (extract numbers library) top (agrees library top numbers are)
 
-pub design_moved : (library : Library) (top : List ℕ) (numbers : List ℕ) → AreUsed library top numbers → refused (elaborated library top) ≡ None → elaborated (extract numbers library) top ≡ Ok (flat_of library (map (moved_placement (place_in numbers)) (placements 0 0 (visited library top))))
+pub design_moved : (library : Library) (top : List ℕ) (numbers : List ℕ) → AreUsed library top numbers → refused (elaborated library top) ≡ None → elaborated (extract numbers library) top ≡ Ok (made_of library (map (moved_placement (place_in numbers)) (placements 0 0 (visited library top))))
 design_moved library top numbers are =
     design_by (place_in numbers) library (extract numbers library) top (agrees library top numbers are)

@@ -7,9 +7,8 @@ use Rattle.rtl_elab.specs.elab_walk.declared.trail.Placement.{Placement as Made}
 use Rattle.rtl_elab.specs.elab_walk.Placements.{Placement, placements}
 use Rattle.rtl_elab.specs.elab_walk.Trails.{placement}
 use Rattle.rtl_elab.specs.elab_walk.Visits.{Library}
-use Rattle.rtl_elab.specs.elab_flat.Flats.{flat_of}
 use Rattle.rtl_flat.specs.Flats.{DesignParts}
-use Rattle.rtl_elab.specs.Elaborated.{elaborated, refused, visited}
+use Rattle.rtl_elab.specs.Elaborated.{elaborated, made_of, refused, visited}
 use Rattle.elab_names.specs.Extracts.{extract, place_in}
 use Rattle.elab_names.specs.LookUps.{AreUsed}
 use Rattle.elab_names.specs.Moves.{moved_answer, moved_placement}
@@ -37,9 +36,9 @@ module _ (library : Library) (top : List ℕ) (numbers : List ℕ) (used : AreUs
       ∙ ap (λ (a : Answer). Some a) (sym so))
 
   -- the design
-  pub made_there : (before after : List Placement) (made : DesignParts) → None ≡ refused (elaborated library top) → before ≡ placements 0 0 (visited library top) → after ≡ map (moved_placement (place_in numbers)) before → made ≡ flat_of library after → elaborated (extract numbers library) top ≡ Ok made
+  pub made_there : (before after : List Placement) (made : DesignParts) → None ≡ refused (elaborated library top) → before ≡ placements 0 0 (visited library top) → after ≡ map (moved_placement (place_in numbers)) before → made ≡ made_of library after → elaborated (extract numbers library) top ≡ Ok made
   made_there before after made nothing come moved is =
       design_moved library top numbers used (sym nothing)
-      ∙ ap (λ (all : List Placement). Ok (flat_of library (map (moved_placement (place_in numbers)) all))) (sym come)
-      ∙ ap (λ (all : List Placement). Ok (flat_of library all)) (sym moved)
+      ∙ ap (λ (all : List Placement). Ok (made_of library (map (moved_placement (place_in numbers)) all))) (sym come)
+      ∙ ap (λ (all : List Placement). Ok (made_of library all)) (sym moved)
       ∙ ap (λ (m : DesignParts). Ok m) (sym is)

@@ -17,7 +17,8 @@ use Rattle.rtl_elab.specs.elab_flat.Flats.{flat_of, with_works}
 use Rattle.rtl_flat.specs.Flats.{DesignParts}
 use Rattle.rtl_elab.specs.elab_flat.Held.{bases_under, depth_of}
 use Rattle.rtl_elab.specs.elab_flat.Works.{Works, no_works, with_placement, with_placements}
-use Rattle.rtl_elab.specs.Elaborated.{decided, elaborated, elaborated_at, elaborated_found, elaborated_of, refused, visited, visited_found, visited_from}
+use Rattle.rtl_elab.specs.Elaborated.{decided, elaborated, elaborated_at, elaborated_found, elaborated_of, made_of, noted, refused, visited, visited_found, visited_from}
+use Rattle.rtl_elab.specs.elab_readings.Readings.{notes_of}
 use Rattle.elab_names.specs.Extracts.{renumbered}
 use Rattle.elab_names.specs.LookUps.{looked_up, names_by, names_in}
 use Rattle.elab_names.specs.Moves.{moved_answer, moved_place, moved_placement, moved_visit}
@@ -62,6 +63,11 @@ module _ (number : ℕ → ℕ) (first second : Library) where
       ap (flat_of second) (placements_moved number 0 0 vs)
       ∙ ap (with_works (map (moved_placement number) (placements 0 0 vs))) (works_moved no_works 0 0 vs same)
 
+  made_moved : (vs : List Visit) → Agree number first second (names_by vs) → made_of second (placements 0 0 (map (moved_visit number) vs)) ≡ made_of first (map (moved_placement number) (placements 0 0 vs))
+  made_moved vs same =
+      ap (λ (all : List Placement). noted (notes_of all) (flat_of second (placements 0 0 (map (moved_visit number) vs)))) (placements_moved number 0 0 vs)
+      ∙ ap (noted (notes_of (map (moved_placement number) (placements 0 0 vs)))) (flat_moved vs same)
+
   -- ---- from the top on
 
   module _ (v : Visit) (same : Agree number first second (names_by (come_to first whole_room (all_visits first v)))) where
@@ -97,24 +103,24 @@ module _ (number : ℕ → ℕ) (first second : Library) where
     told_of_moved : refused (elaborated_of second (all_visits second (moved_visit number v))) ≡ option_map (moved_answer number) (refused (elaborated_of first (all_visits first v)))
     told_of_moved =
         told_decided (refusal second whole_room (all_visits second (moved_visit number v)))
-        (flat_of second (placements 0 0 (all_visits second (moved_visit number v))))
+        (made_of second (placements 0 0 (all_visits second (moved_visit number v))))
         ∙ refusal_moved
         ∙ sym (ap (option_map (moved_answer number))
         (told_decided (refusal first whole_room (all_visits first v))
-        (flat_of first (placements 0 0 (all_visits first v)))))
+        (made_of first (placements 0 0 (all_visits first v)))))
 
-    of_moved : refused (elaborated_of first (all_visits first v)) ≡ None → elaborated_of second (all_visits second (moved_visit number v)) ≡ Ok (flat_of first (map (moved_placement number) (placements 0 0 (come_to first whole_room (all_visits first v)))))
+    of_moved : refused (elaborated_of first (all_visits first v)) ≡ None → elaborated_of second (all_visits second (moved_visit number v)) ≡ Ok (made_of first (map (moved_placement number) (placements 0 0 (come_to first whole_room (all_visits first v)))))
     of_moved none =
         let nothing : refusal first whole_room (all_visits first v) ≡ None
-        = sym (told_decided (refusal first whole_room (all_visits first v)) (flat_of first (placements 0 0 (all_visits first v)))) ∙ none in
+        = sym (told_decided (refusal first whole_room (all_visits first v)) (made_of first (placements 0 0 (all_visits first v)))) ∙ none in
         let nor : refusal second whole_room (all_visits second (moved_visit number v)) ≡ None
         = refusal_moved ∙ ap (option_map (moved_answer number)) nothing in
         ap (λ (told : Option Answer). decided told
-        (flat_of second (placements 0 0 (all_visits second (moved_visit number v)))))
+        (made_of second (placements 0 0 (all_visits second (moved_visit number v)))))
         nor
-        ∙ ap (λ (vs : List Visit). Ok (flat_of second (placements 0 0 vs)))
+        ∙ ap (λ (vs : List Visit). Ok (made_of second (placements 0 0 vs)))
         (sym (all_come_to second whole_room (all_visits second (moved_visit number v)) nor) ∙ come_moved)
-        ∙ ap (λ (made : DesignParts). Ok made) (flat_moved (come_to first whole_room (all_visits first v)) same)
+        ∙ ap (λ (made : DesignParts). Ok made) (made_moved (come_to first whole_room (all_visits first v)) same)
 
   -- ---- by what the name of the top means
 
@@ -141,11 +147,11 @@ module _ (number : ℕ → ℕ) (first second : Library) where
       (there place refl)
       ∙ at_refused top place (circuit_at first.files place) same
 
-  at_design : (top : List ℕ) (place : Place) (one : Option Circuit) → Agree number first second (names_by (visited_from first place one)) → refused (elaborated_at first top place one) ≡ None → elaborated_at second top (moved_place number place) one ≡ Ok (flat_of first (map (moved_placement number) (placements 0 0 (visited_from first place one))))
+  at_design : (top : List ℕ) (place : Place) (one : Option Circuit) → Agree number first second (names_by (visited_from first place one)) → refused (elaborated_at first top place one) ≡ None → elaborated_at second top (moved_place number place) one ≡ Ok (made_of first (map (moved_placement number) (placements 0 0 (visited_from first place one))))
   at_design top place None same none = absurd cc
   at_design top place (Some circuit) same none = of_moved (top_visit place circuit) same none
 
-  found_design : (top : List ℕ) (lookup : Lookup) → Agree number first second (names_by (visited_found first lookup)) → ((place : Place) → lookup ≡ Found place → circuit_at second.files (moved_place number place) ≡ circuit_at first.files place) → refused (elaborated_found first top lookup) ≡ None → elaborated_found second top (renumbered number lookup) ≡ Ok (flat_of first (map (moved_placement number) (placements 0 0 (visited_found first lookup))))
+  found_design : (top : List ℕ) (lookup : Lookup) → Agree number first second (names_by (visited_found first lookup)) → ((place : Place) → lookup ≡ Found place → circuit_at second.files (moved_place number place) ≡ circuit_at first.files place) → refused (elaborated_found first top lookup) ≡ None → elaborated_found second top (renumbered number lookup) ≡ Ok (made_of first (map (moved_placement number) (placements 0 0 (visited_found first lookup))))
   found_design top Missing same there none = absurd cc
   found_design top Twice same there none = absurd cc
   found_design top (Found place) same there none =
@@ -173,7 +179,7 @@ module _ (number : ℕ → ℕ) (first second : Library) where
         ap (λ (lookup : Lookup). refused (elaborated_found second top lookup)) own.lookup
         ∙ found_refused top (first.lookups top) held own.circuit
 
-    pub design_by : refused (elaborated first top) ≡ None → elaborated second top ≡ Ok (flat_of first (map (moved_placement number) (placements 0 0 (visited first top))))
+    pub design_by : refused (elaborated first top) ≡ None → elaborated second top ≡ Ok (made_of first (map (moved_placement number) (placements 0 0 (visited first top))))
     design_by none =
         ap (elaborated_found second top) own.lookup
         ∙ found_design top (first.lookups top) held own.circuit none

@@ -12,12 +12,11 @@ use crate::moves::{move_look_ups, move_placements, moved_fault};
 use crate::names::look_ups;
 use crate::used::used_files;
 use elab_lookups::LookUp;
-use rtl_elab::elab_flat::flat::flat_of;
 use rtl_elab::elab_links::module_set::ModuleSet;
 use rtl_elab::elab_scope::fault::ElabFault;
 use rtl_elab::elab_walk::library::Library;
 use rtl_elab::elab_walk::top::Walked;
-use rtl_elab::elaborate::walk_from;
+use rtl_elab::elaborate::{made_of, walk_from};
 use rtl_elab::whole::design_of;
 use rtl_flat::design::Design;
 use rtl_tree::memory::Memory;
@@ -83,7 +82,7 @@ fn elaborate_in(alloc: Global, all: Library<'_>, top: &Text) -> Result<Elaborate
         Some(fault) => Err(moved_fault(fault, &files)?),
         None => {
             move_placements(&mut placements, &files)?;
-            Ok(design_of(flat_of(alloc, all, &mut placements)?))
+            Ok(design_of(made_of(alloc, all, &mut placements)?))
         }
     };
     Ok(Elaborated {

@@ -63,7 +63,7 @@ pub struct NotedParts {
 
 /// What these instances make, where those right under each are the ones that its items place. What they declare is taken
 /// from them.
-fn made_of(
+pub fn made_of(
     alloc: Global,
     all: Library<'_>,
     placements: &mut [Placement<'_>],
