@@ -1,11 +1,10 @@
 -- How many steps rulings take while files come and go: what the clauses `counted`, `untouched` and `again` of `ruling` say of the
 -- stores that the clauses of `put` and `drop_file` make, one after the other.
 use Rattle.std.proofs.Common.{◌≡◌, ℕ, ◌+◌, List, [], ◌∷◌, codes, refl}
-use Rattle.std.specs.Prelude.{Bool, Option, Some, None, if◌then◌else◌, is_some}
+use Rattle.std.specs.Prelude.{Option, Some, None, if◌then◌else◌, is_some}
 use Rattle.source_file.specs.declared.SourceFile.{SourceFile}
 use Rattle.rtl_tree.specs.TreeModule.{Absent, Circuit}
 use Rattle.desk_files.specs.Sources.{with_file, without_file}
-use Rattle.desk_memo.specs.elab_links.declared.module_set.Lookup.{Lookup}
 use Rattle.desk_memo.specs.elab_links.declared.module_set.Lookup.TheVariants.{Found}
 use Rattle.desk_memo.specs.elab_links.declared.module_set.Place.{Place}
 use Rattle.desk_memo.specs.Readings.{changed_count, with_blank, without}
