@@ -132,6 +132,7 @@ rule_of reading.ParameterFormat = rule.ParameterFormat
 rule_of reading.ConstantValue = rule.ConstantValue
 rule_of reading.PortContext = rule.PortContext
 rule_of reading.CaseSigns = rule.CaseSigns
+rule_of reading.ToolMacro = rule.ToolMacro
 rule_of reading.UnsizedNumber = rule.UnsizedNumber
 rule_of reading.PortSign = rule.PortSign
 rule_of reading.LateParameter = rule.LateParameter

@@ -48,6 +48,7 @@ fn rule_of(reading: Reading) -> Rule
         Reading::ConstantValue => Rule::ConstantValue,
         Reading::PortContext => Rule::PortContext,
         Reading::CaseSigns => Rule::CaseSigns,
+        Reading::ToolMacro => Rule::ToolMacro,
         Reading::UnsizedNumber => Rule::UnsizedNumber,
         Reading::PortSign => Rule::PortSign,
         Reading::LateParameter => Rule::LateParameter,

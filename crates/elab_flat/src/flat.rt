@@ -47,6 +47,8 @@ fn instance_of(alloc: Global, at: &Placement<'_>) -> Result<Instance, Memory>
         path: Text::from_bytes(alloc, at.visit.path.as_bytes())?,
         depth,
         spot: at.visit.spot,
+        file: at.visit.place.file,
+        module: at.visit.place.index,
     })
 }
 

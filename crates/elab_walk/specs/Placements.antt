@@ -28,7 +28,13 @@ placements number base (first ∷ others) =
 
 abbrev pub instance_of : Placement → Instance
 instance_of placement =
-    record { path = placement.visit.path; depth = length placement.visit.way; spot = placement.visit.spot }
+    record {
+      path = placement.visit.path;
+      depth = length placement.visit.way;
+      spot = placement.visit.spot;
+      file = placement.visit.place.file;
+      module = placement.visit.place.index;
+    }
 
 abbrev pub home_of : Placement → Home
 home_of placement =

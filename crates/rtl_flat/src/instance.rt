@@ -12,6 +12,10 @@ pub struct Instance {
     pub depth: u32,
     /// Where its module is named: for the top at its definition.
     pub spot: Spot,
+    /// The number of the file that defines its module, from 0.
+    pub file: usize,
+    /// The number of its module in that file, from 0.
+    pub module: usize,
 }
 
 /// A region of an instance's module that synthesis doesn't see.

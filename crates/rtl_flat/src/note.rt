@@ -14,6 +14,8 @@ pub enum Reading {
     PortContext,
     /// A case whose selector and labels are extended by one sign or another.
     CaseSigns,
+    /// A condition on a name that a tool defines, or another file.
+    ToolMacro,
     /// A number without a width where its width counts.
     UnsizedNumber,
     /// A port that is signed in one of its two declarations.

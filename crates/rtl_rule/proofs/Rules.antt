@@ -7,7 +7,7 @@ use Rattle.std.proofs.lemmas.Bool.Decides.{Decides-eqb, Decides-like}
 use denote.Enum.Bare.{sameb}
 use Rattle.rtl_rule.specs.contracts.rule.Rule.{the_type}
 use Rattle.rtl_rule.specs.declared.rule.Rule.{Rule}
-use Rattle.rtl_rule.specs.declared.rule.Rule.TheVariants.{SenseMissing, NeverWakes, MixedEdges, BlockingState, NonblockingComb, MixedAssign, SeveralDrivers, Undriven, CombLoop, DerivedClock, ClockAsData, LatchInferred, Tristate, ResetShape, ResetPolarity, AsyncPair, ResetValue, FullCase, ParallelCase, UnknownItem, UnknownLiteral, SelectRange, DivideVariable, CaseEquality, DelayIgnored, InitialIgnored, TranslateOff, XOptimism, WildSelector, ParameterFormat, ConstantValue, PortContext, CaseSigns, TargetIndex, ListIndex, PragmaWords, UnsizedNumber, PortSign, LateParameter, WholeSelect, LoopSign}
+use Rattle.rtl_rule.specs.declared.rule.Rule.TheVariants.{SenseMissing, NeverWakes, MixedEdges, BlockingState, NonblockingComb, MixedAssign, SeveralDrivers, Undriven, CombLoop, DerivedClock, ClockAsData, LatchInferred, Tristate, ResetShape, ResetPolarity, AsyncPair, ResetValue, FullCase, ParallelCase, UnknownItem, UnknownLiteral, SelectRange, DivideVariable, CaseEquality, DelayIgnored, InitialIgnored, TranslateOff, XOptimism, WildSelector, ParameterFormat, ConstantValue, PortContext, CaseSigns, TargetIndex, ListIndex, ToolMacro, PragmaWords, UnsizedNumber, PortSign, LateParameter, WholeSelect, LoopSign}
 use Rattle.rtl_rule.specs.Rows.{is_needed, row_of, rule_number, rule_with, rules}
 
 -- a rule stands at its place in the table
@@ -47,6 +47,7 @@ at_place PortContext = refl
 at_place CaseSigns = refl
 at_place TargetIndex = refl
 at_place ListIndex = refl
+at_place ToolMacro = refl
 at_place PragmaWords = refl
 at_place UnsizedNumber = refl
 at_place PortSign = refl

@@ -8,7 +8,7 @@ use Rattle.rtl_rule.specs.contracts.rule.Rule.{the_type}
 use Rattle.rtl_rule.specs.declared.finding.Finding.{Finding}
 use Rattle.rtl_rule.specs.declared.rule.Rule.{Rule}
 use Rattle.rtl_rule.specs.declared.rule.TheConstants.{RULES}
-use Rattle.rtl_rule.specs.declared.rule.Rule.TheVariants.{SenseMissing, NeverWakes, MixedEdges, BlockingState, NonblockingComb, MixedAssign, SeveralDrivers, Undriven, CombLoop, DerivedClock, ClockAsData, LatchInferred, Tristate, ResetShape, ResetPolarity, AsyncPair, ResetValue, FullCase, ParallelCase, UnknownItem, UnknownLiteral, SelectRange, DivideVariable, CaseEquality, DelayIgnored, InitialIgnored, TranslateOff, XOptimism, WildSelector, ParameterFormat, ConstantValue, PortContext, CaseSigns, TargetIndex, ListIndex, PragmaWords, UnsizedNumber, PortSign, LateParameter, WholeSelect, LoopSign}
+use Rattle.rtl_rule.specs.declared.rule.Rule.TheVariants.{SenseMissing, NeverWakes, MixedEdges, BlockingState, NonblockingComb, MixedAssign, SeveralDrivers, Undriven, CombLoop, DerivedClock, ClockAsData, LatchInferred, Tristate, ResetShape, ResetPolarity, AsyncPair, ResetValue, FullCase, ParallelCase, UnknownItem, UnknownLiteral, SelectRange, DivideVariable, CaseEquality, DelayIgnored, InitialIgnored, TranslateOff, XOptimism, WildSelector, ParameterFormat, ConstantValue, PortContext, CaseSigns, TargetIndex, ListIndex, ToolMacro, PragmaWords, UnsizedNumber, PortSign, LateParameter, WholeSelect, LoopSign}
 
 -- what the table says of a rule: its code, its name, whether it is of the first grade, whether a waiver may set its findings
 -- aside, and whether agreement stands on it
@@ -73,6 +73,7 @@ row_of PortContext = apart (codes "P3") (codes "PortContext")
 row_of CaseSigns = apart (codes "P4") (codes "CaseSigns")
 row_of TargetIndex = apart (codes "P5") (codes "TargetIndex")
 row_of ListIndex = apart (codes "P6") (codes "ListIndex")
+row_of ToolMacro = apart (codes "P7") (codes "ToolMacro")
 row_of PragmaWords = apart (codes "P8") (codes "PragmaWords")
 row_of UnsizedNumber = apart (codes "P9") (codes "UnsizedNumber")
 row_of PortSign = apart (codes "P10") (codes "PortSign")

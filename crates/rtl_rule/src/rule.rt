@@ -76,6 +76,8 @@ pub enum Rule {
     TargetIndex,
     /// An item of a list, without an edge, with a computed index.
     ListIndex,
+    /// A condition on a name that a tool defines, or another file.
+    ToolMacro,
     /// A comment that is worded like a pragma and tells the desk nothing.
     PragmaWords,
     /// A number without a width where its width counts.
@@ -91,7 +93,7 @@ pub enum Rule {
 }
 
 /// All rules, in the order of the table.
-pub const RULES: [Rule; 41] = [
+pub const RULES: [Rule; 42] = [
     Rule::SenseMissing,
     Rule::NeverWakes,
     Rule::MixedEdges,
@@ -127,6 +129,7 @@ pub const RULES: [Rule; 41] = [
     Rule::CaseSigns,
     Rule::TargetIndex,
     Rule::ListIndex,
+    Rule::ToolMacro,
     Rule::PragmaWords,
     Rule::UnsizedNumber,
     Rule::PortSign,
@@ -264,6 +267,7 @@ impl Rule {
             Rule::CaseSigns => apart("P4", "CaseSigns"),
             Rule::TargetIndex => apart("P5", "TargetIndex"),
             Rule::ListIndex => apart("P6", "ListIndex"),
+            Rule::ToolMacro => apart("P7", "ToolMacro"),
             Rule::PragmaWords => apart("P8", "PragmaWords"),
             Rule::UnsizedNumber => apart("P9", "UnsizedNumber"),
             Rule::PortSign => apart("P10", "PortSign"),

@@ -1,6 +1,6 @@
 // What of a text has no meaning in the design.
 
-/// Why a region is dropped.
+/// What has no meaning.
 #[derive(Clone, Copy, PartialEq, Eq, Debug)]
 pub enum DropKind {
     /// An `initial` construct.
@@ -11,7 +11,7 @@ pub enum DropKind {
     Comment,
 }
 
-/// A dropped region.
+/// A region that is dropped, or a comment that tells nothing.
 #[derive(Clone, Copy, PartialEq, Eq, Debug)]
 pub struct Dropped {
     pub kind: DropKind,

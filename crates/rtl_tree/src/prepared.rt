@@ -41,7 +41,7 @@ impl Prepared {
         self.tokens.as_slice()
     }
 
-    /// The regions in `translate_off`, then those of `initial`, each by place.
+    /// The regions in `translate_off`, then those of `initial`, then the comments that tell nothing, each by place.
     pub fn dropped(&self) -> &[Dropped]
         ensures { result.now ≡ self.now.dropped }
     {
