@@ -1,4 +1,5 @@
 pub mod Apart
+pub mod Asked
 pub mod Once
 pub mod Reading
 pub mod Same

@@ -11,6 +11,7 @@ use Rattle.rtl_tree.specs.Deeper.{too_deep}
 use Rattle.rtl_text.specs.declared.fault.LexFault.TheVariants as lexing
 use Rattle.rtl_text.specs.Faults.{Answers, Refuses}
 use Rattle.rtl_prep.specs.declared.fault.PrepFault.TheVariants as preparing
+use Rattle.rtl_prep.specs.Conditions.{FileConditions, asked}
 use Rattle.rtl_prep.specs.Prepares.{prepared}
 use Rattle.rtl_prep.specs.Stops.{Tells}
 use Rattle.rtl_parse.specs.declared.fault.ParseFault.TheVariants as parsing
@@ -50,6 +51,18 @@ AreRead _ _ = ⊥
 pub record AreSpelled (texts : List (List ℕ)) (circuits : List (List Circuit)) : Type 0 where
   pub read : AreRead texts circuits
   pub only : (others : List (List Circuit)) → AreRead texts others → others ≡ circuits
+
+-- what the conditions of a text ask of other files and tools
+pub record IsAsked (text : List ℕ) (conditions : FileConditions) : Type 0 where
+  pub tokens : List Token
+  pub split : Answers text (Ok tokens)
+  pub is : conditions ≡ asked text tokens
+
+-- the conditions of files, one after the other
+abbrev pub AreAsked : List (List ℕ) → List FileConditions → Type 0
+AreAsked [] [] = Unit {0}
+AreAsked (text ∷ texts) (conditions ∷ others) = IsAsked text conditions × AreAsked texts others
+AreAsked _ _ = ⊥
 
 -- the modules of all files before one, which has none
 abbrev pub IsFirst : List (List ℕ) → ℕ → FileFault → Type 0

@@ -3,7 +3,8 @@
 ghost use Rattle.std.specs.Prelude.{◌≡◌, ℕ, false, List};
 ghost use Rattle.rtl_tree.specs.TreeModule.{Circuit};
 ghost use Rattle.rtl_front.specs.declared.fault.FileFault.{FileFault};
-ghost use Rattle.rtl_front.specs.Fronts.{AreRead, IsFirst, is_memory};
+ghost use Rattle.rtl_prep.specs.Conditions.{FileConditions};
+ghost use Rattle.rtl_front.specs.Fronts.{AreAsked, AreRead, IsFirst, is_memory};
 ghost use Rattle.rtl_front.specs.Limits.{AreLimits};
 ghost use Rattle.rtl_front.specs.Reasons.{reason};
 
@@ -26,6 +27,12 @@ pub fn one_fault()
     ensures { (texts : List (List ℕ)) (m n : ℕ) (a b : FileFault) →
         is_memory a ≡ false → is_memory b ≡ false → IsFirst texts m a → IsFirst texts n b →
         reason a ≡ reason b }
+{}
+
+/// The texts alone settle what their conditions ask.
+pub fn one_asked()
+    ensures { (texts : List (List ℕ)) (a b : List FileConditions) → AreAsked texts a
+        → AreAsked texts b → a ≡ b }
 {}
 
 /// The limits of a text are these numbers.

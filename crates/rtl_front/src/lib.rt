@@ -6,4 +6,6 @@ mod files;
 pub mod law;
 
 pub use crate::fault::{FileFault, SourceFault};
-pub use crate::files::read_files;
+pub use crate::files::{FilesRead, read_files};
+pub use rtl_prep;
+pub use rtl_prep::Conditions;

@@ -6,3 +6,8 @@ mod Resumes
 mod Tables
 mod Kept
 mod Noted
+mod Named
+mod Asked
+mod Closed
+mod Stood
+mod Noticed

@@ -7,3 +7,5 @@ pub mod Macros
 pub mod Reading
 pub mod Tables
 pub mod Prepares
+pub mod Conditions
+pub mod Passes

@@ -1,5 +1,6 @@
 // Why a text can't be prepared.
 
+use rtl_tree::memory::Memory;
 use std::alloc::{AllocError, AllocFailed};
 use thiserror::Error;
 
@@ -43,6 +44,17 @@ impl<T: Drop> From<AllocFailed<T>> for PrepFault {
     ghost from_gives = { λ _ e. e ≡ Memory };
 
     fn from(_error: AllocFailed<T>) -> PrepFault {
+        PrepFault::Memory
+    }
+}
+
+impl From<Memory> for PrepFault {
+    ghost use Rattle.std.specs.Prelude.{◌≡◌};
+    ghost use Rattle.rtl_prep.specs.declared.fault.PrepFault.TheVariants as fault;
+
+    ghost from_gives = { λ _ e. e ≡ fault.Memory };
+
+    fn from(_error: Memory) -> PrepFault {
         PrepFault::Memory
     }
 }

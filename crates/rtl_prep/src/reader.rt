@@ -314,7 +314,7 @@ pub fn after(tokens: &[Token], count: usize) -> &[Token]
     }
 }
 
-fn keeps(chains: &LinkedList<Chain>) -> bool
+pub(crate) fn keeps(chains: &LinkedList<Chain>) -> bool
     ensures { result ≡ spec.keeps chains.now }
 {
     match chains.front() {

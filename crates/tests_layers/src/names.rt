@@ -114,10 +114,10 @@ fn shown(alloc: Global, modules: &[Vec<Module>], made: &Elaborated) -> Result<Ve
 /// What is told of the module `top` of some files.
 pub fn told(alloc: Global, files: &[File]) -> Result<Vec<u8>, Stop> {
     let sources = sources_of(alloc, files)?;
-    let Ok(modules) = modules_of(alloc, &sources) else {
+    let Ok(read) = modules_of(alloc, &sources) else {
         return Err(Stop::Unread);
     };
     let top = Text::from_bytes(alloc, b"top")?;
-    let made = elaborated::<Brand>(alloc, &modules, &top, Blank::new(1))?;
-    shown(alloc, &modules, &made)
+    let made = elaborated::<Brand>(alloc, &read.modules, &top, Blank::new(1))?;
+    shown(alloc, &read.modules, &made)
 }

@@ -6,7 +6,7 @@ ghost use Rattle.source_file.specs.SourceFiles.{AreShort};
 
 use crate::stop::Stop;
 use crate::words;
-use rtl_front::{FileFault, SourceFault, read_files};
+use rtl_front::{FileFault, FilesRead, SourceFault, read_files};
 use rtl_parse::ParseFault;
 use rtl_prep::{PrepFault, prepare};
 use rtl_text::{law, lex};
@@ -25,7 +25,7 @@ fn counted<L: Ledger>(
     alloc: Global,
     files: &[SourceFile],
     blank: Blank,
-) -> Result<Vec<Vec<Module>>, SourceFault>
+) -> Result<FilesRead, SourceFault>
     requires name { blank.name ≡ L.name }
     requires parts { blank.parts ≡ L.parts }
     requires some { 0 < L.parts }
@@ -35,7 +35,7 @@ fn counted<L: Ledger>(
     read_files(alloc, files, &mut steps)
 }
 
-fn read(alloc: Global, files: &[SourceFile]) -> Result<Vec<Vec<Module>>, SourceFault>
+fn read(alloc: Global, files: &[SourceFile]) -> Result<FilesRead, SourceFault>
     requires { AreShort files.now }
 {
     counted::<Brand>(alloc, files, Blank::new(1))
@@ -91,7 +91,7 @@ pub fn modules(alloc: Global, text: &[u8]) -> Result<Vec<u8>, Stop>
 {
     let files = two_files(alloc, b"", text)?;
     match read(alloc, &files) {
-        Ok(files) => names(alloc, files.as_slice()),
+        Ok(files) => names(alloc, files.modules.as_slice()),
         Err(SourceFault::Refused(1, fault)) => faulty(alloc, &fault),
         Err(_) => Err(Stop::OtherFile),
     }
@@ -105,7 +105,7 @@ pub fn prepared(alloc: Global, text: &[u8]) -> Result<Prepared, FileFault>
         Err(fault) => Err(FileFault::Lex(fault)),
         Ok(tokens) => match prepare(alloc, tokens, text) {
             Err(fault) => Err(FileFault::Prepare(fault)),
-            Ok(ready) => Ok(ready),
+            Ok(made) => Ok(made.prepared),
         },
     }
 }
