@@ -4,6 +4,8 @@ use Rattle.rtl_tree.specs.TreeModule.{Circuit}
 use Rattle.rtl_front.specs.declared.fault.FileFault.{FileFault}
 use Rattle.rtl_front.specs.Fronts.{IsFirst, is_memory}
 use Rattle.rtl_front.proofs.Apart.{never_both}
+use Rattle.rtl_front.proofs.Asked.{one_asked}
+use Rattle.rtl_front.specs.rtl_prep.Conditions.{FileConditions}
 use Rattle.source_file.specs.declared.SourceFile.{SourceFile}
 use Rattle.desk_refusals.specs.Refusals.{source_line}
 use Rattle.desk_top.specs.desk_build.Building.{Built, Front, IsBuilt, IsFront, Faulty, Modules, Refused, built_of}
@@ -16,10 +18,11 @@ OneLine =
 
 one_front : OneLine → (top : List ℕ) (sources : List SourceFile) (texts : List (List ℕ)) (one other : Front) → IsFront texts one → IsFront texts other
     → built_of top sources one ≡ built_of top sources other
-one_front line top sources texts (Modules a) (Modules b) first second =
-    ap (λ (circuits : List (List Circuit)). built_of top sources (Modules circuits)) (second.only a first.read)
-one_front line top sources texts (Modules a) (Faulty n fault) first second = absurd (never_both texts a n fault second.0 first.read second.1)
-one_front line top sources texts (Faulty m fault) (Modules b) first second = absurd (never_both texts b m fault first.0 second.read first.1)
+one_front line top sources texts (Modules a asks) (Modules b others) first second =
+    ap (λ (circuits : List (List Circuit)). built_of top sources (Modules circuits asks)) (second.0.only a first.0.read)
+    ∙ ap (λ (conditions : List FileConditions). built_of top sources (Modules b conditions)) (one_asked texts asks others first.1 second.1)
+one_front line top sources texts (Modules a asks) (Faulty n fault) first second = absurd (never_both texts a n fault second.0 first.0.read second.1)
+one_front line top sources texts (Faulty m fault) (Modules b others) first second = absurd (never_both texts b m fault first.0 second.0.read first.1)
 one_front line top sources texts (Faulty m a) (Faulty n b) first second =
     ap (λ (text : List ℕ). Refused text) (line texts sources m n a b first.0 second.0 first.1 second.1)
 

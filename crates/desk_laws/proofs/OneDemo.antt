@@ -20,7 +20,9 @@ use Rattle.demo_laws.proofs.Firsts.{one_first}
 use Rattle.demo_laws.proofs.Replays.{no_fault, not_legal, one_fault, one_replay}
 use Rattle.source_file.specs.declared.SourceFile.{SourceFile}
 use Rattle.desk_demo.proofs.One.{leads_or_unread, one_lead, one_told, told_or_leads, told_or_unread}
-use Rattle.desk_top.specs.desk_build.Building.{Built, Designed, Front, IsBuilt, Faulty, Modules, built_of, elaborated_or_not}
+use Rattle.rtl_front.specs.rtl_prep.Conditions.{FileConditions}
+use Rattle.desk_top.specs.desk_build.check_conditions.ToolNotes.{tool_noted, with_tools}
+use Rattle.desk_top.specs.desk_build.Building.{Built, Designed, Front, IsBuilt, Faulty, Modules, all_foreign, built_of, elaborated_or_not}
 use Rattle.desk_top.specs.Delivery.{Outcome}
 use Rattle.desk_top.specs.Outcome.{Differs, Fails, IsDemoRun, IsRerun, Read, Unread, fault_outcome, replay_outcome, Misnamed, More}
 
@@ -32,13 +34,14 @@ flat_once one other e = cc
 pub processes_of : (top : List ℕ) (sources : List SourceFile) (texts : List (List ℕ)) (flat : DesignParts) → IsBuilt top sources texts (Designed flat) → AreProcesses flat.parts.flat
 processes_of top sources texts flat is = by_front is.front is.is
   where
-    by_made : (circuits : List (List Circuit)) (made : Result DesignParts Answer) → elaborated (library_of circuits) top ≡ made → Designed flat ≡ elaborated_or_not sources made → AreProcesses flat.parts.flat
-    by_made circuits (Ok f) made same =
-        subst (λ (parts : DesignParts). AreProcesses parts.parts.flat) (flat_once f flat (sym same)) (elaborated_lawful (library_of circuits) top f made).each_process
-    by_made circuits (Err answer) made same = absurd (cc)
+    -- notes have no part in processes
+    by_made : (circuits : List (List Circuit)) (conditions : List FileConditions) (made : Result DesignParts Answer) → elaborated (library_of circuits) top ≡ made → Designed flat ≡ elaborated_or_not sources (tool_noted (all_foreign conditions) made) → AreProcesses flat.parts.flat
+    by_made circuits conditions (Ok f) made same =
+        subst (λ (parts : DesignParts). AreProcesses parts.parts.flat) (flat_once (with_tools (all_foreign conditions) f) flat (sym same)) (elaborated_lawful (library_of circuits) top f made).each_process
+    by_made circuits conditions (Err answer) made same = absurd (cc)
 
     by_front : (front : Front) → Designed flat ≡ built_of top sources front → AreProcesses flat.parts.flat
-    by_front (Modules circuits) same = by_made circuits (elaborated (library_of circuits) top) refl same
+    by_front (Modules circuits conditions) same = by_made circuits conditions (elaborated (library_of circuits) top) refl same
     by_front (Faulty file fault) same = absurd (cc)
 
 -- ---- what findings show

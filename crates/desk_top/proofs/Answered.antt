@@ -14,8 +14,10 @@ use Rattle.desk_top.specs.declared.simulate.Plan.{Plan}
 use Rattle.desk_top.specs.declared.simulate.Plan.TheVariants.{Told, Run}
 use Rattle.desk_top.specs.Words.{Order, Sign, Simulate, Replay, Generate, is_sign, is_simulate, order}
 use Rattle.desk_top.specs.Delivery.{Outcome, Delivers, Finishes, IsCut, Front as Begun, Nothing, IsWork, gave_up, no_file, outcome_of}
-use Rattle.rtl_front.specs.Fronts.{AreSpelled}
-use Rattle.desk_build.specs.Building.{Built, Front, Modules, Faulty, IsFront, built_of, elaborated_or_not}
+use Rattle.rtl_front.specs.Fronts.{AreAsked, AreSpelled}
+use Rattle.rtl_front.specs.rtl_prep.Conditions.{FileConditions}
+use Rattle.desk_build.specs.check_conditions.ToolNotes.{tool_noted}
+use Rattle.desk_build.specs.Building.{Built, Front, Modules, Faulty, IsFront, all_foreign, built_of, elaborated_or_not}
 use Rattle.desk_top.specs.Outcome.{World, IsAnswer, IsDone, IsOutcome, IsRuled, IsSigned, report_of}
 use Rattle.desk_top.specs.Plans.{IsPlan, Performs}
 use Rattle.desk_top.specs.Texts.{named, texts_of}
@@ -115,11 +117,11 @@ zero_is_clean words world wanted before now asked is zero written = by_order (or
     clash : {P : Type 0} (status : ℕ) → wanted.status ≡ status → 0 ≢ status → P
     clash status same other = absurd (other (zero ∙ same))
 
-    by_grade : (top : List ℕ) (files texts : List (List ℕ)) (circuits : List (List Circuit)) (design : DesignParts) → order words ≡ Some (Sign top files) → texts_of world.files files ≡ Some texts
-        → AreSpelled texts circuits → elaborated (library_of circuits) top ≡ Ok design → (ruled : IsRuled top (named files texts) design wanted)
+    by_grade : (top : List ℕ) (files texts : List (List ℕ)) (circuits : List (List Circuit)) (conditions : List FileConditions) (design : DesignParts) → order words ≡ Some (Sign top files) → texts_of world.files files ≡ Some texts
+        → AreSpelled texts circuits → AreAsked texts conditions → tool_noted (all_foreign conditions) (elaborated (library_of circuits) top) ≡ Ok design → (ruled : IsRuled top (named files texts) design wanted)
         → (b : Bool) → has_first_grade ruled.found ≡ b → wanted ≡ record { status = cond (not b) 0 1; bytes = report_of top (named files texts) design ruled.found ruled.shown } → IsSignedClean words before now world
-    by_grade top files texts circuits design command held spelled made ruled true some outcome = clash 1 (ap (λ o. o.status) outcome) (λ same. omega (arith, same))
-    by_grade top files texts circuits design command held spelled made ruled false none outcome =
+    by_grade top files texts circuits conditions design command held spelled asks made ruled true some outcome = clash 1 (ap (λ o. o.status) outcome) (λ same. omega (arith, same))
+    by_grade top files texts circuits conditions design command held spelled asks made ruled false none outcome =
         record {
           top = top;
           files = files;
@@ -130,6 +132,8 @@ zero_is_clean words world wanted before now asked is zero written = by_order (or
             held = held;
             circuits = circuits;
             spelled = spelled;
+            conditions = conditions;
+            asked = asks;
             flat = made;
             promised = ruled.promised none;
           };
@@ -144,16 +148,16 @@ zero_is_clean words world wanted before now asked is zero written = by_order (or
           };
         }
 
-    by_built : (top : List ℕ) (files texts : List (List ℕ)) (circuits : List (List Circuit)) → order words ≡ Some (Sign top files) → texts_of world.files files ≡ Some texts
-        → AreSpelled texts circuits → (made : Result DesignParts Answer) → elaborated (library_of circuits) top ≡ made → IsAnswer top (named files texts) (elaborated_or_not (named files texts) made) wanted → IsSignedClean words before now world
-    by_built top files texts circuits command held spelled (Ok design) made outcome =
-        by_grade top files texts circuits design command held spelled made outcome (has_first_grade outcome.found) refl outcome.is
-    by_built top files texts circuits command held spelled (Err answer) made outcome = clash 2 (ap (λ o. o.status) outcome) (λ same. omega (arith, same))
+    by_built : (top : List ℕ) (files texts : List (List ℕ)) (circuits : List (List Circuit)) (conditions : List FileConditions) → order words ≡ Some (Sign top files) → texts_of world.files files ≡ Some texts
+        → AreSpelled texts circuits → AreAsked texts conditions → (made : Result DesignParts Answer) → tool_noted (all_foreign conditions) (elaborated (library_of circuits) top) ≡ made → IsAnswer top (named files texts) (elaborated_or_not (named files texts) made) wanted → IsSignedClean words before now world
+    by_built top files texts circuits conditions command held spelled asks (Ok design) made outcome =
+        by_grade top files texts circuits conditions design command held spelled asks made outcome (has_first_grade outcome.found) refl outcome.is
+    by_built top files texts circuits conditions command held spelled asks (Err answer) made outcome = clash 2 (ap (λ o. o.status) outcome) (λ same. omega (arith, same))
 
     by_front : (top : List ℕ) (files texts : List (List ℕ)) → order words ≡ Some (Sign top files) → texts_of world.files files ≡ Some texts
         → (front : Front) → IsFront texts front → IsAnswer top (named files texts) (built_of top (named files texts) front) wanted → IsSignedClean words before now world
-    by_front top files texts command held (Modules circuits) spelled outcome =
-        by_built top files texts circuits command held spelled (elaborated (library_of circuits) top) refl outcome
+    by_front top files texts command held (Modules circuits conditions) front outcome =
+        by_built top files texts circuits conditions command held front.0 front.1 (tool_noted (all_foreign conditions) (elaborated (library_of circuits) top)) refl outcome
     by_front top files texts command held (Faulty file fault) refused outcome = clash 2 (ap (λ o. o.status) outcome) (λ same. omega (arith, same))
 
     by_texts : (top : List ℕ) (files : List (List ℕ)) → order words ≡ Some (Sign top files) → (o : Option (List (List ℕ))) → texts_of world.files files ≡ o

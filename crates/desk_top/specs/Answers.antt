@@ -12,7 +12,10 @@ use Rattle.desk_verdict.specs.net_clean.Netlist.{HasHardware}
 use Rattle.rtl_rule.specs.declared.finding.Finding.{Finding}
 use Rattle.desk_verdict.specs.check_all.Findings.{AreAllFindings, IsClean}
 use Rattle.desk_top.specs.Delivery.{Outcome, Delivers, IsCut, gave_up}
-use Rattle.rtl_front.specs.Fronts.{AreSpelled}
+use Rattle.rtl_front.specs.Fronts.{AreAsked, AreSpelled}
+use Rattle.rtl_front.specs.rtl_prep.Conditions.{FileConditions}
+use Rattle.desk_build.specs.check_conditions.ToolNotes.{tool_noted}
+use Rattle.desk_build.specs.Building.{all_foreign}
 use Rattle.demo_told.specs.declared.demo.Demo.{Demo}
 use Rattle.demo_told.specs.declared.demo.Shown.{Shown}
 use Rattle.desk_verdict.specs.Verdicts.{AreShown}
@@ -40,14 +43,17 @@ pub record IsAnswered (words : List (List ℕ)) (status : ℕ) (before now : Opt
   pub no_memory : status ≡ 20 → IsCut (λ wanted. (is_simulate (order words) ≡ true) × IsOutcome words world wanted) before now
 
 -- What is claimed of the top of a command line: its words are `sign TOP FILE..`; the files hold texts that spell modules, and no
--- others; of these the module with the top's name means a flat design; simulation agrees with synthesis on that design, to
--- which steps from power-up lead, and by level within its budget. Nothing of this speaks of rules or findings
+-- others; of these the module with the top's name means a flat design, beside which stands what the files' conditions ask of tools
+-- and of one another; simulation agrees with synthesis on that design, to which steps from power-up lead, and by level within its
+-- budget. Nothing of this speaks of rules or findings
 pub record IsClaimed (words : List (List ℕ)) (world : World) (top : List ℕ) (files texts : List (List ℕ)) (design : DesignParts) : Type 0 where
   pub command : order words ≡ Some (Sign top files)
   pub held : texts_of world.files files ≡ Some texts
   pub circuits : List (List Circuit)
   pub spelled : AreSpelled texts circuits
-  pub flat : elaborated (library_of circuits) top ≡ Ok design
+  pub conditions : List FileConditions
+  pub asked : AreAsked texts conditions
+  pub flat : tool_noted (all_foreign conditions) (elaborated (library_of circuits) top) ≡ Ok design
   pub promised : IsPromised design.parts.flat
 
 -- What is written: the report of all findings of the design, none of which is of the first grade

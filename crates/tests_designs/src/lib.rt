@@ -69,11 +69,11 @@ pub fn elaborated(
         return Err(NoDesign::TooLong);
     }
     let files = files_of(alloc, text)?;
-    let Ok(modules) = modules_of(alloc, &files) else {
+    let Ok(read) = modules_of(alloc, &files) else {
         return Err(NoDesign::Unread);
     };
     let top = Text::from_bytes(alloc, top)?;
-    Ok(design_of(alloc, &modules, &top))
+    Ok(design_of(alloc, &read.modules, &top))
 }
 
 /// The design of a module of a text, or why it has none.

@@ -1,21 +1,15 @@
-use Rattle.std.proofs.Common.{◌≡◌, List, Vec, subst}
-use Rattle.std.specs.Prelude.{IfOk}
-use Rattle.std.specs.declared.alloc.Global.{Global}
-use Rattle.rtl_tree.specs.declared.tree.modules.Module.{Module}
+use Rattle.std.proofs.Common.{subst}
 use Rattle.source_file.specs.SourceFiles.{texts_in}
 use Rattle.rtl_front.specs.declared.fault.SourceFault.{SourceFault}
 use Rattle.rtl_front.specs.Fronts.{IsFirstFaulty}
 use Rattle.rtl_elab.specs.elab_links.Modules.{circuits_of}
-use Rattle.rtl_elab.specs.Designs.{library_of}
-use Rattle.rtl_elab.specs.Elaborated.{elaborated}
-use Rattle.desk_build.specs.Building.{built, elaborated_or_not}
 use Rattle.desk_build.proofs.Spelled.{built_ok, faulty_ok}
 use Rattle.desk_build.proofs.front.build.Goals as goal
 
 pub returns-in-Ok : goal.returns-in-Ok
 returns-in-Ok c =
-    built_ok c.args.top.now c.args.files.now (texts_in c.args.files.now) (circuits_of c.in-Ok.modules.items) c.build_modules.result (record { read = c.in-Ok.ensures.read; only = c.in-Ok.ensures.only })
-    (subst (λ (ms : List (Vec Module Global)). IfOk c.build_modules.result (λ made. built made ≡ elaborated_or_not c.args.files.now (elaborated (library_of (circuits_of ms)) c.args.top.now))) c.deref.ensures.value c.build_modules.ensures)
+    built_ok c.args.top.now c.args.files.now (texts_in c.args.files.now) (circuits_of c.in-Ok.read.modules.items) c.in-Ok.read.conditions.items c.build_modules.result (record { read = c.in-Ok.ensures.read; only = c.in-Ok.ensures.only })
+    c.in-Ok.ensures.asked c.build_modules.ensures
 
 pub returns-in-Err-Refused : goal.returns-in-Err-Refused
 returns-in-Err-Refused c =

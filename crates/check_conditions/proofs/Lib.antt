@@ -1,0 +1,3 @@
+mod Example
+pub mod Noting
+pub mod Providing

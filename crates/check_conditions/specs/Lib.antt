@@ -1,0 +1,4 @@
+pub mod ToolNames
+pub mod Foreign
+pub mod ToolNotes
+pub mod Kept
