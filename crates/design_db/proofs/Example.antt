@@ -13,7 +13,7 @@ reading text refusal = Some (record { file = file text; refusal = refusal })
 
 -- it looked nothing up
 abbrev ruling : List ℕ → Answer → Ruling
-ruling top answer = record { top = top; look_ups = []; used = []; answer = answer }
+ruling top answer = record { top = top; look_ups = []; used = []; elsewhere = []; answer = answer }
 
 abbrev stored : List ℕ → Option Reading → List Ruling → Option Ruling → Store
 stored text read rulings absent = record {
@@ -21,6 +21,7 @@ stored text read rulings absent = record {
   room = 0;
   readings = read ∷ [];
   modules = [];
+  conditions = [];
   rulings = rulings;
   absent = absent;
 }

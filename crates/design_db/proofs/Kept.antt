@@ -7,14 +7,15 @@ use Rattle.std.specs.declared.alloc.Global.{Global}
 use Rattle.std.proofs.lemmas.Bool.Decides.{Decides-eqb}
 use Rattle.std.proofs.lemmas.Slice.Eq.{bytes_eq-Decides}
 use Rattle.rtl_tree.specs.TreeModule.{Circuit}
+use Rattle.desk_memo.specs.rtl_prep.Conditions.{FileConditions}
 use Rattle.rtl_tree.specs.declared.tree.modules.Module.{Module}
 use Rattle.desk_memo.specs.elab_links.Modules.{circuits_of}
 use Rattle.source_file.specs.declared.SourceFile.{SourceFile}
 use Rattle.desk_answers.specs.desk_build.Building.{Faulty}
-use Rattle.desk_memo.specs.Readings.{IsFirstRefused, changed_count, first_refusal}
+use Rattle.desk_memo.specs.Readings.{AllRead, IsFirstRefused, changed_count, first_refusal}
 use Rattle.desk_memo.specs.Rulings.{current_of, is_current, is_of, others_of}
 use Rattle.design_db.specs.Answers.{Answer, IsFresh, IsRuling, Reading, Ruling}
-use Rattle.design_db.specs.Stores.{Store, all_rulings, answer_of, changed_in, circuits_in, lasting_answer, refusal_or}
+use Rattle.design_db.specs.Stores.{Store, all_rulings, answer_of, changed_in, circuits_in, lasting_answer, read_in, refusal_or}
 use Rattle.design_db.proofs.Finds.{find_front, find_holds, find_kept, find_there, mapped_some, some_mapped}
 
 -- ---- an answer that is there is what the files say
@@ -28,10 +29,10 @@ both : (a b : Bool) → (a && b) ≡ true → (a ≡ true) × (b ≡ true)
 both true b all = (refl, all)
 both false b all = absurd (cc)
 
-found_by : (files : List SourceFile) (modules : List (List Circuit)) (top : List ℕ) (found : Option Ruling) → ((ruling : Ruling) → IsRuling ruling → is_current files modules ruling ≡ true → IsFresh files ruling.top ruling.answer) → IfSome found (λ ruling. IsRuling ruling × ((is_of top ruling && is_current files modules ruling) ≡ true)) → IfSome found (λ ruling. IsFresh files top ruling.answer)
-found_by files modules top None law holds = tt
-found_by files modules top (Some ruling) law holds =
-    let parts = both (is_of top ruling) (is_current files modules ruling) holds.1 in
+found_by : (files : List SourceFile) (all : AllRead) (top : List ℕ) (found : Option Ruling) → ((ruling : Ruling) → IsRuling ruling → is_current files all ruling ≡ true → IsFresh files ruling.top ruling.answer) → IfSome found (λ ruling. IsRuling ruling × ((is_of top ruling && is_current files all ruling) ≡ true)) → IfSome found (λ ruling. IsFresh files top ruling.answer)
+found_by files all top None law holds = tt
+found_by files all top (Some ruling) law holds =
+    let parts = both (is_of top ruling) (is_current files all ruling) holds.1 in
     subst (λ (it : List ℕ). IsFresh files it ruling.answer) ((bytes_eq-Decides ruling.top top).0 parts.0)
     (law ruling holds.0 parts.1)
 
@@ -44,15 +45,15 @@ fresh_at : (files : List SourceFile) (top : List ℕ) (b : Bool) (answer : Optio
 fresh_at files top true answer is = is refl
 fresh_at files top false answer is = tt
 
-pub are_fresh : (store : Store) (top : List ℕ) → All IsRuling (all_rulings store) → (changed_in store ≡ 0 → (answer : Answer) → first_refusal store.readings ≡ Some answer → IsFresh store.files top answer) → (changed_in store ≡ 0 → first_refusal store.readings ≡ None → (ruling : Ruling) → IsRuling ruling → is_current store.files (circuits_in store) ruling ≡ true → IsFresh store.files ruling.top ruling.answer) → IfSome (answer_of store top) (IsFresh store.files top)
+pub are_fresh : (store : Store) (top : List ℕ) → All IsRuling (all_rulings store) → (changed_in store ≡ 0 → (answer : Answer) → first_refusal store.readings ≡ Some answer → IsFresh store.files top answer) → (changed_in store ≡ 0 → first_refusal store.readings ≡ None → (ruling : Ruling) → IsRuling ruling → is_current store.files (read_in store) ruling ≡ true → IsFresh store.files ruling.top ruling.answer) → IfSome (answer_of store top) (IsFresh store.files top)
 are_fresh store top right refused ruled =
-    let found = current_of store.files (circuits_in store) top (all_rulings store) in
+    let found = current_of store.files (read_in store) top (all_rulings store) in
     let refusal = first_refusal store.readings in
     fresh_at store.files top (changed_in store == 0) (refusal_or refusal (option_map (λ (ruling : Ruling). ruling.answer) found))
     (λ same. let zero : changed_in store ≡ 0 = (Decides-eqb (changed_in store) 0).0 same in
     fresh_by store.files top refusal found (refused zero) (λ none.
-    found_by store.files (circuits_in store) top found (ruled zero none)
-    (find_holds IsRuling (λ ruling. is_of top ruling && is_current store.files (circuits_in store) ruling) (all_rulings store) right)))
+    found_by store.files (read_in store) top found (ruled zero none)
+    (find_holds IsRuling (λ ruling. is_of top ruling && is_current store.files (read_in store) ruling) (all_rulings store) right)))
 
 -- ---- an answer is there once it was worked out
 
@@ -60,12 +61,12 @@ pub known_ruling : (refusal : Option Answer) (found : Option Ruling) → IsSome 
 known_ruling None found some = mapped_some (λ (ruling : Ruling). ruling.answer) found some
 known_ruling (Some it) found some = refl
 
-pub known_kept : (files : List SourceFile) (modules : List (List Circuit)) (top : List ℕ) (refusal : Option Answer) (ruling : Ruling) (rulings : List Ruling) → ruling.top ≡ top → is_current files modules ruling ≡ true → Contains rulings ruling → IsSome (refusal_or refusal (option_map (λ (ruling : Ruling). ruling.answer) (current_of files modules top rulings)))
-known_kept files modules top refusal ruling rulings is current there =
-    let passes : (is_of top ruling && is_current files modules ruling) ≡ true =
-    ap (λ b. b && is_current files modules ruling) ((bytes_eq-Decides ruling.top top).1 is) ∙ current
-    in known_ruling refusal (current_of files modules top rulings)
-    (find_there (λ it. is_of top it && is_current files modules it) ruling rulings there passes)
+pub known_kept : (files : List SourceFile) (all : AllRead) (top : List ℕ) (refusal : Option Answer) (ruling : Ruling) (rulings : List Ruling) → ruling.top ≡ top → is_current files all ruling ≡ true → Contains rulings ruling → IsSome (refusal_or refusal (option_map (λ (ruling : Ruling). ruling.answer) (current_of files all top rulings)))
+known_kept files all top refusal ruling rulings is current there =
+    let passes : (is_of top ruling && is_current files all ruling) ≡ true =
+    ap (λ b. b && is_current files all ruling) ((bytes_eq-Decides ruling.top top).1 is) ∙ current
+    in known_ruling refusal (current_of files all top rulings)
+    (find_there (λ it. is_of top it && is_current files all it) ruling rulings there passes)
 
 -- ---- an answer stays when another top is ruled
 
@@ -80,7 +81,7 @@ front_by false refusal p first further some = refl
 pub lasting_is : (store : Store) (top : List ℕ) → IsSome (lasting_answer store top) → answer_of store top ≡ lasting_answer store top
 lasting_is store top some =
     front_by (changed_in store == 0) (first_refusal store.readings)
-    (λ ruling. is_of top ruling && is_current store.files (circuits_in store) ruling) store.rulings
+    (λ ruling. is_of top ruling && is_current store.files (read_in store) ruling) store.rulings
     (option_to_list store.absent) some
 
 not_both : (top other name : List ℕ) → (other ≡ top → ⊥) → bytes_eq name other ≡ true → not (bytes_eq name top) ≡ true
@@ -100,51 +101,53 @@ others_found holds top other old new differ same =
     in sym (find_kept p q implied new) ∙ ap (λ (it : List Ruling). find p it) same ∙ find_kept p q implied old
 
 -- the answer for a top, by the parts of a store
-abbrev held : List SourceFile → List (Option Reading) → List (Vec Module Global) → List Ruling → List ℕ → Option Answer
-held files readings modules rulings top =
+abbrev held : List SourceFile → List (Option Reading) → List (Vec Module Global) → List FileConditions → List Ruling → List ℕ → Option Answer
+held files readings modules conditions rulings top =
     cond (changed_count files readings == 0)
-    (refusal_or (first_refusal readings) (option_map (λ (ruling : Ruling). ruling.answer) (current_of files (circuits_of modules) top rulings)))
+    (refusal_or (first_refusal readings) (option_map (λ (ruling : Ruling). ruling.answer) (current_of files (record { modules = circuits_of modules; conditions = conditions }) top rulings)))
     None
 
-held_same : (old new : Store) (top other : List ℕ) → new.files ≡ old.files → new.readings ≡ old.readings → new.modules ≡ old.modules → others_of top new.rulings ≡ others_of top old.rulings → (other ≡ top → ⊥) → lasting_answer new other ≡ lasting_answer old other
-held_same old new top other files readings modules rulings differ =
-    ap (λ (it : List SourceFile). held it new.readings new.modules new.rulings other) files
-    ∙ ap (λ (it : List (Option Reading)). held old.files it new.modules new.rulings other) readings
-    ∙ ap (λ (it : List (Vec Module Global)). held old.files old.readings it new.rulings other) modules
+held_same : (old new : Store) (top other : List ℕ) → new.files ≡ old.files → new.readings ≡ old.readings → new.modules ≡ old.modules → new.conditions ≡ old.conditions → others_of top new.rulings ≡ others_of top old.rulings → (other ≡ top → ⊥) → lasting_answer new other ≡ lasting_answer old other
+held_same old new top other files readings modules conditions rulings differ =
+    ap (λ (it : List SourceFile). held it new.readings new.modules new.conditions new.rulings other) files
+    ∙ ap (λ (it : List (Option Reading)). held old.files it new.modules new.conditions new.rulings other) readings
+    ∙ ap (λ (it : List (Vec Module Global)). held old.files old.readings it new.conditions new.rulings other) modules
+    ∙ ap (λ (it : List FileConditions). held old.files old.readings old.modules it new.rulings other) conditions
     ∙ ap (λ (found : Option Ruling). cond (changed_count old.files old.readings == 0) (refusal_or (first_refusal old.readings) (option_map (λ (ruling : Ruling). ruling.answer) found)) None)
-    (others_found (is_current old.files (circuits_in old)) top other old.rulings new.rulings differ rulings)
+    (others_found (is_current old.files (read_in old)) top other old.rulings new.rulings differ rulings)
 
-lasts_by : (old new : Store) (top other : List ℕ) (same : Bool) → bytes_eq other top ≡ same → new.files ≡ old.files → new.readings ≡ old.readings → new.modules ≡ old.modules → others_of top new.rulings ≡ others_of top old.rulings → (IsSome (answer_of old top) → ⊥) → IsSome (lasting_answer old other) → answer_of new other ≡ answer_of old other
-lasts_by old new top other true same files readings modules rulings unknown some =
+lasts_by : (old new : Store) (top other : List ℕ) (same : Bool) → bytes_eq other top ≡ same → new.files ≡ old.files → new.readings ≡ old.readings → new.modules ≡ old.modules → new.conditions ≡ old.conditions → others_of top new.rulings ≡ others_of top old.rulings → (IsSome (answer_of old top) → ⊥) → IsSome (lasting_answer old other) → answer_of new other ≡ answer_of old other
+lasts_by old new top other true same files readings modules conditions rulings unknown some =
     let is : other ≡ top = (bytes_eq-Decides other top).0 same in
     absurd (unknown (subst (λ (it : List ℕ). IsSome (answer_of old it)) is
     (subst (λ (it : Option Answer). IsSome it) (sym (lasting_is old other some)) some)))
-lasts_by old new top other false same files readings modules rulings unknown some =
+lasts_by old new top other false same files readings modules conditions rulings unknown some =
     let differ : other ≡ top → ⊥ = λ is. let twice = (bytes_eq-Decides other top).1 is in absurd (cc) in
-    let stays = held_same old new top other files readings modules rulings differ in
+    let stays = held_same old new top other files readings modules conditions rulings differ in
     lasting_is new other (subst (λ (it : Option Answer). IsSome it) (sym stays) some)
     ∙ stays ∙ sym (lasting_is old other some)
 
-pub lasts : {T E : Type 0} (old new : Store) (top other : List ℕ) (r : Result T E) → new.files ≡ old.files → new.readings ≡ old.readings → new.modules ≡ old.modules → OnOk r (others_of top new.rulings ≡ others_of top old.rulings) → OnErr r (new ≡ old) → (IsSome (answer_of old top) → ⊥) → IsSome (lasting_answer old other) → answer_of new other ≡ answer_of old other
-lasts old new top other (Ok done) files readings modules rulings same unknown some =
-    lasts_by old new top other (bytes_eq other top) refl files readings modules rulings unknown some
-lasts old new top other (Err error) files readings modules rulings same unknown some =
+pub lasts : {T E : Type 0} (old new : Store) (top other : List ℕ) (r : Result T E) → new.files ≡ old.files → new.readings ≡ old.readings → new.modules ≡ old.modules → new.conditions ≡ old.conditions → OnOk r (others_of top new.rulings ≡ others_of top old.rulings) → OnErr r (new ≡ old) → (IsSome (answer_of old top) → ⊥) → IsSome (lasting_answer old other) → answer_of new other ≡ answer_of old other
+lasts old new top other (Ok done) files readings modules conditions rulings same unknown some =
+    lasts_by old new top other (bytes_eq other top) refl files readings modules conditions rulings unknown some
+lasts old new top other (Err error) files readings modules conditions rulings same unknown some =
     ap (λ (it : Store). answer_of it other) same
 
 -- the answers are as before where all that is kept is
-abbrev answer_in : List SourceFile → List (Option Reading) → List (List Circuit) → List Ruling → Option Ruling → List ℕ → Option Answer
-answer_in files readings modules rulings absent top =
+abbrev answer_in : List SourceFile → List (Option Reading) → List (List Circuit) → List FileConditions → List Ruling → Option Ruling → List ℕ → Option Answer
+answer_in files readings modules conditions rulings absent top =
     cond (changed_count files readings == 0)
-    (refusal_or (first_refusal readings) (option_map (λ (ruling : Ruling). ruling.answer) (current_of files modules top (rulings ++ option_to_list absent))))
+    (refusal_or (first_refusal readings) (option_map (λ (ruling : Ruling). ruling.answer) (current_of files (record { modules = modules; conditions = conditions }) top (rulings ++ option_to_list absent))))
     None
 
-pub answers_same : (old new : Store) → new.files ≡ old.files → new.readings ≡ old.readings → circuits_in new ≡ circuits_in old → new.rulings ≡ old.rulings → new.absent ≡ old.absent → (top : List ℕ) → answer_of new top ≡ answer_of old top
-answers_same old new files readings modules rulings absent top =
-    ap (λ (it : List SourceFile). answer_in it new.readings (circuits_in new) new.rulings new.absent top) files
-    ∙ ap (λ (it : List (Option Reading)). answer_in old.files it (circuits_in new) new.rulings new.absent top) readings
-    ∙ ap (λ (it : List (List Circuit)). answer_in old.files old.readings it new.rulings new.absent top) modules
-    ∙ ap (λ (it : List Ruling). answer_in old.files old.readings (circuits_in old) it new.absent top) rulings
-    ∙ ap (λ (it : Option Ruling). answer_in old.files old.readings (circuits_in old) old.rulings it top) absent
+pub answers_same : (old new : Store) → new.files ≡ old.files → new.readings ≡ old.readings → circuits_in new ≡ circuits_in old → new.conditions ≡ old.conditions → new.rulings ≡ old.rulings → new.absent ≡ old.absent → (top : List ℕ) → answer_of new top ≡ answer_of old top
+answers_same old new files readings modules conditions rulings absent top =
+    ap (λ (it : List SourceFile). answer_in it new.readings (circuits_in new) new.conditions new.rulings new.absent top) files
+    ∙ ap (λ (it : List (Option Reading)). answer_in old.files it (circuits_in new) new.conditions new.rulings new.absent top) readings
+    ∙ ap (λ (it : List (List Circuit)). answer_in old.files old.readings it new.conditions new.rulings new.absent top) modules
+    ∙ ap (λ (it : List FileConditions). answer_in old.files old.readings (circuits_in old) it new.rulings new.absent top) conditions
+    ∙ ap (λ (it : List Ruling). answer_in old.files old.readings (circuits_in old) old.conditions it new.absent top) rulings
+    ∙ ap (λ (it : Option Ruling). answer_in old.files old.readings (circuits_in old) old.conditions old.rulings it top) absent
 
 not_known_by : (seen : Bool) (found : Option (Bor Answer)) → IsSome (option_copied found) → seen ≡ is_some found → seen ≡ false → ⊥
 not_known_by seen None some sees unseen = cc

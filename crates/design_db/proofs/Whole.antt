@@ -5,6 +5,7 @@ use Rattle.std.specs.List.{All, Contains}
 use Rattle.std.specs.declared.alloc.Global.{Global}
 use Rattle.std.proofs.lemmas.List.Elements.{All-contains, All-contains_itself, All-weaker, Contains-push_cases}
 use Rattle.rtl_tree.specs.TreeModule.{Circuit}
+use Rattle.desk_memo.specs.rtl_prep.Conditions.{FileConditions}
 use Rattle.desk_files.specs.Limits.{MAX_BYTES}
 use Rattle.rtl_tree.specs.declared.tree.modules.Module.{Module}
 use Rattle.desk_memo.specs.elab_links.Modules.{circuits_of}
@@ -14,8 +15,8 @@ use Rattle.desk_files.specs.declared.files.Files.{Files}
 use Rattle.source_file.specs.declared.SourceFile.{SourceFile}
 use Rattle.desk_memo.specs.Orders.{AreInOrder}
 use Rattle.source_file.specs.SourceFiles.{AreShort}
-use Rattle.desk_memo.specs.Readings.{AreReadings, changed_count}
-use Rattle.desk_memo.specs.ShownReadings.{AreFlagged, IsBeside, are_as_read, flags_by, flags_of, held_modules_by, held_modules_of, modules_by, modules_of, readings_by, readings_of}
+use Rattle.desk_memo.specs.Readings.{AllRead, AreKnown, AreReadings, changed_count}
+use Rattle.desk_memo.specs.ShownReadings.{AreFlagged, IsBeside, are_as_read, conditions_by, conditions_of, flags_by, flags_of, held_modules_by, held_modules_of, modules_by, modules_of, read_of, readings_by, readings_of}
 use Rattle.desk_memo.specs.declared.aside.Aside as beside
 use Rattle.desk_memo.specs.Rulings.{current_of, is_absent, with_ruling}
 use Rattle.desk_memo.specs.Shown.{AreChecked, absent_of, all_of, rulings_of}
@@ -33,44 +34,46 @@ rulings_same old new rulings absent all =
     ∙ ap (λ (it : Option Ruling). rulings_of old ++ option_to_list it) absent
     in subst (λ (it : List Ruling). All IsRuling it) (sym same) all
 
-pub whole : (files : Files) (readings : Readings) (memo : Memo) (held : List SourceFile) → list_of files ≡ held → AreInOrder held → AreShort held → AreReadings held (readings_of readings) (modules_of readings) → AreFlagged held readings → All IsRuling (all_of memo) → AreChecked held (modules_of readings) memo → IsWhole files readings memo
-whole files readings memo held is order short right flagged rulings checked = record {
+pub whole : (files : Files) (readings : Readings) (memo : Memo) (held : List SourceFile) → list_of files ≡ held → AreInOrder held → AreShort held → AreReadings held (readings_of readings) (modules_of readings) → AreKnown (readings_of readings) (conditions_of readings) → AreFlagged held readings → All IsRuling (all_of memo) → AreChecked held (read_of readings) memo → IsWhole files readings memo
+whole files readings memo held is order short right known flagged rulings checked = record {
   store = record {
     in_order = subst AreInOrder (sym is) order;
     short = subst AreShort (sym is) short;
     readings = subst (λ (it : List SourceFile). AreReadings it (readings_of readings) (modules_of readings)) (sym is) right;
+    known = known;
     rulings = rulings;
   };
   flagged = subst (λ (it : List SourceFile). AreFlagged it readings) (sym is) flagged;
-  checked = subst (λ (it : List SourceFile). AreChecked it (modules_of readings) memo) (sym is) checked;
+  checked = subst (λ (it : List SourceFile). AreChecked it (read_of readings) memo) (sym is) checked;
 }
 
-pub is_put : (old new : Files) (readings : Readings) (before after : Memo) (file : SourceFile) (seen : List SourceFile) → seen ≡ list_of old → list_of new ≡ with_file file (list_of old) → length file.text ≤ MAX_BYTES → AreInOrder (list_of old) → AreShort (list_of old) → AreReadings (with_file file seen) (readings_of readings) (modules_of readings) → AreFlagged (with_file file seen) readings → rulings_of after ≡ rulings_of before → absent_of after ≡ absent_of before → All IsRuling (all_of before) → ((files : List SourceFile) (modules : List (List Circuit)) → AreChecked files modules after) → IsWhole new readings after
-is_put old new readings before after file seen sees is fits order short right flagged rulings absent all checked =
+pub is_put : (old new : Files) (readings : Readings) (before after : Memo) (file : SourceFile) (seen : List SourceFile) → seen ≡ list_of old → list_of new ≡ with_file file (list_of old) → length file.text ≤ MAX_BYTES → AreInOrder (list_of old) → AreShort (list_of old) → AreReadings (with_file file seen) (readings_of readings) (modules_of readings) → AreKnown (readings_of readings) (conditions_of readings) → AreFlagged (with_file file seen) readings → rulings_of after ≡ rulings_of before → absent_of after ≡ absent_of before → All IsRuling (all_of before) → ((files : List SourceFile) (all : AllRead) → AreChecked files all after) → IsWhole new readings after
+is_put old new readings before after file seen sees is fits order short right known flagged rulings absent all checked =
     let held = with_file file seen in
     whole new readings after held (is ∙ ap (λ (it : List SourceFile). with_file file it) (sym sees))
     (in_order_with file seen (subst AreInOrder (sym sees) order))
-    (short_with file seen fits (subst AreShort (sym sees) short)) right flagged
-    (rulings_same before after rulings absent all) (checked held (modules_of readings))
+    (short_with file seen fits (subst AreShort (sym sees) short)) right known flagged
+    (rulings_same before after rulings absent all) (checked held (read_of readings))
 
-pub is_dropped : (old new : Files) (readings : Readings) (before after : Memo) (name : List ℕ) (seen : List SourceFile) → seen ≡ list_of old → list_of new ≡ without_file name (list_of old) → AreInOrder (list_of old) → AreShort (list_of old) → AreReadings (without_file name seen) (readings_of readings) (modules_of readings) → AreFlagged (without_file name seen) readings → rulings_of after ≡ rulings_of before → absent_of after ≡ absent_of before → All IsRuling (all_of before) → ((files : List SourceFile) (modules : List (List Circuit)) → AreChecked files modules after) → IsWhole new readings after
-is_dropped old new readings before after name seen sees is order short right flagged rulings absent all checked =
+pub is_dropped : (old new : Files) (readings : Readings) (before after : Memo) (name : List ℕ) (seen : List SourceFile) → seen ≡ list_of old → list_of new ≡ without_file name (list_of old) → AreInOrder (list_of old) → AreShort (list_of old) → AreReadings (without_file name seen) (readings_of readings) (modules_of readings) → AreKnown (readings_of readings) (conditions_of readings) → AreFlagged (without_file name seen) readings → rulings_of after ≡ rulings_of before → absent_of after ≡ absent_of before → All IsRuling (all_of before) → ((files : List SourceFile) (all : AllRead) → AreChecked files all after) → IsWhole new readings after
+is_dropped old new readings before after name seen sees is order short right known flagged rulings absent all checked =
     let held = without_file name seen in
     whole new readings after held (is ∙ ap (λ (it : List SourceFile). without_file name it) (sym sees))
     (in_order_without name seen (subst AreInOrder (sym sees) order))
-    (short_without name seen (subst AreShort (sym sees) short)) right flagged
-    (rulings_same before after rulings absent all) (checked held (modules_of readings))
+    (short_without name seen (subst AreShort (sym sees) short)) right known flagged
+    (rulings_same before after rulings absent all) (checked held (read_of readings))
 
 -- ---- what was read beside
 
 -- what was read beside the readings stands in their place
 pub record IsReadNow (files : List SourceFile) (kept : Readings) : Type 0 where
   pub right : AreReadings files (readings_of kept) (modules_of kept)
+  pub known : AreKnown (readings_of kept) (conditions_of kept)
   pub flagged : AreFlagged files kept
   pub unchanged : changed_count files (readings_of kept) ≡ 0
 
-pub is_read_now : (files seen : List SourceFile) (before after : Readings) (aside : beside.Aside Verdict) → seen ≡ files → IsBeside seen before aside → readings_of after ≡ readings_by aside before → held_modules_of after ≡ held_modules_by aside before → flags_of after ≡ flags_by aside before → IsReadNow files after
-is_read_now files seen before after aside sees beside readings held flags =
+pub is_read_now : (files seen : List SourceFile) (before after : Readings) (aside : beside.Aside Verdict) → seen ≡ files → IsBeside seen before aside → readings_of after ≡ readings_by aside before → held_modules_of after ≡ held_modules_by aside before → conditions_of after ≡ conditions_by aside before → flags_of after ≡ flags_by aside before → IsReadNow files after
+is_read_now files seen before after aside sees beside readings held conditions flags =
     let modules : modules_of after ≡ modules_by aside before =
     ap (λ (it : List (Vec Module Global)). circuits_of it) held
     in
@@ -79,20 +82,23 @@ is_read_now files seen before after aside sees beside readings held flags =
       right =
           subst (λ (it : List (Option Reading)). AreReadings seen it (modules_of after)) (sym readings)
           (subst (λ (it : List (List Circuit)). AreReadings seen (readings_by aside before) it) (sym modules) beside.right);
+      known =
+          subst (λ (it : List (Option Reading)). AreKnown it (conditions_of after)) (sym readings)
+          (subst (λ (it : List FileConditions). AreKnown (readings_by aside before) it) (sym conditions) beside.known);
       flagged = flags ∙ beside.flagged ∙ ap (λ (it : List (Option Reading)). are_as_read seen it) (sym readings);
       unchanged = ap (λ (it : List (Option Reading)). changed_count seen it) readings ∙ beside.unchanged;
     })
 
--- a ruling that holds among the modules that the texts define holds among those that were read
-pub is_found_now : (files seen : List SourceFile) (after : Readings) (old new : Memo) (top : List ℕ) (modules : List (List Circuit)) → seen ≡ files → modules ≡ modules_of after → rulings_of new ≡ rulings_of old → absent_of new ≡ absent_of old → IsSome (current_of files modules top (all_of old)) → IsSome (current_of seen (modules_of after) top (all_of new))
-is_found_now files seen after old new top modules sees one rulings absent some =
+-- a ruling that holds by what the texts define holds by what was read
+pub is_found_now : (files seen : List SourceFile) (after : Readings) (old new : Memo) (top : List ℕ) (all : AllRead) → seen ≡ files → all ≡ read_of after → rulings_of new ≡ rulings_of old → absent_of new ≡ absent_of old → IsSome (current_of files all top (all_of old)) → IsSome (current_of seen (read_of after) top (all_of new))
+is_found_now files seen after old new top all sees one rulings absent some =
     let same : all_of new ≡ all_of old =
     ap (λ (it : List Ruling). it ++ option_to_list (absent_of new)) rulings
     ∙ ap (λ (it : Option Ruling). rulings_of old ++ option_to_list it) absent
     in
-    subst (λ (it : List SourceFile). IsSome (current_of it (modules_of after) top (all_of new))) (sym sees)
-    (subst (λ (it : List (List Circuit)). IsSome (current_of files it top (all_of new))) one
-    (subst (λ (it : List Ruling). IsSome (current_of files modules top it)) (sym same) some))
+    subst (λ (it : List SourceFile). IsSome (current_of it (read_of after) top (all_of new))) (sym sees)
+    (subst (λ (it : AllRead). IsSome (current_of files it top (all_of new))) one
+    (subst (λ (it : List Ruling). IsSome (current_of files all top it)) (sym same) some))
 
 -- ---- rulings
 

@@ -3,7 +3,7 @@
 use Rattle.std.specs.Prelude.{min}
 use Rattle.desk_files.specs.Shown.{list_of, room}
 use Rattle.desk_files.specs.declared.files.Files.{Files}
-use Rattle.desk_memo.specs.ShownReadings.{AreFlagged, held_modules_of, modules_of, readings_of, room_of}
+use Rattle.desk_memo.specs.ShownReadings.{AreFlagged, conditions_of, held_modules_of, read_of, readings_of, room_of}
 use Rattle.desk_memo.specs.declared.readings.Readings as readings
 use Rattle.desk_memo.specs.Shown.{AreChecked, absent_of, rulings_of}
 use Rattle.desk_memo.specs.declared.memo.Memo as memo
@@ -24,6 +24,7 @@ store files readings memo = record {
   room = min (room files) (room_of readings);
   readings = readings_of readings;
   modules = held_modules_of readings;
+  conditions = conditions_of readings;
   rulings = rulings_of memo;
   absent = absent_of memo;
 }
@@ -32,4 +33,4 @@ store files readings memo = record {
 pub record IsWhole (files : Files) (readings : Readings) (memo : Memo) : Type 0 where
   pub store : IsStore (store files readings memo)
   pub flagged : AreFlagged (list_of files) readings
-  pub checked : AreChecked (list_of files) (modules_of readings) memo
+  pub checked : AreChecked (list_of files) (read_of readings) memo

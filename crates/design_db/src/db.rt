@@ -1,13 +1,14 @@
 // The files of the desk, what was read of them, and what they said of tops.
 ghost use Rattle.std.specs.Prelude.{◌≡◌, ◌≤◌, ◌+◌, ℕ, List, [], None, length, IfOk, IfSome, IsOk, IsSome, OnErr, OnOk, option_copied};
 ghost use Rattle.std.specs.List.{All};
-ghost use Rattle.rtl_tree.specs.TreeModule.{Circuit};
+ghost use Rattle.desk_memo.specs.check_conditions.Foreign.{nothing_asked};
 ghost use Rattle.desk_files.specs.Limits.{MAX_BYTES};
 ghost use Rattle.desk_files.specs.Sources.{has_file, with_file, without_file};
 ghost use Rattle.source_file.specs.SourceFiles.{AreShort, texts_in};
 ghost use Rattle.desk_memo.specs.Orders.{AreInOrder};
-ghost use Rattle.desk_memo.specs.Readings.{AreDefined, AreReadings, changed_count, first_refusal, with_blank, without};
-ghost use Rattle.desk_memo.specs.ShownReadings.{modules_of, readings_of};
+ghost use Rattle.desk_memo.specs.Readings.{AllRead, AreDefined, AreKnown, AreReadings};
+ghost use Rattle.desk_memo.specs.Readings.{changed_count, first_refusal, with_blank, without};
+ghost use Rattle.desk_memo.specs.ShownReadings.{conditions_of, modules_of, read_of, readings_of};
 ghost use Rattle.desk_memo.specs.Rulings.{current_answer, current_of, others_of};
 ghost use Rattle.desk_memo.specs.Shown.{AreChecked, absent_of, all_of, rulings_of};
 ghost use Rattle.design_db.specs.Answers.{IsFresh, IsRuling};
@@ -18,7 +19,7 @@ use desk_answers::elab_links::module_set::ModuleSet;
 use desk_answers::kept_of;
 use desk_answers::law::still_fresh;
 use desk_files::{Files, Ready};
-use desk_memo::reading_law::{all_refused, all_spelled, one_list};
+use desk_memo::reading_law::{all_asked, all_refused, all_spelled, one_list};
 use desk_memo::{Memo, Readings};
 use desk_verdict::Verdict;
 use rtl_tree::memory::Memory;
@@ -72,14 +73,15 @@ fn rule<L: Ledger>(
     requires in_order { AreInOrder files.now }
     requires short { AreShort files.now }
     requires right { AreReadings files.now (readings_of readings.now) (modules_of readings.now) }
+    requires known { AreKnown (readings_of readings.now) (conditions_of readings.now) }
     requires unchanged { changed_count files.now (readings_of readings.now) ≡ 0 }
-    requires checked { AreChecked files.now (modules_of readings.now) memo.old }
+    requires checked { AreChecked files.now (read_of readings.now) memo.old }
     requires rulings { All IsRuling (all_of memo.old) }
     ensures counted { steps.new ≤ steps.old + 1 }
-    ensures untouched { IsSome (current_of files.now (modules_of readings.now) top.now
+    ensures untouched { IsSome (current_of files.now (read_of readings.now) top.now
         (all_of memo.old)) → steps.new ≤ steps.old }
     ensures answered { OnOk result (IsSome (refusal_or (first_refusal (readings_of readings.now))
-        (current_answer files.now (modules_of readings.now) top.now (all_of memo.new)))) }
+        (current_answer files.now (read_of readings.now) top.now (all_of memo.new)))) }
     ensures others { OnOk result
         (others_of top.now (rulings_of memo.new) ≡ others_of top.now (rulings_of memo.old)) }
     ensures keeps { OnOk result (KeepsRulings top.now (rulings_of memo.old) (absent_of memo.old)
@@ -87,12 +89,12 @@ fn rule<L: Ledger>(
     ensures rulings { All IsRuling (all_of memo.new) }
     ensures same { OnErr result (rulings_of memo.new ≡ rulings_of memo.old) }
     ensures absent { OnErr result (absent_of memo.new ≡ absent_of memo.old) }
-    ensures checked { AreChecked files.now (modules_of readings.now) memo.new }
+    ensures checked { AreChecked files.now (read_of readings.now) memo.new }
 {
     if readings.refusal().is_some() {
         return Ok(());
     }
-    if memo.check(files, readings.modules(), top) {
+    if memo.check(files, readings, top) {
         return Ok(());
     }
     let set = ModuleSet::new(alloc, readings.modules())?;
@@ -106,6 +108,7 @@ impl Db {
         ensures files { result.files ≡ [] }
         ensures readings { result.readings ≡ [] }
         ensures modules { circuits_in result ≡ [] }
+        ensures conditions { result.conditions ≡ [] }
         ensures rulings { result.rulings ≡ [] }
         ensures absent { result.absent ≡ None }
     {
@@ -136,6 +139,7 @@ impl Db {
         ensures files { self.new.files ≡ self.old.files }
         ensures readings { self.new.readings ≡ self.old.readings }
         ensures modules { circuits_in self.new ≡ circuits_in self.old }
+        ensures conditions { self.new.conditions ≡ self.old.conditions }
         ensures rulings { self.new.rulings ≡ self.old.rulings }
         ensures absent { self.new.absent ≡ self.old.absent }
         ensures answers { (top : List ℕ) → answer_of self.new top ≡ answer_of self.old top }
@@ -155,6 +159,8 @@ impl Db {
             ≡ with_blank None ready.file.name self.old.files self.old.readings }
         ensures modules { circuits_in self.new
             ≡ with_blank [] ready.file.name self.old.files (circuits_in self.old) }
+        ensures conditions { self.new.conditions
+            ≡ with_blank nothing_asked ready.file.name self.old.files self.old.conditions }
         ensures rulings { self.new.rulings ≡ self.old.rulings }
         ensures absent { self.new.absent ≡ self.old.absent }
     {
@@ -176,9 +182,12 @@ impl Db {
             ≡ with_blank None name.now self.old.files self.old.readings) }
         ensures modules { OnOk result (circuits_in self.new
             ≡ with_blank [] name.now self.old.files (circuits_in self.old)) }
+        ensures conditions { OnOk result (self.new.conditions
+            ≡ with_blank nothing_asked name.now self.old.files self.old.conditions) }
         ensures same { OnErr result (self.new.files ≡ self.old.files) }
         ensures read { OnErr result (self.new.readings ≡ self.old.readings) }
         ensures spelled { OnErr result (circuits_in self.new ≡ circuits_in self.old) }
+        ensures asked { OnErr result (self.new.conditions ≡ self.old.conditions) }
         ensures rulings { self.new.rulings ≡ self.old.rulings }
         ensures absent { self.new.absent ≡ self.old.absent }
     {
@@ -195,6 +204,8 @@ impl Db {
         ensures readings { self.new.readings ≡ without name.now self.old.files self.old.readings }
         ensures modules { circuits_in self.new
             ≡ without name.now self.old.files (circuits_in self.old) }
+        ensures conditions { self.new.conditions
+            ≡ without name.now self.old.files self.old.conditions }
         ensures rulings { self.new.rulings ≡ self.old.rulings }
         ensures absent { self.new.absent ≡ self.old.absent }
     {
@@ -208,9 +219,8 @@ impl Db {
     // read stands beside what is kept until nothing can fail any more.
     fn read_and_rule<L: Ledger>(&mut self, top: &Text, steps: &mut Steps<L>) -> Result<(), Memory>
         ensures counted { steps.new ≤ steps.old + changed_in self.old + 1 }
-        ensures untouched { (modules : List (List Circuit))
-            → AreDefined (texts_in self.old.files) modules
-            → IsSome (current_of self.old.files modules top.now (all_rulings self.old))
+        ensures untouched { (all : AllRead) → AreDefined (texts_in self.old.files) all
+            → IsSome (current_of self.old.files all top.now (all_rulings self.old))
             → steps.new ≤ steps.old + changed_in self.old }
         ensures files { self.new.files ≡ self.old.files }
         ensures answered { OnOk result (IsSome (answer_of self.new top.now)) }
@@ -246,13 +256,13 @@ impl Db {
     fn rule_again<L: Ledger>(&mut self, top: &Text, steps: &mut Steps<L>) -> Result<(), Memory>
         requires unchanged { changed_in self.old ≡ 0 }
         ensures counted { steps.new ≤ steps.old + 1 }
-        ensures untouched { (modules : List (List Circuit))
-            → AreDefined (texts_in self.old.files) modules
-            → IsSome (current_of self.old.files modules top.now (all_rulings self.old))
+        ensures untouched { (all : AllRead) → AreDefined (texts_in self.old.files) all
+            → IsSome (current_of self.old.files all top.now (all_rulings self.old))
             → steps.new ≤ steps.old }
         ensures files { self.new.files ≡ self.old.files }
         ensures readings { self.new.readings ≡ self.old.readings }
         ensures modules { self.new.modules ≡ self.old.modules }
+        ensures conditions { self.new.conditions ≡ self.old.conditions }
         ensures answered { OnOk result (IsSome (answer_of self.new top.now)) }
         ensures others { OnOk result
             (others_of top.now self.new.rulings ≡ others_of top.now self.old.rulings) }
@@ -282,11 +292,11 @@ impl Db {
     /// Memory ran out. Nothing changes then.
     pub fn ruling<L: Ledger>(&mut self, top: &Text, steps: &mut Steps<L>) -> Result<(), Memory>
         ensures counted { steps.new ≤ steps.old + changed_in self.old + 1 }
-        // Where the modules that the texts define mean the same by all that the top looked up, it
-        // isn't elaborated.
-        ensures untouched { (modules : List (List Circuit))
-            → AreDefined (texts_in self.old.files) modules
-            → IsSome (current_of self.old.files modules top.now (all_rulings self.old))
+        // Where the modules that the texts define mean the same by all that the top looked up, and
+        // the conditions of the files that it used are told the same of other files' macros, it isn't
+        // elaborated.
+        ensures untouched { (all : AllRead) → AreDefined (texts_in self.old.files) all
+            → IsSome (current_of self.old.files all top.now (all_rulings self.old))
             → steps.new ≤ steps.old + changed_in self.old }
         ensures again { IsSome (answer_of self.old top.now) → steps.new ≡ steps.old }
         ensures there { IsSome (answer_of self.old top.now) → IsOk result }
@@ -324,8 +334,7 @@ impl Db {
     fn check(&mut self, top: &Text)
         ensures { self.new ≡ self.old }
     {
-        self.memo
-            .check(self.files.as_slice(), self.readings.modules(), top);
+        self.memo.check(self.files.as_slice(), &self.readings, top);
     }
 
     /// What the files say of a top, where that is known. It takes no memory.
@@ -336,13 +345,14 @@ impl Db {
         still_fresh::<Rules>();
         all_refused::<Verdict>();
         all_spelled::<Verdict>();
+        all_asked::<Verdict>();
         let files = self.files.as_slice();
         if self.readings.changed(files) != 0 {
             return None;
         }
         match self.readings.refusal() {
             Some(refusal) => Some(refusal),
-            None => self.memo.answer(files, self.readings.modules(), top),
+            None => self.memo.answer(files, &self.readings, top),
         }
     }
 }

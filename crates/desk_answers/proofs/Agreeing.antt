@@ -1,8 +1,12 @@
 -- A ruling that still holds is what the files say of its top.
-use Rattle.std.proofs.Common.{◌≡◌, ◌∙◌, ℕ, true, List, Result, ap, subst, sym}
+use Rattle.std.proofs.Common.{◌≡◌, ◌∙◌, ℕ, true, List, Result, map, ap, subst, sym}
+use Rattle.std.specs.Prelude.{◌&&◌}
 use Rattle.std.specs.List.{Contains, list_all}
 use Rattle.std.proofs.lemmas.Bool.{and_parts}
 use Rattle.rtl_tree.specs.TreeModule.{Circuit}
+use Rattle.desk_memo.specs.rtl_prep.Conditions.{FileConditions}
+use Rattle.desk_memo.specs.check_conditions.Foreign.{foreign_in}
+use Rattle.desk_memo.specs.check_conditions.ToolNotes.{tool_noted}
 use Rattle.desk_refusals.specs.elab_scope.Faults.{Answer as Fault}
 use Rattle.elab_names.specs.elab_links.Modules.{all_placed, found}
 use Rattle.elab_names.specs.elab_links.declared.module_set.Lookup.{Lookup}
@@ -13,16 +17,19 @@ use Rattle.elab_names.specs.elab_walk.Visits.{Library}
 use Rattle.rtl_flat.specs.Flats.{DesignParts}
 use Rattle.elab_names.specs.rtl_elab.Designs.{library_of}
 use Rattle.elab_names.specs.rtl_elab.Elaborated.{elaborated}
-use Rattle.rtl_front.specs.Fronts.{AreSpelled}
+use Rattle.rtl_front.specs.Fronts.{AreAsked, AreSpelled}
 use Rattle.desk_build.specs.Building.{Modules}
 use Rattle.source_file.specs.declared.SourceFile.{SourceFile}
 use Rattle.source_file.specs.SourceFiles.{texts_in}
-use Rattle.desk_answers.specs.Fresh.{IsFresh, IsOfDesign}
+use Rattle.desk_answers.specs.Fresh.{IsFresh, IsOfDesign, designed}
 use Rattle.desk_memo.specs.Orders.{AreInOrder}
-use Rattle.desk_memo.specs.Rulings.{Ruling, is_current, is_meant, is_there}
+use Rattle.desk_memo.specs.Readings.{AllRead}
+use Rattle.desk_memo.specs.Rulings.{Ruling, are_told, is_current, is_meant, is_there}
 use Rattle.desk_answers.specs.Rulings.{IsRuling}
 use Rattle.desk_memo.proofs.Among.{holds_of, named_among}
+use Rattle.desk_memo.proofs.Found.{OneAsked}
 use Rattle.desk_answers.proofs.Standing.{AreAt, are_at, ascending, only_there, read_there, same_count, sources_are, used_at}
+use Rattle.desk_answers.proofs.Telling.{foreign_same}
 use Rattle.desk_answers.proofs.Tests.{passes, same_lookup}
 
 -- what holds of all libraries that have what a top uses
@@ -63,22 +70,33 @@ still files modules ruling made numbers order spelled at meant =
 
 -- ---- so the same is said of it
 
-pub still_fresh : {V : Type 0} {says : DesignParts → V → Type 0} (laws : Laws) (files : List SourceFile) (modules : List (List Circuit)) (ruling : Ruling V) → AreInOrder files → IsRuling says ruling → is_current files modules ruling ≡ true → AreSpelled (texts_in files) modules → IsFresh says files ruling.top ruling.answer
-still_fresh {V} {says} laws files modules ruling order made current spelled =
-    let parts = and_parts (list_all (is_there files) ruling.used) (list_all (is_meant files modules ruling.used) ruling.look_ups) current in
-    let there = are_at files ruling.used parts.0 in
-    let agreed = still files modules ruling made there.0 order spelled there.1 parts.1 in
+same_made : (laws : Laws) (first second : Library) (top : List ℕ) (numbers others : List ℕ) (was now : List FileConditions) → AreUsed first top numbers → IsStill first second top numbers others → now ≡ was → tool_noted now (elaborated (extract others second) top) ≡ tool_noted was (elaborated (extract numbers first) top)
+same_made laws first second top numbers others was now used agreed same =
+    ap (λ (it : List FileConditions). tool_noted it (elaborated (extract others second) top)) same
+    ∙ ap (λ (it : Result DesignParts Fault). tool_noted was it) (laws.design first second top numbers others used agreed)
+
+pub still_fresh : {V : Type 0} {says : DesignParts → V → Type 0} (laws : Laws) → OneAsked → (files : List SourceFile) (all : AllRead) (ruling : Ruling V) → AreInOrder files → IsRuling says ruling → is_current files all ruling ≡ true → AreSpelled (texts_in files) all.modules → AreAsked (texts_in files) all.conditions → IsFresh says files ruling.top ruling.answer
+still_fresh {V} {says} laws once files all ruling order made current spelled asked =
+    let parts = and_parts (list_all (is_there files) ruling.used && are_told files all.conditions ruling.used ruling.elsewhere) (list_all (is_meant files all.modules ruling.used) ruling.look_ups) current in
+    let first_two = and_parts (list_all (is_there files) ruling.used) (are_told files all.conditions ruling.used ruling.elsewhere) parts.0 in
+    let there = are_at files ruling.used first_two.0 in
+    let agreed = still files all.modules ruling made there.0 order spelled there.1 parts.1 in
+    let foreign =
+    foreign_same once files made.files all.conditions made.conditions there.0 made.numbers ruling.used ruling.elsewhere
+    (record { in_order = order; asked = asked }) (record { in_order = made.in_order; asked = made.asked })
+    there.1 (used_in ruling made) made.elsewhere_is first_two.1
+    in
     let first = library_of made.modules in
-    let second = library_of modules in
+    let second = library_of all.modules in
     record {
-      front = Modules modules;
-      is_front = spelled;
+      front = Modules all.modules all.conditions;
+      is_front = (spelled, asked);
       is = record {
         numbers = there.0;
         are_used = laws.files first second ruling.top made.numbers there.0 made.are_used agreed;
         is =
-            subst (λ (it : List SourceFile). IsOfDesign says it (elaborated (extract there.0 second) ruling.top) ruling.answer) (sym (sources_are files there.0 ruling.used there.1))
+            subst (λ (it : List SourceFile). IsOfDesign says it (designed all.modules all.conditions there.0 ruling.top) ruling.answer) (sym (sources_are files there.0 ruling.used there.1))
             (subst (λ (it : Result DesignParts Fault). IsOfDesign says ruling.used it ruling.answer)
-            (sym (laws.design first second ruling.top made.numbers there.0 made.are_used agreed)) made.is);
+            (sym (same_made laws first second ruling.top made.numbers there.0 (map (foreign_in made.conditions) made.numbers) (map (foreign_in all.conditions) there.0) made.are_used agreed foreign)) made.is);
       };
     }

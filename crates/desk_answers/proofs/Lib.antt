@@ -3,4 +3,5 @@ pub mod Agreeing
 pub mod Made
 pub mod Ordered
 pub mod Standing
+pub mod Telling
 pub mod Tests

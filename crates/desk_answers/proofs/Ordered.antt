@@ -1,13 +1,14 @@
 -- Where files stand that are in the order of their names.
-use Rattle.std.proofs.Common.{◌≡◌, ◌∙◌, ◌<◌, ℕ, zero, suc, Bool, true, false, cond, List, [], ◌∷◌, ap, arith, inl, inr, refl, subst, sym}
-use Rattle.std.specs.Prelude.{bytes_eq, find, Some, slice_get}
-use Rattle.std.specs.List.{All}
+use Rattle.std.proofs.Common.{◌≡◌, ◌∙◌, ◌+◌, ◌<◌, ℕ, zero, suc, Bool, true, false, cond, List, [], ◌∷◌, ap, arith, inl, inr, refl, subst, sym}
+use Rattle.std.specs.Prelude.{bytes_eq, find, position, Some, slice_get}
+use Rattle.std.specs.List.{All, position_from}
 use Rattle.std.specs.Cmp.Lexicographic.{slice_cmp}
 use Rattle.std.specs.Ordering.{is_eq, is_lt, nat_cmp}
 use Rattle.std.specs.declared.cmp.Ordering.{Ordering}
 use Rattle.std.specs.declared.cmp.Ordering.TheVariants.{Less, Equal, Greater}
 use Rattle.std.proofs.lemmas.Bool.{cases_lt}
 use Rattle.std.proofs.lemmas.Cmp.{nat_list_cmp_total}
+use Rattle.std.proofs.lemmas.Iterator.Adapters.{position_from-zero}
 use Rattle.std.proofs.lemmas.Map.Text.{is_eq-slice_cmp}
 use Rattle.std.proofs.lemmas.Option.{get_or_from_slice_get, same_Some, slice_get_within}
 use Rattle.std.proofs.lemmas.Slice.Eq.{bytes_eq-Decides}
@@ -108,3 +109,22 @@ found_itself (first ∷ files) (suc place) file order at =
     ap (λ (it : Bool). cond it (Some first) (find (is_named file.name) files))
     (other_name first file (all_at (λ (other : SourceFile). is_before other.name first ≡ true) files place file order.0 at))
     ∙ found_itself files place file order.1 at
+
+-- and so is its place
+place_from : (first : ℕ) (files : List SourceFile) (place : ℕ) (file : SourceFile) → AreInOrder files → slice_get files place ≡ Some file → position_from (is_named file.name) first files ≡ Some (first + place)
+place_from first [] place file order at = absurd (cc)
+place_from first (other ∷ files) zero file order at =
+    ap (λ (it : Bool). cond it (Some first) (position_from (is_named file.name) (first + 1) files))
+    ((bytes_eq-Decides other.name file.name).1 (ap (λ (it : SourceFile). it.name) (same_Some other file at)))
+    ∙ ap (λ (it : ℕ). Some it) (omega arith)
+place_from first (other ∷ files) (suc place) file order at =
+    ap (λ (it : Bool). cond it (Some first) (position_from (is_named file.name) (first + 1) files))
+    (other_name other file (all_at (λ (it : SourceFile). is_before it.name other ≡ true) files place file order.0 at))
+    ∙ place_from (first + 1) files place file order.1 at
+    ∙ ap (λ (it : ℕ). Some it) (omega arith)
+
+pub place_itself : (files : List SourceFile) (place : ℕ) (file : SourceFile) → AreInOrder files → slice_get files place ≡ Some file → position (is_named file.name) files ≡ Some place
+place_itself files place file order at =
+    let first : 0 + place ≡ place = omega arith in
+    position_from-zero (is_named file.name) files ∙ place_from 0 files place file order at
+    ∙ ap (λ (it : ℕ). Some it) first

@@ -1,6 +1,6 @@
 -- What is signed clean shows in every simulation what its hardware shows.
 use Rattle.std.proofs.Common.{◌≡◌, ◌∙◌, Bool, true, false, ℕ, List, [], ◌∷◌, Option, Some, None, drop, get_or, refl, sym, ap, subst, arith}
-use Rattle.std.specs.Prelude.{ℤ, nat_lt, Result, Ok, Err, if◌then◌else◌}
+use Rattle.std.specs.Prelude.{ℤ, map, nat_lt, Result, Ok, Err, if◌then◌else◌}
 use Rattle.std.proofs.lemmas.Bool.{cond-true}
 use Rattle.json.specs.Print.{escape_byte}
 use Rattle.rtl_tree.specs.TreeModule.{Circuit}
@@ -10,7 +10,10 @@ use Rattle.design_db.specs.elab_names.Extracts.{extract}
 use Rattle.design_db.specs.elab_names.LookUps.{AreUsed}
 use Rattle.design_db.specs.rtl_elab.Designs.{library_of}
 use Rattle.design_db.specs.rtl_elab.Elaborated.{elaborated}
-use Rattle.rtl_front.specs.Fronts.{AreSpelled}
+use Rattle.design_db.specs.desk_memo.check_conditions.Foreign.{foreign_in}
+use Rattle.design_db.specs.desk_memo.check_conditions.ToolNotes.{tool_noted}
+use Rattle.design_db.specs.desk_memo.rtl_prep.Conditions.{FileConditions}
+use Rattle.rtl_front.specs.Fronts.{AreAsked, AreSpelled}
 use Rattle.design_db.specs.desk_build.Building.{Front, IsFront, Modules, Faulty}
 use Rattle.source_file.specs.declared.SourceFile.{SourceFile}
 use Rattle.rtl_flat.specs.declared.instance.Instance.{Instance}
@@ -102,8 +105,8 @@ rows_clean : (signals : List Signal) (instances : List Instance) (found : List F
 rows_clean signals instances found shown rows are clean =
     sym (ap (λ its. has_first_grade (findings_of its)) are ∙ ap has_first_grade (told_findings signals instances found shown)) ∙ clean
 
-of_design : (kept : Kept) (top : List ℕ) (files : List SourceFile) → AreFilesOf kept.files files → (circuits : List (List Circuit)) → AreSpelled (texts_in files) circuits → (numbers : List ℕ) → AreUsed (library_of circuits) top numbers → (made : Result DesignParts Fault) → elaborated (extract numbers (library_of circuits)) top ≡ made → (answer : Answer) → IsOfDesign (sources_at numbers files) made answer → (request : Request) (today : ℤ) → SaysCleanIn (judged_with (ask.SignOff top) request today kept files answer) → IsSignedClean kept top
-of_design kept top files are circuits spelled numbers used (Ok flat) same (Ruled verdict reached) is request today says =
+of_design : (kept : Kept) (top : List ℕ) (files : List SourceFile) → AreFilesOf kept.files files → (circuits : List (List Circuit)) → AreSpelled (texts_in files) circuits → (conditions : List FileConditions) → AreAsked (texts_in files) conditions → (numbers : List ℕ) → AreUsed (library_of circuits) top numbers → (made : Result DesignParts Fault) → elaborated (extract numbers (library_of circuits)) top ≡ made → (answer : Answer) → IsOfDesign (sources_at numbers files) (tool_noted (map (foreign_in conditions) numbers) made) answer → (request : Request) (today : ℤ) → SaysCleanIn (judged_with (ask.SignOff top) request today kept files answer) → IsSignedClean kept top
+of_design kept top files are circuits spelled conditions asked numbers used (Ok flat) same (Ruled verdict reached) is request today says =
     let graded : has_first_grade (findings_of verdict.rows.items) ≡ false = signed_clean top request today kept (verdict_in files verdict reached.items) says in
     let clean = rows_clean flat.parts.flat.signals flat.instances is.0.found is.0.shown verdict.rows.items is.0.told_is graded in
     record {
@@ -119,18 +122,20 @@ of_design kept top files are circuits spelled numbers used (Ok flat) same (Ruled
         promised = is.0.promised clean;
       };
       hardware = is.0.hardware clean;
+      conditions = conditions;
+      asked = asked;
       findings = is.0.found;
       found = is.0.are_all;
       clean = clean;
     }
-of_design kept top files are circuits spelled numbers used (Ok flat) same (Refused line) is request today says = absurd is
-of_design kept top files are circuits spelled numbers used (Err fault) same (Ruled verdict reached) is request today says = absurd is
-of_design kept top files are circuits spelled numbers used (Err fault) same (Refused line) is request today says =
+of_design kept top files are circuits spelled conditions asked numbers used (Ok flat) same (Refused line) is request today says = absurd is
+of_design kept top files are circuits spelled conditions asked numbers used (Err fault) same (Ruled verdict reached) is request today says = absurd is
+of_design kept top files are circuits spelled conditions asked numbers used (Err fault) same (Refused line) is request today says =
     absurd (let no : 422 ≡ 201 = says.accepted in omega (arith, no))
 
 of_front : (kept : Kept) (top : List ℕ) (files : List SourceFile) → AreFilesOf kept.files files → (front : Front) → IsFront (texts_in files) front → (answer : Answer) → IsOfFront files top front answer → (request : Request) (today : ℤ) → SaysCleanIn (judged_with (ask.SignOff top) request today kept files answer) → IsSignedClean kept top
-of_front kept top files are (Modules circuits) spelled answer is request today says =
-    of_design kept top files are circuits spelled is.numbers is.are_used (elaborated (extract is.numbers (library_of circuits)) top) refl answer is.is request today says
+of_front kept top files are (Modules circuits conditions) both answer is request today says =
+    of_design kept top files are circuits both.0 conditions both.1 is.numbers is.are_used (elaborated (extract is.numbers (library_of circuits)) top) refl answer is.is request today says
 of_front kept top files are (Faulty number fault) spelled (Ruled verdict reached) is request today says = absurd is
 of_front kept top files are (Faulty number fault) spelled (Refused line) is request today says =
     absurd (let no : 422 ≡ 201 = says.accepted in omega (arith, no))

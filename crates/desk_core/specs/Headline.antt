@@ -1,6 +1,6 @@
 -- What a sign-off with the grade `clean` promises of its module.
 -- Worked examples: crates/tests_serving/stdin.
-use Rattle.std.specs.Prelude.{◌≡◌, ℕ, List, find, None, Ok}
+use Rattle.std.specs.Prelude.{◌≡◌, ℕ, List, find, map, None, Ok}
 use Rattle.rtl_tree.specs.TreeModule.{Circuit}
 use Rattle.rtl_rule.specs.declared.finding.Finding.{Finding}
 use Rattle.design_db.specs.check_all.Findings.{AreAllFindings, IsClean}
@@ -11,7 +11,10 @@ use Rattle.design_db.specs.elab_names.Extracts.{extract}
 use Rattle.design_db.specs.elab_names.LookUps.{AreUsed}
 use Rattle.design_db.specs.rtl_elab.Designs.{library_of}
 use Rattle.design_db.specs.rtl_elab.Elaborated.{elaborated}
-use Rattle.rtl_front.specs.Fronts.{AreSpelled}
+use Rattle.design_db.specs.desk_memo.check_conditions.Foreign.{foreign_in}
+use Rattle.design_db.specs.desk_memo.check_conditions.ToolNotes.{with_tools}
+use Rattle.design_db.specs.desk_memo.rtl_prep.Conditions.{FileConditions}
+use Rattle.rtl_front.specs.Fronts.{AreAsked, AreSpelled}
 use Rattle.source_file.specs.declared.SourceFile.{SourceFile}
 use Rattle.desk_tables.specs.Grades.{grade_word}
 use Rattle.desk_tables.specs.Tables.{Kept}
@@ -49,13 +52,16 @@ pub record IsClaimed (kept : Kept) (top : List ℕ) (design : DesignParts) : Typ
   pub flat : elaborated (extract numbers (library_of circuits)) top ≡ Ok design
   pub promised : IsPromised design.parts.flat
 
--- The headline: the claim of a design of which no finding is of the first grade, and synthesis refuses nothing
+-- The headline: the claim of a design of which no finding is of the first grade, also none of the conditions of its files, and
+-- synthesis refuses nothing
 pub record IsSignedClean (kept : Kept) (top : List ℕ) : Type 0 where
   pub design : DesignParts
   pub claim : IsClaimed kept top design
   pub hardware : HasHardware design.parts.flat
+  pub conditions : List FileConditions
+  pub asked : AreAsked (texts_in claim.files) conditions
   pub findings : List Finding
-  pub found : AreAllFindings design.parts findings
+  pub found : AreAllFindings (with_tools (map (foreign_in conditions) claim.numbers) design).parts findings
   pub clean : IsClean findings
 
 -- a reply that says that a new sign-off of a module is clean says so of a module that is

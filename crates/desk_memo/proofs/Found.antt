@@ -3,10 +3,11 @@ use Rattle.std.specs.Prelude.{ℕ, suc, Bool, true, false, codes, if◌then◌el
 use Rattle.std.proofs.Common.{◌≡◌, ◌∙◌, ◌+◌, inl, inr, ap, refl, sym, subst, arith}
 use Rattle.std.proofs.lemmas.Slice.Eq.{bytes_eq-Decides}
 use Rattle.rtl_tree.specs.TreeModule.{Circuit}
+use Rattle.rtl_prep.specs.Conditions.{FileConditions}
 use Rattle.rtl_text.specs.declared.fault.LexFault.TheVariants as lexing
 use Rattle.rtl_prep.specs.declared.fault.PrepFault.TheVariants as preparing
 use Rattle.rtl_parse.specs.declared.fault.ParseFault.TheVariants as parsing
-use Rattle.rtl_front.specs.Fronts.{AreRead, AreSpelled, IsFirst, IsRead, is_memory}
+use Rattle.rtl_front.specs.Fronts.{AreAsked, AreRead, AreSpelled, IsAsked, IsFirst, IsRead, is_memory}
 use Rattle.rtl_front.specs.declared.fault.FileFault.{FileFault}
 use Rattle.rtl_front.specs.declared.fault.FileFault.TheVariants.{Lex, Prepare, Parse}
 use Rattle.desk_places.specs.Places.{place_within}
@@ -17,7 +18,7 @@ use Rattle.source_file.specs.declared.SourceFile.{SourceFile}
 use Rattle.desk_memo.specs.Texts.{IsRefusal}
 use Rattle.source_file.specs.SourceFiles.{texts_in}
 use Rattle.desk_memo.specs.declared.answer.Answer.{Answer}
-use Rattle.desk_memo.specs.Readings.{AreDefined, AreReadings, Defines, IsFirstRefused, IsFound, IsReading, Reading, Refuses, Spells, changed_count, first_refusal, is_as_read, or_later, refusal_of}
+use Rattle.desk_memo.specs.Readings.{AllRead, AreConditions, AreDefined, AreKnown, AreModules, AreReadings, Asks, Defines, IsAskedBy, IsFirstRefused, IsFound, IsKnown, IsReading, Reading, Refuses, Spells, changed_count, first_refusal, is_as_read, or_later, refusal_of}
 
 -- ---- a file that is as it was read
 
@@ -185,15 +186,83 @@ defined_one never file reading circuits others now defined =
     defined_by never now.read (refusal_of reading) circuits others now.found
     (subst (λ (it : SourceFile). Defines it.text others) (sym now.same) defined)
 
-pub one_list : {V : Type 0} → NeverBoth → (files : List SourceFile) (readings : List (Option (Reading V))) (modules others : List (List Circuit)) → AreReadings files readings modules → changed_count files readings ≡ 0 → AreDefined (texts_in files) others → others ≡ modules
-one_list never [] (reading ∷ readings) modules others right same defined = absurd right
-one_list never [] [] (circuits ∷ modules) others right same defined = absurd right
-one_list never [] [] [] [] right same defined = refl
-one_list never [] [] [] (other ∷ others) right same defined = absurd defined
-one_list never (file ∷ files) [] modules others right same defined = absurd right
-one_list never (file ∷ files) (reading ∷ readings) [] others right same defined = absurd right
-one_list never (file ∷ files) (reading ∷ readings) (circuits ∷ modules) [] right same defined = absurd defined
-one_list never (file ∷ files) (reading ∷ readings) (circuits ∷ modules) (other ∷ others) right same defined =
+one_modules : {V : Type 0} → NeverBoth → (files : List SourceFile) (readings : List (Option (Reading V))) (modules others : List (List Circuit)) → AreReadings files readings modules → changed_count files readings ≡ 0 → AreModules (texts_in files) others → others ≡ modules
+one_modules never [] (reading ∷ readings) modules others right same defined = absurd right
+one_modules never [] [] (circuits ∷ modules) others right same defined = absurd right
+one_modules never [] [] [] [] right same defined = refl
+one_modules never [] [] [] (other ∷ others) right same defined = absurd defined
+one_modules never (file ∷ files) [] modules others right same defined = absurd right
+one_modules never (file ∷ files) (reading ∷ readings) [] others right same defined = absurd right
+one_modules never (file ∷ files) (reading ∷ readings) (circuits ∷ modules) [] right same defined = absurd defined
+one_modules never (file ∷ files) (reading ∷ readings) (circuits ∷ modules) (other ∷ others) right same defined =
     let now = unchanged file reading (changed_count files readings) same in
     ap (λ it. it ∷ others) (defined_one never file reading circuits other (read_now file reading circuits now.here right.0) defined.0)
-    ∙ ap (λ it. circuits ∷ it) (one_list never files readings modules others right.1 now.rest defined.1)
+    ∙ ap (λ it. circuits ∷ it) (one_modules never files readings modules others right.1 now.rest defined.1)
+
+-- ---- what conditions ask
+
+asked_now : {V : Type 0} (file : SourceFile) (reading : Option (Reading V)) (circuits : List Circuit) (asked : FileConditions) → is_as_read file reading ≡ true → IsReading file reading circuits → IsKnown reading asked → IsAskedBy file (refusal_of reading) asked
+asked_now file None circuits asked same right known = absurd (cc)
+asked_now file (Some reading) circuits asked same right known =
+    subst (λ (it : SourceFile). IsAskedBy it reading.refusal asked)
+    (same_file reading.file file right.0 ((bytes_eq-Decides reading.file.text file.text).0 same)) known
+
+found_now : {V : Type 0} (file : SourceFile) (reading : Option (Reading V)) (circuits : List Circuit) → IsReadNow file reading circuits → IsFound file (refusal_of reading) circuits
+found_now file reading circuits now =
+    subst (λ (it : SourceFile). IsFound it (refusal_of reading) circuits) now.same now.found
+
+asked_if : {V : Type 0} (file : SourceFile) (refusal rest : Option (Answer V)) (asked : FileConditions) → IsAskedBy file refusal asked → or_later refusal rest ≡ None → IsAsked file.text asked × (rest ≡ None)
+asked_if file None rest asked known none = (known, none)
+asked_if file (Some answer) rest asked known none = absurd (cc)
+
+-- where none is refused, their conditions ask what is kept
+pub all_asked : {V : Type 0} (files : List SourceFile) (readings : List (Option (Reading V))) (modules : List (List Circuit)) (conditions : List FileConditions) → AreReadings files readings modules → AreKnown readings conditions → changed_count files readings ≡ 0 → first_refusal readings ≡ None → AreAsked (texts_in files) conditions
+all_asked [] (reading ∷ readings) modules conditions right known same none = absurd right
+all_asked [] [] modules (asked ∷ conditions) right known same none = absurd known
+all_asked [] [] modules [] right known same none = tt
+all_asked (file ∷ files) [] modules conditions right known same none = absurd right
+all_asked (file ∷ files) (reading ∷ readings) [] conditions right known same none = absurd right
+all_asked (file ∷ files) (reading ∷ readings) (circuits ∷ modules) [] right known same none = absurd known
+all_asked (file ∷ files) (reading ∷ readings) (circuits ∷ modules) (asked ∷ conditions) right known same none =
+    let now = unchanged file reading (changed_count files readings) same in
+    let one = asked_if file (refusal_of reading) (first_refusal readings) asked (asked_now file reading circuits asked now.here right.0 known.0) none in
+    (one.0, all_asked files readings modules conditions right.1 known.1 now.rest one.1)
+
+-- what a text asks is one thing
+abbrev pub OneAsked : Type 0
+OneAsked = (texts : List (List ℕ)) (a b : List FileConditions) → AreAsked texts a → AreAsked texts b → a ≡ b
+
+asks_by : {V : Type 0} → NeverBoth → OneAsked → (file : SourceFile) (refusal : Option (Answer V)) (circuits : List Circuit) (asked other : FileConditions) → IsFound file refusal circuits → IsAskedBy file refusal asked → Asks file.text other → other ≡ asked
+asks_by never once file None circuits asked other found known (inl asks) =
+    let both : other ∷ [] ≡ asked ∷ [] = once (file.text ∷ []) (other ∷ []) (asked ∷ []) (asks.2, tt) (known, tt) in cc
+asks_by never once file None circuits asked other found known (inr none) = absurd (none.1 circuits found.read)
+asks_by never once file (Some answer) circuits asked other found known (inl asks) =
+    absurd (never (file.text ∷ []) (asks.0 ∷ []) 0 found.0.fault found.0.no_memory (asks.1, tt) found.0.faulty)
+asks_by never once file (Some answer) circuits asked other found known (inr none) = none.0 ∙ sym known
+
+one_conditions : {V : Type 0} → NeverBoth → OneAsked → (files : List SourceFile) (readings : List (Option (Reading V))) (modules : List (List Circuit)) (conditions others : List FileConditions) → AreReadings files readings modules → AreKnown readings conditions → changed_count files readings ≡ 0 → AreConditions (texts_in files) others → others ≡ conditions
+one_conditions never once [] (reading ∷ readings) modules conditions others right known same asks = absurd right
+one_conditions never once [] [] modules (asked ∷ conditions) others right known same asks = absurd known
+one_conditions never once [] [] modules [] [] right known same asks = refl
+one_conditions never once [] [] modules [] (other ∷ others) right known same asks = absurd asks
+one_conditions never once (file ∷ files) [] modules conditions others right known same asks = absurd right
+one_conditions never once (file ∷ files) (reading ∷ readings) [] conditions others right known same asks = absurd right
+one_conditions never once (file ∷ files) (reading ∷ readings) (circuits ∷ modules) [] others right known same asks = absurd known
+one_conditions never once (file ∷ files) (reading ∷ readings) (circuits ∷ modules) (asked ∷ conditions) [] right known same asks = absurd asks
+one_conditions never once (file ∷ files) (reading ∷ readings) (circuits ∷ modules) (asked ∷ conditions) (other ∷ others) right known same asks =
+    let now = unchanged file reading (changed_count files readings) same in
+    let here =
+    asks_by never once file (refusal_of reading) circuits asked other
+    (found_now file reading circuits (read_now file reading circuits now.here right.0))
+    (asked_now file reading circuits asked now.here right.0 known.0) asks.0
+    in
+    ap (λ it. it ∷ others) here
+    ∙ ap (λ it. asked ∷ it) (one_conditions never once files readings modules conditions others right.1 known.1 now.rest asks.1)
+
+-- the texts settle all that they define
+pub one_list : {V : Type 0} → NeverBoth → OneAsked → (files : List SourceFile) (readings : List (Option (Reading V))) (modules : List (List Circuit)) (conditions : List FileConditions) (others : AllRead) → AreReadings files readings modules → AreKnown readings conditions → changed_count files readings ≡ 0 → AreDefined (texts_in files) others → others ≡ record { modules = modules; conditions = conditions }
+one_list never once files readings modules conditions others right known same defined =
+    ap (λ (it : List (List Circuit)). let made : AllRead = record { modules = it; conditions = others.conditions } in made)
+    (one_modules never files readings modules others.modules right same defined.modules)
+    ∙ ap (λ (it : List FileConditions). let made : AllRead = record { modules = modules; conditions = it } in made)
+    (one_conditions never once files readings modules conditions others.conditions right known same defined.conditions)

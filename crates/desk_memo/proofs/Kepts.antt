@@ -6,9 +6,9 @@ use Rattle.std.proofs.lemmas.Bool.{and_parts, cases_eq}
 use Rattle.std.proofs.lemmas.List.{get_or-set_other, get_or-set_same, length-map, map-append, map-set, take_all}
 use Rattle.std.proofs.lemmas.List.Folds.{find-append}
 use Rattle.std.proofs.lemmas.Option.{slice_get-map, slice_get_read, slice_get_within}
-use Rattle.rtl_tree.specs.TreeModule.{Circuit}
 use Rattle.source_file.specs.declared.SourceFile.{SourceFile}
 use Rattle.desk_memo.specs.declared.answer.Answer.{Answer}
+use Rattle.desk_memo.specs.Readings.{AllRead}
 use Rattle.desk_memo.specs.Rulings.{Ruling, current_answer, current_of, is_current, is_current_of, is_of, with_ruling}
 use Rattle.desk_memo.specs.Shown.{IsPlaceOf, ruling_of}
 use Rattle.desk_memo.specs.declared.kept.Kept.{Kept}
@@ -69,29 +69,29 @@ moved {V} test kept lent top bytes place same_kept same_top found =
     subst (λ (it : List (Kept V)). IsFoundAt test it top place) same_kept
     (subst (λ (it : List ℕ). IsFoundAt test lent it place) same_top found)
 
-pub ruling_found : {V : Type 0} (files : List SourceFile) (modules : List (List Circuit)) (kept lent : List (Kept V)) (more : List (Ruling V)) (top bytes : List ℕ) (place : ℕ) (one : Kept V) → lent ≡ kept → bytes ≡ top → IsPlaceOf (is_current_of files modules bytes) (map ruling_of lent) (Some place) → one ≡ get_or kept place one → current_of files modules top (map ruling_of kept ++ more) ≡ Some (ruling_of one)
-ruling_found files modules kept lent more top bytes place one same_kept same_top found is =
-    found_is (is_current_of files modules top) kept more place one
-    (moved (is_current_of files modules) kept lent top bytes (Some place) same_kept same_top found) is
+pub ruling_found : {V : Type 0} (files : List SourceFile) (all : AllRead) (kept lent : List (Kept V)) (more : List (Ruling V)) (top bytes : List ℕ) (place : ℕ) (one : Kept V) → lent ≡ kept → bytes ≡ top → IsPlaceOf (is_current_of files all bytes) (map ruling_of lent) (Some place) → one ≡ get_or kept place one → current_of files all top (map ruling_of kept ++ more) ≡ Some (ruling_of one)
+ruling_found files all kept lent more top bytes place one same_kept same_top found is =
+    found_is (is_current_of files all top) kept more place one
+    (moved (is_current_of files all) kept lent top bytes (Some place) same_kept same_top found) is
 
-pub answer_found : {V : Type 0} (files : List SourceFile) (modules : List (List Circuit)) (kept lent : List (Kept V)) (more : List (Ruling V)) (top bytes : List ℕ) (place : ℕ) (one : Kept V) (answer : Answer V) → lent ≡ kept → bytes ≡ top → IsPlaceOf (is_current_of files modules bytes) (map ruling_of lent) (Some place) → one ≡ get_or kept place one → answer ≡ one.answer.value → Some answer ≡ current_answer files modules top (map ruling_of kept ++ more)
-answer_found {V} files modules kept lent more top bytes place one answer same_kept same_top found is says =
+pub answer_found : {V : Type 0} (files : List SourceFile) (all : AllRead) (kept lent : List (Kept V)) (more : List (Ruling V)) (top bytes : List ℕ) (place : ℕ) (one : Kept V) (answer : Answer V) → lent ≡ kept → bytes ≡ top → IsPlaceOf (is_current_of files all bytes) (map ruling_of lent) (Some place) → one ≡ get_or kept place one → answer ≡ one.answer.value → Some answer ≡ current_answer files all top (map ruling_of kept ++ more)
+answer_found {V} files all kept lent more top bytes place one answer same_kept same_top found is says =
     ap (λ (it : Answer V). Some it) says
-    ∙ sym (ap (option_map (λ (it : Ruling V). it.answer)) (ruling_found files modules kept lent more top bytes place one same_kept same_top found is))
+    ∙ sym (ap (option_map (λ (it : Ruling V). it.answer)) (ruling_found files all kept lent more top bytes place one same_kept same_top found is))
 
-pub none_found : {V : Type 0} (files : List SourceFile) (modules : List (List Circuit)) (kept lent : List (Kept V)) (more : List (Ruling V)) (top bytes : List ℕ) → lent ≡ kept → bytes ≡ top → IsPlaceOf (is_current_of files modules bytes) (map ruling_of lent) None → current_of files modules top (map ruling_of kept ++ more) ≡ current_of files modules top more
-none_found files modules kept lent more top bytes same_kept same_top found =
-    none_among (is_current_of files modules top) (map ruling_of kept) more
-    (moved (is_current_of files modules) kept lent top bytes None same_kept same_top found)
+pub none_found : {V : Type 0} (files : List SourceFile) (all : AllRead) (kept lent : List (Kept V)) (more : List (Ruling V)) (top bytes : List ℕ) → lent ≡ kept → bytes ≡ top → IsPlaceOf (is_current_of files all bytes) (map ruling_of lent) None → current_of files all top (map ruling_of kept ++ more) ≡ current_of files all top more
+none_found files all kept lent more top bytes same_kept same_top found =
+    none_among (is_current_of files all top) (map ruling_of kept) more
+    (moved (is_current_of files all) kept lent top bytes None same_kept same_top found)
 
 -- the one that was found holds
-pub found_holds : {V : Type 0} (files : List SourceFile) (modules : List (List Circuit)) (kept lent : List (Kept V)) (top bytes : List ℕ) (place : ℕ) (one : Kept V) → lent ≡ kept → bytes ≡ top → IsPlaceOf (is_current_of files modules bytes) (map ruling_of lent) (Some place) → one ≡ get_or kept place one → is_current files modules (ruling_of one) ≡ true
-found_holds {V} files modules kept lent top bytes place one same_kept same_top found is =
-    let at = moved (is_current_of files modules) kept lent top bytes (Some place) same_kept same_top found in
-    let within = place_within (is_current_of files modules top) kept place at in
+pub found_holds : {V : Type 0} (files : List SourceFile) (all : AllRead) (kept lent : List (Kept V)) (top bytes : List ℕ) (place : ℕ) (one : Kept V) → lent ≡ kept → bytes ≡ top → IsPlaceOf (is_current_of files all bytes) (map ruling_of lent) (Some place) → one ≡ get_or kept place one → is_current files all (ruling_of one) ≡ true
+found_holds {V} files all kept lent top bytes place one same_kept same_top found is =
+    let at = moved (is_current_of files all) kept lent top bytes (Some place) same_kept same_top found in
+    let within = place_within (is_current_of files all top) kept place at in
     let same : found.0 ≡ ruling_of one = let both = sym (ruling_at kept place one within is) ∙ at.1 in cc in
-    subst (λ (it : Ruling V). is_current files modules it ≡ true) same
-    (and_parts (is_of bytes found.0) (is_current files modules found.0) found.2).1
+    subst (λ (it : Ruling V). is_current files all it ≡ true) same
+    (and_parts (is_of bytes found.0) (is_current files all found.0) found.2).1
 
 pub kept_at : {V : Type 0} (kept : Kept V) (items lent : List (Kept V)) (bytes : List ℕ) (place : ℕ) → lent ≡ items → bytes ≡ kept.top → IsPlaceOf (is_of bytes) (map ruling_of lent) (Some place) → map ruling_of (slice_set items place kept) ≡ with_ruling (ruling_of kept) (map ruling_of items)
 kept_at kept items lent bytes place same_kept same_top found =

@@ -5,7 +5,9 @@ pub mod Places
 mod ReadingsExample
 pub mod Exchanged
 pub mod Found
+pub mod Known
 pub mod MadeReadings
 pub mod Placed
 pub mod Put
 pub mod Read
+pub mod Told

@@ -1,10 +1,13 @@
 -- Readings of two files.
 use Rattle.std.proofs.Common.{◌≡◌, ℕ, List, [], ◌∷◌, Option, None, Some, refl, codes}
 use Rattle.rtl_tree.specs.TreeModule.{Circuit}
+use Rattle.rtl_prep.specs.Conditions.{FileConditions}
+use Rattle.rtl_front.specs.Fronts.{IsAsked}
+use Rattle.check_conditions.specs.Foreign.{nothing_asked}
 use Rattle.source_file.specs.declared.SourceFile.{SourceFile}
 use Rattle.desk_memo.specs.declared.answer.Answer.{Answer}
 use Rattle.desk_memo.specs.Exchanges.{put_in}
-use Rattle.desk_memo.specs.Readings.{AreReadings, Reading, Spells, changed_count, file_at, first_refusal, with_blank, without}
+use Rattle.desk_memo.specs.Readings.{AreKnown, AreReadings, Reading, Spells, changed_count, file_at, first_refusal, with_blank, without}
 
 abbrev file : List ℕ → List ℕ → SourceFile
 file its_name its_text = record { name = its_name; text = its_text }
@@ -56,6 +59,11 @@ a_file_as_it_was_read V = refl
 -- a new file has no modules yet, and one whose text has changed has those of the text that was read
 modules_are_of_the_text_that_was_read : (V : Type 0) (circuits : List Circuit) → Spells (codes "3") circuits → AreReadings {V = V} both (None ∷ read (file (codes "c.v") (codes "3")) None ∷ []) ([] ∷ circuits ∷ [])
 modules_are_of_the_text_that_was_read V circuits spelled = (refl, ((refl, spelled), tt))
+
+-- a new file asks nothing yet, nor does one that was refused, and one whose text has changed asks what
+-- the text asked that was read
+conditions_are_of_the_text_that_was_read : {V : Type 0} (answer : Answer V) (asked : FileConditions) → IsAsked (codes "3") asked → AreKnown (None ∷ read (file (codes "b.v") (codes "4")) (Some answer) ∷ read (file (codes "c.v") (codes "3")) None ∷ []) (nothing_asked ∷ nothing_asked ∷ asked ∷ [])
+conditions_are_of_the_text_that_was_read answer asked is = (refl, (refl, (is, tt)))
 
 -- ---- exchanges
 

@@ -2,7 +2,9 @@
 -- Worked examples: proofs/ReadingsExample.antt.
 use Rattle.std.specs.Prelude.{◌≡◌, ℕ, ◌+◌, ◌⊎◌, ⊤, Bool, false, bytes_eq, if◌then◌else◌, insert, List, [], ◌∷◌, ◌++◌, Option, None, Some, option_and_then, option_map, slice_get}
 use Rattle.rtl_tree.specs.TreeModule.{Circuit}
-use Rattle.rtl_front.specs.Fronts.{IsFaulty, IsFirstFaulty, IsRead, is_memory}
+use Rattle.rtl_prep.specs.Conditions.{FileConditions}
+use Rattle.check_conditions.specs.Foreign.{nothing_asked}
+use Rattle.rtl_front.specs.Fronts.{IsAsked, IsFaulty, IsFirstFaulty, IsRead, is_memory}
 use Rattle.rtl_front.specs.declared.fault.FileFault.{FileFault}
 use Rattle.rtl_front.specs.declared.fault.SourceFault.TheVariants as source
 use Rattle.desk_refusals.specs.Refusals.{source_line}
@@ -16,6 +18,11 @@ use Rattle.desk_memo.specs.declared.answer.Answer.{Answer}
 pub record Reading (V : Type 0) : Type 0 where
   pub file : SourceFile
   pub refusal : Option (Answer V)
+
+-- of each file its modules, and what its conditions ask, with the macros that it has at its end
+pub record AllRead : Type 0 where
+  pub modules : List (List Circuit)
+  pub conditions : List FileConditions
 
 -- the file with a number, as it was read last
 abbrev pub file_at : {V : Type 0} → List (Option (Reading V)) → ℕ → Option SourceFile
@@ -83,15 +90,53 @@ AreReadings (file ∷ files) (reading ∷ readings) (circuits ∷ modules) =
     IsReading file reading circuits × AreReadings files readings modules
 AreReadings _ _ _ = ⊥
 
+-- what the conditions of a file ask that is as it was found: what its text asks, and nothing where it
+-- spells no modules
+abbrev pub IsAskedBy : {V : Type 0} → SourceFile → Option (Answer V) → FileConditions → Type 0
+IsAskedBy file None conditions = IsAsked file.text conditions
+IsAskedBy file (Some answer) conditions = conditions ≡ nothing_asked
+
+-- the conditions that are kept of a file are those of the text that was read last; nothing is asked
+-- where none was read
+abbrev pub IsKnown : {V : Type 0} → Option (Reading V) → FileConditions → Type 0
+IsKnown None conditions = conditions ≡ nothing_asked
+IsKnown (Some reading) conditions = IsAskedBy reading.file reading.refusal conditions
+
+-- the readings of files, with what their conditions ask, file by file
+abbrev pub AreKnown : {V : Type 0} → List (Option (Reading V)) → List FileConditions → Type 0
+AreKnown [] [] = ⊤
+AreKnown (reading ∷ readings) (asked ∷ conditions) =
+    IsKnown reading asked × AreKnown readings conditions
+AreKnown _ _ = ⊥
+
+-- ---- what texts define
+
 -- the modules that a text defines: those that it spells, and none where it spells none
 abbrev pub Defines : List ℕ → List Circuit → Type 0
 Defines text circuits =
     IsRead text circuits ⊎ ((circuits ≡ []) × ((others : List Circuit) → IsRead text others → ⊥))
 
-abbrev pub AreDefined : List (List ℕ) → List (List Circuit) → Type 0
-AreDefined [] [] = ⊤
-AreDefined (text ∷ texts) (circuits ∷ modules) = Defines text circuits × AreDefined texts modules
-AreDefined _ _ = ⊥
+abbrev pub AreModules : List (List ℕ) → List (List Circuit) → Type 0
+AreModules [] [] = ⊤
+AreModules (text ∷ texts) (circuits ∷ modules) = Defines text circuits × AreModules texts modules
+AreModules _ _ = ⊥
+
+-- what the conditions of a text ask that spells modules; one that spells none asks nothing, and has no
+-- macros
+abbrev pub Asks : List ℕ → FileConditions → Type 0
+Asks text conditions =
+    ((circuits : List Circuit) × IsRead text circuits × IsAsked text conditions)
+    ⊎ ((conditions ≡ nothing_asked) × ((others : List Circuit) → IsRead text others → ⊥))
+
+abbrev pub AreConditions : List (List ℕ) → List FileConditions → Type 0
+AreConditions [] [] = ⊤
+AreConditions (text ∷ texts) (asked ∷ conditions) = Asks text asked × AreConditions texts conditions
+AreConditions _ _ = ⊥
+
+-- what texts define: of each its modules, and what its conditions ask
+pub record AreDefined (texts : List (List ℕ)) (all : AllRead) : Type 0 where
+  pub modules : AreModules texts all.modules
+  pub conditions : AreConditions texts all.conditions
 
 -- the first of files that spells no modules is refused, and the answer is its line
 pub record IsFirstRefused {V : Type 0} (files : List SourceFile) (answer : Answer V) : Type 0 where

@@ -1,9 +1,11 @@
 -- Answers that are kept beside what they looked up, and when they still hold.
 -- Worked examples: proofs/Example.antt.
-use Rattle.std.specs.Prelude.{ℕ, ◌==◌, ◌&&◌, not, Bool, true, false, bytes_eq, find, if◌then◌else◌, List, [], ◌∷◌, Option, None, Some, filter, slice_get}
+use Rattle.std.specs.Prelude.{ℕ, ◌==◌, ◌&&◌, not, Bool, true, false, bytes_eq, find, if◌then◌else◌, List, [], ◌∷◌, Option, None, Some, filter, position, slice_get}
 use Rattle.std.specs.List.{list_all, list_any}
 use Rattle.std.specs.Option.{option_map}
 use Rattle.rtl_tree.specs.TreeModule.{Circuit}
+use Rattle.rtl_prep.specs.Conditions.{FileConditions}
+use Rattle.check_conditions.specs.Foreign.{elsewhere_in}
 use Rattle.elab_lookups.specs.elab_links.Modules.{all_placed, found}
 use Rattle.elab_lookups.specs.elab_links.declared.module_set.Lookup.{Lookup}
 use Rattle.elab_lookups.specs.elab_links.declared.module_set.Lookup.TheVariants.{Missing, Found, Twice}
@@ -11,14 +13,16 @@ use Rattle.elab_lookups.specs.declared.look_up.LookUp.{LookUp}
 use Rattle.desk_files.specs.Sources.{is_named}
 use Rattle.source_file.specs.declared.SourceFile.{SourceFile}
 use Rattle.source_file.specs.SourceFiles.{texts_in}
+use Rattle.desk_memo.specs.Readings.{AllRead}
 use Rattle.desk_memo.specs.declared.answer.Answer.{Answer}
 
--- an answer with its top, the names that it looked up, whose places number its files among themselves, and the files that it
--- used, in the order of their names
+-- an answer with its top, the names that it looked up, whose places number its files among themselves, the files that it used, in
+-- the order of their names, and of each of these for which of the names that its conditions ask for another file had a macro
 pub record Ruling (V : Type 0) : Type 0 where
   pub top : List ℕ
   pub look_ups : List LookUp
   pub used : List SourceFile
+  pub elsewhere : List (List Bool)
   pub answer : Answer V
 
 -- ---- when it still holds
@@ -47,27 +51,52 @@ is_same_text (Some file) used = bytes_eq file.text used.text
 abbrev pub is_there : List SourceFile → SourceFile → Bool
 is_there files used = is_same_text (find (is_named used.name) files) used
 
--- each file that was used is there, and each name that was looked up means what it meant
-abbrev pub is_current : {V : Type 0} → List SourceFile → List (List Circuit) → Ruling V → Bool
-is_current files modules ruling =
+-- the same Booleans
+abbrev pub is_same_list : List Bool → List Bool → Bool
+is_same_list [] [] = true
+is_same_list (first ∷ others) (other ∷ more) =
+    (if first then other else not other) && is_same_list others more
+is_same_list _ _ = false
+
+abbrev pub is_told_at : List FileConditions → Option ℕ → List Bool → Bool
+is_told_at conditions None was = false
+is_told_at conditions (Some number) was = is_same_list (elsewhere_in conditions number) was
+
+-- the conditions of the file of its name are told the same: of the names that they ask for, other files
+-- have those as macros which they had
+abbrev pub is_told : List SourceFile → List FileConditions → SourceFile → List Bool → Bool
+is_told files conditions used was =
+    is_told_at conditions (position (is_named used.name) files) was
+
+-- file by file
+abbrev pub are_told : List SourceFile → List FileConditions → List SourceFile → List (List Bool) → Bool
+are_told files conditions [] [] = true
+are_told files conditions (file ∷ used) (was ∷ elsewhere) =
+    is_told files conditions file was && are_told files conditions used elsewhere
+are_told files conditions _ _ = false
+
+-- each file that was used is there, its conditions are told the same of other files, and each name that
+-- was looked up means what it meant
+abbrev pub is_current : {V : Type 0} → List SourceFile → AllRead → Ruling V → Bool
+is_current files all ruling =
     list_all (is_there files) ruling.used
-    && list_all (is_meant files modules ruling.used) ruling.look_ups
+    && are_told files all.conditions ruling.used ruling.elsewhere
+    && list_all (is_meant files all.modules ruling.used) ruling.look_ups
 
 abbrev pub is_of : {V : Type 0} → List ℕ → Ruling V → Bool
 is_of top ruling = bytes_eq ruling.top top
 
-abbrev pub is_current_of : {V : Type 0} → List SourceFile → List (List Circuit) → List ℕ → Ruling V → Bool
-is_current_of files modules top ruling = is_of top ruling && is_current files modules ruling
+abbrev pub is_current_of : {V : Type 0} → List SourceFile → AllRead → List ℕ → Ruling V → Bool
+is_current_of files all top ruling = is_of top ruling && is_current files all ruling
 
 -- the ruling of a top that still holds
-abbrev pub current_of : {V : Type 0} → List SourceFile → List (List Circuit) → List ℕ → List (Ruling V) → Option (Ruling V)
-current_of files modules top rulings =
-    find (is_current_of files modules top) rulings
+abbrev pub current_of : {V : Type 0} → List SourceFile → AllRead → List ℕ → List (Ruling V) → Option (Ruling V)
+current_of files all top rulings = find (is_current_of files all top) rulings
 
 -- its answer
-abbrev pub current_answer : {V : Type 0} → List SourceFile → List (List Circuit) → List ℕ → List (Ruling V) → Option (Answer V)
-current_answer {V} files modules top rulings =
-    option_map (λ (ruling : Ruling V). ruling.answer) (current_of files modules top rulings)
+abbrev pub current_answer : {V : Type 0} → List SourceFile → AllRead → List ℕ → List (Ruling V) → Option (Answer V)
+current_answer {V} files all top rulings =
+    option_map (λ (ruling : Ruling V). ruling.answer) (current_of files all top rulings)
 
 -- the rulings with this one: in place of the first of its top, or behind all
 abbrev pub with_ruling : {V : Type 0} → Ruling V → List (Ruling V) → List (Ruling V)

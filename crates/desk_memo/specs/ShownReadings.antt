@@ -4,10 +4,11 @@ use Rattle.std.specs.Prelude.{◌≡◌, ◌≤◌, ℕ, ◌+◌, ◌-◌, min, 
 use Rattle.std.specs.declared.alloc.Global.{Global}
 use Rattle.rtl_tree.specs.TreeModule.{Circuit, circuit}
 use Rattle.rtl_tree.specs.declared.tree.modules.Module.{Module}
+use Rattle.rtl_prep.specs.Conditions.{FileConditions}
 use Rattle.elab_lookups.specs.elab_links.Modules.{circuits_of}
 use Rattle.source_file.specs.declared.SourceFile.{SourceFile}
 use Rattle.desk_memo.specs.Exchanges.{put_in}
-use Rattle.desk_memo.specs.Readings.{AreReadings, IsFound, Reading, changed_count, is_as_read}
+use Rattle.desk_memo.specs.Readings.{AllRead, AreKnown, AreReadings, IsFound, IsKnown, Reading, changed_count, is_as_read}
 use Rattle.desk_memo.specs.declared.aside.Aside.{Aside}
 use Rattle.desk_memo.specs.declared.reading.Reading.{Reading as Held}
 use Rattle.desk_memo.specs.declared.readings.Readings.{Readings as Kept}
@@ -39,6 +40,14 @@ held_modules_of kept = kept.modules.items
 abbrev pub modules_of : {V : Type 0} → Kept V → List (List Circuit)
 modules_of kept = circuits_of (held_modules_of kept)
 
+-- of each file what its conditions ask, in the order of the files
+abbrev pub conditions_of : {V : Type 0} → Kept V → List FileConditions
+conditions_of kept = kept.conditions.items
+
+-- all that was read
+abbrev pub read_of : {V : Type 0} → Kept V → AllRead
+read_of kept = record { modules = modules_of kept; conditions = conditions_of kept }
+
 -- of each file the flag, in the order of the files
 abbrev pub flags_of : {V : Type 0} → Kept V → List Bool
 flags_of kept = flags_in kept.readings.items
@@ -47,7 +56,8 @@ flags_of kept = flags_in kept.readings.items
 abbrev pub room_of : {V : Type 0} → Kept V → ℕ
 room_of kept =
     min (vec_capacity kept.readings - vec_len kept.readings)
-    (vec_capacity kept.modules - vec_len kept.modules)
+    (min (vec_capacity kept.modules - vec_len kept.modules)
+    (vec_capacity kept.conditions - vec_len kept.conditions))
 
 -- ---- flags
 
@@ -78,6 +88,9 @@ held_modules_by aside kept = put_in aside.modules.items kept.modules.items
 abbrev pub modules_by : {V : Type 0} → Aside V → Kept V → List (List Circuit)
 modules_by aside kept = circuits_of (held_modules_by aside kept)
 
+abbrev pub conditions_by : {V : Type 0} → Aside V → Kept V → List FileConditions
+conditions_by aside kept = put_in aside.conditions.items kept.conditions.items
+
 abbrev pub flags_by : {V : Type 0} → Aside V → Kept V → List Bool
 flags_by aside kept = flags_in (put_in aside.readings.items kept.readings.items)
 
@@ -96,6 +109,7 @@ AreSame _ _ _ _ _ = ⊥
 -- after an exchange every file is as it was read last, and nothing else has changed
 pub record IsBeside {V : Type 0} (files : List SourceFile) (kept : Kept V) (aside : Aside V) : Type 0 where
   pub right : AreReadings files (readings_by aside kept) (modules_by aside kept)
+  pub known : AreKnown (readings_by aside kept) (conditions_by aside kept)
   pub flagged : flags_by aside kept ≡ are_as_read files (readings_by aside kept)
   pub unchanged : changed_count files (readings_by aside kept) ≡ 0
   pub same : AreSame (are_as_read files (readings_of kept)) (readings_of kept) (readings_by aside kept) (modules_of kept) (modules_by aside kept)
@@ -123,6 +137,18 @@ AreMade [] [] [] [] = ⊤
 AreMade (file ∷ files) (flag ∷ flags) (held ∷ helds) (modules ∷ others) =
     IsMade file flag held modules × AreMade files flags helds others
 AreMade _ _ _ _ = ⊥
+
+-- what is made beside a file goes with what its conditions ask
+abbrev pub IsMadeKnown : {V : Type 0} → Option (Option (Held V)) → Option FileConditions → Type 0
+IsMadeKnown None None = ⊤
+IsMadeKnown (Some held) (Some conditions) = IsKnown (option_map reading_of held) conditions
+IsMadeKnown _ _ = ⊥
+
+abbrev pub AreMadeKnown : {V : Type 0} → List (Option (Option (Held V))) → List (Option FileConditions) → Type 0
+AreMadeKnown [] [] = ⊤
+AreMadeKnown (held ∷ helds) (asked ∷ conditions) =
+    IsMadeKnown held asked × AreMadeKnown helds conditions
+AreMadeKnown _ _ = ⊥
 
 -- ---- a file that comes
 

@@ -1,14 +1,17 @@
-// Whether what was looked up still means the same.
-ghost use Rattle.std.specs.Prelude.{◌≡◌, slice_get};
+// Whether what was looked up still means the same, and the conditions are told the same.
+ghost use Rattle.std.specs.Prelude.{◌≡◌, position, slice_get};
 ghost use Rattle.std.specs.List.{list_all};
 ghost use Rattle.elab_lookups.specs.elab_links.Modules.{circuits_of};
-ghost use Rattle.desk_memo.specs.Rulings.{is_meant, is_same_lookup, is_same_name, is_there};
-ghost use Rattle.desk_memo.specs.Shown.{all_used};
+ghost use Rattle.desk_files.specs.Sources.{is_named};
+ghost use Rattle.desk_memo.specs.Rulings.{are_told, is_meant, is_same_lookup, is_same_name, is_there, is_told};
+ghost use Rattle.desk_memo.specs.Shown.{all_used, lists_in};
 
 use crate::used::Used;
-use desk_files::file_named;
+use check_conditions::is_still;
+use desk_files::{file_named, is_named};
 use elab_lookups::elab_links::module_set::Lookup;
 use elab_lookups::{LookUp, resolve};
+use rtl_front::Conditions;
 use rtl_tree::tree::modules::Module;
 use source_file::SourceFile;
 
@@ -76,4 +79,43 @@ pub(crate) fn are_there(files: &[SourceFile], used: &[Used]) -> bool
     ensures { result ≡ list_all (is_there files.now) (all_used used.now) }
 {
     all_there(files, used)
+}
+
+// The number of the file of a name.
+fn number_named(files: &[SourceFile], name: &[u8]) -> Option<usize>
+    ensures { result ≡ position (is_named name.now) files.now }
+{
+    files.iter().position(|file| is_named(file, name))
+}
+
+// Whether the conditions of the file of a name are told the same: of the names that they ask for, other
+// files have those as macros which they had.
+fn is_told(files: &[SourceFile], conditions: &[Conditions], used: &SourceFile, was: &[bool]) -> bool
+    ensures { result ≡ is_told files.now conditions.now used.now was.now }
+{
+    match number_named(files, used.name.as_bytes()) {
+        Some(number) => is_still(conditions, number, was),
+        None => false,
+    }
+}
+
+// The same of each file.
+pub(crate) fn are_told(
+    files: &[SourceFile],
+    conditions: &[Conditions],
+    used: &[Used],
+    elsewhere: &[Vec<bool>],
+) -> bool
+    ensures { result
+        ≡ are_told files.now conditions.now (all_used used.now) (lists_in elsewhere.now) }
+{
+    if used.len() != elsewhere.len() {
+        return false;
+    }
+    for (place, used) in used.iter().enumerate() {
+        if !is_told(files, conditions, &used.file, &elsewhere[place]) {
+            return false;
+        }
+    }
+    true
 }

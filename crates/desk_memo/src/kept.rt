@@ -1,31 +1,30 @@
 // A ruling that is kept.
 ghost use Rattle.std.specs.Prelude.{◌≡◌, IfOk};
 ghost use Rattle.std.specs.List.{list_any};
-ghost use Rattle.elab_lookups.specs.elab_links.Modules.{circuits_of};
 ghost use Rattle.desk_memo.specs.Readings.{file_at};
-ghost use Rattle.desk_memo.specs.ShownReadings.{readings_of};
+ghost use Rattle.desk_memo.specs.ShownReadings.{read_of, readings_of};
 ghost use Rattle.desk_memo.specs.Rulings.{is_absent, is_current, is_of, is_own_module};
-ghost use Rattle.desk_memo.specs.Shown.{IsChecked, ruling_of, used_among};
+ghost use Rattle.desk_memo.specs.Shown.{IsChecked, lists_in, ruling_of, used_among};
 
 use crate::answer::Answer;
-use crate::current::{are_meant, are_there};
+use crate::current::{are_meant, are_there, are_told};
 use crate::readings::Readings;
 use crate::used::{Used, used_files};
 use elab_lookups::LookUp;
 use elab_lookups::elab_links::module_set::Lookup;
 use rtl_tree::memory::Memory;
 use rtl_tree::text::Text;
-use rtl_tree::tree::modules::Module;
 use source_file::SourceFile;
 use std::alloc::Global;
 
-/// An answer with its top, what it looked up, the files that it used, and whether it is known to
-/// hold.
+/// An answer with its top, what it looked up, the files that it used, for which of the names that
+/// the conditions of each ask for another file had a macro, and whether it is known to hold.
 #[derive(Drop)]
 pub struct Kept<V> {
     pub(crate) top: Text,
     look_ups: Vec<LookUp>,
     used: Vec<Used>,
+    elsewhere: Vec<Vec<bool>>,
     pub(crate) answer: Box<Answer<V>>,
     pub(crate) is_checked: bool,
 }
@@ -41,7 +40,8 @@ fn has_own_module(top: &[u8], look_ups: &[LookUp]) -> bool
 
 impl<V: Drop> Kept<V> {
     /// An answer for a top that is known to hold, with what the top looked up and the files that it
-    /// used: of those that were read, the ones with these numbers.
+    /// used: of those that were read, the ones with these numbers. Beside each of them stands for
+    /// which of the names that its conditions ask for another file has a macro.
     ///
     /// # Errors
     ///
@@ -52,12 +52,15 @@ impl<V: Drop> Kept<V> {
         top: &Text,
         look_ups: Vec<LookUp>,
         numbers: &[usize],
+        elsewhere: Vec<Vec<bool>>,
         answer: Box<Answer<V>>,
     ) -> Result<Kept<V>, Memory>
         ensures top { IfOk result (λ kept. (ruling_of kept).top ≡ top.now) }
         ensures look_ups { IfOk result (λ kept. (ruling_of kept).look_ups ≡ look_ups.items) }
         ensures used { IfOk result (λ kept. (ruling_of kept).used
             ≡ used_among (file_at (readings_of readings.now)) numbers.now) }
+        ensures elsewhere { IfOk result (λ kept. (ruling_of kept).elsewhere
+            ≡ lists_in elsewhere.items) }
         ensures answer { IfOk result (λ kept. (ruling_of kept).answer ≡ answer.value) }
     {
         let used = used_files(alloc, readings, numbers)?;
@@ -66,6 +69,7 @@ impl<V: Drop> Kept<V> {
             top,
             look_ups,
             used,
+            elsewhere,
             answer,
             is_checked: true,
         })
@@ -84,13 +88,15 @@ impl<V: Drop> Kept<V> {
         self.top.as_bytes() == top
     }
 
-    // Whether it holds among files and their modules. Where that is known, nothing is compared; and
-    // the files come first, as going through all modules for each name is dear.
-    pub(crate) fn is_current(&self, files: &[SourceFile], modules: &[Vec<Module>]) -> bool
-        requires { IsChecked files.now (circuits_of modules.now) self.now }
-        ensures { result ≡ is_current files.now (circuits_of modules.now) (ruling_of self.now) }
+    // Whether it holds among files, by what was read of them. Where that is known, nothing is
+    // compared; and the files come first, as going through all modules for each name is dear.
+    pub(crate) fn is_current(&self, files: &[SourceFile], readings: &Readings<V>) -> bool
+        requires { IsChecked files.now (read_of readings.now) self.now }
+        ensures { result ≡ is_current files.now (read_of readings.now) (ruling_of self.now) }
     {
         self.is_checked
-            || are_there(files, &self.used) && are_meant(files, modules, &self.used, &self.look_ups)
+            || are_there(files, &self.used)
+                && are_told(files, readings.conditions(), &self.used, &self.elsewhere)
+                && are_meant(files, readings.modules(), &self.used, &self.look_ups)
     }
 }

@@ -19,3 +19,6 @@ pub use aside::Aside;
 pub use kept::Kept;
 pub use memo::Memo;
 pub use readings::Readings;
+
+// Passed on to the crates above.
+pub use check_conditions;

@@ -2,19 +2,19 @@
 ghost use Rattle.std.specs.Prelude.{◌≡◌, ◌++◌, ◌∷◌, [], if◌then◌else◌, is_some, List};
 ghost use Rattle.std.specs.Prelude.{map, None, OnErr, OnOk, option_copied, option_to_list, Some};
 ghost use Rattle.std.specs.List.{Contains};
-ghost use Rattle.rtl_tree.specs.TreeModule.{Circuit};
-ghost use Rattle.elab_lookups.specs.elab_links.Modules.{circuits_of};
 ghost use Rattle.source_file.specs.declared.SourceFile.{SourceFile};
+ghost use Rattle.desk_memo.specs.Readings.{AllRead};
 ghost use Rattle.desk_memo.specs.Rulings.{Ruling, current_answer, current_of, is_absent};
 ghost use Rattle.desk_memo.specs.Rulings.{is_current_of, is_of, others_of, with_ruling};
 ghost use Rattle.desk_memo.specs.Shown.{AreAllChecked, AreChecked, IsChecked, IsPlaceOf};
 ghost use Rattle.desk_memo.specs.Shown.{absent_of, all_of, ruling_of, rulings_of};
+ghost use Rattle.desk_memo.specs.ShownReadings.{read_of};
 
 use crate::answer::Answer;
 use crate::kept::Kept;
+use crate::readings::Readings;
 use rtl_tree::memory::Memory;
 use rtl_tree::text::Text;
-use rtl_tree::tree::modules::Module;
 use source_file::SourceFile;
 use std::alloc::Global;
 
@@ -39,19 +39,19 @@ fn place_of<V: Drop>(rulings: &[Kept<V>], top: &[u8]) -> Option<usize>
     None
 }
 
-// The place of the ruling of a top that holds among files and their modules.
+// The place of the ruling of a top that holds among files, by what was read of them.
 fn current_place<V: Drop>(
     rulings: &[Kept<V>],
     files: &[SourceFile],
-    modules: &[Vec<Module>],
+    readings: &Readings<V>,
     top: &[u8],
 ) -> Option<usize>
-    requires { AreAllChecked files.now (circuits_of modules.now) rulings.now }
-    ensures { IsPlaceOf (is_current_of files.now (circuits_of modules.now) top.now)
+    requires { AreAllChecked files.now (read_of readings.now) rulings.now }
+    ensures { IsPlaceOf (is_current_of files.now (read_of readings.now) top.now)
         (map ruling_of rulings.now) result }
 {
     for (place, kept) in rulings.iter().enumerate() {
-        if kept.is_of(top) && kept.is_current(files, modules) {
+        if kept.is_of(top) && kept.is_current(files, readings) {
             return Some(place);
         }
     }
@@ -64,9 +64,9 @@ fn keep_in<V: Drop>(rulings: &mut Vec<Kept<V>>, kept: Kept<V>) -> Result<(), Mem
         ≡ with_ruling (ruling_of kept) (map ruling_of rulings.old.items)) }
     ensures same { OnErr result (map ruling_of rulings.new.items
         ≡ map ruling_of rulings.old.items) }
-    ensures checked { (files : List SourceFile) (modules : List (List Circuit))
-        → IsChecked files modules kept → AreAllChecked files modules rulings.old.items
-        → AreAllChecked files modules rulings.new.items }
+    ensures checked { (files : List SourceFile) (all : AllRead)
+        → IsChecked files all kept → AreAllChecked files all rulings.old.items
+        → AreAllChecked files all rulings.new.items }
 {
     match place_of(rulings, kept.top.as_bytes()) {
         Some(place) => {
@@ -83,8 +83,8 @@ fn keep_in<V: Drop>(rulings: &mut Vec<Kept<V>>, kept: Kept<V>) -> Result<(), Mem
 // None of the rulings is known to hold.
 fn doubt_all<V: Drop>(rulings: &mut [Kept<V>])
     ensures rulings { map ruling_of rulings.new ≡ map ruling_of rulings.old }
-    ensures checked { (files : List SourceFile) (modules : List (List Circuit))
-        → AreAllChecked files modules rulings.new }
+    ensures checked { (files : List SourceFile) (all : AllRead)
+        → AreAllChecked files all rulings.new }
 {
     for place in 0..rulings.len() {
         rulings[place].is_checked = false;
@@ -96,8 +96,8 @@ impl<V: Drop> Memo<V> {
     pub fn new(alloc: Global) -> Memo<V>
         ensures rulings { rulings_of result ≡ [] }
         ensures absent { absent_of result ≡ None }
-        ensures checked { (files : List SourceFile) (modules : List (List Circuit))
-            → AreChecked files modules result }
+        ensures checked { (files : List SourceFile) (all : AllRead)
+            → AreChecked files all result }
     {
         Memo {
             rulings: Vec::new(alloc),
@@ -109,8 +109,8 @@ impl<V: Drop> Memo<V> {
     pub fn doubt(&mut self)
         ensures rulings { rulings_of self.new ≡ rulings_of self.old }
         ensures absent { absent_of self.new ≡ absent_of self.old }
-        ensures checked { (files : List SourceFile) (modules : List (List Circuit))
-            → AreChecked files modules self.new }
+        ensures checked { (files : List SourceFile) (all : AllRead)
+            → AreChecked files all self.new }
     {
         doubt_all(&mut self.rulings);
         if let Some(kept) = &mut self.absent {
@@ -118,20 +118,20 @@ impl<V: Drop> Memo<V> {
         }
     }
 
-    /// The answer of a top that holds among files and their modules. It takes no memory.
+    /// The answer of a top that holds among files, by what was read of them. It takes no memory.
     pub fn answer(
         &self,
         files: &[SourceFile],
-        modules: &[Vec<Module>],
+        readings: &Readings<V>,
         top: &Text,
     ) -> Option<&Answer<V>>
-        requires { AreChecked files.now (circuits_of modules.now) self.now }
+        requires { AreChecked files.now (read_of readings.now) self.now }
         ensures { option_copied result
-            ≡ current_answer files.now (circuits_of modules.now) top.now (all_of self.now) }
+            ≡ current_answer files.now (read_of readings.now) top.now (all_of self.now) }
     {
-        match current_place(&self.rulings, files, modules, top.as_bytes()) {
+        match current_place(&self.rulings, files, readings, top.as_bytes()) {
             Some(place) => Some(&self.rulings[place].answer),
-            None => self.absent_answer(files, modules, top),
+            None => self.absent_answer(files, readings, top),
         }
     }
 
@@ -139,16 +139,16 @@ impl<V: Drop> Memo<V> {
     fn absent_answer(
         &self,
         files: &[SourceFile],
-        modules: &[Vec<Module>],
+        readings: &Readings<V>,
         top: &Text,
     ) -> Option<&Answer<V>>
-        requires { AreChecked files.now (circuits_of modules.now) self.now }
-        ensures { option_copied result ≡ current_answer files.now (circuits_of modules.now) top.now
+        requires { AreChecked files.now (read_of readings.now) self.now }
+        ensures { option_copied result ≡ current_answer files.now (read_of readings.now) top.now
             (option_to_list (absent_of self.now)) }
     {
         match &self.absent {
             Some(kept) => {
-                if kept.is_of(top.as_bytes()) && kept.is_current(files, modules) {
+                if kept.is_of(top.as_bytes()) && kept.is_current(files, readings) {
                     Some(&kept.answer)
                 } else {
                     None
@@ -158,38 +158,38 @@ impl<V: Drop> Memo<V> {
         }
     }
 
-    /// Whether there is a ruling of a top that holds among files and their modules, which is known
+    /// Whether there is a ruling of a top that holds among files, by what was read of them, which is known
     /// from then on. It takes no memory.
-    pub fn check(&mut self, files: &[SourceFile], modules: &[Vec<Module>], top: &Text) -> bool
-        requires { AreChecked files.now (circuits_of modules.now) self.old }
+    pub fn check(&mut self, files: &[SourceFile], readings: &Readings<V>, top: &Text) -> bool
+        requires { AreChecked files.now (read_of readings.now) self.old }
         ensures found { result
-            ≡ is_some (current_of files.now (circuits_of modules.now) top.now (all_of self.old)) }
+            ≡ is_some (current_of files.now (read_of readings.now) top.now (all_of self.old)) }
         ensures rulings { rulings_of self.new ≡ rulings_of self.old }
         ensures absent { absent_of self.new ≡ absent_of self.old }
-        ensures checked { AreChecked files.now (circuits_of modules.now) self.new }
+        ensures checked { AreChecked files.now (read_of readings.now) self.new }
     {
-        match current_place(&self.rulings, files, modules, top.as_bytes()) {
+        match current_place(&self.rulings, files, readings, top.as_bytes()) {
             Some(place) => {
                 self.rulings[place].is_checked = true;
                 true
             }
-            None => self.check_absent(files, modules, top),
+            None => self.check_absent(files, readings, top),
         }
     }
 
     // The same of the absent top.
-    fn check_absent(&mut self, files: &[SourceFile], modules: &[Vec<Module>], top: &Text) -> bool
-        requires { AreChecked files.now (circuits_of modules.now) self.old }
-        ensures found { result ≡ is_some (current_of files.now (circuits_of modules.now) top.now
+    fn check_absent(&mut self, files: &[SourceFile], readings: &Readings<V>, top: &Text) -> bool
+        requires { AreChecked files.now (read_of readings.now) self.old }
+        ensures found { result ≡ is_some (current_of files.now (read_of readings.now) top.now
             (option_to_list (absent_of self.old))) }
         ensures rulings { rulings_of self.new ≡ rulings_of self.old }
         ensures absent { absent_of self.new ≡ absent_of self.old }
-        ensures checked { AreChecked files.now (circuits_of modules.now) self.new }
+        ensures checked { AreChecked files.now (read_of readings.now) self.new }
     {
         let Some(kept) = &mut self.absent else {
             return false;
         };
-        let holds = kept.is_of(top.as_bytes()) && kept.is_current(files, modules);
+        let holds = kept.is_of(top.as_bytes()) && kept.is_current(files, readings);
         if holds {
             kept.is_checked = true;
         }
@@ -214,9 +214,9 @@ impl<V: Drop> Memo<V> {
             → Contains (all_of self.old ++ ruling_of kept ∷ []) ruling) }
         ensures rulings { OnErr result (rulings_of self.new ≡ rulings_of self.old) }
         ensures absent { OnErr result (absent_of self.new ≡ absent_of self.old) }
-        ensures checked { (files : List SourceFile) (modules : List (List Circuit))
-            → IsChecked files modules kept → AreChecked files modules self.old
-            → AreChecked files modules self.new }
+        ensures checked { (files : List SourceFile) (all : AllRead)
+            → IsChecked files all kept → AreChecked files all self.old
+            → AreChecked files all self.new }
     {
         if kept.is_absent() {
             self.absent = Some(kept);

@@ -1,16 +1,16 @@
 // A file as it was read last.
-ghost use Rattle.std.specs.Prelude.{◌≡◌, ◌≤◌, ◌+◌, false, IfOk, [], ◌∷◌, length, option_copied, option_map};
+ghost use Rattle.std.specs.Prelude.{◌≡◌, ◌≤◌, ◌+◌, false, IfOk, Some, [], ◌∷◌, length, option_copied, option_map};
 ghost use Rattle.desk_files.specs.Limits.{MAX_BYTES};
-ghost use Rattle.rtl_front.specs.Fronts.{AreSpelled, IsFaulty, is_memory};
+ghost use Rattle.rtl_front.specs.Fronts.{AreAsked, AreSpelled, IsFaulty, is_memory};
 ghost use Rattle.elab_lookups.specs.elab_links.Modules.{circuits_of};
 ghost use Rattle.desk_memo.specs.Texts.{IsRefusal, refusal_line};
-ghost use Rattle.desk_memo.specs.Readings.{refusal_of};
+ghost use Rattle.desk_memo.specs.Readings.{IsKnown, refusal_of};
 ghost use Rattle.desk_memo.specs.ShownReadings.{IsNew, is_current, marked, reading_of};
 
 use crate::answer::Answer;
 use desk_places::sources::Sources;
 use desk_refusals::source_refusal;
-use rtl_front::{FileFault, SourceFault, read_files};
+use rtl_front::{Conditions, FileFault, FilesRead, SourceFault, read_files};
 use rtl_tree::memory::Memory;
 use rtl_tree::text::Text;
 use rtl_tree::tree::modules::Module;
@@ -31,11 +31,12 @@ pub(crate) struct Reading<V> {
     pub(crate) is_current: bool,
 }
 
-/// A file as it was just read, with the modules that it spells.
+/// A file as it was just read, with the modules that it spells, and what its conditions ask.
 #[derive(Drop)]
 pub(crate) struct Fresh<V> {
     pub(crate) reading: Reading<V>,
     pub(crate) modules: Vec<Module>,
+    pub(crate) conditions: Conditions,
 }
 
 pub(crate) fn is_current<V: Drop>(reading: &Option<Reading<V>>) -> bool
@@ -82,10 +83,13 @@ fn copied(alloc: Global, file: &SourceFile) -> Result<Rc<SourceFile>, Memory>
 fn spelled<V: Drop>(
     alloc: Global,
     file: &SourceFile,
-    mut files: Vec<Vec<Module>>,
+    mut files: FilesRead,
 ) -> Result<Fresh<V>, Memory>
-    requires { AreSpelled (file.now.text ∷ []) (circuits_of files.items) }
-    ensures { IfOk result (λ fresh. IsNew file.now fresh.reading fresh.modules) }
+    requires spelled { AreSpelled (file.now.text ∷ []) (circuits_of files.modules.items) }
+    requires asked { AreAsked (file.now.text ∷ []) files.conditions.items }
+    ensures new { IfOk result (λ fresh. IsNew file.now fresh.reading fresh.modules) }
+    ensures known { IfOk result (λ fresh.
+        IsKnown (Some (reading_of fresh.reading)) fresh.conditions) }
 {
     let reading = Reading {
         file: copied(alloc, file)?,
@@ -94,7 +98,8 @@ fn spelled<V: Drop>(
     };
     Ok(Fresh {
         reading,
-        modules: files.remove(0),
+        modules: files.modules.remove(0),
+        conditions: files.conditions.remove(0),
     })
 }
 
@@ -116,7 +121,9 @@ fn refused<V: Drop>(alloc: Global, file: &SourceFile, fault: &FileFault) -> Resu
     requires short { length file.now.text ≤ MAX_BYTES }
     requires no_memory { is_memory fault.now ≡ false }
     requires faulty { IsFaulty file.now.text fault.now }
-    ensures { IfOk result (λ fresh. IsNew file.now fresh.reading fresh.modules) }
+    ensures new { IfOk result (λ fresh. IsNew file.now fresh.reading fresh.modules) }
+    ensures known { IfOk result (λ fresh.
+        IsKnown (Some (reading_of fresh.reading)) fresh.conditions) }
 {
     let reading = Reading {
         file: copied(alloc, file)?,
@@ -126,6 +133,7 @@ fn refused<V: Drop>(alloc: Global, file: &SourceFile, fault: &FileFault) -> Resu
     Ok(Fresh {
         reading,
         modules: Vec::new(alloc),
+        conditions: Conditions::new(alloc),
     })
 }
 
@@ -138,6 +146,8 @@ pub(crate) fn read<V: Drop, L: Ledger>(
     requires { length file.now.text ≤ MAX_BYTES }
     ensures counted { steps.new ≤ steps.old + 1 }
     ensures new { IfOk result (λ fresh. IsNew file.now fresh.reading fresh.modules) }
+    ensures known { IfOk result (λ fresh.
+        IsKnown (Some (reading_of fresh.reading)) fresh.conditions) }
 {
     match read_files(alloc, from_ref(file), steps) {
         Ok(files) => spelled(alloc, file, files),

@@ -2,10 +2,11 @@
 ghost use Rattle.std.specs.Prelude.{◌≡◌, ◌≤◌, ◌+◌, [], None, IfOk, OnOk, option_copied};
 ghost use Rattle.std.specs.Option.{option_map};
 ghost use Rattle.elab_lookups.specs.elab_links.Modules.{circuits_of};
+ghost use Rattle.check_conditions.specs.Foreign.{nothing_asked};
 ghost use Rattle.desk_files.specs.Sources.{with_file, without_file};
 ghost use Rattle.source_file.specs.SourceFiles.{AreShort};
-ghost use Rattle.desk_memo.specs.Readings.{AreReadings, changed_count, file_at, first_refusal, with_blank, without};
-ghost use Rattle.desk_memo.specs.ShownReadings.{AreFlagged, IsBeside, down_count, flags_by, flags_in, flags_of, held_modules_by, held_modules_of, modules_of, readings_by, readings_in, readings_of, room_of};
+ghost use Rattle.desk_memo.specs.Readings.{AreKnown, AreReadings, changed_count, file_at, first_refusal, with_blank, without};
+ghost use Rattle.desk_memo.specs.ShownReadings.{AreFlagged, IsBeside, conditions_by, conditions_of, down_count, flags_by, flags_in, flags_of, held_modules_by, held_modules_of, modules_of, readings_by, readings_in, readings_of, room_of};
 
 use crate::answer::Answer;
 use crate::aside::Aside;
@@ -13,6 +14,7 @@ use crate::exchange::exchange;
 use crate::place::{put_blank, remove_named};
 use crate::reading::{Reading, is_current, mark, read, refusal_of};
 use desk_files::{is_named, place_of};
+use rtl_front::Conditions;
 use rtl_tree::memory::Memory;
 use rtl_tree::tree::modules::Module;
 use source_file::SourceFile;
@@ -22,12 +24,13 @@ use std::sync::ledger::Ledger;
 use steps::Steps;
 
 /// Of each file, in the order of the files: the text that was read last, the modules that it spells
-/// or why it spells none, and whether the file still has that text.
+/// or why it spells none, what its conditions ask, and whether the file still has that text.
 #[derive(Drop)]
 pub struct Readings<V> {
     alloc: Global,
     readings: Vec<Option<Reading<V>>>,
     modules: Vec<Vec<Module>>,
+    conditions: Vec<Conditions>,
 }
 
 // How many readings aren't current.
@@ -60,12 +63,14 @@ impl<V: Drop> Readings<V> {
     pub fn new(alloc: Global) -> Readings<V>
         ensures readings { readings_of result ≡ [] }
         ensures modules { modules_of result ≡ [] }
+        ensures conditions { conditions_of result ≡ [] }
         ensures flags { flags_of result ≡ [] }
     {
         Readings {
             alloc,
             readings: Vec::new(alloc),
             modules: Vec::new(alloc),
+            conditions: Vec::new(alloc),
         }
     }
 
@@ -78,10 +83,12 @@ impl<V: Drop> Readings<V> {
         ensures room { OnOk result (1 ≤ room_of self.new) }
         ensures readings { readings_of self.new ≡ readings_of self.old }
         ensures modules { modules_of self.new ≡ modules_of self.old }
+        ensures conditions { conditions_of self.new ≡ conditions_of self.old }
         ensures flags { flags_of self.new ≡ flags_of self.old }
     {
         self.readings.reserve(1)?;
         self.modules.reserve(1)?;
+        self.conditions.reserve(1)?;
         Ok(())
     }
 
@@ -89,13 +96,17 @@ impl<V: Drop> Readings<V> {
     pub fn put(&mut self, files: &[SourceFile], file: &SourceFile)
         requires room { 1 ≤ room_of self.old }
         requires right { AreReadings files.now (readings_of self.old) (modules_of self.old) }
+        requires known { AreKnown (readings_of self.old) (conditions_of self.old) }
         requires flagged { AreFlagged files.now self.old }
         ensures readings { readings_of self.new
             ≡ with_blank None file.now.name files.now (readings_of self.old) }
         ensures modules { modules_of self.new
             ≡ with_blank [] file.now.name files.now (modules_of self.old) }
+        ensures conditions { conditions_of self.new
+            ≡ with_blank nothing_asked file.now.name files.now (conditions_of self.old) }
         ensures right { AreReadings (with_file file.now files.now)
             (readings_of self.new) (modules_of self.new) }
+        ensures known { AreKnown (readings_of self.new) (conditions_of self.new) }
         ensures flagged { AreFlagged (with_file file.now files.now) self.new }
     {
         let name = file.name.as_bytes();
@@ -103,6 +114,7 @@ impl<V: Drop> Readings<V> {
             None => {
                 put_blank(&mut self.readings, None, None);
                 put_blank(&mut self.modules, None, Vec::new(self.alloc));
+                put_blank(&mut self.conditions, None, Conditions::new(self.alloc));
             }
             Some(place) => {
                 if is_named(&files[place], name) {
@@ -110,6 +122,11 @@ impl<V: Drop> Readings<V> {
                 } else {
                     put_blank(&mut self.readings, Some(place), None);
                     put_blank(&mut self.modules, Some(place), Vec::new(self.alloc));
+                    put_blank(
+                        &mut self.conditions,
+                        Some(place),
+                        Conditions::new(self.alloc),
+                    );
                 }
             }
         }
@@ -118,17 +135,22 @@ impl<V: Drop> Readings<V> {
     /// The file of a name is dropped from files. It takes no memory.
     pub fn drop_file(&mut self, files: &[SourceFile], name: &[u8])
         requires right { AreReadings files.now (readings_of self.old) (modules_of self.old) }
+        requires known { AreKnown (readings_of self.old) (conditions_of self.old) }
         requires flagged { AreFlagged files.now self.old }
         ensures readings { readings_of self.new
             ≡ without name.now files.now (readings_of self.old) }
         ensures modules { modules_of self.new ≡ without name.now files.now (modules_of self.old) }
+        ensures conditions { conditions_of self.new
+            ≡ without name.now files.now (conditions_of self.old) }
         ensures right { AreReadings (without_file name.now files.now)
             (readings_of self.new) (modules_of self.new) }
+        ensures known { AreKnown (readings_of self.new) (conditions_of self.new) }
         ensures flagged { AreFlagged (without_file name.now files.now) self.new }
         ensures room { room_of self.old ≤ room_of self.new }
     {
         remove_named(&mut self.readings, files, name);
         remove_named(&mut self.modules, files, name);
+        remove_named(&mut self.conditions, files, name);
     }
 
     /// How many files aren't as they were read last. It compares no texts.
@@ -151,6 +173,13 @@ impl<V: Drop> Readings<V> {
         ensures { circuits_of result.now ≡ modules_of self.now }
     {
         &self.modules
+    }
+
+    /// What the conditions of all files ask, in their order.
+    pub fn conditions(&self) -> &[Conditions]
+        ensures { result.now ≡ conditions_of self.now }
+    {
+        &self.conditions
     }
 
     /// A further owner of a file, as it was read last.
@@ -183,6 +212,7 @@ impl<V: Drop> Readings<V> {
         steps: &mut Steps<L>,
     ) -> Result<Aside<V>, Memory>
         requires right { AreReadings files.now (readings_of self.now) (modules_of self.now) }
+        requires known { AreKnown (readings_of self.now) (conditions_of self.now) }
         requires flagged { AreFlagged files.now self.now }
         requires short { AreShort files.now }
         ensures counted { steps.new ≤ steps.old + changed_count files.now (readings_of self.now) }
@@ -204,13 +234,16 @@ impl<V: Drop> Readings<V> {
     pub fn exchange(&mut self, aside: &mut Aside<V>)
         ensures readings { readings_of self.new ≡ readings_by aside.old self.old }
         ensures held { held_modules_of self.new ≡ held_modules_by aside.old self.old }
+        ensures conditions { conditions_of self.new ≡ conditions_by aside.old self.old }
         ensures flags { flags_of self.new ≡ flags_by aside.old self.old }
         ensures undone_readings { readings_by aside.new self.new ≡ readings_of self.old }
         ensures undone_held { held_modules_by aside.new self.new ≡ held_modules_of self.old }
+        ensures undone_conditions { conditions_by aside.new self.new ≡ conditions_of self.old }
         ensures undone_flags { flags_by aside.new self.new ≡ flags_of self.old }
         ensures room { room_of self.new ≡ room_of self.old }
     {
         exchange(&mut self.readings, &mut aside.readings);
         exchange(&mut self.modules, &mut aside.modules);
+        exchange(&mut self.conditions, &mut aside.conditions);
     }
 }

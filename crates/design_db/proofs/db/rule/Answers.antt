@@ -1,7 +1,7 @@
 use Rattle.std.proofs.Common.{refl}
 use Rattle.std.proofs.lemmas.Result.{on_ok_weaker}
 use Rattle.desk_memo.specs.Readings.{first_refusal}
-use Rattle.desk_memo.specs.ShownReadings.{modules_of, readings_of}
+use Rattle.desk_memo.specs.ShownReadings.{read_of, readings_of}
 use Rattle.desk_memo.specs.Shown.{all_of, ruling_of}
 use Rattle.design_db.specs.Stores.{Stays}
 use Rattle.design_db.proofs.Kept.{known_kept}
@@ -11,7 +11,7 @@ use Rattle.design_db.proofs.db.rule.Goals as goal
 pub returns-clause-answered : goal.returns-clause-answered
 returns-clause-answered g c =
     on_ok_weaker c.keep.result
-    (known_kept c.args.files.now (modules_of c.args.readings.now) c.args.top.now (first_refusal (readings_of c.args.readings.now)) (ruling_of c.in_ok-kept.kept) (all_of c.keep.new.self)
+    (known_kept c.args.files.now (read_of c.args.readings.now) c.args.top.now (first_refusal (readings_of c.args.readings.now)) (ruling_of c.in_ok-kept.kept) (all_of c.keep.new.self)
     c.in_ok-kept.ensures.top c.in_ok-kept.ensures.current)
     c.keep.ensures.there
 

@@ -2,7 +2,7 @@ use Rattle.std.proofs.Common.{subst}
 use Rattle.std.specs.Prelude.{IfSome}
 use Rattle.design_db.specs.Answers.{IsFresh}
 use Rattle.design_db.specs.Shown.{store}
-use Rattle.design_db.specs.Stores.{Store, answer_of, circuits_in}
+use Rattle.design_db.specs.Stores.{Store, answer_of, circuits_in, read_in}
 use Rattle.design_db.proofs.Kept.{are_fresh, unread_fresh}
 use Rattle.design_db.proofs.db.Db.answer.Goals as goal
 
@@ -15,8 +15,9 @@ returns-in-None-clause-fresh c =
     (λ zero answer is. unread_fresh seen.files c.args.top.now answer
     (c.all_refused.ensures seen.files seen.readings (circuits_in seen) answer c.self.invariant.store.readings zero is))
     (λ zero none ruling right current.
-    c.still_fresh.ensures seen.files (circuits_in seen) ruling c.self.invariant.store.in_order right current
-    (c.all_spelled.ensures seen.files seen.readings (circuits_in seen) c.self.invariant.store.readings zero none)))
+    c.still_fresh.ensures seen.files (read_in seen) ruling c.self.invariant.store.in_order right current
+    (c.all_spelled.ensures seen.files seen.readings (circuits_in seen) c.self.invariant.store.readings zero none)
+    (c.all_asked.ensures seen.files seen.readings (circuits_in seen) seen.conditions c.self.invariant.store.readings c.self.invariant.store.known zero none)))
 
 pub returns-in-Some-clause-fresh : goal.returns-in-Some-clause-fresh
 returns-in-Some-clause-fresh c =
@@ -27,5 +28,6 @@ returns-in-Some-clause-fresh c =
     (λ zero answer is. unread_fresh seen.files c.args.top.now answer
     (c.all_refused.ensures seen.files seen.readings (circuits_in seen) answer c.self.invariant.store.readings zero is))
     (λ zero none ruling right current.
-    c.still_fresh.ensures seen.files (circuits_in seen) ruling c.self.invariant.store.in_order right current
-    (c.all_spelled.ensures seen.files seen.readings (circuits_in seen) c.self.invariant.store.readings zero none)))
+    c.still_fresh.ensures seen.files (read_in seen) ruling c.self.invariant.store.in_order right current
+    (c.all_spelled.ensures seen.files seen.readings (circuits_in seen) c.self.invariant.store.readings zero none)
+    (c.all_asked.ensures seen.files seen.readings (circuits_in seen) seen.conditions c.self.invariant.store.readings c.self.invariant.store.known zero none)))

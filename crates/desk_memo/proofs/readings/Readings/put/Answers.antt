@@ -1,8 +1,11 @@
 use Rattle.std.proofs.Common.{◌≡◌, ◌∙◌, ◌<◌, None, Some, length, set, ap, sym, arith}
 use Rattle.desk_files.specs.Sources.{is_named, place_of}
-use Rattle.desk_memo.specs.ShownReadings.{marked, modules_of, readings_of}
-use Rattle.desk_memo.proofs.MadeReadings.{held_length, vec_length}
-use Rattle.desk_memo.proofs.Placed.{place_within}
+use Rattle.check_conditions.specs.Foreign.{nothing_asked}
+use Rattle.desk_memo.specs.Readings.{blank_in}
+use Rattle.desk_memo.specs.ShownReadings.{conditions_of, marked, modules_of, readings_in, readings_of}
+use Rattle.desk_memo.proofs.Known.{known_length, known_with}
+use Rattle.desk_memo.proofs.MadeReadings.{held_length, same_length, vec_length}
+use Rattle.desk_memo.proofs.Placed.{at_place, behind_all, place_within, stays}
 use Rattle.desk_memo.proofs.Put.{blanked, put_at, put_behind, put_same}
 use Rattle.desk_memo.proofs.readings.Readings.put.Goals as goal
 
@@ -27,6 +30,16 @@ put_blank-requires-else-is_named-2-clause-within g c =
     let inside : c.in-Some.place < length c.args.files.now = place_within c.args.file.now.name c.args.files.now c.in-Some.place c.args.file.now there in
     omega (arith, vec_length c.args.files.now (readings_of c.args.self.now) c.args.self.now.modules.items c.requires.right, c.args.self.now.modules.ok.0)
 
+pub put_blank-requires-else-is_named-3-clause-within : goal.put_blank-requires-else-is_named-3-clause-within
+put_blank-requires-else-is_named-3-clause-within g c =
+    let there : Some c.in-Some.place ≡ place_of c.args.file.now.name c.args.files.now =
+    c.in-Some.ensures ∙ ap (λ it. place_of it c.args.files.now) c.as_bytes-name.ensures in
+    let inside : c.in-Some.place < length c.args.files.now = place_within c.args.file.now.name c.args.files.now c.in-Some.place c.args.file.now there in
+    let many =
+    same_length c.args.files.now (readings_of c.args.self.now) (modules_of c.args.self.now) c.requires.right
+    ∙ known_length (readings_of c.args.self.now) (conditions_of c.args.self.now) c.requires.known in
+    omega (arith, many, c.args.self.now.conditions.ok.0)
+
 pub returns-in-None : goal.returns-in-None
 returns-in-None g c =
     let is =
@@ -34,7 +47,19 @@ returns-in-None g c =
     (blanked c.args.file.now None c.args.files.now c.args.self.now.readings.items c.put_blank.new.kept.items c.args.self.now.modules.items c.put_blank-in-None.new.kept.items c.new.result
     (record { right = c.requires.right; flagged = c.requires.flagged }) c.new.ensures.items c.put_blank.ensures c.put_blank-in-None.ensures)
     (c.in-None.ensures ∙ ap (λ it. place_of it c.args.files.now) c.as_bytes-name.ensures) in
-    record { readings = is.readings; modules = is.modules; right = is.right; flagged = is.flagged }
+    let asked =
+    c.put_blank-in-None-2.ensures
+    ∙ ap (λ it. blank_in it None (conditions_of c.args.self.now)) c.new-in-None.ensures
+    ∙ sym (behind_all nothing_asked (conditions_of c.args.self.now) c.args.file.now.name c.args.files.now (c.in-None.ensures ∙ ap (λ it. place_of it c.args.files.now) c.as_bytes-name.ensures)) in
+    record {
+      readings = is.readings;
+      modules = is.modules;
+      conditions = asked;
+      right = is.right;
+      known =
+          known_with c.args.file.now.name c.args.files.now (readings_of c.args.self.now) (readings_in c.put_blank.new.kept.items) (conditions_of c.args.self.now) c.put_blank-in-None-2.new.kept.items c.requires.known is.readings asked;
+      flagged = is.flagged;
+    }
 
 pub returns-then-is_named : goal.returns-then-is_named
 returns-then-is_named g c =
@@ -46,7 +71,17 @@ returns-then-is_named g c =
     (record { right = c.requires.right; flagged = c.requires.flagged })
     (ap (λ it. set c.args.self.now.readings.items c.in-Some.place it) (c.mark.ensures ∙ ap (λ it. marked c.args.file.now it) c.index_mut.ensures.value))
     there inside c.index-files-place.is (sym (ap (λ it. is_named it c.index-files-place.result) c.as_bytes-name.ensures) ∙ sym c.is_named.ensures ∙ c.if-is_named.true) in
-    record { readings = is.readings; modules = is.modules; right = is.right; flagged = is.flagged }
+    let asked =
+    sym (stays nothing_asked (conditions_of c.args.self.now) c.args.file.now.name c.args.files.now c.in-Some.place c.index-files-place.result there inside c.index-files-place.is (sym (ap (λ it. is_named it c.index-files-place.result) c.as_bytes-name.ensures) ∙ sym c.is_named.ensures ∙ c.if-is_named.true)) in
+    record {
+      readings = is.readings;
+      modules = is.modules;
+      conditions = asked;
+      right = is.right;
+      known =
+          known_with c.args.file.now.name c.args.files.now (readings_of c.args.self.now) (readings_in (set c.args.self.now.readings.items c.in-Some.place c.mark.new.reading)) (conditions_of c.args.self.now) (conditions_of c.args.self.now) c.requires.known is.readings asked;
+      flagged = is.flagged;
+    }
 
 pub returns-else-is_named : goal.returns-else-is_named
 returns-else-is_named g c =
@@ -58,4 +93,16 @@ returns-else-is_named g c =
     (blanked c.args.file.now (Some c.in-Some.place) c.args.files.now c.args.self.now.readings.items c.put_blank-else-is_named.new.kept.items c.args.self.now.modules.items c.put_blank-else-is_named-2.new.kept.items c.new-else-is_named.result
     (record { right = c.requires.right; flagged = c.requires.flagged }) c.new-else-is_named.ensures.items c.put_blank-else-is_named.ensures c.put_blank-else-is_named-2.ensures)
     there inside c.index-files-place.is (sym (ap (λ it. is_named it c.index-files-place.result) c.as_bytes-name.ensures) ∙ sym c.is_named.ensures ∙ c.if-is_named.false) in
-    record { readings = is.readings; modules = is.modules; right = is.right; flagged = is.flagged }
+    let asked =
+    c.put_blank-else-is_named-3.ensures
+    ∙ ap (λ it. blank_in it (Some c.in-Some.place) (conditions_of c.args.self.now)) c.new-else-is_named-2.ensures
+    ∙ sym (at_place nothing_asked (conditions_of c.args.self.now) c.args.file.now.name c.args.files.now c.in-Some.place c.index-files-place.result there inside c.index-files-place.is (sym (ap (λ it. is_named it c.index-files-place.result) c.as_bytes-name.ensures) ∙ sym c.is_named.ensures ∙ c.if-is_named.false)) in
+    record {
+      readings = is.readings;
+      modules = is.modules;
+      conditions = asked;
+      right = is.right;
+      known =
+          known_with c.args.file.now.name c.args.files.now (readings_of c.args.self.now) (readings_in c.put_blank-else-is_named.new.kept.items) (conditions_of c.args.self.now) c.put_blank-else-is_named-3.new.kept.items c.requires.known is.readings asked;
+      flagged = is.flagged;
+    }

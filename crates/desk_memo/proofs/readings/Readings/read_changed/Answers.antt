@@ -2,6 +2,7 @@ use Rattle.std.proofs.Common.{◌≡◌, ◌∙◌, ◌+◌, ◌<◌, None, Some
 use Rattle.std.proofs.lemmas.List.{length-map}
 use Rattle.desk_memo.specs.Readings.{changed_count}
 use Rattle.desk_memo.specs.ShownReadings.{IsMade, down_count, flags_in, is_current, modules_of, readings_of}
+use Rattle.desk_memo.proofs.Known.{known_left_by, made_known_next}
 use Rattle.desk_memo.proofs.MadeReadings.{all_left, as_many, down_less, down_same, held_length, made_all, made_next}
 use Rattle.desk_memo.proofs.readings.Readings.read_changed.Goals as goal
 use Rattle.desk_memo.proofs.readings.Readings.read_changed.Goals.{then-is_current+in_ok-push_none, else-is_current+in_ok-read+in_ok-push}
@@ -51,6 +52,10 @@ loop-number-preserved g c =
                 (subst (λ (it : Bool). IsMade {V = g.row.V.Denot} c.index-files-number.result it None None) (sym up) tt)
                 (ap (λ it. it.readings.items) w.aside-is ∙ w.in_ok-push_none.ensures.readings)
                 (ap (λ it. it.modules.items) w.aside-is ∙ w.in_ok-push_none.ensures.modules);
+            known =
+                made_known_next c.loop-number.aside.readings.items c.if-is_current.aside.readings.items c.loop-number.aside.conditions.items c.if-is_current.aside.conditions.items None None c.loop-number.invariant.known tt
+                (ap (λ it. it.readings.items) w.aside-is ∙ w.in_ok-push_none.ensures.readings)
+                (ap (λ it. it.conditions.items) w.aside-is ∙ w.in_ok-push_none.ensures.conditions);
             counted = omega (arith, same, w.steps-is);
           }
       | else-is_current+in_ok-read+in_ok-push w ↦
@@ -63,6 +68,10 @@ loop-number-preserved g c =
                 (subst (λ (it : Bool). IsMade {V = g.row.V.Denot} c.index-files-number.result it (Some (Some w.in_ok-read.field-0.reading)) (Some w.in_ok-read.field-0.modules)) (sym low) w.in_ok-read.ensures.new)
                 (ap (λ it. it.readings.items) w.aside-is ∙ w.in_ok-push.ensures.readings)
                 (ap (λ it. it.modules.items) w.aside-is ∙ w.in_ok-push.ensures.modules);
+            known =
+                made_known_next c.loop-number.aside.readings.items c.if-is_current.aside.readings.items c.loop-number.aside.conditions.items c.if-is_current.aside.conditions.items (Some (Some w.in_ok-read.field-0.reading)) (Some w.in_ok-read.field-0.conditions) c.loop-number.invariant.known w.in_ok-read.ensures.known
+                (ap (λ it. it.readings.items) w.aside-is ∙ w.in_ok-push.ensures.readings)
+                (ap (λ it. it.conditions.items) w.aside-is ∙ w.in_ok-push.ensures.conditions);
             counted = omega (arith, less, w.steps-is, w.read.ensures.counted);
           }
     ]
@@ -80,4 +89,11 @@ returns-clause-aside g c =
     (made_all c.args.files.now (flags_in c.args.self.now.readings.items) c.loop-number.number c.loop-number.aside.readings.items c.loop-number.aside.modules.items (omega arith)
     (omega (arith, length-map c.args.self.now.readings.items is_current, held_length c.args.files.now c.args.self.now.readings.items (modules_of c.args.self.now) c.requires.right))
     c.loop-number.invariant.made) in
-    record { right = left.right; flagged = left.flagged; unchanged = left.unchanged; same = left.same }
+    record {
+      right = left.right;
+      known =
+          known_left_by c.loop-number.aside.readings.items c.loop-number.aside.conditions.items c.args.self.now.readings.items c.args.self.now.conditions.items c.loop-number.invariant.known c.requires.known;
+      flagged = left.flagged;
+      unchanged = left.unchanged;
+      same = left.same;
+    }
