@@ -3,6 +3,7 @@
 ghost use Rattle.std.specs.Prelude.{◌≡◌, ◌+◌, ◌<◌, ◌++◌, IfOk, IfSome, None, OnOk, drop, length, map};
 ghost use Rattle.std.specs.List.{flat_map, slice_get};
 ghost use Rattle.elab_walk.specs.Placements.{instance_of, region, regions_at, signals_at};
+ghost use Rattle.elab_walk.specs.elab_scope.Names.{meanings};
 ghost use Rattle.elab_walk.specs.Trails.{AreDeclared, IsDeclared, placement};
 ghost use Rattle.elab_walk.specs.Visits.{library};
 ghost use Rattle.elab_flat.specs.Children.{HaveChildren};
@@ -14,7 +15,6 @@ ghost use Rattle.elab_walk.specs.elab_items.Scopes.{listings_of};
 
 use crate::regions::dropped_in;
 use crate::works::Works;
-use elab_walk::elab_items::declare::declare;
 use elab_walk::elab_items::roster::{Listing, Roster};
 use elab_walk::elab_items::signals::{Home, push_signals};
 use elab_walk::library::Library;
@@ -83,25 +83,6 @@ fn push_own(
     push_signals(home, listed, signals)
 }
 
-/// Takes from an instance what its module declares in it.
-fn take_declared<'a>(alloc: Global, at: &mut Placement<'a>) -> Result<Roster<'a>, Memory>
-    requires { IfSome at.old.declared (IsDeclared (placement at.old).visit) }
-    ensures declared { IfOk result (IsDeclared (placement at.old).visit) }
-    ensures same { placement at.new ≡ placement at.old }
-    ensures taken { at.new.declared ≡ None }
-{
-    match at.declared.take() {
-        Some(declared) => Ok(declared),
-        None => {
-            let declared = declare(alloc, at.visit.written, &at.visit.overrides, 0, None)?;
-            Ok(Roster {
-                names: declared.names,
-                signals: declared.signals,
-            })
-        }
-    }
-}
-
 /// The signals of instances, and their processes with the delays in them, from one look at what each instance declares.
 #[derive(Drop)]
 struct Contents {
@@ -117,11 +98,11 @@ impl Contents {
         all: Library<'_>,
         placements: &[Placement<'_>],
         place: usize,
-        declared: Roster<'_>,
+        declared: &mut Roster<'_>,
     ) -> Result<(), Memory>
         requires inside { place < length placements.now }
         requires declared { IfSome (slice_get (map placement placements.now) place)
-            (λ at. IsDeclared at.visit declared) }
+            (λ at. IsDeclared at.visit declared.old) }
         requires others { AreDeclared placements.now }
         requires held { HaveChildren (library all) (map placement placements.now) }
         ensures signals { let seen = map placement placements.now in OnOk result
@@ -130,16 +111,18 @@ impl Contents {
         ensures works { let seen = map placement placements.now in OnOk result
             (with_placements (library all.entry) (works self.new.works) (drop (place + 1) seen)
             ≡ with_placements (library all.entry) (works self.old.works) (drop place seen)) }
+        ensures names { meanings declared.new.names ≡ meanings declared.old.names }
+        ensures listed { declared.new.signals ≡ declared.old.signals }
     {
-        let Roster { mut names, signals } = declared;
         let at = &placements[place];
-        push_own(alloc, at, &signals, &mut self.signals)?;
+        push_own(alloc, at, &declared.signals, &mut self.signals)?;
+        let behind = &placements[place + 1..];
         self.works
-            .add_placement(alloc, all, at, &mut names, &placements[place + 1..])
+            .add_placement(alloc, all, at, &mut declared.names, behind)
     }
 }
 
-/// Those of all instances, from each of which what it declares is taken.
+/// Those of all instances, each of which keeps what it declares.
 fn contents_of(
     alloc: Global,
     all: Library<'_>,
@@ -152,14 +135,16 @@ fn contents_of(
     ensures works { IfOk result (λ made. works made.works
         ≡ with_placements (library all.entry) no_works (map placement placements.old)) }
     ensures same { OnOk result (map placement placements.new ≡ map placement placements.old) }
+    ensures declared { OnOk result (AreDeclared placements.new) }
 {
     let mut made = Contents {
         signals: Vec::new(alloc),
         works: Works::none(alloc),
     };
     for place in 0..placements.len() {
-        let declared = take_declared(alloc, &mut placements[place])?;
-        made.add(alloc, all, placements, place, declared)?;
+        let mut declared = placements[place].take_declared(alloc)?;
+        made.add(alloc, all, placements, place, &mut declared)?;
+        placements[place].give_declared(declared);
     }
     Ok(made)
 }
@@ -208,8 +193,8 @@ fn regions_of(alloc: Global, placements: &[Placement<'_>]) -> Result<Vec<Dropped
     Ok(made)
 }
 
-/// The design of these instances, where those right under each are the ones that its items place. What they declare is
-/// taken from them.
+/// The design of these instances, where those right under each are the ones that its items place. They keep what they
+/// declare.
 pub fn flat_of(
     alloc: Global,
     all: Library<'_>,
@@ -217,8 +202,10 @@ pub fn flat_of(
 ) -> Result<DesignParts, Memory>
     requires declared { AreDeclared placements.old }
     requires held { HaveChildren (library all) (map placement placements.old) }
-    ensures { IfOk result (λ made. flat made
+    ensures made { IfOk result (λ made. flat made
         ≡ flat_of (library all.entry) (map placement placements.old)) }
+    ensures same { OnOk result (map placement placements.new ≡ map placement placements.old) }
+    ensures declared { OnOk result (AreDeclared placements.new) }
 {
     let Contents { signals, works } = contents_of(alloc, all, placements)?;
     Ok(DesignParts {

@@ -277,9 +277,10 @@ impl Works {
         requires known { AreKnown held.now
             (placed_scopes (library all) (scope_in (placement at.now).visit)
             (map module_item items.now)) }
-        ensures { OnOk result (works self.new
+        ensures made { OnOk result (works self.new
             ≡ with_parts (library all.entry) (placement at.now) (bases_of held.now) (works self.old)
             (map module_item items.now)) }
+        ensures same { meanings names.new ≡ meanings names.old }
     {
         let mut held = held;
         for item in items {
@@ -301,9 +302,10 @@ impl Works {
         requires names { meanings names.old ≡ scope_in (placement at.now).visit }
         requires declared { AreDeclared behind.now }
         requires held { HasChildren (library all) (placement at.now) (map placement behind.now) }
-        ensures { OnOk result (works self.new
+        ensures made { OnOk result (works self.new
             ≡ with_placement (library all.entry) (works self.old) (placement at.now)
             (map placement behind.now)) }
+        ensures same { meanings names.new ≡ meanings names.old }
     {
         let site = site_of(alloc, at)?;
         let held = children_under(alloc, at, behind)?;

@@ -3,11 +3,13 @@ use Rattle.std.specs.Prelude.{ℕ, ◌+◌, ◌<◌, ◌≤◌, List, [], ◌∷
 use Rattle.std.specs.List.{slice_get}
 use Rattle.std.specs.Option.{option_map}
 use Rattle.std.proofs.Common.{◌≡◌, ◌∙◌, ap, append_assoc, get_or, refl, subst, sym}
-use Rattle.std.proofs.lemmas.List.{map-append, reverse-append}
+use Rattle.std.proofs.lemmas.List.{drop-map, drop_more, map-append, reverse-append}
 use Rattle.std.proofs.lemmas.Option.{slice_get_past, slice_get_read}
 use Rattle.elab_uses.proofs.elab_links_proofs.Places.{at_place}
 use Rattle.rtl_flat.specs.declared.note.Note.{Note}
+use Rattle.elab_uses.specs.elab_walk.declared.trail.Placement.{Placement as Made}
 use Rattle.elab_uses.specs.elab_walk.Placements.{Placement}
+use Rattle.elab_uses.specs.elab_walk.Trails.{placement}
 use Rattle.elab_readings.specs.declared.above.Above.{Above as Kept}
 use Rattle.elab_readings.specs.Readings.{Above, coming, next_of, notes_from, placement_notes}
 use Rattle.elab_readings.specs.Views.{above, waiting}
@@ -35,3 +37,11 @@ more_notes before after waits left own others told next =
     ap (λ notes. notes ++ notes_from left others) told
     ∙ ap (λ still. (before ++ placement_notes (next_of waits) own) ++ notes_from still others) next
     ∙ append_assoc before (placement_notes (next_of waits) own) (notes_from (coming waits own) others)
+
+-- the instance in a place, and those behind it
+pub next_placement : (made : List Made) (seen : List Placement) (place : ℕ) (other : Made) → place < length made → map placement made ≡ seen → drop place seen ≡ placement (get_or made place other) ∷ drop (place + 1) seen
+next_placement made seen place other inside same =
+    subst (λ (all : List Placement). drop place all ≡ placement (get_or made place other) ∷ drop (place + 1) all) same
+    (drop-map placement place made
+    ∙ ap (map placement) (drop_more made place other inside)
+    ∙ ap (λ others. placement (get_or made place other) ∷ others) (sym (drop-map placement (place + 1) made)))

@@ -1,6 +1,6 @@
 //! What other tools read otherwise in a design.
 
-ghost use Rattle.std.specs.Prelude.{◌≡◌, ◌++◌, IfOk, OnOk, map};
+ghost use Rattle.std.specs.Prelude.{◌≡◌, ◌++◌, IfOk, IfSome, None, OnOk, map};
 ghost use Rattle.std.specs.List.{flat_map};
 ghost use Rattle.std.specs.Option.{option_map};
 ghost use Rattle.name_map.specs.Values.{values_of};
@@ -9,7 +9,7 @@ ghost use Rattle.elab_uses.specs.elab_items.Declarations.{declaration, declarati
 ghost use Rattle.elab_uses.specs.elab_items.Scopes.{listings_of};
 ghost use Rattle.elab_uses.specs.elab_scope.Names.{meanings};
 ghost use Rattle.elab_uses.specs.elab_standard.Scopes.{scopes};
-ghost use Rattle.elab_uses.specs.elab_walk.Trails.{placement};
+ghost use Rattle.elab_uses.specs.elab_walk.Trails.{AreDeclared, IsDeclared, placement};
 ghost use Rattle.elab_uses.specs.elab_walk.Visits.{scope_in};
 ghost use Rattle.elab_readings.specs.Readings.{above_in, coming, given_to, held_notes, home_at, item_notes, next_of, notes_of, own_notes, placement_notes, scopes_at};
 ghost use Rattle.elab_readings.specs.Signs.{sign_notes};
@@ -18,8 +18,8 @@ ghost use Rattle.elab_readings.specs.Views.{above, waiting};
 use crate::above::{Above, Holder, below_of, next_above, places_of, push_above, shared};
 use crate::connections::{Ends, push_connections};
 use crate::signs::push_signs;
-use elab_uses::elab_items::declare::declare;
 use elab_uses::elab_items::entries::{Entry, entries_of};
+use elab_uses::elab_items::roster::Roster;
 use elab_uses::elab_links::parameters::settable;
 use elab_uses::elab_scope::names::Names;
 use elab_uses::elab_standard::declarations::{push_declarations, push_settings};
@@ -65,32 +65,26 @@ fn given_to(
     }
 }
 
-/// What the names of an instance's module stand for, and the notes of the signs of its ports.
+/// What the names of an instance's module stand for, which are taken from it, and the notes of the signs of its ports.
 fn own_names(
     alloc: Global,
     home: Home,
-    at: &Placement<'_>,
+    at: &mut Placement<'_>,
     entries: &[Entry<'_>],
     made: &mut Vec<Note>,
 ) -> Result<Names, Memory>
-    requires { map declaration entries.now ≡ declarations (placement at.now).visit.circuit }
-    ensures names { IfOk result (λ names. meanings names ≡ scope_in (placement at.now).visit) }
+    requires declared { IfSome at.old.declared (IsDeclared (placement at.old).visit) }
+    requires entries { map declaration entries.now ≡ declarations (placement at.old).visit.circuit }
+    ensures names { IfOk result (λ names. meanings names ≡ scope_in (placement at.old).visit) }
     ensures notes { OnOk result (made.new.items ≡ made.old.items
-        ++ sign_notes home (placement at.now).base (scope_in (placement at.now).visit)
-        (listings_of (placement at.now).visit.settings (placement at.now).visit.circuit)
-        (declarations (placement at.now).visit.circuit)) }
+        ++ sign_notes home (placement at.old).base (scope_in (placement at.old).visit)
+        (listings_of (placement at.old).visit.settings (placement at.old).visit.circuit)
+        (declarations (placement at.old).visit.circuit)) }
+    ensures same { placement at.new ≡ placement at.old }
+    ensures taken { OnOk result (at.new.declared ≡ None) }
 {
-    let declared = declare(alloc, at.visit.written, &at.visit.overrides, 0, None)?;
-    let names = declared.names;
-    push_signs(
-        alloc,
-        home,
-        at.base,
-        &names,
-        &declared.signals,
-        entries,
-        made,
-    )?;
+    let Roster { names, signals } = at.take_declared(alloc)?;
+    push_signs(alloc, home, at.base, &names, &signals, entries, made)?;
     Ok(names)
 }
 
@@ -98,17 +92,20 @@ fn own_names(
 fn own_scopes(
     alloc: Global,
     home: Home,
-    at: &Placement<'_>,
+    at: &mut Placement<'_>,
     from_above: &Option<Above<'_>>,
     entries: &[Entry<'_>],
     made: &mut Vec<Note>,
 ) -> Result<Scopes, Memory>
-    requires home { home ≡ home_at (placement at.now) }
-    requires entries { map declaration entries.now ≡ declarations (placement at.now).visit.circuit }
+    requires declared { IfSome at.old.declared (IsDeclared (placement at.old).visit) }
+    requires home { home ≡ home_at (placement at.old) }
+    requires entries { map declaration entries.now ≡ declarations (placement at.old).visit.circuit }
     ensures scopes { IfOk result (λ own. scopes own
-        ≡ scopes_at (option_map above from_above.now) (placement at.now)) }
+        ≡ scopes_at (option_map above from_above.now) (placement at.old)) }
     ensures notes { OnOk result (made.new.items ≡ made.old.items
-        ++ own_notes (option_map above from_above.now) (placement at.now)) }
+        ++ own_notes (option_map above from_above.now) (placement at.old)) }
+    ensures same { placement at.new ≡ placement at.old }
+    ensures taken { OnOk result (at.new.declared ≡ None) }
 {
     let written = at.visit.written;
     let given = given_to(alloc, at, from_above, entries)?;
@@ -202,14 +199,17 @@ fn push_below<'a>(
 /// The notes of the next instance.
 fn push_placement<'a>(
     alloc: Global,
-    at: &Placement<'a>,
+    at: &mut Placement<'a>,
     pending: &mut Vec<Above<'a>>,
     made: &mut Vec<Note>,
 ) -> Result<(), Memory>
+    requires { IfSome at.old.declared (IsDeclared (placement at.old).visit) }
     ensures notes { OnOk result (made.new.items ≡ made.old.items
-        ++ placement_notes (next_of (waiting pending.old.items)) (placement at.now)) }
+        ++ placement_notes (next_of (waiting pending.old.items)) (placement at.old)) }
     ensures waiting { OnOk result (waiting pending.new.items
-        ≡ coming (waiting pending.old.items) (placement at.now)) }
+        ≡ coming (waiting pending.old.items) (placement at.old)) }
+    ensures same { placement at.new ≡ placement at.old }
+    ensures taken { OnOk result (at.new.declared ≡ None) }
 {
     let from_above = next_above(pending);
     let home = home_at(at)?;
@@ -220,16 +220,18 @@ fn push_placement<'a>(
     push_below(alloc, home, at, own, &entries, pending)
 }
 
-/// What other tools read otherwise in the texts of these instances, each before those that it holds.
+/// What other tools read otherwise in the texts of these instances, each before those that it holds. What they declare is
+/// taken from them.
 ///
 /// Fails only where memory runs out.
-pub fn notes_of(alloc: Global, placements: &[Placement<'_>]) -> Result<Vec<Note>, Memory>
-    ensures { IfOk result (λ made. made.items ≡ notes_of (map placement placements.now)) }
+pub fn notes_of(alloc: Global, placements: &mut [Placement<'_>]) -> Result<Vec<Note>, Memory>
+    requires { AreDeclared placements.old }
+    ensures { IfOk result (λ made. made.items ≡ notes_of (map placement placements.old)) }
 {
     let mut pending = Vec::new(alloc);
     let mut made = Vec::new(alloc);
-    for at in placements {
-        push_placement(alloc, at, &mut pending, &mut made)?;
+    for place in 0..placements.len() {
+        push_placement(alloc, &mut placements[place], &mut pending, &mut made)?;
     }
     Ok(made)
 }

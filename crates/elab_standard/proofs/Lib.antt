@@ -1,3 +1,4 @@
+pub mod Likeness
 pub mod Breadths
 mod Examples
 pub mod Lists

@@ -1,6 +1,7 @@
 //! What parameters and constants are by the standard, and which expressions other tools read otherwise than the desk.
 #![tactic(auto)]
 
+mod alike;
 pub mod cases;
 pub mod contexts;
 pub mod declarations;

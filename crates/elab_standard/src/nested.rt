@@ -6,6 +6,7 @@ ghost use Rattle.elab_standard.specs.Nested.{format_notes, index_notes, nested_n
 ghost use Rattle.elab_standard.specs.Numbers.{desk_number, number_notes};
 ghost use Rattle.elab_standard.specs.Scopes.{scopes};
 
+use crate::alike::reads_alike;
 use crate::contexts::own_context;
 use crate::differing::differs;
 use crate::notes::{push_if, root_place};
@@ -18,7 +19,7 @@ use rtl_flat::note::{Note, Reading};
 use rtl_tree::memory::Memory;
 use rtl_tree::tree::expr::Expr;
 
-/// Adds what is told of the sizes of an expression in at least so many bits.
+/// Adds what is told of the sizes of an expression in at least so many bits. Where its parameters are alike, it isn't sized.
 pub(crate) fn push_format(
     home: Home,
     kept: &Scopes,
@@ -29,6 +30,9 @@ pub(crate) fn push_format(
     ensures { OnOk result (made.new.items
         ≡ made.old.items ++ format_notes home (scopes kept.now) (formula e.now) wanted) }
 {
+    if reads_alike(e, kept) {
+        return Ok(());
+    }
     let desk = taken_context(wanted, own_context(e, kept, By::Desk));
     let standard = taken_context(wanted, own_context(e, kept, By::Standard));
     let broken = differs(e, desk, standard, kept);

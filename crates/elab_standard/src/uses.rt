@@ -8,6 +8,7 @@ ghost use Rattle.elab_standard.specs.Cases.{case_labels};
 ghost use Rattle.elab_standard.specs.Scopes.{scopes};
 ghost use Rattle.elab_standard.specs.Uses.{all_inner_notes, any_differs, branch_notes, branches_notes, case_notes, inner_notes, is_case_differing, use_notes, used, value_notes};
 
+use crate::alike::case_alike;
 use crate::cases::is_case_misread;
 use crate::contexts::case_context;
 use crate::differing::differs;
@@ -139,6 +140,9 @@ fn is_case_differing(selector: &Expr, items: &[CaseItem], kept: &Scopes) -> bool
     ensures { result ≡ is_case_differing (scopes kept.now) (formula selector.now)
         (branch_row (map branch items.now)) }
 {
+    if case_alike(selector, items, kept) {
+        return false;
+    }
     let desk = case_context(selector, items, kept, By::Desk);
     let standard = case_context(selector, items, kept, By::Standard);
     differs(selector, desk, standard, kept) || any_item(items, desk, standard, kept)

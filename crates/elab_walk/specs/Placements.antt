@@ -33,7 +33,7 @@ instance_of placement =
       depth = length placement.visit.way;
       spot = placement.visit.spot;
       file = placement.visit.place.file;
-      module = placement.visit.place.index;
+      «module» = placement.visit.place.index;
     }
 
 abbrev pub home_of : Placement → Home

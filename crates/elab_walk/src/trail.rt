@@ -1,14 +1,16 @@
 //! How far the walk over the instances has come.
 
-ghost use Rattle.std.specs.Prelude.{◌≡◌, IfSome, OnOk};
+ghost use Rattle.std.specs.Prelude.{◌≡◌, IfOk, IfSome, None, OnOk};
 ghost use Rattle.std.specs.List.{slice_get};
-ghost use Rattle.elab_walk.specs.Trails.{AreDeclared, IsDeclared, followed, trail};
+ghost use Rattle.elab_walk.specs.Trails.{AreDeclared, IsDeclared, followed, placement, trail};
 ghost use Rattle.elab_walk.specs.Visits.{visit};
 
 use crate::room::Room;
 use crate::visit::Visit;
+use elab_links::elab_items::declare::declare;
 use elab_links::elab_items::roster::Roster;
 use rtl_tree::memory::Memory;
+use std::alloc::Global;
 
 /// An instance, its number, and how many signals come before its own.
 #[derive(Drop)]
@@ -18,6 +20,36 @@ pub struct Placement<'a> {
     pub base: u16,
     /// What its module declares in it, where the walk came past all that it holds.
     pub declared: Option<Roster<'a>>,
+}
+
+impl<'a> Placement<'a> {
+    /// Takes what its module declares in it, which is worked out where the walk didn't come so far.
+    pub fn take_declared(&mut self, alloc: Global) -> Result<Roster<'a>, Memory>
+        requires { IfSome self.old.declared (IsDeclared (placement self.old).visit) }
+        ensures declared { IfOk result (IsDeclared (placement self.old).visit) }
+        ensures same { placement self.new ≡ placement self.old }
+        ensures taken { self.new.declared ≡ None }
+    {
+        match self.declared.take() {
+            Some(declared) => Ok(declared),
+            None => {
+                let declared = declare(alloc, self.visit.written, &self.visit.overrides, 0, None)?;
+                Ok(Roster {
+                    names: declared.names,
+                    signals: declared.signals,
+                })
+            }
+        }
+    }
+
+    /// Gives back what was taken.
+    pub fn give_declared(&mut self, declared: Roster<'a>)
+        requires { IsDeclared (placement self.old).visit declared }
+        ensures declared { IfSome self.new.declared (IsDeclared (placement self.new).visit) }
+        ensures same { placement self.new ≡ placement self.old }
+    {
+        self.declared = Some(declared);
+    }
 }
 
 /// The instances so far, and the room that they leave.

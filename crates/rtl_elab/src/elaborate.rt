@@ -73,8 +73,8 @@ pub fn made_of(
     ensures { IfOk result (λ made. noted_parts made
         ≡ made_of (library all.entry) (map placement placements.old)) }
 {
-    let notes = notes_of(alloc, placements)?;
     let flat = flat_of(alloc, all, placements)?;
+    let notes = notes_of(alloc, placements)?;
     Ok(NotedParts { flat, notes })
 }
 

@@ -19,12 +19,12 @@ use Rattle.elab_flat.proofs.flat.Contents.add.Goals as goal
 
 pub push_own-requires : goal.push_own-requires
 push_own-requires c =
-    let own = of_read (λ at. IsDeclared at.visit c.args.declared) c.args.placements.now c.args.place c.index-placements-place.result c.requires.inside c.index-placements-place.is c.requires.declared in
+    let own = of_read (λ at. IsDeclared at.visit c.args.declared.now) c.args.placements.now c.args.place c.index-placements-place.result c.requires.inside c.index-placements-place.is c.requires.declared in
     ap (map listing) c.deref.ensures.value ∙ own.1
 
 pub add_placement-requires-clause-names : goal.add_placement-requires-clause-names
 add_placement-requires-clause-names c =
-    let own = of_read (λ at. IsDeclared at.visit c.args.declared) c.args.placements.now c.args.place c.index-placements-place.result c.requires.inside c.index-placements-place.is c.requires.declared in
+    let own = of_read (λ at. IsDeclared at.visit c.args.declared.now) c.args.placements.now c.args.place c.index-placements-place.result c.requires.inside c.index-placements-place.is c.requires.declared in
     own.0
 
 pub add_placement-requires-clause-declared : goal.add_placement-requires-clause-declared
@@ -61,4 +61,4 @@ returns-clause-works c =
     let before = works c.args.self.now.works in
     let after = works c.add_placement.new.self in
     let inside : c.args.place < length seen = subst (λ (n : ℕ). c.args.place < n) (sym (length-map made placement)) c.requires.inside in
-    on_ok_weaker c.add_placement.result (λ (told : after ≡ with_placement all before (placement at) behind). more_works all before after seen behind c.args.place (placement at) inside (seen_at made c.args.place at c.index-placements-place.is) (behind_it made c.args.place) told) c.add_placement.ensures
+    on_ok_weaker c.add_placement.result (λ (told : after ≡ with_placement all before (placement at) behind). more_works all before after seen behind c.args.place (placement at) inside (seen_at made c.args.place at c.index-placements-place.is) (behind_it made c.args.place) told) c.add_placement.ensures.made

@@ -20,8 +20,8 @@ add_all-requires-clause-known c =
     let read = subst (λ items. AreKnown kept (placed_scopes all (scope_in at.visit) (map module_item items))) (sym c.deref-2.ensures.value) known in
     subst (λ held. AreKnown held (placed_scopes all (scope_in at.visit) (map module_item c.deref-2.result.now))) (sym c.deref.ensures.value) read
 
-pub returns : goal.returns
-returns c =
+pub returns-clause-made : goal.returns-clause-made
+returns-clause-made c =
     let all = library c.args.all in
     let at = placement c.args.at.now in
     let behind = map placement c.args.behind.now in
@@ -35,4 +35,4 @@ returns c =
     told
     ∙ ap (λ numbers. with_parts all at numbers before (map module_item c.deref-2.result.now)) bases
     ∙ ap (λ parts. with_parts all at (bases_under (depth_of at) behind) before parts) items)
-    c.add_all.ensures
+    c.add_all.ensures.made
