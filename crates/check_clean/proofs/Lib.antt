@@ -9,6 +9,10 @@ mod Resets
 mod Formed
 mod Choices
 pub mod Clean
+mod Starts
+mod Beside
+mod Benches
+mod BenchesExample
 mod Promise
 mod Ending
 mod Runs

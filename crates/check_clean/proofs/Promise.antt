@@ -4,6 +4,7 @@ use Rattle.sign_cycles.proofs.Lacking.{bring_ups}
 use Rattle.sign_cycles.proofs.Steps.{agreement}
 use Rattle.rtl_flat.specs.Flats.{Parts}
 use Rattle.check_clean.specs.Promise.{PromisedByRules}
+use Rattle.check_clean.proofs.Benches.{benches}
 use Rattle.check_clean.proofs.Clean.{clean}
 use Rattle.check_clean.proofs.Runs.{ends, levelled}
 
@@ -16,6 +17,7 @@ promised d lawful marked findings are is =
       agrees = λ choice chained fill. agreement d.flat choice design.level (design.clean choice chained) fill;
       ends = ends d lawful findings are is;
       levelled = levelled d lawful findings are is;
+      benches = benches d lawful marked findings are is;
       bring_ups = λ choice chained. bring_ups d.flat choice design.level (design.clean choice chained);
       known = λ choice chained fill.
           known_settles d.flat choice design.level (design.clean choice chained) design.wakes fill;

@@ -1,3 +1,4 @@
+pub mod Benches
 pub mod Clean
 pub mod Ending
 pub mod Levelled

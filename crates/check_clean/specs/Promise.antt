@@ -14,12 +14,14 @@ use Rattle.sign_cycles.specs.Lacking.{BringUpsAre}
 use Rattle.rtl_rule.specs.declared.finding.Finding.{Finding}
 use Rattle.check_all.specs.Findings.{AreAllFindings, IsClean}
 use Rattle.check_laws.specs.Expressions.{AreMarked}
+use Rattle.check_clean.specs.Benches.{ServesBenches}
 use Rattle.check_clean.specs.Levelled.{AreLevels, RestsByLevel}
 
 -- blocks that wait for edges have clocks and resets. Whichever are taken for them, simulation agrees with synthesis in every
 -- order of events. It does from wherever steps from power-up come to rest with inputs and registers known, and so after every
 -- bring-up where each register has a reset; there is one but where an input resets one process at 1 and another at 0. From
--- wherever a step starts, every run comes to rest, and by level within the budget of a step
+-- wherever a step starts, every run comes to rest, and by level within the budget of a step. All this is so, too, where a test
+-- bench gives data beside a turn of a clock or a reset, by nonblocking assignments
 pub record IsPromised (d : Flat) : Type 0 where
   pub chains : ℕ → Chain
   pub chained : AreChains d chains
@@ -29,6 +31,7 @@ pub record IsPromised (d : Flat) : Type 0 where
   pub bring_ups : (choice : ℕ → Chain) → AreChains d choice → BringUpsAre d choice
   pub ends : RunsEnd d
   pub levelled : (level : ℕ → Option ℕ) → AreLevels d level → RestsByLevel d level
+  pub benches : ServesBenches d
 
 -- so it is where none of all findings of a lawful design is of the first grade
 abbrev pub PromisedByRules : Parts → Type 0

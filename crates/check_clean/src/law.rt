@@ -1,6 +1,7 @@
 //! What a design without findings of the first grade is.
 
 ghost use Rattle.rtl_flat.specs.Flats.{Flat, Parts};
+ghost use Rattle.check_clean.specs.Benches.{BenchesByRules};
 ghost use Rattle.check_clean.specs.Clean.{CleanByRules};
 ghost use Rattle.check_clean.specs.Ending.{EndsByRules, FulfilledByRules, HasRunsByRules, SettledAreReached};
 ghost use Rattle.check_clean.specs.Promise.{PromisedByRules, SettlesByRules};
@@ -40,4 +41,10 @@ pub fn states_follow()
 /// register has a reset, every bring-up leads to a settled state.
 pub fn fulfilled()
     ensures { (d : Parts) → FulfilledByRules d }
+{}
+
+/// It agrees, too, where a test bench turns a clock or a reset and gives data beside it by nonblocking assignments,
+/// and such steps end.
+pub fn benches()
+    ensures { (d : Parts) → BenchesByRules d }
 {}

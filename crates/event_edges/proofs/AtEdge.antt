@@ -23,13 +23,15 @@ use Rattle.event_runs.proofs.event_laws_proofs.Laws.{depends, outside_inside}
 use Rattle.event_runs.specs.Effects.{delayed_after, laters, run_made}
 use Rattle.event_runs.specs.Plain.{ran_by}
 use Rattle.event_runs.proofs.Laws.{effect}
+use Rattle.event_edges.specs.Laws.{HaveTaken}
+use Rattle.event_edges.specs.Moves.{IsBeside}
 use Rattle.event_edges.specs.Quiet.{IsQuietRun}
-use Rattle.event_edges.specs.Registers.{due_bit, updates_bit}
+use Rattle.event_edges.specs.Registers.{updates_bit}
 use Rattle.event_edges.specs.Synchronous.{IsItem, IsSynchronous}
 use Rattle.event_edges.specs.Turned.{IsClockedTemporary, IsEdgeStart, IsTurn, IsTurning, fires, found_at, item_fires, set_to, IsTurnedAt}
 use Rattle.event_edges.proofs.Cone.{item_fixed, item_in_cone, item_reached, item_whole, item_width, listed_item, reached_apart, unread_outside}
-use Rattle.event_edges.proofs.Due.{due_rest, due_run, its_sole, not_others, of_body, quiet_run}
-use Rattle.event_edges.proofs.Going.{IsGoing, IsSplit, all_turned, is_turn, split, starts}
+use Rattle.event_edges.proofs.Due.{due_rest, its_sole, not_others, of_body}
+use Rattle.event_edges.proofs.Going.{IsGoing, IsSplit, all_turned, is_turn, split, split_beside, starts}
 use Rattle.event_edges.proofs.Hearing.{any_same, falsely, find, happens_same, or_none}
 use Rattle.event_edges.proofs.Ports.{one_bit}
 use Rattle.event_edges.proofs.Registers.{choose, not_over, refuse, updates_append}
@@ -111,8 +113,7 @@ module _ (d : Flat) (sync : IsSynchronous d) (c : ℕ) (a b : Bit) where
   module _ (s0 : State) (start : IsEdgeStart d c a b s0) (t : State) where
     module _ (Inv : (ℕ → Bool) → State → Type 0) (parts : IsSplit d sync c a b s0.value (is_turn d sync c a b s0 start) Inv t) where
       behind : IsQuietRun d parts.next t
-      behind =
-          subst (IsQuietRun d parts.next) parts.leads (quiet_run d sync parts.next parts.events parts.order parts.quiet parts.can)
+      behind = parts.ends.behind
 
       pub cone_same : (i k : ℕ) → InClockCone d i → Same t.value parts.last.value i k
       cone_same i k cone =
@@ -194,54 +195,69 @@ module _ (d : Flat) (sync : IsSynchronous d) (c : ℕ) (a b : Bit) where
         comes parts rest lasting =
             let before = parts.going.turning.kept i k (λ reached. reached_apart d sync c start.clock.input i reached (of_body d sync p list body is i k may)) (λ m. lasting (record { process = m.process; of_process = m.of_process })) in
             sym (due_rest t i k rest.no_active.updates rest.no_delayed)
-            ∙ ap (λ u. due_bit u i k) (sym parts.leads)
-            ∙ due_run d sync p list body is i k may parts.next parts.events parts.order parts.quiet parts.can
+            ∙ parts.ends.due p list body is i k may
             ∙ parts.due i k
             ∙ parts.inv (bit parts.last.value i k)
             ∙ ap (λ y. if parts.ran p then made y else y) before
             ∙ ap (λ (z : Bool). if z then made (bit s0.value i k) else bit s0.value i k) (sym (fired Asked parts p list body is))
 
-  -- the way of a run to rest
-  pub parts_of :
-      (s : State) (start : IsEdgeStart d c a b s) (events : List Event) → CanRun d (set_to s c b) events → (t : State) → run d (set_to s c b) events ≡ t →
-      IsAtRest d t → IsSplit d sync c a b s.value (is_turn d sync c a b s start) (λ ran u. Unit {0}) t
-  parts_of s start events can t leads rest =
-      subst (IsSplit d sync c a b s.value (is_turn d sync c a b s start) (λ ran u. Unit {0})) leads
-      (split d sync c a b s.value (is_turn d sync c a b s start) (λ ran u. Unit {0}) (λ ran u event g there active inv. tt) (λ q. false) (set_to s c b) events
-      (starts d sync c a b s start) tt can (subst (IsAtRest d) (sym leads) rest))
+  -- ---- steps
 
-  pub cone_turns :
-      (s : State) → IsEdgeStart d c a b s → (events : List Event) → CanRun d (set_to s c b) events → (t : State) → run d (set_to s c b) events ≡ t →
-      IsAtRest d t → IsTurnedAt d c b s t
-  cone_turns s start events can t leads rest =
-      let parts = parts_of s start events can t leads rest in
-      let turn = is_turn d sync c a b s start in
-      record {
-        turned = λ i reached.
-            one_bit (t.value i) b (wide s start t (λ ran u. Unit {0}) parts i ∙ sym (turn.wide i) ∙ ap length (turn.before i reached))
-            (turned s start t (λ ran u. Unit {0}) parts i reached);
-        others = λ i k cone apart.
-            cone_same s start t (λ ran u. Unit {0}) parts i k cone
-            ∙ parts.going.turning.kept i k apart (λ m. reached_apart d sync cone.clock cone.is_clock.input i cone.reached m.of_process.variable);
-      }
+  -- how a step is split, for each condition that events keep up to the activation
+  module _ (s : State) (start : IsEdgeStart d c a b s) (t : State) (rest : IsAtRest d t) (parts : (Inv : (ℕ → Bool) → State → Type 0) → ((ran : ℕ → Bool) (u : State) (event : Event) → IsGoing d c a b s.value ran u → IsThere d u event → event ≢ Activate → Inv ran u → Inv (ran_by ran event) (after d u event)) → Inv (λ q. false) (set_to s c b) → IsSplit d sync c a b s.value (is_turn d sync c a b s start) Inv t) where
+    one : IsSplit d sync c a b s.value (is_turn d sync c a b s start) (λ ran u. Unit {0}) t
+    one = parts (λ ran u. Unit {0}) (λ ran u event g there active inv. tt) tt
 
-  pub at_edge :
-      (s : State) → IsEdgeStart d c a b s → (events : List Event) → CanRun d (set_to s c b) events → (t : State) → run d (set_to s c b) events ≡ t → IsAtRest d t →
-      (p : ℕ) (list : List Watched) (body : Actions) → doing_at d p ≡ Some (Edge' list body) →
-      FollowsPath (widths d) (found_at (widths d) list s.value t.value) body →
-      (i k : ℕ) → MayWrite (body_flow (widths d) body) i k → IsLasting d i →
-      bit t.value i k ≡ (if fires s.value t.value list then updates_bit i k (laters (body_made (widths d) (found_at (widths d) list s.value t.value) body)) (bit s.value i k) else bit s.value i k)
-  at_edge s start events can t leads rest p list body is path i k may lasting =
-      let old = s.value in
-      let aim = found_at (widths d) list old t.value in
-      let turn = is_turn d sync c a b s start in
-      let going = starts d sync c a b s start in
-      let ends : IsAtRest d (run d (set_to s c b) events) = subst (IsAtRest d) (sym leads) rest in
-      let one = parts_of s start events can t leads rest in
-      let wide_aim : HaveWidths d aim = λ j. either_wide (items_list (widths d) list j 0) (t.value j) (old j) (widths d j) (wide s start t (λ ran u. Unit {0}) one j) (turn.wide j) in
-      let agrees = λ (ran : ℕ → Bool) (u : State) (h : IsTurning d c a b old ran u) (woken : u.woken p ≡ true) (j n : ℕ) (reads : ReadsOutside (body_flow (widths d) body) j n). finds old turn p list body is ran u h woken t.value (turned s start t (λ ran' u'. Unit {0}) one) (others s start t (λ ran' u'. Unit {0}) one p list body is) j n reads in
-      let asked : Asked s start t p list body is i k may aim (λ q. false) (set_to s c b) = λ x. ap (λ us. updates_bit i k us x) start.rest.no_delayed in
-      let two : IsSplit d sync c a b old turn (Asked s start t p list body is i k may aim) t =
-      subst (IsSplit d sync c a b old turn (Asked s start t p list body is i k may aim)) leads
-      (split d sync c a b old turn (Asked s start t p list body is i k may aim) (keeps s start t p list body is i k may aim path wide_aim agrees) (λ q. false) (set_to s c b) events going asked can ends) in
-      comes s start t p list body is i k may aim path wide_aim agrees two rest lasting
+    turn : IsTurn d c a b s.value
+    turn = is_turn d sync c a b s start
+
+    turned_cone : IsTurnedAt d c b s t
+    turned_cone =
+        record {
+          turned = λ i reached.
+              one_bit (t.value i) b (wide s start t (λ ran u. Unit {0}) one i ∙ sym (turn.wide i) ∙ ap length (turn.before i reached))
+              (turned s start t (λ ran u. Unit {0}) one i reached);
+          others = λ i k cone apart.
+              cone_same s start t (λ ran u. Unit {0}) one i k cone
+              ∙ one.going.turning.kept i k apart (λ m. reached_apart d sync cone.clock cone.is_clock.input i cone.reached m.of_process.variable);
+        }
+
+    taken : HaveTaken d s t
+    taken p list body is path i k may lasting =
+        let old = s.value in
+        let aim = found_at (widths d) list old t.value in
+        let wide_aim : HaveWidths d aim = λ j. either_wide (items_list (widths d) list j 0) (t.value j) (old j) (widths d j) (wide s start t (λ ran u. Unit {0}) one j) (turn.wide j) in
+        let agrees = λ (ran : ℕ → Bool) (u : State) (h : IsTurning d c a b old ran u) (woken : u.woken p ≡ true) (j n : ℕ) (reads : ReadsOutside (body_flow (widths d) body) j n). finds old turn p list body is ran u h woken t.value (turned s start t (λ ran' u'. Unit {0}) one) (others s start t (λ ran' u'. Unit {0}) one p list body is) j n reads in
+        let asked : Asked s start t p list body is i k may aim (λ q. false) (set_to s c b) = λ x. ap (λ us. updates_bit i k us x) start.rest.no_delayed in
+        let two = parts (Asked s start t p list body is i k may aim) (keeps s start t p list body is i k may aim path wide_aim agrees) asked in
+        comes s start t p list body is i k may aim path wide_aim agrees two rest lasting
+
+  module _ (s : State) (start : IsEdgeStart d c a b s) (events : List Event) (can : CanRun d (set_to s c b) events) (t : State) (leads : run d (set_to s c b) events ≡ t) (rest : IsAtRest d t) where
+    parts_of :
+        (Inv : (ℕ → Bool) → State → Type 0) →
+        ((ran : ℕ → Bool) (u : State) (event : Event) → IsGoing d c a b s.value ran u → IsThere d u event → event ≢ Activate → Inv ran u → Inv (ran_by ran event) (after d u event)) →
+        Inv (λ q. false) (set_to s c b) → IsSplit d sync c a b s.value (is_turn d sync c a b s start) Inv t
+    parts_of Inv kept first =
+        subst (IsSplit d sync c a b s.value (is_turn d sync c a b s start) Inv) leads
+        (split d sync c a b s.value (is_turn d sync c a b s start) Inv kept (λ q. false) (set_to s c b) events (starts d sync c a b s start) first can
+        (subst (IsAtRest d) (sym leads) rest))
+
+    pub cone_turns : IsTurnedAt d c b s t
+    cone_turns = turned_cone s start t rest parts_of
+
+    pub at_edge : HaveTaken d s t
+    at_edge = taken s start t rest parts_of
+
+  module _ (s : State) (start : IsEdgeStart d c a b s) (t : State) (way : IsBeside d (set_to s c b) t) (rest : IsAtRest d t) where
+    parts_beside :
+        (Inv : (ℕ → Bool) → State → Type 0) →
+        ((ran : ℕ → Bool) (u : State) (event : Event) → IsGoing d c a b s.value ran u → IsThere d u event → event ≢ Activate → Inv ran u → Inv (ran_by ran event) (after d u event)) →
+        Inv (λ q. false) (set_to s c b) → IsSplit d sync c a b s.value (is_turn d sync c a b s start) Inv t
+    parts_beside Inv kept first =
+        split_beside d sync c a b s.value (is_turn d sync c a b s start) Inv kept (λ q. false) (set_to s c b) t way (starts d sync c a b s start) first
+
+    pub turned_beside : IsTurnedAt d c b s t
+    turned_beside = turned_cone s start t rest parts_beside
+
+    pub taken_beside : HaveTaken d s t
+    taken_beside = taken s start t rest parts_beside

@@ -106,7 +106,7 @@ module _ (d : Flat) (sync : IsSynchronous d) where
       }
 
   -- a body that isn't woken doesn't run
-  at_rest : (s : State) (p : ℕ) → s.woken p ≡ false → (event : Event) → IsThere d s event → runs event p ≡ false
+  pub at_rest : (s : State) (p : ℕ) → s.woken p ≡ false → (event : Event) → IsThere d s event → runs event p ≡ false
   at_rest s p still (Input i) there = refl
   at_rest s p still (Evaluate q) there = refl
   at_rest s p still (Update q) there = refl

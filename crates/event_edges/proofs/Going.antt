@@ -1,6 +1,6 @@
 -- A step of one clock or reset, from its start up to rest: first the turn, then, once its nonblocking updates are active,
 -- a quiet run.
-use Rattle.std.proofs.Common.{◌≡◌, ◌≢◌, ◌∙◌, ◌||◌, ◌&&◌, ℕ, Bool, false, List, [], ◌∷◌, None, Some, All, length, refl, sym, ap, inl, inr}
+use Rattle.std.proofs.Common.{◌≡◌, ◌≢◌, ◌∙◌, ◌||◌, ◌&&◌, ℕ, Bool, false, List, [], ◌∷◌, None, Some, All, length, refl, sym, ap, subst, inl, inr}
 use Rattle.std.specs.Prelude.{IsSome, is_some, unwrap_or}
 use Rattle.std.proofs.lemmas.Bool.{cases_eq, false≢true}
 use Rattle.std.proofs.lemmas.List.Elements.{All-head, All-tail}
@@ -16,11 +16,13 @@ use Rattle.event_runs.specs.Nets.{AreOffered, AreResolved}
 use Rattle.event_runs.specs.Plain.{ran_after, ran_by}
 use Rattle.event_runs.specs.Writers.{IsOrderly, are_over}
 use Rattle.event_runs.proofs.Laws.{driven_resolved, offer_gives, offered_after, orderly_after, orderly_offer, resolved_after}
+use Rattle.event_edges.specs.Moves.{Activated, IsActivated, IsBeside, NoneThere, move_all}
 use Rattle.event_edges.specs.Quiet.{IsQuiet}
 use Rattle.event_edges.specs.Registers.{due_bit, updates_bit}
 use Rattle.event_edges.specs.Synchronous.{IsSynchronous}
 use Rattle.event_edges.specs.Turned.{IsEdgeStart, IsTurn, IsTurning, fires, set_to}
 use Rattle.event_edges.proofs.Hearing.{happens_same}
+use Rattle.event_edges.proofs.Moves.{IsQuietEnd, quiet_events, quiet_moves}
 use Rattle.event_edges.proofs.Ports.{follows, resolves}
 use Rattle.event_edges.proofs.Turns.{turning_after}
 
@@ -149,48 +151,46 @@ module _ (d : Flat) (sync : IsSynchronous d) (c : ℕ) (a b : Bit) where
       pub next : State
       pub value : next.value ≡ last.value
       pub due : (i k : ℕ) → due_bit next i k ≡ updates_bit i k last.delayed (bit last.value i k)
-      pub order : IsOrderly d next
-      pub quiet : IsQuiet d next
-      pub events : List Event
-      pub can : CanRun d next events
-      pub leads : run d next events ≡ t
+      pub ends : IsQuietEnd d next t
 
     module _ (Inv : (ℕ → Bool) → State → Type 0) (keeps : (ran : ℕ → Bool) (s : State) (event : Event) → IsGoing d c a b old ran s → IsThere d s event → event ≢ Activate → Inv ran s → Inv (ran_by ran event) (after d s event)) where
+      -- where no active event is left, nonblocking updates become active if there are any
+      ending :
+          (ran : ℕ → Bool) (s : State) → IsGoing d c a b old ran s → Inv ran s → HasNoActive d s → (next : State) → IsActivated d s next →
+          (t : State) → (IsOrderly d next → IsQuiet d next → IsQuietEnd d next t) → IsSplit Inv t
+      ending ran s going inv still _ (NoneThere none) t behind =
+          record {
+            ran = ran;
+            last = s;
+            going = going;
+            inv = inv;
+            still = still;
+            next = s;
+            value = refl;
+            due = λ i k. ap (λ us. updates_bit i k s.delayed (updates_bit i k us (bit s.value i k))) going.turning.activated;
+            ends = behind going.order (quiet_at d s still s refl refl refl none);
+          }
+      ending ran s going inv still _ (Activated some) t behind =
+          record {
+            ran = ran;
+            last = s;
+            going = going;
+            inv = inv;
+            still = still;
+            next = after d s Activate;
+            value = refl;
+            due = λ i k. refl;
+            ends = behind (orderly_after d sync.lawful s Activate (still, some) going.order) (quiet_at d s still (after d s Activate) refl refl refl refl);
+          }
+
       pub split :
           (ran : ℕ → Bool) (s : State) (events : List Event) → IsGoing d c a b old ran s → Inv ran s → CanRun d s events → IsAtRest d (run d s events) →
           IsSplit Inv (run d s events)
       split ran s [] going inv can rest =
-          record {
-            ran = ran;
-            last = s;
-            going = going;
-            inv = inv;
-            still = rest.no_active;
-            next = s;
-            value = refl;
-            due = λ i k. ap (λ us. updates_bit i k s.delayed (updates_bit i k us (bit s.value i k))) going.turning.activated;
-            order = going.order;
-            quiet = quiet_at d s rest.no_active s refl refl refl rest.no_delayed;
-            events = [];
-            can = tt;
-            leads = refl;
-          }
+          ending ran s going inv rest.no_active s (NoneThere rest.no_delayed) s (quiet_events d sync s [] tt)
       split ran s (Activate ∷ events) going inv can rest =
-          record {
-            ran = ran;
-            last = s;
-            going = going;
-            inv = inv;
-            still = can.0.0;
-            next = after d s Activate;
-            value = refl;
-            due = λ i k. refl;
-            order = orderly_after d sync.lawful s Activate can.0 going.order;
-            quiet = quiet_at d s can.0.0 (after d s Activate) refl refl refl refl;
-            events = events;
-            can = can.1;
-            leads = refl;
-          }
+          ending ran s going inv can.0.0 (after d s Activate) (Activated can.0.1) (run d (after d s Activate) events)
+          (quiet_events d sync (after d s Activate) events can.1)
       split ran s (Input i ∷ events) going inv can rest =
           split (ran_by ran (Input i)) (after d s (Input i)) events (going_after ran s going (Input i) can.0 (λ h. cc)) (keeps ran s (Input i) going can.0 (λ h. cc) inv) can.1 rest
       split ran s (Evaluate p ∷ events) going inv can rest =
@@ -201,3 +201,20 @@ module _ (d : Flat) (sync : IsSynchronous d) (c : ℕ) (a b : Bit) where
           split (ran_by ran (Run p)) (after d s (Run p)) events (going_after ran s going (Run p) can.0 (λ h. cc)) (keeps ran s (Run p) going can.0 (λ h. cc) inv) can.1 rest
       split ran s (Delayed ∷ events) going inv can rest =
           split (ran_by ran Delayed) (after d s Delayed) events (going_after ran s going Delayed can.0 (λ h. cc)) (keeps ran s Delayed going can.0 (λ h. cc) inv) can.1 rest
+
+      -- the same with data beside the turn
+      keeps_run :
+          (ran : ℕ → Bool) (s : State) (events : List Event) → CanRun d s events → All (λ event. event ≢ Activate) events → IsGoing d c a b old ran s →
+          Inv ran s → Inv (ran_after ran events) (run d s events)
+      keeps_run ran s [] can active going inv = inv
+      keeps_run ran s (event ∷ events) can active going inv =
+          let other = All-head (λ (e : Event). e ≢ Activate) event events active in
+          keeps_run (ran_by ran event) (after d s event) events can.1 (All-tail (λ (e : Event). e ≢ Activate) event events active)
+          (going_after ran s going event can.0 other) (keeps ran s event going can.0 other inv)
+
+      pub split_beside : (ran : ℕ → Bool) (s t : State) → IsBeside d s t → IsGoing d c a b old ran s → Inv ran s → IsSplit Inv t
+      split_beside ran s t way going inv =
+          subst (IsSplit Inv) way.leads
+          (ending (ran_after ran way.early) (run d s way.early) (going_run ran s way.early way.can_early way.before going)
+          (keeps_run ran s way.early way.can_early way.before going inv) way.still way.next way.activated (move_all d way.next way.late)
+          (quiet_moves d sync way.next way.late way.can_late))

@@ -1,27 +1,19 @@
 -- The laws of steps, as they are stated.
-use Rattle.std.proofs.Common.{◌≡◌, ◌≢◌, ◌∙◌, ℕ, false, List, [], ◌∷◌, Option, None, Some, refl, sym, ap, subst, inl, inr}
-use Rattle.std.specs.Prelude.{IsTrue, is_some}
-use Rattle.std.proofs.lemmas.Bool.{cases_eq, false≢true}
+use Rattle.std.proofs.Common.{◌≢◌, ◌∙◌, false, [], ◌∷◌, refl, sym}
 use Rattle.std.proofs.lemmas.List.Elements.{All-head, All-tail}
-use Rattle.rtl_bits.specs.declared.Bit.{Bit}
-use Rattle.event_model.specs.Queue.{Event, Activate, after, is_input, run}
+use Rattle.event_model.specs.Queue.{Event, Activate, after, run}
 use Rattle.rtl_flat.specs.Flats.{Flat}
 use Rattle.event_model.specs.Writes.{put}
 use Rattle.event_runs.specs.event_laws.Steady.{AreLawful}
-use Rattle.event_runs.proofs.event_laws_proofs.Lengths.{put_at, put_other}
-use Rattle.net_model.specs.Control.{InClockCone, IsClockOrReset, IsReached, Itself, Through}
-use Rattle.event_runs.specs.Nets.{offered_after}
+use Rattle.event_runs.proofs.event_laws_proofs.Lengths.{put_at}
 use Rattle.event_runs.specs.Plain.{ran_after, ran_by}
-use Rattle.event_runs.proofs.Laws.{offer_leaves}
-use Rattle.event_runs.proofs.Signals.{net_input}
-use Rattle.event_edges.specs.Laws.{ActivationIsQuiet, AllTurn, DataIsQuiet, KeepsRegisters, KeepsTurning, ResetsSet, RunsAreQuiet, RunsKeepTurning, SetAtRest, StepsBegin, TakesEdges, TurnsCone}
-use Rattle.event_edges.specs.Quiet.{IsQuiet, SetData}
+use Rattle.event_edges.specs.Laws.{ActivationIsQuiet, AllTurn, DataIsQuiet, KeepsRegisters, KeepsTurning, MovesAreQuiet, MovesKeepDue, ResetsSet, RunsAreQuiet, RunsKeepTurning, SetAtRest, StepsBegin, TakesBeside, TakesEdges, TurnsCone, TurnsConeBeside}
 use Rattle.event_edges.specs.Synchronous.{IsSynchronous}
 use Rattle.event_edges.specs.Turned.{set_to}
 use Rattle.event_edges.proofs.AtEdge as edge
-use Rattle.event_edges.proofs.Cone.{port_net}
 use Rattle.event_edges.proofs.Due as due
 use Rattle.event_edges.proofs.Going as going
+use Rattle.event_edges.proofs.Moves as moves
 use Rattle.event_edges.proofs.Ports.{resolves}
 use Rattle.event_edges.proofs.Resets as reset
 use Rattle.event_edges.proofs.Turns as turns
@@ -77,38 +69,20 @@ pub set_at_rest : (d : Flat) → AreLawful d → SetAtRest d
 set_at_rest d lawful p r active i k constant is s rest set now =
     reset.set_at_rest d lawful p r active i k constant is s rest set now
 
--- ---- steps of data
+-- ---- data
 
-module _ (d : Flat) (sync : IsSynchronous d) where
-  -- an input of the cone is a clock or a reset
-  input_clock : (i : ℕ) → IsTrue (is_input d i) → InClockCone d i → IsClockOrReset d i
-  input_clock i input cone = by i cone.clock cone.is_clock cone.reached input
-    where
-      by : (i c : ℕ) → IsClockOrReset d c → IsReached d c i → IsTrue (is_input d i) → IsClockOrReset d i
-      by _ c clock Itself input = clock
-      by _ c clock (Through k j reached passed) input = absurd (net_input d j (port_net d sync k j passed) input)
+pub data_quiet : (d : Flat) → IsSynchronous d → DataIsQuiet d
+data_quiet d sync s step rest set =
+    moves.quiet_offer d sync s (going.quiet_at d s rest.no_active s refl refl refl rest.no_delayed) step set
 
-  -- what is offered by a step of data to an input of the cone, nothing was offered to before
-  no_offer : (offered : ℕ → Option (List Bit)) (step : List (ℕ × List Bit)) → SetData d step → (i : ℕ) → IsTrue (is_input d i) → InClockCone d i → offered i ≡ None → offered_after offered step i ≡ None
-  no_offer offered [] set i input cone none = none
-  no_offer offered ((j, bits) ∷ step) set i input cone none =
-      no_offer (put offered j (Some bits)) step set.2 i input cone
-      (elim (cases_eq i j) [
-        | inl same ↦ absurd (set.0.no_clock (subst (IsClockOrReset d) same (input_clock i input cone)))
-        | inr other ↦ put_other offered j i (Some bits) other ∙ none
-      ])
+pub quiet_moves : (d : Flat) → IsSynchronous d → MovesAreQuiet d
+quiet_moves d sync s moved can order quiet = (moves.quiet_moves d sync s moved can order quiet).behind
 
-  pub data_quiet : DataIsQuiet d
-  data_quiet s step rest set =
-      subst (IsQuiet d) (sym (offer_leaves d s step))
-      (record {
-        offered = λ i input some cone.
-            false≢true (sym (ap is_some (no_offer s.offered step set i input cone (rest.no_active.inputs i input))) ∙ some);
-        blocks = at_rest.blocks;
-        ports = at_rest.ports;
-        pending = at_rest.pending;
-        delayed = at_rest.delayed;
-      })
-    where
-      at_rest : IsQuiet d s
-      at_rest = going.quiet_at d s rest.no_active s refl refl refl rest.no_delayed
+pub due_moves : (d : Flat) → IsSynchronous d → MovesKeepDue d
+due_moves d sync s moved can order quiet = (moves.quiet_moves d sync s moved can order quiet).due
+
+pub turned_beside : (d : Flat) → IsSynchronous d → TurnsConeBeside d
+turned_beside d sync c a b = edge.turned_beside d sync c a b
+
+pub taken_beside : (d : Flat) → IsSynchronous d → TakesBeside d
+taken_beside d sync c a b = edge.taken_beside d sync c a b

@@ -5,6 +5,8 @@ mod Example
 pub mod Going
 pub mod Hearing
 pub mod Laws
+pub mod Levels
+pub mod Moves
 pub mod Ports
 pub mod Quiet
 pub mod Registers

@@ -49,13 +49,13 @@ if_none true u x o h none = absurd (true≢false h)
 -- ---- writes that are heard
 
 -- a bit that some write is over and to which a process is sensitive
-record IsSomeHeard (d : Flat) (us : List Write) (does : Doing) : Type 0 where
-  signal : ℕ
-  bit : ℕ
-  over : IsOver signal bit us
-  listened : sensitive (widths d) does signal bit ≡ true
+pub record IsSomeHeard (d : Flat) (us : List Write) (does : Doing) : Type 0 where
+  pub signal : ℕ
+  pub bit : ℕ
+  pub over : IsOver signal bit us
+  pub listened : sensitive (widths d) does signal bit ≡ true
 
-some_heard :
+pub some_heard :
     (d : Flat) (does : Doing) (v : Values) (us : List Write) → HaveWidths d v → All (IsWithin (widths d)) us →
     is_heard d v us (Some does) ≡ true → IsSomeHeard d us does
 some_heard d does v [] have inside h = absurd (false≢true h)

@@ -38,7 +38,7 @@ module _ (d : Flat) (i k : ℕ) where
       all_written_bit (written v w) us (have_written d v w have here) (All-tail (IsWithin (widths d)) w us inside)
       ∙ ap (update_bit i k us) (written_bit v w have here)
 
-not_updated : (i k : ℕ) (us : List Write) (b : Bit) → list_any (covers i k) us ≡ false → update_bit i k us b ≡ b
+pub not_updated : (i k : ℕ) (us : List Write) (b : Bit) → list_any (covers i k) us ≡ false → update_bit i k us b ≡ b
 not_updated i k [] b none = refl
 not_updated i k (w ∷ us) b none =
     let parts = or_parts (covers i k w) (list_any (covers i k) us) none in

@@ -16,8 +16,9 @@ use Rattle.net_model.specs.Solution.{IsLasting}
 use Rattle.event_runs.specs.Effects.{laters}
 use Rattle.event_runs.specs.Plain.{ran_after, ran_by}
 use Rattle.event_runs.specs.Writers.{IsOrderly}
+use Rattle.event_edges.specs.Moves.{CanMove, IsBeside, Move, move_all}
 use Rattle.event_edges.specs.Quiet.{IsQuiet, IsQuietRun, SetData}
-use Rattle.event_edges.specs.Registers.{updates_bit}
+use Rattle.event_edges.specs.Registers.{due_bit, updates_bit}
 use Rattle.event_edges.specs.Reset.{IsReset, IsSet}
 use Rattle.event_edges.specs.Turned.{IsEdgeStart, IsTurn, IsTurnedAt, IsTurning, fires, found_at, set_to}
 
@@ -69,6 +70,18 @@ abbrev pub RunsAreQuiet : Flat → Type 0
 RunsAreQuiet d =
     (s : State) (events : List Event) → CanRun d s events → IsOrderly d s → IsQuiet d s → IsQuietRun d s (run d s events)
 
+-- so do moves, data that are given among them
+abbrev pub MovesAreQuiet : Flat → Type 0
+MovesAreQuiet d =
+    (s : State) (moves : List Move) → CanMove d s moves → IsOrderly d s → IsQuiet d s → IsQuietRun d s (move_all d s moves)
+
+-- and what is due to a register stays
+abbrev pub MovesKeepDue : Flat → Type 0
+MovesKeepDue d =
+    (s : State) (moves : List Move) → CanMove d s moves → IsOrderly d s → IsQuiet d s →
+    (p : ℕ) (list : List Watched) (body : Actions) → doing_at d p ≡ Some (Edge' list body) →
+    (i k : ℕ) → MayWrite (body_flow (widths d) body) i k → due_bit (move_all d s moves) i k ≡ due_bit s i k
+
 -- at rest after a step of one clock or reset what is reached from it has turned, and no other clock or reset has changed
 abbrev pub TurnsCone : Flat → Type 0
 TurnsCone d =
@@ -76,21 +89,37 @@ TurnsCone d =
     (events : List Event) → CanRun d (set_to s c b) events →
     (t : State) → run d (set_to s c b) events ≡ t → IsAtRest d t → IsTurnedAt d c b s t
 
+-- the same with data beside it
+abbrev pub TurnsConeBeside : Flat → Type 0
+TurnsConeBeside d =
+    (c : ℕ) (a b : Bit) (s : State) → IsEdgeStart d c a b s →
+    (t : State) → IsBeside d (set_to s c b) t → IsAtRest d t → IsTurnedAt d c b s t
+
 -- ---- registers
 
--- at rest after a step of one clock or reset a register has what its body asked for, if an event of the body came: it
--- found clocks and resets among its events as they are then, and all else as it was before the step
-abbrev pub TakesEdges : Flat → Type 0
-TakesEdges d =
-    (c : ℕ) (a b : Bit) (s : State) → IsEdgeStart d c a b s →
-    (events : List Event) → CanRun d (set_to s c b) events →
-    (t : State) → run d (set_to s c b) events ≡ t → IsAtRest d t →
+-- between a state and one behind it a register has taken what its body asked for, if an event of the body came: it found
+-- clocks and resets among its events as they are then, and all else as it was before
+abbrev pub HaveTaken : Flat → State → State → Type 0
+HaveTaken d s t =
     (p : ℕ) (list : List Watched) (body : Actions) → doing_at d p ≡ Some (Edge' list body) →
     FollowsPath (widths d) (found_at (widths d) list s.value t.value) body →
     (i k : ℕ) → MayWrite (body_flow (widths d) body) i k → IsLasting d i →
     let found = found_at (widths d) list s.value t.value in
     let asked = updates_bit i k (laters (body_made (widths d) found body)) (bit s.value i k) in
     bit t.value i k ≡ (if fires s.value t.value list then asked else bit s.value i k)
+
+-- at rest after a step of one clock or reset registers have
+abbrev pub TakesEdges : Flat → Type 0
+TakesEdges d =
+    (c : ℕ) (a b : Bit) (s : State) → IsEdgeStart d c a b s →
+    (events : List Event) → CanRun d (set_to s c b) events →
+    (t : State) → run d (set_to s c b) events ≡ t → IsAtRest d t → HaveTaken d s t
+
+-- with data beside it they have taken the same, from the values before the step
+abbrev pub TakesBeside : Flat → Type 0
+TakesBeside d =
+    (c : ℕ) (a b : Bit) (s : State) → IsEdgeStart d c a b s →
+    (t : State) → IsBeside d (set_to s c b) t → IsAtRest d t → HaveTaken d s t
 
 -- at rest after a quiet run a register has what it had, where no update was to be made
 abbrev pub KeepsRegisters : Flat → Type 0

@@ -1,4 +1,6 @@
 pub mod Laws
+pub mod Levels
+pub mod Moves
 pub mod Quiet
 pub mod Registers
 pub mod Reset

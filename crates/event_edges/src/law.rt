@@ -2,7 +2,8 @@
 
 ghost use Rattle.rtl_flat.specs.Flats.{Flat};
 ghost use Rattle.event_runs.specs.event_laws.Steady.{AreLawful};
-ghost use Rattle.event_edges.specs.Laws.{ActivationIsQuiet, AllTurn, DataIsQuiet, KeepsRegisters, KeepsTurning, ResetsSet, RunsAreQuiet, RunsKeepTurning, SetAtRest, StepsBegin, TakesEdges, TurnsCone};
+ghost use Rattle.event_edges.specs.Laws.{ActivationIsQuiet, AllTurn, DataIsQuiet, KeepsRegisters, KeepsTurning, MovesAreQuiet, MovesKeepDue, ResetsSet, RunsAreQuiet, RunsKeepTurning, SetAtRest, StepsBegin, TakesBeside, TakesEdges, TurnsCone, TurnsConeBeside};
+ghost use Rattle.event_edges.specs.Levels.{UnfiredKeepDue};
 ghost use Rattle.event_edges.specs.Synchronous.{IsSynchronous};
 
 /// A step that turns one clock or reset begins a turn.
@@ -41,6 +42,16 @@ pub fn quiet_run()
     ensures { (d : Flat) → IsSynchronous d → RunsAreQuiet d }
 {}
 
+/// So it is where data are given meanwhile.
+pub fn quiet_moves()
+    ensures { (d : Flat) → IsSynchronous d → MovesAreQuiet d }
+{}
+
+/// And what is due to a register stays.
+pub fn due_moves()
+    ensures { (d : Flat) → IsSynchronous d → MovesKeepDue d }
+{}
+
 /// At rest after a step of one clock or reset all that is reached from it has turned, and the rest of the clock cone is
 /// as it was.
 pub fn cone_turns()
@@ -51,6 +62,16 @@ pub fn cone_turns()
 /// event of the body came, and else what it had.
 pub fn at_edge()
     ensures { (d : Flat) → IsSynchronous d → TakesEdges d }
+{}
+
+/// With data given where nonblocking updates become active, or later, clocks and resets turn as without.
+pub fn turned_beside()
+    ensures { (d : Flat) → IsSynchronous d → TurnsConeBeside d }
+{}
+
+/// And registers take what they take without.
+pub fn taken_beside()
+    ensures { (d : Flat) → IsSynchronous d → TakesBeside d }
 {}
 
 /// At rest after a quiet run a register has what it had.
@@ -66,4 +87,10 @@ pub fn resets_set()
 /// At rest a register whose reset is active has its constant.
 pub fn set_at_rest()
     ensures { (d : Flat) → AreLawful d → SetAtRest d }
+{}
+
+/// Where each clock and each reset goes to one level, at whatever moments, a body none of whose events is such a turn
+/// isn't woken, and what is due to its registers stays.
+pub fn unfired_due()
+    ensures { (d : Flat) → IsSynchronous d → UnfiredKeepDue d }
 {}

@@ -14,13 +14,14 @@ use Rattle.rtl_flat.specs.Flats.{Flat, widths}
 use Rattle.event_model.specs.Writes.{Write, put}
 use Rattle.event_model.proofs.Active.{Each, all_there, no_active}
 use Rattle.event_runs.specs.event_laws.Steady.{AreLawful, IsWithin}
+use Rattle.event_runs.proofs.event_laws_proofs.Lengths.{put_other}
 use Rattle.event_runs.proofs.event_laws_proofs.Steady.{steady_offer}
 use Rattle.event_runs.specs.Effects.{laters, run_made}
 use Rattle.event_runs.specs.Writers.{IsOrderly}
 use Rattle.event_runs.proofs.Late.{late_none, orderly_after, orderly_power_up, orderly_run}
 use Rattle.event_settling.specs.Settling.{Fits, IsSettling}
 use Rattle.event_settling.proofs.Quiet.{IsQuiet, begins_quiet, made_none, quiet_after}
-use Rattle.event_settling.proofs.Totals.{of_some, total, total_list, total_most, total_same}
+use Rattle.event_settling.proofs.Totals.{of_some, total, total_list, total_most, total_raised, total_same}
 use Rattle.event_settling.proofs.Facts.{some_doing}
 use Rattle.event_settling.specs.Ending.{Choice, ComesToRest, Ends, Held, IsFit, IsHeld, IsReached, IsSimulator, IsStart, PowerUp, Stepped, StepsStart, StopsAtRest, bound, first_wave, later_wave, lates, first_events, with_next}
 use Rattle.event_settling.proofs.Falls.{Pays, falls, of_input, of_process, to_come}
@@ -29,7 +30,7 @@ use Rattle.event_settling.proofs.Shares.{all_within, led_within, share}
 
 -- ---- where no event is left
 
-abbrev HasNext : Flat → State → Type 0
+abbrev pub HasNext : Flat → State → Type 0
 HasNext d s = (event : Event) × IsThere d s event
 
 by_active : (d : Flat) (s : State) (es : List Event) → active d s ≡ es → Each (IsThere d s) es → HasNext d s ⊎ HasNoActive d s
@@ -44,7 +45,7 @@ by_delayed d s (u ∷ us) some still = inl (Activate, (still, λ none. cons_some
     cons_some x xs h = cc
 
 -- an event is there, or the queue is at rest
-next_or_rest : (d : Flat) (s : State) → HasNext d s ⊎ IsAtRest d s
+pub next_or_rest : (d : Flat) (s : State) → HasNext d s ⊎ IsAtRest d s
 next_or_rest d s =
     elim (by_active d s (active d s) refl (all_there d s)) [
       | inl next ↦ inl next
@@ -218,7 +219,7 @@ module _ (d : Flat) (lawful : AreLawful d) (level : ℕ → Option ℕ) (cone : 
       omega (arith, woken, pending)) in
       omega (arith, inputs, processes)
 
-  turns : (s : State) → IsThere d s Activate → second (after d s Activate) + 1 ≤ first s
+  pub turns : (s : State) → IsThere d s Activate → second (after d s Activate) + 1 ≤ first s
   turns s there =
       let most = activated s there.0 in
       let more = per_more (later_wave d) s.delayed there.1 in
@@ -252,10 +253,6 @@ module _ (d : Flat) (lawful : AreLawful d) (level : ℕ → Option ℕ) (cone : 
       let less = turns s there in
       (room - 1, omega (arith, less, most), inr (begins_quiet d cone level h s there.0, omega (arith, less, most)))
 
-  by_second : (s : State) (event : Event) (room : ℕ) → IsQuiet d cone (after d s event) → second (after d s event) + 1 ≤ second s → second s ≤ room → Goes s event room
-  by_second s event room quiet less most =
-      (room - 1, omega (arith, less, most), inr (quiet, omega (arith, less, most)))
-
   -- a quiet state has no further activation
   not_again : (s : State) → IsQuiet d cone s → (event : Event) → IsThere d s event → event ≡ Activate → ⊥
   not_again s quiet (Input i) there e = cc
@@ -265,20 +262,67 @@ module _ (d : Flat) (lawful : AreLawful d) (level : ℕ → Option ℕ) (cone : 
   not_again s quiet Delayed there e = cc
   not_again s quiet Activate there e = there.1 quiet.delayed
 
+  -- behind the activation each event leaves fewer to come
+  pub fewer :
+      (s : State) → IsOrderly d s → IsQuiet d cone s → (event : Event) → IsThere d s event →
+      IsQuiet d cone (after d s event) × (second (after d s event) + 1 ≤ second s)
+  fewer s orderly quiet event there = (
+    quiet_after d lawful level cone h s orderly quiet event there,
+    falls d lawful level cone h s orderly (later_wave d) 0 (share d level 2) (pays_second s orderly quiet) event (λ e. not_again s quiet event there e) there,
+  )
+
+  by_second : (s : State) (event : Event) (room : ℕ) → IsQuiet d cone (after d s event) → second (after d s event) + 1 ≤ second s → second s ≤ room → Goes s event room
+  by_second s event room quiet less most =
+      (room - 1, omega (arith, less, most), inr (quiet, omega (arith, less, most)))
+
   pub goes : (s : State) → IsOrderly d s → (room : ℕ) → Lasts s room → (event : Event) → IsThere d s event → Goes s event room
   goes s orderly room (inl most) event there = first_goes s orderly room most event there
   goes s orderly room (inr (quiet, most)) event there =
-      by_second s event room (quiet_after d lawful level cone h s orderly quiet event there)
-      (falls d lawful level cone h s orderly (later_wave d) 0 (share d level 2) (pays_second s orderly quiet) event (λ e. not_again s quiet event there e) there) most
+      let less = fewer s orderly quiet event there in
+      by_second s event room less.0 less.1 most
+
+  -- where nothing is left nothing is to come
+  pub none_left : (s : State) → IsAtRest d s → IsQuiet d cone s × (second s ≤ 0)
+  none_left s rest = subst (λ (u : State). IsQuiet d cone u × (second u ≤ 0)) same (begins_quiet d cone level h emptied still, omega (arith, most))
+    where
+      emptied : State
+      emptied = record s { activated = []; delayed = [] }
+
+      still : HasNoActive d emptied
+      still =
+          record { inputs = rest.no_active.inputs; processes = rest.no_active.processes; drivers = rest.no_active.drivers; updates = refl }
+
+      most : second (after d emptied Activate) ≤ per (later_wave d) emptied.delayed
+      most = activated emptied still
+
+      same : after d emptied Activate ≡ s
+      same =
+          ap (λ (us : List (List Write)). record s { activated = us; delayed = [] }) (sym rest.no_active.updates)
+          ∙ ap (λ (us : List (List Write)). record s { activated = s.activated; delayed = us }) (sym rest.no_delayed)
+
+  -- each value that is offered behind the activation adds what comes of an input there
+  one_more : (s : State) (i : ℕ) (bits : List Bit) → second (record s { offered = put s.offered i (Some bits) }) ≤ second s + later_wave d
+  one_more s i bits =
+      let more = total_raised (length d.signals) i (later_wave d) (of_input d (record s { offered = put s.offered i (Some bits) }) (later_wave d)) (of_input d s (later_wave d))
+      (let most = cond_most (is_input d i && is_some (put s.offered i (Some bits) i)) (later_wave d) in omega (arith, most))
+      (λ k other. let same = ap (λ o. cond (is_input d k && is_some o) (later_wave d) 0) (put_other s.offered i k (Some bits) other) in omega (arith, same)) in
+      omega (arith, more)
+
+  pub more_offered : (s : State) (step : List (ℕ × List Bit)) → second (offer s step) ≤ second s + length step * later_wave d
+  more_offered s [] = omega arith
+  more_offered s ((i, bits) ∷ step) =
+      let one = one_more s i bits in
+      let others = more_offered (record s { offered = put s.offered i (Some bits) }) step in
+      omega (arith, one, others)
 
   -- what is to come behind a run
-  record IsLeft (s : State) (events : List Event) (room : ℕ) : Type 0 where
-    left : ℕ
-    spent : left + length events ≡ room
-    orderly : IsOrderly d (run d s events)
-    lasts : Lasts (run d s events) left
+  pub record IsLeft (s : State) (events : List Event) (room : ℕ) : Type 0 where
+    pub left : ℕ
+    pub spent : left + length events ≡ room
+    pub orderly : IsOrderly d (run d s events)
+    pub lasts : Lasts (run d s events) left
 
-  along : (s : State) (events : List Event) (room : ℕ) → IsOrderly d s → Lasts s room → CanRun d s events → IsLeft s events room
+  pub along : (s : State) (events : List Event) (room : ℕ) → IsOrderly d s → Lasts s room → CanRun d s events → IsLeft s events room
   along s [] room orderly lasts can = record { left = room; spent = omega arith; orderly = orderly; lasts = lasts }
   along s (event ∷ events) room orderly lasts can =
       let next = goes s orderly room lasts event can.0 in
@@ -288,7 +332,7 @@ module _ (d : Flat) (lawful : AreLawful d) (level : ℕ → Option ℕ) (cone : 
       record { left = it.left; spent = omega (arith, one, spent); orderly = it.orderly; lasts = it.lasts }
 
   -- some run leads to rest
-  to_rest : (room : ℕ) (s : State) → IsOrderly d s → Lasts s room → HasNext d s ⊎ IsAtRest d s → ComesToRest d s
+  pub to_rest : (room : ℕ) (s : State) → IsOrderly d s → Lasts s room → HasNext d s ⊎ IsAtRest d s → ComesToRest d s
   to_rest room s orderly lasts (inr rest) = record { events = []; can = tt; rest = rest }
   to_rest zero s orderly lasts (inl (event, there)) =
       let it = goes s orderly 0 lasts event there in

@@ -29,6 +29,19 @@ total_less (suc n) (suc p) c f g inside less others =
     let rest = total_less n p c (λ k. f (suc k)) (λ k. g (suc k)) (omega (arith, inside)) less (λ k below other. others (suc k) (omega (arith, below)) (λ e. other (omega (arith, e)))) in
     omega (arith, here, rest)
 
+-- one term that is more by some at most, where no other is more
+pub total_raised :
+    (n p c : ℕ) (f g : ℕ → ℕ) → f p ≤ g p + c → ((k : ℕ) → k ≢ p → f k ≤ g k) → total n f ≤ total n g + c
+unfolding total
+total_raised zero p c f g more others = omega arith
+total_raised (suc n) zero c f g more others =
+    let rest = total_most n (λ k. f (suc k)) (λ k. g (suc k)) (λ k below. others (suc k) (λ e. omega (arith, e))) in
+    omega (arith, more, rest)
+total_raised (suc n) (suc p) c f g more others =
+    let here = others 0 (λ e. omega (arith, e)) in
+    let rest = total_raised n p c (λ k. f (suc k)) (λ k. g (suc k)) more (λ k other. others (suc k) (λ e. other (omega (arith, e)))) in
+    omega (arith, here, rest)
+
 -- sums of one function and another
 pub total_both : (n : ℕ) (f g : ℕ → ℕ) → total n (λ k. f k + g k) ≡ total n f + total n g
 unfolding total

@@ -56,7 +56,7 @@ module _ (d : Flat) (sync : IsSynchronous d) (f : Fill) (held given v : Values) 
       ∙ ap (λ l. get_or l 0 X) (driven_port (widths d) j spot (bit v k 0) passed.port_bit)
 
   -- all that is reached from a clock or a reset has its number
-  reached_number : (c : ℕ) → IsClockOrReset d c → (i : ℕ) → IsReached d c i → bit v i 0 ≡ bit v c 0
+  pub reached_number : (c : ℕ) → IsClockOrReset d c → (i : ℕ) → IsReached d c i → bit v i 0 ≡ bit v c 0
   reached_number c clock _ Itself = refl
   reached_number c clock _ (Through k j reached passed) =
       port_number c clock k j reached passed ∙ reached_number c clock k reached

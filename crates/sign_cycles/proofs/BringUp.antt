@@ -50,7 +50,7 @@ use Rattle.sign_cycles.proofs.Resets as reset
 -- ---- what inputs are set to
 
 module _ (d : Flat) where
-  all_settings : (all : List Setting) → All (SetsInput d) all → AreSettings d (pairs all)
+  pub all_settings : (all : List Setting) → All (SetsInput d) all → AreSettings d (pairs all)
   all_settings [] set = tt
   all_settings (setting ∷ others) set =
       let one = All-head (SetsInput d) setting others set in
@@ -189,7 +189,7 @@ module _ (d : Flat) (chains : ℕ → Chain) (level_of : ℕ → ℕ) (clean : I
       ∙ rising.offered.comes i input
 
   -- the strongest reset of a process that has one at most is its only one, and active
-  only_one :
+  pub only_one :
       (n : Values) (resets : List Guard) → length resets ≤ 1 → (guard : Guard) → strongest n resets ≡ Some guard →
       (resets ≡ guard ∷ []) × (is_active n guard.item ≡ true)
   only_one n [] one guard found = absurd (cc)

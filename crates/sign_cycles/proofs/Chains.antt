@@ -244,7 +244,7 @@ stays_active Neg X b edged known known' on none = absurd (false≢true (sym know
 stays_active Neg Z b edged known known' on none = absurd (false≢true (sym known))
 
 -- a change that leaves it inactive is none of its edges
-no_edge_away : (edge : Edge) (a b : Bit) → IsTrue (has_edge edge) → is_unknown a ≡ false → is_unknown b ≡ false → same_bit b (level edge) ≡ false → happens edge a b ≡ false
+pub no_edge_away : (edge : Edge) (a b : Bit) → IsTrue (has_edge edge) → is_unknown a ≡ false → is_unknown b ≡ false → same_bit b (level edge) ≡ false → happens edge a b ≡ false
 no_edge_away No a b edged known known' off = absurd (false≢true edged)
 no_edge_away Pos a One edged known known' off = absurd (false≢true (sym off))
 no_edge_away Pos Zero Zero edged known known' off = refl

@@ -20,7 +20,7 @@ use Rattle.net_model.specs.Lawful.{SetsData}
 use Rattle.net_model.proofs.Gates.{data_unclocked}
 use Rattle.net_model.specs.Numbers.{bit}
 use Rattle.net_model.specs.Solution.{IsRegisterBit}
-use Rattle.event_edges.specs.event_runs.Nets.{AreWide, given_with}
+use Rattle.event_edges.specs.event_runs.Nets.{given_with}
 use Rattle.event_edges.specs.event_runs.Writers.{IsOrderly}
 use Rattle.event_edges.proofs.event_runs_proofs.Inputs.{offer_is, orderly_offer}
 use Rattle.event_edges.proofs.event_runs_proofs.Signals.{body_variable, variable_input}
@@ -34,6 +34,7 @@ use Rattle.sign_cycles.proofs.Followed as followed
 use Rattle.sign_cycles.proofs.Settled.{arrive}
 use Rattle.event_edges.specs.Quiet.{SetData}
 use Rattle.event_edges.specs.Synchronous.{IsSynchronous}
+use Rattle.event_edges.proofs.Moves.{set_wide}
 use Rattle.event_edges.proofs.Laws.{at_data, data_quiet, quiet_run}
 use Rattle.sign_cycles.specs.Agree.{IsNext, IsSettledKnown}
 use Rattle.sign_cycles.specs.Formed.{IsCleanClocked}
@@ -49,21 +50,17 @@ given_pairs n [] = refl
 given_pairs n (setting ∷ others) = given_pairs (put n setting.input setting.number) others
 
 module _ (d : Flat) where
-  are_settings : (all : List Setting) → All (SetsData d) all → AreSettings d (pairs all)
+  pub are_settings : (all : List Setting) → All (SetsData d) all → AreSettings d (pairs all)
   are_settings [] set = tt
   are_settings (setting ∷ others) set =
       let one = All-head (SetsData d) setting others set in
       ((one.can_be.wide, one.can_be.known), are_settings others (All-tail (SetsData d) setting others set))
 
-  set_data : (all : List Setting) → All (SetsData d) all → SetData d (pairs all)
+  pub set_data : (all : List Setting) → All (SetsData d) all → SetData d (pairs all)
   set_data [] set = tt
   set_data (setting ∷ others) set =
       let one = All-head (SetsData d) setting others set in
       (data_unclocked d setting.input one.data_input, one.can_be.wide, set_data others (All-tail (SetsData d) setting others set))
-
-  are_wide : (step : List (ℕ × List Bit)) → SetData d step → AreWide d step
-  are_wide [] set = tt
-  are_wide ((i, bits) ∷ step) set = (set.1, are_wide step set.2)
 
   -- what is no input stays
   given_other : (n : Values) (all : List Setting) → All (SetsData d) all → (i : ℕ) → (IsTrue (is_input d i) → ⊥) → given_after n all i ≡ n i
@@ -109,7 +106,7 @@ module _ (d : Flat) (level : ℕ → ℕ) (solvable : IsSolvable d level) (sync 
   here_cone i k cone =
       let offers = offer_is s (pairs all) in
       (quiet_run d sync (offer s (pairs all)) next.reaches.events next.reaches.can
-      (orderly_offer d s (pairs all) (are_wide d (pairs all) (set_data d all set)) orderly)
+      (orderly_offer d s (pairs all) (set_wide d (pairs all) (set_data d all set)) orderly)
       (data_quiet d sync s (pairs all) settled.rest (set_data d all set))).cone i k cone
       ∙ ap (λ (u : State). bit u.value i k) offers
 
@@ -129,7 +126,7 @@ module _ (d : Flat) (level : ℕ → ℕ) (solvable : IsSolvable d level) (sync 
   stays i k register =
       let offers = offer_is s (pairs all) in
       at_data d sync (offer s (pairs all)) next.reaches.events next.reaches.can
-      (orderly_offer d s (pairs all) (are_wide d (pairs all) (set_data d all set)) orderly)
+      (orderly_offer d s (pairs all) (set_wide d (pairs all) (set_data d all set)) orderly)
       (data_quiet d sync s (pairs all) settled.rest (set_data d all set))
       (ap (λ (u : State). u.activated) offers ∙ settled.rest.no_active.updates)
       (ap (λ (u : State). u.delayed) offers ∙ settled.rest.no_delayed)

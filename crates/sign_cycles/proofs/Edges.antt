@@ -46,6 +46,7 @@ use Rattle.net_rest.proofs.Rest.{register_inside}
 use Rattle.sign_cycles.specs.Round.{IsArrived, IsFollowed, IsSettled}
 use Rattle.sign_cycles.proofs.Followed as followed
 use Rattle.sign_cycles.proofs.Settled.{arrive}
+use Rattle.event_edges.specs.Laws.{HaveTaken}
 use Rattle.event_edges.specs.Registers.{update_bit, updates_bit}
 use Rattle.event_edges.specs.Synchronous.{IsItem, IsSynchronous}
 use Rattle.event_edges.specs.Turned.{IsEdgeStart, IsTurnedAt, fires, found_at, item_fires, set_to}
@@ -215,27 +216,31 @@ settled_known d chains f t next settled reset =
 
 -- ---- a step of one clock or reset
 
-module _ (d : Flat) (chains : ℕ → Chain) (level : ℕ → ℕ) (clean : IsCleanClocked d chains level) (f : Fill) (s : State) (n : Values) (known : IsSettledKnown d chains f s n) (setting : Setting) (its_clock : IsClockOrReset d setting.input) (turns : TurnsControl d n setting) (t : State) (next : IsNext d s (setting ∷ []) t) where
-  abbrev c : ℕ
+-- where it has come to rest: inputs are as given, what is reached has turned, and registers have taken what they take. It is
+-- the same with data beside it
+pub record IsEdgeEnd (d : Flat) (given : Values) (c : ℕ) (b : Bit) (s t : State) : Type 0 where
+  pub arrived : IsArrived d given t
+  pub turned : IsTurnedAt d c b s t
+  pub taken : HaveTaken d s t
+
+module _ (d : Flat) (chains : ℕ → Chain) (level : ℕ → ℕ) (clean : IsCleanClocked d chains level) (f : Fill) (s : State) (n : Values) (known : IsSettledKnown d chains f s n) (setting : Setting) (its_clock : IsClockOrReset d setting.input) (turns : TurnsControl d n setting) where
+  abbrev pub c : ℕ
   c = setting.input
 
-  abbrev b : Bit
+  abbrev pub b : Bit
   b = get_or setting.number 0 X
 
-  abbrev new : Values
-  new = numbers_of d f t.value
-
-  settled : IsSettled d f s n
+  pub settled : IsSettled d f s n
   settled = settled_round d chains f s n known
 
-  before : IsArrived d n s
+  pub before : IsArrived d n s
   before =
       arrive d level clean.solvable f s n settled (record { step = []; events = [] }) (record { settings = tt; can = tt }) settled.rest
 
   one_wide : widths d c ≡ 1
   one_wide = clock_bit d clean.synchronous c its_clock
 
-  number_is : setting.number ≡ b ∷ []
+  pub number_is : setting.number ≡ b ∷ []
   number_is = one_bit setting.number b (turns.can_be.wide ∙ one_wide) refl
 
   new_known : is_unknown b ≡ false
@@ -243,7 +248,7 @@ module _ (d : Flat) (chains : ℕ → Chain) (level : ℕ → ℕ) (clean : IsCl
       let size = turns.can_be.wide ∙ one_wide in
       known_at setting.number 0 turns.can_be.known (omega (arith, size))
 
-  start : IsEdgeStart d c (bit s.value c 0) b s
+  pub start : IsEdgeStart d c (bit s.value c 0) b s
   start =
       record {
         rest = settled.rest;
@@ -261,268 +266,295 @@ module _ (d : Flat) (chains : ℕ → Chain) (level : ℕ → ℕ) (clean : IsCl
       old_is : s.value c ≡ bit s.value c 0 ∷ []
       old_is = one_bit (s.value c) (bit s.value c 0) (settled.wide c ∙ one_wide) refl
 
-  reaches : Reaches d (set_to s c b) t
-  reaches = subst (λ (bits : List Bit). Reaches d (offer s ((c, bits) ∷ [])) t) number_is next.reaches
+  -- ---- where it ends
 
-  arrived : IsArrived d (given_with n (pairs (setting ∷ []))) t
-  arrived =
-      subst (IsArrived d (given_with n (pairs (setting ∷ [])))) next.reaches.leads
-      (arrive d level clean.solvable f s n settled (record { step = pairs (setting ∷ []); events = next.reaches.events })
-      (record { settings = ((turns.can_be.wide, turns.can_be.known), tt); can = next.reaches.can })
-      (subst (IsAtRest d) (sym next.reaches.leads) next.rest))
+  module _ (given : Values) (given_known : (i : ℕ) → has_unknown (given i) ≡ false) (t : State) (end : IsEdgeEnd d given c b s t) where
+    abbrev new : Values
+    new = numbers_of d f t.value
 
-  turned : IsTurnedAt d c b s t
-  turned =
-      cone_turns d clean.synchronous c (bit s.value c 0) b s start reaches.events reaches.can t reaches.leads next.rest
+    wide : HaveWidths d t.value
+    wide = end.arrived.orderly.steady.widths
 
-  wide : HaveWidths d t.value
-  wide = arrived.orderly.steady.widths
+    numbers : AreNumbers d new
+    numbers = are_numbers d f t.value
 
-  numbers : AreNumbers d new
-  numbers = are_numbers d f t.value
+    -- ---- one process
 
-  -- ---- one process
+    module _ (p : ℕ) (events : List Watched) (body : Actions) (is : doing_at d p ≡ Some (Edge' events body)) where
+      -- what its events are is known
+      item_known : (item : Watched) → IsItem d p events body item → is_unknown (item_bit t.value item) ≡ false
+      item_known item here =
+          let inside : 0 < widths d item.signal = let one = item_width d clean.synchronous p events body item here in omega (arith, one) in
+          elim (item_reached d clean.synchronous p events body item here c its_clock.input) [
+            | inl reached ↦ ap (λ (bits : List Bit). is_unknown (get_or bits 0 X)) (end.turned.turned item.signal reached) ∙ new_known
+            | inr apart ↦
+                ap is_unknown (end.turned.others item.signal 0 (item_in_cone d clean.synchronous p events body item here) apart)
+                ∙ (known.shows item.signal 0 inside (item_lasts d chains level clean p events body is item here)).known
+          ]
 
-  module _ (p : ℕ) (events : List Watched) (body : Actions) (is : doing_at d p ≡ Some (Edge' events body)) where
-    -- what its events are is known
-    item_known : (item : Watched) → IsItem d p events body item → is_unknown (item_bit t.value item) ≡ false
-    item_known item here =
-        let inside : 0 < widths d item.signal = let one = item_width d clean.synchronous p events body item here in omega (arith, one) in
-        elim (item_reached d clean.synchronous p events body item here c its_clock.input) [
-          | inl reached ↦ ap (λ (bits : List Bit). is_unknown (get_or bits 0 X)) (turned.turned item.signal reached) ∙ new_known
-          | inr apart ↦
-              ap is_unknown (turned.others item.signal 0 (item_in_cone d clean.synchronous p events body item here) apart)
-              ∙ (known.shows item.signal 0 inside (item_lasts d chains level clean p events body is item here)).known
-        ]
+      item_same : (item : Watched) → IsItem d p events body item → item_bit new item ≡ item_bit t.value item
+      item_same item here =
+          let inside : 0 < widths d item.signal = let one = item_width d clean.synchronous p events body item here in omega (arith, one) in
+          number_same d f t.value item.signal 0 inside
+          (has_source d item.signal 0 (clean.solvable.sourced item.signal 0 inside (item_lasts d chains level clean p events body is item here))) (item_known item here)
 
-    item_same : (item : Watched) → IsItem d p events body item → item_bit new item ≡ item_bit t.value item
-    item_same item here =
-        let inside : 0 < widths d item.signal = let one = item_width d clean.synchronous p events body item here in omega (arith, one) in
-        number_same d f t.value item.signal 0 inside
-        (has_source d item.signal 0 (clean.solvable.sourced item.signal 0 inside (item_lasts d chains level clean p events body is item here))) (item_known item here)
+      item_before : (item : Watched) → IsItem d p events body item → item_bit s.value item ≡ item_bit n item
+      item_before item here =
+          settled.shows item.signal 0 (item_lasts d chains level clean p events body is item here)
 
-    item_before : (item : Watched) → IsItem d p events body item → item_bit s.value item ≡ item_bit n item
-    item_before item here =
-        settled.shows item.signal 0 (item_lasts d chains level clean p events body is item here)
+      -- what the body finds, in numbers
+      abbrev found : Values
+      found i = if items_list (widths d) events i 0 then new i else n i
 
-    -- what the body finds, in numbers
-    abbrev found : Values
-    found i = if items_list (widths d) events i 0 then new i else n i
-
-    found_numbers : AreNumbers d found
-    found_numbers =
-        record {
-          wide = λ i.
-              picked_wide (items_list (widths d) events i 0) (new i) (n i) (widths d i) (numbers.wide i) (settled.solution.numbers.wide i);
-          known = λ i.
-              picked_known (items_list (widths d) events i 0) (new i) (n i) (numbers.known i) (settled.solution.numbers.known i);
-        }
-
-    abbrev met : Values
-    met = found_at (widths d) events s.value t.value
-
-    met_wide : HaveWidths d met
-    met_wide i =
-        picked_wide (items_list (widths d) events i 0) (t.value i) (s.value i) (widths d i) (wide i) (settled.wide i)
-
-    item_bits : (i k : ℕ) → items_list (widths d) events i 0 ≡ true → Same new t.value i k
-    item_bits i k listed =
-        let one = listed_item (widths d) events i 0 listed in
-        let here : IsItem d p events body one.item = record { does = is; place = one.place; there = one.there } in
-        past_ends d new t.value numbers.wide wide i k (λ inside.
-        let single : widths d i ≡ 1 = ap (widths d) one.same ∙ item_width d clean.synchronous p events body one.item here in
-        let first : 0 ≡ k = omega (arith, inside, single) in
-        subst (λ (j : ℕ). Same new t.value i j) first
-        (subst (λ (j : ℕ). Same new t.value j 0) (sym one.same) (item_same one.item here)))
-
-    outside : (i k : ℕ) → ReadsOutside (body_flow (widths d) body) i k → Same found met i k
-    outside i k reads' =
-        picked_bit (items_list (widths d) events i 0) (new i) (n i) (t.value i) (s.value i) k (item_bits i k)
-        (λ none. sym (settled.shows i k (read_lasts d p (Edge' events body) is i k reads')))
-
-    path : FollowsPath (widths d) found body
-    path =
-        let fit = usable d chains level clean p events body is in
-        whole_path d found body found_numbers fit.lawful fit.tame
-
-    both : RunAlike d body found met
-    both =
-        depends d found met body found_numbers.wide met_wide (usable d chains level clean p events body is).lawful path outside
-
-    met_path : FollowsPath (widths d) met body
-    met_path = subst (IsPath (body_flow (widths d) body)) both.steps path
-
-    -- ---- one register bit
-
-    module _ (i k : ℕ) (may : MayWrite (body_flow (widths d) body) i k) (lasts : IsLasting d i) where
-      never_now : list_any (makes_now i k) (body_made (widths d) found body) ≡ false
-      never_now =
-          false_from_ne_true (list_any (makes_now i k) (body_made (widths d) found body)) (λ now.
-          lasts (record {
-            process = p;
-            of_process = clean.synchronous.blocking p events body is i k
-                (may_now d found body i k (usable d chains level clean p events body is).lawful now);
-          }))
-
-      found_old : Same found n i k
-      found_old =
-          picked_second (items_list (widths d) events i 0) (new i) (n i) k (unlisted d chains level clean p events body is i k may)
-
-      abbrev asked : Bit
-      asked = block_bit (widths d) f found body i k
-
-      -- what it was asked for is what the function of the body gives
-      asks : updates_bit i k (laters (body_made (widths d) met body)) (bit s.value i k) ≡ asked
-      asks =
-          let fit = usable d chains level clean p events body is in
-          let after = after_body d found body in
-          let kept : bit after i k ≡ bit s.value i k = made_out d found body i k found_numbers.wide fit.lawful never_now ∙ found_old ∙ sym (settled.shows i k lasts) in
-          ap (λ (ms : List Made). updates_bit i k (laters ms) (bit s.value i k)) (sym both.made)
-          ∙ ap (λ (x : Bit). updates_bit i k (laters (body_made (widths d) found body)) x) (sym kept)
-          ∙ updates_last i k (bit after i k) (body_made (widths d) found body) None
-          ∙ sym (late_is d f found body i k found_numbers fit.lawful fit.tame fit.split)
-
-      fires_same : fires s.value t.value events ≡ fires n new events
-      fires_same =
-          any_same (item_fires s.value t.value) (item_fires n new) events (λ place item there.
-          let here : IsItem d p events body item = record { does = is; place = place; there = there } in
-          ap (λ (x : Bit). happens item.edge x (item_bit t.value item)) (item_before item here)
-          ∙ ap (λ (x : Bit). happens item.edge (item_bit n item) x) (sym (item_same item here)))
-
-      -- the part at the clock's edge reads no clock and no reset
-      part_same : block_bit (widths d) f found (chains p).part i k ≡ block_bit (widths d) f n (chains p).part i k
-      part_same =
-          let formed = clean.formed p events body is in
-          let part = part_usable d (chains p).resets (chains p).part body formed.chained.chained (usable d chains level clean p events body is) in
-          tame_depends d f found n (chains p).part i k found_numbers settled.solution.numbers part.lawful part.tame part.split
-          (λ j l reads'.
-          picked_second (items_list (widths d) events j 0) (new j) (n j) l (λ listed.
-          let one = listed_item (widths d) events j 0 listed in
-          formed.apart j l reads'
-          (subst (InClockCone d) (sym one.same) (item_in_cone d clean.synchronous p events body one.item (record { does = is; place = one.place; there = one.there })))))
-          (inl found_old)
-
-      item_found : (item : Watched) → IsItem d p events body item → item_bit found item ≡ item_bit new item
-      item_found item here =
-          picked_first (items_list (widths d) events item.signal 0) (new item.signal) (n item.signal) 0 (λ none.
-          absurd (false≢true (sym none
-          ∙ items_at (widths d) events here.place item item.signal 0 here.there
-          (whole_selected (widths d) item.signal item.selection item.signal (item_whole d clean.synchronous p events body item here) refl (item_width d clean.synchronous p events body item here)))))
-
-      -- so it is by its strongest reset, or else by its clock
-      asked_is : asked ≡ reset_bit (widths d) f n (strongest new (chains p).resets) (block_bit (widths d) f n (chains p).part i k) i k
-      asked_is =
-          let formed = clean.formed p events body is in
-          let same = strongest_same d found new (chains p).resets (of_items d chains level clean p events body is (λ (item : Watched). item_bit found item ≡ item_bit new item) item_found) in
-          chain_bit d f found found_numbers i k (chains p).resets (chains p).part body formed.chained.chained formed.chained.tests
-          ∙ ap (λ (o : Option Guard). reset_bit (widths d) f found o (block_bit (widths d) f found (chains p).part i k) i k) same
-          ∙ ap (λ (x : Bit). reset_bit (widths d) f found (strongest new (chains p).resets) x i k) part_same
-          ∙ by_guard (strongest new (chains p).resets) refl
-        where
-          by_guard : (o : Option Guard) → strongest new (chains p).resets ≡ o → reset_bit (widths d) f found o (block_bit (widths d) f n (chains p).part i k) i k ≡ reset_bit (widths d) f n o (block_bit (widths d) f n (chains p).part i k) i k
-          by_guard None e = refl
-          by_guard (Some guard) e =
-              strongest_constant d chains level clean p events body is f new found n found_numbers settled.solution.numbers guard e i k may lasts
-
-      items_known : (item : Watched) → IsItem d p events body item → IsKnownItem n new item
-      items_known item here =
-          let size = settled.solution.numbers.wide item.signal in
-          let one = item_width d clean.synchronous p events body item here in
+      found_numbers : AreNumbers d found
+      found_numbers =
           record {
-            edged = clean.synchronous.edges p events body item here;
-            before = known_at (n item.signal) 0 (settled.solution.numbers.known item.signal) (omega (arith, size, one));
-            after = ap is_unknown (item_same item here) ∙ item_known item here;
+            wide = λ i.
+                picked_wide (items_list (widths d) events i 0) (new i) (n i) (widths d i) (numbers.wide i) (settled.solution.numbers.wide i);
+            known = λ i.
+                picked_known (items_list (widths d) events i 0) (new i) (n i) (numbers.known i) (settled.solution.numbers.known i);
           }
 
-      pub is_register_bit : bit t.value i k ≡ register_bit (widths d) f n new (chains p) i k
-      is_register_bit =
-          let formed = clean.formed p events body is in
-          at_edge d clean.synchronous c (bit s.value c 0) b s start reaches.events reaches.can t reaches.leads next.rest p events body is met_path i k may lasts
-          ∙ ap (λ (x : Bit). if fires s.value t.value events then x else bit s.value i k) asks
-          ∙ ap (λ (x : Bit). if fires s.value t.value events then asked else x) (settled.shows i k lasts)
-          ∙ ap (λ (x : Bool). if x then asked else bit n i k)
-          (fires_same ∙ list_any-IsPermutation (fires_at n new) events ((chains p).clock ∷ map (λ (guard : Guard). guard.item) (chains p).resets) formed.chained.items)
-          ∙ takes_bit (widths d) f n new (chains p).clock (chains p).part i k asked (chains p).resets formed.one_reset
-          (of_items d chains level clean p events body is (IsKnownItem n new) items_known) asked_is
-          (λ guard found'. known.resets p events body is guard found' i k may lasts)
+      abbrev met : Values
+      met = found_at (widths d) events s.value t.value
 
-  pub register_is : (i k : ℕ) (register : IsRegisterBit d i k) → bit t.value i k ≡ register_bit (widths d) f n new (chains register.process) i k
-  register_is i k register =
-      is_register_bit register.process register.events register.body register.does i k register.may register.lasting
+      met_wide : HaveWidths d met
+      met_wide i =
+          picked_wide (items_list (widths d) events i 0) (t.value i) (s.value i) (widths d i) (wide i) (settled.wide i)
 
-  -- ---- the numbers that follow
+      item_bits : (i k : ℕ) → items_list (widths d) events i 0 ≡ true → Same new t.value i k
+      item_bits i k listed =
+          let one = listed_item (widths d) events i 0 listed in
+          let here : IsItem d p events body one.item = record { does = is; place = one.place; there = one.there } in
+          past_ends d new t.value numbers.wide wide i k (λ inside.
+          let single : widths d i ≡ 1 = ap (widths d) one.same ∙ item_width d clean.synchronous p events body one.item here in
+          let first : 0 ≡ k = omega (arith, inside, single) in
+          subst (λ (j : ℕ). Same new t.value i j) first
+          (subst (λ (j : ℕ). Same new t.value j 0) (sym one.same) (item_same one.item here)))
 
-  -- a register bit that its process gives is known
-  register_known : (i k : ℕ) → IsRegisterBit d i k → is_unknown (bit t.value i k) ≡ false
-  register_known i k register =
-      ap is_unknown (register_is i k register) ∙ by_guard (strongest new (chains p).resets) refl
-    where
-      p : ℕ
-      p = register.process
+      outside : (i k : ℕ) → ReadsOutside (body_flow (widths d) body) i k → Same found met i k
+      outside i k reads' =
+          picked_bit (items_list (widths d) events i 0) (new i) (n i) (t.value i) (s.value i) k (item_bits i k)
+          (λ none. sym (settled.shows i k (read_lasts d p (Edge' events body) is i k reads')))
 
-      given : IsUsable d register.body
-      given = usable d chains level clean p register.events register.body register.does
+      path : FollowsPath (widths d) found body
+      path =
+          let fit = usable d chains level clean p events body is in
+          whole_path d found body found_numbers fit.lawful fit.tame
 
-      inside : k < widths d i
-      inside = register_inside d level clean.solvable i k register
+      both : RunAlike d body found met
+      both =
+          depends d found met body found_numbers.wide met_wide (usable d chains level clean p events body is).lawful path outside
 
-      chained : IsChain d register.events register.body (chains p)
-      chained = (clean.formed p register.events register.body register.does).chained
+      met_path : FollowsPath (widths d) met body
+      met_path = subst (IsPath (body_flow (widths d) body)) both.steps path
 
-      by_clock : (e : Bool) → is_unknown (cond e (block_bit (widths d) f n (chains p).part i k) (bit n i k)) ≡ false
-      by_clock true =
-          block_known d f n (chains p).part i k settled.solution.numbers
-          (part_usable d (chains p).resets (chains p).part register.body chained.chained given).lawful inside
-      by_clock false =
-          let size = settled.solution.numbers.wide i in
-          known_at (n i) k (settled.solution.numbers.known i) (omega (arith, size, inside))
+      -- ---- one register bit
 
-      by_guard : (o : Option Guard) → strongest new (chains p).resets ≡ o → is_unknown (reset_bit (widths d) f n o (clocked_bit (widths d) f n new (chains p).clock (chains p).part i k) i k) ≡ false
-      by_guard None e = by_clock (happens (chains p).clock.edge (item_bit n (chains p).clock) (item_bit new (chains p).clock))
-      by_guard (Some guard) e =
-          block_known d f n guard.branch i k settled.solution.numbers
-          (strongest_is d (λ (one : Guard). IsUsable d one.branch) new (chains p).resets (branches_usable d (chains p).resets (chains p).part register.body chained.chained given) guard e).lawful inside
+      module _ (i k : ℕ) (may : MayWrite (body_flow (widths d) body) i k) (lasts : IsLasting d i) where
+        never_now : list_any (makes_now i k) (body_made (widths d) found body) ≡ false
+        never_now =
+            false_from_ne_true (list_any (makes_now i k) (body_made (widths d) found body)) (λ now.
+            lasts (record {
+              process = p;
+              of_process = clean.synchronous.blocking p events body is i k
+                  (may_now d found body i k (usable d chains level clean p events body is).lawful now);
+            }))
 
-  given_are : AreGiven d t.value
-  given_are =
-      record {
-        inputs = λ i input.
-            ap has_unknown (arrived.inputs i input)
-            ∙ followed.given_known d level clean.solvable n (pairs (setting ∷ [])) ((turns.can_be.wide, turns.can_be.known), tt) settled.solution.numbers.known i;
-        registers = register_known;
-      }
+        found_old : Same found n i k
+        found_old =
+            picked_second (items_list (widths d) events i 0) (new i) (n i) k (unlisted d chains level clean p events body is i k may)
 
-  all_followed : IsFollowed d f n t.value t new
-  all_followed =
-      followed.followed d level clean.solvable f (given_with n (pairs (setting ∷ []))) t.value t arrived given_are
-      (λ i input. sym (arrived.inputs i input)) (λ i k register. refl) n settled.solution.numbers
+        abbrev asked : Bit
+        asked = block_bit (widths d) f found body i k
 
-  follows : IsCycle d chains f n (Turn setting) new
-  follows =
-      let solution = all_followed.solution in
-      record {
-        inputs = λ i input.
-            solution.inputs i input ∙ arrived.inputs i input ∙ ap (λ (v : Values). v i) (given_pairs n (setting ∷ []));
-        registers = λ p events body is i k may lasts.
-            solution.kept i k (record { process = p; events = events; body = body; does = is; may = may; lasting = lasts })
-            ∙ is_register_bit p events body is i k may lasts;
-        rest = record {
-          numbers = solution.numbers;
-          inputs = λ i input. refl;
-          kept = λ i k register. refl;
-          assigns = solution.assigns;
-          blocks = solution.blocks;
-          others = solution.others;
-        };
-      }
+        -- what it was asked for is what the function of the body gives
+        asks : updates_bit i k (laters (body_made (widths d) met body)) (bit s.value i k) ≡ asked
+        asks =
+            let fit = usable d chains level clean p events body is in
+            let after = after_body d found body in
+            let kept : bit after i k ≡ bit s.value i k = made_out d found body i k found_numbers.wide fit.lawful never_now ∙ found_old ∙ sym (settled.shows i k lasts) in
+            ap (λ (ms : List Made). updates_bit i k (laters ms) (bit s.value i k)) (sym both.made)
+            ∙ ap (λ (x : Bit). updates_bit i k (laters (body_made (widths d) found body)) x) (sym kept)
+            ∙ updates_last i k (bit after i k) (body_made (widths d) found body) None
+            ∙ sym (late_is d f found body i k found_numbers fit.lawful fit.tame fit.split)
 
-  pub turn_follows : IsStepFollowed d chains f n (Turn setting) t
-  turn_follows =
-      record {
-        next = new;
-        follows = follows;
-        settled = settled_known d chains f t new all_followed.settled (λ p events body is guard found' i k may lasts.
-            follows.registers p events body is i k may lasts
-            ∙ ap (λ (o : Option Guard). reset_bit (widths d) f n o (clocked_bit (widths d) f n new (chains p).clock (chains p).part i k) i k) found'
-            ∙ strongest_constant d chains level clean p events body is f new n new settled.solution.numbers numbers guard found' i k may lasts);
-      }
+        fires_same : fires s.value t.value events ≡ fires n new events
+        fires_same =
+            any_same (item_fires s.value t.value) (item_fires n new) events (λ place item there.
+            let here : IsItem d p events body item = record { does = is; place = place; there = there } in
+            ap (λ (x : Bit). happens item.edge x (item_bit t.value item)) (item_before item here)
+            ∙ ap (λ (x : Bit). happens item.edge (item_bit n item) x) (sym (item_same item here)))
+
+        -- the part at the clock's edge reads no clock and no reset
+        part_same : block_bit (widths d) f found (chains p).part i k ≡ block_bit (widths d) f n (chains p).part i k
+        part_same =
+            let formed = clean.formed p events body is in
+            let part = part_usable d (chains p).resets (chains p).part body formed.chained.chained (usable d chains level clean p events body is) in
+            tame_depends d f found n (chains p).part i k found_numbers settled.solution.numbers part.lawful part.tame part.split
+            (λ j l reads'.
+            picked_second (items_list (widths d) events j 0) (new j) (n j) l (λ listed.
+            let one = listed_item (widths d) events j 0 listed in
+            formed.apart j l reads'
+            (subst (InClockCone d) (sym one.same) (item_in_cone d clean.synchronous p events body one.item (record { does = is; place = one.place; there = one.there })))))
+            (inl found_old)
+
+        item_found : (item : Watched) → IsItem d p events body item → item_bit found item ≡ item_bit new item
+        item_found item here =
+            picked_first (items_list (widths d) events item.signal 0) (new item.signal) (n item.signal) 0 (λ none.
+            absurd (false≢true (sym none
+            ∙ items_at (widths d) events here.place item item.signal 0 here.there
+            (whole_selected (widths d) item.signal item.selection item.signal (item_whole d clean.synchronous p events body item here) refl (item_width d clean.synchronous p events body item here)))))
+
+        -- so it is by its strongest reset, or else by its clock
+        asked_is : asked ≡ reset_bit (widths d) f n (strongest new (chains p).resets) (block_bit (widths d) f n (chains p).part i k) i k
+        asked_is =
+            let formed = clean.formed p events body is in
+            let same = strongest_same d found new (chains p).resets (of_items d chains level clean p events body is (λ (item : Watched). item_bit found item ≡ item_bit new item) item_found) in
+            chain_bit d f found found_numbers i k (chains p).resets (chains p).part body formed.chained.chained formed.chained.tests
+            ∙ ap (λ (o : Option Guard). reset_bit (widths d) f found o (block_bit (widths d) f found (chains p).part i k) i k) same
+            ∙ ap (λ (x : Bit). reset_bit (widths d) f found (strongest new (chains p).resets) x i k) part_same
+            ∙ by_guard (strongest new (chains p).resets) refl
+          where
+            by_guard : (o : Option Guard) → strongest new (chains p).resets ≡ o → reset_bit (widths d) f found o (block_bit (widths d) f n (chains p).part i k) i k ≡ reset_bit (widths d) f n o (block_bit (widths d) f n (chains p).part i k) i k
+            by_guard None e = refl
+            by_guard (Some guard) e =
+                strongest_constant d chains level clean p events body is f new found n found_numbers settled.solution.numbers guard e i k may lasts
+
+        items_known : (item : Watched) → IsItem d p events body item → IsKnownItem n new item
+        items_known item here =
+            let size = settled.solution.numbers.wide item.signal in
+            let one = item_width d clean.synchronous p events body item here in
+            record {
+              edged = clean.synchronous.edges p events body item here;
+              before = known_at (n item.signal) 0 (settled.solution.numbers.known item.signal) (omega (arith, size, one));
+              after = ap is_unknown (item_same item here) ∙ item_known item here;
+            }
+
+        is_register_bit : bit t.value i k ≡ register_bit (widths d) f n new (chains p) i k
+        is_register_bit =
+            let formed = clean.formed p events body is in
+            end.taken p events body is met_path i k may lasts
+            ∙ ap (λ (x : Bit). if fires s.value t.value events then x else bit s.value i k) asks
+            ∙ ap (λ (x : Bit). if fires s.value t.value events then asked else x) (settled.shows i k lasts)
+            ∙ ap (λ (x : Bool). if x then asked else bit n i k)
+            (fires_same ∙ list_any-IsPermutation (fires_at n new) events ((chains p).clock ∷ map (λ (guard : Guard). guard.item) (chains p).resets) formed.chained.items)
+            ∙ takes_bit (widths d) f n new (chains p).clock (chains p).part i k asked (chains p).resets formed.one_reset
+            (of_items d chains level clean p events body is (IsKnownItem n new) items_known) asked_is
+            (λ guard found'. known.resets p events body is guard found' i k may lasts)
+
+    pub registers_are : (i k : ℕ) (register : IsRegisterBit d i k) → bit t.value i k ≡ register_bit (widths d) f n new (chains register.process) i k
+    registers_are i k register =
+        is_register_bit register.process register.events register.body register.does i k register.may register.lasting
+
+    -- ---- the numbers that follow
+
+    -- a register bit that its process gives is known
+    register_known : (i k : ℕ) → IsRegisterBit d i k → is_unknown (bit t.value i k) ≡ false
+    register_known i k register =
+        ap is_unknown (registers_are i k register) ∙ by_guard (strongest new (chains p).resets) refl
+      where
+        p : ℕ
+        p = register.process
+
+        its_body : IsUsable d register.body
+        its_body = usable d chains level clean p register.events register.body register.does
+
+        inside : k < widths d i
+        inside = register_inside d level clean.solvable i k register
+
+        chained : IsChain d register.events register.body (chains p)
+        chained = (clean.formed p register.events register.body register.does).chained
+
+        by_clock : (e : Bool) → is_unknown (cond e (block_bit (widths d) f n (chains p).part i k) (bit n i k)) ≡ false
+        by_clock true =
+            block_known d f n (chains p).part i k settled.solution.numbers
+            (part_usable d (chains p).resets (chains p).part register.body chained.chained its_body).lawful inside
+        by_clock false =
+            let size = settled.solution.numbers.wide i in
+            known_at (n i) k (settled.solution.numbers.known i) (omega (arith, size, inside))
+
+        by_guard : (o : Option Guard) → strongest new (chains p).resets ≡ o → is_unknown (reset_bit (widths d) f n o (clocked_bit (widths d) f n new (chains p).clock (chains p).part i k) i k) ≡ false
+        by_guard None e = by_clock (happens (chains p).clock.edge (item_bit n (chains p).clock) (item_bit new (chains p).clock))
+        by_guard (Some guard) e =
+            block_known d f n guard.branch i k settled.solution.numbers
+            (strongest_is d (λ (one : Guard). IsUsable d one.branch) new (chains p).resets (branches_usable d (chains p).resets (chains p).part register.body chained.chained its_body) guard e).lawful inside
+
+    given_are : AreGiven d t.value
+    given_are =
+        record {
+          inputs = λ i input.
+              ap has_unknown (end.arrived.inputs i input) ∙ given_known i;
+          registers = register_known;
+        }
+
+    pub all_followed : (held : Values) → AreNumbers d held → IsFollowed d f held t.value t new
+    all_followed held are =
+        followed.followed d level clean.solvable f given t.value t end.arrived given_are (λ i input. sym (end.arrived.inputs i input))
+        (λ i k register. refl) held are
+
+    -- registers whose resets are active have their constants
+    reset : AreReset d chains f new
+    reset p events body is guard found' i k may lasts =
+        (all_followed n settled.solution.numbers).solution.kept i k (record { process = p; events = events; body = body; does = is; may = may; lasting = lasts })
+        ∙ is_register_bit p events body is i k may lasts
+        ∙ ap (λ (o : Option Guard). reset_bit (widths d) f n o (clocked_bit (widths d) f n new (chains p).clock (chains p).part i k) i k) found'
+        ∙ strongest_constant d chains level clean p events body is f new n new settled.solution.numbers numbers guard found' i k may lasts
+
+    pub known_after : IsSettledKnown d chains f t new
+    known_after = settled_known d chains f t new (all_followed n settled.solution.numbers).settled reset
+
+  -- ---- alone
+
+  module _ (t : State) (next : IsNext d s (setting ∷ []) t) where
+    reaches : Reaches d (set_to s c b) t
+    reaches = subst (λ (bits : List Bit). Reaches d (offer s ((c, bits) ∷ [])) t) number_is next.reaches
+
+    arrived : IsArrived d (given_with n (pairs (setting ∷ []))) t
+    arrived =
+        subst (IsArrived d (given_with n (pairs (setting ∷ [])))) next.reaches.leads
+        (arrive d level clean.solvable f s n settled (record { step = pairs (setting ∷ []); events = next.reaches.events })
+        (record { settings = ((turns.can_be.wide, turns.can_be.known), tt); can = next.reaches.can })
+        (subst (IsAtRest d) (sym next.reaches.leads) next.rest))
+
+    end : IsEdgeEnd d (given_with n (pairs (setting ∷ []))) c b s t
+    end =
+        record {
+          arrived = arrived;
+          turned = cone_turns d clean.synchronous c (bit s.value c 0) b s start reaches.events reaches.can t reaches.leads next.rest;
+          taken = at_edge d clean.synchronous c (bit s.value c 0) b s start reaches.events reaches.can t reaches.leads next.rest;
+        }
+
+    known_given : (i : ℕ) → has_unknown (given_with n (pairs (setting ∷ [])) i) ≡ false
+    known_given i =
+        followed.given_known d level clean.solvable n (pairs (setting ∷ [])) ((turns.can_be.wide, turns.can_be.known), tt) settled.solution.numbers.known i
+
+    pub register_is : (i k : ℕ) (register : IsRegisterBit d i k) → bit t.value i k ≡ register_bit (widths d) f n (numbers_of d f t.value) (chains register.process) i k
+    register_is = registers_are (given_with n (pairs (setting ∷ []))) known_given t end
+
+    follows : IsCycle d chains f n (Turn setting) (numbers_of d f t.value)
+    follows =
+        let solution = (all_followed (given_with n (pairs (setting ∷ []))) known_given t end n settled.solution.numbers).solution in
+        record {
+          inputs = λ i input.
+              solution.inputs i input ∙ arrived.inputs i input ∙ ap (λ (v : Values). v i) (given_pairs n (setting ∷ []));
+          registers = λ p events body is i k may lasts.
+              let register : IsRegisterBit d i k = record { process = p; events = events; body = body; does = is; may = may; lasting = lasts } in
+              solution.kept i k register ∙ register_is i k register;
+          rest = record {
+            numbers = solution.numbers;
+            inputs = λ i input. refl;
+            kept = λ i k register. refl;
+            assigns = solution.assigns;
+            blocks = solution.blocks;
+            others = solution.others;
+          };
+        }
+
+    pub turn_follows : IsStepFollowed d chains f n (Turn setting) t
+    turn_follows =
+        record {
+          next = numbers_of d f t.value;
+          follows = follows;
+          settled = known_after (given_with n (pairs (setting ∷ []))) known_given t end;
+        }

@@ -1,4 +1,6 @@
 pub mod Alone
+pub mod Beside
+mod BesideExample
 pub mod BringUp
 pub mod Chains
 mod Clean
@@ -15,6 +17,7 @@ mod RoundExample
 pub mod RoundLaws
 pub mod Settled
 pub mod Steps
+pub mod Unfired
 pub mod Up
 -- passed on to the crates above
 pub use Rattle.event_edges.proofs as event_edges_proofs

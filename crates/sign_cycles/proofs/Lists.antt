@@ -43,7 +43,7 @@ lawful_step_alike d n m alike (Turn setting) lawful =
       other = λ same. lawful.other (same ∙ sym (alike setting.input (control_input d setting.input lawful.control)));
     }
 
-lawful_alike : (d : Flat) (n m : Values) → GivesAlike d n m → (steps : List Step) → AreLawfulSteps d n steps → AreLawfulSteps d m steps
+pub lawful_alike : (d : Flat) (n m : Values) → GivesAlike d n m → (steps : List Step) → AreLawfulSteps d n steps → AreLawfulSteps d m steps
 lawful_alike d n m alike [] lawful = tt
 lawful_alike d n m alike (step ∷ steps) lawful =
     (lawful_step_alike d n m alike step lawful.0, lawful_alike d (given_after n (settings step)) (given_after m (settings step)) (given_alike d n m (settings step) alike) steps lawful.1)
@@ -67,7 +67,7 @@ shows_all d chains f s n settled i k inside which = settled.shows i k inside (la
 -- ---- lists
 
 module _ (d : Flat) (chains : ℕ → Chain) (f : Fill) where
-  alone_lists :
+  pub alone_lists :
       StepsAreAlone d chains f → (n m : Values) → AreNumbers d n → AreNumbers d m → AreSame d n m →
       (steps : List Step) (numbers others : List Values) → AreCycles d chains f n steps numbers → AreCycles d chains f m steps others →
       AreSameLists d numbers others

@@ -98,14 +98,14 @@ is_chain =
 
 -- ---- a settled state: a is 1, all else is 0
 
-abbrev first : Values
+abbrev pub first : Values
 first zero = Zero ∷ []
 first (suc zero) = Zero ∷ []
 first (suc (suc zero)) = One ∷ []
 first (suc (suc (suc zero))) = Zero ∷ []
 first (suc (suc (suc (suc i)))) = []
 
-abbrev low : State
+abbrev pub low : State
 low = settled_at design first
 
 at_rest : IsAtRest design low
@@ -197,13 +197,13 @@ clock =
       edges = record { process = 0; events = list; body = body; does = refl; waits = refl };
     }
 
-abbrev rises : Setting
+abbrev pub rises : Setting
 rises = record { input = 0; number = One ∷ [] }
 
 one_zero : ◌≢◌ {A = Bit} One Zero
 one_zero h = true≢false (ap is_one h)
 
-lawful : AreLawfulSteps design first (Turn rises ∷ [])
+pub lawful : AreLawfulSteps design first (Turn rises ∷ [])
 lawful = (
   record {
     control = clock_control design 0 clock;
@@ -222,7 +222,7 @@ high = run design (after_offer low (rises ∷ [])) events
 shows_one : bit high.value 3 0 ≡ One
 shows_one = refl
 
-some_delayed : (us : List Write) (others : List (List Write)) → ◌≢◌ {A = List (List Write)} (us ∷ others) []
+pub some_delayed : (us : List Write) (others : List (List Write)) → ◌≢◌ {A = List (List Write)} (us ∷ others) []
 some_delayed us others h = omega (arith, ap (λ (all : List (List Write)). length all) h)
 
 pub none_offered : (o : ℕ → Option (List Bit)) → o 0 ≡ None → o 1 ≡ None → o 2 ≡ None → (i : ℕ) → IsTrue (is_input design i) → o i ≡ None
@@ -232,7 +232,7 @@ none_offered o clk rst a (suc (suc zero)) is = a
 none_offered o clk rst a (suc (suc (suc zero))) is = absurd (false≢true is)
 none_offered o clk rst a (suc (suc (suc (suc i)))) is = absurd (false≢true is)
 
-none_assigned : (p : ℕ) → is_assignment (doing_at design p) ≡ false
+pub none_assigned : (p : ℕ) → is_assignment (doing_at design p) ≡ false
 none_assigned zero = refl
 none_assigned (suc p) = refl
 
@@ -252,10 +252,10 @@ high_rests =
       no_delayed = refl;
     }
 
-abbrev ran : State
+abbrev pub ran : State
 ran = run design (after_offer low (rises ∷ [])) (Input 0 ∷ Run 0 ∷ [])
 
-asked : HasNoActive design ran
+pub asked : HasNoActive design ran
 asked =
     record {
       inputs = none_offered ran.offered refl refl refl;

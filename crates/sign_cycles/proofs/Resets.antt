@@ -52,12 +52,12 @@ use Rattle.sign_cycles.proofs.Edges.{item_lasts, of_items, updates_last, usable}
 
 -- ---- levels
 
-level_known : (edge : Edge) → IsTrue (has_edge edge) → is_unknown (level edge) ≡ false
+pub level_known : (edge : Edge) → IsTrue (has_edge edge) → is_unknown (level edge) ≡ false
 level_known No edged = absurd (false≢true edged)
 level_known Pos edged = refl
 level_known Neg edged = refl
 
-level_same : (edge : Edge) → same_bit (level edge) (level edge) ≡ true
+pub level_same : (edge : Edge) → same_bit (level edge) (level edge) ≡ true
 level_same No = refl
 level_same Pos = refl
 level_same Neg = refl

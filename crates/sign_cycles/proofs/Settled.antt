@@ -1,5 +1,5 @@
 -- What a settled state keeps on from there.
-use Rattle.std.proofs.Common.{◌≡◌, ◌∙◌, ℕ, Bool, true, List, [], ◌∷◌, Option, Some, refl, sym, ap, subst, inl, inr}
+use Rattle.std.proofs.Common.{◌≡◌, ◌∙◌, ◌++◌, ℕ, Bool, true, List, [], ◌∷◌, Option, Some, refl, sym, ap, subst, inl, inr}
 use Rattle.std.specs.Prelude.{IsTrue, unwrap_or}
 use Rattle.std.specs.Option.{is_some}
 use Rattle.std.specs.List.{All}
@@ -12,10 +12,10 @@ use Rattle.rtl_flat.specs.Flows.{body_flow, flow_of}
 use Rattle.rtl_flat.specs.Paths.{ReadsOutside, may_write}
 use Rattle.rtl_flat.specs.Process.{Actions, Assign, Comb, Doing, Watched}
 use Rattle.rtl_flat.proofs.Paths.{decided}
-use Rattle.event_model.specs.Queue.{State, Event, IsAtRest, doing_at, is_assignment, is_input, offer, run}
+use Rattle.event_model.specs.Queue.{State, Event, CanRun, IsAtRest, IsThere, after, doing_at, is_assignment, is_input, offer, run}
 use Rattle.rtl_flat.specs.Flats.{Flat, widths}
 use Rattle.event_model.specs.Traces.{Same}
-use Rattle.event_model.specs.Writes.{Values, driven}
+use Rattle.event_model.specs.Writes.{Values, driven, put}
 use Rattle.net_rest.specs.event_laws.Steady.{IsWithin}
 use Rattle.net_model.specs.declared.fill.Fill.{Fill}
 use Rattle.net_model.specs.Numbers.{bit}
@@ -24,11 +24,13 @@ use Rattle.net_rest.specs.event_runs.Effects.{runs}
 use Rattle.net_rest.specs.event_runs.Nets.{AreDriven, AreOffered, AreResolved, AreWide, given_with}
 use Rattle.net_rest.specs.event_runs.Plain.{AreStill, ran_after, ran_by}
 use Rattle.net_rest.specs.event_runs.Writers.{IsOrderly}
-use Rattle.net_rest.proofs.event_runs_proofs.Inputs.{offer_is, offered_offer, offered_run, orderly_offer}
-use Rattle.net_rest.proofs.event_runs_proofs.Late.{late_none, orderly_run}
-use Rattle.net_rest.proofs.event_runs_proofs.Nets.{driven_from, driver_value, resolved_from, resolved_run}
+use Rattle.net_rest.proofs.event_runs_proofs.Inputs.{offer_is, offered_event, offered_offer, orderly_offer}
+use Rattle.net_rest.proofs.event_runs_proofs.Late.{late_none, orderly_after}
+use Rattle.net_rest.proofs.event_runs_proofs.Nets.{driven_from, driver_value, resolved_after, resolved_from}
 use Rattle.net_rest.proofs.event_runs_proofs.Signals.{variable_input}
-use Rattle.net_rest.proofs.event_runs_proofs.Still.{still_run}
+use Rattle.net_rest.proofs.event_runs_proofs.Still.{still_after}
+use Rattle.event_edges.specs.Moves.{CanMove, Give, Move, Take, gifts, move_all}
+use Rattle.event_edges.proofs.Moves.{set_wide}
 use Rattle.net_rest.specs.Rest.{IsIdle, IsSolvable}
 use Rattle.net_rest.proofs.Computing.{after_same, others_stay, takes_path, value_same}
 use Rattle.net_rest.proofs.Levels.{assign_reads, read_lasts}
@@ -48,7 +50,63 @@ pub are_wide : (d : Flat) (step : List (ℕ × List Bit)) → AreSettings d step
 are_wide d [] settings = tt
 are_wide d ((i, bits) ∷ others) settings = (settings.0.0, are_wide d others settings.1)
 
+-- what holds on the way from a settled state, whatever events are taken and values are offered: the state is orderly, its
+-- nets show their drivers, its inputs come to what is given, and its blocks, each of which has run, are consistent
+pub record IsUnderWay (d : Flat) (given : Values) (s : State) : Type 0 where
+  pub orderly : IsOrderly d s
+  pub resolved : AreResolved d s
+  pub offered : AreOffered d given s
+  pub ran : ℕ → Bool
+  pub has_run : (p : ℕ) → ran p ≡ true
+  pub still : AreStill d ran s
+
+-- values that are offered one list after another
+pub given_append : (given : Values) (first second : List (ℕ × List Bit)) → given_with given (first ++ second) ≡ given_with (given_with given first) second
+given_append given [] second = refl
+given_append given ((i, bits) ∷ first) second = given_append (put given i bits) first second
+
 module _ (d : Flat) (level : ℕ → ℕ) (solvable : IsSolvable d level) where
+  -- ---- on the way
+
+  pub way_after : (given : Values) (s : State) → IsUnderWay d given s → (event : Event) → IsThere d s event → IsUnderWay d given (after d s event)
+  way_after given s way event there =
+      record {
+        orderly = orderly_after d solvable.lawful s event there way.orderly;
+        resolved = resolved_after d solvable.lawful s event there way.orderly way.resolved;
+        offered = offered_event d solvable.lawful given s event there way.orderly way.offered;
+        ran = ran_by way.ran event;
+        has_run = λ p. or_left (way.ran p) (runs event p) (way.has_run p);
+        still = still_after d solvable.lawful way.ran s event there way.orderly way.still;
+      }
+
+  pub way_run : (given : Values) (s : State) (events : List Event) → CanRun d s events → IsUnderWay d given s → IsUnderWay d given (run d s events)
+  way_run given s [] can way = way
+  way_run given s (event ∷ events) can way =
+      way_run given (after d s event) events can.1 (way_after given s way event can.0)
+
+  pub way_offer :
+      (given : Values) (s : State) (step : List (ℕ × List Bit)) → AreWide d step → IsUnderWay d given s →
+      IsUnderWay d (given_with given step) (offer s step)
+  way_offer given s step wide way =
+      record {
+        orderly = orderly_offer d s step wide way.orderly;
+        resolved = subst (AreResolved d) (sym (offer_is s step)) way.resolved;
+        offered = offered_offer d given s step wide way.offered;
+        ran = way.ran;
+        has_run = way.has_run;
+        still = subst (AreStill d way.ran) (sym (offer_is s step)) way.still;
+      }
+
+  pub way_moves :
+      (given : Values) (s : State) (moves : List Move) → CanMove d s moves → IsUnderWay d given s →
+      IsUnderWay d (given_with given (gifts moves)) (move_all d s moves)
+  way_moves given s [] can way = way
+  way_moves given s (Take event ∷ moves) can way =
+      way_moves given (after d s event) moves can.1 (way_after given s way event can.0)
+  way_moves given s (Give step ∷ moves) can way =
+      subst (λ (v : Values). IsUnderWay d v (move_all d (offer s step) moves)) (sym (given_append given step (gifts moves)))
+      (way_moves (given_with given step) (offer s step) moves can.1 (way_offer given s step (set_wide d step can.0) way))
+
   -- where a state comes to rest
   pub arrived :
       (given : Values) (ran : ℕ → Bool) (t : State) → IsOrderly d t → AreResolved d t → AreOffered d given t → AreStill d ran t → IsAtRest d t →
@@ -65,6 +123,10 @@ module _ (d : Flat) (level : ℕ → ℕ) (solvable : IsSolvable d level) where
         consistent = λ p list body here follows.
             still p list body here (solvable.computing p list body here).plain (rest.no_active.processes p (ap is_some here)) (has_run p list body here) follows;
       }
+
+  pub arrives : (given : Values) (t : State) → IsUnderWay d given t → IsAtRest d t → IsArrived d given t
+  arrives given t way rest =
+      arrived given way.ran t way.orderly way.resolved way.offered way.still rest (λ p list body here. way.has_run p)
 
   module _ (f : Fill) (s : State) (n : Values) (settled : IsSettled d f s n) where
     settled_orderly : IsOrderly d s
@@ -125,17 +187,20 @@ module _ (d : Flat) (level : ℕ → ℕ) (solvable : IsSolvable d level) where
               ∙ ext_get_or X (s.value i) (n i) (settled.wide i ∙ sym (settled.solution.numbers.wide i)) (λ k below. settled.shows i k (input_lasts d i is));
         }
 
+    pub settled_way : IsUnderWay d n s
+    settled_way =
+        record {
+          orderly = settled_orderly;
+          resolved = settled_resolved;
+          offered = settled_offered;
+          ran = λ p. true;
+          has_run = λ p. refl;
+          still = settled_still;
+        }
+
     -- a round from it
     pub arrive : (round : Round) → IsRound d s round → IsAtRest d (after_round d s round) → IsArrived d (given_with n round.step) (after_round d s round)
     arrive round is rest =
-        let wide = are_wide d round.step is.settings in
-        let begun = offer s round.step in
-        let orderly = orderly_offer d s round.step wide settled_orderly in
-        let still = subst (AreStill d (λ p. true)) (sym (offer_is s round.step)) settled_still in
-        let resolved = subst (AreResolved d) (sym (offer_is s round.step)) settled_resolved in
-        let offered = offered_offer d n s round.step wide settled_offered in
-        arrived (given_with n round.step) (ran_after (λ p. true) round.events) (run d begun round.events)
-        (orderly_run d solvable.lawful begun round.events is.can orderly) (resolved_run d solvable.lawful begun round.events is.can orderly resolved)
-        (offered_run d solvable.lawful (given_with n round.step) begun round.events is.can orderly offered)
-        (still_run d solvable.lawful (λ p. true) begun round.events is.can orderly still)
-        rest (λ p list body here. ran_stays (λ q. true) round.events p refl)
+        arrives (given_with n round.step) (after_round d s round)
+        (way_run (given_with n round.step) (offer s round.step) round.events is.can
+        (way_offer n s round.step (are_wide d round.step is.settings) settled_way)) rest

@@ -1,4 +1,5 @@
 pub mod Agree
+pub mod Beside
 pub mod BringUp
 pub mod Formed
 pub mod Known
@@ -7,6 +8,7 @@ pub mod Laws
 pub mod PowerUp
 pub mod Round
 pub mod RoundLaws
+pub mod Unfired
 -- passed on to the crates above
 pub use Rattle.event_edges.specs as event_edges
 pub use Rattle.net_rest.specs.net_laws

@@ -6,10 +6,12 @@ ghost use Rattle.net_model.specs.declared.fill.Fill.{Fill};
 ghost use Rattle.net_model.specs.Cycle.{Chain};
 ghost use Rattle.net_rest.specs.Rest.{IsSolvable};
 ghost use Rattle.sign_cycles.specs.Agree.{Agree};
+ghost use Rattle.sign_cycles.specs.Beside.{BenchesAgreeClean, BesideFollows};
 ghost use Rattle.sign_cycles.specs.Formed.{IsCleanClocked};
 ghost use Rattle.sign_cycles.specs.Known.{KnownSettlesClean};
 ghost use Rattle.sign_cycles.specs.Lacking.{BringUpsAre};
 ghost use Rattle.sign_cycles.specs.Laws.{BringsUpClean, DataFollows, DataStaysKnown, KnownForBoth, RegistersAre, SettlesBoth, StepsAreAlone, StepsFollow, TurnsFollow};
+ghost use Rattle.sign_cycles.specs.Unfired.{UnfiredFollows};
 
 /// Where each step from a settled state leads to numbers that follow, and to no others, all lists of steps agree.
 pub fn agree_by_steps()
@@ -59,6 +61,26 @@ pub fn steps_alone()
 pub fn agreement()
     ensures { (d : Flat) (chains : ℕ → Chain) (level : ℕ → ℕ) → IsCleanClocked d chains level
         → (f : Fill) → Agree d chains f }
+{}
+
+/// Data that are given where the nonblocking updates of a turn become active, or later, lead to numbers that follow by
+/// the data from those after the turn.
+pub fn beside_follows()
+    ensures { (d : Flat) (chains : ℕ → Chain) (level : ℕ → ℕ) → IsCleanClocked d chains level
+        → (f : Fill) → BesideFollows d chains f }
+{}
+
+/// So a clean design shows the numbers of its synthesised meaning under lists of such steps among others, where
+/// numbers follow by each turn.
+pub fn benches_agree()
+    ensures { (d : Flat) (chains : ℕ → Chain) (level : ℕ → ℕ) → BenchesAgreeClean d chains level }
+{}
+
+/// Where no clock fires, any inputs may be set at any moments of one run, resets among them: registers have the
+/// constants of active resets at the end, or what they had.
+pub fn unfired_follows()
+    ensures { (d : Flat) (chains : ℕ → Chain) (level : ℕ → ℕ) → IsCleanClocked d chains level
+        → (f : Fill) → UnfiredFollows d chains f }
 {}
 
 /// A state that is settled for one fill is settled for the other.

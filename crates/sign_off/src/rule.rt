@@ -10,6 +10,7 @@ ghost use Rattle.check_clean.specs.sign_cycles.BringUp.{BringsUp, HaveResets};
 ghost use Rattle.check_clean.specs.sign_cycles.Known.{KnownSettles};
 ghost use Rattle.check_clean.specs.sign_cycles.Lacking.{BringUpsAre};
 ghost use Rattle.check_clean.specs.check_all.Findings.{AreAllFindings, IsClean};
+ghost use Rattle.check_clean.specs.Benches.{ServesBenches};
 ghost use Rattle.check_clean.specs.Levelled.{AreLevels, RestsByLevel};
 ghost use Rattle.net_clean.specs.Netlist.{HasHardware};
 
@@ -57,6 +58,10 @@ pub fn rule(alloc: Global, design: &Design) -> Result<Ruling, Memory>
         (level : ℕ → Option ℕ) → AreLevels (flat design.now) level →
         RestsByLevel (flat design.now) level) }
     ensures hardware { IfOk result (λ r. IsTrue r.clean → HasHardware (flat design.now)) }
+
+    // Nor does a test bench that gives data beside a turn of a clock or a reset, by nonblocking assignments, see
+    // anything but the synthesised values after the turn and then the data.
+    ensures benches { IfOk result (λ r. IsTrue r.clean → ServesBenches (flat design.now)) }
 {
     let findings = check(alloc, design)?;
     vouch(design, &findings);

@@ -1,4 +1,4 @@
-use Rattle.check_clean.proofs.Ending.{settled_reached}
+use Rattle.check_clean.proofs.Starts.{settled_reached}
 use Rattle.check_clean.proofs.law.settled_reached.Goals as goal
 
 pub returns : goal.returns

@@ -37,6 +37,7 @@ returns c =
         bring_ups = is.bring_ups (is.clean.1 none);
         ends = is.ended (is.clean.1 none);
         levelled = is.levelled (is.clean.1 none);
+        benches = is.benches (is.clean.1 none);
       });
       hardware = λ none. is.hardware (is.clean.1 none);
     }
