@@ -235,6 +235,10 @@ decided b s k = record {
     λ h. record { written = λ p is. every_to (writes_bit s k) b p is h },
     λ w. every_from (writes_bit s k) b w.written,
   );
+  sure_now = (
+    λ h. record { written = λ p is. every_to (writes_now s k) b p is h },
+    λ w. every_from (writes_now s k) b w.written,
+  );
   reads = (
     λ h. let (p, is, hit) = some_to (reads_bit s k) b h in record { path = p; is_path = is; read = hit },
     λ w. some_from (reads_bit s k) b w.path w.is_path w.read,

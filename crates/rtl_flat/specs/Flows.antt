@@ -12,7 +12,7 @@ use Rattle.rtl_flat.specs.Expression.{Tree, Sized, Literal, Turned, Joined, Comp
 use Rattle.rtl_flat.specs.Expression as tree
 use Rattle.rtl_flat.specs.Sizes.{width_of}
 use Rattle.rtl_flat.specs.Labels.{label_matches}
-use Rattle.rtl_flat.specs.Process.{Selection, Piece, Action, Set, If, Case, Block, Actions, Done, Then, Otherwise, Without, With, Branches, NoBranch, Branch, Doing, Assign, Comb, Edge'}
+use Rattle.rtl_flat.specs.Process.{Selection, Piece, Watched, Action, Set, If, Case, Block, Actions, Done, Then, Otherwise, Without, With, Branches, NoBranch, Branch, Doing, Assign, Comb, Edge'}
 use Rattle.rtl_flat.specs.Process as part
 use Rattle.rtl_flat.specs.Paths.{BitSet, no_bit, either, Read, Write, Flow, End, Do, Fork, Ways, Last, More}
 
@@ -63,7 +63,7 @@ abbrev pub reads_all : (ℕ → ℕ) → List Tree → BitSet
 reads_all ws [] = no_bit
 reads_all ws (e ∷ others) = either (reads ws e) (reads_all ws others)
 
--- ---- targets
+-- ---- targets and lists
 
 -- the bits that may be meant
 abbrev pub may_select : (ℕ → ℕ) → ℕ → Selection → BitSet
@@ -103,6 +103,15 @@ abbrev pub target_reads : (ℕ → ℕ) → List Piece → BitSet
 target_reads ws [] = no_bit
 target_reads ws (piece ∷ others) =
     either (index_reads ws piece.selection) (target_reads ws others)
+
+-- the bits that the indices of a sensitivity list read; `@*` has none
+abbrev pub item_reads : (ℕ → ℕ) → List Watched → BitSet
+item_reads ws [] = no_bit
+item_reads ws (item ∷ others) = either (index_reads ws item.selection) (item_reads ws others)
+
+abbrev pub list_reads : (ℕ → ℕ) → Option (List Watched) → BitSet
+list_reads ws None = no_bit
+list_reads ws (Some items) = item_reads ws items
 
 -- ---- cases that are complete
 

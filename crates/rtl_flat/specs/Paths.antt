@@ -99,6 +99,10 @@ pub record MayWriteNow (flow : Flow) (s k : ℕ) : Type 0 where
 pub record IsSure (flow : Flow) (s k : ℕ) : Type 0 where
   pub written : (path : List Step) → IsPath flow path → list_any (writes_bit s k) path ≡ true
 
+-- a bit that every path writes by a blocking assignment
+pub record IsSureNow (flow : Flow) (s k : ℕ) : Type 0 where
+  pub written : (path : List Step) → IsPath flow path → list_any (writes_now s k) path ≡ true
+
 -- a bit that some path reads
 pub record MayRead (flow : Flow) (s k : ℕ) : Type 0 where
   pub path : List Step
@@ -161,6 +165,9 @@ may_write_blocking flow s k = some (may_write_now s k) flow
 abbrev pub is_sure : Flow → BitSet
 is_sure flow s k = every (writes_bit s k) flow
 
+abbrev pub is_sure_now : Flow → BitSet
+is_sure_now flow s k = every (writes_now s k) flow
+
 abbrev pub may_read : Flow → BitSet
 may_read flow s k = some (reads_bit s k) flow
 
@@ -173,5 +180,6 @@ pub record AreDecided (flow : Flow) (s k : ℕ) : Type 0 where
   pub late : may_write_delayed flow s k ≡ true ↔ MayWriteLate flow s k
   pub now : may_write_blocking flow s k ≡ true ↔ MayWriteNow flow s k
   pub sure : is_sure flow s k ≡ true ↔ IsSure flow s k
+  pub sure_now : is_sure_now flow s k ≡ true ↔ IsSureNow flow s k
   pub reads : may_read flow s k ≡ true ↔ MayRead flow s k
   pub outside : reads_outside flow s k ≡ true ↔ ReadsOutside flow s k

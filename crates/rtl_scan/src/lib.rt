@@ -4,6 +4,7 @@
 pub mod accesses;
 mod arrows;
 pub mod bits;
+mod branch;
 mod complete;
 mod expressions;
 pub mod feeds;
@@ -18,6 +19,7 @@ mod targets;
 mod usages;
 pub mod values;
 
+pub use branch::{branch_reads, branch_sure, index_reads};
 pub use complete::is_complete_by_labels;
 pub use feeds::levels;
 pub use sets::{lists, reads, selected, sure, writes};

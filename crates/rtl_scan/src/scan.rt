@@ -1,6 +1,6 @@
 // One pass over a body.
 
-ghost use Rattle.std.specs.Prelude.{ℕ, [], ◌≡◌, ◌&&◌, ◌||◌, not, map, OnOk, IfOk};
+ghost use Rattle.std.specs.Prelude.{ℕ, [], ◌≡◌, ◌&&◌, ◌||◌, false, not, map, OnOk, IfOk};
 ghost use Rattle.rtl_flat.specs.Signs.{width_in};
 ghost use Rattle.rtl_flat.specs.Process.{piece};
 ghost use Rattle.rtl_flat.specs.Flows.{may_target, targets};
@@ -48,6 +48,22 @@ pub(crate) struct Sets {
 }
 
 impl Sets {
+    /// Nothing found yet.
+    pub(crate) fn new(alloc: Global) -> Sets
+        ensures reads { (s k : ℕ) → has result.reads.masks s k ≡ false }
+        ensures writes { (s k : ℕ) → has result.writes.masks s k ≡ false }
+        ensures late { (s k : ℕ) → has result.late.masks s k ≡ false }
+        ensures done { (s k : ℕ) → has result.done.masks s k ≡ false }
+    {
+        Sets {
+            reads: BitSet::new(alloc),
+            writes: BitSet::new(alloc),
+            late: BitSet::new(alloc),
+            done: BitSet::new(alloc),
+            rows: Vec::new(alloc),
+        }
+    }
+
     /// The room, empty.
     pub(crate) fn take_rows(&mut self, alloc: Global) -> Vec<Row>
         ensures empty { result.items ≡ [] }

@@ -35,13 +35,7 @@ pub(crate) fn scan(
         widths,
         counted,
     };
-    let mut sets = Sets {
-        reads: BitSet::new(alloc),
-        writes: BitSet::new(alloc),
-        late: BitSet::new(alloc),
-        done: BitSet::new(alloc),
-        rows: Vec::new(alloc),
-    };
+    let mut sets = Sets::new(alloc);
     pass.process(does, &mut sets)?;
     Ok(sets)
 }

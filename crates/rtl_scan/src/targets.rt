@@ -51,7 +51,7 @@ impl<'d> Widths<'d> {
 
     /// Adds the bits that the index of a select reads.
     #[tactic(auto, using(crate::proofs::Adding::adds_none))]
-    fn push_index(&self, select: &Select, rows: &mut Vec<Row>) -> Result<(), Memory>
+    pub(crate) fn push_index(&self, select: &Select, rows: &mut Vec<Row>) -> Result<(), Memory>
         ensures { OnOk result (Adds (index_reads (width_in self.now.signals.now)
             (selection select.now)) rows.old.items rows.new.items) }
     {
