@@ -12,7 +12,7 @@ use Rattle.event_model.specs.declared.setting.Setting.{Setting}
 use Rattle.demo_trials.specs.declared.input.Input.{Input as Kept}
 use Rattle.demo_trials.specs.Draws.{drawn}
 
--- a top input: its signal, its path, whether it is a clock or a reset, and the value that it has
+-- a top input: its signal, its path, whether it is a control input (a clock, a reset or a gate), and the value that it has
 pub record Input : Type 0 where
   pub signal : SigId
   pub path : List ℕ
@@ -24,7 +24,7 @@ abbrev pub input : Kept → Input
 input kept =
     record { signal = kept.signal; path = kept.path.now; is_control = kept.is_control; value = kept.value }
 
--- the clocks and resets
+-- the control inputs
 abbrev pub controls : List Input → List Input
 controls inputs = filter (λ input. input.is_control) inputs
 
@@ -50,7 +50,7 @@ abbrev pub turning_step : ℕ → ℕ → List Input → List Setting
 turning_step trial step inputs =
     complement_of (slice_get inputs ((trailing_zeros w8 step + trial / 2) % length inputs))
 
--- whether a step of the trials 8 to 31 complements a clock or a reset: where there is one, each second step does, and
+-- whether a step of the trials 8 to 31 complements a control input: where there is one, each second step does, and
 -- every step where there is nothing else
 abbrev pub is_control_step : ℕ → List Input → Bool
 is_control_step step inputs =
@@ -60,7 +60,7 @@ is_control_step step inputs =
 abbrev pub drawn_setting : ℕ → ℕ → Input → Setting
 drawn_setting trial step input = set_to input (bits_of (length input.value) (drawn trial step input.path))
 
--- trials 8 to 31: one clock or reset is complemented, or all other inputs are drawn
+-- trials 8 to 31: one control input is complemented, or all other inputs are drawn
 abbrev pub drawn_step : ℕ → ℕ → List Input → List Setting
 drawn_step trial step inputs =
     if is_control_step step inputs

@@ -13,7 +13,7 @@ use rtl_flat::expr::SigId;
 pub struct Input<'d> {
     pub signal: SigId,
     pub path: &'d [u8],
-    /// Whether it is a clock or a reset.
+    /// Whether it is a control input: a clock, a reset or the gate of a latch.
     pub is_control: bool,
     /// The value that it has, of its width.
     pub value: Vec4,

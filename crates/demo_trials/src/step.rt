@@ -64,7 +64,7 @@ fn turning_step(
     Ok(settings)
 }
 
-/// Complements one clock or reset, or draws all other inputs.
+/// Complements one control input, or draws all other inputs.
 #[tactic(auto, using(crate::proofs::Sorts::same_test, crate::proofs::Sorts::counted, crate::proofs::Sorts::data_of))]
 fn drawn_step(
     alloc: Global,
@@ -84,21 +84,21 @@ fn drawn_step(
     }
 }
 
-/// How many clocks and resets there are.
+/// How many control inputs there are.
 fn count_controls(inputs: &[Input<'_>]) -> usize
     ensures { result ≡ count_by (λ kept. kept.is_control) inputs.now }
 {
     inputs.iter().filter(|input| input.is_control).count()
 }
 
-/// Whether a step complements a clock or a reset, where there are so many of them among so many inputs.
+/// Whether a step complements a control input, where there are so many of them among so many inputs.
 fn is_control_step(step: u8, controls: usize, inputs: usize) -> bool
     ensures { result ≡ (nat_lt 0 controls && ((step % 2 == 0) || (controls == inputs))) }
 {
     controls > 0 && (step % 2 == 0 || controls == inputs)
 }
 
-/// Complements the clock or reset before which so many stand.
+/// Complements the control input before which so many stand.
 fn complement_control(
     alloc: Global,
     before: usize,
@@ -114,7 +114,7 @@ fn complement_control(
     Ok(settings)
 }
 
-/// The clock or reset before which so many stand.
+/// The control input before which so many stand.
 fn control_at<'a, 'd>(before: usize, inputs: &'a [Input<'d>]) -> Option<&'a Input<'d>>
     ensures { option_map (λ found. input found.now) result
         ≡ slice_get (controls (map input inputs.now)) before }
@@ -131,7 +131,7 @@ fn control_at<'a, 'd>(before: usize, inputs: &'a [Input<'d>]) -> Option<&'a Inpu
     None
 }
 
-/// Draws all inputs that are no clocks and resets.
+/// Draws all inputs that are no control inputs.
 fn draw_data(
     alloc: Global,
     trial: u8,

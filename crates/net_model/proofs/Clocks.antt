@@ -11,7 +11,8 @@ use Rattle.rtl_flat.specs.Expression.{Tree, Sized}
 use Rattle.rtl_flat.specs.Expression as tree
 use Rattle.rtl_flat.specs.Process.{Whole, Watched, Set, Actions, Done, Then, Doing, Assign, Edge', Task}
 use Rattle.rtl_flat.specs.Flats.{Flat}
-use Rattle.net_model.specs.Control.{InCone, IsClockOrReset, IsInputConnection, IsLink, IsPassedOn, Itself, Through, whole_of}
+use Rattle.net_model.specs.Control.{IsClockOrReset, IsInputConnection, IsLink, IsPassedOn, Itself, Through, whole_of}
+use Rattle.net_model.specs.Gates.{InCone}
 
 spot : Spot
 spot = record { file = 0; at = 0 }

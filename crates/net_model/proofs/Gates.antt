@@ -1,24 +1,32 @@
--- Control inputs as clocks, resets and gates. No latch is admitted yet, so that no control input is a gate: `no_gate` says
--- so, and what else stands on it cites it.
-use Rattle.std.proofs.Common.{ℕ, inl, inr}
+-- Control inputs as clocks, resets and gates.
+use Rattle.std.proofs.Common.{◌≡◌, ℕ, Option, Some, None, inl, inr, ap, subst}
 use Rattle.std.specs.Prelude.{IsTrue}
-use Rattle.event_model.specs.Queue.{is_input}
+use Rattle.std.specs.List.{slice_get}
+use Rattle.std.specs.Option.{IsSomeAnd}
+use Rattle.rtl_flat.specs.declared.signal.Signal.{Signal}
+use Rattle.rtl_flat.specs.declared.signal.Kind.TheVariants.{TopInput}
+use Rattle.event_model.specs.Queue.{is_input, is_input_kind, is_input_of}
 use Rattle.rtl_flat.specs.Flats.{Flat}
-use Rattle.net_model.specs.Control.{InClockCone, InCone, IsClockOrReset, IsControl, IsDataInput, IsGateInput, IsUnclocked}
+use Rattle.net_model.specs.Control.{InClockCone, IsClockOrReset, IsUnclocked}
+use Rattle.net_model.specs.Gates.{ComesFrom, InCone, IsControl, IsDataInput, IsGateInput}
 
-pub no_gate : (d : Flat) (c : ℕ) → IsGateInput d c → ⊥
-no_gate d c gate = gate
+top_is_input : (one : Option Signal) → IsSomeAnd one (λ signal. signal.kind ≡ TopInput) → IsTrue (is_input_of one)
+top_is_input None h = absurd h
+top_is_input (Some signal) h = ap is_input_kind h
 
--- a control input is a clock or a reset
-pub clock_or_reset : (d : Flat) (c : ℕ) → IsControl d c → IsClockOrReset d c
-clock_or_reset d c (inl clock) = clock
-clock_or_reset d c (inr gate) = absurd (no_gate d c gate)
+-- what signals come from is an input
+pub from_input : (d : Flat) (top i : ℕ) → ComesFrom d top i → IsTrue (is_input d top)
+from_input d top i comes = top_is_input (slice_get d.signals top) comes.input
+
+pub gate_is_input : (d : Flat) (c : ℕ) → IsGateInput d c → IsTrue (is_input d c)
+gate_is_input d c gate =
+    subst (λ (i : ℕ). IsTrue (is_input d i)) gate.same (from_input d gate.gate.input gate.gate.signal gate.admitted.latch.comes)
 
 pub control_input : (d : Flat) (c : ℕ) → IsControl d c → IsTrue (is_input d c)
-control_input d c control = (clock_or_reset d c control).input
+control_input d c (inl clock) = clock.input
+control_input d c (inr gate) = gate_is_input d c gate
 
--- what holds with gates too: a clock or a reset is a control input, its cone is in the control cone, and a data input
--- is none
+-- a clock or a reset is a control input, its cone is in the control cone, and a data input is none
 pub clock_control : (d : Flat) (c : ℕ) → IsClockOrReset d c → IsControl d c
 clock_control d c clock = inl clock
 

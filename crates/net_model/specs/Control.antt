@@ -1,7 +1,7 @@
--- Which inputs are clocks, resets and gates, and the signals that they come to unchanged through the ports of instances
+-- Which inputs are clocks and resets, and the signals that they come to unchanged through the ports of instances
 -- (IEEE 1364-2001 sections 9.7.2 and 12.3).
 -- Worked examples: proofs/Clocks.antt, crates/sign_cycles/proofs/Register.antt.
-use Rattle.std.specs.Prelude.{◌≡◌, ◌≢◌, ◌⊎◌, ℕ, ◌==◌, Bool, true, ◌&&◌, List, [], ◌∷◌, Some, IsTrue}
+use Rattle.std.specs.Prelude.{◌≡◌, ◌≢◌, ℕ, ◌==◌, Bool, true, ◌&&◌, List, [], ◌∷◌, Some, IsTrue}
 use Rattle.std.specs.List.{slice_get, list_any}
 use Rattle.rtl_tree.specs.declared.text.Spot.{Spot}
 use Rattle.rtl_flat.specs.Expression.{Tree, Sized}
@@ -79,27 +79,6 @@ pub record InClockCone (d : Flat) (i : ℕ) : Type 0 where
   pub clock : ℕ
   pub is_clock : IsClockOrReset d clock
   pub reached : IsReached d clock i
-
--- ---- control inputs
-
--- the gate of a latch, as a top input. No latch is admitted yet, so there is none
-abbrev pub IsGateInput : Flat → ℕ → Type 0
-IsGateInput d c = ⊥
-
--- a control input: a clock or a reset, or a gate
-abbrev pub IsControl : Flat → ℕ → Type 0
-IsControl d c = IsClockOrReset d c ⊎ IsGateInput d c
-
--- every other top input is a data input
-pub record IsDataInput (d : Flat) (i : ℕ) : Type 0 where
-  pub input : IsTrue (is_input d i)
-  pub no_control : IsControl d i → ⊥
-
--- the control cone: all that is reached from control inputs
-pub record InCone (d : Flat) (i : ℕ) : Type 0 where
-  pub control : ℕ
-  pub is_control : IsControl d control
-  pub reached : IsReached d control i
 
 -- what is reached from some top input
 pub record IsFromTop (d : Flat) (i : ℕ) : Type 0 where

@@ -117,7 +117,7 @@ pub record Setting : Type 0 where
 pub data Step : Type 0 where
   -- data inputs are set; of two settings of one input the last counts
   Data : (settings : List Setting) → Step
-  -- one control input, a clock or a reset, is set
+  -- one control input, a clock, a reset or the gate of a latch, is set
   Turn : (setting : Setting) → Step
 
 -- what the inputs are after settings

@@ -1,12 +1,12 @@
--- Which steps the world around a design may take: values of inputs are known, and no clock or reset changes beside data
--- or another of them.
+-- Which steps the world around a design may take: values of inputs are known, and no clock, reset or gate changes beside
+-- data or another of them.
 -- Worked examples: crates/sign_cycles/proofs/Register.antt, crates/sign_off/proofs/Example.antt.
 use Rattle.std.specs.Prelude.{◌≡◌, ◌≢◌, false, List, [], ◌∷◌, length}
 use Rattle.std.specs.List.{All}
 use Rattle.rtl_bits.specs.Bits.{has_unknown}
 use Rattle.rtl_flat.specs.Flats.{Flat, widths}
 use Rattle.event_model.specs.Writes.{Values}
-use Rattle.net_model.specs.Control.{IsControl, IsDataInput}
+use Rattle.net_model.specs.Gates.{IsControl, IsDataInput}
 use Rattle.net_model.specs.Cycle.{Setting, Step, Data, Turn, given_after, settings}
 
 -- a known value of the signal's width
