@@ -1,6 +1,6 @@
 -- A design has one list of all findings.
 use Rattle.std.proofs.Common.{◌≡◌, ◌∙◌, ℕ, List, [], ◌∷◌, ◌++◌, map, inl, inr, ap, sym}
-use Rattle.net_model.specs.Control.{InCone}
+use Rattle.net_model.specs.Gates.{InCone}
 use Rattle.rtl_rule.specs.declared.finding.Finding.{Finding}
 use Rattle.rtl_rule.specs.Order.{ranked}
 use Rattle.rtl_flat.specs.Flats.{Flat, Parts}

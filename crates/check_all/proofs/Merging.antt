@@ -1,14 +1,15 @@
 -- Seven lists of findings in order, put together one after the other.
-use Rattle.std.proofs.Common.{◌≡◌, map, ◌∙◌, List, ◌++◌, Result, Ok, Err, Vec, IfOk, ap, sym}
+use Rattle.std.proofs.Common.{◌≡◌, map, ◌∙◌, ℕ, List, ◌++◌, Result, Ok, Err, Vec, IfOk, ap, sym}
 use Rattle.std.specs.declared.alloc.Global.{Global}
 use Rattle.rtl_tree.specs.declared.memory.Memory.{Memory}
-use Rattle.net_model.specs.Control.{InCone}
+use Rattle.net_model.specs.Gates.{Gate, InCone}
 use Rattle.rtl_rule.specs.declared.finding.Finding.{Finding}
 use Rattle.rtl_rule.specs.Order.{comes_before, ranked}
 use Rattle.rtl_flat.specs.Flats.{Parts}
 use Rattle.check_sense.proofs.check_found_proofs.Ordered.{finding_order, level, one_order, ranked_sum, ranked_up}
 use Rattle.check_sense.specs.Sense.{AreSenseFindings}
 use Rattle.check_assign.specs.Findings.{AreAssignFindings}
+use Rattle.check_clocks.specs.check_gates.Admitted.{AreGates}
 use Rattle.check_clocks.specs.check_chains.Findings.{AreResetFindings}
 use Rattle.check_clocks.specs.Findings.{AreClockFindings}
 use Rattle.check_case.specs.Cases.{AreCaseFindings}
@@ -25,10 +26,11 @@ again xs =
 in_order : (all xs : List Finding) → all ≡ ranked xs → all ≡ ranked all
 in_order all xs is = is ∙ sym (again xs) ∙ sym (ap ranked is)
 
-module _ (d : Parts) (sense assigned clocked reset cases unknown readings two three four five six : List Finding) (s : AreSenseFindings d.flat sense) (a : AreAssignFindings d.flat assigned) (k : AreClockFindings (InCone d.flat) d.flat clocked) (r : AreResetFindings d.flat reset) (c : AreCaseFindings d.flat cases) (u : AreUnknownFindings d unknown) (g : AreReadingFindings d readings) where
+module _ (d : Parts) (gates : List (ℕ × Gate)) (are_gates : AreGates d.flat gates) (sense assigned clocked reset cases unknown readings two three four five six : List Finding) (s : AreSenseFindings d.flat sense) (a : AreAssignFindings d.flat assigned) (k : AreClockFindings (InCone d.flat) d.flat clocked) (r : AreResetFindings d.flat reset) (c : AreCaseFindings d.flat cases) (u : AreUnknownFindings d unknown) (g : AreReadingFindings d readings) where
   told : (all : List Finding) → all ≡ ranked (sense ++ assigned ++ clocked ++ reset ++ cases ++ unknown ++ readings) → AreAllFindings d all
   told all is =
       record {
+        gates = gates;
         sense = sense;
         assigned = assigned;
         clocked = clocked;
@@ -36,6 +38,7 @@ module _ (d : Parts) (sense assigned clocked reset cases unknown readings two th
         cases = cases;
         unknown = unknown;
         readings = readings;
+        are_gates = are_gates;
         are_sense = s;
         are_assigned = a;
         are_clocked = k;

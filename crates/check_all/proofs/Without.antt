@@ -3,7 +3,7 @@ use Rattle.std.proofs.Common.{◌≡◌, ◌∙◌, ◌||◌, Bool, true, false,
 use Rattle.std.specs.Prelude.{if◌then◌else◌}
 use Rattle.std.specs.List.{list_any}
 use Rattle.std.proofs.lemmas.Bool.{or_from, or_parts, true≢false}
-use Rattle.net_model.specs.Control.{InCone}
+use Rattle.net_model.specs.Gates.{InCone}
 use Rattle.rtl_rule.specs.declared.finding.Finding.{Finding}
 use Rattle.rtl_rule.specs.Order.{comes_before, placed, ranked}
 use Rattle.rtl_flat.specs.Flats.{Flat, Parts}

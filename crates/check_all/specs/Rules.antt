@@ -1,7 +1,7 @@
 -- It serves inner contracts and proofs; no answer of the program is stated by it.
 -- Designs in which no rule of the first grade that the theorem stands on has a finding.
 use Rattle.std.specs.Prelude.{[]}
-use Rattle.net_model.specs.Control.{InCone}
+use Rattle.net_model.specs.Gates.{InCone}
 use Rattle.rtl_flat.specs.Flats.{Flat}
 use Rattle.check_sense.specs.Sense.{AreMixedEdges, AreNeverWakes, AreSenseMissing}
 use Rattle.check_assign.specs.Assigned.{AreBlockingState, AreCombLoop, AreLatchInferred, AreMixedAssign, AreNonblockingComb, AreSeveralDrivers, AreTristate, AreUndriven}

@@ -10,6 +10,7 @@ pub use all::check;
 pub use check_assign;
 pub use check_case;
 pub use check_clocks;
+pub use check_clocks::check_gates;
 pub use check_readings;
 pub use check_sense;
 pub use check_sense::check_found;

@@ -9,6 +9,7 @@ use Rattle.rtl_flat.specs.Process.{Task}
 use Rattle.rtl_rule.specs.declared.rule.Rule.TheVariants.{LatchInferred, SeveralDrivers}
 use Rattle.rtl_rule.specs.Parts.{has_some, within, written}
 use Rattle.rtl_flat.specs.Flats.{Flat, widths}
+use Rattle.net_model.specs.Gates.{Gate, IsAdmitted}
 use Rattle.check_assign.specs.Assigned.{IsLatchInferred, IsSeveralDrivers, is_comb, latch_inferred_at, lower_writes, several_drivers_at}
 use Rattle.check_assign.specs.Kept.{AreTemporaries}
 use Rattle.check_assign.proofs.Below.{signal_there}
@@ -31,15 +32,15 @@ module _ (d : Flat) (p : ℕ) (task : Task) where
   abbrev left : ℕ → ℕ → Bool
   left i k = written d task.does i k && not (is_sure (flow_of (widths d) task.does) i k)
 
-  pub latch_tells : (answers : List Bool) → AreTemporaries d answers → is_comb task.does ≡ true → (s : ℕ) (b : Bool) → b ≡ has_some (widths d) left s → (o : Option Spot) → o ≡ cond b (Some task.spot) None → Tells (IsLatchInferred d) latch_inferred_at LatchInferred task.instance (p, task) s (cond (not (slice_index_or answers s false)) o None)
-  latch_tells answers are comb s b is o marks =
+  pub latch_tells : (answers : List Bool) → AreTemporaries d answers → is_comb task.does ≡ true → ((gate : Gate) → IsAdmitted d p gate → ⊥) → (s : ℕ) (b : Bool) → b ≡ has_some (widths d) left s → (o : Option Spot) → o ≡ cond b (Some task.spot) None → Tells (IsLatchInferred d) latch_inferred_at LatchInferred task.instance (p, task) s (cond (not (slice_index_or answers s false)) o None)
+  latch_tells answers are comb free s b is o marks =
       subst (λ (place : Option Spot). Tells (IsLatchInferred d) latch_inferred_at LatchInferred task.instance (p, task) s (cond (not (slice_index_or answers s false)) place None)) (sym marks)
       (by_tests (slice_index_or answers s false) b refl is)
     where
       by_tests : (t u : Bool) → slice_index_or answers s false ≡ t → u ≡ has_some (widths d) left s → Tells (IsLatchInferred d) latch_inferred_at LatchInferred task.instance (p, task) s (cond (not t) (cond u (Some task.spot) None) None)
       by_tests true u e found = λ broken. broken.kept (is_temporary d answers are s e)
       by_tests false true e found = (
-        record { level = comb; leaves = sym found; kept = is_kept d answers are s e },
+        record { level = comb; not_admitted = free; leaves = sym found; kept = is_kept d answers are s e },
         refl,
       )
       by_tests false false e found = λ broken. false≢true (found ∙ broken.leaves)

@@ -10,6 +10,7 @@ use Rattle.rtl_flat.specs.Paths.{BitSet, is_sure, may_write_delayed, may_write_b
 use Rattle.rtl_flat.specs.PathSets.{IsTemporary}
 use Rattle.rtl_flat.specs.Process.{Piece, Action, Set, Doing, Assign, Comb, Edge', Task}
 use Rattle.event_model.specs.Queue.{is_input_kind}
+use Rattle.net_model.specs.Gates.{Gate, IsAdmitted}
 use Rattle.rtl_rule.specs.declared.finding.Finding.{Finding}
 use Rattle.rtl_rule.specs.declared.rule.Rule.TheVariants.{BlockingState, NonblockingComb, MixedAssign, SeveralDrivers, Undriven, CombLoop, LatchInferred, Tristate}
 use Rattle.rtl_rule.specs.Parts.{is_clocked, At, signal_sites, process_sites, has_some, first_written, written, number, found, found_at, least_place, agree, statements, spot_if, is_z, has_literal, literal_places}
@@ -135,9 +136,11 @@ AreCombLoop d = AreFindings (IsCombLoop d) (comb_loop_at d) (process_sites d)
 
 -- ---- L1
 
--- a body with a level list may write a bit that some path leaves, and its variable is no temporary
+-- a body with a level list, no latch with a gate from outside, may write a bit that some path leaves, and its variable is no
+-- temporary
 pub record IsLatchInferred (d : Flat) (site : At ℕ) : Type 0 where
   pub level : is_comb site.task.does ≡ true
+  pub not_admitted : (gate : Gate) → IsAdmitted d site.process gate → ⊥
   pub leaves : has_some (widths d) (λ s k. written d site.task.does s k && not (is_sure (flow_of (widths d) site.task.does) s k)) site.it ≡ true
   pub kept : IsTemporary d.signals d.tasks site.it → ⊥
 

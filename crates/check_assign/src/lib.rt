@@ -16,5 +16,6 @@ pub use literals::tristate;
 pub use loops::comb_loop;
 
 // Passed on to the crates above.
+pub use check_gates;
 pub use check_loops::{check_found, rtl_expr, rtl_scan};
 pub use check_parts;

@@ -2,6 +2,7 @@
 
 ghost use Rattle.std.specs.Prelude.{◌≡◌, ◌++◌, IfOk};
 ghost use Rattle.rtl_flat.specs.Flats.{flat};
+ghost use Rattle.check_gates.specs.Admitted.{AreGates, gates_of};
 ghost use Rattle.check_loops.specs.check_found.Scanned.{AreScans};
 ghost use Rattle.check_assign.specs.Findings.{AreAssignFindings};
 ghost use Rattle.check_assign.specs.Lists.{AreAssigned, AreDriven, AreHeld};
@@ -11,6 +12,7 @@ use crate::kinds::{blocking_state, mixed_assign, nonblocking_comb};
 use crate::latches::latch_inferred;
 use crate::literals::tristate;
 use crate::loops::comb_loop;
+use check_gates::Gate;
 use check_loops::check_found::order::ranked;
 use check_loops::check_found::scans::Scans;
 use rtl_rule::finding::Finding;
@@ -49,11 +51,12 @@ fn driven(alloc: Global, scans: &Scans) -> Result<Vec<Finding>, Memory>
 }
 
 /// What keeps its value without a clock, or lets go of it.
-fn held(alloc: Global, scans: &Scans) -> Result<Vec<Finding>, Memory>
-    requires { AreScans scans.now }
+fn held(alloc: Global, scans: &Scans, gates: &[Gate]) -> Result<Vec<Finding>, Memory>
+    requires scans { AreScans scans.now }
+    requires gates { AreGates (flat scans.now.design.now) (gates_of gates.now) }
     ensures { IfOk result (λ found. AreHeld (flat scans.now.design.now) found.items) }
 {
-    let latches = latch_inferred(alloc, scans)?;
+    let latches = latch_inferred(alloc, scans, gates)?;
     let literals = tristate(alloc, scans.design)?;
     joined(latches, literals)
 }
@@ -61,13 +64,14 @@ fn held(alloc: Global, scans: &Scans) -> Result<Vec<Finding>, Memory>
 /// All findings about assignments and drivers, in the order of findings.
 ///
 /// Fails where memory runs out.
-pub fn check(alloc: Global, scans: &Scans) -> Result<Vec<Finding>, Memory>
-    requires { AreScans scans.now }
+pub fn check(alloc: Global, scans: &Scans, gates: &[Gate]) -> Result<Vec<Finding>, Memory>
+    requires scans { AreScans scans.now }
+    requires gates { AreGates (flat scans.now.design.now) (gates_of gates.now) }
     ensures { IfOk result (λ found. AreAssignFindings (flat scans.now.design.now) found.items) }
 {
     let assigned = assigned(alloc, scans)?;
     let driven = driven(alloc, scans)?;
-    let held = held(alloc, scans)?;
+    let held = held(alloc, scans, gates)?;
     let first = joined(assigned, driven)?;
     let found = joined(first, held)?;
     ranked(found)

@@ -10,13 +10,15 @@ use Rattle.rtl_flat.specs.Process.{Watched, Task}
 use Rattle.rtl_rule.specs.declared.finding.Finding.{Finding}
 use Rattle.rtl_rule.specs.Parts.{At, items_of, within}
 use Rattle.rtl_flat.specs.Flats.{Flat}
-use Rattle.check_chains.specs.rtl_scan.Arrows.{Among}
-use Rattle.check_chains.specs.rtl_scan.Graph.{row}
-use Rattle.check_chains.specs.check_found.Gathered.{Gets, task_sites}
-use Rattle.check_chains.proofs.check_found_proofs.Gathering.{findings_by_option, map_findings}
-use Rattle.check_clocks.specs.Clocks.{ComesFrom, HasTwoRoles, IsDerivedClock, IsTwice, derived_clock_at, events_of}
-use Rattle.check_clocks.specs.Tops.{AreRoles, AreTops, derived_in, has_both, has_top, is_derived, is_none, is_twice}
-use Rattle.check_clocks.proofs.Topped.{comes_from}
+use Rattle.check_gates.specs.check_chains.rtl_scan.Arrows.{Among}
+use Rattle.check_gates.specs.check_chains.rtl_scan.Graph.{row}
+use Rattle.check_gates.specs.check_chains.check_found.Gathered.{Gets, task_sites}
+use Rattle.check_gates.proofs.check_chains_proofs.check_found_proofs.Gathering.{findings_by_option, map_findings}
+use Rattle.check_clocks.specs.Clocks.{HasTwoRoles, IsDerivedClock, IsTwice, derived_clock_at, events_of}
+use Rattle.net_model.specs.Gates.{ComesFrom}
+use Rattle.check_clocks.specs.Roles.{AreRoles, derived_in, has_both, has_top, is_derived, is_none, is_twice}
+use Rattle.check_gates.specs.Tops.{AreTops}
+use Rattle.check_gates.proofs.Topped.{comes_from}
 
 -- ---- lists
 

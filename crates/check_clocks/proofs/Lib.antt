@@ -1,7 +1,7 @@
-pub mod Reached
-pub mod Linked
-pub mod Topped
+pub mod Roled
 pub mod Derivations
-pub mod Passing
 pub mod Coned
 pub mod AsData
+pub mod Gated
+-- passed on to the crates above
+pub use Rattle.check_gates.proofs as check_gates_proofs

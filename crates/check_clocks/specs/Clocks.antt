@@ -13,34 +13,15 @@ use Rattle.rtl_flat.specs.Process as part
 use Rattle.rtl_flat.specs.Signs.{Has}
 use Rattle.rtl_flat.specs.WellFormed.{has_edge}
 use Rattle.net_model.specs.Cycle.{Guard, Chain}
+use Rattle.net_model.specs.Gates.{ComesFrom, IsGateOf}
 use Rattle.rtl_rule.specs.declared.finding.Finding.{Finding}
 use Rattle.rtl_rule.specs.declared.rule.Rule.TheVariants.{DerivedClock, ClockAsData}
 use Rattle.rtl_rule.specs.Parts.{At, sites, signal_sites, number, found, found_at, has_some, least_place, nodes, own_reads, place_of, all_of, own_trees, own_labels, read_trees, labels, items_of, spot_if}
 use Rattle.rtl_flat.specs.Flats.{Flat, widths}
 use Rattle.rtl_rule.specs.Sites.{AreFindings}
-use Rattle.check_chains.specs.Chains.{chain_of}
+use Rattle.check_gates.specs.check_chains.Chains.{chain_of}
 
 -- ---- A7
-
--- a connection of an input port: a signal of one bit, as it is, goes to a signal of one bit of another instance
-pub record IsPlainConnection (d : Flat) (task : Task) (i j : ℕ) : Type 0 where
-  pub signed : Bool
-  pub spot : Spot
-  pub at : Spot
-  pub does : task.does ≡ Assign (record { signal = j; selection = part.Whole; spot = at } ∷ []) (Sized 1 signed spot (Whole i))
-  pub outside : Has (λ signal. signal.instance ≢ task.instance) d.signals j
-  pub one_bit : widths d i ≡ 1
-  pub port_bit : widths d j ≡ 1
-
--- what a signal goes to by such connections, itself among it
-pub data GoesTo (d : Flat) (start : ℕ) : ℕ → Type 0 where
-  Itself : GoesTo d start start
-  Through : (i j p : ℕ) (task : Task) → GoesTo d start i → slice_get d.tasks p ≡ Some task → IsPlainConnection d task i j → GoesTo d start j
-
--- whether a signal comes from a top input
-pub record ComesFrom (d : Flat) (top i : ℕ) : Type 0 where
-  pub input : Has (λ signal. signal.kind ≡ TopInput) d.signals top
-  pub goes : GoesTo d top i
 
 -- whether two items of a list come from a top input
 pub record IsTwice (d : Flat) (events : List Watched) (top : ℕ) : Type 0 where
@@ -143,10 +124,11 @@ abbrev pub data_places : Flat → At ℕ → List Spot
 data_places d site =
     level_items d site.it site.task.does ++ data_reads d site.it site.task
 
--- a process lists a signal of the control cone without an edge, or reads it as data; the cone is what clocks and resets of
--- the design reach through input ports
+-- a process lists a signal of the control cone without an edge, or reads it as data, and isn't a latch of which it is the
+-- gate; the cone is what clocks, resets and gates of the design reach through input ports
 pub record IsClockAsData (InCone : ℕ → Type 0) (d : Flat) (site : At ℕ) : Type 0 where
   pub in_cone : InCone site.it
+  pub not_gate : IsGateOf d site.process site.it → ⊥
   pub as_data : is_some_place (data_places d site) ≡ true
 
 abbrev pub clock_as_data_at : Flat → At ℕ → Finding

@@ -6,7 +6,7 @@ use Rattle.rtl_flat.specs.Expression.{Tree}
 use Rattle.rtl_flat.specs.Process.{Doing, Piece}
 use Rattle.rtl_rule.specs.Parts.{labels, read_trees}
 use Rattle.rtl_flat.specs.Flats.{Flat, widths}
-use Rattle.check_chains.specs.Chains.{chain_of}
+use Rattle.check_gates.specs.check_chains.Chains.{chain_of}
 use Rattle.check_clocks.specs.Clocks.{but_tests, in_instance, is_whole}
 
 -- the expressions of a process outside its list, but for the tests of its chain

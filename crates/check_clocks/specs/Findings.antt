@@ -6,7 +6,8 @@ use Rattle.rtl_rule.specs.declared.finding.Finding.{Finding}
 use Rattle.rtl_rule.specs.Order.{ranked}
 use Rattle.check_clocks.specs.Clocks.{AreClockAsData, AreDerivedClock}
 
--- whether these are all of them, in their order; the cone is what clocks and resets reach through input ports
+-- whether these are all of them, in their order; the cone is what clocks, resets and gates reach through input
+-- ports
 pub record AreClockFindings (InCone : ℕ → Type 0) (d : Flat) (findings : List Finding) : Type 0 where
   pub derived : List Finding
   pub as_data : List Finding

@@ -5,17 +5,19 @@ ghost use Rattle.std.specs.List.{flat_map, slice_get};
 ghost use Rattle.rtl_flat.specs.Process.{action, body_of, doing, piece, selection, task};
 ghost use Rattle.rtl_rule.specs.Parts.{all_of, within};
 ghost use Rattle.rtl_flat.specs.Flats.{flat};
-ghost use Rattle.check_chains.specs.check_parts.Kept.{expressions};
-ghost use Rattle.check_chains.specs.Views.{chain_view};
+ghost use Rattle.check_gates.specs.check_chains.check_parts.Kept.{expressions};
+ghost use Rattle.check_gates.specs.check_chains.Views.{chain_view};
 ghost use Rattle.check_clocks.specs.Clocks as spec;
 ghost use Rattle.check_clocks.specs.Data.{but_tests_of, passes_to};
 ghost use Rattle.check_clocks.specs.Uses.{places_of};
 
-use crate::links::{bit_named, is_bit};
 use crate::uses::{Use, push_levels, push_reads};
-use check_chains::chain::{Chain, chain_of};
-use check_chains::check_parts::expressions::{labels, nodes, own_labels, own_trees, read_trees};
-use check_chains::check_parts::statements::{items, statements_of};
+use check_gates::check_chains::chain::{Chain, chain_of};
+use check_gates::check_chains::check_parts::expressions::{
+    labels, nodes, own_labels, own_trees, read_trees,
+};
+use check_gates::check_chains::check_parts::statements::{items, statements_of};
+use check_gates::links::{bit_named, is_bit};
 use rtl_flat::act::{Act, Does, Process, TargetPart};
 use rtl_flat::design::Design;
 use rtl_flat::expr::{Index, Select, SigId, SizedExpr};

@@ -6,9 +6,11 @@ ghost use Rattle.rtl_flat.specs.Process.{doing, task, watched};
 ghost use Rattle.rtl_rule.specs.Parts.{items_of};
 ghost use Rattle.rtl_flat.specs.Flats.{flat};
 ghost use Rattle.check_clocks.specs.Clocks.{AreDerivedClock, events_of};
-ghost use Rattle.check_clocks.specs.Tops.{AreRoles, AreTops, derived_in, has_top, have_roles, is_derived, is_twice};
+ghost use Rattle.check_clocks.specs.Roles.{AreRoles, derived_in, has_top, have_roles, is_derived, is_twice};
+ghost use Rattle.check_gates.specs.Tops.{AreTops};
 
-use crate::tops::{Roles, roles_of, row_at, tops_of};
+use crate::roles::{Roles, roles_of};
+use check_gates::tops::{row_at, tops_of};
 use rtl_flat::act::{Does, EventItem, Process};
 use rtl_flat::design::Design;
 use rtl_flat::expr::SigId;

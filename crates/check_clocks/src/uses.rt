@@ -5,16 +5,18 @@ ghost use Rattle.std.specs.Ordering.{nat_cmp};
 ghost use Rattle.std.specs.BTreeMap.{get};
 ghost use Rattle.rtl_tree.specs.declared.text.Spot.{Spot};
 ghost use Rattle.rtl_flat.specs.Expression.{tree};
-ghost use Rattle.rtl_flat.specs.Flats.{flat, widths};
+ghost use Rattle.rtl_flat.specs.Flats.{Flat, flat, widths};
 ghost use Rattle.rtl_flat.specs.Process.{watched};
-ghost use Rattle.check_chains.specs.check_found.Marked.{least_of};
-ghost use Rattle.check_chains.specs.check_parts.Kept.{expressions};
-ghost use Rattle.check_clocks.specs.Uses.{level_places, place_if, places_of, read_places};
+ghost use Rattle.check_gates.specs.check_chains.check_found.Marked.{least_of};
+ghost use Rattle.check_gates.specs.check_chains.check_parts.Kept.{expressions};
+ghost use Rattle.check_gates.specs.Admitted.{AreGates, gates_of};
+ghost use Rattle.check_clocks.specs.Uses.{level_places, place_if, places_of, read_places, ungated};
 
-use check_chains::check_found::marks::Marks;
-use check_chains::check_parts::reads::{own_signal, selected_signal};
+use check_gates::check_chains::check_found::marks::Marks;
+use check_gates::check_chains::check_parts::reads::{own_signal, selected_signal};
+use check_gates::{Gate, is_gate_of};
 use rtl_bits::Edge;
-use rtl_flat::act::EventItem;
+use rtl_flat::act::{EventItem, ProcId};
 use rtl_flat::design::Design;
 use rtl_flat::expr::{SigId, SizedExpr};
 use rtl_tree::memory::Memory;
@@ -94,6 +96,26 @@ pub(crate) fn push_reads(
         push_read(design, e, found)?;
     }
     Ok(())
+}
+
+/// The uses of signals that aren't the gate of a process.
+pub(crate) fn ungated(
+    alloc: Global,
+    uses: &[Use],
+    gates: &[Gate],
+    p: ProcId,
+) -> Result<Vec<Use>, Memory>
+    requires { (d : Flat) × AreGates d (gates_of gates.now) }
+    ensures { IfOk result (λ others. (s : ℕ) →
+        places_of s others.items ≡ ungated (gates_of gates.now) p.0 s uses.now) }
+{
+    let mut others = Vec::new(alloc);
+    for one in uses {
+        if !is_gate_of(gates, p, one.signal) {
+            others.push(*one)?;
+        }
+    }
+    Ok(others)
 }
 
 /// The signals of some uses, each at its first.

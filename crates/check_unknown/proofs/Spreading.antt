@@ -163,6 +163,7 @@ visited d p seen old new reader inside marks =
           | inr later ↦ Behind p s reader.signal task reader.there reader.doubtful reader.reads later.0
         ];
         began = λ s u. m.keeps s (h.began s u);
+        latched = λ s k is. m.keeps s (h.latched s k is);
         waiting = λ s w. elim (m.only s w) [
           | inl before ↦ m.keeps s (h.waiting s before)
           | inr marked ↦ marked

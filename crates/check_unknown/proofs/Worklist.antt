@@ -4,6 +4,7 @@ use Rattle.std.specs.Prelude.{Vec, ◌==◌, nat_lt}
 use Rattle.std.specs.declared.alloc.Global.{Global}
 use Rattle.std.proofs.lemmas.Bool.{and_from, and_parts, cases_eq, eq-eqb, eqb-true, false≢true, or_cases, or_left, or_right}
 use Rattle.std.specs.List.{slice_get}
+use Rattle.std.specs.Option.{IsSomeAnd}
 use Rattle.std.proofs.lemmas.List.{length-replicate, length-set, take_more}
 use Rattle.check_chains.specs.rtl_scan.declared.bits.Row.{Row}
 use Rattle.check_chains.specs.rtl_scan.Sets.{IsInOrder, has_rows}
@@ -11,20 +12,23 @@ use Rattle.check_chains.specs.rtl_scan.Usage.{has_row_of}
 use Rattle.check_chains.proofs.rtl_scan_proofs.Processes.{below_next, length-tasks}
 use Rattle.rtl_flat.specs.declared.design.Design.{Design}
 use Rattle.rtl_flat.specs.Flows.{flow_of}
-use Rattle.rtl_flat.specs.Paths.{BitSet, reads_outside}
+use Rattle.rtl_flat.specs.Paths.{BitSet, MayWrite, reads_outside}
+use Rattle.rtl_flat.proofs.Paths.{decided}
 use Rattle.rtl_flat.specs.PathSets.{IsTemporary}
 use Rattle.rtl_flat.specs.Process.{Task, task}
 use Rattle.rtl_flat.specs.Signs.{width_in}
 use Rattle.rtl_rule.specs.Parts.{has_some, is_clocked, written}
 use Rattle.rtl_flat.specs.Flats.{Flat, flat, widths}
+use Rattle.net_model.specs.Gates.{IsAdmitted, IsLatchBit}
+use Rattle.net_model.specs.Solution.{IsLasting}
 use Rattle.check_chains.specs.Chains.{chain_of, has_chain}
-use Rattle.check_chains.proofs.check_found_proofs.Inside.{outside_inside}
+use Rattle.check_chains.proofs.check_found_proofs.Inside.{outside_inside, written_inside}
 use Rattle.check_chains.proofs.check_found_proofs.Signals.{rows_have_some}
 use Rattle.check_unknown.specs.declared.doubt.Spread.{Spread}
-use Rattle.check_unknown.specs.Spreading.{Among, AreReaders, IsReader, IsSpreading, IsStarting, Marks, Notes, Reaches, Reads, Visits, bucket, is_marked, is_seen, reads, starts, writes}
-use Rattle.check_unknown.specs.Unknowns.{IsDoubtful, IsUnreset, Behind, Unreset}
+use Rattle.check_unknown.specs.Spreading.{Among, AreLatches, AreReaders, IsReader, IsSpreading, IsStarting, Marks, Notes, Reaches, Reads, Visits, bucket, is_marked, is_seen, is_unset, reads, starts, writes}
+use Rattle.check_unknown.specs.Unknowns.{IsDoubtful, IsUnreset, Behind, Latched, Unreset}
 use Rattle.check_unknown.proofs.Doubts.{got, got_back, marked_in}
-use Rattle.rtl_rule.proofs.Below.{some_found}
+use Rattle.rtl_rule.proofs.Below.{some_at, some_found}
 use Rattle.check_unknown.proofs.Processes.{same_some}
 use Rattle.check_unknown.proofs.Spreading.{among_before, among_last, among_push, has_row_append, width_there}
 
@@ -32,6 +36,11 @@ pub there_below : {A : Type 0} (xs : List A) (n : ℕ) (x : A) → slice_get xs 
 there_below [] n x h = absurd (cc)
 there_below (y ∷ xs) zero x h = omega arith
 there_below (y ∷ xs) (suc n) x h = let below = there_below xs n x h in omega (arith, below)
+
+may_below : {A : Type 0} (xs : List A) (n : ℕ) (P : A → Type 0) → IsSomeAnd (slice_get xs n) P → n < length xs
+may_below [] n P h = absurd h
+may_below (x ∷ xs) zero P h = omega arith
+may_below (x ∷ xs) (suc n) P h = let below = may_below xs n P h in omega (arith, below)
 
 -- a reader is a process of the design
 pub reader_there : (design : Design) (p : ℕ) → IsReader (flat design) p → p < length design.processes.items
@@ -83,48 +92,88 @@ starting_none d spread n same marked waiting =
       same_length = ap length marked ∙ length-replicate n false ∙ same;
       sound = λ s h. absurd (none_marked spread.marked.items n s marked h);
       began = λ s is below. absurd (omega (arith, below));
+      latched = λ s k is below. absurd (omega (arith, below));
       waiting = λ s h. absurd (none_among spread.waiting.items s waiting h);
       waits = λ s h. absurd (none_marked spread.marked.items n s marked h);
     }
 
-module _ (d : Flat) (temporaries : List Bool) (each : (s : ℕ) → slice_get temporaries s ≡ Some true ↔ IsTemporary d.signals d.tasks s) (p : ℕ) (task : Task) (there : slice_get d.tasks p ≡ Some task) where
+module _ (d : Flat) (temporaries gated : List Bool) (each : (s : ℕ) → slice_get temporaries s ≡ Some true ↔ IsTemporary d.signals d.tasks s) (latches : AreLatches d gated) (p : ℕ) (task : Task) (there : slice_get d.tasks p ≡ Some task) where
   abbrev resets : Task → Bool
   resets one = has_chain (λ chain. nat_lt 0 (length chain.resets)) (chain_of d one.does)
 
-  is_unreset : (s : ℕ) → starts d temporaries task s ≡ true → IsUnreset d s
-  is_unreset s h =
-      let (free, own) = and_parts (is_clocked task.does && not (resets task)) (writes d task s && not (get_or temporaries s false)) h in
+  abbrev latch : Bool
+  latch = get_or gated p false
+
+  lasts : (s : ℕ) → not (get_or temporaries s false) ≡ true → IsLasting d s
+  lasts s kept is =
+      false≢true (sym (ap not (got_back temporaries s ((each s).1 is))) ∙ kept)
+
+  stays : (s : ℕ) → IsLasting d s → not (get_or temporaries s false) ≡ true
+  stays s lasting =
+      not_both (get_or temporaries s false) (λ h. lasting ((each s).0 (got temporaries s h)))
+
+  is_unreset : (s : ℕ) → is_clocked task.does && not (resets task) ≡ true → writes d task s ≡ true → IsLasting d s → IsUnreset d s
+  is_unreset s free own lasting =
       let (clocked, no_reset) = and_parts (is_clocked task.does) (not (resets task)) free in
-      let (writes', kept) = and_parts (writes d task s) (not (get_or temporaries s false)) own in
       record {
         process = p;
         task = task;
         there = there;
         clocked = clocked;
-        register = record {
-          inside = some_there d (written d task.does) s writes';
-          writes = writes';
-          kept = λ is. false≢true (sym (ap not (got_back temporaries s ((each s).1 is))) ∙ kept);
-        };
+        register = record { inside = some_there d (written d task.does) s own; writes = own; kept = lasting };
         no_reset = not_true (resets task) no_reset;
       }
 
-  starts_at : (s : ℕ) (is : IsUnreset d s) → is.process ≡ p → starts d temporaries task s ≡ true
+  latch_bit : (s : ℕ) → latch ≡ true → writes d task s ≡ true → IsLasting d s → (k : ℕ) × IsLatchBit d s k
+  latch_bit s is own lasting =
+      let (gate, admitted) = (latches p).0 (got gated p is) in
+      let at_bit = some_found (widths d s) (written d task.does s) own in
+      let may = (decided (flow_of (widths d) task.does) s at_bit.number).writes.0 at_bit.is in (
+        at_bit.number,
+        record {
+          process = p;
+          gate = gate;
+          admitted = admitted;
+          may = subst (λ o. IsSomeAnd o (λ one. MayWrite (flow_of (width_in d.signals) one.does) s at_bit.number)) (sym there) may;
+          lasting = lasting;
+        },
+      )
+
+  is_doubtful : (s : ℕ) → starts d temporaries latch task s ≡ true → IsDoubtful d s
+  is_doubtful s h =
+      let (unset, own) = and_parts (is_unset d latch task.does) (writes d task s && not (get_or temporaries s false)) h in
+      let (writes', kept) = and_parts (writes d task s) (not (get_or temporaries s false)) own in
+      elim (or_cases latch (is_clocked task.does && not (resets task)) unset) [
+        | inl is ↦ let (k, bit) = latch_bit s is writes' (lasts s kept) in Latched s k bit
+        | inr free ↦ Unreset s (is_unreset s free writes' (lasts s kept))
+      ]
+
+  starts_at : (s : ℕ) (is : IsUnreset d s) → is.process ≡ p → starts d temporaries latch task s ≡ true
   starts_at s is here =
       let same = same_some task is.task (sym there ∙ subst (λ k. slice_get d.tasks k ≡ Some is.task) here is.there) in
-      let kept = not_both (get_or temporaries s false) (λ h. is.register.kept ((each s).0 (got temporaries s h))) in
-      subst (λ (one : Task). starts d temporaries one s ≡ true) (sym same)
-      (and_from (is_clocked is.task.does && not (resets is.task)) (writes d is.task s && not (get_or temporaries s false))
-      (and_from (is_clocked is.task.does) (not (resets is.task)) is.clocked (ap not is.no_reset))
-      (and_from (writes d is.task s) (not (get_or temporaries s false)) is.register.writes kept))
+      subst (λ (one : Task). starts d temporaries latch one s ≡ true) (sym same)
+      (and_from (is_unset d latch is.task.does) (writes d is.task s && not (get_or temporaries s false))
+      (or_right latch (is_clocked is.task.does && not (resets is.task)) (and_from (is_clocked is.task.does) (not (resets is.task)) is.clocked (ap not is.no_reset)))
+      (and_from (writes d is.task s) (not (get_or temporaries s false)) is.register.writes (stays s is.register.kept)))
 
-  pub starting_more : (old new : Spread) → Marks (starts d temporaries task) old new → IsStarting d p old → IsStarting d (p + 1) new
+  latch_starts : (s k : ℕ) (is : IsLatchBit d s k) → is.process ≡ p → starts d temporaries latch task s ≡ true
+  latch_starts s k is here =
+      let marked = got_back gated p ((latches p).1 (is.gate, subst (λ q. IsAdmitted d q is.gate) here is.admitted)) in
+      let may : MayWrite (flow_of (widths d) task.does) s k =
+      subst (λ o. IsSomeAnd o (λ one. MayWrite (flow_of (width_in d.signals) one.does) s k)) (ap (slice_get d.tasks) here ∙ there) is.may in
+      let bit = (decided (flow_of (widths d) task.does) s k).writes.1 may in
+      let own = some_at (widths d s) (written d task.does s) k (written_inside (widths d) task.does s k bit) bit in
+      and_from (is_unset d latch task.does) (writes d task s && not (get_or temporaries s false))
+      (or_left latch (is_clocked task.does && not (resets task)) marked)
+      (and_from (writes d task s) (not (get_or temporaries s false)) own (stays s is.lasting))
+
+  pub starting_more : (old new : Spread) → Marks (starts d temporaries latch task) old new → IsStarting d p old → IsStarting d (p + 1) new
   starting_more old new m h =
       record {
         same_length = m.same_length ∙ h.same_length;
         sound = λ s marked. elim (m.from s marked) [
           | inl before ↦ h.sound s before
-          | inr later ↦ Unreset s (is_unreset s later.0)
+          | inr later ↦ is_doubtful s later.0
         ];
         began = λ s is below. elim (below_next is.process p below) [
           | inl before ↦ m.keeps s (h.began s is before)
@@ -132,6 +181,15 @@ module _ (d : Flat) (temporaries : List Bool) (each : (s : ℕ) → slice_get te
               let inside = is.register.inside in
               let same = h.same_length in
               m.to s (omega (arith, inside, same)) (starts_at s is here)
+        ];
+        latched = λ s k is below. elim (below_next is.process p below) [
+          | inl before ↦ m.keeps s (h.latched s k is before)
+          | inr here ↦
+              let start = latch_starts s k is here in
+              let own = (and_parts (is_unset d latch task.does) (writes d task s && not (get_or temporaries s false)) start).1 in
+              let inside = some_there d (written d task.does) s (and_parts (writes d task s) (not (get_or temporaries s false)) own).0 in
+              let same = h.same_length in
+              m.to s (omega (arith, inside, same)) start
         ];
         waiting = λ s w. elim (m.only s w) [
           | inl before ↦ m.keeps s (h.waiting s before)
@@ -291,6 +349,7 @@ spreading_first d spread n m count seen unseen h =
       same_length = h.same_length;
       sound = h.sound;
       began = λ s is. h.began s is (let below = there_below d.tasks is.process is.task is.there in omega (arith, below, count));
+      latched = λ s k is. h.latched s k is (let below = may_below d.tasks is.process _ is.may in omega (arith, below, count));
       waiting = h.waiting;
       done = λ p task there was s w. absurd (none_marked seen m p unseen was);
       closed = λ s p task marked there r. inr (inl (h.waits s marked));
@@ -303,6 +362,7 @@ popped d seen old new signal marks waits h =
       same_length = ap length marks ∙ h.same_length;
       sound = λ s m. h.sound s (was s m);
       began = λ s is. now s (h.began s is);
+      latched = λ s k is. now s (h.latched s k is);
       waiting = λ s w. now s (h.waiting s (subst (λ (xs : List ℕ). Among xs s) (sym waits) (among_before new.waiting.items signal s w)));
       done = λ p task there looked s w. now s (h.done p task there looked s w);
       closed = λ s p task m there r. elim (h.closed s p task (was s m) there r) [
@@ -347,6 +407,7 @@ reached d n table count readers signal seen old seen' new r h =
       same_length = all.same_length;
       sound = all.sound;
       began = all.began;
+      latched = all.latched;
       waiting = all.waiting;
       done = all.done;
       closed = λ s p task marked there reads'. elim (all.closed s p task marked there reads') [
@@ -360,6 +421,7 @@ reached d n table count readers signal seen old seen' new r h =
 -- nothing waits any more
 complete : (d : Flat) (seen : List Bool) (spread : Spread) → IsSpreading d (length d.signals) seen spread → spread.waiting.items ≡ [] → (s : ℕ) → IsDoubtful d s → is_marked spread s ≡ true
 complete d seen spread h none _ (Unreset s is) = h.began s is
+complete d seen spread h none _ (Latched s k is) = h.latched s k is
 complete d seen spread h none _ (Behind p s t task there doubtful reads' writes') =
     let marked = complete d seen spread h none t doubtful in
     elim (h.closed t p task marked there reads') [

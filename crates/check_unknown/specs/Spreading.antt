@@ -1,13 +1,14 @@
 -- It serves inner contracts and proofs; no answer of the program is stated by it.
 -- How what may be x spreads from signal to signal.
-use Rattle.std.specs.Prelude.{ℕ, zero, suc, Vec, ◌≡◌, ◌+◌, ◌<◌, ◌⊎◌, Bool, true, false, not, ◌&&◌, nat_lt, List, [], ◌∷◌, length, Some, slice_index_or}
+use Rattle.std.specs.Prelude.{ℕ, zero, suc, Vec, ◌≡◌, ◌+◌, ◌<◌, ◌⊎◌, ◌↔◌, Bool, true, false, not, ◌&&◌, ◌||◌, nat_lt, List, [], ◌∷◌, length, Some, slice_index_or}
 use Rattle.std.specs.List.{slice_get}
 use Rattle.std.specs.declared.alloc.Global.{Global}
 use Rattle.rtl_flat.specs.Flows.{flow_of}
 use Rattle.rtl_flat.specs.Paths.{reads_outside}
-use Rattle.rtl_flat.specs.Process.{Task}
+use Rattle.rtl_flat.specs.Process.{Doing, Task}
 use Rattle.rtl_rule.specs.Parts.{has_some, is_clocked, written}
 use Rattle.rtl_flat.specs.Flats.{Flat, widths}
+use Rattle.net_model.specs.Gates.{Gate, IsAdmitted, IsLatchBit}
 use Rattle.check_chains.specs.Chains.{chain_of, has_chain}
 use Rattle.check_unknown.specs.declared.doubt.Spread.{Spread}
 use Rattle.check_unknown.specs.Unknowns.{IsDoubtful, IsUnreset}
@@ -42,11 +43,20 @@ writes d task s = has_some (widths d) (written d task.does) s
 abbrev pub reads : Flat → Task → ℕ → Bool
 reads d task s = has_some (widths d) (reads_outside (flow_of (widths d) task.does)) s
 
+-- whether what a process holds may be x before anything spreads: it is a latch, or clocked without an asynchronous reset
+abbrev pub is_unset : Flat → Bool → Doing → Bool
+is_unset d latch does =
+    latch || (is_clocked does && not (has_chain (λ chain. nat_lt 0 (length chain.resets)) (chain_of d does)))
+
 -- what a process marks before anything spreads
-abbrev pub starts : Flat → List Bool → Task → ℕ → Bool
-starts d temporaries task s =
-    (is_clocked task.does && not (has_chain (λ chain. nat_lt 0 (length chain.resets)) (chain_of d task.does)))
-    && (writes d task s && not (slice_index_or temporaries s false))
+abbrev pub starts : Flat → List Bool → Bool → Task → ℕ → Bool
+starts d temporaries latch task s =
+    is_unset d latch task.does && (writes d task s && not (slice_index_or temporaries s false))
+
+-- which processes are latches with a gate from outside
+abbrev pub AreLatches : Flat → List Bool → Type 0
+AreLatches d gated =
+    (p : ℕ) → slice_get gated p ≡ Some true ↔ ((gate : Gate) × IsAdmitted d p gate)
 
 -- a process reads a signal that may be x
 pub record IsReader (d : Flat) (p : ℕ) : Type 0 where
@@ -59,13 +69,14 @@ pub record IsReader (d : Flat) (p : ℕ) : Type 0 where
 abbrev pub is_seen : List Bool → ℕ → Bool
 is_seen seen p = slice_index_or seen p false
 
--- what holds between the steps: what is marked may be x; registers without a reset are
+-- what holds between the steps: what is marked may be x; registers without a reset and latches are
 -- marked; what waits is marked; what a process writes that was looked at is
 -- marked; and a process that reads what is marked was looked at, unless that waits or is the signal at hand
 pub record IsSpreading (d : Flat) (current : ℕ) (seen : List Bool) (spread : Spread) : Type 0 where
   pub same_length : length spread.marked.items ≡ length d.signals
   pub sound : (s : ℕ) → is_marked spread s ≡ true → IsDoubtful d s
   pub began : (s : ℕ) → IsUnreset d s → is_marked spread s ≡ true
+  pub latched : (s k : ℕ) → IsLatchBit d s k → is_marked spread s ≡ true
   pub waiting : (s : ℕ) → Among spread.waiting.items s → is_marked spread s ≡ true
   pub done : (p : ℕ) (task : Task) → slice_get d.tasks p ≡ Some task → is_seen seen p ≡ true → (s : ℕ) → writes d task s ≡ true → is_marked spread s ≡ true
   pub closed : (s p : ℕ) (task : Task) → is_marked spread s ≡ true → slice_get d.tasks p ≡ Some task → reads d task s ≡ true → (s ≡ current) ⊎ (Among spread.waiting.items s ⊎ (is_seen seen p ≡ true))
@@ -89,11 +100,12 @@ pub record Reaches (d : Flat) (row : List ℕ) (seen : List Bool) (spread : Spre
 
 -- ---- where it starts
 
--- the registers without a reset of the processes below a number are marked, and all that is marked waits
+-- the registers without a reset and the latches of the processes below a number are marked, and all that is marked waits
 pub record IsStarting (d : Flat) (n : ℕ) (spread : Spread) : Type 0 where
   pub same_length : length spread.marked.items ≡ length d.signals
   pub sound : (s : ℕ) → is_marked spread s ≡ true → IsDoubtful d s
   pub began : (s : ℕ) (is : IsUnreset d s) → is.process < n → is_marked spread s ≡ true
+  pub latched : (s k : ℕ) (is : IsLatchBit d s k) → is.process < n → is_marked spread s ≡ true
   pub waiting : (s : ℕ) → Among spread.waiting.items s → is_marked spread s ≡ true
   pub waits : (s : ℕ) → is_marked spread s ≡ true → Among spread.waiting.items s
 

@@ -22,6 +22,7 @@ use Rattle.rtl_flat.specs.Process.{Selection, Piece, Watched, Action, Set, If, C
 use Rattle.rtl_flat.specs.Process as part
 use Rattle.rtl_flat.specs.Signs.{sign_of}
 use Rattle.rtl_flat.specs.Sizes.{width_of}
+use Rattle.net_model.specs.Gates.{IsLatchBit}
 use Rattle.rtl_rule.specs.declared.finding.Finding.{Finding}
 use Rattle.rtl_rule.specs.declared.rule.Rule.{Rule}
 use Rattle.rtl_rule.specs.declared.rule.Rule.TheVariants as rule
@@ -207,10 +208,11 @@ pub record IsUnreset (d : Flat) (s : ℕ) : Type 0 where
   pub register : IsRegisterOf d task.does s
   pub no_reset : has_chain (λ chain. nat_lt 0 (length chain.resets)) (chain_of d task.does) ≡ false
 
--- a signal is doubtful where it is such a register, or is written by a process that reads a doubtful signal before it has
--- written it
+-- a signal is doubtful where it is such a register, or a latch, or is written by a process that reads a doubtful signal
+-- before it has written it
 pub data IsDoubtful (d : Flat) : ℕ → Type 0 where
   Unreset : (s : ℕ) → IsUnreset d s → IsDoubtful d s
+  Latched : (s k : ℕ) → IsLatchBit d s k → IsDoubtful d s
   Behind : (p s t : ℕ) (task : Task) → slice_get d.tasks p ≡ Some task → IsDoubtful d t → has_some (widths d) (reads_outside (flow_of (widths d) task.does)) t ≡ true → has_some (widths d) (written d task.does) s ≡ true → IsDoubtful d s
 
 -- ---- U1 and U2

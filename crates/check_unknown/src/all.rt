@@ -3,6 +3,7 @@
 ghost use Rattle.std.specs.Prelude.{◌≡◌, IfOk, OnOk};
 ghost use Rattle.rtl_flat.specs.Flats.{flat, parts};
 ghost use Rattle.check_chains.specs.check_found.Scanned.{AreScans};
+ghost use Rattle.check_gates.specs.Admitted.{AreGates, gates_of};
 ghost use Rattle.check_unknown.specs.Parts.{AreOfChoices, AreOfDropped, AreOfExpressions};
 ghost use Rattle.check_unknown.specs.Unknowns.{AreUnknownFindings};
 
@@ -12,6 +13,7 @@ use crate::dropped::{delay_ignored, initial_ignored, translate_off};
 use crate::node_rules::node_findings;
 use check_chains::check_found::order::ranked;
 use check_chains::check_found::scans::Scans;
+use check_gates::Gate;
 use rtl_flat::design::Design;
 use rtl_rule::finding::Finding;
 use rtl_tree::memory::Memory;
@@ -43,12 +45,18 @@ fn push_dropped(alloc: Global, design: &Design, found: &mut Vec<Finding>) -> Res
 }
 
 /// Adds the findings of what may be x.
-fn push_choices(alloc: Global, scans: &Scans, found: &mut Vec<Finding>) -> Result<(), Memory>
-    requires { AreScans scans.now }
+fn push_choices(
+    alloc: Global,
+    scans: &Scans,
+    gates: &[Gate],
+    found: &mut Vec<Finding>,
+) -> Result<(), Memory>
+    requires scans { AreScans scans.now }
+    requires gates { AreGates (flat scans.now.design.now) (gates_of gates.now) }
     ensures { let d = flat scans.now.design.now in
         OnOk result (AreOfChoices d found.old.items found.new.items) }
 {
-    let marks = doubtful(alloc, scans)?;
+    let marks = doubtful(alloc, scans, gates)?;
     let optimism = x_optimism(alloc, scans.design, &marks)?;
     let wild = wild_selector(alloc, scans.design, &marks)?;
     found.extend_from_slice(&optimism)?;
@@ -59,12 +67,13 @@ fn push_choices(alloc: Global, scans: &Scans, found: &mut Vec<Finding>) -> Resul
 /// All findings about x, z and what synthesis ignores, in their order.
 ///
 /// Fails where memory runs out.
-pub fn check(alloc: Global, scans: &Scans) -> Result<Vec<Finding>, Memory>
-    requires { AreScans scans.now }
+pub fn check(alloc: Global, scans: &Scans, gates: &[Gate]) -> Result<Vec<Finding>, Memory>
+    requires scans { AreScans scans.now }
+    requires gates { AreGates (flat scans.now.design.now) (gates_of gates.now) }
     ensures { IfOk result (λ found. AreUnknownFindings (parts scans.now.design.now) found.items) }
 {
     let mut found = of_expressions(alloc, scans.design)?;
     push_dropped(alloc, scans.design, &mut found)?;
-    push_choices(alloc, scans, &mut found)?;
+    push_choices(alloc, scans, gates, &mut found)?;
     ranked(found)
 }

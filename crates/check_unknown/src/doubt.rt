@@ -8,13 +8,15 @@ ghost use Rattle.rtl_flat.specs.Flats.{flat};
 ghost use Rattle.check_chains.specs.rtl_scan.Usage.{has_row_of};
 ghost use Rattle.check_chains.specs.Chains.{chain_of, has_chain};
 ghost use Rattle.check_chains.specs.check_found.Scanned.{AreScans};
-ghost use Rattle.check_unknown.specs.Spreading.{Among, AreReaders, IsReader, IsStarting, Marks, Notes, Reaches, Visits, bucket, reads, starts};
+ghost use Rattle.check_gates.specs.Admitted.{AreGates, gates_of};
+ghost use Rattle.check_unknown.specs.Spreading.{Among, AreLatches, AreReaders, IsReader, IsStarting, Marks, Notes, Reaches, Visits, bucket, is_unset, reads, starts};
 ghost use Rattle.check_unknown.specs.Unknowns.{IsDoubtful};
 
 use crate::choices::is_marked;
 use check_chains::chain::chain_of;
 use check_chains::check_found::scans::Scans;
 use check_chains::rtl_scan::bits::Row;
+use check_gates::{Gate, gated};
 use rtl_flat::act::{Does, ProcId};
 use rtl_flat::design::Design;
 use rtl_flat::expr::SigId;
@@ -101,25 +103,48 @@ fn is_clocked(does: &Does) -> bool
     }
 }
 
-/// Marks the registers of a clocked process that has no asynchronous reset.
+/// Whether what a process holds may be x from the start: it is a latch, or clocked without an
+/// asynchronous reset.
+fn is_unset(alloc: Global, design: &Design, does: &Does, latch: bool) -> Result<bool, Memory>
+    ensures { let d = flat design.now in
+        IfOk result (λ unset. unset ≡ is_unset d latch (doing does.now)) }
+{
+    if latch {
+        return Ok(true);
+    }
+    if !is_clocked(does) {
+        return Ok(false);
+    }
+    let has = has_reset(alloc, design, does)?;
+    Ok(!has)
+}
+
+/// Whether a process is marked.
+fn is_latch(gated: &[bool], p: ProcId) -> bool
+    ensures { result ≡ slice_index_or gated.now p.0 false }
+{
+    gated.get(p.0 as usize).copied().unwrap_or(false)
+}
+
+/// Marks the registers of a clocked process that has no asynchronous reset, and those of a latch.
 fn start(
     alloc: Global,
     scans: &Scans,
     p: ProcId,
+    gated: &[bool],
     temporaries: &[bool],
     spread: &mut Spread,
 ) -> Result<(), Memory>
     requires scans { AreScans scans.now }
     requires there { p.0 < length scans.now.design.now.processes.items }
     ensures { let d = flat scans.now.design.now in
+        let latch = slice_index_or gated.now p.0 false in
         OnOk result ((task : Task) → slice_get d.tasks p.0 ≡ Some task
-        → Marks (starts d temporaries.now task) spread.old spread.new) }
+        → Marks (starts d temporaries.now latch task) spread.old spread.new) }
 {
     let does = &scans.design.processes[p.0 as usize].does;
-    if !is_clocked(does) {
-        return Ok(());
-    }
-    if has_reset(alloc, scans.design, does)? {
+    let unset = is_unset(alloc, scans.design, does, is_latch(gated, p))?;
+    if !unset {
         return Ok(());
     }
     spread.mark_kept(&scans.written(p).rows, temporaries)
@@ -142,9 +167,10 @@ fn visit(scans: &Scans, p: ProcId, seen: &mut [bool], spread: &mut Spread) -> Re
     spread.mark_rows(&scans.written(p).rows)
 }
 
-/// Marks the registers that no asynchronous reset sets.
-fn started(alloc: Global, scans: &Scans) -> Result<Spread, Memory>
-    requires { AreScans scans.now }
+/// Marks the registers that no asynchronous reset sets, and the latches.
+fn started(alloc: Global, scans: &Scans, gated: &[bool]) -> Result<Spread, Memory>
+    requires scans { AreScans scans.now }
+    requires gated { AreLatches (flat scans.now.design.now) gated.now }
     ensures { let count = length scans.now.design.now.processes.items in
         IfOk result (λ spread. IsStarting (flat scans.now.design.now) count spread) }
 {
@@ -154,7 +180,14 @@ fn started(alloc: Global, scans: &Scans) -> Result<Spread, Memory>
         waiting: Vec::new(alloc),
     };
     for p in 0..scans.design.processes.len() {
-        start(alloc, scans, ProcId(p as u32), temporaries, &mut spread)?;
+        start(
+            alloc,
+            scans,
+            ProcId(p as u32),
+            gated,
+            temporaries,
+            &mut spread,
+        )?;
     }
     Ok(spread)
 }
@@ -237,20 +270,22 @@ fn visit_all(
     Ok(())
 }
 
-/// Whether each signal may be x after power-up: a register without an asynchronous reset, or what a
-/// process may write that reads such a signal before it has written it.
+/// Whether each signal may be x after power-up: a register without an asynchronous reset, a latch,
+/// or what a process may write that reads such a signal before it has written it.
 ///
 /// Fails where memory runs out.
-pub fn doubtful(alloc: Global, scans: &Scans) -> Result<Vec<bool>, Memory>
-    requires { AreScans scans.now }
+pub fn doubtful(alloc: Global, scans: &Scans, gates: &[Gate]) -> Result<Vec<bool>, Memory>
+    requires scans { AreScans scans.now }
+    requires gates { AreGates (flat scans.now.design.now) (gates_of gates.now) }
     ensures length { IfOk result (λ answers. length answers.items
         ≡ length scans.now.design.now.signals.items) }
     ensures each { IfOk result (λ answers. (s : ℕ) → slice_get answers.items s
         ≡ Some true ↔ IsDoubtful (flat scans.now.design.now) s) }
 {
+    let gated = gated(alloc, scans.design, gates)?;
     let readers = readers(alloc, scans)?;
     let mut seen = vec![in alloc; false; scans.design.processes.len()]?;
-    let mut spread = started(alloc, scans)?;
+    let mut spread = started(alloc, scans, &gated)?;
     while let Some(signal) = spread.waiting.pop() {
         visit_all(scans, &readers[signal as usize], &mut seen, &mut spread)?;
     }

@@ -18,3 +18,4 @@ pub use dropped::{delay_ignored, initial_ignored, translate_off};
 
 // Passed on to the crates above.
 pub use check_chains;
+pub use check_gates;

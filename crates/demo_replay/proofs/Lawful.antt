@@ -15,7 +15,7 @@ use Rattle.event_model.specs.declared.setting.Setting.{Setting}
 use Rattle.event_model.specs.Queue.{is_input}
 use Rattle.event_model.specs.Writes.{Values}
 use Rattle.event_queue.specs.Offers.{AreAllowed}
-use Rattle.net_model.specs.Control.{IsControl}
+use Rattle.net_model.specs.Gates.{IsControl}
 use Rattle.net_model.specs.Lawful.{IsSetting, SetsData, TurnsControl}
 use Rattle.net_model.specs.Numbers.{AreNumbers}
 use Rattle.event_queue.specs.rtl_scan.Arrows.{Among}

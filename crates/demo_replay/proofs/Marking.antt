@@ -11,7 +11,7 @@ use Rattle.event_queue.specs.rtl_scan.declared.bits.Row.{Row}
 use Rattle.event_queue.specs.rtl_scan.Arrows.{Among}
 use Rattle.event_queue.specs.rtl_scan.Sets.{IsInOrder, has_rows}
 use Rattle.event_queue.specs.rtl_scan.Usage.{has_row_of}
-use Rattle.netlist_eval.specs.check_clocks.Tops.{AreMarkedAlso}
+use Rattle.netlist_eval.specs.check_gates.Tops.{AreMarkedAlso}
 use Rattle.netlist_eval.proofs.check_found_proofs.Inside.{written_inside}
 use Rattle.netlist_eval.proofs.check_found_proofs.Signals.{AreRows, row_below, rows_have_some}
 use Rattle.demo_replay.specs.Tables.{AreClockedBelow, MarksWritten, WritesBelow, is_marked}

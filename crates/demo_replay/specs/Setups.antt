@@ -6,7 +6,7 @@ use Rattle.rtl_bits.specs.declared.Bit.{Bit}
 use Rattle.rtl_bits.specs.declared.Bit.TheVariants.{Zero}
 use Rattle.rtl_flat.specs.declared.signal.Signal.{Signal}
 use Rattle.rtl_flat.specs.Flats.{Flat, widths}
-use Rattle.net_model.specs.Control.{IsControl}
+use Rattle.net_model.specs.Gates.{IsControl}
 use Rattle.netlist_eval.specs.net_list.Faults.{AreAlone, AreFormed, IsContended, IsShapeless}
 use Rattle.netlist_eval.specs.net_order.Order.{IsCyclic}
 use Rattle.netlist_eval.specs.Steps.{HasNoCycle}

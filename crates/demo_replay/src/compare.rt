@@ -7,7 +7,7 @@ ghost use Rattle.demo_replay.specs.Tables.{AreClocked, AreClockedBelow, MarksWri
 
 use crate::setup::{Setup, is_marked};
 use demo_told::Shown;
-use netlist_eval::check_clocks::tops::mark_all;
+use netlist_eval::check_gates::tops::mark_all;
 use netlist_eval::net_list::check_found::sets::written;
 use netlist_eval::net_list::clocked::waits;
 use rtl_flat::act::ProcId;

@@ -1,22 +1,22 @@
--- The top inputs that are clocks or resets, one after another.
+-- The top inputs that are clocks, resets or gates, one after another.
 use Rattle.std.proofs.Common.{◌≡◌, ◌∙◌, ◌<◌, ◌≤◌, ◌+◌, ℕ, zero, suc, Bool, true, false, List, [], ◌∷◌, ◌++◌, length, get_or, refl, sym, ap, subst, inl, inr, arith}
 use Rattle.std.specs.Prelude.{◌⊎◌, ◌↔◌, Vec}
-use Rattle.std.specs.List.{AllByRecursion, list_any, slice_get}
+use Rattle.std.specs.List.{AllByRecursion, slice_get}
 use Rattle.std.specs.declared.alloc.Global.{Global}
 use Rattle.std.proofs.lemmas.Bool.{both_ways, cases_eq, false≢true, or_cases, or_left, or_right}
-use Rattle.rtl_flat.specs.declared.signal.Signal.{Signal}
 use Rattle.event_model.specs.Queue.{is_input_of}
-use Rattle.net_model.specs.Control.{IsControl, IsReached, Itself, Through}
-use Rattle.net_model.proofs.Gates.{clock_control, clock_or_reset, control_input}
+use Rattle.net_model.specs.Gates.{IsControl, IsGateInput}
+use Rattle.net_model.proofs.Gates.{clock_control, control_input}
 use Rattle.rtl_flat.specs.Flats.{Flat}
 use Rattle.net_list.specs.rtl_scan.Arrows.{Among, AreRising}
-use Rattle.net_list.specs.check_clocks.declared.reach.Link.{Link}
-use Rattle.net_list.specs.check_clocks.Cone.{AreEdgeMarks, ArePassing, ReachesMarked}
-use Rattle.net_list.specs.check_clocks.Links.{AreRows}
-use Rattle.net_list.specs.check_clocks.Reach.{Reaches}
-use Rattle.net_list.proofs.check_clocks_proofs.Coned.{reached_from, reached_to}
-use Rattle.net_list.proofs.check_clocks_proofs.Linked.{bit_inside}
-use Rattle.net_list.proofs.check_clocks_proofs.Reached.{among_cases, among_left, among_right}
+use Rattle.net_list.specs.check_gates.declared.reach.Link.{Link}
+use Rattle.net_list.specs.check_clocks.Cone.{ReachesControl}
+use Rattle.net_list.specs.check_gates.Waits.{AreEdgeMarks}
+use Rattle.net_list.specs.check_gates.Passed.{ArePassing}
+use Rattle.net_list.specs.check_gates.Links.{AreRows}
+use Rattle.net_list.specs.check_gates.Reach.{Reaches}
+use Rattle.net_list.proofs.check_gates_proofs.Waiting.{input_below, reached_below, reached_from, reached_to}
+use Rattle.net_list.proofs.check_gates_proofs.Reached.{among_cases, among_left, among_right}
 use Rattle.infer_regs.specs.Forms.{AreControls}
 
 -- ---- numbers that rise
@@ -30,34 +30,7 @@ rising_push (x ∷ xs) n (first, rest) below =
     all_push [] h = (below x (inl refl), tt)
     all_push (y ∷ ys) h = (h.0, all_push ys h.1)
 
--- ---- marks
-
-any_from : (marks : List Bool) (places : List ℕ) → list_any (λ place. get_or marks place false) places ≡ true → (k : ℕ) × Among places k × (get_or marks k false ≡ true)
-any_from marks [] h = absurd (false≢true h)
-any_from marks (place ∷ places) h = elim (or_cases (get_or marks place false) (list_any (λ place. get_or marks place false) places) h) [
-  | inl here ↦ (place, inl refl, here)
-  | inr later ↦ let (k, among, is) = any_from marks places later in (k, inr among, is)
-]
-
-any_to : (marks : List Bool) (places : List ℕ) (k : ℕ) → Among places k → get_or marks k false ≡ true → list_any (λ place. get_or marks place false) places ≡ true
-any_to marks [] k among is = absurd among
-any_to marks (place ∷ places) k (inl same) is =
-    or_left (get_or marks place false) (list_any (λ place. get_or marks place false) places) (ap (λ p. get_or marks p false) (sym same) ∙ is)
-any_to marks (place ∷ places) k (inr later) is =
-    or_right (get_or marks place false) (list_any (λ place. get_or marks place false) places) (any_to marks places k later is)
-
-pub reaches_is : (rows : List (Vec ℕ Global)) (marks : List Bool) (start : ℕ) (found : List ℕ) → ((k : ℕ) → Among found k ↔ Reaches rows start k) → list_any (λ place. get_or marks place false) found ≡ true ↔ ReachesMarked rows marks start
-reaches_is rows marks start found is = (
-  λ h. let (k, among, at) = any_from marks found h in record { signal = k; reached = (is k).0 among; marked = at },
-  λ h. any_to marks found h.signal ((is h.signal).1 h.reached) h.marked,
-)
-
 -- ---- controls
-
-input_below : (signals : List Signal) (c : ℕ) → is_input_of (slice_get signals c) ≡ true → c < length signals
-input_below [] c h = absurd (false≢true h)
-input_below (s ∷ signals) zero h = omega arith
-input_below (s ∷ signals) (suc c) h = let below = input_below signals c h in omega (arith, below)
 
 -- those below a number
 pub record AreBelow (d : Flat) (n : ℕ) (found : List ℕ) : Type 0 where
@@ -101,17 +74,14 @@ module _ (d : Flat) where
   all_controls n found are past =
       record { rising = are.rising; each = λ s. (λ h. ((are.each s).0 h).1, λ is. let below = input_below d.signals s (control_input d s is) in (are.each s).1 (omega (arith, below, past), is)) }
 
-  reached_below : (c s : ℕ) → c < length d.signals → IsReached d c s → s < length d.signals
-  reached_below c s inside Itself = inside
-  reached_below c s inside (Through i j from is) = bit_inside d.signals j is.port_bit
-
   pub no_top : (n : ℕ) → is_input_of (slice_get d.signals n) ≡ false → IsControl d n → ⊥
   no_top n other is =
       both_ways (is_input_of (slice_get d.signals n)) other (control_input d n is)
 
   module _ (links : List Link) (rows : List (Vec ℕ Global)) (are : AreRows (length d.signals) links rows) (all : ArePassing d (length d.tasks) links) (edges : List Bool) (marked : AreEdgeMarks d edges) where
-    pub control_is : (n : ℕ) → is_input_of (slice_get d.signals n) ≡ true → ReachesMarked rows edges n → IsControl d n
-    control_is n top it =
+    pub control_is : (n : ℕ) (gate : Bool) → gate ≡ true ↔ IsGateInput d n → is_input_of (slice_get d.signals n) ≡ true → ReachesControl rows edges gate n → IsControl d n
+    control_is n gate is_gate top (inl opens) = inr (is_gate.0 opens)
+    control_is n gate is_gate top (inr it) =
         clock_control d n (record {
           input = top;
           signal = it.signal;
@@ -119,12 +89,12 @@ module _ (d : Flat) where
           edges = ((marked.each it.signal).0 it.marked).1;
         })
 
-    pub control_reaches : (n : ℕ) → IsControl d n → ReachesMarked rows edges n
-    control_reaches n control =
-        let is = clock_or_reset d n control in
+    pub control_reaches : (n : ℕ) (gate : Bool) → gate ≡ true ↔ IsGateInput d n → IsControl d n → ReachesControl rows edges gate n
+    control_reaches n gate is_gate (inr input) = inl (is_gate.1 input)
+    control_reaches n gate is_gate (inl is) =
         let inside = input_below d.signals n is.input in
-        record {
+        inr (record {
           signal = is.signal;
           reached = reached_to d links rows are all n is.signal is.reached;
-          marked = (marked.each is.signal).1 (reached_below n is.signal inside is.reached, is.edges);
-        }
+          marked = (marked.each is.signal).1 (reached_below d n is.signal inside is.reached, is.edges);
+        })

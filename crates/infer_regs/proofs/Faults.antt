@@ -16,7 +16,7 @@ use Rattle.net_list.proofs.check_found_proofs.Sites.{task_count}
 use Rattle.net_list.specs.check_sense.Sense.{first_level}
 use Rattle.net_list.specs.check_sense.Telling.{level_in}
 use Rattle.net_list.specs.check_clocks.Clocks.{IsDerivedClock, events_of}
-use Rattle.net_list.specs.check_clocks.Tops.{is_derived}
+use Rattle.net_list.specs.check_clocks.Roles.{is_derived}
 use Rattle.net_list.proofs.check_clocks_proofs.Derivations.{derived_is}
 use Rattle.net_list.specs.Faults.{HasFault, IsFault, Waits}
 use Rattle.infer_regs.specs.Facts.{AreFacts}

@@ -22,7 +22,8 @@ use Rattle.net_list.specs.check_chains.Inner.{has_turned}
 use Rattle.net_list.specs.check_chains.Views.{chain_view}
 use Rattle.net_list.proofs.check_chains_proofs.Told.{same_truth}
 use Rattle.net_list.specs.check_clocks.Clocks.{events_of}
-use Rattle.net_list.specs.check_clocks.Tops.{AreTops, is_derived}
+use Rattle.net_list.specs.check_gates.Tops.{AreTops}
+use Rattle.net_list.specs.check_clocks.Roles.{is_derived}
 use Rattle.net_list.specs.chain_laws.Chained.{HasChain}
 use Rattle.rtl_rule.proofs.Lists.{Each}
 use Rattle.net_list.specs.Faults.{IsFault, Waits}

@@ -19,8 +19,8 @@ use Rattle.net_list.specs.check_chains.declared.chain.Guard as code
 use Rattle.std.proofs.lemmas.List.{map-append, take_more}
 use Rattle.net_list.specs.check_chains.Views.{guard_view}
 use Rattle.net_list.specs.check_clocks.Clocks.{IsDerivedClock, events_of}
-use Rattle.net_list.specs.check_clocks.Tops.{AreTops}
-use Rattle.net_list.proofs.check_clocks_proofs.Topped.{comes_from}
+use Rattle.net_list.specs.check_gates.Tops.{AreTops}
+use Rattle.net_list.proofs.check_gates_proofs.Topped.{comes_from}
 use Rattle.rtl_rule.proofs.Lists.{Each, each_all, each_from, each_map}
 use Rattle.net_list.specs.Faults.{IsFault}
 use Rattle.infer_regs.specs.Taken.{AreResetTops, HasTop}

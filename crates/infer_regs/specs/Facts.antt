@@ -5,7 +5,8 @@ use Rattle.std.specs.List.{slice_get}
 use Rattle.std.specs.declared.alloc.Global.{Global}
 use Rattle.rtl_flat.specs.PathSets.{IsTemporary}
 use Rattle.rtl_flat.specs.Flats.{Flat}
-use Rattle.net_list.specs.check_clocks.Tops.{AreRoles, AreTops}
+use Rattle.net_list.specs.check_clocks.Roles.{AreRoles}
+use Rattle.net_list.specs.check_gates.Tops.{AreTops}
 
 pub record AreFacts (d : Flat) (tops : List (Vec ℕ Global)) (clocks resets temporaries : List Bool) : Type 0 where
   pub tops_are : AreTops d (length d.signals) tops

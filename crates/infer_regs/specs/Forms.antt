@@ -1,9 +1,9 @@
--- What a process that waits for edges is to inference, and the inputs that are clocks or resets (IEEE 1364.1-2002 section
--- 5.2.2).
+-- What a process that waits for edges is to inference, and the inputs that are clocks, resets or gates (IEEE 1364.1-2002
+-- sections 5.2.2 and 5.3).
 use Rattle.std.specs.Prelude.{◌≡◌, ◌⊎◌, ◌↔◌, ℕ, List, [], ◌∷◌, map, Some}
 use Rattle.rtl_flat.specs.Process.{Watched, Task, watched}
 use Rattle.rtl_flat.specs.Flats.{Flat}
-use Rattle.net_model.specs.Control.{IsControl}
+use Rattle.net_model.specs.Gates.{IsControl}
 use Rattle.net_model.specs.Cycle.{Chain, Guard}
 use Rattle.rtl_rule.specs.declared.rule.Rule.{Rule}
 use Rattle.rtl_rule.specs.declared.rule.Rule.TheVariants.{MixedEdges, DerivedClock, ResetShape, ResetPolarity, ResetValue}
@@ -45,7 +45,7 @@ IsForm d p task (Clock clock resets) =
 
 -- ---- controls
 
--- the top inputs that are clocks or resets, in order, each once
+-- the top inputs that are clocks, resets or gates, in order, each once
 pub record AreControls (d : Flat) (found : List ℕ) : Type 0 where
   pub rising : AreRising found
   pub each : (s : ℕ) → Among found s ↔ IsControl d s

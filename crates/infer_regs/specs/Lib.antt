@@ -6,4 +6,5 @@ pub mod Taken
 pub use Rattle.net_list.specs.check_assign
 pub use Rattle.net_list.specs.check_chains
 pub use Rattle.net_list.specs.check_clocks
+pub use Rattle.net_list.specs.check_gates
 pub use Rattle.net_list.specs as net_list

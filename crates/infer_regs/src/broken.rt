@@ -7,7 +7,7 @@ ghost use Rattle.rtl_flat.specs.Flats.{flat};
 ghost use Rattle.net_list.specs.check_sense.Sense.{has_item};
 ghost use Rattle.net_list.specs.check_sense.Telling.{level_in};
 ghost use Rattle.net_list.specs.check_clocks.Clocks.{events_of};
-ghost use Rattle.net_list.specs.check_clocks.Tops.{is_derived};
+ghost use Rattle.net_list.specs.check_clocks.Roles.{is_derived};
 ghost use Rattle.net_list.specs.Faults.{Waits};
 ghost use Rattle.net_list.specs.check_chains.check_parts.Reads.{AreUnknowns};
 ghost use Rattle.infer_regs.specs.Facts.{AreFacts};

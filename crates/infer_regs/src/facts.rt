@@ -6,7 +6,8 @@ ghost use Rattle.net_list.specs.check_chains.check_parts.Reads.{AreUnknowns};
 ghost use Rattle.infer_regs.specs.Facts.{AreFacts};
 
 use net_list::check_chains::check_parts::reads::unknowns;
-use net_list::check_clocks::tops::{Roles, roles_of, tops_of};
+use net_list::check_clocks::roles::{Roles, roles_of};
+use net_list::check_gates::tops::tops_of;
 use net_list::rtl_scan::temporaries;
 use rtl_bits::Vec4;
 use rtl_flat::design::Design;

@@ -15,4 +15,4 @@ pub use inputs::controls;
 
 // Passed on to the crates above.
 pub use net_list;
-pub use net_list::check_clocks;
+pub use net_list::{check_clocks, check_gates};

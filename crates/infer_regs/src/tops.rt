@@ -8,7 +8,7 @@ ghost use Rattle.net_list.specs.check_chains.Views.{guard_view};
 ghost use Rattle.infer_regs.specs.Taken.{AreResetTops, HasTop};
 
 use net_list::check_chains::chain::Guard;
-use net_list::check_clocks::tops::row_at;
+use net_list::check_gates::tops::row_at;
 use rtl_flat::expr::SigId;
 use rtl_tree::memory::Memory;
 use std::alloc::Global;

@@ -10,7 +10,7 @@ use Rattle.net_model.specs.Cycle.{Chain, Guard}
 use Rattle.rtl_flat.specs.Flats.{Flat}
 use Rattle.chain_laws.specs.check_chains.Chains.{chain_of}
 use Rattle.chain_laws.specs.check_chains.Views.{chain_view}
-use Rattle.check_clocks.specs.Clocks.{ComesFrom}
+use Rattle.net_model.specs.Gates.{ComesFrom}
 use Rattle.net_list.specs.declared.clocked.Clocked.{Clocked}
 
 -- ---- chains of processes

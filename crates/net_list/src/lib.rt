@@ -14,3 +14,4 @@ pub mod registers;
 pub use chain_laws::check_chains;
 pub use check_assign::{check_found, rtl_scan};
 pub use check_clocks;
+pub use check_clocks::check_gates;

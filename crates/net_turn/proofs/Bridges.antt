@@ -16,7 +16,7 @@ use Rattle.rtl_flat.proofs.Paths.{decided}
 use Rattle.event_model.specs.Queue.{doing_of, is_input, is_input_kind, is_input_of}
 use Rattle.rtl_flat.specs.Flats.{flat, widths}
 use Rattle.net_model.specs.Control.{Here, IsBehind, Next, whole_of}
-use Rattle.net_list.specs.check_clocks.Clocks.{ComesFrom, GoesTo, Itself, Through}
+use Rattle.net_model.specs.Gates.{ComesFrom, GoesTo, Itself, Through}
 use Rattle.net_list.specs.Faults as faults
 use Rattle.net_settle.specs.net_solve.Laws.{AreApart}
 

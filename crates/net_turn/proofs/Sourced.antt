@@ -15,7 +15,7 @@ use Rattle.net_settle.proofs.event_runs_proofs.Writers.{to_process}
 use Rattle.net_model.specs.Cycle.{Chain, Guard, IsChained}
 use Rattle.net_list.specs.check_chains.Chains.{chain_of}
 use Rattle.net_list.specs.check_chains.Views.{chain_view, guard_view}
-use Rattle.net_list.specs.check_clocks.Clocks.{ComesFrom}
+use Rattle.net_model.specs.Gates.{ComesFrom}
 use Rattle.rtl_rule.proofs.Lists.{each_all, each_from, each_more}
 use Rattle.net_list.specs.declared.clocked.Clocked.{Clocked}
 use Rattle.net_list.specs.Chosen.{AreClocked, IsClocked, chain_in, chains_of, no_chain}

@@ -5,7 +5,7 @@ ghost use Rattle.std.specs.List.{All};
 ghost use Rattle.rtl_flat.specs.declared.design.Design.{Design};
 ghost use Rattle.rtl_flat.specs.Flats.{flat};
 ghost use Rattle.net_model.specs.Control.{IsBehind};
-ghost use Rattle.net_list.specs.check_clocks.Clocks.{ComesFrom};
+ghost use Rattle.net_model.specs.Gates.{ComesFrom};
 ghost use Rattle.net_list.specs.declared.clocked.Clocked.{Clocked};
 ghost use Rattle.net_list.specs.Chosen.{AreClocked, chains_of};
 ghost use Rattle.net_list.specs.Faults as faults;

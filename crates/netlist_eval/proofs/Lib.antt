@@ -9,6 +9,7 @@ pub mod Stepping
 -- passed on to the crates above
 pub use Rattle.infer_regs.proofs.chain_laws_proofs
 pub use Rattle.infer_regs.proofs.check_clocks_proofs
+pub use Rattle.infer_regs.proofs.check_gates_proofs
 pub use Rattle.infer_regs.proofs.check_found_proofs
 pub use Rattle.infer_regs.proofs.net_list_proofs
 pub use Rattle.net_turn.proofs.net_settle_proofs

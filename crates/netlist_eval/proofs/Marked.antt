@@ -7,11 +7,11 @@ use Rattle.rtl_flat.specs.declared.design.Design.{Design}
 use Rattle.rtl_flat.specs.declared.signal.Signal.{Signal}
 use Rattle.event_model.specs.Queue.{is_input_of}
 use Rattle.rtl_flat.specs.Flats.{flat}
-use Rattle.net_model.specs.Control.{IsControl}
+use Rattle.net_model.specs.Gates.{IsControl}
 use Rattle.net_model.proofs.Gates.{control_input}
 use Rattle.net_start.specs.rtl_scan.Arrows.{Among}
-use Rattle.infer_regs.specs.check_clocks.Tops.{AreMarkedAlso}
-use Rattle.infer_regs.proofs.check_clocks_proofs.Reached.{none_marked}
+use Rattle.infer_regs.specs.check_gates.Tops.{AreMarkedAlso}
+use Rattle.infer_regs.proofs.check_gates_proofs.Reached.{none_marked}
 use Rattle.infer_regs.specs.Forms.{AreControls}
 
 pub input_below : (signals : List Signal) (c : ℕ) → is_input_of (slice_get signals c) ≡ true → c < length signals

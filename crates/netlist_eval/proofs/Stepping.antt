@@ -12,7 +12,7 @@ use Rattle.rtl_flat.specs.Value.{store}
 use Rattle.rtl_flat.specs.Flats.{Flat, flat, widths}
 use Rattle.event_model.specs.Writes.{Values}
 use Rattle.net_model.proofs.Gates.{control_input}
-use Rattle.net_model.specs.Control.{IsControl}
+use Rattle.net_model.specs.Gates.{IsControl}
 use Rattle.net_model.specs.Cycle as cycle
 use Rattle.net_model.specs.Cycle.{Chain, IsCycle, Setting}
 use Rattle.net_model.specs.Lawful.{IsLawfulStep, SetsData}

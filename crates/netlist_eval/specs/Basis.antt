@@ -2,7 +2,7 @@
 -- What all simulators of a design's netlists begin with.
 use Rattle.std.specs.Prelude.{◌≡◌, ◌↔◌, ◌≤◌, ℕ, false, true, length, slice_index_or}
 use Rattle.rtl_flat.specs.Flats.{Flat}
-use Rattle.net_model.specs.Control.{IsControl}
+use Rattle.net_model.specs.Gates.{IsControl}
 use Rattle.net_order.specs.net_solve.Laws.{IsOrder}
 use Rattle.net_start.specs.rtl_scan.Sets.{has}
 use Rattle.net_start.specs.Stored.{AreInputs, AreStored, is_kept, places}

@@ -5,7 +5,7 @@ use Rattle.rtl_bits.specs.declared.Bit.{Bit}
 use Rattle.rtl_flat.specs.declared.act.ProcId.{ProcId}
 use Rattle.rtl_flat.specs.Value.{store}
 use Rattle.rtl_flat.specs.Flats.{flat}
-use Rattle.net_model.specs.Control.{IsControl}
+use Rattle.net_model.specs.Gates.{IsControl}
 use Rattle.infer_regs.specs.net_list.declared.netlist.Netlist.{Netlist}
 use Rattle.net_order.specs.net_solve.Laws.{IsOrder}
 use Rattle.net_turn.specs.net_body.declared.maps.Maps.{Maps}

@@ -7,6 +7,7 @@ pub mod Steps
 pub use Rattle.infer_regs.specs.check_assign
 pub use Rattle.infer_regs.specs.check_chains
 pub use Rattle.infer_regs.specs.check_clocks
+pub use Rattle.infer_regs.specs.check_gates
 pub use Rattle.infer_regs.specs.net_list
 pub use Rattle.net_order.specs as net_order
 pub use Rattle.net_turn.specs.net_settle

@@ -11,7 +11,7 @@ use Rattle.event_model.specs.Queue.{doing_at, is_input}
 use Rattle.rtl_flat.specs.Flats.{Flat, widths}
 use Rattle.event_model.specs.Writes.{Values}
 use Rattle.net_model.specs.declared.fill.Fill.{Fill}
-use Rattle.net_model.specs.Control.{IsControl}
+use Rattle.net_model.specs.Gates.{IsControl}
 use Rattle.net_model.specs.Cycle as cycle
 use Rattle.net_model.specs.Cycle.{Chain, reset_bit, strongest}
 use Rattle.net_model.specs.Lawful.{IsLawfulStep}

@@ -2,14 +2,14 @@
 
 ghost use Rattle.std.specs.Prelude.{ℕ, ◌≡◌, ◌↔◌, false, true, slice_index_or, IfErr, IfOk};
 ghost use Rattle.rtl_flat.specs.Flats.{flat};
-ghost use Rattle.net_model.specs.Control.{IsControl};
+ghost use Rattle.net_model.specs.Gates.{IsControl};
 ghost use Rattle.net_order.specs.net_solve.Laws.{IsOrder};
 ghost use Rattle.net_turn.specs.net_settle.Work.{numbers_of};
 ghost use Rattle.net_start.specs.Stored.{places};
 ghost use Rattle.netlist_eval.specs.Steps.{HasNoCycle, IsOrderFault};
 
 use crate::fault::NetFault;
-use infer_regs::check_clocks::tops::mark_all;
+use infer_regs::check_gates::tops::mark_all;
 use infer_regs::controls;
 use net_order::order::{Ranking, order};
 use net_start::kept::kept_bits;

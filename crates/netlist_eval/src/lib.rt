@@ -8,5 +8,5 @@ pub mod step;
 
 // Passed on to the crates above.
 pub use infer_regs;
-pub use infer_regs::{check_clocks, net_list};
+pub use infer_regs::{check_clocks, check_gates, net_list};
 pub use net_start;

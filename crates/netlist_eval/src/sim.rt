@@ -7,7 +7,7 @@ use crate::basis::Basis;
 use crate::fault::NetFault;
 use crate::step::Step;
 use event_model::setting::Setting;
-use infer_regs::check_clocks::tops::is_top;
+use infer_regs::check_gates::tops::is_top;
 use infer_regs::net_list::netlist::Netlist;
 use net_start::first_unknown;
 use net_start::start::start;
@@ -47,7 +47,7 @@ impl<'n> NetSim<'n> {
     ghost use Rattle.rtl_bits.specs.Bits.{has_unknown};
     ghost use Rattle.rtl_flat.specs.Flats.{widths};
     ghost use Rattle.rtl_flat.specs.Value.{store};
-    ghost use Rattle.net_model.specs.Control.{IsControl};
+    ghost use Rattle.net_model.specs.Gates.{IsControl};
     ghost use Rattle.net_model.specs.Cycle.{IsCycle};
     ghost use Rattle.net_model.specs.Lawful.{SetsData, TurnsControl};
     ghost use Rattle.net_model.specs.Numbers.{AreNumbers};

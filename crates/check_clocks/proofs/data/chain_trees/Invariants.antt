@@ -1,8 +1,8 @@
 use Rattle.std.proofs.Common.{◌≡◌, ◌++◌, drop, map}
 use Rattle.std.specs.List.{flat_map}
 use Rattle.rtl_rule.specs.Parts.{all_of}
-use Rattle.check_chains.specs.check_parts.Kept.{expressions}
-use Rattle.check_chains.specs.Views.{guard_view}
+use Rattle.check_gates.specs.check_chains.check_parts.Kept.{expressions}
+use Rattle.check_gates.specs.check_chains.Views.{guard_view}
 use Rattle.check_clocks.specs.Clocks.{statement_trees}
 use Rattle.check_clocks.proofs.data.chain_trees.Given as goal
 

@@ -1,7 +1,7 @@
 use Rattle.std.proofs.Common.{◌≡◌, ◌++◌, drop, map}
 use Rattle.std.specs.List.{flat_map}
 use Rattle.rtl_flat.specs.Process.{action}
-use Rattle.check_chains.specs.check_parts.Kept.{expressions}
+use Rattle.check_gates.specs.check_chains.check_parts.Kept.{expressions}
 use Rattle.check_clocks.specs.Clocks.{statement_trees}
 use Rattle.check_clocks.proofs.data.push_statements.Given as goal
 

@@ -3,7 +3,7 @@ use Rattle.std.specs.List.{flat_map}
 use Rattle.rtl_flat.specs.Process.{doing, task, watched}
 use Rattle.rtl_rule.specs.Parts.{items_of, nodes}
 use Rattle.rtl_flat.specs.Flats.{flat, widths}
-use Rattle.check_chains.specs.check_parts.Kept.{expressions}
+use Rattle.check_gates.specs.check_chains.check_parts.Kept.{expressions}
 use Rattle.check_clocks.specs.Clocks.{data_trees}
 use Rattle.check_clocks.specs.Uses.{level_places, places_of, read_places}
 use Rattle.check_clocks.proofs.data.uses_of.Goals as goal

@@ -1,7 +1,7 @@
 use Rattle.std.proofs.Common.{length, sym, subst}
 use Rattle.std.proofs.lemmas.Result.{IfOk-weaker}
 use Rattle.rtl_flat.specs.Flats.{flat}
-use Rattle.check_clocks.specs.Tops.{AreTops}
+use Rattle.check_gates.specs.Tops.{AreTops}
 use Rattle.check_clocks.proofs.derived.derived_clock.Goals as goal
 
 pub returns : goal.returns

@@ -2,10 +2,10 @@ use Rattle.std.proofs.Common.{◌≡◌, ◌∙◌, get_or, ap, sym, subst, arit
 use Rattle.rtl_flat.specs.Flats.{flat}
 use Rattle.rtl_rule.specs.Sites.{AreFindings}
 use Rattle.rtl_flat.specs.Process.{task}
-use Rattle.check_chains.specs.check_found.Gathered.{sites_below}
-use Rattle.check_chains.proofs.check_found_proofs.Sites.{all_below, next_below, none_below, task_at, task_count}
+use Rattle.check_gates.specs.check_chains.check_found.Gathered.{sites_below}
+use Rattle.check_gates.proofs.check_chains_proofs.check_found_proofs.Sites.{all_below, next_below, none_below, task_at, task_count}
 use Rattle.check_clocks.specs.Clocks.{IsDerivedClock, derived_clock_at, events_of}
-use Rattle.check_clocks.specs.Tops.{AreRoles}
+use Rattle.check_clocks.specs.Roles.{AreRoles}
 use Rattle.check_clocks.proofs.Derivations.{derived_gets}
 use Rattle.check_clocks.proofs.derived.findings.Goals as goal
 

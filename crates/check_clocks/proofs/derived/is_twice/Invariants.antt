@@ -1,6 +1,6 @@
 use Rattle.std.proofs.Common.{◌≡◌, cond, take}
 use Rattle.std.specs.Prelude.{count_by}
-use Rattle.check_clocks.specs.Tops.{has_top}
+use Rattle.check_clocks.specs.Roles.{has_top}
 use Rattle.check_clocks.proofs.derived.is_twice.Given as goal
 
 abbrev pub invariant-loop-item : goal.invariant-loop-item

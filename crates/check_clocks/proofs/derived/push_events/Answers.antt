@@ -6,8 +6,8 @@ use Rattle.rtl_flat.specs.Process.{task, watched}
 use Rattle.rtl_rule.specs.declared.finding.Finding.{Finding}
 use Rattle.rtl_rule.specs.declared.rule.Rule.TheVariants.{DerivedClock}
 use Rattle.rtl_rule.specs.Parts.{number}
-use Rattle.check_clocks.specs.Tops.{derived_in}
-use Rattle.check_clocks.proofs.Linked.{kept_all, kept_next, pass_kept, push_kept}
+use Rattle.check_clocks.specs.Roles.{derived_in}
+use Rattle.check_gates.proofs.Linked.{kept_all, kept_next, pass_kept, push_kept}
 use Rattle.check_clocks.proofs.derived.push_events.Goals as goal
 use Rattle.check_clocks.proofs.derived.push_events.Goals.{then-is_derived+in_ok-push, else-is_derived}
 

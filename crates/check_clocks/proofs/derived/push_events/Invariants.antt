@@ -1,7 +1,7 @@
 use Rattle.std.proofs.Common.{◌≡◌, ◌++◌, map, take}
 use Rattle.std.specs.List.{filter_map}
 use Rattle.rtl_flat.specs.Process.{task, watched}
-use Rattle.check_clocks.specs.Tops.{derived_in}
+use Rattle.check_clocks.specs.Roles.{derived_in}
 use Rattle.check_clocks.proofs.derived.push_events.Given as goal
 
 abbrev pub invariant-loop-item : goal.invariant-loop-item

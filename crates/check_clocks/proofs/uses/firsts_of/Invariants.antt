@@ -1,7 +1,7 @@
 use Rattle.std.proofs.Common.{◌≡◌, ℕ, drop}
 use Rattle.std.specs.Ordering.{nat_cmp}
 use Rattle.std.specs.BTreeMap.{get}
-use Rattle.check_chains.specs.check_found.Marked.{joined, least_of}
+use Rattle.check_gates.specs.check_chains.check_found.Marked.{joined, least_of}
 use Rattle.check_clocks.specs.Uses.{places_of}
 use Rattle.check_clocks.proofs.uses.firsts_of.Given as goal
 

@@ -33,8 +33,8 @@ visit_all-requires-clause-readers c =
     let signal = c.in-Some.signal in
     let (below, doubtful) = waits_marked d c.loop-signal.seen.items c.loop-signal.spread signal c.pop.new.self.items c.in-Some.ensures.items c.loop-signal.invariant.0 in
     let inside : signal < length table = omega (arith, below, c.in_ok-readers.ensures.same_length) in
-    let row : c.deref.result.now ≡ bucket table signal
-    = c.deref.ensures.value ∙ ap (λ v. v.items) c.index.ensures ∙ bucket_get table signal _ inside in
+    let row : c.deref-in-Some.result.now ≡ bucket table signal
+    = c.deref-in-Some.ensures.value ∙ ap (λ v. v.items) c.index.ensures ∙ bucket_get table signal _ inside in
     λ p h. is_reader d _ table c.in_ok-readers.ensures signal doubtful p (subst (λ (xs : List ℕ). Among xs p) row h)
 
 pub loop-signal-preserved : goal.loop-signal-preserved
@@ -47,8 +47,8 @@ loop-signal-preserved c =
     let new = c.visit_all.new.seen in
     let (below, doubtful) = waits_marked d old c.loop-signal.spread signal c.pop.new.self.items c.in-Some.ensures.items c.loop-signal.invariant.0 in
     let inside : signal < length table = omega (arith, below, c.in_ok-readers.ensures.same_length) in
-    let row : c.deref.result.now ≡ bucket table signal
-    = c.deref.ensures.value ∙ ap (λ v. v.items) c.index.ensures ∙ bucket_get table signal _ inside in
+    let row : c.deref-in-Some.result.now ≡ bucket table signal
+    = c.deref-in-Some.ensures.value ∙ ap (λ v. v.items) c.index.ensures ∙ bucket_get table signal _ inside in
     let now : Spread = record { marked = c.loop-signal.spread.marked; waiting = c.pop.new.self } in
     let reach : Reaches d (bucket table signal) old now new c.visit_all.new.spread
     = subst (λ (xs : List Bool). Reaches d (bucket table signal) xs now new c.visit_all.new.spread) c.deref_mut.ensures.value (subst (λ (xs : List ℕ). Reaches d xs c.deref_mut.result.now now new c.visit_all.new.spread) row c.in_ok-visit_all.ensures) in

@@ -16,7 +16,7 @@ loop-p-preserved c =
     let inside : c.loop-p.p < length (map task processes.items)
     = omega (arith, count, c.loop-p-test.true, c.len-p-end.ensures, processes.ok.0) in
     let (one, there) = slice_there (map task processes.items) c.loop-p.p inside in
-    starting_more d temporaries c.temporaries-temporaries.ensures c.loop-p.p one there c.loop-p.spread c.start.new.spread (c.in_ok-start.ensures one there) c.loop-p.invariant
+    starting_more d temporaries c.args.gated.now c.temporaries-temporaries.ensures c.requires.gated c.loop-p.p one there c.loop-p.spread c.start.new.spread (c.in_ok-start.ensures one there) c.loop-p.invariant
 
 pub returns : goal.returns
 returns c =

@@ -1,7 +1,7 @@
 use Rattle.std.proofs.Common.{◌∙◌, ◌<◌, ◌+◌, List, Bool, length, sym, subst, arith}
 use Rattle.rtl_flat.specs.Process.{task}
 use Rattle.rtl_flat.specs.Flats.{flat}
-use Rattle.netlist_eval.proofs.check_clocks_proofs.Coned.{written}
+use Rattle.netlist_eval.proofs.check_gates_proofs.Waiting.{written}
 use Rattle.netlist_eval.proofs.check_found_proofs.Sites.{task_at}
 use Rattle.demo_replay.specs.Tables.{AreClockedBelow, MarksWritten}
 use Rattle.demo_replay.proofs.Marking.{clocked_next, unclocked_next}

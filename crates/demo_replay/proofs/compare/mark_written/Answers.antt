@@ -3,7 +3,7 @@ use Rattle.std.specs.declared.alloc.AllocError.{AllocError}
 use Rattle.std.proofs.lemmas.Iterator.{items_from_collect, YieldsList-from_map, YieldsList-from_slice}
 use Rattle.rtl_flat.specs.Flats.{flat}
 use Rattle.event_queue.specs.rtl_scan.declared.bits.Row.{Row}
-use Rattle.netlist_eval.specs.check_clocks.Tops.{AreMarkedAlso}
+use Rattle.netlist_eval.specs.check_gates.Tops.{AreMarkedAlso}
 use Rattle.demo_replay.proofs.Marking.{marks_written}
 use Rattle.demo_replay.proofs.compare.mark_written.Goals as goal
 

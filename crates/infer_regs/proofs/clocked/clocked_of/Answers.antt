@@ -9,7 +9,7 @@ use Rattle.net_list.proofs.check_assign_proofs.Turns.{task_of}
 use Rattle.net_list.specs.check_chains.declared.chain.Guard.{Guard}
 use Rattle.net_list.specs.check_chains.Chains.{chain_of}
 use Rattle.net_list.specs.check_chains.Views.{chain_view, guard_view}
-use Rattle.net_list.proofs.check_clocks_proofs.Topped.{comes_from}
+use Rattle.net_list.proofs.check_gates_proofs.Topped.{comes_from}
 use Rattle.infer_regs.specs.Taken.{AreResetTops, HasTop}
 use Rattle.infer_regs.proofs.Faults.{has_fault}
 use Rattle.infer_regs.proofs.Judging.{chain_is, chain_there, judged_not, judged_some, topped}

@@ -1,4 +1,4 @@
-use Rattle.std.proofs.Common.{◌≡◌, ◌∙◌, ◌≤◌, ◌+◌, true, false, length, map, ◌∷◌, [], ap, replicate, sym, subst, arith, rules}
+use Rattle.std.proofs.Common.{◌≡◌, ◌∙◌, ◌≤◌, ◌+◌, true, false, get_or, length, map, ◌∷◌, [], ap, replicate, sym, subst, arith, rules}
 use Rattle.std.specs.Prelude.{◌↔◌}
 use Rattle.std.specs.List.{flat_map}
 use Rattle.std.proofs.lemmas.List.{length-replicate, map-append}
@@ -6,14 +6,24 @@ use Rattle.rtl_flat.specs.declared.act.Process.{Process}
 use Rattle.rtl_flat.specs.declared.expr.SigId.{SigId}
 use Rattle.rtl_flat.specs.Process.{doing}
 use Rattle.rtl_flat.specs.Flats.{flat}
-use Rattle.net_list.specs.check_clocks.Cone.{AreEdgeMarks, ArePassing, ReachesMarked, waited}
-use Rattle.net_list.specs.check_clocks.Links.{AreRows}
-use Rattle.net_list.specs.check_clocks.Tops.{AreMarkedAlso}
-use Rattle.net_list.proofs.check_clocks_proofs.Coned.{edge_marks, waits_of, written}
+use Rattle.net_model.specs.Gates.{IsGateInput}
+use Rattle.net_list.specs.check_clocks.Cone.{ReachesControl}
+use Rattle.net_list.specs.check_gates.Admitted.{AreGates, gates_of}
+use Rattle.net_list.specs.check_gates.Waits.{AreEdgeMarks, waited}
+use Rattle.net_list.specs.check_gates.Passed.{ArePassing}
+use Rattle.net_list.specs.check_gates.Links.{AreRows}
+use Rattle.net_list.specs.check_gates.Tops.{AreMarkedAlso}
+use Rattle.net_list.proofs.check_clocks_proofs.Coned.{gate_marked}
+use Rattle.net_list.proofs.check_gates_proofs.Waiting.{edge_marks, waits_of, written}
 use Rattle.infer_regs.proofs.Controlling.{AreBelow, all_controls, control_is, control_reaches, no_top, pass_one, push_one}
 use Rattle.infer_regs.proofs.Judging.{refuted}
 use Rattle.infer_regs.proofs.inputs.controls.Goals as goal
-use Rattle.infer_regs.proofs.inputs.controls.Goals.{then-is_top+in_ok-reaches_marked+then-branch+in_ok-push, else-is_top, else-is_top-via-then-is_top+in_ok-reaches_marked+else-branch, else-is_top-via-else-is_top}
+use Rattle.infer_regs.proofs.inputs.controls.Goals.{then-is_top+in_ok-reaches_control+then-branch+in_ok-push, else-is_top, else-is_top-via-then-is_top+in_ok-reaches_control+else-branch, else-is_top-via-else-is_top}
+
+pub gate_inputs-requires : goal.gate_inputs-requires
+gate_inputs-requires c =
+    subst (λ all. AreGates (flat c.args.design.now) (gates_of all)) (sym c.deref-3.ensures.value)
+    (subst (λ d. AreGates (flat d) (gates_of c.in_ok-gates.gates.items)) c.in_ok-scans.ensures.design c.in_ok-gates.ensures)
 
 pub loop-number-preserved : goal.loop-number-preserved
 loop-number-preserved c =
@@ -34,23 +44,26 @@ loop-number-preserved c =
     let n = c.loop-number.number in
     let name = λ (one : SigId). one.0 in
     let old = c.loop-number.found.items in
+    let gate = c.is_marked-gate.result in
+    let marked_gate = c.is_marked-gate.ensures ∙ ap (λ l. get_or l n false) c.deref-in-loop-number.ensures.value in
+    let is_gate : gate ≡ true ↔ IsGateInput d n = gate_marked d c.in_ok-inputs.inputs.items n gate marked_gate (c.in_ok-inputs.ensures.each n) in
     let whole = written c.in_ok-edges.edges.len marks c.in_ok-edges.edges.items c.in_ok-edges.edges.ok.0 marked.size in
     elim c.if-is_top.branch [
-      | then-is_top+in_ok-reaches_marked+then-branch+in_ok-push w ↦
-          let b = w.in_ok-reaches_marked.field-0 in
-          let by_rows = subst (λ l. b ≡ true ↔ ReachesMarked l w.deref-then-is_top-2.result.now n) w.deref-then-is_top.ensures.value w.in_ok-reaches_marked.ensures in
-          let reach : b ≡ true ↔ ReachesMarked rows marks n = subst (λ l. b ≡ true ↔ ReachesMarked rows l n) (w.deref-then-is_top-2.ensures.value ∙ whole) by_rows in
-          let control = control_is d links rows are passing marks edges n (sym c.is_top.ensures ∙ w.if-is_top.true) (reach.0 w.if-branch.true) in
+      | then-is_top+in_ok-reaches_control+then-branch+in_ok-push w ↦
+          let b = w.in_ok-reaches_control.field-0 in
+          let by_rows = subst (λ l. b ≡ true ↔ ReachesControl l w.deref-then-is_top-2.result.now gate n) w.deref-then-is_top.ensures.value w.in_ok-reaches_control.ensures in
+          let reach : b ≡ true ↔ ReachesControl rows marks gate n = subst (λ l. b ≡ true ↔ ReachesControl rows l gate n) (w.deref-then-is_top-2.ensures.value ∙ whole) by_rows in
+          let control = control_is d links rows are passing marks edges n gate is_gate (sym c.is_top.ensures ∙ w.if-is_top.true) (reach.0 w.if-branch.true) in
           subst (λ (v : _). AreBelow d (n + 1) (map name v.items)) (sym w.found-is)
           (push_one d n (map name old) (map name w.push.new.self.items) c.loop-number.invariant control (ap (map name) w.in_ok-push.ensures.items ∙ map-append name old (record { 0 = n } ∷ [])))
       | else-is_top w ↦
           subst (λ (v : _). AreBelow d (n + 1) (map name v.items)) (sym w.found-is)
           (elim w.else-is_top.branch [
-            | else-is_top-via-then-is_top+in_ok-reaches_marked+else-branch v ↦
-                let b = v.in_ok-reaches_marked.field-0 in
-                let by_rows = subst (λ l. b ≡ true ↔ ReachesMarked l v.deref-then-is_top-2.result.now n) v.deref-then-is_top.ensures.value v.in_ok-reaches_marked.ensures in
-                let reach : b ≡ true ↔ ReachesMarked rows marks n = subst (λ l. b ≡ true ↔ ReachesMarked rows l n) (v.deref-then-is_top-2.ensures.value ∙ whole) by_rows in
-                pass_one d n (map name old) c.loop-number.invariant (λ is. refuted b reach v.if-branch.false (control_reaches d links rows are passing marks edges n is))
+            | else-is_top-via-then-is_top+in_ok-reaches_control+else-branch v ↦
+                let b = v.in_ok-reaches_control.field-0 in
+                let by_rows = subst (λ l. b ≡ true ↔ ReachesControl l v.deref-then-is_top-2.result.now gate n) v.deref-then-is_top.ensures.value v.in_ok-reaches_control.ensures in
+                let reach : b ≡ true ↔ ReachesControl rows marks gate n = subst (λ l. b ≡ true ↔ ReachesControl rows l gate n) (v.deref-then-is_top-2.ensures.value ∙ whole) by_rows in
+                pass_one d n (map name old) c.loop-number.invariant (λ is. refuted b reach v.if-branch.false (control_reaches d links rows are passing marks edges n gate is_gate is))
             | else-is_top-via-else-is_top v ↦
                 pass_one d n (map name old) c.loop-number.invariant (no_top d n (sym c.is_top.ensures ∙ v.if-is_top.false))
           ])

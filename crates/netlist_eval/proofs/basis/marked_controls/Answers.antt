@@ -2,10 +2,10 @@ use Rattle.std.proofs.Common.{◌≡◌, ◌∙◌, Bool, false, List, ap, lengt
 use Rattle.std.specs.Prelude.{◌↔◌, true, slice_index_or, ℕ}
 use Rattle.std.proofs.lemmas.List.{length-replicate}
 use Rattle.rtl_flat.specs.Flats.{flat}
-use Rattle.net_model.specs.Control.{IsControl}
+use Rattle.net_model.specs.Gates.{IsControl}
 use Rattle.net_start.specs.Stored.{places}
-use Rattle.infer_regs.specs.check_clocks.Tops.{AreMarkedAlso}
-use Rattle.infer_regs.proofs.check_clocks_proofs.Coned.{written}
+use Rattle.infer_regs.specs.check_gates.Tops.{AreMarkedAlso}
+use Rattle.infer_regs.proofs.check_gates_proofs.Waiting.{written}
 use Rattle.netlist_eval.proofs.Marked.{are_marked}
 use Rattle.netlist_eval.proofs.basis.marked_controls.Goals as goal
 

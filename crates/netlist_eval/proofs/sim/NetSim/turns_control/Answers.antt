@@ -4,7 +4,7 @@ use Rattle.std.proofs.Props.{props}
 use Rattle.std.proofs.lemmas.Bool.{false≢true}
 use Rattle.net_turn.specs.net_settle.Settle.{SetsInput, setting_view}
 use Rattle.net_model.proofs.Gates.{control_input}
-use Rattle.net_model.specs.Control.{IsControl}
+use Rattle.net_model.specs.Gates.{IsControl}
 use Rattle.netlist_eval.specs.Sims.{flat_of}
 use Rattle.netlist_eval.proofs.sim.NetSim.turns_control.Goals as goal
 use Rattle.netlist_eval.proofs.sim.NetSim.turns_control.Goals.{then-fits, else-fits}

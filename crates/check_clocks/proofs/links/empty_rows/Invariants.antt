@@ -1,6 +1,0 @@
-use Rattle.std.proofs.Common.{[]}
-use Rattle.check_clocks.specs.Links.{AreRows}
-use Rattle.check_clocks.proofs.links.empty_rows.Given as goal
-
-abbrev pub invariant-loop : goal.invariant-loop
-invariant-loop l = AreRows l.counter [] l.rows.items

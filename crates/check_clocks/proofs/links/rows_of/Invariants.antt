@@ -1,6 +1,0 @@
-use Rattle.std.proofs.Common.{take}
-use Rattle.check_clocks.specs.Links.{AreRows}
-use Rattle.check_clocks.proofs.links.rows_of.Given as goal
-
-abbrev pub invariant-loop-link : goal.invariant-loop-link
-invariant-loop-link l = AreRows l.count (take l.link-index l.links) l.rows.items

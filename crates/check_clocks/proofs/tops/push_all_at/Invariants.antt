@@ -1,7 +1,0 @@
-use Rattle.std.proofs.Common.{take}
-use Rattle.check_clocks.specs.Tops.{IsNotedFor}
-use Rattle.check_clocks.proofs.tops.push_all_at.Given as goal
-
-abbrev pub invariant-loop-place : goal.invariant-loop-place
-invariant-loop-place l =
-    IsNotedFor (take l.place-index l.places) l.value l.fn.rows.items l.rows.items

@@ -1,6 +1,0 @@
-use Rattle.rtl_flat.specs.Flats.{flat}
-use Rattle.check_clocks.specs.Tops.{AreTops}
-use Rattle.check_clocks.proofs.tops.tops_of.Given as goal
-
-abbrev pub invariant-loop-top : goal.invariant-loop-top
-invariant-loop-top l = AreTops (flat l.design) l.top l.tops.items

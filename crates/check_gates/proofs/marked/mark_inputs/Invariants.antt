@@ -1,0 +1,9 @@
+use Rattle.std.proofs.Common.{take}
+use Rattle.std.specs.List.{flat_map}
+use Rattle.check_gates.specs.Latches.{own_input}
+use Rattle.check_gates.specs.Tops.{AreMarkedAlso}
+use Rattle.check_gates.proofs.marked.mark_inputs.Given as goal
+
+abbrev pub invariant-loop-gate : goal.invariant-loop-gate
+invariant-loop-gate l =
+    AreMarkedAlso (flat_map own_input (take l.gate-index l.gates)) l.fn.marks l.marks
