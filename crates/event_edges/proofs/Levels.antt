@@ -17,8 +17,8 @@ use Rattle.rtl_flat.specs.Value.{value}
 use Rattle.event_model.specs.Queue.{State, Event, Input, Evaluate, Update, Run, Delayed, Activate, IsThere, after, doing_at, drive_now, happens, hears, hears_from, is_assignment, is_input, item_hears, offer, resolved}
 use Rattle.rtl_flat.specs.Flats.{Flat, widths}
 use Rattle.event_model.specs.Traces.{covers}
-use Rattle.event_model.specs.Writes.{Values, Write, all_written, put, written}
-use Rattle.event_runs.specs.event_laws.Steady.{HaveWidths, IsWithin}
+use Rattle.event_model.specs.Writes.{Values, Write, put, written}
+use Rattle.event_runs.specs.event_laws.Steady.{IsWithin}
 use Rattle.event_runs.proofs.event_laws_proofs.Lengths.{put_at, put_other}
 use Rattle.event_runs.proofs.event_laws_proofs.Targets.{IsOver, none_over}
 use Rattle.event_runs.proofs.event_laws_proofs.Within.{reads_inside}
@@ -32,8 +32,8 @@ use Rattle.event_runs.proofs.Laws.{driven_resolved, effect, offer_leaves, orderl
 use Rattle.event_runs.proofs.May.{process_now}
 use Rattle.event_runs.proofs.Signals.{assign_net, body_variable, late_variable, net_input}
 use Rattle.event_runs.proofs.Writers.{event_over, event_within, of_process}
-use Rattle.event_edges.specs.Levels.{CanMoveTo, GivesLevels, IsLevelMove, IsLevelStart, IsUnfired, UnfiredKeepDue}
-use Rattle.event_edges.specs.Moves.{Give, Move, Take, move_all, moved}
+use Rattle.event_edges.specs.Levels.{CanMoveTo, GivesLevels, IsUnfired, UnfiredKeepDue}
+use Rattle.event_edges.specs.Moves.{Give, Move, Take, move_all}
 use Rattle.event_edges.specs.Registers.{due_bit, update_bit}
 use Rattle.event_edges.specs.Synchronous.{IsItem, IsPort, IsSynchronous}
 use Rattle.event_edges.specs.Turned.{IsReachedPort}

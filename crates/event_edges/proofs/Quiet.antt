@@ -37,14 +37,24 @@ if_some : {A : Type 0} (b : Bool) (o : Option A) → IsSome (if b then None else
 if_some false o h = h
 if_some true o h = absurd (false≢true h)
 
-if_false : (b x : Bool) → x ≡ false → (if b then false else x) ≡ false
+pub if_false : (b x : Bool) → x ≡ false → (if b then false else x) ≡ false
 if_false true x h = refl
 if_false false x h = h
 
-if_none : {A : Type 0} (e u : Bool) (x o : Option A) → e ≡ false → o ≡ None → (if e then x else if u then None else o) ≡ None
+pub if_none : {A : Type 0} (e u : Bool) (x o : Option A) → e ≡ false → o ≡ None → (if e then x else if u then None else o) ≡ None
 if_none false true x o h none = refl
 if_none false false x o h none = none
 if_none true u x o h none = absurd (true≢false h)
+
+-- a process that isn't woken doesn't evaluate
+pub not_evaluated : (d : Flat) (s : State) (event : Event) → IsThere d s event → (q : ℕ) → s.woken q ≡ false → evaluates event q ≡ false
+not_evaluated d s (Input i) there q still = refl
+not_evaluated d s (Evaluate p) there q still =
+    falsely (q == p) (λ same. false≢true (sym still ∙ ap s.woken (eqb-true q p same) ∙ there.1))
+not_evaluated d s (Update p) there q still = refl
+not_evaluated d s (Run p) there q still = refl
+not_evaluated d s Delayed there q still = refl
+not_evaluated d s Activate there q still = refl
 
 -- ---- writes that are heard
 
@@ -148,15 +158,6 @@ module _ (d : Flat) (sync : IsSynchronous d) where
           let one = listed_item (widths d) events i k h in
           subst (InClockCone d) (sym one.same) (item_in_cone d sync q events body one.item (record { does = is; place = one.place; there = one.there }))
 
-      evaluated : (event' : Event) → IsThere d s event' → (q : ℕ) → s.woken q ≡ false → evaluates event' q ≡ false
-      evaluated (Input i) there' q still = refl
-      evaluated (Evaluate p) there' q still =
-          falsely (q == p) (λ same. false≢true (sym still ∙ ap s.woken (eqb-true q p same) ∙ there'.1))
-      evaluated (Update p) there' q still = refl
-      evaluated (Run p) there' q still = refl
-      evaluated Delayed there' q still = refl
-      evaluated Activate there' q still = refl
-
     -- what a body that runs asks for later
     pub none_later : (p : ℕ) → s.woken p ≡ true → (i k : ℕ) → are_over i k (laters (run_made d s.value (doing_at d p))) ≡ true → ⊥
     none_later p woken i k = by (doing_at d p) refl
@@ -191,6 +192,6 @@ module _ (d : Flat) (sync : IsSynchronous d) where
               waits event there p (Assign target e) is (λ i k h. reads_cone p target e is cone.signal cone.bit cone.in_cone cone.may i k h) (quiet.ports p target e is cone);
           pending = λ p target e is cone.
               (made event there).pending p
-              ∙ if_none (evaluates event p) (updates event p) _ (s.pending p) (evaluated event there event there p (quiet.ports p target e is cone)) (quiet.pending p target e is cone);
+              ∙ if_none (evaluates event p) (updates event p) _ (s.pending p) (not_evaluated d s event there p (quiet.ports p target e is cone)) (quiet.pending p target e is cone);
           delayed = λ i k over. none_delayed event there i k (ap (are_over i k) (sym (made event there).delayed) ∙ over);
         }

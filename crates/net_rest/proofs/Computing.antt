@@ -8,7 +8,7 @@ use Rattle.std.proofs.lemmas.List.Elements.{All-append, All-cons, All-head, All-
 use Rattle.rtl_bits.specs.declared.Bit.{Bit}
 use Rattle.rtl_bits.specs.declared.Bit.TheVariants.{X, Z}
 use Rattle.rtl_bits.specs.Bit.{is_unknown}
-use Rattle.rtl_bits.specs.Bits.{selected}
+use Rattle.rtl_bits.specs.Bits.{same_bit, selected}
 use Rattle.rtl_bits.specs.Inside.{length-tabulate}
 use Rattle.rtl_bits.proofs.Lists.{get_or-tabulate}
 use Rattle.rtl_flat.specs.Expression.{Tree}
@@ -18,7 +18,7 @@ use Rattle.rtl_flat.specs.Process.{Actions, Assign, BitAt, BitBy, Comb, Part, Pi
 use Rattle.rtl_flat.specs.Value.{value}
 use Rattle.rtl_flat.specs.WellFormed.{IsBody, IsFixed, IsProcess}
 use Rattle.rtl_flat.proofs.Paths.{decided}
-use Rattle.event_model.specs.Bodies.{Made, body_made}
+use Rattle.event_model.specs.Bodies.{Made, after_made, body_made}
 use Rattle.event_model.specs.Queue.{doing_at}
 use Rattle.rtl_flat.specs.Flats.{Flat, widths}
 use Rattle.event_model.specs.Traces.{FollowsPath, Same, makes, makes_late, makes_now}
@@ -32,13 +32,15 @@ use Rattle.event_runs.proofs.event_laws_proofs.Targets.{same_count, target_over}
 use Rattle.event_runs.proofs.event_laws_proofs.Written.{covered}
 use Rattle.net_model.specs.declared.fill.Fill.{Fill}
 use Rattle.net_model.specs.Block.{block_bit}
+use Rattle.net_model.specs.Gates.{Gate}
 use Rattle.net_model.specs.Numbers.{AreNumbers, bit, digits}
 use Rattle.net_model.specs.Solution.{IsLasting, start}
 use Rattle.event_runs.proofs.May.{now_may}
 use Rattle.event_runs.proofs.Resolved.{GivesSo, over_so}
 use Rattle.net_laws.proofs.Known.{Known, KnownBit, known_at, known_each, selected_known}
 use Rattle.net_laws.proofs.Laws.{block_is, exact, numbers_after, whole_path}
-use Rattle.net_rest.specs.Rest.{IsComputing, IsSolvable}
+use Rattle.net_rest.specs.Rest.{IsComputing, IsGated, IsSolvable}
+use Rattle.net_rest.proofs.Latches.{IsLive, branch_lawful, branch_tame, closed_makes, live_as, open_makes}
 
 -- ---- writes of known bits
 
@@ -157,31 +159,42 @@ module _ (d : Flat) (level : ℕ → ℕ) (solvable : IsSolvable d level) where
     takes_path n v are wide agree =
         subst (IsPath (body_flow (widths d) body)) (run_alike n v are wide agree).steps (whole_path d n body are lawful_body computing.tame)
 
-    -- what it may write it makes at once
+    -- what it may write it makes
+    live_made :
+        (n : Values) → AreNumbers d n → IsLive d n body → (i k : ℕ) → MayWrite (body_flow (widths d) body) i k → IsLasting d i →
+        list_any (makes i k) (body_made (widths d) n body) ≡ true
+    live_made n are (inl computes) i k may lasts =
+        sure_made d n body i k are.wide lawful_body (whole_path d n body are lawful_body computing.tame) (computes i k may lasts)
+    live_made n are (inr (gate, gated, is)) i k may lasts =
+        let lawful = branch_lawful d body gate gated lawful_body in
+        ap (list_any (makes i k)) (open_makes d body gate gated n are.wide is)
+        ∙ sure_made d n gated.branch i k are.wide lawful (whole_path d n gated.branch are lawful (branch_tame d body gate gated computing.tame)) (gated.sure i k may lasts)
+
+    -- at once
     sure_now :
-        (n : Values) → AreNumbers d n → (i k : ℕ) → MayWrite (body_flow (widths d) body) i k → IsLasting d i → MakesNow d n body i k
-    sure_now n are i k may lasts =
-        elim (now_or_late i k (body_made (widths d) n body) (sure_made d n body i k are.wide lawful_body (whole_path d n body are lawful_body computing.tame) (computing.sure i k may lasts))) [
+        (n : Values) → AreNumbers d n → IsLive d n body → (i k : ℕ) → MayWrite (body_flow (widths d) body) i k → IsLasting d i → MakesNow d n body i k
+    sure_now n are live i k may lasts =
+        elim (now_or_late i k (body_made (widths d) n body) (live_made n are live i k may lasts)) [
           | inl now ↦ now
           | inr late ↦ absurd (computing.plain.no_late i k (may_late d n body i k lawful_body late))
         ]
 
     -- so it leaves the same
     pub after_same :
-        (n v : Values) → AreNumbers d n → HaveWidths d v → AgreeOutside d body n v → (i k : ℕ) → MayWrite (body_flow (widths d) body) i k → IsLasting d i →
-        Same (after_body d n body) (after_body d v body) i k
-    after_same n v are wide agree i k may lasts =
-        made_alike d n v body i k are.wide wide lawful_body (run_alike n v are wide agree).made (inr (sure_now n are i k may lasts))
+        (n v : Values) → AreNumbers d n → HaveWidths d v → AgreeOutside d body n v → IsLive d n body →
+        (i k : ℕ) → MayWrite (body_flow (widths d) body) i k → IsLasting d i → Same (after_body d n body) (after_body d v body) i k
+    after_same n v are wide agree live i k may lasts =
+        made_alike d n v body i k are.wide wide lawful_body (run_alike n v are wide agree).made (inr (sure_now n are live i k may lasts))
 
     -- and that is known
     pub after_known :
-        (n v : Values) → AreNumbers d n → HaveWidths d v → AgreeOutside d body n v → (i k : ℕ) → MayWrite (body_flow (widths d) body) i k → IsLasting d i →
-        KnownBit (bit (after_body d v body) i k)
-    after_known n v are wide agree i k may lasts =
+        (n v : Values) → AreNumbers d n → HaveWidths d v → AgreeOutside d body n v → IsLive d n body →
+        (i k : ℕ) → MayWrite (body_flow (widths d) body) i k → IsLasting d i → KnownBit (bit (after_body d v body) i k)
+    after_known n v are wide agree live i k may lasts =
         let left = numbers_after d n body are lawful_body computing.tame in
         let size = left.wide i in
         let inside = writes_inside d body i k lawful_body may in
-        ap is_unknown (sym (after_same n v are wide agree i k may lasts))
+        ap is_unknown (sym (after_same n v are wide agree live i k may lasts))
         ∙ known_at (after_body d n body i) k (left.known i) (omega (arith, size, inside))
 
     -- ---- where the function of the block begins
@@ -222,13 +235,39 @@ module _ (d : Flat) (level : ℕ → ℕ) (solvable : IsSolvable d level) where
           (false_from_ne_true (may_write (body_flow (widths d) body) i k)
           (λ may. computing.plain.apart i k outside ((decided (body_flow (widths d) body) i k).writes.0 may)))
 
+      -- what a run makes from there
+      start_gives : (f : Fill) (i k : ℕ) → block_bit (widths d) f (start d body held n) body i k ≡ bit (after_body d (start d body held n) body) i k
+      start_gives f i k =
+          block_is d f (start d body held n) body i k start_are lawful_body computing.tame (record { at_once = computing.plain.no_late; exclusive = computing.exclusive })
+
       -- the function gives what a run makes that finds the same outside
       pub computed_bit :
-          (f : Fill) (v : Values) → HaveWidths d v → AgreeOutside d body n v → (i k : ℕ) → MayWrite (body_flow (widths d) body) i k → IsLasting d i →
+          (f : Fill) (v : Values) → HaveWidths d v → AgreeOutside d body n v → IsLive d n body →
+          (i k : ℕ) → MayWrite (body_flow (widths d) body) i k → IsLasting d i →
           block_bit (widths d) f (start d body held n) body i k ≡ bit (after_body d v body) i k
-      computed_bit f v wide agree i k may lasts =
-          block_is d f (start d body held n) body i k start_are lawful_body computing.tame (record { at_once = computing.plain.no_late; exclusive = computing.exclusive })
-          ∙ after_same (start d body held n) v start_are wide (λ j l outside. start_outside j l outside ∙ agree j l outside) i k may lasts
+      computed_bit f v wide agree live i k may lasts =
+          start_gives f i k
+          ∙ after_same (start d body held n) v start_are wide (λ j l outside. start_outside j l outside ∙ agree j l outside)
+          (live_as d body n (start d body held n) (λ j l outside. sym (start_outside j l outside)) live) i k may lasts
+
+      -- that of a latch whose gate is closed gives what is held
+      pub closed_bit :
+          (gate : Gate) → IsGated d body gate → same_bit (bit n gate.signal 0) gate.opens ≡ false →
+          (f : Fill) (i k : ℕ) → MayWrite (body_flow (widths d) body) i k → block_bit (widths d) f (start d body held n) body i k ≡ bit held i k
+      closed_bit gate gated closed f i k may =
+          let shut : same_bit (bit (start d body held n) gate.signal 0) gate.opens ≡ false
+          = ap (λ b. same_bit b gate.opens) (start_outside gate.signal 0 gated.outside) ∙ closed in
+          start_gives f i k
+          ∙ ap (λ ms. bit (after_made (start d body held n) ms) i k) (closed_makes d body gate gated (start d body held n) start_wide shut)
+          ∙ start_bit i k (writes_inside d body i k lawful_body may)
+          ∙ ap (λ b. cond b (bit held i k) (bit n i k)) ((decided (body_flow (widths d) body) i k).writes.1 may)
+
+    -- a latch whose gate is closed leaves all
+    pub closed_stays :
+        (gate : Gate) → IsGated d body gate → (v : Values) → HaveWidths d v → same_bit (bit v gate.signal 0) gate.opens ≡ false →
+        (i k : ℕ) → Same (after_body d v body) v i k
+    closed_stays gate gated v wide closed i k =
+        ap (λ ms. bit (after_made v ms) i k) (closed_makes d body gate gated v wide closed)
 
     -- a body leaves what it may not write
     pub others_stay : (v : Values) → HaveWidths d v → (i k : ℕ) → may_write (body_flow (widths d) body) i k ≡ false → Same (after_body d v body) v i k

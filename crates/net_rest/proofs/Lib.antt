@@ -1,4 +1,5 @@
 pub mod Computing
+pub mod Latches
 pub mod Laws
 pub mod Levels
 pub mod Numbers

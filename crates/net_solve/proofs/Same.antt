@@ -22,10 +22,10 @@ use Rattle.net_model.specs.Solution.{IsLasting, IsRegisterBit, IsSolution}
 use Rattle.net_rest.proofs.event_runs_proofs.Signals.{target_may}
 use Rattle.net_rest.proofs.event_runs_proofs.Writers.{of_process, to_process}
 use Rattle.net_rest.proofs.net_laws_proofs.Laws.{start_depends}
-use Rattle.net_rest.specs.Rest.{AreAlike, AreGivenAlike, is_written}
+use Rattle.net_rest.specs.Rest.{AreAlike, is_written}
 use Rattle.net_rest.proofs.Levels.{assign_reads, read_inside, read_lasts}
 use Rattle.net_rest.proofs.Numbers.{past_ends, written_by, writer_of}
-use Rattle.net_solve.specs.Laws.{AreSame, Ascends}
+use Rattle.net_solve.specs.Laws.{AreSame, Ascends, HaveLikeSources}
 use Rattle.net_solve.proofs.Digits.{same_digits}
 
 pub node_at : (d : Flat) (p : ℕ) (does : Doing) → doing_at d p ≡ Some does → HasNoEdge does → IsNode d.tasks p
@@ -48,7 +48,7 @@ its_target d lawful p target e here i k may =
     target_may d lawful p target e here i k (to_process MayWrite d p i k (Assign target e) here may)
 
 module _ (d : Flat) (rank : ℕ → ℕ) (lawful : AreLawful d) (ascends : Ascends d rank) where
-  module _ (f : Fill) (held given given' n m : Values) (alike : AreGivenAlike d given given') (one : IsSolution d f held given n) (other : IsSolution d f held given' m) where
+  module _ (f : Fill) (held given given' n m : Values) (alike : HaveLikeSources d given given') (one : IsSolution d f held given n) (other : IsSolution d f held given' m) where
     -- a bit that no process without edges gives
     from_source :
         (i k : ℕ) → k < widths d i → IsLasting d i → (b c : Bool) → is_input d i ≡ b → is_written d i k ≡ c →

@@ -16,7 +16,7 @@ use Rattle.net_model.specs.declared.fill.Fill.{Fill}
 use Rattle.net_model.specs.Block.{block_bit}
 use Rattle.net_model.specs.Numbers.{AreNumbers, bit, digits, fill_bit}
 use Rattle.net_model.specs.Solution.{IsRegisterBit, IsSolution, start}
-use Rattle.net_rest.specs.Rest.{AreAlike, AreGivenAlike}
+use Rattle.net_rest.specs.Rest.{AreAlike}
 use Rattle.net_solve.specs.Feeds.{IsFeed}
 
 -- ---- one solution
@@ -25,11 +25,16 @@ use Rattle.net_solve.specs.Feeds.{IsFeed}
 abbrev pub Ascends : Flat → (ℕ → ℕ) → Type 0
 Ascends d rank = (p q : ℕ) → IsFeed d.signals d.tasks p q → rank p < rank q
 
+-- whether inputs and register bits are given alike
+pub record HaveLikeSources (d : Flat) (given other : Values) : Type 0 where
+  pub inputs : (i : ℕ) → IsTrue (is_input d i) → given i ≡ other i
+  pub registers : (i k : ℕ) → IsRegisterBit d i k → Same given other i k
+
 -- solutions for the same inputs, registers and held numbers are the same in each bit that lasts
 abbrev pub AreSame : Flat → Type 0
 AreSame d =
     (f : Fill) (held given given' n m : Values) →
-    AreGivenAlike d given given' → IsSolution d f held given n → IsSolution d f held given' m → AreAlike d n m
+    HaveLikeSources d given given' → IsSolution d f held given n → IsSolution d f held given' m → AreAlike d n m
 
 -- ---- processes that are worked out
 

@@ -19,9 +19,10 @@ use Rattle.net_model.specs.Cycle.{Chain, Data, Guard, IsCycle, Step, Turn, clock
 use Rattle.net_model.specs.Numbers.{AreNumbers, bit, digits}
 use Rattle.net_model.specs.Solution.{IsLasting, IsSolution}
 use Rattle.net_rest.proofs.net_laws_proofs.Laws.{tame_depends}
-use Rattle.net_rest.specs.Rest.{AreGivenAlike}
+use Rattle.net_rest.specs.Rest.{AreGivenAlike, AreHeld}
 use Rattle.net_rest.proofs.Levels.{read_lasts}
 use Rattle.net_rest.proofs.Laws.{alone}
+use Rattle.net_rest.proofs.Rest.{held_as, latch_keeps}
 use Rattle.sign_cycles.proofs.Settled.{input_lasts}
 use Rattle.event_edges.specs.Synchronous.{IsItem, IsSynchronous}
 use Rattle.event_edges.proofs.Cone.{connection_does, item_clock, whole_bit}
@@ -119,6 +120,13 @@ module _ (d : Flat) (chains : ℕ → Chain) (level : ℕ → ℕ) (clean : IsCl
       stepped_same (Data all) = same i k lasts
       stepped_same (Turn setting) = register_same
 
+  -- closed latches keep what they have
+  holds : AreHeld d n next
+  holds i k is = sym (latch_keeps d level clean.solvable f n next next first one.rest i k is)
+
+  holds_other : AreHeld d m other
+  holds_other i k is = sym (latch_keeps d level clean.solvable f m other other second two.rest i k is)
+
   given_same : AreGivenAlike d next other
   given_same =
       record {
@@ -127,11 +135,14 @@ module _ (d : Flat) (chains : ℕ → Chain) (level : ℕ → ℕ) (clean : IsCl
             one.registers register.process register.events register.body register.does i k register.may register.lasting
             ∙ stepped_same register.process register.events register.body register.does i k register.may register.lasting step
             ∙ sym (two.registers register.process register.events register.body register.does i k register.may register.lasting);
+        latches = λ i k held.
+            sym (holds i k held) ∙ same i k held.latch.lasting
+            ∙ holds_other i k (held_as d level clean.solvable next other new_inputs i k held);
       }
 
   step_alone : AreSame d next other
   step_alone =
-      alone d level clean.solvable f f n m next other next other first second given_same one.rest two.rest
+      alone d level clean.solvable f f n m next other next other first second holds holds_other given_same one.rest two.rest
 
 pub steps_alone : (d : Flat) (chains : ℕ → Chain) (level : ℕ → ℕ) → IsCleanClocked d chains level → (f : Fill) → StepsAreAlone d chains f
 steps_alone d chains level clean f n m first second same step next other one two =

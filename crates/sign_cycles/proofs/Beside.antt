@@ -1,15 +1,16 @@
 -- A turn of a clock or a reset with data given beside it leads to what the turn and then the data lead to, and so do lists of such
 -- steps.
-use Rattle.std.proofs.Common.{◌≡◌, ◌∙◌, ℕ, false, cond, List, [], ◌∷◌, get_or, Option, Some, refl, sym, ap, subst}
+use Rattle.std.proofs.Common.{◌≡◌, ◌≢◌, ◌∙◌, ℕ, false, cond, List, [], ◌∷◌, get_or, Option, Some, refl, sym, ap, subst}
 use Rattle.std.specs.Prelude.{IsTrue}
 use Rattle.std.specs.List.{All}
-use Rattle.std.proofs.lemmas.List.Elements.{All-head, All-tail}
+use Rattle.std.proofs.lemmas.List.Elements.{All-cons, All-head, All-nil, All-tail}
 use Rattle.rtl_bits.specs.declared.Bit.{Bit}
 use Rattle.rtl_bits.specs.declared.Bit.TheVariants.{X}
 use Rattle.rtl_bits.specs.Bits.{has_unknown}
 use Rattle.rtl_flat.specs.Process.{Watched, Actions, Edge'}
 use Rattle.event_model.specs.Queue.{State, HasNoActive, Activate, doing_at, happens, is_input, offer, run}
 use Rattle.rtl_flat.specs.Flats.{Flat, widths}
+use Rattle.event_model.specs.Traces.{Same}
 use Rattle.event_model.specs.Writes.{Values, put}
 use Rattle.event_edges.proofs.event_laws_proofs.Lengths.{put_other}
 use Rattle.net_model.specs.declared.fill.Fill.{Fill}
@@ -19,30 +20,34 @@ use Rattle.net_model.specs.Cycle.{Chain, Data, Guard, IsCycle, Setting, Step, Tu
 use Rattle.net_model.specs.Lawful.{AreLawfulSteps, SetsData, TurnsControl}
 use Rattle.net_model.specs.Numbers.{bit}
 use Rattle.net_model.specs.Solution.{IsRegisterBit, IsSolution}
-use Rattle.net_model.proofs.Gates.{clock_or_reset, data_unclocked}
+use Rattle.net_model.specs.Gates.{IsGateInput}
+use Rattle.net_model.proofs.Gates.{data_unclocked, gate_is_input}
 use Rattle.event_edges.specs.event_runs.Nets.{given_with}
 use Rattle.event_edges.specs.Moves.{Activated, IsActivated, IsBeside, NoneThere, gifts}
 use Rattle.event_edges.specs.Synchronous.{IsItem}
 use Rattle.event_edges.specs.Turned.{set_to}
 use Rattle.event_edges.proofs.Cone.{item_clock}
 use Rattle.event_edges.proofs.Laws.{taken_beside, turned_beside}
-use Rattle.net_rest.specs.Rest.{numbers_of}
+use Rattle.net_rest.specs.Rest.{AreHeld, IsHeldBit, numbers_of}
+use Rattle.net_rest.proofs.Rest.{latch_keeps}
 use Rattle.sign_cycles.specs.Agree.{AllShow, AreCycles, IsSettledKnown, after_offer}
-use Rattle.sign_cycles.specs.Beside.{AreBenchRuns, BenchStep, BenchesAgree, BenchesAgreeClean, Beside, BesideFollows, IsBenchNext, IsNextBeside, Plain, TurnsLead, at_ends, in_turn}
+use Rattle.sign_cycles.specs.Beside.{AreBenchRuns, BenchStep, BenchesAgree, BenchesAgreeClean, Beside, BesideFollows, IsBenchNext, IsNextBeside, Plain, TurnsClock, TurnsLead, at_ends, in_turn}
 use Rattle.sign_cycles.specs.Formed.{IsCleanClocked}
 use Rattle.sign_cycles.specs.Laws.{IsFollowed, StepsAreAlone, StepsFollow}
 use Rattle.sign_cycles.specs.Round.{IsArrived}
 use Rattle.sign_cycles.proofs.Alone.{reached_number, steps_alone}
 use Rattle.sign_cycles.proofs.Chains.{strongest_same}
-use Rattle.sign_cycles.proofs.DataSteps.{are_settings, given_pairs, pairs}
+use Rattle.sign_cycles.proofs.DataSteps.{are_settings, data_are_unclocked, given_pairs, pairs}
 use Rattle.sign_cycles.proofs.Edges as edge
 use Rattle.sign_cycles.proofs.Followed as followed
+use Rattle.sign_cycles.proofs.GateSteps.{data_leave}
+use Rattle.sign_cycles.proofs.Held.{Leave, gate_no_clock, given_left, held_beside, latch_gate, leaves_pairs, still_closed}
 use Rattle.sign_cycles.proofs.Lists.{GivesAlike, alone_lists, given_alike, lawful_alike, shows_all}
 use Rattle.sign_cycles.proofs.Settled.{IsUnderWay, arrives, settled_way, way_after, way_moves, way_offer, way_run}
 use Rattle.sign_cycles.proofs.Steps.{steps_follow}
 
 -- data leave clocks and resets
-given_leaves : (d : Flat) (v : Values) (all : List Setting) → All (SetsData d) all → (c : ℕ) → IsClockOrReset d c → given_after v all c ≡ v c
+pub given_leaves : (d : Flat) (v : Values) (all : List Setting) → All (SetsData d) all → (c : ℕ) → IsClockOrReset d c → given_after v all c ≡ v c
 given_leaves d v [] set c clock = refl
 given_leaves d v (setting ∷ all) set c clock =
     let one = All-head (SetsData d) setting all set in
@@ -90,6 +95,27 @@ module _ (d : Flat) (chains : ℕ → Chain) (level : ℕ → ℕ) (clean : IsCl
   arrived =
       arrives d level clean.solvable inputs t (subst (λ (all : List (ℕ × List Bit)). IsUnderWay d (given_with turned all) t) next.gives end_way) next.rest
 
+  -- neither the clock nor data set a gate
+  module _ (g : ℕ) (gate : IsGateInput d g) where
+    turn_leaves : Leave g (turn ∷ [])
+    turn_leaves =
+        All-cons (λ (one : Setting). one.input ≢ g) turn []
+        (λ same. gate_no_clock d g gate (subst (IsClockOrReset d) same its_clock)) (All-nil (λ (one : Setting). one.input ≢ g))
+
+    gate_stays : inputs g ≡ n g
+    gate_stays = given_left turned g given (data_leave d given set g gate) ∙ given_left n g (turn ∷ []) turn_leaves
+
+  -- so closed latches hold
+  held : (i k : ℕ) → IsHeldBit d inputs i k → Same t.value s.value i k
+  held i k is =
+      let gate = latch_gate d i k is.latch in
+      let left = turn_leaves is.latch.gate.input gate in
+      let before = still_closed d inputs n i k is (gate_stays is.latch.gate.input gate) in
+      held_beside d chains level clean i k is.latch f s n (edge.settled d chains level clean f s n known turn its_clock turns) before
+      (pairs (turn ∷ [])) ((turns.can_be.wide, tt), leaves_pairs is.latch.gate.input (turn ∷ []) left) t next.way
+      (subst (λ (all : List (ℕ × List Bit)). All (λ (one : ℕ × List Bit). one.0 ≢ is.latch.gate.input) all) (sym next.gives)
+      (leaves_pairs is.latch.gate.input given (data_leave d given set is.latch.gate.input gate)))
+
   end : edge.IsEdgeEnd d inputs c b s t
   end =
       let start = edge.start d chains level clean f s n known turn its_clock turns in
@@ -97,11 +123,12 @@ module _ (d : Flat) (chains : ℕ → Chain) (level : ℕ → ℕ) (clean : IsCl
         arrived = arrived;
         turned = turned_beside d clean.synchronous c (bit s.value c 0) b s start t way next.rest;
         taken = taken_beside d clean.synchronous c (bit s.value c 0) b s start t way next.rest;
+        held = held;
       }
 
   inputs_known : (i : ℕ) → has_unknown (inputs i) ≡ false
   inputs_known =
-      followed.given_known d level clean.solvable turned (pairs given) (are_settings d given set)
+      followed.given_known d level clean.solvable turned (pairs given) (are_settings d given (data_are_unclocked d given set))
       (followed.given_known d level clean.solvable n (pairs (turn ∷ [])) ((turns.can_be.wide, turns.can_be.known), tt) known.solution.numbers.known)
 
   -- ---- from the numbers after the turn
@@ -110,13 +137,23 @@ module _ (d : Flat) (chains : ℕ → Chain) (level : ℕ → ℕ) (clean : IsCl
   new = numbers_of d f t.value
 
   module _ (m : Values) (cycle : IsCycle d chains f n (Turn turn) m) where
-    solution : IsSolution d f m t.value new
-    solution =
-        (edge.all_followed d chains level clean f s n known turn its_clock turns inputs inputs_known t end m cycle.rest.numbers).solution
-
     turned_alike : GivesAlike d turned m
     turned_alike i input =
         ap (λ (v : Values). v i) (given_pairs n (turn ∷ [])) ∙ sym (cycle.inputs i input)
+
+    -- in the numbers after the turn closed latches have what they have at the end
+    holds : AreHeld d m t.value
+    holds i k is =
+        let gate = latch_gate d i k is.latch in
+        let g = is.latch.gate.input in
+        let input = gate_is_input d g gate in
+        let at_turn : t.value g ≡ m g = arrived.inputs g input ∙ given_left turned g given (data_leave d given set g gate) ∙ turned_alike g input in
+        latch_keeps d level clean.solvable f n m m known.solution.numbers cycle.rest i k (record { latch = is.latch; closed = still_closed d t.value m i k is at_turn })
+        ∙ sym (edge.latch_holds d chains level clean f s n known turn its_clock turns inputs inputs_known t end i k is)
+
+    solution : IsSolution d f m t.value new
+    solution =
+        (edge.all_followed d chains level clean f s n known turn its_clock turns inputs inputs_known t end m cycle.rest.numbers holds).solution
 
     new_inputs : (i : ℕ) → IsTrue (is_input d i) → new i ≡ given_after m given i
     new_inputs i input =
@@ -173,8 +210,8 @@ module _ (d : Flat) (chains : ℕ → Chain) (level : ℕ → ℕ) (clean : IsCl
         }
 
 pub beside_follows : (d : Flat) (chains : ℕ → Chain) (level : ℕ → ℕ) → IsCleanClocked d chains level → (f : Fill) → BesideFollows d chains f
-beside_follows d chains level clean f s n known turn turns given set t next m cycle =
-    data_follow d chains level clean f s n known turn (clock_or_reset d turn.input turns.control) turns given set t next m cycle
+beside_follows d chains level clean f s n known turn clock turns given set t next m cycle =
+    data_follow d chains level clean f s n known turn clock turns given set t next m cycle
 
 -- ---- lists of steps
 
@@ -202,14 +239,14 @@ module _ (d : Flat) (chains : ℕ → Chain) (f : Fill) (by_step : StepsFollow d
   -- a step leads to a settled state, behind which the other steps are lawful
   pub one_step :
       (s : State) (n : Values) → IsSettledKnown d chains f s n → (step : BenchStep) (steps : List BenchStep) →
-      AreLawfulSteps d n (in_turn (step ∷ steps)) → (t : State) → IsBenchNext d s step t →
+      AreLawfulSteps d n (in_turn (step ∷ steps)) → TurnsClock d step → (t : State) → IsBenchNext d s step t →
       (m : Values) × IsSettledKnown d chains f t m × AreLawfulSteps d m (in_turn steps)
-  one_step s n known (Plain step) steps lawful t next =
+  one_step s n known (Plain step) steps lawful clock t next =
       let one = by_step s n known step lawful.0 t next in
       (one.next, one.settled, lawful_after d chains f n one.next step one.follows (in_turn steps) lawful.1)
-  one_step s n known (Beside turn given) steps lawful t next =
-      let m = lead s n known turn lawful.0 in
-      let one = beside s n known turn lawful.0 given lawful.1.0 t next m.0 m.1 in (
+  one_step s n known (Beside turn given) steps lawful clock t next =
+      let m = lead s n known turn clock lawful.0 in
+      let one = beside s n known turn clock lawful.0 given lawful.1.0 t next m.0 m.1 in (
         one.next,
         one.settled,
         lawful_after d chains f m.0 one.next (Data given) one.follows (in_turn steps)
@@ -217,24 +254,25 @@ module _ (d : Flat) (chains : ℕ → Chain) (f : Fill) (by_step : StepsFollow d
       )
 
   shown :
-      (s : State) (n : Values) → IsSettledKnown d chains f s n → (steps : List BenchStep) → AreLawfulSteps d n (in_turn steps) →
+      (s : State) (n : Values) → IsSettledKnown d chains f s n → (steps : List BenchStep) → AreLawfulSteps d n (in_turn steps) → All (TurnsClock d) steps →
       (states : List State) → AreBenchRuns d s steps states → AreShown n steps states
-  shown s n known [] lawful [] runs = record { numbers = []; follow = tt; show = tt }
-  shown s n known [] lawful (t ∷ states) runs = absurd runs
-  shown s n known (step ∷ steps) lawful [] runs = absurd runs
-  shown s n known (Plain step ∷ steps) lawful (t ∷ states) runs =
+  shown s n known [] lawful clocks [] runs = record { numbers = []; follow = tt; show = tt }
+  shown s n known [] lawful clocks (t ∷ states) runs = absurd runs
+  shown s n known (step ∷ steps) lawful clocks [] runs = absurd runs
+  shown s n known (Plain step ∷ steps) lawful clocks (t ∷ states) runs =
       let one = by_step s n known step lawful.0 t runs.0 in
-      let rest = shown t one.next one.settled steps (lawful_after d chains f n one.next step one.follows (in_turn steps) lawful.1) states runs.1 in
+      let rest = shown t one.next one.settled steps (lawful_after d chains f n one.next step one.follows (in_turn steps) lawful.1) (All-tail (TurnsClock d) (Plain step) steps clocks) states runs.1 in
       record {
         numbers = one.next ∷ rest.numbers;
         follow = (one.follows, rest.follow);
         show = (shows_all d chains f t one.next one.settled, rest.show);
       }
-  shown s n known (Beside turn given ∷ steps) lawful (t ∷ states) runs =
-      let m = lead s n known turn lawful.0 in
-      let one = beside s n known turn lawful.0 given lawful.1.0 t runs.0 m.0 m.1 in
+  shown s n known (Beside turn given ∷ steps) lawful clocks (t ∷ states) runs =
+      let clock = All-head (TurnsClock d) (Beside turn given) steps clocks in
+      let m = lead s n known turn clock lawful.0 in
+      let one = beside s n known turn clock lawful.0 given lawful.1.0 t runs.0 m.0 m.1 in
       let behind = lawful_both d chains f n m.0 turn m.1 given (in_turn steps) lawful.1.1 in
-      let rest = shown t one.next one.settled steps (lawful_after d chains f m.0 one.next (Data given) one.follows (in_turn steps) behind) states runs.1 in
+      let rest = shown t one.next one.settled steps (lawful_after d chains f m.0 one.next (Data given) one.follows (in_turn steps) behind) (All-tail (TurnsClock d) (Beside turn given) steps clocks) states runs.1 in
       record {
         numbers = m.0 ∷ one.next ∷ rest.numbers;
         follow = (m.1, (one.follows, rest.follow));
@@ -244,8 +282,8 @@ module _ (d : Flat) (chains : ℕ → Chain) (f : Fill) (by_step : StepsFollow d
   pub agree_by_bench : BenchesAgree d chains f
   agree_by_bench =
       record {
-        agrees = λ s n known steps lawful states runs.
-            let it = shown s n known steps lawful states runs in
+        agrees = λ s n known steps lawful clocks states runs.
+            let it = shown s n known steps lawful clocks states runs in
             let numbers = known.solution.numbers in
             record {
               numbers = it.numbers;

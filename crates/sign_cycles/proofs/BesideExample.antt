@@ -7,14 +7,15 @@ use Rattle.std.proofs.lemmas.List.Elements.{All-cons, All-nil}
 use Rattle.rtl_bits.specs.declared.Bit.TheVariants.{Zero, One}
 use Rattle.rtl_flat.specs.Process.{Actions, Edge', Watched}
 use Rattle.event_model.specs.Queue.{State, Event, Input, Run, Delayed, Activate, IsAtRest, after, doing_at, run}
-use Rattle.net_model.specs.Control.{IsClockOrReset, IsDataInput, IsUnclocked, waits_for}
+use Rattle.net_model.specs.Control.{IsClockOrReset, IsUnclocked, waits_for}
+use Rattle.net_model.specs.Gates.{IsDataInput, IsGateInput}
 use Rattle.net_model.specs.Cycle.{Setting}
 use Rattle.net_model.specs.Lawful.{AreLawfulSteps, SetsData}
 use Rattle.net_model.specs.Numbers.{bit}
 use Rattle.event_edges.specs.Moves.{Activated, Give, Move, Take, move_all}
 use Rattle.sign_cycles.specs.Agree.{after_offer}
 use Rattle.sign_cycles.specs.Beside.{Beside, IsNextBeside, in_turn}
-use Rattle.sign_cycles.proofs.Register.{all_wait, asked, body, design, first, itself, lawful, list, low, none_assigned, none_offered, ran, rises, set_to}
+use Rattle.sign_cycles.proofs.Register.{all_wait, asked, body, design, first, itself, lawful, list, low, no_latch, none_assigned, none_offered, ran, rises, set_to}
 
 -- ---- `a` is a data input
 
@@ -31,8 +32,11 @@ no_clock clock =
 unclocked : IsUnclocked design 2
 unclocked = record { input = refl; no_clock = no_clock }
 
+no_gate : IsGateInput design 2 → ⊥
+no_gate gate = no_latch gate.process gate.gate gate.admitted
+
 data_input : IsDataInput design 2
-data_input = record { input = refl; no_control = λ control. elim control [ inl clock ↦ no_clock clock | inr gate ↦ gate ] }
+data_input = record { input = refl; no_control = λ control. elim control [ inl clock ↦ no_clock clock | inr gate ↦ no_gate gate ] }
 
 abbrev falls : Setting
 falls = set_to 2 Zero

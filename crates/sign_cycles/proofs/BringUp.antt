@@ -1,14 +1,14 @@
--- Steps from power-up end in a settled state where inputs and registers are known. So they are after every bring-up: inputs
--- are set, and registers have the constants of their resets.
+-- Steps from power-up end in a settled state where inputs, registers and latches are known. So they are after every bring-up:
+-- inputs are set, registers have the constants of their resets, and latches are open.
 use Rattle.std.proofs.Common.{◌≡◌, ◌≢◌, ◌∙◌, ◌⊎◌, ◌≤◌, ◌==◌, ℕ, true, false, List, [], ◌∷◌, length, get_or, Option, None, Some, refl, sym, ap, subst, inl, inr, arith}
 use Rattle.std.specs.Prelude.{IsTrue, unwrap_or}
 use Rattle.std.specs.List.{All, list_any}
-use Rattle.std.proofs.lemmas.Bool.{cases_Bool, cases_eq, cond-false, cond-true, false≢true, ne_eqb, or_cases}
+use Rattle.std.proofs.lemmas.Bool.{cases_Bool, cases_eq, cond-false, cond-true, false≢true, ne_eqb, or_cases, true≢false}
 use Rattle.std.proofs.lemmas.List.Elements.{All-head, All-tail}
 use Rattle.rtl_bits.specs.declared.Bit.{Bit}
 use Rattle.rtl_bits.specs.declared.Bit.TheVariants.{X}
 use Rattle.rtl_bits.specs.Bit.{is_unknown}
-use Rattle.rtl_bits.specs.Bits.{has_unknown}
+use Rattle.rtl_bits.specs.Bits.{has_unknown, same_bit}
 use Rattle.rtl_flat.specs.Process.{Watched, Actions, Edge'}
 use Rattle.event_model.specs.Queue.{State, IsAtRest, doing_at, is_input, offer, power_up, run}
 use Rattle.rtl_flat.specs.Flats.{Flat, widths}
@@ -18,17 +18,20 @@ use Rattle.event_edges.proofs.event_laws_proofs.Unheard.{same_bits}
 use Rattle.net_model.specs.declared.fill.Fill.{Fill}
 use Rattle.net_model.specs.Block.{block_bit}
 use Rattle.net_model.specs.Cycle.{Chain, Guard, Setting, given_after, is_active, level, strongest}
+use Rattle.net_model.specs.Gates.{IsLatchBit}
 use Rattle.net_model.specs.Numbers.{AreNumbers, bit}
 use Rattle.net_model.specs.Solution.{IsRegisterBit}
+use Rattle.net_model.proofs.Gates.{from_input}
 use Rattle.event_edges.specs.event_runs.Nets.{AreDriven, AreOffered, AreResolved, given_with}
 use Rattle.event_edges.specs.event_runs.Writers.{IsOrderly}
 use Rattle.event_edges.proofs.event_runs_proofs.Inputs.{offer_is, offered_offer, offered_run, orderly_offer}
 use Rattle.event_edges.proofs.event_runs_proofs.Late.{orderly_power_up, orderly_run}
 use Rattle.event_edges.proofs.event_runs_proofs.Nets.{driven_from, resolved_power_up, resolved_run}
+use Rattle.net_rest.proofs.net_laws_proofs.Known.{known_at}
 use Rattle.net_rest.proofs.net_laws_proofs.Laws.{block_known}
-use Rattle.net_rest.specs.Rest.{numbers_of}
+use Rattle.net_rest.specs.Rest.{IsHeldBit, numbers_of}
 use Rattle.net_rest.proofs.Numbers.{are_numbers}
-use Rattle.net_rest.proofs.Rest.{register_inside}
+use Rattle.net_rest.proofs.Rest.{held_as, latch_inside, register_inside}
 use Rattle.sign_cycles.specs.PowerUp.{AreRounds, CanAllWake, after_rounds}
 use Rattle.sign_cycles.specs.PowerUp as up
 use Rattle.sign_cycles.specs.Round.{AreSettings, IsSettled, Round}
@@ -222,14 +225,27 @@ module _ (d : Flat) (chains : ℕ → Chain) (level_of : ℕ → ℕ) (clean : I
       ∙ set_at_rest d clean.solvable.lawful p guard.item.signal (level guard.item.edge) i k constant is t settled.rest
       (rising.set p guard.item.signal (level guard.item.edge) i k constant is) at_level
 
-  -- so a state whose inputs and registers are known is settled
-  known_settled :
-      CanAllWake d → (f : Fill) (steps : List (List Setting)) → steps ≢ [] → All (All (SetsInput d)) steps →
-      (states : List State) → AreRuns d (power_up d) steps states → AreKnown d (last (power_up d) states).value →
-      IsSettledKnown d chains f (last (power_up d) states) (numbers_of d f (last (power_up d) states).value)
-  known_settled wakes f steps some set states runs known =
-      settled_known d chains f t (numbers_of d f t.value) settled
-      (resets_hold f given t rising (numbers_of d f t.value) settled)
+  -- where inputs, registers and closed latches are known the rounds are a bring-up
+  up_settled :
+      CanAllWake d → (f : Fill) (steps : List (List Setting)) → steps ≢ [] → (set : All (All (SetsInput d)) steps) →
+      (states : List State) → AreRuns d (power_up d) steps states →
+      ((i : ℕ) → IsTrue (is_input d i) → has_unknown ((last (power_up d) states).value i) ≡ false) →
+      ((i k : ℕ) → IsRegisterBit d i k → is_unknown (bit (last (power_up d) states).value i k) ≡ false) →
+      ((i k : ℕ) → IsHeldBit d (last (power_up d) states).value i k → is_unknown (bit (last (power_up d) states).value i k) ≡ false) →
+      IsSettled d f (last (power_up d) states) (numbers_of d f (last (power_up d) states).value)
+  up_settled wakes f steps some set states runs inputs registers latches =
+      subst (λ (u : State). IsSettled d f u (numbers_of d f u.value)) all.ends
+      (round.brings_up d level_of clean.solvable wakes f all.rounds
+      (record {
+        can = all.can;
+        rest = subst (IsAtRest d) (sym all.ends) rest;
+        inputs = λ i input. ap has_unknown (given_is i input) ∙ inputs i input;
+        registers = λ i k register.
+            ap (λ (u : State). is_unknown (bit u.value i k)) all.ends ∙ registers i k register;
+        latches = λ i k held.
+            ap (λ (u : State). is_unknown (bit u.value i k)) all.ends
+            ∙ latches i k (held_as d level_of clean.solvable (up.given_by (power_up d).value all.rounds) t.value given_is i k held);
+      }))
     where
       t : State
       t = last (power_up d) states
@@ -246,20 +262,21 @@ module _ (d : Flat) (chains : ℕ → Chain) (level_of : ℕ → ℕ) (clean : I
       all : AreTheRounds d (power_up d) steps t
       all = the_rounds d (power_up d) steps set states runs
 
-      settled : IsSettled d f t (numbers_of d f t.value)
-      settled =
-          subst (λ (u : State). IsSettled d f u (numbers_of d f u.value)) all.ends
-          (round.brings_up d level_of clean.solvable wakes f all.rounds
-          (record {
-            can = all.can;
-            rest = subst (IsAtRest d) (sym all.ends) rest;
-            inputs = λ i input.
-                ap (λ (v : Values). has_unknown (v i)) (all.given (power_up d).value)
-                ∙ ap has_unknown (sym (input_is given t rising rest i input))
-                ∙ known.inputs i input;
-            registers = λ i k register.
-                ap (λ (u : State). is_unknown (bit u.value i k)) all.ends ∙ known.registers i k register;
-          }))
+      given_is : (i : ℕ) → IsTrue (is_input d i) → up.given_by (power_up d).value all.rounds i ≡ t.value i
+      given_is i input =
+          ap (λ (v : Values). v i) (all.given (power_up d).value) ∙ sym (input_is given t rising rest i input)
+
+  -- so a state whose inputs, registers and latches are known is settled
+  known_settled :
+      CanAllWake d → (f : Fill) (steps : List (List Setting)) → steps ≢ [] → All (All (SetsInput d)) steps →
+      (states : List State) → AreRuns d (power_up d) steps states → AreKnown d (last (power_up d) states).value →
+      IsSettledKnown d chains f (last (power_up d) states) (numbers_of d f (last (power_up d) states).value)
+  known_settled wakes f steps some set states runs known =
+      let t = last (power_up d) states in
+      let rising = rises (power_up d).value (power_up d) steps set states runs begins in
+      let settled = up_settled wakes f steps some set states runs known.inputs known.registers (λ i k held. known.latches i k held.latch) in
+      settled_known d chains f t (numbers_of d f t.value) settled
+      (resets_hold f (given_by (power_up d).value steps) t rising (numbers_of d f t.value) settled)
 
   -- ---- after a bring-up
 
@@ -314,20 +331,54 @@ module _ (d : Flat) (chains : ℕ → Chain) (level_of : ℕ → ℕ) (clean : I
           ∙ block_known d f n guard.branch i k (are_numbers d f t.value)
           (reset.branch d chains level_of clean f p register.events register.body register.does guard guarded.1).lawful (register_inside d level_of clean.solvable i k register)
 
+  -- no latch is closed
+  none_held :
+      (steps : List (List Setting)) → IsBringUp d chains steps → (t : State) → IsRising d (given_by (power_up d).value steps) t → IsAtRest d t →
+      (i k : ℕ) → IsHeldBit d t.value i k → ⊥
+  none_held steps is t rising rest i k held =
+      let gate = held.latch.gate in
+      let admitted = held.latch.admitted in
+      let input = from_input d gate.input gate.signal admitted.latch.comes in
+      let value_is = input_is (given_by (power_up d).value steps) t rising rest gate.input input in
+      true≢false (sym (ap (λ (bits : List Bit). same_bit (get_or bits 0 X) gate.opens) value_is
+      ∙ ap (λ (b : Bit). same_bit b gate.opens) (is.gates held.latch.process gate admitted)
+      ∙ reset.same_self gate.opens) ∙ held.closed)
+
   bring_up_known :
-      HaveResets d chains → (f : Fill) (steps : List (List Setting)) → IsBringUp d chains steps →
+      CanAllWake d → HaveResets d chains → (f : Fill) (steps : List (List Setting)) → IsBringUp d chains steps →
       (states : List State) → AreRuns d (power_up d) steps states → AreKnown d (last (power_up d) states).value
-  bring_up_known have f steps is states runs =
-      let given = given_by (power_up d).value steps in
-      let t = last (power_up d) states in
-      let rising : IsRising d given t = rises (power_up d).value (power_up d) steps is.settings states runs begins in
-      let rest : IsAtRest d t = some_rest d (power_up d) steps is.some_step states runs in
-      record {
-        inputs = λ i input.
-            ap has_unknown (input_is given t rising rest i input)
-            ∙ steps_known d (power_up d).value steps is.settings i (inl (is.all_set i input));
-        registers = λ i k register. register_known have f given t rising rest is.resets i k register;
-      }
+  bring_up_known wakes have f steps is states runs =
+      record { inputs = inputs_known; registers = registers_known; latches = latches_known }
+    where
+      given : Values
+      given = given_by (power_up d).value steps
+
+      t : State
+      t = last (power_up d) states
+
+      rising : IsRising d given t
+      rising = rises (power_up d).value (power_up d) steps is.settings states runs begins
+
+      rest : IsAtRest d t
+      rest = some_rest d (power_up d) steps is.some_step states runs
+
+      inputs_known : (i : ℕ) → IsTrue (is_input d i) → has_unknown (t.value i) ≡ false
+      inputs_known i input =
+          ap has_unknown (input_is given t rising rest i input)
+          ∙ steps_known d (power_up d).value steps is.settings i (inl (is.all_set i input))
+
+      registers_known : (i k : ℕ) → IsRegisterBit d i k → is_unknown (bit t.value i k) ≡ false
+      registers_known i k register = register_known have f given t rising rest is.resets i k register
+
+      -- latches are open, so the state is settled, and they have known numbers
+      latches_known : (i k : ℕ) → IsLatchBit d i k → is_unknown (bit t.value i k) ≡ false
+      latches_known i k latch =
+          let n = numbers_of d f t.value in
+          let settled = up_settled wakes f steps is.some_step is.settings states runs inputs_known registers_known (λ j l held. absurd (none_held steps is t rising rest j l held)) in
+          let size = (are_numbers d f t.value).wide i in
+          let inside = latch_inside d level_of clean.solvable i k latch in
+          ap is_unknown (settled.shows i k latch.lasting)
+          ∙ known_at (n i) k ((are_numbers d f t.value).known i) (omega (arith, size, inside))
 
 pub known_settles : (d : Flat) (chains : ℕ → Chain) (level_of : ℕ → ℕ) → KnownSettlesClean d chains level_of
 known_settles d chains level_of clean wakes f =
@@ -343,5 +394,5 @@ brings_up d chains level_of clean wakes have f =
     record {
       settles = λ steps is states runs.
           (known_settles d chains level_of clean wakes f).settles steps is.some_step is.settings states runs
-          (bring_up_known d chains level_of clean have f steps is states runs);
+          (bring_up_known d chains level_of clean wakes have f steps is states runs);
     }

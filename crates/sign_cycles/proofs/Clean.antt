@@ -1,6 +1,6 @@
 -- The register with a clock and a reset meets the conditions of clean designs: simulation agrees with synthesis on it, and
 -- it is brought up.
-use Rattle.std.proofs.Common.{◌≡◌, ◌∙◌, ◌⊎◌, ◌==◌, ◌<◌, ◌≤◌, ◌&&◌, ◌||◌, ℕ, zero, suc, Bool, true, false, List, [], ◌∷◌, length, Option, Some, refl, sym, ap, subst, inl, inr, arith}
+use Rattle.std.proofs.Common.{◌≡◌, ◌∙◌, ◌⊎◌, ◌==◌, ◌<◌, ◌≤◌, ◌&&◌, ◌||◌, ℕ, zero, suc, Bool, true, false, List, [], ◌∷◌, length, Some, refl, sym, ap, subst, inl, inr, arith}
 use Rattle.std.specs.Prelude.{IsTrue}
 use Rattle.std.specs.List.{list_any, slice_get}
 use Rattle.std.proofs.lemmas.Bool.{and_parts, eqb-true, false≢true}
@@ -34,7 +34,7 @@ use Rattle.sign_cycles.specs.Agree.{Agree}
 use Rattle.sign_cycles.specs.BringUp.{BringsUp}
 use Rattle.sign_cycles.specs.Formed.{IsCleanClocked, IsConstant, IsFormed, TestsAlone}
 use Rattle.sign_cycles.proofs.BringUp.{brings_up}
-use Rattle.sign_cycles.proofs.Register.{bit_of, body, chain, clear, design, guard, is_chain, itself, list, register_written, rise, spot, store}
+use Rattle.sign_cycles.proofs.Register.{bit_of, body, chain, clear, design, guard, is_chain, itself, list, no_comb, no_latch, register_written, rise, spot, store}
 use Rattle.sign_cycles.proofs.Steps.{agreement}
 
 -- ---- it is lawful
@@ -188,9 +188,6 @@ no_assign p target e is =
     let kinds : Assign target e ≡ Edge' list body = (one_process p (Assign target e) is).1 in
     cc (kinds)
 
-pub no_comb : (p : ℕ) (l : Option (List Watched)) (b : Actions) → doing_at design p ≡ Some (Comb l b) → ⊥
-no_comb p l b is = let kinds : Comb l b ≡ Edge' list body = (one_process p (Comb l b) is).1 in cc (kinds)
-
 pub solvable : IsSolvable design (λ p. 0)
 solvable =
     record {
@@ -200,6 +197,7 @@ solvable =
       firm = λ p target e is. absurd (no_assign p target e is);
       sole = λ p target e is. absurd (no_assign p target e is);
       computing = λ p l b is. absurd (no_comb p l b is);
+      gated = λ p l b is gate admitted. absurd (no_latch p gate admitted);
     }
 
 -- ---- its block is a register with a reset
@@ -260,7 +258,13 @@ its_form p events b is =
     (subst (λ x. IsFormed design list x chain) (sym (own p events b is).1) formed)
 
 pub clean : IsCleanClocked design (λ p. chain) (λ p. 0)
-clean = record { solvable = solvable; synchronous = synchronous; formed = its_form }
+clean =
+    record {
+      solvable = solvable;
+      synchronous = synchronous;
+      formed = its_form;
+      gates = λ p gate admitted. absurd (no_latch p gate admitted);
+    }
 
 -- ---- so the laws hold of it
 

@@ -39,10 +39,10 @@ use Rattle.net_rest.specs.net_laws.Laws.{last_written, late_writes}
 use Rattle.net_rest.proofs.net_laws_proofs.Known.{known_at}
 use Rattle.net_rest.proofs.net_laws_proofs.Late.{last_append}
 use Rattle.net_rest.proofs.net_laws_proofs.Laws.{late_is, tame_depends, whole_path, block_known}
-use Rattle.net_rest.specs.Rest.{AreGiven, numbers_of}
+use Rattle.net_rest.specs.Rest.{AreGiven, AreHeld, IsHeldBit, numbers_of}
 use Rattle.net_rest.proofs.Levels.{read_lasts}
 use Rattle.net_rest.proofs.Numbers.{are_numbers, has_source, number_same, past_ends}
-use Rattle.net_rest.proofs.Rest.{register_inside}
+use Rattle.net_rest.proofs.Rest.{held_as, latch_inside, register_inside}
 use Rattle.sign_cycles.specs.Round.{IsArrived, IsFollowed, IsSettled}
 use Rattle.sign_cycles.proofs.Followed as followed
 use Rattle.sign_cycles.proofs.Settled.{arrive}
@@ -60,6 +60,7 @@ use Rattle.sign_cycles.specs.Formed.{IsCleanClocked, IsConstant}
 use Rattle.sign_cycles.specs.Laws.{IsFollowed as IsStepFollowed}
 use Rattle.sign_cycles.proofs.Chains.{IsKnownItem, IsUsable, branches_usable, chain_bit, constant_bit, fires_at, part_usable, strongest_is, strongest_same, takes_bit}
 use Rattle.sign_cycles.proofs.DataSteps.{given_pairs, pairs, settled_round}
+use Rattle.sign_cycles.proofs.Held.{held_turn}
 
 -- ---- the last of late writes
 
@@ -216,12 +217,13 @@ settled_known d chains f t next settled reset =
 
 -- ---- a step of one clock or reset
 
--- where it has come to rest: inputs are as given, what is reached has turned, and registers have taken what they take. It is
--- the same with data beside it
+-- where it has come to rest: inputs are as given, what is reached has turned, registers have taken what they take, and closed
+-- latches hold. It is the same with data beside it
 pub record IsEdgeEnd (d : Flat) (given : Values) (c : ℕ) (b : Bit) (s t : State) : Type 0 where
   pub arrived : IsArrived d given t
   pub turned : IsTurnedAt d c b s t
   pub taken : HaveTaken d s t
+  pub held : (i k : ℕ) → IsHeldBit d given i k → Same t.value s.value i k
 
 module _ (d : Flat) (chains : ℕ → Chain) (level : ℕ → ℕ) (clean : IsCleanClocked d chains level) (f : Fill) (s : State) (n : Values) (known : IsSettledKnown d chains f s n) (setting : Setting) (its_clock : IsClockOrReset d setting.input) (turns : TurnsControl d n setting) where
   abbrev pub c : ℕ
@@ -480,29 +482,41 @@ module _ (d : Flat) (chains : ℕ → Chain) (level : ℕ → ℕ) (clean : IsCl
             block_known d f n guard.branch i k settled.solution.numbers
             (strongest_is d (λ (one : Guard). IsUsable d one.branch) new (chains p).resets (branches_usable d (chains p).resets (chains p).part register.body chained.chained its_body) guard e).lawful inside
 
+    -- closed latches have what they had
+    pub latch_holds : (i k : ℕ) → IsHeldBit d t.value i k → bit t.value i k ≡ bit n i k
+    latch_holds i k is =
+        end.held i k (held_as d level clean.solvable t.value given end.arrived.inputs i k is) ∙ settled.shows i k is.latch.lasting
+
     given_are : AreGiven d t.value
     given_are =
         record {
           inputs = λ i input.
               ap has_unknown (end.arrived.inputs i input) ∙ given_known i;
           registers = register_known;
+          latches = λ i k is.
+              let size = settled.solution.numbers.wide i in
+              let inside = latch_inside d level clean.solvable i k is.latch in
+              ap is_unknown (latch_holds i k is) ∙ known_at (n i) k (settled.solution.numbers.known i) (omega (arith, size, inside));
         }
 
-    pub all_followed : (held : Values) → AreNumbers d held → IsFollowed d f held t.value t new
-    all_followed held are =
+    pub all_followed : (held : Values) → AreNumbers d held → AreHeld d held t.value → IsFollowed d f held t.value t new
+    all_followed held are holds =
         followed.followed d level clean.solvable f given t.value t end.arrived given_are (λ i input. sym (end.arrived.inputs i input))
-        (λ i k register. refl) held are
+        (λ i k register. refl) (λ i k is. refl) held are holds
+
+    pub from_before : IsFollowed d f n t.value t new
+    from_before = all_followed n settled.solution.numbers (λ i k is. sym (latch_holds i k is))
 
     -- registers whose resets are active have their constants
     reset : AreReset d chains f new
     reset p events body is guard found' i k may lasts =
-        (all_followed n settled.solution.numbers).solution.kept i k (record { process = p; events = events; body = body; does = is; may = may; lasting = lasts })
+        from_before.solution.kept i k (record { process = p; events = events; body = body; does = is; may = may; lasting = lasts })
         ∙ is_register_bit p events body is i k may lasts
         ∙ ap (λ (o : Option Guard). reset_bit (widths d) f n o (clocked_bit (widths d) f n new (chains p).clock (chains p).part i k) i k) found'
         ∙ strongest_constant d chains level clean p events body is f new n new settled.solution.numbers numbers guard found' i k may lasts
 
     pub known_after : IsSettledKnown d chains f t new
-    known_after = settled_known d chains f t new (all_followed n settled.solution.numbers).settled reset
+    known_after = settled_known d chains f t new from_before.settled reset
 
   -- ---- alone
 
@@ -523,6 +537,7 @@ module _ (d : Flat) (chains : ℕ → Chain) (level : ℕ → ℕ) (clean : IsCl
           arrived = arrived;
           turned = cone_turns d clean.synchronous c (bit s.value c 0) b s start reaches.events reaches.can t reaches.leads next.rest;
           taken = at_edge d clean.synchronous c (bit s.value c 0) b s start reaches.events reaches.can t reaches.leads next.rest;
+          held = λ i k is. held_turn d chains level clean f s n settled setting turns.can_be i k is t next;
         }
 
     known_given : (i : ℕ) → has_unknown (given_with n (pairs (setting ∷ [])) i) ≡ false
@@ -534,7 +549,7 @@ module _ (d : Flat) (chains : ℕ → Chain) (level : ℕ → ℕ) (clean : IsCl
 
     follows : IsCycle d chains f n (Turn setting) (numbers_of d f t.value)
     follows =
-        let solution = (all_followed (given_with n (pairs (setting ∷ []))) known_given t end n settled.solution.numbers).solution in
+        let solution = (from_before (given_with n (pairs (setting ∷ []))) known_given t end).solution in
         record {
           inputs = λ i input.
               solution.inputs i input ∙ arrived.inputs i input ∙ ap (λ (v : Values). v i) (given_pairs n (setting ∷ []));

@@ -15,13 +15,13 @@ use Rattle.net_model.specs.declared.fill.Fill.{Fill}
 use Rattle.net_model.specs.Cycle.{Setting}
 use Rattle.net_model.specs.Numbers.{bit}
 use Rattle.net_model.specs.Solution.{IsLasting}
-use Rattle.net_rest.proofs.Rest.{register_inside}
+use Rattle.net_rest.proofs.Rest.{latch_inside, register_inside}
 use Rattle.sign_cycles.specs.Agree.{AreRuns, IsNext, IsSettledKnown, after_offer}
 use Rattle.sign_cycles.specs.BringUp.{SetsInput}
 use Rattle.sign_cycles.specs.Known.{AreKnown}
 use Rattle.sign_cycles.proofs.BringUp.{known_settles}
-use Rattle.sign_cycles.proofs.Clean.{clean, no_comb, solvable}
-use Rattle.sign_cycles.proofs.Register.{all_wait, chain, design, none_offered, one_bit, set_to}
+use Rattle.sign_cycles.proofs.Clean.{clean, solvable}
+use Rattle.sign_cycles.proofs.Register.{all_wait, chain, design, no_comb, none_offered, one_bit, set_to}
 
 -- ---- two steps: inputs with the reset off, then an edge of the clock
 
@@ -143,6 +143,7 @@ known =
     record {
       inputs = inputs_known end.value refl refl refl;
       registers = λ i k register. bits_known i k (register_inside design (λ p. 0) solvable i k register);
+      latches = λ i k latch. bits_known i k (latch_inside design (λ p. 0) solvable i k latch);
     }
 
 -- so the state is settled

@@ -1,17 +1,23 @@
--- Either one step sets all inputs with each reset active, or one input resets one process at 1 and another at 0.
+-- Either one step sets all inputs with each reset active and each gate open, or one input resets one process at 1 and another
+-- at 0.
 use Rattle.std.proofs.Common.{◌≡◌, ◌∙◌, ◌⊎◌, ◌<◌, ◌≤◌, ◌==◌, ◌||◌, ℕ, zero, suc, Bool, true, false, if◌then◌else◌, List, [], ◌∷◌, length, get_or, replicate, Option, None, Some, refl, sym, ap, subst, inl, inr, arith}
 use Rattle.std.specs.Prelude.{IsTrue}
 use Rattle.std.specs.Option.{is_some}
 use Rattle.std.specs.List.{All}
 use Rattle.std.proofs.lemmas.Bool.{cases_Bool, cases_eq, eq-eqb, false≢true, true≢false, ne_eqb, or_cases, or_left, or_right}
 use Rattle.std.proofs.lemmas.List.{get_or-replicate, length-replicate}
+use Rattle.std.proofs.lemmas.Option.{none-some, same_Some}
 use Rattle.std.proofs.lemmas.List.Elements.{All-cons, All-head, All-nil, All-tail}
 use Rattle.rtl_bits.specs.declared.Bit.{Bit}
-use Rattle.rtl_bits.specs.declared.Bit.TheVariants.{Zero, One, X, Z}
+use Rattle.rtl_bits.specs.declared.Bit.TheVariants.{Zero, One, X}
 use Rattle.rtl_bits.specs.declared.Edge.{Edge}
 use Rattle.rtl_bits.specs.declared.Edge.TheVariants.{No, Pos, Neg}
 use Rattle.rtl_bits.specs.Bit.{is_one, is_unknown}
 use Rattle.rtl_bits.specs.Bits.{has_unknown, same_bit}
+use Rattle.rtl_flat.specs.declared.expr.Compare.TheVariants as compare
+use Rattle.rtl_flat.specs.declared.expr.Fold.TheVariants as fold
+use Rattle.rtl_flat.specs.declared.expr.Turn.TheVariants as turn
+use Rattle.rtl_flat.specs.Expression.{Tree, Sized, Literal, Whole, Turned, Compared, Folded}
 use Rattle.rtl_flat.specs.Process.{Watched, Actions, Doing, Assign, Comb, Edge'}
 use Rattle.rtl_flat.specs.WellFormed.{has_edge}
 use Rattle.event_model.specs.Queue.{doing_at, is_input, power_up}
@@ -21,14 +27,16 @@ use Rattle.event_model.specs.Writes.{Values, put}
 use Rattle.event_edges.proofs.event_laws_proofs.Lengths.{put_at, put_other}
 use Rattle.event_edges.proofs.event_laws_proofs.Unheard.{same_bits}
 use Rattle.net_model.specs.declared.fill.Fill.TheVariants as fill
-use Rattle.net_model.specs.Control.{IsReached}
+use Rattle.net_model.specs.Control.{Here, IsBehind, IsClockOrReset, IsReached, Next}
 use Rattle.net_model.specs.Cycle.{Chain, Guard, Setting, given_after, level}
+use Rattle.net_model.specs.Gates.{Gate, IsAdmitted, IsGateInput, gate_compared, gate_test}
 use Rattle.net_model.specs.Numbers.{bit}
+use Rattle.net_model.proofs.Gates.{gate_is_input}
 use Rattle.event_edges.specs.Synchronous.{IsItem}
 use Rattle.event_edges.proofs.Cone.{item_clock, item_reached}
 use Rattle.sign_cycles.specs.BringUp.{IsAtLevel, IsBringUp, SetsInput, given_by, sets}
 use Rattle.sign_cycles.specs.Formed.{IsCleanClocked}
-use Rattle.sign_cycles.specs.Lacking.{BringUpsAre, IsResetAt, ResetsApart}
+use Rattle.sign_cycles.specs.Lacking.{AreGatesDecided, BringUpsAre, IsResetAt, ResetsApart}
 use Rattle.sign_cycles.proofs.Edges.{clock_bit}
 use Rattle.sign_cycles.proofs.Resets as reset
 
@@ -42,19 +50,42 @@ level_is Neg edged = inr refl
 one_zero : ◌≡◌ {A = Bit} One Zero → ⊥
 one_zero same = true≢false (ap is_one same)
 
-same_self : (b : Bit) → same_bit b b ≡ true
-same_self Zero = refl
-same_self One = refl
-same_self X = refl
-same_self Z = refl
-
 -- two bits are the same or they aren't
 bits_are : (a b : Bit) → (a ≡ b) ⊎ (a ≡ b → ⊥)
 bits_are a b =
     elim (cases_Bool (same_bit a b)) [
       | inl is ↦ inl (same_bits a b is)
-      | inr other ↦ inr (λ same. true≢false (sym (ap (same_bit a) (sym same) ∙ same_self a) ∙ other))
+      | inr other ↦ inr (λ same. true≢false (sym (ap (same_bit a) (sym same) ∙ reset.same_self a) ∙ other))
     ]
+
+-- a gate opens at 0 or at 1
+either_known : (signal g : ℕ) (b opens : Bit) → is_unknown b ≡ false → ◌≡◌ {A = Option (ℕ × Bit)} (Some (g, b)) (Some (signal, opens)) → is_unknown opens ≡ false
+either_known signal g b opens known is =
+    ap is_unknown (sym (ap (λ (one : ℕ × Bit). one.1) (same_Some (g, b) (signal, opens) is))) ∙ known
+
+compared_known : (g : ℕ) (bits : List Bit) (signal : ℕ) (opens : Bit) → gate_compared g bits ≡ Some (signal, opens) → is_unknown opens ≡ false
+compared_known g (One ∷ []) signal opens is = either_known signal g One opens refl is
+compared_known g (Zero ∷ []) signal opens is = either_known signal g Zero opens refl is
+compared_known g _ signal opens is = absurd (none-some _ is)
+
+if_known : (b : Bool) (g signal : ℕ) (opens : Bit) → ◌≡◌ {A = Option (ℕ × Bit)} (if b then Some (g, Zero) else None) (Some (signal, opens)) → is_unknown opens ≡ false
+if_known true g signal opens is = either_known signal g Zero opens refl is
+if_known false g signal opens is = absurd (none-some _ is)
+
+test_known : (test : Tree) (signal : ℕ) (opens : Bit) → gate_test test ≡ Some (signal, opens) → is_unknown opens ≡ false
+test_known (Sized w s at (Whole g)) signal opens is = either_known signal g One opens refl is
+test_known (Sized w s at (Folded fold.Negation (Sized w' s' at' (Whole g)))) signal opens is =
+    either_known signal g Zero opens refl is
+test_known (Sized w s at (Turned turn.Complement (Sized w' s' at' (Whole g)))) signal opens is =
+    if_known (w' == 1) g signal opens is
+test_known (Sized w s at (Compared compare.Equal t (Sized w' s' at' (Whole g)) (Sized w'' s'' at'' (Literal bits)))) signal opens is =
+    compared_known g bits signal opens is
+test_known _ signal opens is = absurd (none-some _ is)
+
+-- what is behind a signal of one bit has one bit
+behind_wide : (d : Flat) (start j : ℕ) → IsBehind d start j → widths d j ≡ 1 → widths d start ≡ 1
+behind_wide d start j (Here) one = one
+behind_wide d start j (Next i j' p target value before is link) one = behind_wide d start i before link.one_bit
 
 -- what can be told of each number below a bound is found there or other
 find_below : (P : ℕ → Type 0) → ((p : ℕ) → P p ⊎ (P p → ⊥)) → (n : ℕ) → ((p : ℕ) × P p) ⊎ ((p : ℕ) → p < n → P p → ⊥)
@@ -177,10 +208,11 @@ module _ (d : Flat) (chains : ℕ → Chain) (level_of : ℕ → ℕ) (clean : I
     has_one : (active : Bit) → HasOne active
     has_one active = find_below (Is active) (tell active) (length d.tasks)
 
-  -- a level at which each reset that comes from an input is active
+  -- a level at which each reset that comes from an input is active, and each latch that it is the gate of is open
   record HasLevel (c : ℕ) : Type 0 where
     pub active : Bit
     pub known : is_unknown active ≡ false
+    pub opens : (p : ℕ) (gate : Gate) → IsAdmitted d p gate → gate.input ≡ c → gate.opens ≡ active
     pub holds :
         IsTrue (is_input d c) → (p : ℕ) (guard : Guard) → HasReset p guard →
         IsReached d c guard.item.signal → level guard.item.edge ≡ active
@@ -206,32 +238,59 @@ module _ (d : Flat) (chains : ℕ → Chain) (level_of : ℕ → ℕ) (clean : I
   -- what is no input resets nothing
   no_input : (c : ℕ) → is_input d c ≡ false → HasLevel c
   no_input c none =
-      record { active = Zero; known = refl; holds = λ input. absurd (false≢true (sym none ∙ input)) }
+      record {
+        active = Zero;
+        known = refl;
+        opens = λ p gate admitted same.
+            absurd (false≢true (sym none ∙ gate_is_input d c (record { process = p; gate = gate; admitted = admitted; same = same })));
+        holds = λ input. absurd (false≢true (sym none ∙ input));
+      }
 
-  answer : (c : ℕ) → HasLevel c ⊎ ResetsApart d chains
-  answer c =
+  -- a gate resets nothing
+  of_gate : (c : ℕ) → IsGateInput d c → HasLevel c
+  of_gate c is =
+      record {
+        active = is.gate.opens;
+        known = test_known is.admitted.latch.test is.gate.signal is.gate.opens is.admitted.latch.tests;
+        opens = λ p gate admitted same. is.admitted.alike p gate admitted.latch (same ∙ sym is.same);
+        holds = λ input p guard has reached.
+            absurd (is.admitted.no_clock (subst (IsClockOrReset d) (sym is.same)
+            (item_clock d clean.synchronous p has.events has.body guard.item (item p guard has) c input reached)));
+      }
+
+  answer : AreGatesDecided d → (c : ℕ) → HasLevel c ⊎ ResetsApart d chains
+  answer decided c =
       elim (cases_Bool (is_input d c)) [
-        | inl input ↦ of_input input (has_one c input One) (has_one c input Zero)
+        | inl input ↦
+            elim (decided c) [
+              | inl gate ↦ inl (of_gate c gate)
+              | inr no_gate ↦ of_input no_gate input (has_one c input One) (has_one c input Zero)
+            ]
         | inr none ↦ inl (no_input c none)
       ]
     where
+      none_opens : (IsGateInput d c → ⊥) → (active : Bit) (p : ℕ) (gate : Gate) → IsAdmitted d p gate → gate.input ≡ c → gate.opens ≡ active
+      none_opens no_gate active p gate admitted same =
+          absurd (no_gate (record { process = p; gate = gate; admitted = admitted; same = same }))
+
       of_input :
-          (input : IsTrue (is_input d c)) → HasOne c input One → HasOne c input Zero → HasLevel c ⊎ ResetsApart d chains
-      of_input input (inl (p, up)) (inl (q, down)) =
+          (IsGateInput d c → ⊥) → (input : IsTrue (is_input d c)) → HasOne c input One → HasOne c input Zero →
+          HasLevel c ⊎ ResetsApart d chains
+      of_input no_gate input (inl (p, up)) (inl (q, down)) =
           inr (record { input = c; is = input; up = up.0; down = down.0 })
-      of_input input (inl up) (inr none) =
-          inl (record { active = One; known = refl; holds = λ input'. holds_at c input One Zero (λ b is. is) none })
-      of_input input (inr none) down =
-          inl (record { active = Zero; known = refl; holds = λ input'. holds_at c input Zero One swapped none })
+      of_input no_gate input (inl up) (inr none) =
+          inl (record { active = One; known = refl; opens = none_opens no_gate One; holds = λ input'. holds_at c input One Zero (λ b is. is) none })
+      of_input no_gate input (inr none) down =
+          inl (record { active = Zero; known = refl; opens = none_opens no_gate Zero; holds = λ input'. holds_at c input Zero One swapped none })
 
   -- so it is of all inputs
-  answers : (n : ℕ) → ((c : ℕ) → c < n → HasLevel c) ⊎ ResetsApart d chains
-  answers zero = inl (λ c below. absurd (omega (arith, below)))
-  answers (suc n) =
-      elim (answers n) [
+  answers : AreGatesDecided d → (n : ℕ) → ((c : ℕ) → c < n → HasLevel c) ⊎ ResetsApart d chains
+  answers decided zero = inl (λ c below. absurd (omega (arith, below)))
+  answers decided (suc n) =
+      elim (answers decided n) [
         | inr apart ↦ inr apart
         | inl each ↦
-            elim (answer n) [
+            elim (answer decided n) [
               | inr apart ↦ inr apart
               | inl here ↦ inl (λ c below.
                   elim (cases_eq c n) [
@@ -356,6 +415,18 @@ module _ (d : Flat) (chains : ℕ → Chain) (level_of : ℕ → ℕ) (clean : I
         none_or_one (All (IsAtLevel d given)) p events body does (λ none. All-nil (IsAtLevel d given))
         (λ guard has. All-cons (IsAtLevel d given) guard [] (is_active p guard has) (All-nil (IsAtLevel d given)))
 
+    -- and each gate is open
+    is_open :
+        (p : ℕ) (gate : Gate) → IsAdmitted d p gate → bit given gate.input 0 ≡ gate.opens
+    is_open p gate admitted =
+        let latch = admitted.latch in
+        let gated = clean.solvable.gated p latch.list latch.body latch.does gate admitted in
+        let one : widths d gate.input ≡ 1 = behind_wide d gate.input gate.signal gated.behind gated.one_bit in
+        let ours = all_ours (length d.signals) in
+        ap (λ (bits : List Bit). get_or bits 0 X) (given_number (power_up d).value all ours gate.input (inl (set_there gate.input gated.input)))
+        ∙ get_or-replicate (widths d gate.input) 0 (levels gate.input).active X (omega (arith, one))
+        ∙ sym ((levels gate.input).opens p gate admitted refl)
+
     brings : IsBringUp d chains (all ∷ [])
     brings =
         record {
@@ -365,6 +436,7 @@ module _ (d : Flat) (chains : ℕ → Chain) (level_of : ℕ → ℕ) (clean : I
               (All-nil (All (SetsInput d)));
           all_set = λ i input. or_left (sets i all) false (set_there i input);
           resets = at_levels;
+          gates = is_open;
         }
 
   -- ---- one or the other
@@ -377,9 +449,9 @@ module _ (d : Flat) (chains : ℕ → Chain) (level_of : ℕ → ℕ) (clean : I
         | inr none ↦ no_input c none
       ]
 
-  one_of : ((steps : List (List Setting)) × IsBringUp d chains steps) ⊎ ResetsApart d chains
-  one_of =
-      elim (answers (length d.signals)) [
+  one_of : AreGatesDecided d → ((steps : List (List Setting)) × IsBringUp d chains steps) ⊎ ResetsApart d chains
+  one_of decided =
+      elim (answers decided (length d.signals)) [
         | inl each ↦ inl (all (every each) ∷ [], brings (every each))
         | inr apart ↦ inr apart
       ]
@@ -404,6 +476,6 @@ not_both d chains apart steps is =
     ∙ at_level d chains steps is apart.input apart.is Zero apart.down)
 
 pub bring_ups :
-    (d : Flat) (chains : ℕ → Chain) (level_of : ℕ → ℕ) → IsCleanClocked d chains level_of → BringUpsAre d chains
-bring_ups d chains level_of clean =
-    record { one = one_of d chains level_of clean; not_both = not_both d chains }
+    (d : Flat) (chains : ℕ → Chain) (level_of : ℕ → ℕ) → IsCleanClocked d chains level_of → AreGatesDecided d → BringUpsAre d chains
+bring_ups d chains level_of clean decided =
+    record { one = one_of d chains level_of clean decided; not_both = not_both d chains }

@@ -7,9 +7,13 @@ mod Clean
 pub mod DataSteps
 pub mod Edges
 pub mod Followed
+pub mod GateSteps
+pub mod Held
+pub mod InTurn
 mod KnownExample
 pub mod Lacking
 mod LackingExample
+mod LatchExample
 pub mod Lists
 mod Register
 pub mod Resets
@@ -18,6 +22,7 @@ pub mod RoundLaws
 pub mod Settled
 pub mod Steps
 pub mod Unfired
+mod UnfiredExample
 pub mod Up
 -- passed on to the crates above
 pub use Rattle.event_edges.proofs as event_edges_proofs

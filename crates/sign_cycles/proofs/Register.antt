@@ -30,6 +30,7 @@ use Rattle.net_model.specs.declared.fill.Fill.{Fill}
 use Rattle.net_model.proofs.Gates.{clock_control}
 use Rattle.net_model.specs.Control.{IsClockOrReset, IsPassedOn, IsReached, Itself, Through, whole_of}
 use Rattle.net_model.specs.Cycle.{Chain, Guard, IsChain, Setting, Tests, Turn, is_active}
+use Rattle.net_model.specs.Gates.{Gate, IsAdmitted}
 use Rattle.net_model.specs.Lawful.{AreLawfulSteps}
 use Rattle.net_model.specs.Numbers.{bit, digits}
 use Rattle.net_model.specs.Solution.{IsSolution}
@@ -188,7 +189,7 @@ settled f =
 
 -- ---- an edge of the clock, after which q is 1
 
-clock : IsClockOrReset design 0
+pub clock : IsClockOrReset design 0
 clock =
     record {
       input = refl;
@@ -295,6 +296,13 @@ no_port : (i j : ℕ) → IsPassedOn design i j → ⊥
 no_port i j h =
     no_other h.process (Some (Assign (whole_of j h.connection.spot) h.value)) (ap doing_of h.connection.there ∙ ap Some h.connection.does) refl
 
+-- there is no block without edges, and so no latch
+pub no_comb : (p : ℕ) (events : Option (List Watched)) (other : Actions) → doing_at design p ≡ Some (Comb events other) → ⊥
+no_comb p events other does = no_other p (Some (Comb events other)) does refl
+
+pub no_latch : (p : ℕ) (gate : Gate) → IsAdmitted design p gate → ⊥
+no_latch p gate admitted = no_comb p admitted.latch.list admitted.latch.body admitted.latch.does
+
 pub itself : (c i : ℕ) → IsReached design c i → c ≡ i
 itself c i Itself = refl
 itself c i (Through i' j reached passed) = absurd (no_port i' j passed)
@@ -316,4 +324,5 @@ bring_up =
       settings = All-cons (All (SetsInput design)) all_set [] are_set (All-nil (All (SetsInput design)));
       all_set = each_set;
       resets = λ p list' body' is. All-cons (IsAtLevel design (given_by (power_up design).value (all_set ∷ []))) guard [] resets_on (All-nil (IsAtLevel design (given_by (power_up design).value (all_set ∷ []))));
+      gates = λ p gate admitted. absurd (no_latch p gate admitted);
     }

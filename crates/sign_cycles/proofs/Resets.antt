@@ -13,7 +13,7 @@ use Rattle.rtl_bits.specs.Bit.{is_one, is_unknown}
 use Rattle.rtl_bits.specs.Bits.{same_bit, truth_bit}
 use Rattle.rtl_flat.specs.Flows.{body_flow, reads}
 use Rattle.rtl_flat.specs.Paths.{MayWrite}
-use Rattle.rtl_flat.specs.Process.{Watched, Set, If, Case, Block, Actions, Done, Then, With, Edge'}
+use Rattle.rtl_flat.specs.Process.{Watched, If, Actions, Done, Then, With, Edge'}
 use Rattle.rtl_flat.specs.Value.{value}
 use Rattle.rtl_flat.specs.WellFormed.{has_edge}
 use Rattle.event_model.specs.Bodies.{Made, body_made}
@@ -28,7 +28,7 @@ use Rattle.event_edges.proofs.event_laws_proofs.Laws.{depends, may_now, sure_mad
 use Rattle.event_edges.proofs.event_laws_proofs.Within.{reads_inside}
 use Rattle.net_model.specs.declared.fill.Fill.{Fill}
 use Rattle.net_model.specs.Block.{block_bit}
-use Rattle.net_model.specs.Cycle.{Chain, Guard, IsChained, Tests, level, opened}
+use Rattle.net_model.specs.Cycle.{Chain, Guard, IsChained, Tests, level}
 use Rattle.net_model.specs.Numbers.{AreNumbers, bit}
 use Rattle.net_model.specs.Solution.{IsLasting}
 use Rattle.event_edges.specs.event_runs.Effects.{laters}
@@ -38,6 +38,7 @@ use Rattle.net_rest.proofs.net_laws_proofs.Late.{any_late, late_known, some_last
 use Rattle.net_rest.proofs.net_laws_proofs.Laws.{exact, late_is, whole_path}
 use Rattle.net_rest.proofs.net_laws_proofs.Numbers.{body_known}
 use Rattle.net_rest.specs.Rest.{numbers_of}
+use Rattle.net_rest.proofs.Latches.{opened_made}
 use Rattle.net_rest.proofs.Numbers.{are_numbers, has_source, number_same}
 use Rattle.event_edges.specs.Registers.{updates_bit}
 use Rattle.event_edges.specs.Reset.{IsReset}
@@ -57,10 +58,14 @@ level_known No edged = absurd (false≢true edged)
 level_known Pos edged = refl
 level_known Neg edged = refl
 
+pub same_self : (b : Bit) → same_bit b b ≡ true
+same_self Zero = refl
+same_self One = refl
+same_self X = refl
+same_self Z = refl
+
 pub level_same : (edge : Edge) → same_bit (level edge) (level edge) ≡ true
-level_same No = refl
-level_same Pos = refl
-level_same Neg = refl
+level_same edge = same_self (level edge)
 
 -- each change to the level of an edge is one
 turns_to : (edge : Edge) (old : Bit) → IsTrue (has_edge edge) → old ≢ level edge → happens edge old (level edge) ≡ true
@@ -73,15 +78,6 @@ turns_to Neg Zero edged other = absurd (other refl)
 turns_to Neg One edged other = refl
 turns_to Neg X edged other = refl
 turns_to Neg Z edged other = refl
-
--- a body makes what it makes without the blocks that hold nothing else
-opened_made : (ws : ℕ → ℕ) (v : Values) (body : Actions) → body_made ws v (opened body) ≡ body_made ws v body
-opened_made ws v Done = refl
-opened_made ws v (Then (Set target e delayed spot) others) = refl
-opened_made ws v (Then (If test taken other spot) others) = refl
-opened_made ws v (Then (Case kind full parallel selector branches fallback spot) others) = refl
-opened_made ws v (Then (Block body) Done) = opened_made ws v body ∙ sym (append-nil (body_made ws v body))
-opened_made ws v (Then (Block body) (Then one others)) = refl
 
 -- ---- a reset
 

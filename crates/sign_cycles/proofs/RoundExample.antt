@@ -1,5 +1,5 @@
 -- `always @* y = a;` of one bit, where y is an output: a design that meets the conditions, and is brought up by one round.
-use Rattle.std.proofs.Common.{◌≡◌, ◌≢◌, ◌<◌, ◌==◌, ◌&&◌, ◌||◌, ℕ, zero, suc, Bool, true, false, if◌then◌else◌, List, [], ◌∷◌, Option, None, Some, IsSome, refl, subst, inl, inr, arith}
+use Rattle.std.proofs.Common.{◌≡◌, ◌≢◌, ◌∙◌, ◌<◌, ◌==◌, ◌&&◌, ◌||◌, ℕ, zero, suc, Bool, true, false, if◌then◌else◌, List, [], ◌∷◌, Option, None, Some, IsSome, refl, ap, subst, inl, inr, arith}
 use Rattle.std.specs.Prelude.{◌⊎◌, IsTrue}
 use Rattle.std.proofs.lemmas.Bool.{eqb-true, false≢true}
 use Rattle.std.proofs.lemmas.List.Elements.{All-cons, All-nil}
@@ -15,7 +15,7 @@ use Rattle.rtl_flat.specs.Flows.{body_flow}
 use Rattle.rtl_flat.specs.Levels.{IsArrow}
 use Rattle.rtl_flat.specs.Paths.{Flow, MayWrite, ReadsOutside}
 use Rattle.rtl_flat.specs.PathSets.{OfProcess}
-use Rattle.rtl_flat.specs.Process.{Actions, Assign, Comb, Done, Edge', Piece, Set, Task, Then, Watched, Whole}
+use Rattle.rtl_flat.specs.Process.{Actions, Assign, Comb, Done, Edge', If, Piece, Set, Task, Then, Watched, Whole, Without}
 use Rattle.rtl_flat.specs.Signs.{Has}
 use Rattle.rtl_flat.specs.WellFormed.{IsAssignment, IsProcess, IsSelection}
 use Rattle.rtl_flat.proofs.Paths.{decided}
@@ -25,12 +25,13 @@ use Rattle.net_rest.specs.event_laws.Steady.{AreLawful}
 use Rattle.net_rest.proofs.event_laws_proofs.Steady.{lawful_processes}
 use Rattle.net_rest.proofs.event_laws_proofs.Within.{may_read_outside}
 use Rattle.net_model.specs.declared.fill.Fill.TheVariants as fill
+use Rattle.net_model.specs.Cycle.{opened}
 use Rattle.net_model.specs.Solution.{IsLasting, IsRegisterBit}
 use Rattle.net_rest.specs.event_runs.Plain.{IsPlain}
 use Rattle.net_rest.specs.net_laws.Tame.{HasFirmIndex}
 use Rattle.net_rest.specs.Rest.{IsComputed, IsComputing, IsSolvable, numbers_of}
 use Rattle.sign_cycles.specs.PowerUp.{CanAllWake, CanWake, IsBroughtUp, after_rounds, given_by}
-use Rattle.sign_cycles.specs.Round.{IsSettled, Round}
+use Rattle.sign_cycles.specs.Round.{HasNoLatch, IsSettled, Round}
 use Rattle.sign_cycles.proofs.Up.{brings_up}
 
 spot : Spot
@@ -117,7 +118,7 @@ body_computes =
       plain = plain;
       tame = ((All-cons (λ (one : Piece). HasFirmIndex design one.selection) y [] tt (All-nil (λ (one : Piece). HasFirmIndex design one.selection)), tt), tt);
       exclusive = (tt, tt);
-      sure = λ i k may lasts. (decided flow i k).sure.0 ((decided flow i k).writes.1 may);
+      computes = inl (λ i k may lasts. (decided flow i k).sure.0 ((decided flow i k).writes.1 may));
     }
 
 computes : (p : ℕ) (list : Option (List Watched)) (other : Actions) → doing_at design p ≡ Some (Comb list other) → IsComputing design p list other
@@ -126,6 +127,15 @@ computes zero list other here =
     let bodies : body ≡ other = cc in
     subst (λ l. IsComputing design 0 l other) lists (subst (IsComputing design 0 None) bodies body_computes)
 computes (suc p) list other here = absurd (let none : None ≡ Some (Comb list other) = here in cc)
+
+-- it isn't one of `if` alone, so it is no latch
+no_latch : HasNoLatch design
+no_latch zero gate admitted =
+    let latch = admitted.latch in
+    let bodies : body ≡ latch.body = let same : Some (Comb None body) ≡ Some (Comb latch.list latch.body) = latch.does in cc in
+    let whole : opened body ≡ Then (If latch.test latch.branch Without latch.spot) Done = ap opened bodies ∙ latch.whole in
+    cc
+no_latch (suc p) gate admitted = absurd (let none : None ≡ Some (Comb admitted.latch.list admitted.latch.body) = admitted.latch.does in cc)
 
 no_assign : (p : ℕ) (target : List Piece) (e : Tree) → doing_at design p ≡ Some (Assign target e) → ⊥
 no_assign zero target e here = cc
@@ -165,6 +175,7 @@ solvable =
       firm = λ p target e here. absurd (no_assign p target e here);
       sole = λ p target e here. absurd (no_assign p target e here);
       computing = computes;
+      gated = λ p list other here gate admitted. absurd (no_latch p gate admitted);
     }
 
 -- ---- one round brings it up
@@ -209,6 +220,7 @@ brought_up =
       rest = rests;
       inputs = given;
       registers = λ i k register. absurd (no_clock register.process register.events register.body register.does);
+      latches = λ i k held. absurd (no_latch held.latch.process held.latch.gate held.latch.admitted);
     }
 
 settled : IsSettled design fill.Zero last (numbers_of design fill.Zero last.value)

@@ -8,6 +8,7 @@ use Rattle.std.proofs.lemmas.List.{ext_get_or}
 use Rattle.std.proofs.lemmas.List.Elements.{All-nil}
 use Rattle.rtl_bits.specs.declared.Bit.{Bit}
 use Rattle.rtl_bits.specs.declared.Bit.TheVariants.{X}
+use Rattle.rtl_bits.specs.Bits.{same_bit}
 use Rattle.rtl_flat.specs.Flows.{body_flow, flow_of}
 use Rattle.rtl_flat.specs.Paths.{ReadsOutside, may_write}
 use Rattle.rtl_flat.specs.Process.{Actions, Assign, Comb, Doing, Watched}
@@ -32,9 +33,9 @@ use Rattle.net_rest.proofs.event_runs_proofs.Still.{still_after}
 use Rattle.event_edges.specs.Moves.{CanMove, Give, Move, Take, gifts, move_all}
 use Rattle.event_edges.proofs.Moves.{set_wide}
 use Rattle.net_rest.specs.Rest.{IsIdle, IsSolvable}
-use Rattle.net_rest.proofs.Computing.{after_same, others_stay, takes_path, value_same}
+use Rattle.net_rest.proofs.Computing.{after_same, closed_stays, others_stay, takes_path, value_same}
 use Rattle.net_rest.proofs.Levels.{assign_reads, read_lasts}
-use Rattle.net_rest.proofs.Rest.{net_lasts, solution_rests}
+use Rattle.net_rest.proofs.Rest.{gate_has, live_by, net_lasts, solution_rests}
 use Rattle.sign_cycles.specs.Round.{AreSettings, IsArrived, IsRound, IsSettled, Round, after_round}
 
 -- an input is no temporary
@@ -146,7 +147,7 @@ module _ (d : Flat) (level : ℕ → ℕ) (solvable : IsSolvable d level) where
         }
 
     idle : IsIdle d n n
-    idle = solution_rests d level solvable f n n n settled.solution.numbers settled.solution
+    idle = solution_rests d level solvable f n n n settled.solution.numbers settled.solution (λ i k is. refl)
 
     outside : (p : ℕ) (does : Doing) → doing_at d p ≡ Some does → (j l : ℕ) → ReadsOutside (flow_of (widths d) does) j l → Same n s.value j l
     outside p does here j l reads' = sym (settled.shows j l (read_lasts d p does here j l reads'))
@@ -155,12 +156,20 @@ module _ (d : Flat) (level : ℕ → ℕ) (solvable : IsSolvable d level) where
     settled_still : AreStill d (λ p. true) s
     settled_still p list body here plain waits ran follows i k lasts =
         let numbers = settled.solution.numbers in
+        let finds = outside p (Comb list body) here in
         elim (cases_Bool (may_write (body_flow (widths d) body) i k)) [
           | inl may ↦
-              sym (after_same d level solvable p list body here n s.value numbers settled.wide (outside p (Comb list body) here) i k
-              ((decided (body_flow (widths d) body) i k).writes.0 may) lasts)
-              ∙ idle.consistent p list body here (takes_path d level solvable p list body here n n numbers numbers.wide (λ j l reads'. refl)) i k lasts
-              ∙ sym (settled.shows i k lasts)
+              elim (live_by d level solvable p list body here n n (gate_has d level solvable n n idle body)) [
+                | inl closed ↦
+                    let gated = solvable.gated p list body here closed.0 closed.1 in
+                    closed_stays d level solvable p list body here closed.0 gated s.value settled.wide
+                    (ap (λ b. same_bit b closed.0.opens) (sym (finds closed.0.signal 0 gated.outside) ∙ gate_has d level solvable n n idle body closed.0 gated) ∙ closed.2) i k
+                | inr live ↦
+                    sym (after_same d level solvable p list body here n s.value numbers settled.wide finds live i k
+                    ((decided (body_flow (widths d) body) i k).writes.0 may) lasts)
+                    ∙ idle.consistent p list body here (takes_path d level solvable p list body here n n numbers numbers.wide (λ j l reads'. refl)) i k lasts
+                    ∙ sym (settled.shows i k lasts)
+              ]
           | inr cannot ↦ others_stay d level solvable p list body here s.value settled.wide i k cannot
         ]
 

@@ -1,8 +1,8 @@
 -- Where no clock fires, inputs may be set at any moments of one run: registers have their resets' constants, or what they had.
-use Rattle.std.proofs.Common.{◌≡◌, ◌∙◌, ◌++◌, ◌<◌, ◌⊎◌, ℕ, zero, suc, Bool, true, false, cond, List, [], ◌∷◌, length, get_or, map, Option, None, Some, refl, sym, ap, subst, inl, inr, arith}
+use Rattle.std.proofs.Common.{◌≡◌, ◌≢◌, ◌∙◌, ◌++◌, ◌<◌, ℕ, zero, suc, true, false, List, [], ◌∷◌, length, get_or, map, Option, None, Some, refl, sym, ap, subst, inl, inr, arith}
 use Rattle.std.specs.Prelude.{IsTrue}
 use Rattle.std.specs.List.{All, slice_get}
-use Rattle.std.proofs.lemmas.Bool.{cases_Bool, cond-false, cond-true, false≢true, true≢false}
+use Rattle.std.proofs.lemmas.Bool.{cases_Bool, cond-false, cond-true}
 use Rattle.std.proofs.lemmas.List.Elements.{All-cons, All-head, All-nil, All-tail}
 use Rattle.std.proofs.lemmas.List.Sorted.{All-permutation, IsPermutation-sym}
 use Rattle.rtl_bits.specs.declared.Bit.{Bit}
@@ -12,7 +12,7 @@ use Rattle.rtl_bits.specs.Bits.{has_unknown, same_bit}
 use Rattle.rtl_flat.specs.Flows.{body_flow}
 use Rattle.rtl_flat.specs.Paths.{MayWrite}
 use Rattle.rtl_flat.specs.Process.{Watched, Actions, Edge'}
-use Rattle.event_model.specs.Queue.{State, Event, IsAtRest, IsThere, after, doing_at, happens, is_input, offer, run}
+use Rattle.event_model.specs.Queue.{State, after, doing_at, happens, is_input, offer}
 use Rattle.rtl_flat.specs.Flats.{Flat, widths}
 use Rattle.event_model.specs.Writes.{Values}
 use Rattle.event_edges.proofs.event_laws_proofs.Unheard.{same_bits}
@@ -21,7 +21,8 @@ use Rattle.net_model.specs.Block.{block_bit}
 use Rattle.net_model.specs.Control.{IsClockOrReset, IsReached}
 use Rattle.net_model.specs.Cycle.{Chain, Guard, Setting, clocked_bit, given_after, is_active, item_bit, level, register_bit, reset_bit, strongest}
 use Rattle.net_model.specs.Numbers.{AreNumbers, bit}
-use Rattle.net_model.specs.Solution.{IsLasting, IsRegisterBit}
+use Rattle.net_model.specs.Solution.{IsLasting}
+use Rattle.net_model.proofs.Gates.{gate_is_input}
 use Rattle.event_edges.specs.event_runs.Nets.{AreDriven, AreWide, given_with}
 use Rattle.event_edges.specs.event_runs.Writers.{IsOrderly}
 use Rattle.event_edges.proofs.event_runs_proofs.Laws.{driven_resolved, orderly_after, orderly_offer}
@@ -35,23 +36,28 @@ use Rattle.event_edges.proofs.Due.{due_rest}
 use Rattle.event_edges.proofs.Laws.{resets_set, set_at_rest}
 use Rattle.event_edges.proofs.Levels.{unfired_due}
 use Rattle.event_edges.proofs.Ports.{follows, one_bit}
-use Rattle.net_rest.specs.Rest.{AreGiven, numbers_of}
+use Rattle.event_gates.specs.Fixed.{CanMoveApart}
+use Rattle.event_gates.proofs.Fixed.{all_back, all_front}
+use Rattle.net_rest.specs.Rest.{AreGiven, IsHeldBit, numbers_of}
 use Rattle.net_rest.proofs.net_laws_proofs.Known.{known_at}
 use Rattle.net_rest.proofs.net_laws_proofs.Laws.{block_known}
 use Rattle.net_rest.proofs.Numbers.{are_numbers, has_source, number_same}
-use Rattle.net_rest.proofs.Rest.{register_inside}
+use Rattle.net_rest.proofs.Rest.{latch_inside, register_inside}
 use Rattle.sign_cycles.specs.Agree.{AreReset, IsSettledKnown}
 use Rattle.sign_cycles.specs.Beside.{offers}
 use Rattle.sign_cycles.specs.BringUp.{SetsInput}
 use Rattle.sign_cycles.specs.Formed.{IsCleanClocked}
 use Rattle.sign_cycles.specs.Round.{IsArrived, IsFollowed, IsSettled}
-use Rattle.sign_cycles.specs.Unfired.{CanCome, IsCycleAtOnce, IsFollowedAtOnce, IsNextMoved, IsUnfiredStep, UnfiredFollows}
+use Rattle.sign_cycles.specs.Unfired.{CanCome, IsCycleAtOnce, IsFollowedAtOnce, IsNextMoved, IsUnfiredStep, UnfiredAgree}
 use Rattle.sign_cycles.proofs.Alone.{reached_number}
 use Rattle.sign_cycles.proofs.BringUp.{all_settings, only_one}
 use Rattle.sign_cycles.proofs.Chains.{no_edge_away}
 use Rattle.sign_cycles.proofs.DataSteps.{given_pairs, pairs, settled_round}
-use Rattle.sign_cycles.proofs.Edges.{clock_bit, item_lasts, of_clock, of_items, settled_known, strongest_constant}
+use Rattle.sign_cycles.proofs.Edges.{clock_bit, item_lasts, of_clock, settled_known, strongest_constant}
 use Rattle.sign_cycles.proofs.Followed as followed
+use Rattle.sign_cycles.proofs.Held.{gates_left, given_left, held_moves, latch_gate, leaves_pairs, still_closed}
+use Rattle.sign_cycles.proofs.InTurn.{at_once_alone, in_turn_at_once}
+use Rattle.sign_cycles.proofs.Lists.{shows_all}
 use Rattle.sign_cycles.proofs.Resets as reset
 use Rattle.sign_cycles.proofs.Settled.{IsUnderWay, arrives, given_append, input_lasts, settled_way, way_after, way_offer}
 
@@ -352,18 +358,43 @@ module _ (d : Flat) (chains : ℕ → Chain) (level_of : ℕ → ℕ) (clean : I
 
   -- ---- the numbers that follow
 
+  -- no gate is set
+  apart : (g : ℕ) (u : State) (moves : List Move) → CanMoveTo d to u moves → All (λ (one : ℕ × List Bit). one.0 ≢ g) (gifts moves) → CanMoveApart d g u moves
+  apart g u [] can' left = tt
+  apart g u (Take event ∷ moves) can' left = (can'.0, apart g (after d u event) moves can'.1 left)
+  apart g u (Give given' ∷ moves) can' left = (
+    (wide_gifts d to given' can'.0, all_front (λ one. one.0 ≢ g) given' (gifts moves) left),
+    apart g (offer u given') moves can'.1 (all_back (λ one. one.0 ≢ g) given' (gifts moves) left),
+  )
+
+  -- so closed latches hold
+  latch_holds : (i k : ℕ) → IsHeldBit d t.value i k → bit t.value i k ≡ bit n i k
+  latch_holds i k is =
+      let g = is.latch.gate.input in
+      let gate = latch_gate d i k is.latch in
+      let left = gates_left d all step.ungated g gate in
+      let same : t.value g ≡ n g = arrived.inputs g (gate_is_input d g gate) ∙ given_left n g all left in
+      ap (λ (u : State). bit u.value i k) (sym next.leads)
+      ∙ held_moves d chains level_of clean i k is.latch f s n settled (still_closed d t.value n i k is same) [] (tt, All-nil (λ (one : ℕ × List Bit). one.0 ≢ g))
+      next.moves (apart g s next.moves can (subst (λ (gifts' : List (ℕ × List Bit)). All (λ (one : ℕ × List Bit). one.0 ≢ g) gifts') (sym next.gives) (leaves_pairs g all left)))
+      ∙ settled.shows i k is.latch.lasting
+
   given_are : AreGiven d t.value
   given_are =
       record {
         inputs = λ i input. ap has_unknown (arrived.inputs i input) ∙ inputs_known i;
         registers = λ i k register.
             bit_known register.process register.events register.body register.does i k register.may register.lasting (register_inside d level_of clean.solvable i k register);
+        latches = λ i k is.
+            let size = known.solution.numbers.wide i in
+            let inside = latch_inside d level_of clean.solvable i k is.latch in
+            ap is_unknown (latch_holds i k is) ∙ known_at (n i) k (known.solution.numbers.known i) (omega (arith, size, inside));
       }
 
   all_followed : IsFollowed d f n t.value t new
   all_followed =
       followed.followed d level_of clean.solvable f inputs t.value t arrived given_are (λ i input. sym (arrived.inputs i input))
-      (λ i k register. refl) n known.solution.numbers
+      (λ i k register. refl) (λ i k is. refl) n known.solution.numbers (λ i k is. sym (latch_holds i k is))
 
   cycle : IsCycleAtOnce d chains f n all new
   cycle =
@@ -389,10 +420,20 @@ module _ (d : Flat) (chains : ℕ → Chain) (level_of : ℕ → ℕ) (clean : I
       ∙ ap (λ (o : Option Guard). reset_bit (widths d) f n o (clocked_bit (widths d) f n new (chains p).clock (chains p).part i k) i k) found
       ∙ strongest_constant d chains level_of clean p events body is f new n new known.solution.numbers numbers guard found i k may lasts
 
+  after_step : IsSettledKnown d chains f t new
+  after_step = settled_known d chains f t new all_followed.settled resets_hold
+
   pub at_once : IsFollowedAtOnce d chains f n all t
   at_once =
-      record { next = new; follows = cycle; settled = settled_known d chains f t new all_followed.settled resets_hold }
+      record {
+        next = new;
+        follows = cycle;
+        alone = λ other. at_once_alone d chains level_of clean f n known.solution known.resets all step new other cycle;
+        in_turn = in_turn_at_once d chains level_of clean f n known.solution known.resets all step new cycle;
+        settled = after_step;
+        shows = shows_all d chains f t new after_step;
+      }
 
-pub unfired_follows : (d : Flat) (chains : ℕ → Chain) (level_of : ℕ → ℕ) → IsCleanClocked d chains level_of → (f : Fill) → UnfiredFollows d chains f
-unfired_follows d chains level_of clean f s n known all step t next =
-    at_once d chains level_of clean f s n known all step t next
+pub unfired_agrees : (d : Flat) (chains : ℕ → Chain) (level_of : ℕ → ℕ) → IsCleanClocked d chains level_of → (f : Fill) → UnfiredAgree d chains f
+unfired_agrees d chains level_of clean f =
+    record { agrees = λ s n known all step t next. at_once d chains level_of clean f s n known all step t next }

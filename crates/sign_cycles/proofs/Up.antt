@@ -11,16 +11,19 @@ use Rattle.rtl_bits.specs.Bits.{has_unknown}
 use Rattle.rtl_flat.specs.declared.signal.Kind.{Kind}
 use Rattle.rtl_flat.specs.declared.signal.Kind.TheVariants.{TopInput, Net, Var}
 use Rattle.rtl_flat.specs.declared.signal.Signal.{Signal}
-use Rattle.rtl_flat.specs.Flows.{flow_of}
+use Rattle.rtl_flat.specs.Expression.{Tree}
+use Rattle.rtl_flat.specs.Flows.{flow_of, may_target}
 use Rattle.rtl_flat.specs.Levels.{HasNoEdge}
 use Rattle.rtl_flat.specs.Paths.{MayWrite, ReadsOutside}
 use Rattle.rtl_flat.specs.PathSets.{listed}
-use Rattle.rtl_flat.specs.Process.{Actions, Assign, Comb, Doing, Edge', Watched}
+use Rattle.rtl_flat.specs.Process.{Actions, Assign, Comb, Doing, Edge', Piece, Watched}
 use Rattle.rtl_flat.specs.Signs.{width_in}
+use Rattle.rtl_flat.specs.Value.{value}
 use Rattle.event_model.specs.Queue.{State, IsAtRest, doing_at, first_bit, first_bits, is_input, offer, power_up}
 use Rattle.rtl_flat.specs.Flats.{Flat, widths}
 use Rattle.event_model.specs.Writes.{Values, driven}
 use Rattle.net_model.specs.declared.fill.Fill.{Fill}
+use Rattle.net_model.specs.Gates.{Gate}
 use Rattle.net_model.specs.Numbers.{bit}
 use Rattle.net_model.specs.Solution.{IsLasting, IsRegisterBit}
 use Rattle.net_rest.specs.event_runs.Nets.{AreOffered, AreResolved, given_with}
@@ -31,13 +34,13 @@ use Rattle.net_rest.proofs.event_runs_proofs.Late.{orderly_power_up, orderly_run
 use Rattle.net_rest.proofs.event_runs_proofs.Nets.{driven_from, driver_value, resolved_power_up, resolved_run}
 use Rattle.net_rest.proofs.event_runs_proofs.Still.{still_run, unheard_run}
 use Rattle.net_rest.proofs.net_laws_proofs.Known.{KnownBit, known_at}
-use Rattle.net_rest.specs.Rest.{AreGiven, IsFromOutside, IsSolvable, numbers_of}
+use Rattle.net_rest.specs.Rest.{AreGiven, IsFromOutside, IsGated, IsHeldBit, IsSolvable, numbers_of}
+use Rattle.net_rest.proofs.Latches.{carried}
 use Rattle.net_rest.proofs.Levels.{by_level_listed, listed_lasts}
-use Rattle.net_rest.proofs.Numbers.{are_numbers}
-use Rattle.net_rest.proofs.Rest.{assign_known, computed_known, its_target}
+use Rattle.net_rest.proofs.Rest.{assign_known, computed_known, held_as, held_bit, its_target, live_by}
 use Rattle.sign_cycles.specs.PowerUp.{AreRounds, CanAllWake, IsBroughtUp, after_rounds, given_by}
 use Rattle.sign_cycles.specs.Round.{IsRound, IsSettled, Round, after_round}
-use Rattle.sign_cycles.proofs.Followed.{followed}
+use Rattle.sign_cycles.proofs.Followed.{settled}
 use Rattle.sign_cycles.proofs.Settled.{are_wide, arrived, input_lasts}
 
 -- ---- the first values
@@ -109,7 +112,7 @@ module _ (d : Flat) (level : ℕ → ℕ) (solvable : IsSolvable d level) where
 
   -- ---- where they come to rest
 
-  module _ (wakes : CanAllWake d) (ran : ℕ → Bool) (given : Values) (t : State) (going : IsGoing d ran given t) (rest : IsAtRest d t) (inputs : (i : ℕ) → IsTrue (is_input d i) → has_unknown (given i) ≡ false) (registers : (i k : ℕ) → IsRegisterBit d i k → is_unknown (bit t.value i k) ≡ false) where
+  module _ (wakes : CanAllWake d) (ran : ℕ → Bool) (given : Values) (t : State) (going : IsGoing d ran given t) (rest : IsAtRest d t) (inputs : (i : ℕ) → IsTrue (is_input d i) → has_unknown (given i) ≡ false) (registers : (i k : ℕ) → IsRegisterBit d i k → is_unknown (bit t.value i k) ≡ false) (latches : (i k : ℕ) → IsHeldBit d given i k → is_unknown (bit t.value i k) ≡ false) where
     input_is : (i : ℕ) → IsTrue (is_input d i) → t.value i ≡ given i
     input_is i is = ap (λ o. unwrap_or o (t.value i)) (sym (rest.no_active.inputs i is)) ∙ going.offered.comes i is
 
@@ -117,6 +120,19 @@ module _ (d : Flat) (level : ℕ → ℕ) (solvable : IsSolvable d level) where
     input_known i k is inside =
         let size = going.orderly.steady.widths i in
         known_at (t.value i) k (ap has_unknown (input_is i is) ∙ inputs i is) (omega (arith, size, inside))
+
+    net_has :
+        (p : ℕ) (target : List Piece) (e : Tree) → doing_at d p ≡ Some (Assign target e) → (i k : ℕ) → may_target (widths d) target i k ≡ true →
+        bit t.value i k ≡ bit (driven (widths d) target (value t.value e)) i k
+    net_has p target e here i k is =
+        driven_from d solvable.lawful t going.resolved p target e here i k is (solvable.sole p target e here i k is)
+        ∙ ap (λ bits. bit (driven (widths d) target bits) i k) (driver_value d t going.orderly.steady rest p target e here)
+
+    -- gates have the bits of their inputs
+    gate_is : (body : Actions) (gate : Gate) → IsGated d body gate → bit t.value gate.signal 0 ≡ bit given gate.input 0
+    gate_is body gate gated =
+        carried d t.value going.orderly.steady.widths net_has gate.input gate.signal gated.behind
+        ∙ ap (λ bits. get_or bits 0 X) (input_is gate.input gated.input)
 
     -- a block that lists a known bit has run
     has_run :
@@ -138,13 +154,16 @@ module _ (d : Flat) (level : ℕ → ℕ) (solvable : IsSolvable d level) where
     known_step p (Assign target e) here node before lists i k may lasts =
         let is = its_target d level solvable p target e here i k may in
         assign_known d level solvable t.value going.orderly.steady.widths p target e here before i k is
-        (driven_from d solvable.lawful t going.resolved p target e here i k is (solvable.sole p target e here i k is)
-        ∙ ap (λ bits. bit (driven (widths d) target bits) i k) (driver_value d t going.orderly.steady rest p target e here))
+        (net_has p target e here i k is)
     known_step p (Comb list body) here node before lists i k may lasts =
         let wake = wakes p list body here in
         let yet = has_run p list body here wake.signal wake.place wake.inside wake.listed (lists wake.signal wake.place wake.inside wake.listed wake.source) in
-        computed_known d level solvable t.value going.orderly.steady.widths p list body here before
-        (going.still p list body here (solvable.computing p list body here).plain (rest.no_active.processes p (ap is_some here)) yet) i k may lasts
+        elim (live_by d level solvable p list body here given t.value (gate_is body)) [
+          | inl closed ↦ latches i k (held_bit d level solvable p list body here given closed i k may lasts)
+          | inr live ↦
+              computed_known d level solvable t.value going.orderly.steady.widths p list body here before
+              (going.still p list body here (solvable.computing p list body here).plain (rest.no_active.processes p (ap is_some here)) yet) live i k may lasts
+        ]
 
     all_known : (i k : ℕ) → k < widths d i → IsLasting d i → KnownBit (bit t.value i k)
     all_known = by_level_listed d level solvable (λ i k. KnownBit (bit t.value i k)) input_known registers known_step
@@ -161,17 +180,20 @@ module _ (d : Flat) (level : ℕ → ℕ) (solvable : IsSolvable d level) where
 
     are_given : AreGiven d t.value
     are_given =
-        record { inputs = λ i is. ap has_unknown (input_is i is) ∙ inputs i is; registers = registers }
+        record {
+          inputs = λ i is. ap has_unknown (input_is i is) ∙ inputs i is;
+          registers = registers;
+          latches = λ i k is. latches i k (held_as d level solvable t.value given input_is i k is);
+        }
 
     up_settled : (f : Fill) → IsSettled d f t (numbers_of d f t.value)
     up_settled f =
         let there = arrived d level solvable given ran t going.orderly going.resolved going.offered going.still rest all_ran in
-        (followed d level solvable f given t.value t there are_given (λ i is. sym (input_is i is)) (λ i k is. refl) (numbers_of d f t.value)
-        (are_numbers d f t.value)).settled
+        settled d level solvable f given t.value t there are_given (λ i is. sym (input_is i is)) (λ i k is. refl) (λ i k is. refl)
 
   pub brings_up :
       CanAllWake d → (f : Fill) (rounds : List Round) → IsBroughtUp d rounds →
       IsSettled d f (after_rounds d (power_up d) rounds) (numbers_of d f (after_rounds d (power_up d) rounds).value)
   brings_up wakes f rounds is =
       up_settled wakes (ran_rounds (λ p. false) rounds) (given_by (first d) rounds) (after_rounds d (power_up d) rounds)
-      (going_rounds (λ p. false) (first d) (power_up d) rounds is.can going_up) is.rest is.inputs is.registers f
+      (going_rounds (λ p. false) (first d) (power_up d) rounds is.can going_up) is.rest is.inputs is.registers is.latches f

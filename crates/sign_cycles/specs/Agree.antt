@@ -1,6 +1,6 @@
--- Agreement: after each step of a clock, of a reset or of data, every run of the event queue that comes to rest shows the
--- synthesised numbers on outputs, and on all else that is no temporary.
--- Worked examples: proofs/Register.antt, crates/sign_off/proofs/Example.antt.
+-- Agreement: after each step of a clock, of a reset, of a latch's gate or of data, every run of the event queue that comes to
+-- rest shows the synthesised numbers on outputs, and on all else that is no temporary.
+-- Worked examples: proofs/Register.antt, proofs/LatchExample.antt, crates/sign_off/proofs/Example.antt.
 use Rattle.std.specs.Prelude.{◌≡◌, ◌⊎◌, ℕ, ◌<◌, true, false, List, [], ◌∷◌, length, map, Some}
 use Rattle.rtl_bits.specs.Bit.{is_unknown}
 use Rattle.rtl_flat.specs.Expression.{Tree}
@@ -93,8 +93,8 @@ AreSameLists d (n ∷ numbers) (m ∷ others) = AreSame d n m × AreSameLists d 
 abbrev pub IsOutput : Flat → ℕ → Type 0
 IsOutput d i = Has (λ signal. signal.top_output ≡ true) d.signals i
 
--- a state shows numbers: each bit of each output does, and of each signal that is no temporary, registers and nets among
--- them
+-- a state shows numbers: each bit of each output does, and of each signal that is no temporary, registers, latches and
+-- nets among them
 abbrev pub ShowsAll : Flat → State → Values → Type 0
 ShowsAll d s n = (i k : ℕ) → k < widths d i → IsOutput d i ⊎ IsLasting d i → Shows s n i k
 

@@ -1,14 +1,15 @@
--- Steps as a test bench takes them: besides those of one clock or reset and those of data alone, such as turn a clock or a reset
+-- Steps as a test bench takes them: besides those of one control input and those of data alone, such as turn a clock or a reset
 -- and give data by nonblocking assignments (IEEE 1364-2001 sections 5.3 and 5.4). The state shows the numbers that follow by
 -- the turn, and then by the data: registers take what inputs were before.
 -- Worked examples: proofs/BesideExample.antt.
-use Rattle.std.specs.Prelude.{◌≡◌, ℕ, List, [], ◌∷◌, map}
+use Rattle.std.specs.Prelude.{◌≡◌, ℕ, List, [], ◌∷◌, map, ⊤}
 use Rattle.std.specs.List.{All}
 use Rattle.rtl_bits.specs.declared.Bit.{Bit}
 use Rattle.event_model.specs.Queue.{State, IsAtRest}
 use Rattle.rtl_flat.specs.Flats.{Flat}
 use Rattle.event_model.specs.Writes.{Values}
 use Rattle.net_model.specs.declared.fill.Fill.{Fill}
+use Rattle.net_model.specs.Control.{IsClockOrReset}
 use Rattle.net_model.specs.Cycle.{Chain, Data, IsCycle, Setting, Step, Turn, settings}
 use Rattle.net_model.specs.Lawful.{AreLawfulSteps, SetsData, TurnsControl}
 use Rattle.event_edges.specs.Moves.{IsBeside, gifts}
@@ -18,7 +19,8 @@ use Rattle.sign_cycles.specs.Laws.{IsFollowed}
 
 -- ---- steps
 
--- a step of a bench: one of a clock, of a reset or of data alone, or a turn of a clock or a reset with data given beside it
+-- a step of a bench: one of a clock, of a reset, of a gate or of data alone, or a turn of a clock or a reset with data given
+-- beside it
 pub data BenchStep : Type 0 where
   Plain : (step : Step) → BenchStep
   Beside : (turn : Setting) (given : List Setting) → BenchStep
@@ -28,6 +30,11 @@ abbrev pub in_turn : List BenchStep → List Step
 in_turn [] = []
 in_turn (Plain step ∷ steps) = step ∷ in_turn steps
 in_turn (Beside turn given ∷ steps) = Turn turn ∷ Data given ∷ in_turn steps
+
+-- what turns beside data is a clock or a reset
+abbrev pub TurnsClock : Flat → BenchStep → Type 0
+TurnsClock d (Plain step) = ⊤
+TurnsClock d (Beside turn given) = IsClockOrReset d turn.input
 
 -- ---- runs
 
@@ -77,23 +84,23 @@ pub record AreBenchFollowed (d : Flat) (chains : ℕ → Chain) (f : Fill) (n : 
 pub record BenchesAgree (d : Flat) (chains : ℕ → Chain) (f : Fill) : Type 0 where
   pub agrees :
       (s : State) (n : Values) → IsSettledKnown d chains f s n →
-      (steps : List BenchStep) → AreLawfulSteps d n (in_turn steps) →
+      (steps : List BenchStep) → AreLawfulSteps d n (in_turn steps) → All (TurnsClock d) steps →
       (states : List State) → AreBenchRuns d s steps states →
       AreBenchFollowed d chains f n steps states
 
 -- ---- one step
 
--- numbers follow by each turn from a settled state
+-- numbers follow by each turn of a clock or a reset from a settled state
 abbrev pub TurnsLead : Flat → (ℕ → Chain) → Fill → Type 0
 TurnsLead d chains f =
     (s : State) (n : Values) → IsSettledKnown d chains f s n →
-    (turn : Setting) → TurnsControl d n turn → (m : Values) × IsCycle d chains f n (Turn turn) m
+    (turn : Setting) → IsClockOrReset d turn.input → TurnsControl d n turn → (m : Values) × IsCycle d chains f n (Turn turn) m
 
 -- a turn with data beside it leads to states that follow by the data from the numbers after the turn
 abbrev pub BesideFollows : Flat → (ℕ → Chain) → Fill → Type 0
 BesideFollows d chains f =
     (s : State) (n : Values) → IsSettledKnown d chains f s n →
-    (turn : Setting) → TurnsControl d n turn → (given : List Setting) → All (SetsData d) given →
+    (turn : Setting) → IsClockOrReset d turn.input → TurnsControl d n turn → (given : List Setting) → All (SetsData d) given →
     (t : State) → IsNextBeside d s turn given t →
     (m : Values) → IsCycle d chains f n (Turn turn) m → IsFollowed d chains f m (Data given) t
 

@@ -1,5 +1,5 @@
 -- Bring-up: from power-up to the settled states from which agreement begins.
--- Worked examples: proofs/Register.antt, crates/sign_off/proofs/Example.antt.
+-- Worked examples: proofs/Register.antt, proofs/LatchExample.antt, crates/sign_off/proofs/Example.antt.
 use Rattle.std.specs.Prelude.{◌≡◌, ◌≢◌, ℕ, ◌==◌, Bool, List, [], ◌∷◌, Some, IsTrue}
 use Rattle.std.specs.List.{All, list_any}
 use Rattle.rtl_flat.specs.Process.{Watched, Actions, Edge'}
@@ -9,6 +9,7 @@ use Rattle.event_model.specs.Writes.{Values}
 use Rattle.net_model.specs.declared.fill.Fill.{Fill}
 use Rattle.net_model.specs.Control.{IsReached}
 use Rattle.net_model.specs.Cycle.{Chain, Guard, Setting, given_after, level}
+use Rattle.net_model.specs.Gates.{Gate, IsAdmitted}
 use Rattle.net_model.specs.Lawful.{IsSetting}
 use Rattle.net_model.specs.Numbers.{bit}
 use Rattle.net_model.specs.Solution.{IsRegisterBit}
@@ -33,8 +34,8 @@ abbrev pub IsAtLevel : Flat → Values → Guard → Type 0
 IsAtLevel d given guard =
     (c : ℕ) → IsTrue (is_input d c) → IsReached d c guard.item.signal → bit given c 0 ≡ level guard.item.edge
 
--- a bring-up: at least one step from power-up on, each of which sets any inputs, clocks and resets among them. At the end
--- every input was set, and each reset is active
+-- a bring-up: at least one step from power-up on, each of which sets any inputs, clocks, resets and gates among them. At the
+-- end every input was set, each reset is active, and each gate of a latch is open
 pub record IsBringUp (d : Flat) (chains : ℕ → Chain) (steps : List (List Setting)) : Type 0 where
   pub some_step : steps ≢ []
   pub settings : All (All (SetsInput d)) steps
@@ -42,6 +43,9 @@ pub record IsBringUp (d : Flat) (chains : ℕ → Chain) (steps : List (List Set
   pub resets :
       (p : ℕ) (events : List Watched) (body : Actions) → doing_at d p ≡ Some (Edge' events body) →
       All (IsAtLevel d (given_by (power_up d).value steps)) (chains p).resets
+  pub gates :
+      (p : ℕ) (gate : Gate) → IsAdmitted d p gate →
+      bit (given_by (power_up d).value steps) gate.input 0 ≡ gate.opens
 
 -- each process that may write a register has an asynchronous reset
 abbrev pub HaveResets : Flat → (ℕ → Chain) → Type 0

@@ -1,7 +1,9 @@
 -- Designs in which each block that waits for edges is a register with a clock and at most one asynchronous reset
 -- (IEEE 1364.1-2002 section 5.2).
-use Rattle.std.specs.Prelude.{◌≡◌, ℕ, ◌≤◌, true, List, length, Some}
+use Rattle.std.specs.Prelude.{◌≡◌, ℕ, ◌≤◌, true, false, List, length, Some}
 use Rattle.std.specs.List.{All}
+use Rattle.rtl_bits.specs.declared.Bit.{Bit}
+use Rattle.rtl_bits.specs.Bits.{same_bit}
 use Rattle.rtl_flat.specs.Flows.{body_flow, reads}
 use Rattle.rtl_flat.specs.Paths.{IsSure, MayWrite, MayWriteNow, ReadsOutside}
 use Rattle.rtl_flat.specs.Process.{Watched, Actions, Edge'}
@@ -9,10 +11,12 @@ use Rattle.event_model.specs.Queue.{doing_at}
 use Rattle.rtl_flat.specs.Flats.{Flat, widths}
 use Rattle.net_model.specs.Control.{InClockCone}
 use Rattle.net_model.specs.Cycle.{Chain, Guard, IsChain}
+use Rattle.net_model.specs.Gates.{Gate, IsAdmitted}
 use Rattle.net_model.specs.Solution.{IsLasting}
 use Rattle.net_rest.specs.net_laws.Tame.{AreSplit, AreTame}
 use Rattle.net_rest.specs.Rest.{IsSolvable}
 use Rattle.event_edges.specs.Synchronous.{IsSynchronous}
+use Rattle.event_gates.specs.Gates.{AreFed, IsShutter}
 
 -- ---- resets
 
@@ -46,6 +50,14 @@ pub record IsFormed (d : Flat) (events : List Watched) (body : Actions) (chain :
   -- no bit is written in both ways (A3), and items that are taken to exclude one another do (C2)
   pub split : AreSplit d body
 
+-- ---- latches
+
+-- a gate alone: what is reached from its input goes on through plain ports, and while it is closed nothing hears it but such
+-- ports, and latches that do nothing
+pub record IsGateAlone (d : Flat) (gate : Gate) : Type 0 where
+  pub fed : AreFed d gate.input
+  pub shutter : (b : Bit) → same_bit b gate.opens ≡ false → IsShutter d gate.input b
+
 -- ---- designs
 
 -- what the rules give of a clean design, where `level` orders its processes without edges
@@ -58,3 +70,5 @@ pub record IsCleanClocked (d : Flat) (chains : ℕ → Chain) (level : ℕ → �
   pub formed :
       (p : ℕ) (events : List Watched) (body : Actions) → doing_at d p ≡ Some (Edge' events body) →
       IsFormed d events body (chains p)
+  -- gates are used as such alone (A4, A8)
+  pub gates : (p : ℕ) (gate : Gate) → IsAdmitted d p gate → IsGateAlone d gate

@@ -9,6 +9,7 @@ use Rattle.event_model.specs.Queue.{doing_at, is_input}
 use Rattle.rtl_flat.specs.Flats.{Flat}
 use Rattle.net_model.specs.Control.{IsReached}
 use Rattle.net_model.specs.Cycle.{Chain, Guard, Setting, level}
+use Rattle.net_model.specs.Gates.{IsGateInput}
 use Rattle.sign_cycles.specs.BringUp.{IsBringUp}
 
 -- an input is the one reset of a process, through the ports of instances, and active at a level
@@ -28,6 +29,10 @@ pub record ResetsApart (d : Flat) (chains : ℕ → Chain) : Type 0 where
   pub is : IsTrue (is_input d input)
   pub up : IsResetAt d chains input One
   pub down : IsResetAt d chains input Zero
+
+-- it is decided which inputs are gates of latches
+abbrev pub AreGatesDecided : Flat → Type 0
+AreGatesDecided d = (c : ℕ) → IsGateInput d c ⊎ (IsGateInput d c → ⊥)
 
 -- there is a bring-up or there is such an input, and not both
 pub record BringUpsAre (d : Flat) (chains : ℕ → Chain) : Type 0 where

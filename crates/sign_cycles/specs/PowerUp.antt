@@ -10,7 +10,7 @@ use Rattle.event_model.specs.Writes.{Values}
 use Rattle.net_model.specs.Numbers.{bit}
 use Rattle.net_model.specs.Solution.{IsRegisterBit}
 use Rattle.net_rest.specs.event_runs.Nets.{given_with}
-use Rattle.net_rest.specs.Rest.{IsFromOutside}
+use Rattle.net_rest.specs.Rest.{IsFromOutside, IsHeldBit}
 use Rattle.sign_cycles.specs.Round.{IsRound, Round, after_round}
 
 -- a block that others can wake: it lists a bit that changes by an input or by another process
@@ -43,9 +43,12 @@ abbrev pub given_by : Values → List Round → Values
 given_by given [] = given
 given_by given (round ∷ rounds) = given_by (given_with given round.step) rounds
 
--- rounds from power-up that come to rest, with every input set and every register known
+-- rounds from power-up that come to rest, with every input set, and every register and closed latch known
 pub record IsBroughtUp (d : Flat) (rounds : List Round) : Type 0 where
   pub can : AreRounds d (power_up d) rounds
   pub rest : IsAtRest d (after_rounds d (power_up d) rounds)
   pub inputs : (i : ℕ) → IsTrue (is_input d i) → has_unknown (given_by (power_up d).value rounds i) ≡ false
   pub registers : (i k : ℕ) → IsRegisterBit d i k → is_unknown (bit (after_rounds d (power_up d) rounds).value i k) ≡ false
+  pub latches :
+      (i k : ℕ) → IsHeldBit d (given_by (power_up d).value rounds) i k →
+      is_unknown (bit (after_rounds d (power_up d) rounds).value i k) ≡ false

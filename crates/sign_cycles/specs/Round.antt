@@ -12,12 +12,13 @@ use Rattle.event_model.specs.Traces.{FollowsPath}
 use Rattle.event_model.specs.Writes.{Values, driven}
 use Rattle.net_rest.specs.event_laws.Steady.{HaveWidths}
 use Rattle.net_model.specs.declared.fill.Fill.{Fill}
+use Rattle.net_model.specs.Gates.{Gate, IsAdmitted}
 use Rattle.net_model.specs.Numbers.{AreNumbers, bit}
 use Rattle.net_model.specs.Solution.{IsSolution}
 use Rattle.net_rest.specs.event_runs.Nets.{given_with}
 use Rattle.net_rest.specs.event_runs.Plain.{IsConsistent}
 use Rattle.net_rest.specs.event_runs.Writers.{IsOrderly}
-use Rattle.net_rest.specs.Rest.{AreAlike, AreGivenAlike}
+use Rattle.net_rest.specs.Rest.{AreAlike, AreGivenAlike, AreHeld}
 
 -- ---- settled states
 
@@ -54,7 +55,7 @@ pub record IsRound (d : Flat) (s : State) (round : Round) : Type 0 where
   pub settings : AreSettings d round.step
   pub can : CanRun d (offer s round.step) round.events
 
--- a state to which a round came to rest, whatever the registers are: inputs as given, and each process without edges agrees
+-- a state to which a round came to rest, whatever registers and closed latches are: inputs as given, and each process without edges agrees
 -- with the bits that it may write
 pub record IsArrived (d : Flat) (given : Values) (t : State) : Type 0 where
   pub orderly : IsOrderly d t
@@ -76,17 +77,21 @@ pub record IsArrived (d : Flat) (given : Values) (t : State) : Type 0 where
 -- how a state follows numbers: it shows a solution, there is no other, and it is settled
 pub record IsFollowed (d : Flat) (f : Fill) (held given : Values) (t : State) (next : Values) : Type 0 where
   pub solution : IsSolution d f held given next
-  -- any solution that is given alike is alike, whatever its fill and whatever latches had
+  -- any solution that is given alike is alike, whatever its fill and whatever open latches had
   pub alone :
       (g : Fill) (held' given' m : Values) →
-      AreNumbers d held' → AreGivenAlike d given given' → IsSolution d g held' given' m → AreAlike d next m
+      AreNumbers d held' → AreHeld d held' given' → AreGivenAlike d given given' →
+      IsSolution d g held' given' m → AreAlike d next m
   pub shows : AreAlike d t.value next
   pub settled : IsSettled d f t next
 
--- ---- designs without clocks
+-- ---- designs without clocks and latches
 
 abbrev pub HasNoClock : Flat → Type 0
 HasNoClock d = (p : ℕ) (events : List Watched) (body : Actions) → doing_at d p ≡ Some (Edge' events body) → ⊥
+
+abbrev pub HasNoLatch : Flat → Type 0
+HasNoLatch d = (p : ℕ) (gate : Gate) → IsAdmitted d p gate → ⊥
 
 -- after each of a list of rounds that come to rest, the state shows the one solution
 abbrev pub Follows : Flat → Fill → State → Values → List Round → Type 0

@@ -7,7 +7,7 @@ use Rattle.net_model.specs.declared.fill.Fill.{Fill}
 use Rattle.net_model.specs.Numbers.{AreNumbers, bit}
 use Rattle.net_model.specs.Solution.{IsRegisterBit}
 use Rattle.net_rest.specs.event_runs.Nets.{given_with}
-use Rattle.net_rest.specs.Rest.{AreGiven, numbers_of}
+use Rattle.net_rest.specs.Rest.{AreGiven, AreHeld, IsHeldBit, numbers_of}
 use Rattle.sign_cycles.specs.PowerUp.{IsBroughtUp, after_rounds}
 use Rattle.sign_cycles.specs.Round.{Follows, IsArrived, IsFollowed, IsRound, IsSettled, Round, after_round}
 
@@ -18,16 +18,17 @@ Arrive d =
     IsSettled d f s n → IsRound d s round → IsAtRest d (after_round d s round) →
     IsArrived d (given_with n round.step) (after_round d s round)
 
--- a state that has arrived follows what it is given, where that says what registers are
+-- a state that has arrived follows what it is given, where that says what registers and closed latches are
 abbrev pub ArrivedFollow : Flat → Type 0
 ArrivedFollow d =
     (f : Fill) (held inputs given : Values) (t : State) →
-    AreNumbers d held → IsArrived d inputs t → AreGiven d given →
+    AreNumbers d held → AreHeld d held given → IsArrived d inputs t → AreGiven d given →
     ((i : ℕ) → IsTrue (is_input d i) → inputs i ≡ given i) →
     ((i k : ℕ) → IsRegisterBit d i k → bit t.value i k ≡ bit given i k) →
+    ((i k : ℕ) → IsHeldBit d given i k → bit t.value i k ≡ bit given i k) →
     IsFollowed d f held given t (numbers_of d f t.value)
 
--- without clocks every list of rounds follows
+-- without clocks and latches every list of rounds follows
 abbrev pub Agree : Flat → Type 0
 Agree d =
     (f : Fill) (s : State) (n : Values) (rounds : List Round) → IsSettled d f s n → Follows d f s n rounds

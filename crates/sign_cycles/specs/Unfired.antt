@@ -1,6 +1,6 @@
--- Steps in which no clock fires: any inputs are set, each clock and each reset to one value, at any moments of one run. Registers
--- with an active reset have its constant then, and all others what they had (IEEE 1364.1-2002 section 5.2).
--- It serves inner contracts and proofs; no answer of the program is stated by it.
+-- Steps in which no clock fires: any inputs but gates are set, each clock and each reset to one value, at any moments of one run.
+-- Registers with an active reset have its constant then, and all others what they had (IEEE 1364.1-2002 section 5.2).
+-- Worked examples: proofs/UnfiredExample.antt.
 use Rattle.std.specs.Prelude.{◌≡◌, ℕ, false, List, [], ◌∷◌, Some, IsTrue, ⊤}
 use Rattle.std.specs.List.{All}
 use Rattle.rtl_flat.specs.Flows.{body_flow}
@@ -11,11 +11,13 @@ use Rattle.rtl_flat.specs.Flats.{Flat, widths}
 use Rattle.event_model.specs.Writes.{Values}
 use Rattle.net_model.specs.declared.fill.Fill.{Fill}
 use Rattle.net_model.specs.Control.{IsClockOrReset, IsReached}
-use Rattle.net_model.specs.Cycle.{Chain, Setting, given_after, register_bit}
+use Rattle.net_model.specs.Cycle.{Chain, Setting, Step, given_after, register_bit, settings}
+use Rattle.net_model.specs.Gates.{IsGateInput}
+use Rattle.net_model.specs.Lawful.{AreLawfulSteps}
 use Rattle.net_model.specs.Numbers.{bit}
 use Rattle.net_model.specs.Solution.{IsLasting, IsSolution}
 use Rattle.event_edges.specs.Moves.{Give, Move, Take, gifts, move_all}
-use Rattle.sign_cycles.specs.Agree.{IsSettledKnown}
+use Rattle.sign_cycles.specs.Agree.{AreCycles, AreSame, IsSettledKnown, ShowsAll}
 use Rattle.sign_cycles.specs.Beside.{offers}
 use Rattle.sign_cycles.specs.BringUp.{SetsInput}
 
@@ -33,11 +35,13 @@ NoClockFires d chains n all =
     (c : ℕ) → IsClockOrReset d c → IsReached d c (chains p).clock.signal →
     happens (chains p).clock.edge (bit n c 0) (bit (given_after n all) c 0) ≡ false
 
--- inputs are set to known values, and no clock fires
+-- inputs that are no gates are set to known values, and no clock fires
 pub record IsUnfiredStep (d : Flat) (chains : ℕ → Chain) (n : Values) (all : List Setting) : Type 0 where
   pub settings : All (SetsInput d) all
   pub last : AreLast d n all
   pub no_clock : NoClockFires d chains n all
+  -- a latch that closed beside data could take what they are before or after
+  pub ungated : All (λ setting. IsGateInput d setting.input → ⊥) all
 
 -- ---- runs
 
@@ -67,15 +71,43 @@ pub record IsCycleAtOnce (d : Flat) (chains : ℕ → Chain) (f : Fill) (old : V
       bit new i k ≡ register_bit (widths d) f old new (chains p) i k
   pub rest : IsSolution d f old new new
 
--- how a state follows numbers so
+-- ---- one after another
+
+-- a step sets inputs to what they are at the end
+abbrev pub SetsTo : Values → Step → Type 0
+SetsTo end step = All (λ setting. setting.number ≡ end setting.input) (settings step)
+
+-- the last of numbers that follow one another
+abbrev pub last_of : Values → List Values → Values
+last_of n [] = n
+last_of n (next ∷ numbers) = last_of next numbers
+
+-- lawful steps by which inputs come one after another to what several at once set them to, and the numbers that follow by them
+pub record AreInTurn (d : Flat) (chains : ℕ → Chain) (f : Fill) (n : Values) (all : List Setting) (steps : List Step) (numbers : List Values) : Type 0 where
+  pub lawful : AreLawfulSteps d n steps
+  pub to : All (SetsTo (given_after n all)) steps
+  pub follow : AreCycles d chains f n steps numbers
+  pub end : (i : ℕ) → IsTrue (is_input d i) → last_of n numbers i ≡ given_after n all i
+
+-- ---- agreement
+
+-- how a state follows numbers so: it is settled, and shows the numbers that follow
 pub record IsFollowedAtOnce (d : Flat) (chains : ℕ → Chain) (f : Fill) (n : Values) (all : List Setting) (t : State) : Type 0 where
   pub next : Values
   pub follows : IsCycleAtOnce d chains f n all next
+  -- no others follow
+  pub alone : (other : Values) → IsCycleAtOnce d chains f n all other → AreSame d next other
+  -- and one after another, in whatever order, the same settings lead to the same numbers
+  pub in_turn :
+      (steps : List Step) (numbers : List Values) → AreInTurn d chains f n all steps numbers →
+      AreSame d (last_of n numbers) next
   pub settled : IsSettledKnown d chains f t next
+  pub shows : ShowsAll d t next
 
--- each step in which no clock fires leads to such states alone, at whatever moments inputs are set
-abbrev pub UnfiredFollows : Flat → (ℕ → Chain) → Fill → Type 0
-UnfiredFollows d chains f =
-    (s : State) (n : Values) → IsSettledKnown d chains f s n →
-    (all : List Setting) → IsUnfiredStep d chains n all →
-    (t : State) → IsNextMoved d s all t → IsFollowedAtOnce d chains f n all t
+-- each step in which no clock fires leads to such states alone, at whatever moments inputs are set, and whichever events are
+-- taken
+pub record UnfiredAgree (d : Flat) (chains : ℕ → Chain) (f : Fill) : Type 0 where
+  pub agrees :
+      (s : State) (n : Values) → IsSettledKnown d chains f s n →
+      (all : List Setting) → IsUnfiredStep d chains n all →
+      (t : State) → IsNextMoved d s all t → IsFollowedAtOnce d chains f n all t

@@ -9,9 +9,9 @@ ghost use Rattle.sign_cycles.specs.Agree.{Agree};
 ghost use Rattle.sign_cycles.specs.Beside.{BenchesAgreeClean, BesideFollows};
 ghost use Rattle.sign_cycles.specs.Formed.{IsCleanClocked};
 ghost use Rattle.sign_cycles.specs.Known.{KnownSettlesClean};
-ghost use Rattle.sign_cycles.specs.Lacking.{BringUpsAre};
+ghost use Rattle.sign_cycles.specs.Lacking.{AreGatesDecided, BringUpsAre};
 ghost use Rattle.sign_cycles.specs.Laws.{BringsUpClean, DataFollows, DataStaysKnown, KnownForBoth, RegistersAre, SettlesBoth, StepsAreAlone, StepsFollow, TurnsFollow};
-ghost use Rattle.sign_cycles.specs.Unfired.{UnfiredFollows};
+ghost use Rattle.sign_cycles.specs.Unfired.{UnfiredAgree};
 
 /// Where each step from a settled state leads to numbers that follow, and to no others, all lists of steps agree.
 pub fn agree_by_steps()
@@ -20,7 +20,7 @@ pub fn agree_by_steps()
 {}
 
 /// In a clean design each step of data from a settled state leads to states that show numbers which follow, with all
-/// registers as they were.
+/// registers and all closed latches as they were.
 pub fn data_follows()
     ensures { (d : Flat) (chains : ℕ → Chain) (level : ℕ → ℕ) → IsCleanClocked d chains level
         → (f : Fill) → DataFollows d chains f }
@@ -57,7 +57,7 @@ pub fn steps_alone()
 {}
 
 /// Over every list of lawful steps from a settled state, in every order of events, a clean design shows the numbers of its
-/// synthesised meaning on outputs and registers.
+/// synthesised meaning on outputs, registers and latches.
 pub fn agreement()
     ensures { (d : Flat) (chains : ℕ → Chain) (level : ℕ → ℕ) → IsCleanClocked d chains level
         → (f : Fill) → Agree d chains f }
@@ -76,11 +76,11 @@ pub fn benches_agree()
     ensures { (d : Flat) (chains : ℕ → Chain) (level : ℕ → ℕ) → BenchesAgreeClean d chains level }
 {}
 
-/// Where no clock fires, any inputs may be set at any moments of one run, resets among them: registers have the
-/// constants of active resets at the end, or what they had.
-pub fn unfired_follows()
+/// Where no clock fires, any inputs but gates may be set at any moments of one run, resets among them: every run shows the
+/// numbers that the same settings give one after another, in whatever order.
+pub fn unfired_agrees()
     ensures { (d : Flat) (chains : ℕ → Chain) (level : ℕ → ℕ) → IsCleanClocked d chains level
-        → (f : Fill) → UnfiredFollows d chains f }
+        → (f : Fill) → UnfiredAgree d chains f }
 {}
 
 /// A state that is settled for one fill is settled for the other.
@@ -99,13 +99,14 @@ pub fn brings_up()
     ensures { (d : Flat) (chains : ℕ → Chain) (level : ℕ → ℕ) → BringsUpClean d chains level }
 {}
 
-/// Wherever steps from power-up come to rest with every input and every register of a clean design known, the state is
-/// settled.
+/// Wherever steps from power-up come to rest with every input, every register and every latch of a clean design known, the
+/// state is settled.
 pub fn known_settles()
     ensures { (d : Flat) (chains : ℕ → Chain) (level : ℕ → ℕ) → KnownSettlesClean d chains level }
 {}
 
 /// A clean design has a bring-up, or an input resets one process at 1 and another at 0, and not both.
 pub fn bring_ups()
-    ensures { (d : Flat) (chains : ℕ → Chain) (level : ℕ → ℕ) → IsCleanClocked d chains level → BringUpsAre d chains }
+    ensures { (d : Flat) (chains : ℕ → Chain) (level : ℕ → ℕ) → IsCleanClocked d chains level → AreGatesDecided d
+        → BringUpsAre d chains }
 {}

@@ -1,4 +1,4 @@
-use Rattle.sign_cycles.proofs.DataSteps.{data_follows}
+use Rattle.sign_cycles.proofs.GateSteps.{data_follows}
 use Rattle.sign_cycles.proofs.law.data_follows.Goals as goal
 
 pub returns : goal.returns

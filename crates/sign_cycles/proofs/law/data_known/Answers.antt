@@ -1,4 +1,4 @@
-use Rattle.sign_cycles.proofs.Steps.{data_known}
+use Rattle.sign_cycles.proofs.GateSteps.{data_known}
 use Rattle.sign_cycles.proofs.law.data_known.Goals as goal
 
 pub returns : goal.returns
