@@ -8,7 +8,7 @@ use Rattle.net_model.specs.Cycle.{Guard, IsChained, opened}
 use Rattle.rtl_rule.proofs.Lists.{Each}
 
 module _ (signals : List Signal) where
-  opened_lawful : (body : Actions) → IsBody signals body → IsBody signals (opened body)
+  pub opened_lawful : (body : Actions) → IsBody signals body → IsBody signals (opened body)
   opened_lawful Done h = h
   opened_lawful (Then (Set target e delayed spot) others) h = h
   opened_lawful (Then (If test taken other spot) others) h = h

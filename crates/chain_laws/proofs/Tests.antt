@@ -48,7 +48,7 @@ take_none zero = refl
 take_none (suc m) = refl
 
 -- a bit in a wider place
-spread : (m : ℕ) (signed : Bool) (b : Bit) → extended (suc m) signed (b ∷ []) ≡ b ∷ replicate m (cond signed b Zero)
+pub spread : (m : ℕ) (signed : Bool) (b : Bit) → extended (suc m) signed (b ∷ []) ≡ b ∷ replicate m (cond signed b Zero)
 spread m signed b =
     let fewer : suc m - 1 ≡ m = omega arith in
     ap (λ xs. b ∷ (xs ++ replicate (suc m - 1) (cond signed b Zero))) (take_none m)
@@ -69,7 +69,7 @@ spread_zero m signed =
     same false = refl
 
 -- is true where the bit is
-spread_truth : (w : ℕ) → 1 ≤ w → (signed : Bool) (b : Bit) → is_unknown b ≡ false → truth_bit (extended w signed (b ∷ [])) ≡ b
+pub spread_truth : (w : ℕ) → 1 ≤ w → (signed : Bool) (b : Bit) → is_unknown b ≡ false → truth_bit (extended w signed (b ∷ [])) ≡ b
 spread_truth zero some signed b known = absurd (omega (arith, some))
 spread_truth (suc m) some signed Zero known = ap truth_bit (spread m signed Zero) ∙ spread_zero m signed
 spread_truth (suc m) some signed One known = ap truth_bit (spread m signed One)

@@ -1,7 +1,7 @@
 -- A design without findings of the first grade serves benches.
 use Rattle.std.proofs.Common.{◌≡◌, ◌∙◌, ◌++◌, ℕ, List, [], ◌∷◌, refl, sym, ap}
 use Rattle.std.specs.List.{All}
-use Rattle.std.proofs.lemmas.List.Elements.{All-cons, All-nil}
+use Rattle.std.proofs.lemmas.List.Elements.{All-cons, All-head, All-nil, All-tail}
 use Rattle.rtl_bits.specs.declared.Bit.{Bit}
 use Rattle.rtl_rule.specs.declared.finding.Finding.{Finding}
 use Rattle.event_model.specs.Queue.{State, Event, Activate, CanRun, HasNoActive, after, offer, run}
@@ -16,17 +16,17 @@ use Rattle.net_model.specs.declared.fill.Fill.{Fill}
 use Rattle.net_model.specs.Control.{InClockCone}
 use Rattle.net_model.specs.Cycle.{AreChains, Chain, Setting, Step, settings}
 use Rattle.net_model.specs.Lawful.{AreLawfulSteps, IsLawfulStep, IsSetting, SetsData, TurnsControl}
-use Rattle.net_model.proofs.Gates.{clock_or_reset}
 use Rattle.sign_cycles.specs.event_edges.Moves.{Activated, CanMove, Give, IsActivated, IsBeside, Move, NoneThere, Take, gifts, move_all}
 use Rattle.sign_cycles.specs.event_edges.Quiet.{SetData}
 use Rattle.sign_cycles.specs.event_edges.Synchronous.{IsSynchronous}
 use Rattle.sign_cycles.specs.Agree.{IsNext, IsSettledKnown, after_offer}
-use Rattle.sign_cycles.specs.Beside.{AreBenchRuns, BenchStep, Beside, IsBenchNext, IsNextBeside, Plain, TurnsLead, in_turn, offers}
+use Rattle.sign_cycles.specs.Beside.{AreBenchRuns, BenchStep, Beside, IsBenchNext, IsNextBeside, Plain, TurnsClock, TurnsLead, in_turn, offers}
 use Rattle.sign_cycles.specs.Formed.{IsCleanClocked}
 use Rattle.sign_cycles.proofs.Alone.{steps_alone}
 use Rattle.sign_cycles.proofs.Beside.{beside_follows, benches_agree, one_step}
 use Rattle.sign_cycles.proofs.DataSteps.{set_data}
 use Rattle.sign_cycles.proofs.Steps.{steps_follow, turns_follow}
+use Rattle.sign_cycles.proofs.Unfired.{unfired_agrees}
 use Rattle.check_clean.specs.Benches.{BenchesByRules, BesideEnds, ComesToActivation, EndsBeside, IsShownBeside}
 use Rattle.check_clean.proofs.Beside.{IsOther, ends_beside}
 use Rattle.check_clean.proofs.Clean.{clean}
@@ -133,9 +133,9 @@ module _ (d : Flat) (chains : ℕ → Chain) (level : ℕ → ℕ) (clean : IsCl
         )
 
   lead : TurnsLead d chains f
-  lead s n known turn turns =
+  lead s n known turn clock turns =
       let next = next_alone s n known (turn ∷ []) (one_set s n known turn turns) in
-      let one = turns_follow d chains level clean f s n known turn (clock_or_reset d turn.input turns.control) turns next.0 next.1 in
+      let one = turns_follow d chains level clean f s n known turn clock turns next.0 next.1 in
       (one.next, one.follows)
 
   some_next : (s : State) (n : Values) → IsSettledKnown d chains f s n → (step : BenchStep) (steps : List BenchStep) → AreLawfulSteps d n (in_turn (step ∷ steps)) → (t : State) × IsBenchNext d s step t
@@ -144,21 +144,21 @@ module _ (d : Flat) (chains : ℕ → Chain) (level : ℕ → ℕ) (clean : IsCl
   some_next s n known (Beside turn given) steps lawful =
       next_beside s n known turn lawful.0 given lawful.1.0
 
-  runs : (s : State) (n : Values) → IsSettledKnown d chains f s n → (steps : List BenchStep) → AreLawfulSteps d n (in_turn steps) → (states : List State) × AreBenchRuns d s steps states
-  runs s n known [] lawful = ([], tt)
-  runs s n known (step ∷ steps) lawful =
+  runs : (s : State) (n : Values) → IsSettledKnown d chains f s n → (steps : List BenchStep) → AreLawfulSteps d n (in_turn steps) → All (TurnsClock d) steps → (states : List State) × AreBenchRuns d s steps states
+  runs s n known [] lawful clocks = ([], tt)
+  runs s n known (step ∷ steps) lawful clocks =
       let next = some_next s n known step steps lawful in
-      let it = one_step d chains f (steps_follow d chains level clean f) (steps_alone d chains level clean f) (beside_follows d chains level clean f) lead s n known step steps lawful next.0 next.1 in
-      let others = runs next.0 it.0 it.1 steps it.2 in
+      let it = one_step d chains f (steps_follow d chains level clean f) (steps_alone d chains level clean f) (beside_follows d chains level clean f) lead s n known step steps lawful (All-head (TurnsClock d) step steps clocks) next.0 next.1 in
+      let others = runs next.0 it.0 it.1 steps it.2 (All-tail (TurnsClock d) step steps clocks) in
       (next.0 ∷ others.0, (next.1, others.1))
 
-  shown : (s : State) (n : Values) → IsSettledKnown d chains f s n → (steps : List BenchStep) → AreLawfulSteps d n (in_turn steps) → IsShownBeside d chains f s n steps
-  shown s n known steps lawful =
-      let it = runs s n known steps lawful in
+  shown : (s : State) (n : Values) → IsSettledKnown d chains f s n → (steps : List BenchStep) → AreLawfulSteps d n (in_turn steps) → All (TurnsClock d) steps → IsShownBeside d chains f s n steps
+  shown s n known steps lawful clocks =
+      let it = runs s n known steps lawful clocks in
       record {
         states = it.0;
         runs = it.1;
-        followed = (benches_agree d chains level clean f lead).agrees s n known steps lawful it.0 it.1;
+        followed = (benches_agree d chains level clean f lead).agrees s n known steps lawful clocks it.0 it.1;
       }
 
 -- ---- clean designs
@@ -181,4 +181,5 @@ benches d lawful marked findings are is =
           benches_agree d.flat choice design.level (design.clean choice chained) fill (lead d.flat choice design.level (design.clean choice chained) fill end beside);
       shown = λ choice chained fill. shown d.flat choice design.level (design.clean choice chained) fill end beside;
       ends = beside;
+      unfired = λ choice chained. unfired_agrees d.flat choice design.level (design.clean choice chained);
     }

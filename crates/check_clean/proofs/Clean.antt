@@ -21,9 +21,10 @@ use Rattle.std.proofs.lemmas.Bool.{and_from, eq-eqb, false≢true}
 use Rattle.sign_cycles.proofs.event_edges_proofs.Hearing.{passing}
 use Rattle.check_laws.specs.check_chains.Chains.{chain_of}
 use Rattle.sign_cycles.specs.event_edges.Synchronous.{IsItem, IsSynchronous}
-use Rattle.net_model.proofs.Gates.{clock_cone, clock_control}
+use Rattle.net_model.proofs.Gates.{clock_control}
 use Rattle.net_model.specs.Control.{IsClockOrReset, IsFromTop, IsReached, waits_for}
 use Rattle.net_model.specs.Cycle.{AreChains, Chain, IsChain}
+use Rattle.net_model.specs.Gates.{Gate}
 use Rattle.net_model.specs.Solution.{IsLasting, IsRegisterBit}
 use Rattle.sign_cycles.specs.net_rest.Rest.{IsComputed, IsComputing, IsSolvable}
 use Rattle.sign_cycles.specs.Formed.{IsFormed}
@@ -40,7 +41,9 @@ use Rattle.rtl_rule.proofs.Lists.{each_all, each_from}
 use Rattle.check_laws.proofs.Sites.{task_of}
 use Rattle.check_clean.specs.Clean.{CleanByRules, IsCleanDesign}
 use Rattle.check_all.specs.Rules.{HasNoFinding}
-use Rattle.check_clean.proofs.Cone.{goes, heard}
+use Rattle.check_all.specs.check_gates.Admitted.{AreGates}
+use Rattle.check_clean.proofs.Cone.{goes}
+use Rattle.check_clean.proofs.Gated.{gate_alone, gated, heard}
 use Rattle.check_laws.proofs.chain_laws_proofs.Chained.{IsEdgeItem}
 use Rattle.check_clean.proofs.Formed.{chain, formed, has_chained, is_chain, items, tests}
 use Rattle.check_clean.proofs.Choices.{formed_too}
@@ -48,7 +51,7 @@ use Rattle.check_clean.proofs.Levels.{ascends, level_of}
 use Rattle.check_all.proofs.Without.{no_finding}
 use Rattle.check_clean.proofs.Sources.{sources_decided}
 
-module _ (d : Flat) (lawful : AreLawful d) (marked : AreMarked d) (none : HasNoFinding d) where
+module _ (d : Flat) (lawful : AreLawful d) (marked : AreMarked d) (none : HasNoFinding d) (gates : List (ℕ × Gate)) (are_gates : AreGates d gates) where
   no_doubt : HasNoDoubt d
   no_doubt =
       record { x1 = none.x1; z1 = none.z1; x2 = none.x2; x3 = none.x3; c1 = none.c1; c2 = none.c2 }
@@ -88,7 +91,7 @@ module _ (d : Flat) (lawful : AreLawful d) (marked : AreMarked d) (none : HasNoF
         };
         tame = tame_bodies d lawful marked no_doubt p body of_body;
         exclusive = exclusive_bodies d lawful marked no_doubt p body of_body;
-        sure = latch_inferred d lawful none.l1 p list body is;
+        computes = latch_inferred d lawful gates are_gates none.l1 p list body is;
       }
 
   sourced : (i k : ℕ) → k < widths d i → IsLasting d i → IsTrue (is_input d i) ⊎ (IsRegisterBit d i k ⊎ IsComputed d i k)
@@ -108,6 +111,7 @@ module _ (d : Flat) (lawful : AreLawful d) (marked : AreMarked d) (none : HasNoF
         firm = firm_assigns d lawful marked no_doubt;
         sole = λ p target e is i k may. sole p (Assign target e) is i k (target_may target e i k may);
         computing = computing;
+        gated = gated d lawful;
       }
 
   -- ---- clocks and resets
@@ -162,7 +166,7 @@ module _ (d : Flat) (lawful : AreLawful d) (marked : AreMarked d) (none : HasNoF
         edges = edge_of;
         clocks = λ p events body item is. item_of (λ one. IsFromTop d one.signal) p events body item is (derived_clock d (sources_decided d) none.a7 p events body is.does);
         once = once;
-        heard = λ p does is i k cone. heard d lawful marked none.a8 p does is i k (clock_cone d i cone);
+        heard = heard d lawful marked none;
         tests = λ p events body is. tests d lawful marked none p events body is;
       }
 
@@ -222,10 +226,15 @@ module _ (d : Flat) (lawful : AreLawful d) (marked : AreMarked d) (none : HasNoF
         chains = chains;
         chained = chained;
         level = level_of d lawful;
-        clean = λ choice are. record { solvable = solvable; synchronous = synchronous; formed = all_formed choice are };
+        clean = λ choice are. record {
+          solvable = solvable;
+          synchronous = synchronous;
+          formed = all_formed choice are;
+          gates = gate_alone d lawful marked none gates are_gates;
+        };
         wakes = wakes;
       }
 
 pub clean : (d : Parts) → CleanByRules d
 clean d lawful marked findings are is =
-    clean_design d.flat lawful marked (no_finding d findings are is)
+    clean_design d.flat lawful marked (no_finding d findings are is) are.gates are.are_gates

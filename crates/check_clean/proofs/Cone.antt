@@ -1,4 +1,4 @@
--- Where no clock and no reset is used as data, who hears them are ports and blocks that wait for edges.
+-- Where no control input is used as data, who hears them are ports, blocks that wait for edges and latches that they gate.
 use Rattle.std.proofs.Common.{◌≡◌, ◌∙◌, ◌<◌, ℕ, zero, suc, Bool, true, false, not, ◌&&◌, List, [], ◌∷◌, ◌++◌, Option, None, Some, length, refl, sym, ap, subst, arith}
 use Rattle.std.specs.Prelude.{◌==◌, if◌then◌else◌}
 use Rattle.std.specs.List.{cons_option, filter_map, flat_map, slice_get}
@@ -16,15 +16,16 @@ use Rattle.rtl_flat.specs.Process as part
 use Rattle.rtl_flat.specs.Signs.{Has}
 use Rattle.rtl_flat.specs.WellFormed.{has_edge}
 use Rattle.check_laws.proofs.event_laws_proofs.Within.{reads_inside}
-use Rattle.event_model.specs.Queue.{doing_at}
+use Rattle.event_model.specs.Queue.{doing_at, doing_of}
 use Rattle.check_laws.specs.event_laws.Steady.{AreLawful}
-use Rattle.sign_cycles.specs.event_edges.Synchronous.{IsPort, MayHear, NoSignal, sensitive}
-use Rattle.net_model.specs.Control.{InCone, IsControl, IsReached, Itself, Through}
+use Rattle.sign_cycles.specs.event_edges.Synchronous.{IsPort}
+use Rattle.net_model.specs.Control.{IsReached, Itself, Through}
+use Rattle.net_model.specs.Gates.{GoesTo, InCone, IsControl, IsGateOf, IsPlainConnection}
+use Rattle.net_model.specs.Gates as gates
 use Rattle.rtl_rule.specs.Parts.{all_of, body_trees, index_of, items_of, labels, has_some, nodes, own_labels, own_reads, own_trees, place_of, read_trees, spot_if, trees, within}
 use Rattle.rtl_flat.specs.Flats.{Flat, widths}
 use Rattle.check_laws.specs.check_chains.Chains.{chain_of}
-use Rattle.check_laws.specs.check_clocks.Clocks.{AreClockAsData, GoesTo, IsClockAsData, IsPlainConnection, but_tests, clock_as_data_at, data_places, data_reads, data_trees, in_instance, is_passing, is_some_place, is_whole, level_items, passes, statement_trees}
-use Rattle.check_laws.specs.check_clocks.Clocks as clocks
+use Rattle.check_laws.specs.check_clocks.Clocks.{AreClockAsData, IsClockAsData, but_tests, clock_as_data_at, data_places, data_reads, data_trees, in_instance, is_passing, is_some_place, is_whole, level_items, passes, statement_trees}
 use Rattle.check_laws.specs.Expressions.{AreMarked, IsMarked}
 use Rattle.check_laws.proofs.Clocks.{reads_alone}
 use Rattle.rtl_rule.proofs.Lists.{Each, each_both, each_flat, each_from, each_join, each_left, each_right}
@@ -141,24 +142,37 @@ unread_all : (ws : ℕ → ℕ) (i : ℕ) (es : List Tree) → Each IsMarked es 
 unread_all ws i es marked h k =
     each_both IsMarked (λ e. Each (IsUnnamed ws i) (nodes e)) (Unread ws i k) (λ e m q. unread ws i e m q k) es marked (each_flat (IsUnnamed ws i) nodes es h)
 
+-- ---- latches
+
+-- only a block without edges is one
+abbrev pub IsNoComb : Doing → Type 0
+IsNoComb (Assign target e) = Unit {0}
+IsNoComb (Comb list body) = ⊥
+IsNoComb (Edge' events body) = Unit {0}
+
+pub no_gate : {d : Flat} (p s : ℕ) (does : Doing) → doing_at d p ≡ Some does → IsNoComb does → IsGateOf d p s → ⊥
+no_gate p s (Assign target e) is none gate = let latch = gate.admitted.latch.does in absurd (cc)
+no_gate p s (Comb list body) is none gate = none
+no_gate p s (Edge' events body) is none gate = let latch = gate.admitted.latch.does in absurd (cc)
+
 -- ---- no finding
 
 module _ (d : Flat) (lawful : AreLawful d) (marked : AreMarked d) (none : AreClockAsData (InCone d) d []) where
-  -- a signal of the cone is there
-  not_data : (p : ℕ) (task : Task) → slice_get d.tasks p ≡ Some task → (i : ℕ) → InCone d i → i < length d.signals → is_some_place (data_places d (within (p, task) i)) ≡ true → ⊥
-  not_data p task there i cone below places =
-      signal_refuted (IsClockAsData (InCone d) d) (clock_as_data_at d) d none p task there i below (record { in_cone = cone; as_data = places })
+  -- a signal of the cone is there, and the process isn't a latch of which it is the gate
+  not_data : (p : ℕ) (task : Task) → slice_get d.tasks p ≡ Some task → (i : ℕ) → InCone d i → i < length d.signals → (IsGateOf d p i → ⊥) → is_some_place (data_places d (within (p, task) i)) ≡ true → ⊥
+  not_data p task there i cone below free places =
+      signal_refuted (IsClockAsData (InCone d) d) (clock_as_data_at d) d none p task there i below (record { in_cone = cone; not_gate = free; as_data = places })
 
-  module _ (p : ℕ) (task : Task) (there : slice_get d.tasks p ≡ Some task) (i : ℕ) (cone : InCone d i) (below : i < length d.signals) where
+  module _ (p : ℕ) (task : Task) (there : slice_get d.tasks p ≡ Some task) (i : ℕ) (cone : InCone d i) (below : i < length d.signals) (free : IsGateOf d p i → ⊥) where
     pub no_level : Each (λ (item : Watched). (not (has_edge item.edge) && has_some (widths d) (may_select (widths d) item.signal item.selection) i) ≡ true → ⊥) (items_of task.does)
     no_level =
         none_placed (λ (item : Watched). not (has_edge item.edge) && has_some (widths d) (may_select (widths d) item.signal item.selection) i) (λ item. item.spot) (items_of task.does)
-        (λ is. not_data p task there i cone below (place_left (level_items d i task.does) (data_reads d i task) is))
+        (λ is. not_data p task there i cone below free (place_left (level_items d i task.does) (data_reads d i task) is))
 
     pub unnamed_data : Each (IsUnnamed (widths d) i) (flat_map nodes (data_trees d task))
     unnamed_data =
         none_placed (λ node. has_some (widths d) (own_reads (widths d) node) i) (λ node. place_of task.spot node) (flat_map nodes (data_trees d task))
-        (λ is. not_data p task there i cone below (place_right (level_items d i task.does) (data_reads d i task) is))
+        (λ is. not_data p task there i cone below free (place_right (level_items d i task.does) (data_reads d i task) is))
 
     -- the expressions of a process that passes nothing on and has no chain
     pub plain_unread : is_passing d task ≡ false → chain_of d task.does ≡ None → (k : ℕ) → Each (Unread (widths d) i k) (read_trees task.does ++ labels task.does)
@@ -200,7 +214,7 @@ module _ (d : Flat) (lawful : AreLawful d) (marked : AreMarked d) (none : AreClo
           let here : reads (widths d) (Sized 1 passed.signed passed.spot (tree.Whole passed.signal)) i k ≡ true = subst (λ x. reads (widths d) x i k ≡ true) passed.copy read in
           (passed, sym (eqb-true i passed.signal (and_parts (i == passed.signal) _ here).0))
       by_passing false isnt =
-          let all = plain_unread p task there i cone below isnt (ap (chain_of d) does) k in
+          let all = plain_unread p task there i cone below (no_gate p i (Assign target e) (ap doing_of there ∙ ap Some does) tt) isnt (ap (chain_of d) does) k in
           let own = subst (λ (one : Doing). Each (Unread (widths d) i k) (read_trees one ++ labels one)) does all in
           absurd (true≢false (sym read ∙ own.0))
 
@@ -227,8 +241,9 @@ module _ (d : Flat) (lawful : AreLawful d) (marked : AreMarked d) (none : AreClo
   items_other (item ∷ items) i h k =
       or_from _ _ (no_select (widths d) i item.signal item.selection h.0 k) (items_other items i h.1 k)
 
-  pub heard : (p : ℕ) (does : Doing) → doing_at d p ≡ Some does → (i k : ℕ) → InCone d i → sensitive (widths d) does i k ≡ true → MayHear NoSignal d does i
-  heard p (Assign target e) is i k cone read =
+  -- assignments are ports to which it goes on
+  pub heard_port : (p : ℕ) (target : List Piece) (e : Tree) → doing_at d p ≡ Some (Assign target e) → (i k : ℕ) → InCone d i → reads (widths d) e i k ≡ true → IsPort d target e i
+  heard_port p target e is i k cone read =
       let at = task_of d p (Assign target e) is in
       let (passed, same) = passing_at p at.task at.there target e at.is i k cone read in
       let plain = link_of p at.task at.there target e at.is passed in
@@ -252,36 +267,35 @@ module _ (d : Flat) (lawful : AreLawful d) (marked : AreMarked d) (none : AreClo
           port_bit = passed.port_bit;
         };
       })
-  heard p (Comb list body) is i k cone lists = by_list list is lists
-    where
-      by_list : (list : Option (List Watched)) → doing_at d p ≡ Some (Comb list body) → listed (widths d) (Comb list body) i k ≡ true → ⊥
-      by_list None is reads' =
-          let at = task_of d p (Comb None body) is in
-          let below = signal_there d.signals i k (lists_within d lawful p (Comb None body) is i k reads') in
-          let all = plain_unread p at.task at.there i cone below (ap (passes d at.task.instance) at.is) (ap (chain_of d) at.is) k in
-          let own = subst (λ (one : Doing). Each (Unread (widths d) i k) (read_trees one ++ labels one)) at.is all in
-          let quiet = quiet_body (widths d) i k body (comb_statements (Unread (widths d) i k) None body (each_left (Unread (widths d) i k) (read_trees (Comb None body)) (labels (Comb None body)) own) (each_right (Unread (widths d) i k) (read_trees (Comb None body)) (labels (Comb None body)) own)) in
-          true≢false (sym reads' ∙ quiet)
-      by_list (Some items) is lists' =
-          let at = task_of d p (Comb (Some items) body) is in
-          let below = signal_there d.signals i k (lists_within d lawful p (Comb (Some items) body) is i k lists') in
-          let levels = subst (λ (one : Doing). Each (λ (item : Watched). (not (has_edge item.edge) && has_some (widths d) (may_select (widths d) item.signal item.selection) i) ≡ true → ⊥) (items_of one)) at.is (no_level p at.task at.there i cone below) in
-          let edgeless = each_from (λ (item : Watched). has_edge item.edge ≡ false) items (lawful p (Comb (Some items) body) is).0.1 in
-          let others = each_both (λ (item : Watched). (not (has_edge item.edge) && has_some (widths d) (may_select (widths d) item.signal item.selection) i) ≡ true → ⊥) (λ item. has_edge item.edge ≡ false) (NoBit i) (λ item q e some. q (and_from _ _ (not_from_false _ e) some)) items levels edgeless in
-          true≢false (sym lists' ∙ items_other items i others k)
-  heard p (Edge' events body) is i k cone lists = tt
 
-  -- ---- what is reached from a clock or a reset goes to it by plain connections
+  -- bodies without edges don't list it, but for latches of which it is the gate
+  pub unlisted : (p : ℕ) (list : Option (List Watched)) (body : Actions) → doing_at d p ≡ Some (Comb list body) → (i k : ℕ) → InCone d i → (IsGateOf d p i → ⊥) → listed (widths d) (Comb list body) i k ≡ true → ⊥
+  unlisted p None body is i k cone free reads' =
+      let at = task_of d p (Comb None body) is in
+      let below = signal_there d.signals i k (lists_within d lawful p (Comb None body) is i k reads') in
+      let all = plain_unread p at.task at.there i cone below free (ap (passes d at.task.instance) at.is) (ap (chain_of d) at.is) k in
+      let own = subst (λ (one : Doing). Each (Unread (widths d) i k) (read_trees one ++ labels one)) at.is all in
+      let quiet = quiet_body (widths d) i k body (comb_statements (Unread (widths d) i k) None body (each_left (Unread (widths d) i k) (read_trees (Comb None body)) (labels (Comb None body)) own) (each_right (Unread (widths d) i k) (read_trees (Comb None body)) (labels (Comb None body)) own)) in
+      true≢false (sym reads' ∙ quiet)
+  unlisted p (Some items) body is i k cone free lists' =
+      let at = task_of d p (Comb (Some items) body) is in
+      let below = signal_there d.signals i k (lists_within d lawful p (Comb (Some items) body) is i k lists') in
+      let levels = subst (λ (one : Doing). Each (λ (item : Watched). (not (has_edge item.edge) && has_some (widths d) (may_select (widths d) item.signal item.selection) i) ≡ true → ⊥) (items_of one)) at.is (no_level p at.task at.there i cone below free) in
+      let edgeless = each_from (λ (item : Watched). has_edge item.edge ≡ false) items (lawful p (Comb (Some items) body) is).0.1 in
+      let others = each_both (λ (item : Watched). (not (has_edge item.edge) && has_some (widths d) (may_select (widths d) item.signal item.selection) i) ≡ true → ⊥) (λ item. has_edge item.edge ≡ false) (NoBit i) (λ item q e some. q (and_from _ _ (not_from_false _ e) some)) items levels edgeless in
+      true≢false (sym lists' ∙ items_other items i others k)
+
+  -- ---- what is reached from a control input comes from it by plain connections
 
   pub goes : (c : ℕ) → IsControl d c → (i : ℕ) → IsReached d c i → GoesTo d c i
-  goes c control i Itself = clocks.Itself
+  goes c control i Itself = gates.Itself
   goes c control i (Through j k reached on) =
       let connection = on.connection in
       let cone : InCone d j = record { control = c; is_control = control; reached = reached } in
       let (passed, same) = passing_at on.process connection.task connection.there (record { signal = k; selection = part.Whole; spot = connection.spot } ∷ []) on.value connection.does j on.alone.bit cone on.alone.read in
       let plain = link_of on.process connection.task connection.there (record { signal = k; selection = part.Whole; spot = connection.spot } ∷ []) on.value connection.does passed in
       let port : passed.port ≡ k = sym (same_port k passed.port connection.spot passed.at passed.whole) in
-      clocks.Through j k on.process connection.task (goes c control j reached) connection.there
+      gates.Through j k on.process connection.task (goes c control j reached) connection.there
       (subst (λ x. IsPlainConnection d connection.task x k) same (subst (IsPlainConnection d connection.task passed.signal) port plain))
     where
       same_port : (a b : ℕ) (at at' : Spot) → one_whole a at ≡ one_whole b at' → a ≡ b

@@ -14,7 +14,8 @@ use Rattle.rtl_flat.proofs.Paths.{decided}
 use Rattle.check_laws.proofs.event_laws_proofs.Within.{may_read_outside, outside_inside, write_inside}
 use Rattle.check_laws.specs.event_laws.Steady.{AreLawful}
 use Rattle.net_model.proofs.Gates.{clock_cone}
-use Rattle.net_model.specs.Control.{InClockCone, InCone}
+use Rattle.net_model.specs.Control.{InClockCone}
+use Rattle.net_model.specs.Gates.{InCone}
 use Rattle.net_model.specs.Cycle.{Chain, Guard, IsChain, IsChained, opened}
 use Rattle.net_model.specs.Solution.{IsLasting}
 use Rattle.sign_cycles.specs.Formed.{IsConstant, IsFormed, TestsAlone}
@@ -37,7 +38,7 @@ use Rattle.check_laws.proofs.chain_laws_proofs.Branches.{chain_lawful}
 use Rattle.check_laws.proofs.chain_laws_proofs.Chained.{IsEdgeItem, IsReset}
 use Rattle.check_laws.proofs.chain_laws_proofs.Chained as law
 use Rattle.check_clean.proofs.Branches.{OfGuard, chain_each}
-use Rattle.check_clean.proofs.Cone.{OfStatement, edge_statements, quiet_statements, unnamed_data}
+use Rattle.check_clean.proofs.Cone.{OfStatement, edge_statements, no_gate, quiet_statements, unnamed_data}
 use Rattle.check_clean.proofs.Resets.{constant, each_by_place}
 use Rattle.check_laws.proofs.chain_laws_proofs.Tests.{reads_signal_alone}
 use Rattle.check_clean.proofs.Unread.{IsUnnamed, Unread, unread}
@@ -196,7 +197,7 @@ module _ (d : Flat) (lawful : AreLawful d) (marked : AreMarked d) (none : HasNoF
     unnamed_chain : Each IsUnnamedTree (chain_trees chain)
     unnamed_chain =
         each_flat (IsUnnamed (widths d) i) nodes (chain_trees chain)
-        (subst (λ es. Each (IsUnnamed (widths d) i) (flat_map nodes es)) same (unnamed_data d lawful marked none.a8 p at.task at.there i cone below))
+        (subst (λ es. Each (IsUnnamed (widths d) i) (flat_map nodes es)) same (unnamed_data d lawful marked none.a8 p at.task at.there i cone below (no_gate p i (Edge' events body) is tt)))
       where
         passes_none : (does : Doing) → does ≡ Edge' events body → (o : Option Chain) → o ≡ Some chain → chosen_trees d at.task.instance does o ≡ chain_trees chain
         passes_none does e o e' = ap (λ x. chosen_trees d at.task.instance x o) e ∙ ap (chosen_trees d at.task.instance (Edge' events body)) e'

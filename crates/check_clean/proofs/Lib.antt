@@ -4,6 +4,8 @@ mod Depths
 mod Unread
 mod Branches
 mod Cone
+mod Tested
+mod Gated
 mod Sources
 mod Resets
 mod Formed

@@ -13,7 +13,7 @@ use Rattle.rtl_flat.specs.Process.{Selection, Piece, Doing, Assign, Comb, Edge',
 use Rattle.rtl_flat.specs.Process as part
 use Rattle.rtl_flat.specs.Signs.{Has}
 use Rattle.rtl_flat.specs.Flats.{Flat, widths}
-use Rattle.check_laws.specs.check_clocks.Clocks.{ComesFrom, GoesTo, IsPlainConnection, Itself, Through}
+use Rattle.net_model.specs.Gates.{ComesFrom, GoesTo, IsPlainConnection, Itself, Through}
 use Rattle.check_laws.specs.Clocks.{AreSourcesDecided}
 use Rattle.check_laws.proofs.Decisions.{Decided, both, either_of, neither, some_of, there_decided}
 use Rattle.check_laws.proofs.Sites.{signal_there}

@@ -14,7 +14,8 @@ use Rattle.net_model.specs.Cycle.{AreChains, Chain}
 use Rattle.net_model.specs.Lawful.{AreLawfulSteps}
 use Rattle.sign_cycles.specs.event_edges.Moves.{Give, IsBeside, Move, Take, gifts}
 use Rattle.sign_cycles.specs.Agree.{IsSettledKnown}
-use Rattle.sign_cycles.specs.Beside.{AreBenchFollowed, AreBenchRuns, BenchStep, BenchesAgree, in_turn}
+use Rattle.sign_cycles.specs.Beside.{AreBenchFollowed, AreBenchRuns, BenchStep, BenchesAgree, TurnsClock, in_turn}
+use Rattle.sign_cycles.specs.Unfired.{UnfiredAgree}
 use Rattle.rtl_rule.specs.declared.finding.Finding.{Finding}
 use Rattle.check_all.specs.Findings.{AreAllFindings, IsClean}
 use Rattle.check_laws.specs.Expressions.{AreMarked}
@@ -62,16 +63,19 @@ pub record IsShownBeside (d : Flat) (chains : ℕ → Chain) (f : Fill) (s : Sta
 
 -- ---- what is promised
 
--- over steps each of which turns one clock or one reset, gives data, or does both by nonblocking assignments, from every
--- settled state: every state to which they lead shows the numbers that follow by the turns and the data one after another,
--- whichever events are taken; there are such states; and each step ends
+-- over steps each of which turns one clock, one reset or one gate, gives data, or turns a clock or a reset and gives data beside
+-- it by nonblocking assignments, from every settled state: every state to which they lead shows the numbers that follow by the
+-- turns and the data one after another, whichever events are taken; there are such states; and each step ends. So it is where
+-- no clock fires, and inputs that are no gates are set at any moments of one run, clocks and resets among them
 pub record ServesBenches (d : Flat) : Type 0 where
   pub agree : (choice : ℕ → Chain) → AreChains d choice → (fill : Fill) → BenchesAgree d choice fill
   pub shown :
       (choice : ℕ → Chain) → AreChains d choice → (fill : Fill) →
       (s : State) (n : Values) → IsSettledKnown d choice fill s n →
-      (steps : List BenchStep) → AreLawfulSteps d n (in_turn steps) → IsShownBeside d choice fill s n steps
+      (steps : List BenchStep) → AreLawfulSteps d n (in_turn steps) → All (TurnsClock d) steps →
+      IsShownBeside d choice fill s n steps
   pub ends : BesideEnds d
+  pub unfired : (choice : ℕ → Chain) → AreChains d choice → (fill : Fill) → UnfiredAgree d choice fill
 
 -- so it is where none of all findings of a lawful design is of the first grade
 abbrev pub BenchesByRules : Parts → Type 0

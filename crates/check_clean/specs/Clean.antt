@@ -10,7 +10,7 @@ use Rattle.check_all.specs.Findings.{AreAllFindings, IsClean}
 use Rattle.check_laws.specs.Expressions.{AreMarked}
 
 -- its blocks that wait for edges are registers with a clock and resets, which is so whichever of their tests are taken for
--- those of resets; all else computes on levels, and each block can be woken
+-- those of resets; all else computes on levels, or is a latch with a gate from outside; and each block can be woken
 pub record IsCleanDesign (d : Flat) : Type 0 where
   pub chains : ℕ → Chain
   pub chained : AreChains d chains

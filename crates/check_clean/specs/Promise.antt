@@ -18,10 +18,10 @@ use Rattle.check_clean.specs.Benches.{ServesBenches}
 use Rattle.check_clean.specs.Levelled.{AreLevels, RestsByLevel}
 
 -- blocks that wait for edges have clocks and resets. Whichever are taken for them, simulation agrees with synthesis in every
--- order of events. It does from wherever steps from power-up come to rest with inputs and registers known, and so after every
--- bring-up where each register has a reset; there is one but where an input resets one process at 1 and another at 0. From
--- wherever a step starts, every run comes to rest, and by level within the budget of a step. All this is so, too, where a test
--- bench gives data beside a turn of a clock or a reset, by nonblocking assignments
+-- order of events, latches with gates among what it shows. It does from wherever steps from power-up come to rest with inputs,
+-- registers and latches known, and so after every bring-up where each register has a reset; there is one but where an input
+-- resets one process at 1 and another at 0. From wherever a step starts, every run comes to rest, and by level within the budget
+-- of a step. All this is so, too, where a test bench gives data beside a turn of a clock or a reset, by nonblocking assignments
 pub record IsPromised (d : Flat) : Type 0 where
   pub chains : ℕ → Chain
   pub chained : AreChains d chains

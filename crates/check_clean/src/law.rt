@@ -7,7 +7,8 @@ ghost use Rattle.check_clean.specs.Ending.{EndsByRules, FulfilledByRules, HasRun
 ghost use Rattle.check_clean.specs.Promise.{PromisedByRules, SettlesByRules};
 
 /// In a lawful design without such findings each block that waits for edges is a register with a clock and at
-/// most one reset, all else computes on levels, and every block can be woken: what agreement and bring-up stand on.
+/// most one reset, all else computes on levels or is a latch whose gate is used as such alone, and every block can be
+/// woken: what agreement and bring-up stand on.
 pub fn clean()
     ensures { (d : Parts) → CleanByRules d }
 {}

@@ -17,7 +17,8 @@ use Rattle.net_model.specs.Control as control
 use Rattle.rtl_rule.specs.Parts.{At, items_of, within}
 use Rattle.rtl_flat.specs.Flats.{Flat, widths}
 use Rattle.check_unknown.specs.check_chains.Chains.{IsAsyncPair, async_pair_at, has_chain}
-use Rattle.check_clocks.specs.Clocks.{ComesFrom, GoesTo, Itself, Through, IsDerivedClock, IsPlainConnection, IsTwice, derived_clock_at, events_of}
+use Rattle.check_clocks.specs.Clocks.{IsDerivedClock, IsTwice, derived_clock_at, events_of}
+use Rattle.net_model.specs.Gates.{ComesFrom, GoesTo, IsPlainConnection, Itself, Through}
 use Rattle.check_laws.specs.Clocks.{AsyncPair, AreSourcesDecided, DerivedClock, DerivedClockOnce}
 use Rattle.rtl_rule.proofs.Lists.{Each, each_all}
 use Rattle.check_laws.proofs.Sites.{process_refuted, refuted_in, task_of}
@@ -45,7 +46,7 @@ module _ (d : Flat) where
         port_bit = plain.port_bit;
       }
 
-  reached : (top s : ℕ) → GoesTo d top s → IsReached d top s
+  pub reached : (top s : ℕ) → GoesTo d top s → IsReached d top s
   reached top s Itself = control.Itself
   reached top s (Through i j p task goes there plain) =
       control.Through i j (reached top i goes) (passed task i j p there plain)

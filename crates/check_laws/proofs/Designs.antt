@@ -11,7 +11,7 @@ use Rattle.rtl_flat.specs.declared.signal.Signal.{Signal}
 use Rattle.rtl_flat.specs.Flows.{body_flow, flow_of, may_target}
 use Rattle.rtl_flat.specs.Levels.{IsArrow, IsNode, Chain, IsBehindCycle}
 use Rattle.rtl_flat.specs.Levels as level
-use Rattle.rtl_flat.specs.Paths.{Flow, Step, Read, Write, MayWrite, MayWriteLate, MayWriteNow, ReadsOutside, is_sure, may_write, may_write_blocking, may_write_delayed, reads_outside, may_write_bit, may_write_late, may_write_now}
+use Rattle.rtl_flat.specs.Paths.{Flow, Step, Read, Write, IsSure, MayWrite, MayWriteLate, MayWriteNow, ReadsOutside, is_sure, may_write, may_write_blocking, may_write_delayed, reads_outside, may_write_bit, may_write_late, may_write_now}
 use Rattle.rtl_flat.specs.PathSets.{IsTemporary, IsTemporaryOf, OfProcess, Uses, items_list, listed}
 use Rattle.rtl_flat.specs.Process.{Watched, Actions, Doing, Assign, Comb, Edge', Task}
 use Rattle.rtl_flat.specs.Signs.{width_in}
@@ -22,7 +22,8 @@ use Rattle.rtl_flat.specs.Flats.{Flat, widths}
 use Rattle.event_model.specs.Queue as queue
 use Rattle.net_laws.specs.event_laws.Steady.{AreLawful}
 use Rattle.net_laws.proofs.event_laws_proofs.Within.{may_read_outside, outside_inside, target_inside, write_inside}
-use Rattle.net_model.specs.Solution.{IsRegisterBit}
+use Rattle.net_model.specs.Gates.{Gate, IsAdmitted}
+use Rattle.net_model.specs.Solution.{IsLasting, IsRegisterBit}
 use Rattle.rtl_rule.specs.Parts.{has_some, is_clocked, written}
 use Rattle.check_sense.specs.Sense.{AreMixedEdges, AreNeverWakes, AreSenseMissing, IsMixedEdges, IsNeverWakes, IsSenseMissing, another_writes, can_wake, first_level, has_item, misses, mixed_edges_at, never_wakes_at, sense_missing_at}
 use Rattle.check_sense.specs.Sense as sense
@@ -30,6 +31,7 @@ use Rattle.check_assign.specs.Assigned.{AreCombLoop, AreSeveralDrivers, IsBlocki
 use Rattle.check_laws.specs.Designs.{AreTemporariesDecided, BlockingState, CombLoop, CombLoopAlone, IsComb, IsComputedBit, IsEdge, LatchInferred, MixedAssign, MixedEdges, NeverWakes, NonblockingComb, SenseMissing, SeveralDrivers, Undriven}
 use Rattle.rtl_rule.proofs.Below.{some_at, some_found}
 use Rattle.rtl_rule.proofs.Lists.{each_numbered}
+use Rattle.check_laws.proofs.Gates.{latches_decided}
 use Rattle.check_laws.proofs.Sites.{any_found, numbered_found, process_refuted, refuted, signal_refuted, signal_there, slice_there, task_of}
 
 -- ---- S1
@@ -55,7 +57,7 @@ sense_missing d lawful none p list body is i k read = by_list list is
 
 -- ---- A2 and A3
 
-any_weaker : {A : Type 0} (f g : A → Bool) → ((x : A) → f x ≡ true → g x ≡ true) → (xs : List A) → list_any f xs ≡ true → list_any g xs ≡ true
+pub any_weaker : {A : Type 0} (f g : A → Bool) → ((x : A) → f x ≡ true → g x ≡ true) → (xs : List A) → list_any f xs ≡ true → list_any g xs ≡ true
 any_weaker f g weaker [] h = h
 any_weaker f g weaker (x ∷ xs) h =
     elim (or_cases (f x) (list_any f xs) h) [
@@ -110,18 +112,26 @@ mixed_assign d lawful none p events body is i k at_once later =
 -- ---- L1
 
 pub latch_inferred : (d : Flat) → LatchInferred d
-latch_inferred d lawful none p list body is i k may lasting =
-    let flow = body_flow (widths d) body in
-    (decided flow i k).sure.0 (true_from_ne_false (is_sure flow i k) (λ missing.
-    let inside = write_inside d.signals body (comb_body d lawful p list body is) i k may in
-    let at = task_of d p (Comb list body) is in
-    let found : has_some (widths d) (λ s n. written d (Comb list body) s n && not (is_sure flow s n)) i ≡ true =
-    some_at (widths d i) (λ n. may_write flow i n && not (is_sure flow i n)) k inside (and_from _ _ ((decided flow i k).writes.1 may) (not_from_false _ missing)) in
-    signal_refuted (IsLatchInferred d) latch_inferred_at d none p at.task at.there i (signal_there d.signals i k inside) (record {
-      level = subst (λ does. is_comb does ≡ true) (sym at.is) refl;
-      leaves = subst (λ does. has_some (widths d) (λ s n. written d does s n && not (is_sure (flow_of (widths d) does) s n)) i ≡ true) (sym at.is) found;
-      kept = lasting;
-    })))
+latch_inferred d lawful gates are none p list body is =
+    elim (latches_decided d gates are p) [
+      | inl latch ↦ inr latch
+      | inr free ↦ inl (λ i k may lasting. writes_all free i k may lasting)
+    ]
+  where
+    writes_all : ((gate : Gate) → IsAdmitted d p gate → ⊥) → (i k : ℕ) → MayWrite (body_flow (widths d) body) i k → IsLasting d i → IsSure (body_flow (widths d) body) i k
+    writes_all free i k may lasting =
+        let flow = body_flow (widths d) body in
+        (decided flow i k).sure.0 (true_from_ne_false (is_sure flow i k) (λ missing.
+        let inside = write_inside d.signals body (comb_body d lawful p list body is) i k may in
+        let at = task_of d p (Comb list body) is in
+        let found : has_some (widths d) (λ s n. written d (Comb list body) s n && not (is_sure flow s n)) i ≡ true =
+        some_at (widths d i) (λ n. may_write flow i n && not (is_sure flow i n)) k inside (and_from _ _ ((decided flow i k).writes.1 may) (not_from_false _ missing)) in
+        signal_refuted (IsLatchInferred d) latch_inferred_at d none p at.task at.there i (signal_there d.signals i k inside) (record {
+          level = subst (λ does. is_comb does ≡ true) (sym at.is) refl;
+          not_admitted = free;
+          leaves = subst (λ does. has_some (widths d) (λ s n. written d does s n && not (is_sure (flow_of (widths d) does) s n)) i ≡ true) (sym at.is) found;
+          kept = lasting;
+        })))
 
 -- ---- A6
 

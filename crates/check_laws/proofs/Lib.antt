@@ -1,5 +1,6 @@
 pub mod Sites
 pub mod Decisions
+pub mod Gates
 pub mod Designs
 pub mod Statements
 pub mod Cases

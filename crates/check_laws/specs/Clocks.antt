@@ -6,7 +6,8 @@ use Rattle.net_model.specs.Control.{IsFromTop}
 use Rattle.net_model.specs.Cycle.{Chain}
 use Rattle.rtl_flat.specs.Flats.{Flat}
 use Rattle.check_unknown.specs.check_chains.Chains.{AreAsyncPair, chain_of}
-use Rattle.check_clocks.specs.Clocks.{AreDerivedClock, ComesFrom}
+use Rattle.check_clocks.specs.Clocks.{AreDerivedClock}
+use Rattle.net_model.specs.Gates.{ComesFrom}
 use Rattle.check_laws.specs.Designs.{IsEdge}
 
 -- whether it is decided which signals come from top inputs

@@ -10,8 +10,10 @@ use Rattle.rtl_flat.specs.WellFormed.{has_edge}
 use Rattle.event_model.specs.Queue.{doing_at, is_input}
 use Rattle.rtl_flat.specs.Flats.{Flat, widths}
 use Rattle.net_laws.specs.event_laws.Steady.{AreLawful}
+use Rattle.net_model.specs.Gates.{Gate, IsAdmitted}
 use Rattle.net_model.specs.Solution.{IsLasting, IsRegisterBit}
 use Rattle.check_sense.specs.Sense.{AreMixedEdges, AreNeverWakes, AreSenseMissing}
+use Rattle.check_assign.specs.check_gates.Admitted.{AreGates}
 use Rattle.check_assign.specs.Assigned.{AreBlockingState, AreCombLoop, AreLatchInferred, AreMixedAssign, AreNonblockingComb, AreSeveralDrivers, AreUndriven}
 
 -- a process that waits for no edge
@@ -118,10 +120,20 @@ CombLoopAlone d =
     (p : ℕ) (list : Option (List Watched)) (body : Actions) → IsComb d p list body →
     (i k : ℕ) → ReadsOutside (body_flow (widths d) body) i k → MayWrite (body_flow (widths d) body) i k → ⊥
 
--- L1: each bit that a body without edges may write it writes on every path, unless it is a temporary's
+-- whether it is decided which processes are latches with a gate from outside
+abbrev pub AreLatchesDecided : Flat → Type 0
+AreLatchesDecided d =
+    (p : ℕ) → ((gate : Gate) × IsAdmitted d p gate) ⊎ ((gate : Gate) → IsAdmitted d p gate → ⊥)
+
+-- the list of all of them decides it
+abbrev pub LatchesDecided : Flat → Type 0
+LatchesDecided d = (gates : List (ℕ × Gate)) → AreGates d gates → AreLatchesDecided d
+
+-- L1: a body without edges writes on every path each bit that it may write, unless it is a temporary's; or it is a latch with
+-- a gate from outside
 abbrev pub LatchInferred : Flat → Type 0
 LatchInferred d =
-    AreLawful d → AreLatchInferred d [] →
+    AreLawful d → (gates : List (ℕ × Gate)) → AreGates d gates → AreLatchInferred d [] →
     (p : ℕ) (list : Option (List Watched)) (body : Actions) → IsComb d p list body →
-    (i k : ℕ) → MayWrite (body_flow (widths d) body) i k → IsLasting d i →
-    IsSure (body_flow (widths d) body) i k
+    ((i k : ℕ) → MayWrite (body_flow (widths d) body) i k → IsLasting d i → IsSure (body_flow (widths d) body) i k)
+    ⊎ ((gate : Gate) × IsAdmitted d p gate)

@@ -3,7 +3,7 @@
 ghost use Rattle.rtl_flat.specs.Flats.{Flat};
 ghost use Rattle.check_laws.specs.Cases.{FullCase, ParallelCase};
 ghost use Rattle.check_laws.specs.Clocks.{AsyncPair, DerivedClock, DerivedClockOnce};
-ghost use Rattle.check_laws.specs.Designs.{BlockingState, CombLoop, CombLoopAlone, LatchInferred, MixedAssign, MixedEdges, NeverWakes, NonblockingComb, SenseMissing, SeveralDrivers, TemporariesDecided, Undriven};
+ghost use Rattle.check_laws.specs.Designs.{BlockingState, CombLoop, CombLoopAlone, LatchesDecided, LatchInferred, MixedAssign, MixedEdges, NeverWakes, NonblockingComb, SenseMissing, SeveralDrivers, TemporariesDecided, Undriven};
 ghost use Rattle.check_laws.specs.Expressions.{DivideVariable, ExclusiveBodies, FirmAssigns, SelectRange, StoredAreMarked, TameBodies, Tristate, UnknownLiteral};
 ghost use Rattle.check_laws.specs.Targets.{SelectTargets};
 
@@ -57,7 +57,12 @@ pub fn comb_loop_alone()
     ensures { (d : Flat) → CombLoopAlone d }
 {}
 
-/// L1: what a body without edges may write it writes on every path.
+/// In a design whose latches with gates are listed it is decided which processes are such.
+pub fn latches_decided()
+    ensures { (d : Flat) → LatchesDecided d }
+{}
+
+/// L1: what a body without edges may write it writes on every path, or it is a latch with a gate from outside.
 pub fn latch_inferred()
     ensures { (d : Flat) → LatchInferred d }
 {}

@@ -16,7 +16,7 @@ use Rattle.net_model.specs.Numbers.{AreNumbers, bit}
 use Rattle.net_model.specs.Solution.{IsLasting, IsSolution}
 use Rattle.check_clean.specs.net_rest.Rest.{AreAlike, AreGiven, IsIdle, IsSolvable, numbers_of}
 use Rattle.check_clean.proofs.net_rest_proofs.Numbers.{are_numbers}
-use Rattle.check_clean.proofs.net_rest_proofs.Rest.{known_at_rest, register_inside, solution_rests, solved}
+use Rattle.check_clean.proofs.net_rest_proofs.Rest.{known_at_rest, latch_inside, latch_keeps, register_inside, solution_rests, solved}
 use Rattle.check_clean.specs.sign_cycles.Round.{IsSettled}
 use Rattle.check_clean.proofs.sign_cycles_proofs.Settled.{input_lasts}
 use Rattle.check_clean.specs.sign_cycles.Agree.{AreReset, AreSame, IsSettledKnown}
@@ -32,7 +32,7 @@ pub record IsShowing (d : Flat) (chains : ℕ → Chain) (f : Fill) (s : State) 
   pub same : AreSame d numbers n
 
 module _ (d : Flat) (level : ℕ → ℕ) (solvable : IsSolvable d level) where
-  -- inputs and registers of numbers are known
+  -- inputs, registers and latches of numbers are known
   given : (n : Values) → AreNumbers d n → AreGiven d n
   given n are =
       record {
@@ -41,12 +41,18 @@ module _ (d : Flat) (level : ℕ → ℕ) (solvable : IsSolvable d level) where
             let size = are.wide i in
             let inside = register_inside d level solvable i k is in
             known_at (n i) k (are.known i) (omega (arith, size, inside));
+        latches = λ i k is.
+            let size = are.wide i in
+            let inside = latch_inside d level solvable i k is.latch in
+            known_at (n i) k (are.known i) (omega (arith, size, inside));
       }
 
   -- a solution's numbers, with the fill in what nothing writes, solve the equations for themselves
   module _ (f : Fill) (start n : Values) (first : AreNumbers d start) (solution : IsSolution d f start n n) where
     idle : IsIdle d n n
-    idle = solution_rests d level solvable f start n n first solution
+    idle =
+        solution_rests d level solvable f start n n first solution
+        (λ i k is. sym (latch_keeps d level solvable f start n n first solution i k is))
 
     abbrev own : Values
     own = numbers_of d f n
@@ -61,13 +67,14 @@ module _ (d : Flat) (level : ℕ → ℕ) (solvable : IsSolvable d level) where
           inputs = λ i is.
               ext_get_or X (n i) (own i) (solution.numbers.wide i ∙ sym ((are_numbers d f n).wide i)) (λ k below. own_alike i k (input_lasts d i is));
           kept = λ i k is. own_alike i k is.lasting;
+          held = λ i k is. own_alike i k is.latch.lasting;
           driven = idle.driven;
           consistent = idle.consistent;
         }
 
     pub own_solution : IsSolution d f own own own
     own_solution =
-        solved d level solvable own n (given own (are_numbers d f n)) idle_own f own (are_numbers d f n)
+        solved d level solvable own n (given own (are_numbers d f n)) idle_own f own (are_numbers d f n) (λ i k is. refl)
 
 -- ---- the state in which nothing is to be done
 

@@ -49,7 +49,7 @@ none_shown design findings are none finding other =
     let processes = design.is_design.each_process in
     let lawful : AreLawful (flat design) = lawful_processes (flat design) processes in
     let marked = stored d design.processes.items refl in
-    let clean : IsCleanDesign d = clean_design d lawful marked (none_needed is_needed (λ one needed. needed) (parts design) findings are none) in
+    let clean : IsCleanDesign d = clean_design d lawful marked (none_needed is_needed (λ one needed. needed) (parts design) findings are none) are.gates are.are_gates in
     let formed = (course_netlist design setup trial shows.moments shows.course).formed in
     let below = early finding.rule trial other of in
     shows_nothing design clean.level (clean.clean (chains_of d) (are_chains d processes formed)) (temporaries_decided d lawful) setup is_setup trial below (no_last trial below)

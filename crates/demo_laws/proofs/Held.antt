@@ -21,7 +21,8 @@ use Rattle.net_model.specs.Solution.{IsLasting, IsSolution, start}
 use Rattle.demo_clean.proofs.net_laws_proofs.Known.{KnownBit, known_at, known_each}
 use Rattle.demo_clean.proofs.net_laws_proofs.Starts.{start_wide}
 use Rattle.demo_clean.specs.net_order.Order.{IsCyclic}
-use Rattle.demo_clean.specs.net_rest.Rest.{AreAlike, AreGivenAlike}
+use Rattle.demo_clean.specs.net_rest.Rest.{AreAlike}
+use Rattle.demo_clean.specs.net_solve.Laws.{HaveLikeSources}
 use Rattle.demo_clean.proofs.net_rest_proofs.Levels.{read_lasts}
 use Rattle.demo_clean.proofs.net_rest_proofs.Numbers.{past_ends}
 use Rattle.demo_clean.proofs.net_solve_proofs.Same.{same}
@@ -121,7 +122,7 @@ module _ (d : Flat) (lawful : AreLawful d) where
 
   pub same_solutions :
       ((s : ℕ) → IsCyclic d s → ⊥) → (f : Fill) (held held' given given' n m : Values) → AreNumbers d held → AreNumbers d held' →
-      AreAlike d held held' → AreGivenAlike d given given' →
+      AreAlike d held held' → HaveLikeSources d given given' →
       IsSolution d f held given n → IsSolution d f held' given' m → AreAlike d n m
   same_solutions no_cycle f held held' given given' n m are are' alike given_alike one other i k lasts =
       bit_stable (bit n i k) (bit m i k) (λ differ.

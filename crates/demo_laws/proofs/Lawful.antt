@@ -14,7 +14,7 @@ use Rattle.event_model.specs.Queue.{doing_of, is_input, is_input_kind, is_input_
 use Rattle.demo_clean.specs.event_laws.Steady.{AreLawful}
 use Rattle.net_model.specs.Control.{Here, IsBehind, Next, whole_of}
 use Rattle.rtl_flat.specs.Flats.{Flat}
-use Rattle.demo_clean.specs.check_clocks.Clocks.{ComesFrom, GoesTo, Itself, Through}
+use Rattle.net_model.specs.Gates.{ComesFrom, GoesTo, Itself, Through}
 use Rattle.demo_clean.proofs.net_list_proofs.Formed.{lawful_at}
 use Rattle.demo_laws.specs.Laws.{AreProcesses}
 

@@ -27,9 +27,9 @@ use Rattle.event_model.specs.Queue.{State, Event, Input, Evaluate, Update, doing
 use Rattle.rtl_flat.specs.Flats.{Flat}
 use Rattle.event_model.specs.Writes.{Values, driven}
 use Rattle.net_model.specs.declared.fill.Fill.{Fill}
-use Rattle.net_model.proofs.Gates.{clock_or_reset}
 use Rattle.net_model.specs.Control.{whole_of}
 use Rattle.net_model.specs.Cycle.{Chain, Data, Setting}
+use Rattle.net_model.specs.Gates.{IsControl}
 use Rattle.net_model.specs.Lawful.{SetsData}
 use Rattle.net_model.specs.Numbers.{bit, digits}
 use Rattle.net_model.specs.Solution.{IsLasting, IsSolution}
@@ -122,6 +122,17 @@ no_block : (p : ℕ) (events : List Watched) (body : Actions) → doing_at gate 
 no_block zero events body is = cc
 no_block (suc p) events body is = cc
 
+no_body : (p : ℕ) (list : Option (List Watched)) (body : Actions) → doing_at gate p ≡ Some (Comb list body) → ⊥
+no_body zero list body is = cc
+no_body (suc p) list body is = cc
+
+-- where nothing waits for edges and no body is without them, no input is a control input
+uncontrolled : (d : Flat) → ((p : ℕ) (events : List Watched) (body : Actions) → doing_at d p ≡ Some (Edge' events body) → ⊥) → ((p : ℕ) (list : Option (List Watched)) (body : Actions) → doing_at d p ≡ Some (Comb list body) → ⊥) → (c : ℕ) → IsControl d c → ⊥
+uncontrolled d no_edges no_bodies c (inl clock) =
+    let edges = clock.edges in no_edges edges.process edges.events edges.body edges.does
+uncontrolled d no_edges no_bodies c (inr latched) =
+    let latch = latched.admitted.latch in no_bodies latched.process latch.list latch.body latch.does
+
 comes_up : (chains : ℕ → Chain) → IsBringUp gate chains (both Zero ∷ [])
 comes_up chains =
     record {
@@ -129,6 +140,7 @@ comes_up chains =
       settings = All-cons (All (SetsInput gate)) (both Zero) [] (sets_input Zero refl) (All-nil (All (SetsInput gate)));
       all_set = all_set;
       resets = λ p events body here. absurd (no_block p events body here);
+      gates = λ p one admitted. absurd (no_body p admitted.latch.list admitted.latch.body admitted.latch.does);
     }
 
 -- ---- both inputs are set to 1, and the gate is evaluated before the second of them takes its value, and after it
@@ -161,7 +173,7 @@ high_lawful =
     one_set : (i : ℕ) → IsTrue (is_input gate i) → 1 ≡ width_in ports i → SetsData gate (set_to One i)
     one_set i input wide =
         record {
-          data_input = record { input = input; no_control = λ control. let edges = (clock_or_reset gate i control).edges in no_block edges.process edges.events edges.body edges.does };
+          data_input = record { input = input; no_control = uncontrolled gate no_block no_body i };
           can_be = record { wide = wide; known = refl };
         }
 
@@ -335,7 +347,7 @@ two_rests =
 apart_lawful : All (SetsData two_drivers) (set_to One 0 ∷ [])
 apart_lawful =
     All-cons (SetsData two_drivers) (set_to One 0) [] (record {
-      data_input = record { input = refl; no_control = λ control. let edges = (clock_or_reset two_drivers 0 control).edges in no_edge edges.process edges.events edges.body edges.does };
+      data_input = record { input = refl; no_control = uncontrolled two_drivers no_edge no_list 0 };
       can_be = record { wide = refl; known = refl };
     }) (All-nil (SetsData two_drivers))
 
@@ -398,5 +410,6 @@ no_driver_stays chains f brings =
       settings = All-cons (All (SetsInput no_driver)) first_step [] sets_it (All-nil (All (SetsInput no_driver)));
       all_set = no_driver_set;
       resets = λ p events body here. absurd (cc);
+      gates = λ p one admitted. let here = admitted.latch.does in absurd (cc);
     }) (up ∷ []) (record { reaches = record { events = Input 0 ∷ []; can = ((refl, refl), tt); leads = refl }; rest = up_rests }, tt) in
     true≢false (settled.shows 1 0 (omega arith) output_lasts).known

@@ -32,9 +32,10 @@ pub fn rule(alloc: Global, design: &Design) -> Result<Ruling, Memory>
     ensures firm { IfOk result (λ r. IsTrue r.firm ↔ (r.findings.items ≡ [])) }
 
     // What a clean design promises: blocks that wait for edges have clocks and resets, with which every run of the
-    // event queue shows the synthesised values, from each state with inputs and registers known to which steps from
-    // power-up lead, as a bring-up does where each register has a reset; there is one, or an input resets one process at
-    // 1 and another at 0, and not both; and every run comes to rest.
+    // event queue shows the synthesised values, those of registers and of latches with gates among them, from each
+    // state with inputs, registers and latches known to which steps from power-up lead, as a bring-up does where each
+    // register has a reset; there is one, or an input resets one process at 1 and another at 0, and not both; and every
+    // run comes to rest.
     ensures chained { IfOk result (λ r. IsTrue r.clean →
         (chains : ℕ → Chain) × AreChains (flat design.now) chains) }
     ensures sound { IfOk result (λ r. IsTrue r.clean →
