@@ -1,0 +1,3 @@
+pub mod Covers
+-- passed on to the crates above
+pub use Rattle.event_laws.specs as event_laws
