@@ -1,0 +1,24 @@
+-- What a design without a finding of either grade is.
+-- Worked examples: crates/sign_unknown/proofs/Example.antt.
+use Rattle.std.specs.Prelude.{ℕ, []}
+use Rattle.rtl_flat.specs.Flats.{Parts}
+use Rattle.net_model.specs.declared.fill.Fill.{Fill}
+use Rattle.net_model.specs.Cycle.{AreChains, Chain}
+use Rattle.check_clean.specs.check_all.Findings.{AreAllFindings}
+use Rattle.check_clean.specs.check_laws.Expressions.{AreMarked}
+use Rattle.check_clean.specs.event_laws.Steady.{AreLawful}
+use Rattle.unknown_starts.specs.Starts.{Completes}
+use Rattle.unknown_starts.specs.sign_unknown.Unknown.{IsSound}
+
+-- where no rule has a finding in a lawful design, simulation from unknown values is sound for its synthesis, whichever tests
+-- are taken for those of resets, and for either fill
+abbrev pub SoundByRules : Parts → Type 0
+SoundByRules d =
+    AreLawful d.flat → AreMarked d.flat → AreAllFindings d [] →
+    (chains : ℕ → Chain) → AreChains d.flat chains → (fill : Fill) → IsSound d.flat chains fill
+
+-- and each settled state has numbers of which that speaks, whatever its unknown registers and closed latches are taken for
+abbrev pub CompleteByRules : Parts → Type 0
+CompleteByRules d =
+    AreLawful d.flat → AreMarked d.flat → AreAllFindings d [] →
+    (chains : ℕ → Chain) → AreChains d.flat chains → (fill : Fill) → Completes d.flat chains fill
