@@ -1,7 +1,7 @@
 -- Seven lists of findings in order, put together one after the other.
 use Rattle.std.proofs.Common.{◌≡◌, map, ◌∙◌, ℕ, List, ◌++◌, Result, Ok, Err, Vec, IfOk, ap, sym}
 use Rattle.std.specs.declared.alloc.Global.{Global}
-use Rattle.rtl_tree.specs.declared.memory.Memory.{Memory}
+use Rattle.text_ground.specs.declared.memory.Memory.{Memory}
 use Rattle.net_model.specs.Gates.{Gate, InCone}
 use Rattle.rtl_rule.specs.declared.finding.Finding.{Finding}
 use Rattle.rtl_rule.specs.Order.{comes_before, ranked}

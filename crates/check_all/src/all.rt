@@ -9,8 +9,8 @@ use check_sense::check_found::order::merged;
 use check_sense::check_found::scans::Scans;
 use rtl_flat::design::Design;
 use rtl_rule::finding::Finding;
-use rtl_tree::memory::Memory;
 use std::alloc::Global;
+use text_ground::memory::Memory;
 
 /// All findings of a design, over all rules, in their order.
 ///

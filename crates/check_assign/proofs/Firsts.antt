@@ -4,7 +4,7 @@ use Rattle.std.specs.Prelude.{slice_index_or}
 use mathlib.Core.Bool.{beq}
 use Rattle.std.specs.List.{cons_option, filter_map, flat_map, list_any, slice_get}
 use Rattle.std.proofs.lemmas.Bool.{and_from, and_parts, and_right, both_ways, false≢true}
-use Rattle.rtl_tree.specs.declared.text.Spot.{Spot}
+use Rattle.text_ground.specs.declared.text.Spot.{Spot}
 use Rattle.rtl_flat.specs.Expression.{Tree}
 use Rattle.rtl_flat.specs.Flows.{may_select, may_target}
 use Rattle.rtl_flat.specs.PathSets.{IsTemporary}

@@ -1,7 +1,7 @@
 -- One step of a loop over statements.
 use Rattle.std.proofs.Common.{◌≡◌, ◌∙◌, List, ◌∷◌, Option, sym, ap}
 use Rattle.std.specs.List.{flat_map}
-use Rattle.rtl_tree.specs.declared.text.Spot.{Spot}
+use Rattle.text_ground.specs.declared.text.Spot.{Spot}
 use Rattle.check_loops.specs.check_found.Marked.{joined, least_of}
 use Rattle.check_loops.proofs.check_found_proofs.Places.{joined_assoc, least_append}
 

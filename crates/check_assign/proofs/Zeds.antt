@@ -2,7 +2,7 @@
 use Rattle.std.proofs.Common.{ℕ, ◌≡◌, Bool, true, false, ◌||◌, List, [], ◌∷◌, ◌++◌, refl, ap}
 use Rattle.std.specs.List.{cons_option, list_any}
 use Rattle.rtl_bits.specs.declared.Bit.{Bit}
-use Rattle.rtl_tree.specs.declared.text.Spot.{Spot}
+use Rattle.text_ground.specs.declared.text.Spot.{Spot}
 use Rattle.rtl_flat.specs.declared.expr.Index.TheVariants as index
 use Rattle.rtl_flat.specs.declared.expr.Node.{Node, Row_of-SizedExpr, end_of-SizedExpr, more_of-SizedExpr}
 use Rattle.rtl_flat.specs.declared.expr.Node.TheVariants as node

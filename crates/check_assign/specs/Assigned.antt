@@ -2,7 +2,7 @@
 -- Worked examples: proofs/Example.antt, crates/tests_rows/stdin.
 use Rattle.std.specs.Prelude.{ℕ, suc, ◌≡◌, nat_lt, Bool, true, false, not, ◌&&◌, List, []}
 use Rattle.std.specs.List.{enumerate_from, filter_map, flat_map, list_any}
-use Rattle.rtl_tree.specs.declared.text.Spot.{Spot}
+use Rattle.text_ground.specs.declared.text.Spot.{Spot}
 use Rattle.rtl_flat.specs.declared.signal.Signal.{Signal}
 use Rattle.rtl_flat.specs.Flows.{flow_of, may_select}
 use Rattle.rtl_flat.specs.Levels.{Chain, IsArrow}

@@ -25,9 +25,9 @@ use rtl_flat::expr::{Select, SigId};
 use rtl_flat::signal::{Kind, Signal};
 use rtl_rule::finding::Finding;
 use rtl_rule::rule::Rule;
-use rtl_tree::memory::Memory;
-use rtl_tree::text::Spot;
 use std::alloc::Global;
+use text_ground::memory::Memory;
+use text_ground::text::Spot;
 
 /// Whether a bit of a row is in a set.
 fn shares(masks: &SignalMasks, row: Row) -> bool

@@ -17,8 +17,8 @@ use rtl_flat::act::{Does, Process};
 use rtl_flat::design::Design;
 use rtl_rule::finding::Finding;
 use rtl_rule::rule::Rule;
-use rtl_tree::memory::Memory;
 use std::alloc::Global;
+use text_ground::memory::Memory;
 
 /// Whether a process is a body with a level list.
 pub(crate) fn is_comb(does: &Does) -> bool

@@ -25,9 +25,9 @@ use rtl_flat::act::ProcId;
 use rtl_flat::design::Design;
 use rtl_rule::finding::Finding;
 use rtl_rule::rule::Rule;
-use rtl_tree::memory::Memory;
-use rtl_tree::text::Spot;
 use std::alloc::Global;
+use text_ground::memory::Memory;
+use text_ground::text::Spot;
 
 /// Whether a bit of a row isn't in a set.
 fn leaves(sure: &BitSet, row: Row) -> bool

@@ -16,8 +16,8 @@ use check_gates::Gate;
 use check_loops::check_found::order::ranked;
 use check_loops::check_found::scans::Scans;
 use rtl_rule::finding::Finding;
-use rtl_tree::memory::Memory;
 use std::alloc::Global;
+use text_ground::memory::Memory;
 
 fn joined(mut found: Vec<Finding>, more: Vec<Finding>) -> Result<Vec<Finding>, Memory>
     ensures { IfOk result (λ all. all.items ≡ found.items ++ more.items) }

@@ -2,7 +2,7 @@
 
 ghost use Rattle.std.specs.Prelude.{◌≡◌, ◌<◌, ◌++◌, [], ◌∷◌, length, Some, IfOk, OnOk};
 ghost use Rattle.std.specs.List.{flat_map, list_any, slice_get};
-ghost use Rattle.rtl_tree.specs.declared.text.Spot.{Spot};
+ghost use Rattle.text_ground.specs.declared.text.Spot.{Spot};
 ghost use Rattle.rtl_flat.specs.Expression.{tree};
 ghost use Rattle.rtl_flat.specs.Process.{Task, doing};
 ghost use Rattle.rtl_rule.specs.Parts.{is_literal_with, is_z, nodes, valued_trees};
@@ -20,9 +20,9 @@ use rtl_flat::design::Design;
 use rtl_flat::expr::{Node, SizedExpr};
 use rtl_rule::finding::Finding;
 use rtl_rule::rule::Rule;
-use rtl_tree::memory::Memory;
-use rtl_tree::text::Spot;
 use std::alloc::Global;
+use text_ground::memory::Memory;
+use text_ground::text::Spot;
 
 fn is_z(bit: Bit) -> bool
     ensures { result ≡ is_z bit }

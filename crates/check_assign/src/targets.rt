@@ -16,8 +16,8 @@ use check_loops::rtl_scan::selected;
 use check_parts::statements::statements;
 use rtl_flat::act::{Act, Does, TargetPart};
 use rtl_flat::design::Design;
-use rtl_tree::memory::Memory;
 use std::alloc::Global;
+use text_ground::memory::Memory;
 
 /// Marks the signal of a target that may be a bit of it.
 fn note_part(design: &Design, part: &TargetPart, marks: &mut Marks) -> Result<(), Memory>

@@ -4,7 +4,7 @@ use Rattle.rtl_bits.specs.declared.Bit.{Bit}
 use Rattle.rtl_bits.specs.declared.Bit.TheVariants.{Zero, One, X}
 use Rattle.rtl_flat.specs.declared.act.CaseKind.TheVariants.{Plain}
 use Rattle.rtl_flat.specs.Process.{Action, Branches}
-use Rattle.rtl_tree.specs.declared.text.Spot.{Spot}
+use Rattle.text_ground.specs.declared.text.Spot.{Spot}
 use Rattle.rtl_flat.specs.declared.signal.Kind.{Kind}
 use Rattle.rtl_flat.specs.declared.signal.Kind.TheVariants.{TopInput, Var}
 use Rattle.rtl_flat.specs.declared.signal.Signal.{Signal}

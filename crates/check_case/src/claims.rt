@@ -1,7 +1,7 @@
 // Cases that say more of themselves than is so.
 
 ghost use Rattle.std.specs.Prelude.{ℕ, Bool, ◌≡◌, ◌&&◌, not, [], ◌∷◌, IfOk, OnOk};
-ghost use Rattle.rtl_tree.specs.declared.text.Spot.{Spot};
+ghost use Rattle.text_ground.specs.declared.text.Spot.{Spot};
 ghost use Rattle.rtl_flat.specs.Expression.{tree};
 ghost use Rattle.rtl_flat.specs.Process.{Case, action, task};
 ghost use Rattle.rtl_rule.specs.Parts.{statements, within};
@@ -20,9 +20,9 @@ use rtl_flat::design::Design;
 use rtl_flat::expr::SizedExpr;
 use rtl_rule::finding::Finding;
 use rtl_rule::rule::Rule;
-use rtl_tree::memory::Memory;
-use rtl_tree::text::Spot;
 use std::alloc::Global;
+use text_ground::memory::Memory;
+use text_ground::text::Spot;
 
 /// What a case may say of itself.
 #[derive(Clone, Copy)]

@@ -15,9 +15,9 @@ use check_parts::rtl_scan::values::{insert_number, literal_of};
 use rtl_bits::{Bit, Vec4};
 use rtl_flat::act::CaseItem;
 use rtl_flat::expr::SizedExpr;
-use rtl_tree::memory::Memory;
 use std::alloc::Global;
 use std::collections::BTreeSet;
+use text_ground::memory::Memory;
 
 /// Whether two bits may be the same.
 fn may_equal_bit(one: Bit, other: Bit) -> bool

@@ -15,8 +15,8 @@ use check_found::order::ranked;
 use check_found::scans::Scans;
 pub use claims::{full_case, parallel_case};
 use rtl_rule::finding::Finding;
-use rtl_tree::memory::Memory;
 use std::alloc::Global;
+use text_ground::memory::Memory;
 pub use unknown::unknown_item;
 
 /// All findings about case statements, in their order.

@@ -20,8 +20,8 @@ use rtl_flat::act::{Act, CaseKind, ProcId, Process};
 use rtl_flat::expr::{SigId, SizedExpr};
 use rtl_rule::finding::Finding;
 use rtl_rule::rule::Rule;
-use rtl_tree::memory::Memory;
 use std::alloc::Global;
+use text_ground::memory::Memory;
 
 /// Whether a bit of a label matches no known bit.
 fn never_matches(kind: CaseKind, bit: Bit) -> bool

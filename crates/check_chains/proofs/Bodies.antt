@@ -2,7 +2,7 @@
 use Rattle.std.specs.Prelude.{Bool, map, Vec, Option, Some, None}
 use Rattle.std.specs.declared.alloc.Global.{Global}
 use Rattle.std.proofs.Common.{◌≡◌, ◌∙◌, ◌<◌, List, [], ◌∷◌, length, ap, sym, refl, subst, arith}
-use Rattle.rtl_tree.specs.declared.text.Spot.{Spot}
+use Rattle.text_ground.specs.declared.text.Spot.{Spot}
 use Rattle.rtl_flat.specs.declared.act.Act.{Act}
 use Rattle.rtl_flat.specs.declared.act.Act.TheVariants as act
 use Rattle.rtl_flat.specs.declared.act.CaseItem.{CaseItem}

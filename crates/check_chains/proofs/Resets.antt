@@ -1,6 +1,6 @@
 -- Statements that give a signal a constant.
 use Rattle.std.proofs.Common.{◌≡◌, ◌∙◌, ℕ, Bool, List, [], ◌∷◌, map, ap, subst}
-use Rattle.rtl_tree.specs.declared.text.Spot.{Spot}
+use Rattle.text_ground.specs.declared.text.Spot.{Spot}
 use Rattle.rtl_flat.specs.declared.act.Act.{Act}
 use Rattle.rtl_flat.specs.declared.act.Act.TheVariants as act
 use Rattle.rtl_flat.specs.declared.act.Target.{Target}

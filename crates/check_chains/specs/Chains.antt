@@ -9,7 +9,7 @@ use Rattle.rtl_bits.specs.declared.Edge.TheVariants.{No, Pos, Neg}
 use Rattle.rtl_bits.specs.declared.Bit.{Bit}
 use Rattle.rtl_bits.specs.Bit.{is_one, is_unknown}
 use Rattle.rtl_bits.specs.Bits.{number_where}
-use Rattle.rtl_tree.specs.declared.text.Spot.{Spot}
+use Rattle.text_ground.specs.declared.text.Spot.{Spot}
 use Rattle.rtl_flat.specs.declared.expr.Compare.TheVariants as compare
 use Rattle.rtl_flat.specs.declared.expr.Fold.TheVariants as fold
 use Rattle.rtl_flat.specs.declared.expr.Turn.TheVariants as turn

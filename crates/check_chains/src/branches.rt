@@ -30,9 +30,9 @@ use rtl_flat::design::Design;
 use rtl_flat::expr::SigId;
 use rtl_rule::finding::Finding;
 use rtl_rule::rule::Rule;
-use rtl_tree::memory::Memory;
 use std::alloc::Global;
 use std::collections::BTreeSet;
+use text_ground::memory::Memory;
 
 fn is_marked(marks: &[bool], signal: SigId) -> bool
     ensures { result ≡ is_marked marks.now signal.0 }

@@ -17,8 +17,8 @@ use rtl_bits::Edge;
 use rtl_flat::act::{Act, Does, EventItem};
 use rtl_flat::design::Design;
 use rtl_flat::expr::{SigId, SizedExpr};
-use rtl_tree::memory::Memory;
 use std::alloc::Global;
+use text_ground::memory::Memory;
 
 /// An asynchronous reset: its event, its test, and what is done while it holds.
 #[derive(Clone, Copy)]

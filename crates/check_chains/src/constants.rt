@@ -14,8 +14,8 @@ use rtl_bits::Vec4;
 use rtl_flat::act::{Act, TargetPart};
 use rtl_flat::design::Design;
 use rtl_flat::expr::{Select, SigId};
-use rtl_tree::memory::Memory;
 use std::alloc::Global;
+use text_ground::memory::Memory;
 
 fn is_known(value: Option<Vec4>) -> bool
     ensures { result ≡ spec.is_known value }

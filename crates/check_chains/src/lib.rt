@@ -18,9 +18,9 @@ pub use branches::reset_value;
 use check_found::order::ranked;
 use check_found::scans::Scans;
 use rtl_rule::finding::Finding;
-use rtl_tree::memory::Memory;
 pub use shapes::{async_pair, reset_polarity, reset_shape};
 use std::alloc::Global;
+use text_ground::memory::Memory;
 
 /// All findings about resets, in the order of findings.
 ///

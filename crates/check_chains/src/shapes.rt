@@ -18,8 +18,8 @@ use rtl_flat::act::{Does, EventItem, ProcId};
 use rtl_flat::design::Design;
 use rtl_rule::finding::Finding;
 use rtl_rule::rule::Rule;
-use rtl_tree::memory::Memory;
 use std::alloc::Global;
+use text_ground::memory::Memory;
 
 /// Whether there are several events, each with an edge.
 #[tactic(auto, using(crate::proofs::Taken::all_watched))]

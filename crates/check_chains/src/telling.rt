@@ -11,8 +11,8 @@ use rtl_flat::act::ProcId;
 use rtl_flat::design::Design;
 use rtl_rule::finding::Finding;
 use rtl_rule::rule::Rule;
-use rtl_tree::memory::Memory;
 use std::alloc::Global;
+use text_ground::memory::Memory;
 
 /// The finding of a rule at a process, with the first signal that the process may write.
 fn finding_of(alloc: Global, design: &Design, rule: Rule, p: ProcId) -> Result<Finding, Memory>

@@ -1,6 +1,6 @@
 -- What holds of each statement of a body holds of those of its resets, and of what is done at the clock's edge.
 use Rattle.std.proofs.Common.{List, [], ◌∷◌, ◌++◌, subst}
-use Rattle.rtl_tree.specs.declared.text.Spot.{Spot}
+use Rattle.text_ground.specs.declared.text.Spot.{Spot}
 use Rattle.rtl_flat.specs.Expression.{Tree}
 use Rattle.rtl_flat.specs.Process.{Action, Set, If, Case, Block, Actions, Done, Then, Otherwise, With}
 use Rattle.net_model.specs.Cycle.{Guard, IsChained, opened}

@@ -4,7 +4,7 @@ use Rattle.std.specs.Prelude.{◌==◌, if◌then◌else◌, nat_le, nat_lt}
 use Rattle.std.specs.List.{list_any, slice_get}
 use Rattle.std.specs.Option.{IsSomeAnd}
 use Rattle.std.proofs.lemmas.Bool.{and_from, false_from_ne_true, and_parts, eq-eqb, false≢true, le-leb, lt-ltb, not-true, or_from, or_left, or_right, true_from_ne_false, true≢false}
-use Rattle.rtl_tree.specs.declared.text.Spot.{Spot}
+use Rattle.text_ground.specs.declared.text.Spot.{Spot}
 use Rattle.rtl_flat.specs.Expression.{Tree}
 use Rattle.rtl_flat.specs.Flows.{action_then, actions_then, all_bits, body_flow, may_target, target_reads, targets, reads}
 use Rattle.rtl_flat.specs.Paths.{BitSet, End, MayWrite, MayWriteNow, Read, ReadsOutside, Step, Write, either, every, may_write_now, some, writes_bit}

@@ -2,7 +2,7 @@
 use Rattle.std.proofs.Common.{◌≡◌, ◌∙◌, ◌+◌, ◌<◌, ℕ, Bool, true, false, List, [], ◌∷◌, ◌++◌, Option, None, Some, refl, subst, sym}
 use Rattle.std.specs.Prelude.{ℤ, ◌==◌, ◌||◌, nat_le, nat_lt}
 use Rattle.std.proofs.lemmas.Bool.{and_parts, eqb-true, false_from_ne_true, ltb-true, or_from}
-use Rattle.rtl_tree.specs.declared.text.Spot.{Spot}
+use Rattle.text_ground.specs.declared.text.Spot.{Spot}
 use Rattle.rtl_flat.specs.Expression.{Tree, Sized, Literal, Whole, BitAt, BitBy, Part, Turned, Joined, Compared, Linked, Folded, Shifted, Chosen, Empty, Beside, Repeated, Recast}
 use Rattle.rtl_flat.specs.Flows.{action_then, actions_then, all_bits, bit_at, index_reads, is_complete, labels_of, may_select, other_flow, reads, reads_all, span, target_reads, way_past, ways}
 use Rattle.rtl_flat.specs.Paths.{BitSet, Flow, End, reads_bit, some, some_way}

@@ -5,7 +5,7 @@ use Rattle.std.specs.List.{filter_map, list_any, slice_get}
 use Rattle.std.proofs.lemmas.Bool.{and_from, and_parts, both_ways, cases_Bool, eq-eqb, eqb-true, false_from_ne_true, false≢true, or_cases, or_left, or_right}
 use Rattle.std.proofs.lemmas.List.Elements.{filter_map-append}
 use Rattle.std.proofs.lemmas.Option.{none-some, same_Some}
-use Rattle.rtl_tree.specs.declared.text.Spot.{Spot}
+use Rattle.text_ground.specs.declared.text.Spot.{Spot}
 use Rattle.rtl_flat.specs.Flats.{Flat}
 use Rattle.rtl_rule.proofs.Below.{same_by}
 use Rattle.rtl_rule.specs.Parts.{spot_if}

@@ -21,8 +21,8 @@ use rtl_flat::act::ProcId;
 use rtl_flat::design::Design;
 use rtl_rule::finding::Finding;
 use rtl_rule::rule::Rule;
-use rtl_tree::memory::Memory;
 use std::alloc::Global;
+use text_ground::memory::Memory;
 
 /// Adds the findings at a process.
 fn push_process(

@@ -16,8 +16,8 @@ use check_gates::tops::{is_marked, is_top, mark_all};
 use check_gates::waits::{any_marked, mark_all_waited};
 use check_gates::{Gate, gate_inputs};
 use rtl_flat::expr::SigId;
-use rtl_tree::memory::Memory;
 use std::alloc::Global;
+use text_ground::memory::Memory;
 
 /// Whether a top input is a gate, or an edge of something that is reached from it is waited for.
 pub fn is_control(gate: bool, edges: &[bool], found: &[u32]) -> bool

@@ -21,8 +21,8 @@ use check_gates::links::{bit_named, is_bit};
 use rtl_flat::act::{Act, Does, Process, TargetPart};
 use rtl_flat::design::Design;
 use rtl_flat::expr::{Index, Select, SigId, SizedExpr};
-use rtl_tree::memory::Memory;
 use std::alloc::Global;
+use text_ground::memory::Memory;
 
 /// Adds the expressions of a statement with its labels.
 fn push_statement<'d>(

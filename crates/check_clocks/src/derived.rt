@@ -16,8 +16,8 @@ use rtl_flat::design::Design;
 use rtl_flat::expr::SigId;
 use rtl_rule::finding::Finding;
 use rtl_rule::rule::Rule;
-use rtl_tree::memory::Memory;
 use std::alloc::Global;
+use text_ground::memory::Memory;
 
 /// Whether a signal comes from a top input.
 fn has_top(tops: &[Vec<u32>], top: u32, signal: SigId) -> bool

@@ -21,8 +21,8 @@ use check_gates::check_chains::check_found::scans::Scans;
 pub use clock_data::clock_as_data;
 pub use derived::derived_clock;
 use rtl_rule::finding::Finding;
-use rtl_tree::memory::Memory;
 use std::alloc::Global;
+use text_ground::memory::Memory;
 
 /// All findings about clocks, in the order of findings.
 ///

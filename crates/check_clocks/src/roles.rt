@@ -14,8 +14,8 @@ use check_gates::tops::{is_marked, mark_all, row_at};
 use rtl_flat::act::Does;
 use rtl_flat::design::Design;
 use rtl_flat::expr::SigId;
-use rtl_tree::memory::Memory;
 use std::alloc::Global;
+use text_ground::memory::Memory;
 
 /// The top inputs that are clocks, and those that are resets.
 #[derive(Drop)]

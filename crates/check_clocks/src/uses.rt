@@ -3,7 +3,7 @@
 ghost use Rattle.std.specs.Prelude.{ℕ, ◌≡◌, ◌++◌, ◌∷◌, [], map, IfOk, OnOk};
 ghost use Rattle.std.specs.Ordering.{nat_cmp};
 ghost use Rattle.std.specs.BTreeMap.{get};
-ghost use Rattle.rtl_tree.specs.declared.text.Spot.{Spot};
+ghost use Rattle.text_ground.specs.declared.text.Spot.{Spot};
 ghost use Rattle.rtl_flat.specs.Expression.{tree};
 ghost use Rattle.rtl_flat.specs.Flats.{Flat, flat, widths};
 ghost use Rattle.rtl_flat.specs.Process.{watched};
@@ -19,9 +19,9 @@ use rtl_bits::Edge;
 use rtl_flat::act::{EventItem, ProcId};
 use rtl_flat::design::Design;
 use rtl_flat::expr::{SigId, SizedExpr};
-use rtl_tree::memory::Memory;
-use rtl_tree::text::Spot;
 use std::alloc::Global;
+use text_ground::memory::Memory;
+use text_ground::text::Spot;
 
 /// A use of a signal, and its place.
 #[derive(Clone, Copy)]

@@ -10,9 +10,9 @@ use crate::names::is_tool_name;
 use crate::providers::{Provider, is_elsewhere, providers};
 use name_map::NameMap;
 use rtl_prep::{Ask, Conditions, Extent, Span};
-use rtl_tree::memory::Memory;
-use rtl_tree::text::Text;
 use std::alloc::Global;
+use text_ground::memory::Memory;
+use text_ground::text::Text;
 
 /// So many names are looked for among all macros; for more a map of them is made.
 const FEW: usize = 8;

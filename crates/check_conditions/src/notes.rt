@@ -12,9 +12,9 @@ use rtl_flat::design::Design;
 use rtl_flat::instance::Instance;
 use rtl_flat::note::{Note, Reading};
 use rtl_prep::{Ask, Conditions, Extent, Span};
-use rtl_tree::memory::Memory;
-use rtl_tree::text::Spot;
 use std::alloc::Global;
+use text_ground::memory::Memory;
+use text_ground::text::Spot;
 
 /// Whether a module hangs on a chain: they overlap, or the chain ends before it and may leave it other macros.
 fn hangs_on(text: Extent, chain: Span) -> bool

@@ -8,9 +8,9 @@ ghost use Rattle.check_conditions.specs.Kept.{AreProviders, is_other, joined};
 
 use name_map::NameMap;
 use rtl_prep::Conditions;
-use rtl_tree::memory::Memory;
-use rtl_tree::text::Text;
 use std::alloc::Global;
+use text_ground::memory::Memory;
+use text_ground::text::Text;
 
 /// The files that have a name.
 #[derive(Clone, Copy, PartialEq, Eq, Debug)]

@@ -10,10 +10,10 @@ use rtl_flat::expr::SigId;
 use rtl_rule::finding::Finding;
 use rtl_rule::rule::Rule;
 use rtl_rule::spots::is_earlier;
-use rtl_tree::memory::Memory;
-use rtl_tree::text::Spot;
 use std::alloc::Global;
 use std::collections::BTreeMap;
+use text_ground::memory::Memory;
+use text_ground::text::Spot;
 
 /// Signals, each with a place.
 #[derive(Drop)]

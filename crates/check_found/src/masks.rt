@@ -6,8 +6,8 @@ ghost use Rattle.check_found.specs.Masks.{has_in, mask_in};
 
 use rtl_flat::expr::SigId;
 use rtl_scan::bits::Row;
-use rtl_tree::memory::Memory;
 use std::alloc::Global;
+use text_ground::memory::Memory;
 
 /// A set of bits of a design's signals that grows. The mask of a signal is found without a search; room is taken up to the
 /// last signal that has a bit.

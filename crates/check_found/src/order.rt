@@ -5,8 +5,8 @@ ghost use Rattle.rtl_rule.specs.Order.{rank_of, ranked};
 ghost use Rattle.rtl_rule.specs.declared.finding.Finding.{Finding};
 
 use rtl_rule::finding::Finding;
-use rtl_tree::memory::Memory;
 use std::alloc::Global;
+use text_ground::memory::Memory;
 
 /// Findings in the order of instance, place, rule and signal.
 pub fn ranked(findings: Vec<Finding>) -> Result<Vec<Finding>, Memory>

@@ -19,8 +19,8 @@ use rtl_flat::expr::SigId;
 use rtl_scan::accesses::Accesses;
 use rtl_scan::bits::Bits;
 use rtl_scan::feeds::Accessed;
-use rtl_tree::memory::Memory;
 use std::alloc::Global;
+use text_ground::memory::Memory;
 
 /// What rules ask of the processes of a design.
 #[derive(Drop)]

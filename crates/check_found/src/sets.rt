@@ -15,8 +15,8 @@ use rtl_flat::act::ProcId;
 use rtl_flat::design::Design;
 use rtl_flat::expr::SigId;
 use rtl_scan::bits::Bits;
-use rtl_tree::memory::Memory;
 use std::alloc::Global;
+use text_ground::memory::Memory;
 
 /// The bits that a process may write.
 pub fn written(alloc: Global, design: &Design, p: ProcId) -> Result<Bits, Memory>

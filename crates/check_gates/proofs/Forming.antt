@@ -5,7 +5,7 @@ use Rattle.std.specs.List.{slice_get}
 use Rattle.std.specs.Option.{IsSomeAnd}
 use Rattle.std.proofs.lemmas.Option.{none-some, same_Some}
 use Rattle.std.proofs.lemmas.List.{length-append}
-use Rattle.rtl_tree.specs.declared.text.Spot.{Spot}
+use Rattle.text_ground.specs.declared.text.Spot.{Spot}
 use Rattle.rtl_flat.specs.Expression.{Tree}
 use Rattle.rtl_bits.specs.declared.Bit.{Bit}
 use Rattle.rtl_flat.specs.Flats.{Flat, widths}

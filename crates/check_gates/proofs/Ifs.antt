@@ -3,7 +3,7 @@ use Rattle.std.specs.Prelude.{map, Vec, Option, Some, None}
 use Rattle.std.specs.declared.alloc.Global.{Global}
 use Rattle.std.proofs.Common.{◌≡◌, ◌∙◌, Bool, true, false, List, [], ◌∷◌, length, ap, sym, refl}
 use Rattle.std.proofs.lemmas.Bool.{false≢true}
-use Rattle.rtl_tree.specs.declared.text.Spot.{Spot}
+use Rattle.text_ground.specs.declared.text.Spot.{Spot}
 use Rattle.rtl_flat.specs.declared.act.Act.{Act}
 use Rattle.rtl_flat.specs.declared.act.Act.TheVariants as act
 use Rattle.rtl_flat.specs.declared.act.CaseItem.{CaseItem}

@@ -13,8 +13,8 @@ use crate::gate::Gate;
 use crate::inputs::Inputs;
 use crate::latches::latches;
 use check_chains::check_found::scans::Scans;
-use rtl_tree::memory::Memory;
 use std::alloc::Global;
+use text_ground::memory::Memory;
 
 /// Those of some latches that are admitted.
 fn admitted(alloc: Global, inputs: &Inputs, gates: &[Gate]) -> Result<Vec<Gate>, Memory>

@@ -18,8 +18,8 @@ use check_chains::rtl_scan::bits::{BitSet, Row};
 use check_chains::rtl_scan::{branch_reads, branch_sure, index_reads};
 use rtl_flat::act::{Act, ProcId};
 use rtl_flat::expr::SigId;
-use rtl_tree::memory::Memory;
 use std::alloc::Global;
+use text_ground::memory::Memory;
 
 /// Whether a set has all bits of some rows.
 fn are_within(rows: &[Row], bits: &BitSet) -> bool

@@ -18,8 +18,8 @@ use check_chains::check_found::scans::Scans;
 use rtl_bits::{Bit, Vec4};
 use rtl_flat::act::{Act, Does, ProcId};
 use rtl_flat::expr::{Compare, Fold, Node, SigId, SizedExpr, Turn};
-use rtl_tree::memory::Memory;
 use std::alloc::Global;
+use text_ground::memory::Memory;
 
 /// A signal that a process tests, and the value at which it goes on.
 #[derive(Clone, Copy)]

@@ -18,8 +18,8 @@ use crate::waits::{any_marked, mark_all_waited};
 use check_chains::check_found::scans::Scans;
 use rtl_bits::Bit;
 use rtl_flat::expr::SigId;
-use rtl_tree::memory::Memory;
 use std::alloc::Global;
+use text_ground::memory::Memory;
 
 /// Marks of inputs.
 #[derive(Drop)]

@@ -13,8 +13,8 @@ use crate::tops::{row_at, tops_of};
 use rtl_flat::act::ProcId;
 use rtl_flat::design::Design;
 use rtl_flat::expr::SigId;
-use rtl_tree::memory::Memory;
 use std::alloc::Global;
+use text_ground::memory::Memory;
 
 /// Some numbers in order, each once.
 fn rising(alloc: Global, all: &[u32]) -> Result<Vec<u32>, Memory>

@@ -13,8 +13,8 @@ use crate::reach::Link;
 use rtl_flat::act::{Does, Process, Target};
 use rtl_flat::design::Design;
 use rtl_flat::expr::{Node, Select, SigId, SizedExpr};
-use rtl_tree::memory::Memory;
 use std::alloc::Global;
+use text_ground::memory::Memory;
 
 /// The signal that an expression is, as it stands.
 pub(crate) fn whole_of(e: &SizedExpr) -> Option<SigId>

@@ -13,8 +13,8 @@ use crate::tops::mark;
 use rtl_flat::act::ProcId;
 use rtl_flat::design::Design;
 use rtl_flat::expr::SigId;
-use rtl_tree::memory::Memory;
 use std::alloc::Global;
+use text_ground::memory::Memory;
 
 fn mark_processes(marks: &mut [bool], gates: &[Gate])
     ensures { AreMarkedAlso (flat_map own_process gates.now) marks.old marks.new }

@@ -17,8 +17,8 @@ use check_chains::rtl_scan::bits::Row;
 use rtl_flat::act::{Does, ProcId, Target};
 use rtl_flat::design::Design;
 use rtl_flat::expr::SigId;
-use rtl_tree::memory::Memory;
 use std::alloc::Global;
+use text_ground::memory::Memory;
 
 /// The signal of a single row.
 fn only_signal(rows: &[Row]) -> Option<SigId>

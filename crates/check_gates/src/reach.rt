@@ -5,8 +5,8 @@ ghost use Rattle.check_chains.specs.rtl_scan.Arrows.{Among};
 ghost use Rattle.check_chains.specs.rtl_scan.Graph.{row};
 ghost use Rattle.check_gates.specs.Reach.{Finds, HasLink, Reaches};
 
-use rtl_tree::memory::Memory;
 use std::alloc::Global;
+use text_ground::memory::Memory;
 
 /// A signal that goes on to another.
 #[derive(Clone, Copy)]

@@ -12,8 +12,8 @@ use crate::reach::reached;
 use rtl_flat::design::Design;
 use rtl_flat::expr::SigId;
 use rtl_flat::signal::Kind;
-use rtl_tree::memory::Memory;
 use std::alloc::Global;
+use text_ground::memory::Memory;
 
 /// Whether a signal is there, and a top input.
 pub fn is_top(design: &Design, signal: SigId) -> bool

@@ -1,6 +1,6 @@
 -- What holds of the operands that are listed of an expression holds of each part of it.
 use Rattle.std.proofs.Common.{ℕ, Bool, ◌++◌}
-use Rattle.rtl_tree.specs.declared.text.Spot.{Spot}
+use Rattle.text_ground.specs.declared.text.Spot.{Spot}
 use Rattle.rtl_flat.specs.Expression.{Tree, Sized, Literal, Whole, BitAt, BitBy, Part, Turned, Joined, Compared, Linked, Folded, Shifted, Chosen, Empty, Beside, Repeated, Recast}
 use Rattle.net_laws.specs.Rules.{EachPart}
 use Rattle.rtl_rule.specs.Parts.{nodes}

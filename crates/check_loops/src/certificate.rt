@@ -5,8 +5,8 @@ ghost use Rattle.std.specs.Bool.{Decides};
 ghost use Rattle.check_loops.specs.Rounds.{AreAgreed, AreAnswered, AreLed, AreOnCycles, IsAgreed, IsLooked, IsSame, TurnsBack};
 
 use crate::groups::Group;
-use rtl_tree::memory::Memory;
 use std::alloc::Global;
+use text_ground::memory::Memory;
 
 /// The group of a node, if two searches found it from the same one.
 fn agreed(one: Option<Group>, other: Option<Group>) -> Option<Group>

@@ -3,8 +3,8 @@
 ghost use Rattle.std.specs.Prelude.{IfOk, OnOk};
 ghost use Rattle.check_loops.specs.Rounds.{AreLed, IsSound, Leads, Takes};
 
-use rtl_tree::memory::Memory;
 use std::alloc::Global;
+use text_ground::memory::Memory;
 
 /// A group of nodes: the node from which they were found, and the place of that in the order.
 #[derive(Clone, Copy)]

@@ -8,8 +8,8 @@ ghost use Rattle.check_loops.specs.Loops.{AreLevelLoops};
 use crate::on_cycles;
 use check_found::rtl_scan::feeds::Waits;
 use check_found::scans::Scans;
-use rtl_tree::memory::Memory;
 use std::alloc::Global;
+use text_ground::memory::Memory;
 
 /// Whether each process is on a cycle of the level graph: one feeds the next by a bit that it may write, and that the
 /// next reads before it has written it, or lists.

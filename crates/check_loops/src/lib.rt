@@ -17,8 +17,8 @@ use crate::groups::groups_of;
 use crate::order::finishing_order;
 use crate::spread::searched;
 use crate::turned::turned;
-use rtl_tree::memory::Memory;
 use std::alloc::Global;
+use text_ground::memory::Memory;
 
 /// Whether each node is on a cycle. A row has the nodes from which arrows come to its node.
 ///

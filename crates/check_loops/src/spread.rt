@@ -5,8 +5,8 @@ ghost use Rattle.std.specs.Prelude.{slice_index_or};
 ghost use Rattle.check_found.specs.rtl_scan.Graph.{AreRows};
 ghost use Rattle.check_loops.specs.Rounds.{AreOnCycles, AreReached, AreSpread, Marks, is_fed};
 
-use rtl_tree::memory::Memory;
 use std::alloc::Global;
+use text_ground::memory::Memory;
 
 /// Whether an arrow to a node comes from a start or from a node that is marked.
 fn is_fed(marks: &[bool], row: &[u32], start: u32) -> bool

@@ -4,8 +4,8 @@ ghost use Rattle.std.specs.Prelude.{ℕ, ◌≡◌, ◌<◌, ◌^◌, [], length
 ghost use Rattle.check_found.specs.rtl_scan.Graph.{row};
 ghost use Rattle.check_loops.specs.Rounds.{Puts, PutsAll, TurnsBack};
 
-use rtl_tree::memory::Memory;
 use std::alloc::Global;
+use text_ground::memory::Memory;
 
 /// An arrow more comes to a node.
 fn put(table: &mut Vec<Vec<u32>>, node: u32, from: u32) -> Result<(), Memory>

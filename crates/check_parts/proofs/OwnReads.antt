@@ -8,7 +8,7 @@ use Rattle.std.proofs.lemmas.List.Elements.{All-get_or}
 use Rattle.rtl_bits.specs.declared.Bit.{Bit}
 use Rattle.rtl_bits.specs.declared.Bit.TheVariants.{X}
 use Rattle.rtl_bits.specs.Bits.{is_one_at}
-use Rattle.rtl_tree.specs.declared.text.Spot.{Spot}
+use Rattle.text_ground.specs.declared.text.Spot.{Spot}
 use Rattle.rtl_flat.specs.declared.expr.Index.TheVariants as index
 use Rattle.rtl_flat.specs.declared.expr.Node.{Node, Row_of-SizedExpr, end_of-SizedExpr, more_of-SizedExpr}
 use Rattle.rtl_flat.specs.declared.expr.Node.TheVariants as node

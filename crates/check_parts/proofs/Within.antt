@@ -4,7 +4,7 @@ use Rattle.std.specs.declared.alloc.Global.{Global}
 use Rattle.std.proofs.Common.{ℕ, ◌≡◌, ◌∙◌, ◌<◌, ◌+◌, refl, ap, sym, drop, length, get_or, append_assoc}
 use Rattle.std.proofs.lemmas.List.{map-append, drop_more}
 use Rattle.rtl_bits.specs.declared.Bit.{Bit}
-use Rattle.rtl_tree.specs.declared.text.Spot.{Spot}
+use Rattle.text_ground.specs.declared.text.Spot.{Spot}
 use Rattle.rtl_flat.specs.declared.expr.Index.TheVariants as index
 use Rattle.rtl_flat.specs.declared.expr.Node.{Node, Row_of-SizedExpr, end_of-SizedExpr, more_of-SizedExpr}
 use Rattle.rtl_flat.specs.declared.expr.Node.TheVariants as node

@@ -12,8 +12,8 @@ ghost use Rattle.check_parts.specs.Kept.{actions, expressions};
 use crate::statements::{USUAL, items, statements, statements_of};
 use rtl_flat::act::{Act, CaseItem, Does, EventItem, TargetPart};
 use rtl_flat::expr::{Index, Node, Select, SizedExpr};
-use rtl_tree::memory::Memory;
 use std::alloc::Global;
+use text_ground::memory::Memory;
 
 /// The expressions that stand in a statement itself: a value and the indices of its target, a condition or a selector.
 pub fn own_trees<'d>(alloc: Global, one: &'d Act) -> Result<Vec<&'d SizedExpr>, Memory>

@@ -4,7 +4,7 @@ ghost use Rattle.std.specs.Prelude.{◌≡◌, if◌then◌else◌};
 ghost use Rattle.rtl_rule.specs.Parts.{is_earlier, least_place};
 
 use rtl_rule::spots::is_earlier;
-use rtl_tree::text::Spot;
+use text_ground::text::Spot;
 
 /// The earlier of two places.
 fn earlier(one: Spot, other: Spot) -> Spot

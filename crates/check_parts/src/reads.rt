@@ -15,8 +15,8 @@ use rtl_flat::design::Design;
 use rtl_flat::expr::{Node, Select, SigId, SizedExpr};
 use rtl_scan::rtl_expr::eval;
 use rtl_scan::selected;
-use rtl_tree::memory::Memory;
 use std::alloc::Global;
+use text_ground::memory::Memory;
 
 /// The signal of a select, where it may mean a bit of it.
 pub fn selected_signal(design: &Design, signal: SigId, select: &Select) -> Option<SigId>

@@ -7,8 +7,8 @@ ghost use Rattle.rtl_scan.specs.Bodies.{branches_of, other_of};
 ghost use Rattle.check_parts.specs.Kept.{actions, targets};
 
 use rtl_flat::act::{Act, CaseItem, Does, EventItem, Listed, TargetPart};
-use rtl_tree::memory::Memory;
 use std::alloc::Global;
+use text_ground::memory::Memory;
 
 /// Room for as many statements or expressions as most bodies have: lists that grow from nothing are asked for so often
 /// that their growing shows.

@@ -2,7 +2,7 @@
 use Rattle.std.proofs.Common.{◌≡◌, refl, ℕ, Bool, true, false, None, [], ◌∷◌}
 use Rattle.rtl_bits.specs.declared.Edge.TheVariants.{No, Pos}
 use Rattle.rtl_flat.specs.declared.expr.Shift.TheVariants as shift
-use Rattle.rtl_tree.specs.declared.text.Spot.{Spot}
+use Rattle.text_ground.specs.declared.text.Spot.{Spot}
 use Rattle.rtl_flat.specs.declared.signal.Kind.TheVariants.{TopInput}
 use Rattle.rtl_flat.specs.declared.signal.Signal.{Signal}
 use Rattle.rtl_flat.specs.Expression as sized

@@ -18,8 +18,8 @@ use crate::selects::whole_select;
 use crate::targets::target_index;
 use rtl_flat::design::Design;
 use rtl_rule::finding::Finding;
-use rtl_tree::memory::Memory;
 use std::alloc::Global;
+use text_ground::memory::Memory;
 
 /// All findings about texts that other tools read otherwise, in their order, equal ones once.
 ///

@@ -15,8 +15,8 @@ use rtl_flat::act::{EventItem, Process};
 use rtl_flat::design::Design;
 use rtl_rule::finding::Finding;
 use rtl_rule::rule::Rule;
-use rtl_tree::memory::Memory;
 use std::alloc::Global;
+use text_ground::memory::Memory;
 
 /// Whether an item without an edge has a computed index.
 fn is_list_index(item: &EventItem) -> bool

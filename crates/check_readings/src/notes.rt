@@ -7,8 +7,8 @@ use rtl_flat::instance::DroppedRegion;
 use rtl_flat::note::{Note, Reading};
 use rtl_rule::finding::Finding;
 use rtl_rule::rule::Rule;
-use rtl_tree::dropped::DropKind;
-use rtl_tree::memory::Memory;
+use text_ground::dropped::DropKind;
+use text_ground::memory::Memory;
 
 fn is_comment(kind: DropKind) -> bool
     ensures { result ≡ is_comment kind }

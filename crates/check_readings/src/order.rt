@@ -5,7 +5,7 @@ ghost use Rattle.check_readings.specs.Readings.{is_same, once};
 
 use check_found::order::ranked;
 use rtl_rule::finding::Finding;
-use rtl_tree::memory::Memory;
+use text_ground::memory::Memory;
 
 /// Findings in their order, equal ones once.
 pub(crate) fn once(findings: Vec<Finding>) -> Result<Vec<Finding>, Memory>

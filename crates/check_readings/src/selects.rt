@@ -2,7 +2,7 @@
 
 ghost use Rattle.std.specs.Prelude.{ℕ, ◌≡◌, ◌++◌, Bool, map, IfOk, OnOk};
 ghost use Rattle.std.specs.List.{flat_map, slice_get};
-ghost use Rattle.rtl_tree.specs.declared.text.Spot.{Spot};
+ghost use Rattle.text_ground.specs.declared.text.Spot.{Spot};
 ghost use Rattle.rtl_flat.specs.Expression.{Sized, read, tree};
 ghost use Rattle.rtl_flat.specs.Flats.{flat};
 ghost use Rattle.rtl_flat.specs.Process.{doing, selection, task, watched};
@@ -19,8 +19,8 @@ use rtl_flat::expr::{Index, Node, Select, SigId, SizedExpr};
 use rtl_flat::signal::Signal;
 use rtl_rule::finding::Finding;
 use rtl_rule::rule::Rule;
-use rtl_tree::memory::Memory;
 use std::alloc::Global;
+use text_ground::memory::Memory;
 
 // ---- amounts and indices
 

@@ -15,8 +15,8 @@ use rtl_flat::design::Design;
 use rtl_flat::expr::{Index, Select};
 use rtl_rule::finding::Finding;
 use rtl_rule::rule::Rule;
-use rtl_tree::memory::Memory;
 use std::alloc::Global;
+use text_ground::memory::Memory;
 
 /// Whether a select is a bit whose index is computed.
 pub(crate) fn is_computed(select: &Select) -> bool

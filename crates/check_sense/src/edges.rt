@@ -14,8 +14,8 @@ use rtl_flat::design::Design;
 use rtl_flat::expr::SigId;
 use rtl_rule::finding::Finding;
 use rtl_rule::rule::Rule;
-use rtl_tree::memory::Memory;
 use std::alloc::Global;
+use text_ground::memory::Memory;
 
 /// Whether an item has no edge.
 fn is_level(item: &EventItem) -> bool

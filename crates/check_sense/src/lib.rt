@@ -15,8 +15,8 @@ use check_found::scans::Scans;
 pub use edges::mixed_edges;
 pub use missing::sense_missing;
 use rtl_rule::finding::Finding;
-use rtl_tree::memory::Memory;
 use std::alloc::Global;
+use text_ground::memory::Memory;
 pub use waking::never_wakes;
 
 /// All findings about sensitivity lists, in their order.

@@ -14,8 +14,8 @@ use check_found::scans::Scans;
 use rtl_flat::act::{Does, Listed, ProcId, Process};
 use rtl_rule::finding::Finding;
 use rtl_rule::rule::Rule;
-use rtl_tree::memory::Memory;
 use std::alloc::Global;
+use text_ground::memory::Memory;
 
 /// Whether a process has a written list without an edge.
 fn has_items(does: &Does) -> bool

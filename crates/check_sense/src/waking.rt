@@ -19,8 +19,8 @@ use rtl_flat::expr::SigId;
 use rtl_flat::signal::{Kind, Signal};
 use rtl_rule::finding::Finding;
 use rtl_rule::rule::Rule;
-use rtl_tree::memory::Memory;
 use std::alloc::Global;
+use text_ground::memory::Memory;
 
 /// The bits that one process at least may write, and those that several may.
 #[derive(Drop)]

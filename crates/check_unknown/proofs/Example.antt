@@ -5,7 +5,7 @@ use Rattle.rtl_bits.specs.declared.Bit.{Bit}
 use Rattle.rtl_bits.specs.declared.Bit.TheVariants.{Zero, One, X}
 use Rattle.rtl_flat.specs.declared.expr.Compare.TheVariants as compare
 use Rattle.rtl_flat.specs.declared.expr.Join.TheVariants as join
-use Rattle.rtl_tree.specs.declared.text.Spot.{Spot}
+use Rattle.text_ground.specs.declared.text.Spot.{Spot}
 use Rattle.rtl_flat.specs.declared.signal.Kind.{Kind}
 use Rattle.rtl_flat.specs.declared.signal.Kind.TheVariants.{TopInput, Net}
 use Rattle.rtl_flat.specs.declared.signal.Signal.{Signal}

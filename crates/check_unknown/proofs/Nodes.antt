@@ -3,7 +3,7 @@ use Rattle.std.specs.Prelude.{Box}
 use Rattle.std.specs.declared.alloc.Global.{Global}
 use Rattle.std.proofs.Common.{ℕ, ◌≡◌, Bool, false, None, refl, List}
 use Rattle.rtl_bits.specs.declared.Bit.{Bit}
-use Rattle.rtl_tree.specs.declared.text.Spot.{Spot}
+use Rattle.text_ground.specs.declared.text.Spot.{Spot}
 use Rattle.rtl_flat.specs.declared.expr.Compare.{Compare}
 use Rattle.rtl_flat.specs.declared.expr.Index.TheVariants as index
 use Rattle.rtl_flat.specs.declared.expr.Join.{Join}

@@ -7,7 +7,7 @@ use Rattle.std.proofs.Math.Nat.{div-lt_iff_lt-mul, one-le-pow, pow-le-pow_right}
 use Rattle.std.proofs.lemmas.List.{map-append, take_more}
 use Rattle.std.proofs.lemmas.List.Elements.{filter-append, filter_map-append}
 use Rattle.rtl_bits.specs.Bits.{is_one_at}
-use Rattle.rtl_tree.specs.declared.text.Spot.{Spot}
+use Rattle.text_ground.specs.declared.text.Spot.{Spot}
 use Rattle.rtl_flat.specs.declared.expr.Index.{Index}
 use Rattle.rtl_flat.specs.declared.expr.Index.TheVariants as index
 use Rattle.rtl_flat.specs.declared.expr.Select.{Select}

@@ -4,8 +4,8 @@ use Rattle.std.specs.List.{cons_option, filter_map, slice_get}
 use Rattle.std.proofs.lemmas.List.{map-append, take_more}
 use Rattle.std.proofs.lemmas.List.Elements.{filter_map-append}
 use Rattle.std.proofs.lemmas.Bool.{false≢true}
-use Rattle.rtl_tree.specs.declared.dropped.DropKind.{DropKind}
-use Rattle.rtl_tree.specs.declared.dropped.DropKind.TheVariants.{Comment, Initial, TranslateOff}
+use Rattle.text_ground.specs.declared.dropped.DropKind.{DropKind}
+use Rattle.text_ground.specs.declared.dropped.DropKind.TheVariants.{Comment, Initial, TranslateOff}
 use Rattle.rtl_flat.specs.declared.instance.Delay.{Delay}
 use Rattle.rtl_flat.specs.declared.instance.DroppedRegion.{DroppedRegion}
 use Rattle.rtl_flat.specs.Process.{Task}

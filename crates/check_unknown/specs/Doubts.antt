@@ -2,7 +2,7 @@
 -- Choices that read a signal which is marked.
 use Rattle.std.specs.Prelude.{ℕ, Bool, true, false, List, length, map, slice_index_or}
 use Rattle.std.specs.List.{filter, flat_map, list_any}
-use Rattle.rtl_tree.specs.declared.text.Spot.{Spot}
+use Rattle.text_ground.specs.declared.text.Spot.{Spot}
 use Rattle.rtl_flat.specs.declared.act.CaseKind.{CaseKind}
 use Rattle.rtl_flat.specs.declared.act.CaseKind.TheVariants as case
 use Rattle.rtl_flat.specs.Expression.{Tree}

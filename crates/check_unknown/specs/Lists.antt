@@ -2,9 +2,9 @@
 -- The findings of each rule as lists that are put together process by process.
 use Rattle.std.specs.Prelude.{ℕ, zero, suc, ◌≡◌, ◌+◌, ◌<◌, Bool, true, false, List, [], ◌∷◌, ◌++◌, length, map, Option, Some, None}
 use Rattle.std.specs.List.{filter, filter_map, slice_get}
-use Rattle.rtl_tree.specs.declared.dropped.DropKind.{DropKind}
-use Rattle.rtl_tree.specs.declared.dropped.DropKind.TheVariants.{Comment, Initial, TranslateOff}
-use Rattle.rtl_tree.specs.declared.text.Spot.{Spot}
+use Rattle.text_ground.specs.declared.dropped.DropKind.{DropKind}
+use Rattle.text_ground.specs.declared.dropped.DropKind.TheVariants.{Comment, Initial, TranslateOff}
+use Rattle.text_ground.specs.declared.text.Spot.{Spot}
 use Rattle.rtl_flat.specs.declared.expr.Compare.{Compare}
 use Rattle.rtl_flat.specs.declared.expr.Compare.TheVariants as compare
 use Rattle.rtl_flat.specs.declared.expr.Join.{Join}

@@ -7,8 +7,8 @@ use Rattle.rtl_bits.specs.declared.Bit.{Bit}
 use Rattle.rtl_bits.specs.declared.Bit.TheVariants as bit
 use Rattle.rtl_bits.specs.Bits.{top_bit}
 use Rattle.rtl_bits.specs.Bit.{is_one}
-use Rattle.rtl_tree.specs.declared.text.Spot.{Spot}
-use Rattle.rtl_tree.specs.declared.dropped.DropKind.TheVariants.{Initial, TranslateOff}
+use Rattle.text_ground.specs.declared.text.Spot.{Spot}
+use Rattle.text_ground.specs.declared.dropped.DropKind.TheVariants.{Initial, TranslateOff}
 use Rattle.rtl_flat.specs.declared.act.CaseKind.TheVariants.{Plain, Z, X}
 use Rattle.rtl_flat.specs.declared.expr.Compare.TheVariants as compare
 use Rattle.rtl_flat.specs.declared.expr.Join.TheVariants as join

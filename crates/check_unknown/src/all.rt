@@ -16,8 +16,8 @@ use check_chains::check_found::scans::Scans;
 use check_gates::Gate;
 use rtl_flat::design::Design;
 use rtl_rule::finding::Finding;
-use rtl_tree::memory::Memory;
 use std::alloc::Global;
+use text_ground::memory::Memory;
 
 /// The findings of literals, selects and operators.
 fn of_expressions(alloc: Global, design: &Design) -> Result<Vec<Finding>, Memory>

@@ -18,9 +18,9 @@ use rtl_flat::design::Design;
 use rtl_flat::expr::{Index, Select, SigId, SizedExpr};
 use rtl_rule::finding::Finding;
 use rtl_rule::rule::Rule;
-use rtl_tree::memory::Memory;
-use rtl_tree::text::Spot;
 use std::alloc::Global;
+use text_ground::memory::Memory;
+use text_ground::text::Spot;
 
 /// Whether a signal is marked.
 pub(crate) fn is_marked(marks: &[bool], signal: SigId) -> bool

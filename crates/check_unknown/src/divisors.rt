@@ -21,8 +21,8 @@ use rtl_flat::design::Design;
 use rtl_flat::expr::{Join, Node, SizedExpr};
 use rtl_rule::finding::Finding;
 use rtl_rule::rule::Rule;
-use rtl_tree::memory::Memory;
 use std::alloc::Global;
+use text_ground::memory::Memory;
 
 /// Whether bits are known and just one of them is 1.
 fn has_one(bits: Vec4) -> bool

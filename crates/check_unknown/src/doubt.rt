@@ -20,8 +20,8 @@ use check_gates::{Gate, gated};
 use rtl_flat::act::{Does, ProcId};
 use rtl_flat::design::Design;
 use rtl_flat::expr::SigId;
-use rtl_tree::memory::Memory;
 use std::alloc::Global;
+use text_ground::memory::Memory;
 
 /// The signals that may be x, and those of them whose readers weren't looked at yet.
 #[derive(Drop)]

@@ -12,9 +12,9 @@ use rtl_flat::expr::SigId;
 use rtl_flat::instance::{Delay, DroppedRegion};
 use rtl_rule::finding::Finding;
 use rtl_rule::rule::Rule;
-use rtl_tree::dropped::DropKind;
-use rtl_tree::memory::Memory;
 use std::alloc::Global;
+use text_ground::dropped::DropKind;
+use text_ground::memory::Memory;
 
 /// Whether a region was dropped for a reason.
 fn is_kind(one: DropKind, other: DropKind) -> bool

@@ -18,9 +18,9 @@ use rtl_flat::design::Design;
 use rtl_flat::expr::{Compare, Node, SizedExpr};
 use rtl_rule::finding::Finding;
 use rtl_rule::rule::Rule;
-use rtl_tree::memory::Memory;
-use rtl_tree::text::Spot;
 use std::alloc::Global;
+use text_ground::memory::Memory;
+use text_ground::text::Spot;
 
 /// All expressions of a process with their operands, labels too.
 fn all_nodes<'d>(alloc: Global, does: &'d Does) -> Result<Vec<&'d SizedExpr>, Memory>

@@ -15,8 +15,8 @@ use rtl_bits::Vec4;
 use rtl_flat::act::ProcId;
 use rtl_flat::design::Design;
 use rtl_rule::finding::Finding;
-use rtl_tree::memory::Memory;
 use std::alloc::Global;
+use text_ground::memory::Memory;
 
 /// The findings of each of these rules.
 #[derive(Drop)]

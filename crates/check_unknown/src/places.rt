@@ -12,9 +12,9 @@ use rtl_flat::design::Design;
 use rtl_flat::expr::SigId;
 use rtl_rule::finding::Finding;
 use rtl_rule::rule::Rule;
-use rtl_tree::memory::Memory;
-use rtl_tree::text::Spot;
 use std::alloc::Global;
+use text_ground::memory::Memory;
+use text_ground::text::Spot;
 
 /// Adds a finding at each place, about one signal in one instance.
 fn push_each(

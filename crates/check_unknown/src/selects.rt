@@ -2,7 +2,7 @@
 
 ghost use Rattle.std.specs.Prelude.{ℕ, ◌≡◌, ◌<◌, ◌++◌, ◌^◌, [], nat_lt, map, length, Some, IfOk, OnOk};
 ghost use Rattle.std.specs.List.{cons_option, filter_map, slice_get};
-ghost use Rattle.rtl_tree.specs.declared.text.Spot.{Spot};
+ghost use Rattle.text_ground.specs.declared.text.Spot.{Spot};
 ghost use Rattle.rtl_flat.specs.Expression.{tree};
 ghost use Rattle.rtl_flat.specs.Process.{Piece, Task, Watched, piece, selection, watched};
 ghost use Rattle.rtl_flat.specs.Signs.{width_in};
@@ -18,9 +18,9 @@ use rtl_flat::expr::{Index, Node, Select, SigId, SizedExpr};
 use rtl_flat::signal::Signal;
 use rtl_rule::finding::Finding;
 use rtl_rule::rule::Rule;
-use rtl_tree::memory::Memory;
-use rtl_tree::text::Spot;
 use std::alloc::Global;
+use text_ground::memory::Memory;
+use text_ground::text::Spot;
 
 /// The width of a signal.
 fn width_of(signals: &[Signal], signal: SigId) -> u8

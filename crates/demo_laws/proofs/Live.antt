@@ -9,7 +9,7 @@ use Rattle.rtl_bits.specs.declared.Bit.TheVariants.{X}
 use Rattle.rtl_bits.specs.Bit.{is_one, or_bit}
 use Rattle.rtl_bits.specs.Bits.{truth_bit}
 use Rattle.rtl_bits.proofs.Lists.{get_or-tabulate}
-use Rattle.rtl_tree.specs.declared.text.Spot.{Spot}
+use Rattle.text_ground.specs.declared.text.Spot.{Spot}
 use Rattle.rtl_flat.specs.declared.act.CaseKind.{CaseKind}
 use Rattle.rtl_flat.specs.Expression.{Tree}
 use Rattle.rtl_flat.specs.Flows.{action_then, body_flow, complete_by_labels, is_complete, labels_of, may_target, other_flow, reads, reads_all, target_reads, targets, way_past, ways}

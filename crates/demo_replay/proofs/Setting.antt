@@ -10,7 +10,7 @@ use Rattle.rtl_flat.specs.declared.instance.Instance.{Instance}
 use Rattle.rtl_flat.specs.declared.signal.Signal.{Signal}
 use Rattle.rtl_flat.specs.Signs.{width_in}
 use Rattle.rtl_flat.specs.WellFormed.{IsSignal}
-use Rattle.rtl_tree.specs.declared.memory.Memory.{Memory}
+use Rattle.text_ground.specs.declared.memory.Memory.{Memory}
 use Rattle.rtl_flat.specs.Flats.{flat, widths}
 use Rattle.event_model.specs.declared.setting.Setting.{Setting}
 use Rattle.event_model.specs.Queue.{is_input}

@@ -29,7 +29,7 @@ pub data LacksNetlist (d : Flat) : Type 0 where
 
 -- ---- what trials begin with
 
--- registers and latches, and top inputs, by number; and which inputs are clocks and resets
+-- registers and latches, and top inputs, by number; and which inputs are clocks, resets and gates
 pub record Setup : Type 0 where
   pub stored : List ℕ
   pub tops : List ℕ

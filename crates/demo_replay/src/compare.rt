@@ -16,8 +16,8 @@ use rtl_flat::expr::SigId;
 use rtl_flat::signal::Signal;
 use rtl_rule::finding::Finding;
 use rtl_rule::rule::Rule;
-use rtl_tree::memory::Memory;
 use std::alloc::Global;
+use text_ground::memory::Memory;
 
 /// A signal that shows another value than its number.
 #[derive(Clone, Copy)]

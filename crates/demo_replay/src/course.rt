@@ -7,8 +7,8 @@ use crate::compare::Difference;
 use crate::run::{Progress, Run};
 use crate::setup::Setup;
 use demo_trials::Trial;
-use rtl_tree::memory::Memory;
 use std::alloc::Global;
+use text_ground::memory::Memory;
 
 /// The signals that differ after each step of a trial, but for those that are marked, up to the
 /// first step that doesn't settle.

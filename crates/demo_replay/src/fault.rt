@@ -4,8 +4,8 @@ ghost use Rattle.std.specs.Prelude.{◌≡◌};
 ghost use Rattle.demo_replay.specs.declared.fault.ReplayFault.TheVariants as fault;
 
 use rtl_bits::Vec4;
-use rtl_tree::memory::Memory;
 use std::alloc::{AllocError, AllocFailed};
+use text_ground::memory::Memory;
 use thiserror::Error;
 
 /// What a demonstration names.

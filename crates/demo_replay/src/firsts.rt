@@ -16,8 +16,8 @@ use demo_trials::Trial;
 use rtl_flat::design::Design;
 use rtl_rule::finding::Finding;
 use rtl_rule::rule::Rule;
-use rtl_tree::memory::Memory;
 use std::alloc::Global;
+use text_ground::memory::Memory;
 
 /// Whether a trial is run for findings of a rule: the last for those on lists that never wake their
 /// process, and all others for any other.

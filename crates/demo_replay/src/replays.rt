@@ -18,8 +18,8 @@ use event_queue::rtl_scan::temporaries;
 use netlist_eval::net_start::stored::top_inputs;
 use rtl_flat::design::Design;
 use rtl_flat::expr::SigId;
-use rtl_tree::memory::Memory;
 use std::alloc::Global;
+use text_ground::memory::Memory;
 
 /// The trial of a demonstration that names a step of it, and a signal of the design.
 ///

@@ -19,8 +19,8 @@ use event_queue::sim::{EventSim, Unsettled};
 use netlist_eval::fault::NetFault;
 use netlist_eval::sim::NetSim;
 use rtl_flat::expr::SigId;
-use rtl_tree::memory::Memory;
 use std::alloc::Global;
+use text_ground::memory::Memory;
 
 /// How a trial goes on.
 #[derive(Clone, Copy, PartialEq, Eq, Debug)]

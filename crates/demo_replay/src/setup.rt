@@ -17,8 +17,8 @@ use netlist_eval::net_list::fault::InferFault;
 use netlist_eval::net_list::netlist::Netlist;
 use rtl_flat::design::Design;
 use rtl_flat::expr::SigId;
-use rtl_tree::memory::Memory;
 use std::alloc::Global;
+use text_ground::memory::Memory;
 
 /// A design with what its trials begin with.
 #[derive(Drop)]
@@ -115,7 +115,7 @@ impl<'d> Setup<'d> {
         }
     }
 
-    /// Whether a signal is a clock or a reset among the top inputs.
+    /// Whether a signal is a clock, a reset or a gate among the top inputs.
     pub(crate) fn is_control(&self, signal: SigId) -> bool
         ensures { result ≡ is_marked self.now.basis.controls.items signal.0 }
     {

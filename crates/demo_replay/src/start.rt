@@ -22,8 +22,8 @@ use netlist_eval::sim::NetSim;
 use rtl_bits::{Bit, Vec4};
 use rtl_flat::design::Design;
 use rtl_flat::expr::SigId;
-use rtl_tree::memory::Memory;
 use std::alloc::Global;
+use text_ground::memory::Memory;
 
 /// The trial that begins at power-up.
 pub(crate) const POWER_UP: u8 = 32;

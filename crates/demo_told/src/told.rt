@@ -1,7 +1,7 @@
 //! What is told of a finding.
 
 use crate::demo::{Demo, Shown};
-use rtl_tree::text::Text;
+use text_ground::text::Text;
 
 /// What is told of a finding beside its rule and its place.
 #[derive(Drop)]

@@ -5,7 +5,7 @@ ghost use Rattle.demo_trials.specs.Demos.{IsDemo, IsShown, demo_text, is_path, s
 
 use crate::trial::{POWER_UP, STEPS, Trial};
 use itoa::Buffer;
-use rtl_tree::memory::Memory;
+use text_ground::memory::Memory;
 
 /// Where a finding shows.
 #[derive(Clone, Copy)]

@@ -10,8 +10,8 @@ use crate::draw::drawn;
 use crate::input::Input;
 use crate::trial::{FIRST_DRAWN, POWER_UP, Trial};
 use event_model::setting::Setting;
-use rtl_tree::memory::Memory;
 use std::alloc::Global;
+use text_ground::memory::Memory;
 
 impl Trial {
     /// What a step sets, where the inputs have these values before it. Inputs stand in the order of the header.

@@ -22,13 +22,13 @@ use desk_files::{Files, Ready};
 use desk_memo::reading_law::{all_asked, all_refused, all_spelled, one_list};
 use desk_memo::{Memo, Readings};
 use desk_verdict::Verdict;
-use rtl_tree::memory::Memory;
-use rtl_tree::text::Text;
 use source_file::SourceFile;
 use std::alloc::Global;
 use std::marker::Model;
 use std::sync::ledger::Ledger;
 use steps::Steps;
+use text_ground::memory::Memory;
+use text_ground::text::Text;
 
 /// What files say of a top by the rules.
 pub type Answer = desk_memo::Answer<Verdict>;

@@ -4,8 +4,8 @@ ghost use Rattle.desk_verdict.specs.Verdicts.{IsVerdict};
 use desk_answers::Judge;
 use desk_verdict::Verdict;
 use rtl_flat::design::Design;
-use rtl_tree::memory::Memory;
 use std::alloc::Global;
+use text_ground::memory::Memory;
 
 /// The rules, as a judge of designs.
 pub(crate) enum Rules {}

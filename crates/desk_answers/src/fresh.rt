@@ -17,10 +17,10 @@ use desk_places::sources::Sources;
 use desk_refusals::design_refusal;
 use desk_refusals::elab_scope::fault::ElabFault;
 use rtl_flat::design::Design;
-use rtl_tree::memory::Memory;
-use rtl_tree::text::Text;
 use source_file::SourceFile;
 use std::alloc::Global;
+use text_ground::memory::Memory;
+use text_ground::text::Text;
 
 // A file behind others, where there is one with the number, as places are written of it.
 fn push_source<'f>(

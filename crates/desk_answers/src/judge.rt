@@ -4,8 +4,8 @@ ghost use Rattle.rtl_flat.specs.Flats.{DesignParts};
 ghost use Rattle.rtl_flat.specs.Flats.{flat_in};
 
 use rtl_flat::design::Design;
-use rtl_tree::memory::Memory;
 use std::alloc::Global;
+use text_ground::memory::Memory;
 
 /// What says something of each design.
 pub trait Judge {

@@ -25,12 +25,12 @@ use elab_names::elaborate;
 use elab_names::law::same_names;
 use rtl_flat::design::Design;
 use rtl_front::Conditions;
-use rtl_tree::memory::Memory;
-use rtl_tree::text::Text;
 use source_file::SourceFile;
 use std::alloc::Global;
 use std::sync::ledger::Ledger;
 use steps::Steps;
+use text_ground::memory::Memory;
+use text_ground::text::Text;
 
 // Notes the conditions of the files with these numbers that ask for a name of a tool, or of any other
 // file, in the design of the files, where there is one.

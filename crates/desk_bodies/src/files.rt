@@ -4,9 +4,9 @@ ghost use Rattle.desk_bodies.specs.Bodies.{edited_text, file_text, name_text, wi
 
 use desk_json::{push_bytes, push_hex, push_number, push_quoted};
 use desk_tables::{Digest, FileRow};
-use rtl_tree::memory::Memory;
-use rtl_tree::text::Text;
 use std::alloc::Global;
+use text_ground::memory::Memory;
+use text_ground::text::Text;
 
 // Writes what leads to a text, and the text.
 #[tactic(auto, unfolding(crate::specs::Bodies::with_text))]

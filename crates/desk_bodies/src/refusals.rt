@@ -5,8 +5,8 @@ ghost use Rattle.desk_requests.specs.Replies.{said};
 
 use desk_json::push_bytes;
 use desk_requests::{BodyKind, Reply};
-use rtl_tree::memory::Memory;
 use std::alloc::Global;
+use text_ground::memory::Memory;
 
 /// The tables stand against the request, for the reason that the word tells.
 pub fn conflict(alloc: Global, word: &[u8]) -> Result<Reply, Memory>

@@ -6,9 +6,9 @@ use crate::files::{push_count, push_digest, push_text};
 use desk_dates::date_digits;
 use desk_json::push_bytes;
 use desk_tables::{Day, SignOffRow};
-use rtl_tree::memory::Memory;
-use rtl_tree::text::Text;
 use std::alloc::Global;
+use text_ground::memory::Memory;
+use text_ground::text::Text;
 
 // Writes what leads to a day, and the day.
 #[tactic(auto, unfolding(crate::specs::Bodies::with_day))]

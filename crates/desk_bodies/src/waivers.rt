@@ -6,8 +6,8 @@ use crate::files::{push_count, push_digest, push_text};
 use crate::signoffs::push_day;
 use desk_json::push_bytes;
 use desk_tables::{Day, WaiverRow};
-use rtl_tree::memory::Memory;
 use std::alloc::Global;
+use text_ground::memory::Memory;
 
 // Writes what leads to a day, and the day or `null`.
 #[tactic(auto, unfolding(crate::specs::Bodies::with_day_or_null))]

@@ -2,7 +2,7 @@
 use Rattle.std.proofs.Common.{◌≡◌, ℕ, List, Result, Ok, Err}
 use Rattle.std.specs.Prelude.{IfOk}
 use Rattle.rtl_tree.specs.TreeModule.{Circuit}
-use Rattle.rtl_tree.specs.declared.memory.Memory.{Memory}
+use Rattle.text_ground.specs.declared.memory.Memory.{Memory}
 use Rattle.rtl_prep.specs.Conditions.{FileConditions}
 use Rattle.rtl_front.specs.declared.fault.FileFault.{FileFault}
 use Rattle.rtl_front.specs.declared.fault.SourceFault.TheVariants as source

@@ -24,14 +24,14 @@ use rtl_elab::elab_links::module_set::ModuleSet;
 use rtl_elab::whole::elaborate;
 use rtl_flat::design::Design;
 use rtl_front::{Conditions, FileFault, FilesRead, SourceFault, read_files};
-use rtl_tree::memory::Memory;
-use rtl_tree::text::Text;
 use rtl_tree::tree::modules::Module;
 use source_file::SourceFile;
 use std::alloc::Global;
 use std::marker::Brand;
 use std::sync::ledger::{Blank, Ledger};
 use steps::Steps;
+use text_ground::memory::Memory;
+use text_ground::text::Text;
 
 /// What texts make of a top.
 #[derive(Drop)]

@@ -13,9 +13,9 @@ use desk_io::{Failed, Sink};
 use desk_links::Clock;
 use desk_tables::{Day, Keeper};
 use desk_top::deliver::{DONE, NO_MEMORY, OPEN, REFUSED};
-use rtl_tree::memory::Memory;
-use rtl_tree::text::Text;
 use std::alloc::Global;
+use text_ground::memory::Memory;
+use text_ground::text::Text;
 
 // The exit status of a report.
 fn status_of(report: &TopReport) -> u8

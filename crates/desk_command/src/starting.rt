@@ -13,8 +13,8 @@ use desk_io::Sink;
 use desk_tables::Table;
 use desk_top::deliver::NO_MEMORY;
 use itoa::Buffer;
-use rtl_tree::memory::Memory;
 use std::alloc::Global;
+use text_ground::memory::Memory;
 
 // The name of a table, as lines on its rows have it.
 fn table_name(table: Table) -> &'static [u8]

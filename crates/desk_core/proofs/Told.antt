@@ -1,7 +1,7 @@
 -- What an answer tells, and what a request comes to with it.
 use Rattle.std.proofs.Common.{◌≡◌, ◌∙◌, ℕ, List, Option, Some, sym, ap, subst}
 use Rattle.std.specs.Prelude.{ℤ, IfOk, IfSome, Ok, Err, Result}
-use Rattle.rtl_tree.specs.declared.memory.Memory.{Memory}
+use Rattle.text_ground.specs.declared.memory.Memory.{Memory}
 use Rattle.source_file.specs.declared.SourceFile.{SourceFile}
 use Rattle.desk_tables.specs.Tables.{Kept}
 use Rattle.desk_requests.specs.declared.ask.Request.{Request}

@@ -19,13 +19,13 @@ use desk_records::{Decision, Records};
 use desk_requests::{Ask, Request};
 use desk_rulings::{Ruled, sign_off, waive};
 use desk_tables::{Day, Tables};
-use rtl_tree::memory::Memory;
-use rtl_tree::text::Text;
 use source_file::SourceFile;
 use std::alloc::Global;
 use std::marker::Brand;
 use std::sync::ledger::{Blank, Ledger};
 use steps::Steps;
+use text_ground::memory::Memory;
+use text_ground::text::Text;
 
 // The module whose ruling a request looks at.
 fn top_of(ask: &Ask) -> Option<&Text>

@@ -6,9 +6,9 @@ ghost use Rattle.desk_core.specs.Steps.{CanFollow, IsSameStore, IsShortChange, f
 
 use design_db::{Db, Ready};
 use desk_tables::Change;
-use rtl_tree::memory::Memory;
-use rtl_tree::text::Text;
 use std::alloc::Global;
+use text_ground::memory::Memory;
+use text_ground::text::Text;
 
 // What follows for the files once a change is made. It needs no memory then.
 #[derive(Drop)]

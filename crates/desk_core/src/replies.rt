@@ -4,8 +4,8 @@ ghost use Rattle.desk_requests.specs.Replies.{said};
 ghost use Rattle.desk_service.specs.Service.{no_memory, plainly, unavailable};
 
 use desk_requests::{BodyKind, Reply};
-use rtl_tree::memory::Memory;
 use std::alloc::Global;
+use text_ground::memory::Memory;
 
 pub(crate) fn plainly(status: u16, body: Vec<u8>) -> Reply
     ensures { said result ≡ plainly status body.items }

@@ -16,10 +16,10 @@ use desk_report::report;
 use desk_rows::Row;
 use desk_rulings::{Ruled, left, standing};
 use desk_tables::{Day, Tables};
-use rtl_tree::memory::Memory;
-use rtl_tree::text::Text;
 use source_file::SourceFile;
 use std::alloc::Global;
+use text_ground::memory::Memory;
+use text_ground::text::Text;
 
 /// What is told of a module on a day.
 #[derive(Drop)]

@@ -22,9 +22,9 @@ use design_db::Db;
 use desk_records::{Decision, Records, Stop};
 use desk_requests::{Reply, Request};
 use desk_tables::{Change, Day, Keeper};
-use rtl_tree::memory::Memory;
-use rtl_tree::text::Text;
 use std::alloc::Global;
+use text_ground::memory::Memory;
+use text_ground::text::Text;
 
 // What is ready before a change is made, so that nothing takes memory after it: what follows for
 // the files, and the reply where the keeper fails.

@@ -10,8 +10,8 @@ use crate::Desk;
 use design_db::Db;
 use desk_records::Records;
 use desk_tables::{Keeper, KeeperFault, Table, Tables, bad_row};
-use rtl_tree::memory::Memory;
 use std::alloc::Global;
+use text_ground::memory::Memory;
 use thiserror::Error;
 
 /// Why the desk doesn't start.

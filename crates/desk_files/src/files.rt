@@ -3,10 +3,10 @@ ghost use Rattle.std.specs.Prelude.{◌≡◌, ◌≤◌, ◌<◌, ◌+◌, [], 
 ghost use Rattle.desk_files.specs.Shown.{list_of, room};
 ghost use Rattle.desk_files.specs.Sources.{has_file, is_before, is_named, place_of, with_file, without_file};
 
-use rtl_tree::memory::Memory;
-use rtl_tree::text::Text;
 use source_file::SourceFile;
 use std::alloc::Global;
+use text_ground::memory::Memory;
+use text_ground::text::Text;
 
 /// Files in the order of the bytes of their names, each name once.
 #[derive(Drop)]

@@ -13,8 +13,8 @@ use desk_numbers::{is_plain, number_up_to};
 use desk_requests::Ask;
 use desk_tables::{MAX_FILE_NAME_BYTES, WaiverId};
 use percent_encoding::percent_decode;
-use rtl_tree::text::Text;
 use std::alloc::Global;
+use text_ground::text::Text;
 
 // What is asked for, or what is as soon as the body is read.
 #[derive(Drop)]

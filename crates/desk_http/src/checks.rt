@@ -13,9 +13,9 @@ use crate::waiver::waiver_of;
 use crate::{BadRequest, Head};
 use desk_requests::{Ask, Request};
 use desk_tables::{Digest, Name};
-use rtl_tree::text::Text;
 use sha2::{Digest as Hasher, Sha256};
 use std::alloc::Global;
+use text_ground::text::Text;
 
 /// How many characters the name of a request may have.
 const MAX_LABEL_BYTES: usize = 64;

@@ -2,7 +2,7 @@
 ghost use Rattle.std.specs.Prelude.{◌≡◌};
 ghost use Rattle.desk_http.specs.Refusals.{refusal_line, refusal_status};
 
-use rtl_tree::memory::Memory;
+use text_ground::memory::Memory;
 use thiserror::Error;
 
 /// Why a request isn't served.

@@ -11,9 +11,9 @@ use desk_dates::day_of_text;
 use desk_requests::WaiverAsk;
 use desk_tables::Name;
 use rtl_rule::rule::rule_of;
-use rtl_tree::text::Text;
 use serde_json::Value;
 use std::alloc::Global;
+use text_ground::text::Text;
 
 /// How many characters a reason may have.
 const MAX_REASON_BYTES: usize = 200;

@@ -4,7 +4,7 @@ ghost use Rattle.std.specs.Char.{digit_char};
 ghost use Rattle.json.specs.Print.{escape_byte, escape_letter, quoted};
 
 use crate::values::push_bytes;
-use rtl_tree::memory::Memory;
+use text_ground::memory::Memory;
 
 // The letter of a byte's short escape, and 0 where it has none.
 fn escape_letter(byte: u8) -> u8

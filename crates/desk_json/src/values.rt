@@ -4,7 +4,7 @@ ghost use Rattle.hex.specs.Hex.{encode_lower};
 
 use hex::encode_to_slice;
 use itoa::Buffer;
-use rtl_tree::memory::Memory;
+use text_ground::memory::Memory;
 
 /// Writes bytes behind other text.
 pub fn push_bytes(out: &mut Vec<u8>, bytes: &[u8]) -> Result<(), Memory>

@@ -1,9 +1,9 @@
 // What is answered of a top.
 ghost use Rattle.std.specs.Prelude.{◌≡◌, IfOk};
 
-use rtl_tree::memory::Memory;
-use rtl_tree::text::Text;
 use std::alloc::Global;
+use text_ground::memory::Memory;
+use text_ground::text::Text;
 
 /// What files say of a top, where `V` is what is said of a design.
 #[derive(Drop)]

@@ -3,9 +3,9 @@ ghost use Rattle.std.specs.Prelude.{◌≡◌, ◌++◌, ◌∷◌, [], None, So
 
 use crate::reading::{Fresh, Reading};
 use rtl_front::Conditions;
-use rtl_tree::memory::Memory;
 use rtl_tree::tree::modules::Module;
 use std::alloc::Global;
+use text_ground::memory::Memory;
 
 /// For each file, in the order of the files: what changes places with what is kept of it, or
 /// nothing.

@@ -12,10 +12,10 @@ use crate::readings::Readings;
 use crate::used::{Used, used_files};
 use elab_lookups::LookUp;
 use elab_lookups::elab_links::module_set::Lookup;
-use rtl_tree::memory::Memory;
-use rtl_tree::text::Text;
 use source_file::SourceFile;
 use std::alloc::Global;
+use text_ground::memory::Memory;
+use text_ground::text::Text;
 
 /// An answer with its top, what it looked up, the files that it used, for which of the names that
 /// the conditions of each ask for another file had a macro, and whether it is known to hold.

@@ -13,10 +13,10 @@ ghost use Rattle.desk_memo.specs.ShownReadings.{read_of};
 use crate::answer::Answer;
 use crate::kept::Kept;
 use crate::readings::Readings;
-use rtl_tree::memory::Memory;
-use rtl_tree::text::Text;
 use source_file::SourceFile;
 use std::alloc::Global;
+use text_ground::memory::Memory;
+use text_ground::text::Text;
 
 /// The rulings of tops, one for each, and that of the last top that no module, or more than one, is
 /// named by: of such tops only the last is kept, so that requests for names that aren't there take

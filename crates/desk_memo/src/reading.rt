@@ -11,8 +11,6 @@ use crate::answer::Answer;
 use desk_places::sources::Sources;
 use desk_refusals::source_refusal;
 use rtl_front::{Conditions, FileFault, FilesRead, SourceFault, read_files};
-use rtl_tree::memory::Memory;
-use rtl_tree::text::Text;
 use rtl_tree::tree::modules::Module;
 use source_file::SourceFile;
 use std::alloc::Global;
@@ -20,6 +18,8 @@ use std::rc::Rc;
 use std::slice::from_ref;
 use std::sync::ledger::Ledger;
 use steps::Steps;
+use text_ground::memory::Memory;
+use text_ground::text::Text;
 
 /// A file as it was read last.
 #[derive(Drop)]

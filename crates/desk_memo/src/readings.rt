@@ -15,13 +15,13 @@ use crate::place::{put_blank, remove_named};
 use crate::reading::{Reading, is_current, mark, read, refusal_of};
 use desk_files::{is_named, place_of};
 use rtl_front::Conditions;
-use rtl_tree::memory::Memory;
 use rtl_tree::tree::modules::Module;
 use source_file::SourceFile;
 use std::alloc::Global;
 use std::rc::Rc;
 use std::sync::ledger::Ledger;
 use steps::Steps;
+use text_ground::memory::Memory;
 
 /// Of each file, in the order of the files: the text that was read last, the modules that it spells
 /// or why it spells none, what its conditions ask, and whether the file still has that text.

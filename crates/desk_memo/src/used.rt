@@ -5,10 +5,10 @@ ghost use Rattle.desk_memo.specs.ShownReadings.{readings_of};
 ghost use Rattle.desk_memo.specs.Shown.{all_used, used_among};
 
 use crate::readings::Readings;
-use rtl_tree::memory::Memory;
 use source_file::SourceFile;
 use std::alloc::Global;
 use std::rc::Rc;
+use text_ground::memory::Memory;
 
 /// A file that a top used, as it was read. It is shared with the readings.
 #[derive(Drop)]

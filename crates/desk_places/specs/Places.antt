@@ -3,7 +3,7 @@
 use Rattle.std.specs.Prelude.{ℕ, ◌+◌, List, [], ◌++◌, map, take, not, count_by, codes, slice_get, Option, None, Some}
 use Rattle.std.specs.List.{suffix_len}
 use Rattle.std.specs.Fmt.{decimal}
-use Rattle.rtl_tree.specs.declared.text.Spot.{Spot}
+use Rattle.text_ground.specs.declared.text.Spot.{Spot}
 use Rattle.source_file.specs.declared.SourceFile.{SourceFile}
 use Rattle.desk_places.specs.Lines.{is_line_feed}
 use Rattle.desk_places.specs.declared.lines.LineTable.{LineTable}

@@ -3,8 +3,8 @@
 ghost use Rattle.std.specs.Prelude.{◌≡◌, ◌+◌, ◌<◌, ◌≤◌, IfOk, length, slice_index_or};
 ghost use Rattle.desk_places.specs.Lines.{line_starts};
 
-use rtl_tree::memory::Memory;
 use std::alloc::Global;
+use text_ground::memory::Memory;
 
 /// A place as an engineer reads it, both numbers from 1.
 #[derive(Clone, Copy, PartialEq, Eq, Debug)]

@@ -5,9 +5,9 @@ ghost use Rattle.std.specs.Option.{ForSome};
 
 use crate::lines::{LineTable, Position};
 use itoa::Buffer;
-use rtl_tree::memory::Memory;
 use source_file::SourceFile;
 use std::alloc::Global;
+use text_ground::memory::Memory;
 
 /// A file that was read, with the lines of its text where many places of it are written.
 #[derive(Drop)]

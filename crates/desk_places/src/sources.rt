@@ -5,10 +5,10 @@ ghost use Rattle.source_file.specs.SourceFiles.{AreShort};
 ghost use Rattle.desk_places.specs.Places.{place_in, sources_of};
 
 use crate::placed_file::PlacedFile;
-use rtl_tree::memory::Memory;
-use rtl_tree::text::Spot;
 use source_file::SourceFile;
 use std::alloc::Global;
+use text_ground::memory::Memory;
+use text_ground::text::Spot;
 
 /// The files that were read, in their order: a spot names its file by the position there.
 #[derive(Drop)]

@@ -13,10 +13,10 @@ use desk_bodies::{
 };
 use desk_requests::{Ask, BodyKind, Reply, Request};
 use desk_tables::{Change, Day, FileRow, ReplyRow, Tables};
-use rtl_tree::memory::Memory;
-use rtl_tree::text::Text;
 use sha2::{Digest, Sha256};
 use std::alloc::Global;
+use text_ground::memory::Memory;
+use text_ground::text::Text;
 
 fn is_to(row: &ReplyRow, user: &[u8], label: &[u8]) -> bool
     ensures { result ≡ is_to user.now label.now row.now }

@@ -12,9 +12,9 @@ use desk_requests::Ask;
 use desk_tables::{
     FileRow, MAX_ALL_BYTES, MAX_FILES, MAX_REPLIES, MAX_SIGN_OFFS, MAX_WAIVERS, Table, Tables,
 };
-use rtl_tree::memory::Memory;
-use rtl_tree::text::Text;
 use std::alloc::Global;
+use text_ground::memory::Memory;
+use text_ground::text::Text;
 
 // A file and its bytes, where it has another name.
 fn counted(row: &FileRow, name: &Text) -> (usize, u64)

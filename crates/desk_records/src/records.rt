@@ -13,9 +13,9 @@ use crate::limits::{full_refusal, full_table};
 use crate::settle::{ready, settle};
 use desk_requests::{Reply, Request};
 use desk_tables::{Change, Day, Keeper, KeeperFault, Tables};
-use rtl_tree::memory::Memory;
 use std::alloc::Global;
 use std::marker::Model;
+use text_ground::memory::Memory;
 use thiserror::Error;
 
 /// Why a change isn't made.

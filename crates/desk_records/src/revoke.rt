@@ -12,8 +12,8 @@ use desk_bodies::{id_body, not_found, refused_with};
 use desk_dates::date_digits;
 use desk_requests::Request;
 use desk_tables::{Change, Day, Name, WaiverId, WaiverRow};
-use rtl_tree::memory::Memory;
 use std::alloc::Global;
+use text_ground::memory::Memory;
 use waiver_book::RevokeFault;
 
 // The waiver of a number.

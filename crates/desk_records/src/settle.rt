@@ -8,9 +8,9 @@ ghost use Rattle.desk_records.specs.Room.{HasRoom};
 
 use desk_requests::{BodyKind, Reply};
 use desk_tables::{Change, Day, FileRow, ReplyRow, SignOffRow, Tables, WaiverId, WaiverRow};
-use rtl_tree::memory::Memory;
-use rtl_tree::text::Text;
 use std::alloc::Global;
+use text_ground::memory::Memory;
+use text_ground::text::Text;
 
 // Makes room for one row more of each table. The rows stay.
 fn make_room(tables: &mut Tables) -> Result<(), Memory>

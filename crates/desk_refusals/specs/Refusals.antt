@@ -2,7 +2,7 @@
 -- Worked examples: crates/tests_rows/stdin.
 use Rattle.std.specs.Prelude.{ℕ, List, [], ◌++◌, codes, Option, None, Some}
 use Rattle.std.specs.Option.{option_map}
-use Rattle.rtl_tree.specs.declared.text.Spot.{Spot}
+use Rattle.text_ground.specs.declared.text.Spot.{Spot}
 use Rattle.source_file.specs.declared.SourceFile.{SourceFile}
 use Rattle.desk_places.specs.Places.{place_in}
 use Rattle.rtl_front.specs.declared.fault.FileFault.{FileFault}

@@ -12,9 +12,9 @@ use crate::reason::{Reason, alone, worded};
 use desk_places::sources::Sources;
 use elab_scope::fault::ElabFault;
 use rtl_const::fault::ConstFault;
-use rtl_tree::memory::Memory;
-use rtl_tree::text::Spot;
 use std::alloc::Global;
+use text_ground::memory::Memory;
+use text_ground::text::Spot;
 
 fn const_reason(fault: ConstFault, spot: Option<Spot>) -> Option<Reason<'static>>
     ensures { option_map notice result ≡ const_notice spot fault }

@@ -13,9 +13,9 @@ use rtl_front::FileFault;
 use rtl_parse::ParseFault;
 use rtl_prep::PrepFault;
 use rtl_text::LexFault;
-use rtl_tree::memory::Memory;
-use rtl_tree::text::Spot;
 use std::alloc::Global;
+use text_ground::memory::Memory;
+use text_ground::text::Spot;
 
 fn place(file: u32, at: u32) -> Option<Spot>
     ensures { result ≡ in_file file at }

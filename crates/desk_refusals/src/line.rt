@@ -8,9 +8,9 @@ ghost use Rattle.desk_refusals.specs.Refusals.{line, notice, notice_line, place_
 use crate::reason::Reason;
 use crate::word::push_word;
 use desk_places::sources::Sources;
-use rtl_tree::memory::Memory;
-use rtl_tree::text::Spot;
 use std::alloc::Global;
+use text_ground::memory::Memory;
+use text_ground::text::Spot;
 
 fn push_spot(sources: &Sources<'_>, spot: Option<Spot>, out: &mut Vec<u8>) -> Result<(), Memory>
     ensures { OnOk result (out.new.items

@@ -5,7 +5,7 @@ ghost use Rattle.std.specs.Option.{option_map};
 ghost use Rattle.desk_refusals.specs.Notices.{told};
 ghost use Rattle.desk_refusals.specs.Refusals.{notice};
 
-use rtl_tree::text::Spot;
+use text_ground::text::Spot;
 
 /// A fault by its name, with the text that it carries and its place, where it has them.
 #[derive(Clone, Copy)]

@@ -5,7 +5,7 @@ ghost use Rattle.std.specs.Option.{option_map};
 ghost use Rattle.desk_refusals.specs.Words.{on_one_line, shown, word_part};
 
 use rtl_text::is_blank;
-use rtl_tree::memory::Memory;
+use text_ground::memory::Memory;
 
 /// A byte as it is written: a printable one as it is.
 fn shown(byte: u8) -> u8

@@ -6,8 +6,8 @@ ghost use Rattle.desk_report.specs.Demos.{demo_line, replay_line, values_text};
 use crate::value::push_value;
 use demo_told::{Demo, Shown};
 use itoa::Buffer;
-use rtl_tree::memory::Memory;
 use std::alloc::Global;
+use text_ground::memory::Memory;
 
 /// Writes behind other text what stands below a finding in a report:
 /// `  trial T step K signal PATH simulated V synthesised W`.

@@ -15,8 +15,8 @@ use desk_rows::{Row, WaivedRow};
 use desk_tables::{Day, WaiverId};
 use itoa::Buffer;
 use rtl_rule::finding::Ruling;
-use rtl_tree::memory::Memory;
 use std::alloc::Global;
+use text_ground::memory::Memory;
 
 /// The report of a top: its head, whether its design is clean and firm, and for each row a line with
 /// the rule, what the finding is about, the place and the waiver that stands, and below it one that

@@ -7,9 +7,9 @@ use demo_told::{Demo, Shown, Told};
 use desk_rows::Row;
 use rtl_flat::design::Design;
 use rtl_rule::finding::Finding;
-use rtl_tree::memory::Memory;
-use rtl_tree::text::Text;
 use std::alloc::Global;
+use text_ground::memory::Memory;
+use text_ground::text::Text;
 
 /// Findings of a design, of which the first ones show where this says so, each with what is told of
 /// it.

@@ -6,9 +6,9 @@ ghost use Rattle.rtl_bits.specs.Bits.{has_unknown, number};
 ghost use Rattle.desk_report.specs.Values.{binary_digits, digit_of, digits_text, hex_digit, hex_digits, value_text};
 
 use rtl_bits::{Bit, Vec4};
-use rtl_tree::memory::Memory;
-use rtl_tree::text::Text;
 use std::alloc::Global;
+use text_ground::memory::Memory;
+use text_ground::text::Text;
 
 /// The widest vector that is always written in base 2.
 const SHORT: u8 = 16;

@@ -4,7 +4,7 @@ ghost use Rattle.desk_requests.specs.Requests.{changes, label_of};
 
 use desk_tables::{Day, Digest, Name, WaiverId};
 use rtl_rule::rule::Rule;
-use rtl_tree::text::Text;
+use text_ground::text::Text;
 
 /// The waiver that is asked for.
 #[derive(Drop)]

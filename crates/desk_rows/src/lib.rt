@@ -7,8 +7,8 @@ ghost use Rattle.desk_rows.specs.Rows.{unwaived, waived};
 use demo_told::Told;
 use desk_tables::{Day, WaiverId};
 use rtl_rule::finding::Finding;
-use rtl_tree::memory::Memory;
 use std::alloc::Global;
+use text_ground::memory::Memory;
 
 /// A finding with what is told of it.
 #[derive(Drop)]

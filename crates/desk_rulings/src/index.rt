@@ -7,9 +7,9 @@ ghost use Rattle.desk_rulings.specs.Rulings.{standing_in, stands};
 use crate::site::Site;
 use desk_tables::{Day, Digest, WaiverId, WaiverRow};
 use name_map::NameMap;
-use rtl_tree::memory::Memory;
-use rtl_tree::text::Text;
 use std::alloc::Global;
+use text_ground::memory::Memory;
+use text_ground::text::Text;
 
 // The waivers that stand on a day, each with its last day.
 pub(crate) type Index = NameMap<(WaiverId, Day)>;

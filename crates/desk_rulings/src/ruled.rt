@@ -1,8 +1,8 @@
 // What the rules say of a module.
 
 use desk_rows::Row;
-use rtl_tree::text::Text;
 use source_file::SourceFile;
+use text_ground::text::Text;
 
 /// What the rules say of a module, with the files that it uses.
 #[derive(Clone, Copy)]

@@ -20,10 +20,10 @@ use desk_rows::Row;
 use desk_tables::{Change, Day, Digest, FileRow, Grade, Name, SignOffRow, Tables};
 use itoa::Buffer;
 use rtl_rule::rule::first_grade;
-use rtl_tree::memory::Memory;
-use rtl_tree::text::Text;
 use sha2::{Digest as _, Sha256};
 use std::alloc::Global;
+use text_ground::memory::Memory;
+use text_ground::text::Text;
 
 // The file of a name, where this user put it last.
 fn edited_at<'t>(files: &'t [FileRow], name: &Text, who: &Name) -> Option<&'t FileRow>

@@ -7,10 +7,10 @@ ghost use Rattle.desk_rulings.specs.Rulings.{digest_of, key_in};
 use desk_rows::Row;
 use desk_tables::{Digest, FileRow};
 use rtl_rule::rule::Rule;
-use rtl_tree::memory::Memory;
-use rtl_tree::text::Text;
 use source_file::SourceFile;
 use std::alloc::Global;
+use text_ground::memory::Memory;
+use text_ground::text::Text;
 
 // What names a finding across edits, and the digest of its file.
 #[derive(Drop)]

@@ -14,9 +14,9 @@ use crate::site::{Site, digests_of, site_in};
 use desk_rows::{Row, WaivedRow};
 use desk_tables::{Day, Digest, Tables, WaiverId};
 use rtl_rule::rule::first_grade;
-use rtl_tree::memory::Memory;
 use source_file::SourceFile;
 use std::alloc::Global;
+use text_ground::memory::Memory;
 
 // The site of a finding, where the files have these digests.
 fn site_of<'r>(

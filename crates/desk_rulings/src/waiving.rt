@@ -22,10 +22,10 @@ use desk_rows::Row;
 use desk_tables::{Change, Day, FileRow, Name, Tables, WaiverId, WaiverRow};
 use itoa::Buffer;
 use rtl_rule::rule::{Rule, waivable};
-use rtl_tree::memory::Memory;
-use rtl_tree::text::Text;
 use source_file::SourceFile;
 use std::alloc::Global;
+use text_ground::memory::Memory;
+use text_ground::text::Text;
 use waiver_book::{MAX_TERM, WaiveFault};
 
 // The files, as places are written of them.

@@ -13,8 +13,8 @@ use rtl_flat::design::Design;
 use rtl_flat::expr::SigId;
 use rtl_flat::instance::Instance;
 use rtl_flat::signal::Signal;
-use rtl_tree::memory::Memory;
 use std::alloc::Global;
+use text_ground::memory::Memory;
 
 /// The number of a step.
 fn push_number(out: &mut Vec<u8>, number: usize) -> Result<(), Memory>

@@ -10,8 +10,8 @@ use desk_steps::Steps;
 use event_queue::sim::{EventSim, Unsettled};
 use event_queue::start::Start;
 use rtl_flat::design::Design;
-use rtl_tree::memory::Memory;
 use std::alloc::Global;
+use text_ground::memory::Memory;
 
 /// How a run goes on.
 #[derive(Clone, Copy, PartialEq, Eq, Debug)]

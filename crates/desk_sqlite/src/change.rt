@@ -4,8 +4,8 @@ use crate::values::{
     blob_value, day_value, digest_value, end_value, name_value, number_value, text_value,
 };
 use desk_tables::{Change, Day, FileRow, ReplyRow, SignOffRow, WaiverId, WaiverRow};
-use rtl_tree::text::Text;
 use sqlite::{Alter, Connection, Error, ErrorCode, Transaction};
+use text_ground::text::Text;
 
 // A file that is replaced keeps its rowid, and so its place.
 fn put_file<S: Alter>(tx: &mut Transaction<'_, S>, file: &FileRow) -> Result<(), Error> {

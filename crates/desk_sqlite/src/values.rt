@@ -6,10 +6,10 @@ ghost use Rattle.sqlite_value.specs.declared.value.Value.TheVariants.{Int, Text 
 ghost use Rattle.desk_sqlite.specs.Columns.{end_day, number};
 
 use desk_tables::{Day, Digest, Name};
-use rtl_tree::text::Text;
 use sqlite::types::{Type, ValueRef};
 use sqlite::{Error, Row};
 use std::alloc::Global;
+use text_ground::text::Text;
 
 // ---- read
 

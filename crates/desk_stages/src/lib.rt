@@ -5,8 +5,8 @@ ghost use Rattle.std.specs.Prelude.{◌≡◌, ◌≤◌, ◌++◌, vec_len, IfO
 ghost use Rattle.desk_stages.specs.Stages.{stage_lines, stages_text, text_with_number};
 
 use itoa::Buffer;
-use rtl_tree::memory::Memory;
 use std::alloc::Global;
+use text_ground::memory::Memory;
 
 /// The most stages of a design.
 pub const MOST_STAGES: u32 = 1000;

@@ -15,8 +15,8 @@ use crate::names::Names;
 use event_model::policy::Policy;
 use event_model::setting::Setting;
 use rtl_flat::design::Design;
-use rtl_tree::memory::Memory;
 use std::alloc::{AllocFailed, Global};
+use text_ground::memory::Memory;
 use thiserror::Error;
 
 /// The most lines of a file.

@@ -12,9 +12,9 @@ use crate::names::{Input, Names};
 use crate::value::value_bits;
 use event_model::setting::Setting;
 use rtl_flat::expr::SigId;
-use rtl_tree::memory::Memory;
 use std::alloc::Global;
 use std::collections::BTreeMap;
+use text_ground::memory::Memory;
 
 /// The inputs that a line has set so far.
 #[derive(Drop)]

@@ -8,9 +8,9 @@ use rtl_flat::design::Design;
 use rtl_flat::expr::SigId;
 use rtl_flat::instance::Instance;
 use rtl_flat::signal::{Kind, Signal};
-use rtl_tree::memory::Memory;
 use std::alloc::Global;
 use std::collections::BTreeMap;
+use text_ground::memory::Memory;
 
 /// An input of the top.
 #[derive(Clone, Copy)]

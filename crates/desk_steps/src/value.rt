@@ -5,8 +5,8 @@ ghost use Rattle.desk_steps.specs.Values.{based_bits, cut_bits, digit_bits, digi
 
 use crate::cut::cut_at;
 use rtl_bits::{Bit, Vec4};
-use rtl_tree::memory::Memory;
 use std::alloc::Global;
+use text_ground::memory::Memory;
 
 /// What a number counts in.
 #[derive(Clone, Copy, PartialEq, Eq, Debug)]

@@ -5,9 +5,9 @@ ghost use Rattle.desk_tables.specs.Changes.{changed, has_id, has_name, reply_of,
 
 use crate::rows::Row;
 use crate::{Day, FileRow, ReplyRow, SignOffRow, Tables, WaiverId, WaiverRow};
-use rtl_tree::memory::Memory;
-use rtl_tree::text::Text;
 use std::alloc::Global;
+use text_ground::memory::Memory;
+use text_ground::text::Text;
 
 /// What a request that was accepted changes, each with the reply that is kept.
 #[derive(Drop)]

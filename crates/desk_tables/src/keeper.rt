@@ -22,10 +22,10 @@ pub enum KeeperFault {
     Memory,
 }
 
-impl From<rtl_tree::memory::Memory> for KeeperFault {
+impl From<text_ground::memory::Memory> for KeeperFault {
     ghost from_gives = { λ _ fault. fault ≡ Memory };
 
-    fn from(_: rtl_tree::memory::Memory) -> Self {
+    fn from(_: text_ground::memory::Memory) -> Self {
         KeeperFault::Memory
     }
 }

@@ -7,9 +7,9 @@ mod copies;
 
 use crate::{Day, Name};
 pub(crate) use copies::{Row, copied_rows};
-use rtl_tree::memory::Memory;
-use rtl_tree::text::Text;
 use std::alloc::Global;
+use text_ground::memory::Memory;
+use text_ground::text::Text;
 
 /// A SHA-256.
 pub type Digest = [u8; 32];

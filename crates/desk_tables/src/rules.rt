@@ -7,10 +7,10 @@ mod seen;
 mod sound;
 
 use crate::{FileRow, MetaRow, ReplyRow, SignOffRow, Table, Tables, WaiverRow};
-use rtl_tree::memory::Memory;
 use seen::{Seen, reply_key};
 use sound::{is_sound_file, is_sound_reply, is_sound_signoff, is_sound_waiver};
 use std::alloc::Global;
+use text_ground::memory::Memory;
 
 /// How many bytes the name of a file may have.
 pub const MAX_FILE_NAME_BYTES: usize = 64;

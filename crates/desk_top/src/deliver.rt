@@ -7,8 +7,8 @@ ghost use Rattle.desk_top.specs.declared.deliver.Stop.TheVariants.{Memory};
 ghost use Rattle.desk_top.specs.Delivery.{Delivers, Finishes, FrontAppended, gave_up, status_of, stop_status};
 
 use desk_io::{Failed, Sink};
-use rtl_tree::memory::Memory as NoMemory;
 use std::alloc::{AllocError, AllocFailed};
+use text_ground::memory::Memory as NoMemory;
 
 /// The exit status where the work was done: after `sign` the design is clean, after `simulate` each
 /// step came to rest, after `replay` the two values differ, after `generate` the design is ruled.

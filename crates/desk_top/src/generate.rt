@@ -13,9 +13,9 @@ use desk_report::stages_report;
 use desk_stages::{MOST_STAGES, TOP, stages_text};
 use desk_verdict::sign_off::rule::rule;
 use rtl_flat::design::Design;
-use rtl_tree::memory::Memory;
 use source_file::SourceFile;
 use std::alloc::Global;
+use text_ground::memory::Memory;
 
 /// Rules the design of a generated text, and writes how large it is and what was found.
 pub fn generate(alloc: Global, stages: u32) -> Result<Work, Stop>

@@ -24,9 +24,9 @@ use desk_io::Shelf;
 use desk_report::push_replay;
 use desk_verdict::demo_replay::{ReplayFault, legal_trial, replay as shown_by};
 use rtl_flat::design::Design;
-use rtl_tree::memory::Memory;
 use source_file::SourceFile;
 use std::alloc::Global;
+use text_ground::memory::Memory;
 
 /// Runs the demonstration of a file again in the module of this name among those of these files, and
 /// writes what it shows.

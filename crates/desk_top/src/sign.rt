@@ -22,9 +22,9 @@ use desk_report::report;
 use desk_rows::unwaived;
 use desk_verdict::Verdict;
 use rtl_flat::design::Design;
-use rtl_tree::memory::Memory;
 use source_file::SourceFile;
 use std::alloc::Global;
+use text_ground::memory::Memory;
 
 /// Rules the module of this name among those of these files, and writes the report.
 pub fn sign<F: Shelf>(

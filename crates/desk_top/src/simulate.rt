@@ -20,9 +20,9 @@ use desk_io::Shelf;
 use desk_steps::{Steps, StepsFault, read_steps};
 use itoa::Buffer;
 use rtl_flat::design::Design;
-use rtl_tree::memory::Memory;
 use source_file::SourceFile;
 use std::alloc::Global;
+use text_ground::memory::Memory;
 
 /// What is to be done when all is read.
 #[derive(Drop)]

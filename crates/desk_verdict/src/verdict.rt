@@ -13,9 +13,9 @@ use desk_report::tell;
 use desk_rows::Row;
 use rtl_flat::design::Design;
 use rtl_rule::finding::{Finding, has_needed};
-use rtl_tree::memory::Memory;
 use sign_off::rule::rule;
 use std::alloc::Global;
+use text_ground::memory::Memory;
 
 /// How many findings of a design are shown.
 const MAX_SHOWN: usize = 64;

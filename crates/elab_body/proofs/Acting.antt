@@ -5,7 +5,7 @@ use Rattle.std.proofs.Common.{◌≡◌, ◌∙◌, ap, refl, sym, inl, inr, app
 use Rattle.std.proofs.lemmas.Bool.{cases_Bool}
 use Rattle.std.proofs.lemmas.List.{append-nil, at_drop_more}
 use Rattle.rtl_const.specs.Constant.{Outcome, is_true}
-use Rattle.rtl_tree.specs.declared.text.Spot.{Spot}
+use Rattle.text_ground.specs.declared.text.Spot.{Spot}
 use Rattle.rtl_tree.specs.declared.tree.expr.Expr.{Expr}
 use Rattle.rtl_tree.specs.declared.tree.names.Name.{Name}
 use Rattle.rtl_tree.specs.declared.tree.stmt.CaseKind.{CaseKind}

@@ -3,7 +3,7 @@
 -- Worked examples: crates/tests_layers/stdin.
 use Rattle.std.specs.Prelude.{ℕ, zero, suc, ℤ, Bool, true, false, ◌&&◌, if◌then◌else◌, List, [], ◌∷◌, ◌++◌, map, Option, None, Some, Ok, Err}
 use Rattle.rtl_const.specs.Constant.{Outcome, constant, is_true}
-use Rattle.rtl_tree.specs.declared.text.Spot.{Spot}
+use Rattle.text_ground.specs.declared.text.Spot.{Spot}
 use Rattle.rtl_tree.specs.declared.tree.stmt.AssignmentKind.{AssignmentKind}
 use Rattle.rtl_tree.specs.declared.tree.stmt.AssignmentKind.TheVariants.{Blocking, Nonblocking}
 use Rattle.rtl_tree.specs.declared.tree.stmt.CaseKind.{CaseKind}

@@ -2,7 +2,7 @@
 -- What the code makes of bodies, as plain lists and trees.
 use Rattle.std.specs.Prelude.{List, [], ◌∷◌, map, Vec, Option, None, Some}
 use Rattle.std.specs.declared.alloc.Global.{Global}
-use Rattle.rtl_tree.specs.declared.text.Spot.{Spot}
+use Rattle.text_ground.specs.declared.text.Spot.{Spot}
 use Rattle.rtl_flat.specs.declared.act.Act.{Act}
 use Rattle.rtl_flat.specs.declared.act.CaseItem.{CaseItem}
 use Rattle.rtl_flat.specs.Expression.{Tree, tree}

@@ -25,10 +25,10 @@ use rtl_const::evaluate::constant;
 use rtl_const::params::Lookup;
 use rtl_flat::act::{Act, CaseItem as FlatItem};
 use rtl_flat::expr::SizedExpr;
-use rtl_tree::memory::Memory;
-use rtl_tree::text::Spot;
 use rtl_tree::tree::expr::Expr;
 use rtl_tree::tree::stmt::{AssignmentKind, CaseItem, CaseKind, Lvalue, Stmt};
+use text_ground::memory::Memory;
+use text_ground::text::Spot;
 
 fn spot_at(site: Site, at: u32) -> Spot
     ensures { result ≡ spot_in site.file at }

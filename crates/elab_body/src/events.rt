@@ -20,10 +20,10 @@ use rtl_bits::Edge;
 use rtl_const::evaluate::constant;
 use rtl_flat::act::{EventItem, Listed};
 use rtl_flat::expr::Select;
-use rtl_tree::memory::Memory;
-use rtl_tree::text::Spot;
 use rtl_tree::tree::item::{Event, EventControl, EventEdge};
 use rtl_tree::tree::names::Name;
+use text_ground::memory::Memory;
+use text_ground::text::Spot;
 
 /// An event is a change of a signal.
 fn watch<'a>(name: &'a Name, known: Option<Known>, best: Option<Fault<'a>>) -> Option<Fault<'a>>

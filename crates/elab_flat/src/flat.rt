@@ -22,10 +22,10 @@ use elab_walk::trail::Placement;
 use elab_walk::visit::file_of;
 use rtl_flat::instance::{DroppedRegion, Instance};
 use rtl_flat::signal::Signal;
-use rtl_tree::dropped::Dropped;
-use rtl_tree::memory::Memory;
-use rtl_tree::text::{Spot, Text};
 use std::alloc::Global;
+use text_ground::dropped::Dropped;
+use text_ground::memory::Memory;
+use text_ground::text::{Spot, Text};
 
 /// A flat design.
 #[derive(Drop)]

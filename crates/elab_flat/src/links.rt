@@ -25,11 +25,11 @@ use elab_walk::elab_scope::size::{Site, field_in, signal_of, size};
 use rtl_const::evaluate::constant;
 use rtl_flat::act::{Does, Process, Target, TargetPart};
 use rtl_flat::expr::{Node, Select, SizedExpr};
-use rtl_tree::memory::Memory;
-use rtl_tree::text::{Spot, Text};
 use rtl_tree::tree::expr::Expr;
 use rtl_tree::tree::item::{Arguments, Direction, NamedArgument, OrderedArgument};
 use rtl_tree::tree::names::Name;
+use text_ground::memory::Memory;
+use text_ground::text::{Spot, Text};
 
 /// The two sides of connections.
 #[derive(Clone, Copy)]

@@ -6,11 +6,11 @@ ghost use Rattle.rtl_tree.specs.TreeItem.{module_item, variable};
 ghost use Rattle.rtl_tree.specs.TreeModule.{circuit};
 ghost use Rattle.elab_walk.specs.Regions.{dropped_in, initials, is_of, item_initials, merged, past, up_to, variable_initials};
 
-use rtl_tree::dropped::{DropKind, Dropped};
-use rtl_tree::memory::Memory;
 use rtl_tree::tree::item::{Item, Reg};
 use rtl_tree::tree::modules::Module;
 use std::alloc::Global;
+use text_ground::dropped::{DropKind, Dropped};
+use text_ground::memory::Memory;
 
 fn is_of(kind: DropKind, region: Dropped) -> bool
     ensures { result ≡ is_of kind region }

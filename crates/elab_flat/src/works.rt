@@ -30,9 +30,9 @@ use elab_walk::trail::Placement;
 use elab_walk::visit::file_of;
 use rtl_flat::act::Process;
 use rtl_flat::instance::Delay;
-use rtl_tree::memory::Memory;
 use rtl_tree::tree::item::{Instance, Item};
 use std::alloc::Global;
+use text_ground::memory::Memory;
 
 /// So many processes have numbers; more than twice as many fit into no memory.
 const MOST: usize = 1 << 31;

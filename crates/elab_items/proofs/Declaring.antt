@@ -2,7 +2,7 @@
 use Rattle.std.specs.Prelude.{ℕ, List, ◌++◌, map, Option, Result, IfOk}
 use Rattle.std.specs.Option.{option_map}
 use Rattle.std.proofs.Common.{◌≡◌, ◌∙◌, ap, sym, subst}
-use Rattle.rtl_tree.specs.declared.memory.Memory.{Memory}
+use Rattle.text_ground.specs.declared.memory.Memory.{Memory}
 use Rattle.rtl_tree.specs.TreeModule.{Circuit}
 use Rattle.elab_scope.specs.Faults.{Refusal, after, refusal}
 use Rattle.elab_scope.specs.Names.{Meanings, meanings}

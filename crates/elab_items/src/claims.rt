@@ -10,11 +10,11 @@ use crate::entries::Form;
 use crate::reach::Reach;
 use elab_scope::fault::{Cause, Fault};
 use name_map::NameMap;
-use rtl_tree::memory::Memory;
-use rtl_tree::text::Text;
 use rtl_tree::tree::item::{Direction, PortKind};
 use rtl_tree::tree::names::Name;
 use std::alloc::Global;
+use text_ground::memory::Memory;
+use text_ground::text::Text;
 
 /// A signal as its declarations have it.
 #[derive(Clone, Copy, PartialEq, Eq, Debug)]

@@ -20,10 +20,10 @@ use crate::roster::{Listing, Roster, enroll_all, judge_limit};
 use elab_scope::fault::Fault;
 use elab_scope::judge::judge;
 use elab_scope::names::Names;
-use rtl_tree::memory::Memory;
 use rtl_tree::tree::expr::Expr;
 use rtl_tree::tree::modules::Module;
 use std::alloc::Global;
+use text_ground::memory::Memory;
 
 /// What a module declares in an instance.
 #[derive(Drop)]

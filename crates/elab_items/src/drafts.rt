@@ -17,9 +17,9 @@ use elab_scope::known::{Known, Role};
 use elab_scope::names::Names;
 use elab_scope::rules;
 use rtl_const::evaluate::constant;
-use rtl_tree::memory::Memory;
 use rtl_tree::tree::expr::Expr;
 use std::alloc::Global;
+use text_ground::memory::Memory;
 
 /// The numbers of a module's parameters, and the fault that is told after theirs.
 #[derive(Drop)]

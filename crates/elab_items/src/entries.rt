@@ -8,7 +8,6 @@ ghost use Rattle.rtl_tree.specs.TreeModule.{circuit, header, header_parameter, h
 ghost use Rattle.elab_items.specs.declared.entries.Form.TheVariants as form;
 ghost use Rattle.elab_items.specs.Declarations.{headed, Integer, Listed, Signal, declaration, declarations, declared_instance, declared_net, declared_parameter, declared_variable, head_parameters, head_ports, header_declarations, item_declarations, items_declarations};
 
-use rtl_tree::memory::Memory;
 use rtl_tree::tree::expr::{Expr, Range};
 use rtl_tree::tree::item::{
     Direction, Instance, Item, ParameterKind, PortHead, PortKind, Reg, Setting, Wire,
@@ -16,6 +15,7 @@ use rtl_tree::tree::item::{
 use rtl_tree::tree::modules::{HeadParameter, HeadPort, Module, PortList};
 use rtl_tree::tree::names::Name;
 use std::alloc::Global;
+use text_ground::memory::Memory;
 
 /// What declares a signal.
 #[derive(Clone, Copy, PartialEq, Eq, Debug)]

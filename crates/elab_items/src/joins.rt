@@ -13,9 +13,9 @@ use crate::entries::{Entry, Form};
 use crate::reach::{Reach, judge_range, reach_of};
 use elab_scope::fault::{Cause, Fault};
 use elab_scope::names::Names;
-use rtl_tree::memory::Memory;
 use rtl_tree::tree::names::Name;
 use std::alloc::Global;
+use text_ground::memory::Memory;
 
 /// What is claimed of a module's names, and the fault that is told after those of the claims.
 #[derive(Drop)]

@@ -12,11 +12,11 @@ use elab_scope::widths::breadth_of;
 use name_map::NameMap;
 use rtl_const::evaluate::constant;
 use rtl_tree::literal::Literal;
-use rtl_tree::memory::Memory;
-use rtl_tree::text::Text;
 use rtl_tree::tree::expr::Expr;
 use rtl_tree::tree::item::ParameterKind;
 use std::alloc::Global;
+use text_ground::memory::Memory;
+use text_ground::text::Text;
 
 /// The width and the sign of a sized literal.
 #[derive(Clone, Copy, PartialEq, Eq, Debug)]

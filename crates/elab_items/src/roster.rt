@@ -14,11 +14,11 @@ use crate::entries::Entry;
 use elab_scope::fault::{Cause, Fault};
 use elab_scope::known::{Known, Role};
 use elab_scope::names::Names;
-use rtl_tree::memory::Memory;
-use rtl_tree::text::Text;
 use rtl_tree::tree::item::{Direction, PortKind};
 use rtl_tree::tree::names::Name;
 use std::alloc::Global;
+use text_ground::memory::Memory;
+use text_ground::text::Text;
 
 /// A signal of a module with its name.
 #[derive(Clone, Copy)]

@@ -9,10 +9,10 @@ use crate::reach::Reach;
 use crate::roster::Listing;
 use elab_scope::known::Role;
 use rtl_flat::signal::{Kind, Signal};
-use rtl_tree::memory::Memory;
-use rtl_tree::text::{Spot, Text};
 use rtl_tree::tree::item::Direction;
 use std::alloc::Global;
+use text_ground::memory::Memory;
+use text_ground::text::{Spot, Text};
 
 /// The instance that signals belong to.
 #[derive(Clone, Copy)]

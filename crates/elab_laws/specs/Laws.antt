@@ -1,7 +1,7 @@
 -- What is without faults is lawful in the design: the laws that elaboration rests on.
 use Rattle.std.specs.Prelude.{ℕ, ℤ, ◌<◌, ◌≤◌, ◌≡◌, Bool, true, false, List, [], ◌∷◌, map, length, Option}
 use Rattle.std.specs.List.{All, list_any}
-use Rattle.rtl_tree.specs.declared.text.Spot.{Spot}
+use Rattle.text_ground.specs.declared.text.Spot.{Spot}
 use Rattle.rtl_tree.specs.TreeExpr.{Formula}
 use Rattle.rtl_tree.specs.TreeStmt.{Action, Target}
 use Rattle.rtl_tree.specs.TreeItem.{Happening, Listed, Sensitivity}

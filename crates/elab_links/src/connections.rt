@@ -19,11 +19,11 @@ use crate::ports::Ports;
 use elab_items::elab_scope::fault::{Cause, Fault};
 use elab_items::elab_scope::judge::judge;
 use elab_items::elab_scope::names::Names;
-use rtl_tree::memory::Memory;
-use rtl_tree::text::Text;
 use rtl_tree::tree::expr::Expr;
 use rtl_tree::tree::item::{Arguments, Direction, Instance, NamedArgument, OrderedArgument};
 use std::alloc::Global;
+use text_ground::memory::Memory;
+use text_ground::text::Text;
 
 /// Where a port is connected.
 #[derive(Clone, Copy)]

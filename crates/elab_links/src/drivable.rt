@@ -12,9 +12,9 @@ use elab_items::elab_scope::names::Names;
 use elab_items::elab_scope::size::field_in;
 use elab_items::elab_scope::widths::Breadth;
 use rtl_const::evaluate::constant;
-use rtl_tree::memory::Memory;
 use rtl_tree::tree::expr::Expr;
 use std::alloc::Global;
+use text_ground::memory::Memory;
 
 /// A net may be driven; that a name isn't declared is a fault of its own.
 fn may_link(known: Option<Known>) -> bool

@@ -12,10 +12,10 @@ use crate::parameters::{settable, settings_by};
 use elab_items::elab_scope::names::Names;
 use elab_items::entries::entries_of;
 use elab_items::overrides::Overrides;
-use rtl_tree::memory::Memory;
 use rtl_tree::tree::item::{Arguments, Instance, Item};
 use rtl_tree::tree::modules::Module;
 use std::alloc::Global;
+use text_ground::memory::Memory;
 
 /// Instances of one module with the same parameters.
 #[derive(Drop)]

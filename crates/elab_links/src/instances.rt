@@ -19,12 +19,12 @@ use crate::ports::Ports;
 use elab_items::elab_scope::fault::{Cause, Fault};
 use elab_items::elab_scope::names::Names;
 use elab_items::entries::entries_of;
-use rtl_tree::memory::Memory;
-use rtl_tree::text::Text;
 use rtl_tree::tree::item::{Arguments, Instance, Item};
 use rtl_tree::tree::modules::Module;
 use rtl_tree::tree::names::Name;
 use std::alloc::Global;
+use text_ground::memory::Memory;
+use text_ground::text::Text;
 
 /// The most modules on the way from the top to an instance, both counted.
 const DEEPEST: usize = 32;

@@ -4,9 +4,9 @@ ghost use Rattle.std.specs.Prelude.{◌≡◌, OnOk};
 ghost use Rattle.elab_links.specs.Marks.{marks_of, no_marks, with_mark};
 
 use name_map::NameMap;
-use rtl_tree::memory::Memory;
-use rtl_tree::text::Text;
 use std::alloc::Global;
+use text_ground::memory::Memory;
+use text_ground::text::Text;
 
 /// A set of names.
 #[derive(Drop)]

@@ -7,10 +7,10 @@ ghost use Rattle.elab_links.specs.Modules.{all_placed, circuit_at, circuits_of, 
 ghost use Rattle.elab_links.specs.Modules.{no_lookups, with_all, with_one};
 
 use name_map::NameMap;
-use rtl_tree::memory::Memory;
-use rtl_tree::text::Text;
 use rtl_tree::tree::modules::Module;
 use std::alloc::Global;
+use text_ground::memory::Memory;
+use text_ground::text::Text;
 
 /// Where a module stands.
 #[derive(Clone, Copy, PartialEq, Eq, Debug)]

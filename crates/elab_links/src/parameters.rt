@@ -19,12 +19,12 @@ use elab_items::elab_scope::judge::judge_constant;
 use elab_items::elab_scope::names::Names;
 use elab_items::entries::Entry;
 use elab_items::overrides::{Overrides, value_of};
-use rtl_tree::memory::Memory;
-use rtl_tree::text::Text;
 use rtl_tree::tree::expr::Expr;
 use rtl_tree::tree::item::{Arguments, NamedArgument, OrderedArgument, ParameterKind};
 use rtl_tree::tree::names::Name;
 use std::alloc::Global;
+use text_ground::memory::Memory;
+use text_ground::text::Text;
 
 fn push_settable<'a>(entry: Entry<'a>, names: &mut Vec<&'a Name>) -> Result<(), Memory>
     ensures { OnOk result (map (λ name. identifier name.now) names.new.items

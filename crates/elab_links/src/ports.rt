@@ -11,12 +11,12 @@ ghost use Rattle.elab_links.specs.Ports.{all_directed, directed, no_directions, 
 use crate::marks::NameSet;
 use elab_items::entries::Entry;
 use name_map::NameMap;
-use rtl_tree::memory::Memory;
-use rtl_tree::text::Text;
 use rtl_tree::tree::item::Direction;
 use rtl_tree::tree::modules::{HeadPort, Module, PortList};
 use rtl_tree::tree::names::Name;
 use std::alloc::Global;
+use text_ground::memory::Memory;
+use text_ground::text::Text;
 
 /// A name has the first direction that is given to it.
 fn enter(

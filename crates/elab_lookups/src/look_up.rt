@@ -1,7 +1,7 @@
 // What a name meant.
 
 use elab_links::module_set::Lookup;
-use rtl_tree::text::Text;
+use text_ground::text::Text;
 
 /// A name that was looked up among modules, and what it meant.
 #[derive(Drop)]

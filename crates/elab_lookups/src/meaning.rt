@@ -7,8 +7,8 @@ ghost use Rattle.elab_links.specs.Modules.{Placed, all_placed, circuits_of};
 ghost use Rattle.elab_links.specs.Modules.{found, placed_in, with_another};
 
 use elab_links::module_set::{Lookup, Place};
-use rtl_tree::text::Text;
 use rtl_tree::tree::modules::Module;
+use text_ground::text::Text;
 
 /// What a name means where one module more has it.
 fn with_another(place: Place, later: Lookup) -> Lookup

@@ -7,7 +7,7 @@ use Rattle.std.proofs.lemmas.List.Elements.{Contains-append_left, Contains-appen
 use Rattle.rtl_tree.specs.TreeExpr.{Identifier}
 use Rattle.rtl_tree.specs.TreeItem.{ModuleItem, Instances, Association, Instantiation}
 use Rattle.rtl_tree.specs.TreeModule.{Circuit}
-use Rattle.rtl_tree.specs.declared.text.Spot.{Spot}
+use Rattle.text_ground.specs.declared.text.Spot.{Spot}
 use Rattle.rtl_flat.specs.Process.{Task}
 use Rattle.rtl_elab.specs.elab_scope.Faults.{Answer, Breach, ModuleTwice, NoSuchModule, Refusal, least, located, located_at}
 use Rattle.rtl_elab.specs.elab_scope.Names.{Meanings}

@@ -3,7 +3,7 @@
 use Rattle.std.specs.Prelude.{ℕ, ◌≡◌, ◌↔◌, List}
 use Rattle.std.specs.List.{Contains}
 use Rattle.std.specs.List.Sorted.{IsStrictlyIncreasing}
-use Rattle.rtl_tree.specs.declared.text.Spot.{Spot}
+use Rattle.text_ground.specs.declared.text.Spot.{Spot}
 use Rattle.rtl_elab.specs.elab_scope.Faults.{Answer, Memory, Named, Placed}
 use Rattle.rtl_elab.specs.elab_links.declared.module_set.Place.{Place}
 use Rattle.rtl_elab.specs.elab_links.declared.module_set.Lookup.TheVariants.{Found}

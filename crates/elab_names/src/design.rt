@@ -19,12 +19,12 @@ use rtl_elab::elab_walk::top::Walked;
 use rtl_elab::elaborate::{made_of, walk_from};
 use rtl_elab::whole::design_of;
 use rtl_flat::design::Design;
-use rtl_tree::memory::Memory;
-use rtl_tree::text::Text;
 use rtl_tree::tree::modules::Module;
 use std::alloc::Global;
 use std::sync::ledger::Ledger;
 use steps::Steps;
+use text_ground::memory::Memory;
+use text_ground::text::Text;
 
 /// What elaboration makes of a top in the files that it uses, which are numbered among themselves.
 #[derive(Drop)]

@@ -12,8 +12,8 @@ use elab_lookups::LookUp;
 use rtl_elab::elab_links::module_set::{Lookup, Place};
 use rtl_elab::elab_scope::fault::ElabFault;
 use rtl_elab::elab_walk::trail::Placement;
-use rtl_tree::memory::Memory;
-use rtl_tree::text::Spot;
+use text_ground::memory::Memory;
+use text_ground::text::Spot;
 
 fn moved_place(place: Place, numbers: &[usize]) -> Place
     requires { IsStrictlyIncreasing numbers.now }

@@ -12,10 +12,10 @@ use elab_lookups::LookUp;
 use name_map::NameMap;
 use rtl_elab::elab_links::module_set::{Lookup, ModuleSet};
 use rtl_elab::elab_walk::trail::Placement;
-use rtl_tree::memory::Memory;
-use rtl_tree::text::Text;
 use rtl_tree::tree::item::Item;
 use std::alloc::Global;
+use text_ground::memory::Memory;
+use text_ground::text::Text;
 
 /// The names that are looked up so far, each once.
 #[derive(Drop)]

@@ -8,8 +8,8 @@ ghost use Rattle.elab_names.specs.Moves.{AreFilesOf};
 
 use elab_lookups::LookUp;
 use rtl_elab::elab_links::module_set::Lookup;
-use rtl_tree::memory::Memory;
 use std::alloc::Global;
+use text_ground::memory::Memory;
 
 /// How many of ascending numbers come before this one; all of them where it isn't there.
 pub(crate) fn place_in(numbers: &[usize], number: usize) -> usize

@@ -14,10 +14,10 @@ use elab_body::elab_scope::names::Names;
 use elab_body::elab_scope::size::Site;
 use rtl_flat::act::ProcId;
 use rtl_flat::instance::Delay;
-use rtl_tree::memory::Memory;
-use rtl_tree::text::Spot;
 use rtl_tree::tree::item::Item;
 use rtl_tree::tree::stmt::Stmt;
+use text_ground::memory::Memory;
+use text_ground::text::Spot;
 
 /// The same delay in so many processes in a row.
 fn push_repeated(

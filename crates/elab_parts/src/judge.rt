@@ -21,12 +21,12 @@ use elab_body::elab_scope::names::Names;
 use elab_body::elab_scope::rules::{self, Writer};
 use elab_body::events::judge_control;
 use elab_body::progress::Progress;
-use rtl_tree::memory::Memory;
 use rtl_tree::tree::expr::Expr;
 use rtl_tree::tree::item::{Assignment, EventControl, Item, Wire};
 use rtl_tree::tree::names::Name;
 use rtl_tree::tree::stmt::{Delay, Lvalue, Stmt};
 use std::alloc::Global;
+use text_ground::memory::Memory;
 
 /// The faults of a net that is driven: it is written whole, so no bit stands in the target twice.
 #[tactic(auto, using(elab_body::proofs::Passing::passed_faulty, elab_body::proofs::Passing::passed_cut, crate::proofs::Wholes::whole_faults))]

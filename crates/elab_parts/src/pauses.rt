@@ -14,9 +14,9 @@ use elab_body::elab_scope::names::Names;
 use elab_body::head::Head;
 use rtl_const::evaluate::constant;
 use rtl_const::params::Lookup;
-use rtl_tree::memory::Memory;
 use rtl_tree::tree::stmt::{CaseItem, Delay, Stmt};
 use std::alloc::Global;
+use text_ground::memory::Memory;
 
 /// How many turns a loop may have.
 const TURNS: u32 = 4096;

@@ -22,12 +22,12 @@ use elab_body::elab_scope::targets::assigned_context;
 use elab_body::events::{is_clocked, listed};
 use rtl_flat::act::{Act, Does, Listed, Process, Target, TargetPart};
 use rtl_flat::expr::Select;
-use rtl_tree::memory::Memory;
-use rtl_tree::text::Spot;
 use rtl_tree::tree::expr::Expr;
 use rtl_tree::tree::item::{Assignment, EventControl, Item, Wire};
 use rtl_tree::tree::names::Name;
 use rtl_tree::tree::stmt::Stmt;
+use text_ground::memory::Memory;
+use text_ground::text::Spot;
 
 fn spot_at(site: Site, at: u32) -> Spot
     ensures { result ≡ spot_in site.file at }

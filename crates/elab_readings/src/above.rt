@@ -13,10 +13,10 @@ use elab_uses::elab_items::entries::Entry;
 use elab_uses::elab_standard::scopes::Scopes;
 use elab_uses::elab_standard::uses::Home;
 use name_map::NameMap;
-use rtl_tree::memory::Memory;
 use rtl_tree::tree::item::{Arguments, Instance, Item};
 use std::alloc::Global;
 use std::rc::Rc;
+use text_ground::memory::Memory;
 
 /// An instance that holds others.
 #[derive(Drop)]

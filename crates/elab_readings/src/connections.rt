@@ -24,11 +24,11 @@ use elab_uses::elab_scope::size::signal_of;
 use elab_uses::elab_scope::widths::Breadth;
 use elab_uses::elab_standard::uses::{Use, push_use};
 use rtl_flat::note::{Note, Reading};
-use rtl_tree::memory::Memory;
 use rtl_tree::tree::expr::Expr;
 use rtl_tree::tree::item::{Arguments, NamedArgument, OrderedArgument};
 use rtl_tree::tree::modules::{HeadPort, PortList};
 use rtl_tree::tree::names::Name;
+use text_ground::memory::Memory;
 
 /// The two sides of connections.
 #[derive(Clone, Copy)]

@@ -6,7 +6,7 @@ ghost use Rattle.elab_readings.specs.Notes.{note_at};
 use elab_uses::elab_standard::uses::Home;
 use rtl_flat::expr::SigId;
 use rtl_flat::note::{Note, Reading};
-use rtl_tree::text::Spot;
+use text_ground::text::Spot;
 
 /// One at a place of the text where an instance is at home.
 pub(crate) fn note_at(reading: Reading, signal: Option<SigId>, home: Home, at: u32) -> Note

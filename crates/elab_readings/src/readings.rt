@@ -32,9 +32,9 @@ use elab_uses::elab_walk::visit::file_of;
 use elab_uses::items::push_item;
 use name_map::NameMap;
 use rtl_flat::note::Note;
-use rtl_tree::memory::Memory;
 use rtl_tree::tree::item::Item;
 use std::alloc::Global;
+use text_ground::memory::Memory;
 
 fn home_at(at: &Placement<'_>) -> Result<Home, Memory>
     ensures { IfOk result (λ home. home ≡ home_at (placement at.now)) }

@@ -22,9 +22,9 @@ use elab_uses::elab_scope::size::signal_of;
 use elab_uses::elab_standard::uses::Home;
 use rtl_flat::expr::SigId;
 use rtl_flat::note::{Note, Reading};
-use rtl_tree::memory::Memory;
 use rtl_tree::tree::names::Name;
 use std::alloc::Global;
+use text_ground::memory::Memory;
 
 fn is_directed(form: Form) -> bool
     ensures { result ≡ is_directed form }

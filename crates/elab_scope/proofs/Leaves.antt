@@ -8,7 +8,7 @@ use Rattle.rtl_bits.specs.Bits.{bits_of}
 use Rattle.rtl_bits.specs.Inside.{length-tabulate}
 use Rattle.rtl_const.specs.Constant.{Outcome}
 use Rattle.rtl_tree.specs.declared.literal.Literal.{Literal}
-use Rattle.rtl_tree.specs.declared.text.Spot.{Spot}
+use Rattle.text_ground.specs.declared.text.Spot.{Spot}
 use Rattle.rtl_tree.specs.TreeExpr.{Formula, Identifier}
 use Rattle.rtl_flat.specs.declared.signal.Signal.{Signal}
 use Rattle.rtl_flat.specs.Expression.{Sized}

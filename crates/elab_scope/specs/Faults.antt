@@ -1,7 +1,7 @@
 -- The faults of a module, and which of them is told.
 -- Worked examples: crates/tests_rows/stdin.
 use Rattle.std.specs.Prelude.{ℕ, nat_lt, ◌==◌, Bool, ◌&&◌, ◌||◌, if◌then◌else◌, List, [], ◌∷◌, Option, None, Some}
-use Rattle.rtl_tree.specs.declared.text.Spot.{Spot}
+use Rattle.text_ground.specs.declared.text.Spot.{Spot}
 use Rattle.rtl_const.specs.declared.fault.ConstFault.{ConstFault}
 use Rattle.elab_scope.specs.declared.fault.ElabFault.{ElabFault}
 use Rattle.elab_scope.specs.declared.fault.ElabFault.TheVariants as told

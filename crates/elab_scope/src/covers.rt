@@ -19,10 +19,10 @@ use crate::targets::judge_parts;
 use crate::widths::{Breadth, Field};
 use rtl_const::evaluate::constant;
 use rtl_const::fault::ConstFault;
-use rtl_tree::memory::Memory;
 use rtl_tree::tree::names::Name;
 use rtl_tree::tree::stmt::Lvalue;
 use std::alloc::Global;
+use text_ground::memory::Memory;
 
 /// Bits of a signal that a target writes, counted from its least significant.
 #[derive(Clone, Copy, PartialEq, Eq, Debug)]

@@ -5,9 +5,9 @@ ghost use Rattle.std.specs.Option.{option_map};
 ghost use Rattle.elab_scope.specs.Faults.{answer, breach, comes_before, keep, located, rank, refusal};
 
 use rtl_const::fault::ConstFault;
-use rtl_tree::memory::Memory;
-use rtl_tree::text::{Spot, Text};
 use std::alloc::{AllocError, Global};
+use text_ground::memory::Memory;
+use text_ground::text::{Spot, Text};
 use thiserror::Error;
 
 /// Why modules make no design. A name is given by its bytes.

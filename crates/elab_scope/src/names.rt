@@ -6,9 +6,9 @@ ghost use Rattle.elab_scope.specs.Names.{entered, indexed, meanings, no_meanings
 use crate::known::Known;
 use name_map::NameMap;
 use rtl_const::params::Lookup;
-use rtl_tree::memory::Memory;
-use rtl_tree::text::Text;
 use std::alloc::Global;
+use text_ground::memory::Memory;
+use text_ground::text::Text;
 
 /// What the names of a module stand for.
 #[derive(Drop)]

@@ -17,11 +17,11 @@ use crate::widths::Field;
 use rtl_const::evaluate::constant;
 use rtl_flat::act::{Target, TargetPart};
 use rtl_flat::expr::{Index, Select};
-use rtl_tree::memory::Memory;
-use rtl_tree::text::Spot;
 use rtl_tree::tree::expr::Expr;
 use rtl_tree::tree::names::Name;
 use rtl_tree::tree::stmt::Lvalue;
+use text_ground::memory::Memory;
+use text_ground::text::Spot;
 
 /// The bit that an index selects: a constant one is its number.
 pub fn bit(index: &Expr, known: Option<Known>, names: &Names, site: Site) -> Result<Select, Memory>

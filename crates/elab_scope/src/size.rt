@@ -19,12 +19,12 @@ use crate::widths::{Field, field_of};
 use rtl_const::evaluate::constant;
 use rtl_const::fault::ConstFault;
 use rtl_flat::expr::{Index, Node, Select, SigId, SizedExpr};
-use rtl_tree::memory::Memory;
-use rtl_tree::text::Spot;
 use rtl_tree::tree::expr::Expr;
 use rtl_tree::tree::names::Name;
 use rtl_tree::tree::operators::UnaryOperator;
 use std::alloc::Global;
+use text_ground::memory::Memory;
+use text_ground::text::Spot;
 
 /// Where expressions stand.
 #[derive(Clone, Copy)]

@@ -23,13 +23,13 @@ use elab_walk::elab_links::parameters::settable;
 use elab_walk::elab_scope::names::Names;
 use name_map::NameMap;
 use rtl_flat::note::Note;
-use rtl_tree::memory::Memory;
-use rtl_tree::text::Text;
 use rtl_tree::tree::expr::{Expr, Range};
 use rtl_tree::tree::item::{Arguments, NamedArgument, OrderedArgument};
 use rtl_tree::tree::modules::Module;
 use rtl_tree::tree::names::Name;
 use std::alloc::Global;
+use text_ground::memory::Memory;
+use text_ground::text::Text;
 
 /// Adds what is told of an end of a range.
 fn push_end(home: Home, kept: &Scopes, e: &Expr, made: &mut Vec<Note>) -> Result<(), Memory>

@@ -16,8 +16,8 @@ use crate::uses::Home;
 use crate::worth::taken_context;
 use rtl_const::evaluate::constant;
 use rtl_flat::note::{Note, Reading};
-use rtl_tree::memory::Memory;
 use rtl_tree::tree::expr::Expr;
+use text_ground::memory::Memory;
 
 /// Adds what is told of the sizes of an expression in at least so many bits. Where its parameters are alike, it isn't sized.
 pub(crate) fn push_format(

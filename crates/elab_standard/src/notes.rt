@@ -6,9 +6,9 @@ ghost use Rattle.elab_standard.specs.Notes.{bare, note_at, note_if, root_place};
 
 use crate::uses::Home;
 use rtl_flat::note::{Note, Reading};
-use rtl_tree::memory::Memory;
-use rtl_tree::text::Spot;
 use rtl_tree::tree::expr::Expr;
+use text_ground::memory::Memory;
+use text_ground::text::Spot;
 
 /// The expression without its parentheses.
 pub(crate) fn bare(e: &Expr) -> &Expr

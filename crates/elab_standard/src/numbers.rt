@@ -18,8 +18,8 @@ use rtl_bits::{Bit, Vec4};
 use rtl_const::evaluate::constant;
 use rtl_const::fault::ConstFault;
 use rtl_flat::note::{Note, Reading};
-use rtl_tree::memory::Memory;
 use rtl_tree::tree::expr::Expr;
+use text_ground::memory::Memory;
 
 /// Whether known bits, read in two's complement, are below 0.
 fn is_negative(bits: Vec4) -> bool

@@ -14,8 +14,8 @@ use elab_walk::elab_scope::names::Names;
 use name_map::NameMap;
 use rtl_const::evaluate::constant;
 use rtl_const::fault::ConstFault;
-use rtl_tree::text::Text;
 use rtl_tree::tree::expr::Expr;
+use text_ground::text::Text;
 
 /// What the names of a module stand for in an instance, and what its parameters are by the standard.
 #[derive(Drop)]

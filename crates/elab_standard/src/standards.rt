@@ -23,13 +23,13 @@ use elab_walk::elab_scope::known::Known;
 use elab_walk::elab_scope::names::Names;
 use name_map::NameMap;
 use rtl_bits::Vec4;
-use rtl_tree::memory::Memory;
-use rtl_tree::text::Text;
 use rtl_tree::tree::expr::Expr;
 use rtl_tree::tree::item::{Arguments, NamedArgument, OrderedArgument, ParameterKind};
 use rtl_tree::tree::modules::Module;
 use rtl_tree::tree::names::Name;
 use std::alloc::Global;
+use text_ground::memory::Memory;
+use text_ground::text::Text;
 
 /// The number that bits spell, where all of them are known.
 fn number_given(bits: Vec4) -> Option<u128>

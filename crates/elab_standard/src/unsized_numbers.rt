@@ -14,8 +14,8 @@ use crate::uses::Home;
 use elab_walk::elab_scope::operators::{Operation, Prefix, binary, unary};
 use rtl_flat::note::{Note, Reading};
 use rtl_tree::literal::Literal;
-use rtl_tree::memory::Memory;
 use rtl_tree::tree::expr::Expr;
+use text_ground::memory::Memory;
 
 /// Whether the width of a parameter is that of a number without one.
 fn is_standard_unsized(standard: Option<Standard>) -> bool

@@ -19,9 +19,9 @@ use crate::scopes::{By, Scopes};
 use crate::unsized_numbers::push_unsized;
 use elab_walk::elab_scope::context::Context;
 use rtl_flat::note::{Note, Reading};
-use rtl_tree::memory::Memory;
 use rtl_tree::tree::expr::Expr;
 use rtl_tree::tree::stmt::CaseItem;
+use text_ground::memory::Memory;
 
 /// Where expressions of a module stand: in the text of a file, and in an instance.
 #[derive(Clone, Copy)]

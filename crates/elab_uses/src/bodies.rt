@@ -21,9 +21,9 @@ use elab_standard::uses::{Home, Use, push_use};
 use rtl_const::evaluate::constant;
 use rtl_const::params::Lookup;
 use rtl_flat::note::Note;
-use rtl_tree::memory::Memory;
 use rtl_tree::tree::expr::Expr;
 use rtl_tree::tree::stmt::{CaseItem, Stmt};
+use text_ground::memory::Memory;
 
 /// How many turns a loop may have.
 const TURNS: u32 = 4096;

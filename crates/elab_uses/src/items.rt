@@ -15,11 +15,11 @@ use elab_body::elab_scope::own::name_breadth;
 use elab_standard::scopes::Scopes;
 use elab_standard::uses::Home;
 use rtl_flat::note::Note;
-use rtl_tree::memory::Memory;
 use rtl_tree::tree::expr::Expr;
 use rtl_tree::tree::item::{Assignment, Event, EventControl, Item, Wire};
 use rtl_tree::tree::names::Name;
 use rtl_tree::tree::stmt::Stmt;
+use text_ground::memory::Memory;
 
 /// The notes of a net that is declared.
 fn push_net(

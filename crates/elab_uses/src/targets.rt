@@ -18,9 +18,9 @@ use elab_standard::scopes::Scopes;
 use elab_standard::uses::{Home, Use, push_use};
 use rtl_const::evaluate::constant;
 use rtl_flat::note::Note;
-use rtl_tree::memory::Memory;
 use rtl_tree::tree::expr::Expr;
 use rtl_tree::tree::stmt::Lvalue;
+use text_ground::memory::Memory;
 
 /// A constant index is a number, every other one is worked out.
 fn index_use<'a>(index: &'a Expr, names: &Names) -> Use<'a>

@@ -3,9 +3,9 @@
 -- Worked examples: crates/tests_layers/stdin.
 use Rattle.std.specs.Prelude.{ℕ, nat_lt, Bool, true, false, cond, List, [], ◌∷◌, ◌++◌}
 use Rattle.std.specs.List.{filter}
-use Rattle.rtl_tree.specs.declared.dropped.DropKind.{DropKind}
-use Rattle.rtl_tree.specs.declared.dropped.DropKind.TheVariants.{Comment, Initial, TranslateOff}
-use Rattle.rtl_tree.specs.declared.dropped.Dropped.{Dropped}
+use Rattle.text_ground.specs.declared.dropped.DropKind.{DropKind}
+use Rattle.text_ground.specs.declared.dropped.DropKind.TheVariants.{Comment, Initial, TranslateOff}
+use Rattle.text_ground.specs.declared.dropped.Dropped.{Dropped}
 use Rattle.rtl_tree.specs.TreeItem.{Variable, ModuleItem, Ports, Nets, Variables, Integers, Parameters, Drives, Always, Instances}
 use Rattle.rtl_tree.specs.TreeModule.{Circuit}
 

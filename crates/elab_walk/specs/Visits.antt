@@ -3,7 +3,7 @@
 -- Worked examples: proofs/Examples.antt.
 use Rattle.std.specs.Prelude.{ℕ, zero, suc, List, [], ◌∷◌, ◌++◌, map, Option, None, Some}
 use Rattle.std.specs.List.{flat_map}
-use Rattle.rtl_tree.specs.declared.text.Spot.{Spot}
+use Rattle.text_ground.specs.declared.text.Spot.{Spot}
 use Rattle.rtl_tree.specs.TreeItem.{ModuleItem, Ports, Nets, Variables, Integers, Parameters, Drives, Always, Instances, Instantiation}
 use Rattle.rtl_tree.specs.TreeModule.{Circuit, circuit}
 use Rattle.elab_links.specs.elab_scope.Names.{Meanings, meanings}

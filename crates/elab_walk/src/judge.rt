@@ -30,10 +30,10 @@ use elab_links::elab_scope::names::Names;
 use elab_links::instances::judge_instances;
 use elab_parts::elab_body::progress::Progress;
 use elab_parts::judge::judge_item;
-use rtl_tree::memory::Memory;
-use rtl_tree::text::Text;
 use rtl_tree::tree::item::Item;
 use std::alloc::Global;
+use text_ground::memory::Memory;
+use text_ground::text::Text;
 
 /// The faults of the instances that an item places.
 #[tactic(auto, using(crate::proofs::Borrowed::passed_faulty, crate::proofs::Borrowed::passed_cut))]

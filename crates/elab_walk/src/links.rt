@@ -22,10 +22,10 @@ use elab_links::ports::Ports;
 use elab_parts::elab_body::progress::Progress;
 use elab_parts::elab_nodes::nodes::spend;
 use elab_parts::elab_nodes::spare::spare;
-use rtl_tree::memory::Memory;
 use rtl_tree::tree::expr::Expr;
 use rtl_tree::tree::item::{Arguments, Direction, Instance, Item, NamedArgument, OrderedArgument};
 use std::alloc::Global;
+use text_ground::memory::Memory;
 
 /// What is left behind the nodes of a connection.
 #[tactic(auto, using(crate::proofs::Borrowed::spared_zero))]

@@ -19,10 +19,10 @@ use elab_links::elab_items::overrides::Overrides;
 use elab_links::elab_scope::fault::ElabFault;
 use elab_links::module_set::Place;
 use elab_parts::elab_body::progress::Left;
-use rtl_tree::memory::Memory;
-use rtl_tree::text::{Spot, Text};
 use rtl_tree::tree::modules::Module;
 use std::alloc::Global;
+use text_ground::memory::Memory;
+use text_ground::text::{Spot, Text};
 
 /// The most modules on the way from the top to an instance, both counted.
 const LEVELS: u32 = 32;

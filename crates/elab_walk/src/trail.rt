@@ -9,8 +9,8 @@ use crate::room::Room;
 use crate::visit::Visit;
 use elab_links::elab_items::declare::declare;
 use elab_links::elab_items::roster::Roster;
-use rtl_tree::memory::Memory;
 use std::alloc::Global;
+use text_ground::memory::Memory;
 
 /// An instance, its number, and how many signals come before its own.
 #[derive(Drop)]

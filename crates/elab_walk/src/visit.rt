@@ -10,10 +10,10 @@ use elab_links::elab_items::overrides::Overrides;
 use elab_links::elab_scope::names::Names;
 use elab_links::groups::Group;
 use elab_links::module_set::Place;
-use rtl_tree::memory::Memory;
-use rtl_tree::text::{Spot, Text};
 use rtl_tree::tree::modules::Module;
 use std::alloc::Global;
+use text_ground::memory::Memory;
+use text_ground::text::{Spot, Text};
 
 /// An instance of a module.
 #[derive(Drop)]

@@ -26,10 +26,10 @@ use elab_links::elab_scope::fault::{ElabFault, Fault};
 use elab_links::elab_scope::names::Names;
 use elab_links::groups::{Group, group_of};
 use elab_links::module_set::Place;
-use rtl_tree::memory::Memory;
 use rtl_tree::tree::item::{Instance, Item};
 use rtl_tree::tree::modules::Module;
 use std::alloc::Global;
+use text_ground::memory::Memory;
 
 /// The most instances of a design.
 const INSTANCES: u16 = 20_000;

@@ -9,7 +9,7 @@ use Rattle.rtl_bits.specs.declared.Bit.TheVariants.{Zero, One, X, Z}
 use Rattle.rtl_bits.specs.declared.Edge.TheVariants as edge
 use Rattle.rtl_bits.specs.Bit.{is_one}
 use Rattle.rtl_bits.specs.Bits.{extended, truth_bit}
-use Rattle.rtl_tree.specs.declared.text.Spot.{Spot}
+use Rattle.text_ground.specs.declared.text.Spot.{Spot}
 use Rattle.rtl_flat.specs.declared.signal.Signal.{Signal}
 use Rattle.rtl_flat.specs.declared.signal.Kind.{Kind}
 use Rattle.rtl_flat.specs.declared.signal.Kind.TheVariants.{TopInput, Var}

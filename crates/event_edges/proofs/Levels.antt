@@ -7,7 +7,7 @@ use Rattle.std.proofs.lemmas.List.Elements.{All-head, All-tail}
 use Rattle.rtl_bits.specs.declared.Bit.{Bit}
 use Rattle.rtl_bits.specs.declared.Bit.TheVariants.{X}
 use Rattle.rtl_bits.specs.Bits.{extended, replaced, selected}
-use Rattle.rtl_tree.specs.declared.text.Spot.{Spot}
+use Rattle.text_ground.specs.declared.text.Spot.{Spot}
 use Rattle.rtl_flat.specs.Expression.{Tree, Sized}
 use Rattle.rtl_flat.specs.Expression as tree
 use Rattle.rtl_flat.specs.Flows.{body_flow, may_select, reads}

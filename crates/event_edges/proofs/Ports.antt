@@ -4,7 +4,7 @@ use Rattle.std.specs.Prelude.{IsTrue, IsSome, is_some, unwrap_or}
 use Rattle.rtl_bits.specs.declared.Bit.{Bit}
 use Rattle.rtl_bits.specs.declared.Bit.TheVariants.{X, Z}
 use Rattle.rtl_bits.specs.Bits.{extended, replaced, selected}
-use Rattle.rtl_tree.specs.declared.text.Spot.{Spot}
+use Rattle.text_ground.specs.declared.text.Spot.{Spot}
 use Rattle.rtl_flat.specs.Expression.{Tree}
 use Rattle.rtl_flat.specs.Flows.{flow_of, may_target}
 use Rattle.rtl_flat.specs.Paths.{MayWrite}

@@ -1,7 +1,7 @@
 -- A run that takes a path of its body, and one that takes none.
 use Rattle.std.proofs.Common.{◌≡◌, ◌∙◌, ℕ, true, false, List, [], ◌∷◌, ◌++◌, refl, ap}
 use Rattle.rtl_bits.specs.declared.Bit.TheVariants.{Zero, One}
-use Rattle.rtl_tree.specs.declared.text.Spot.{Spot}
+use Rattle.text_ground.specs.declared.text.Spot.{Spot}
 use Rattle.rtl_flat.specs.declared.act.CaseKind.TheVariants.{Plain}
 use Rattle.rtl_flat.specs.Expression.{Tree, Sized, Literal}
 use Rattle.rtl_flat.specs.Expression as tree

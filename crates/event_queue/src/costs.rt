@@ -12,8 +12,8 @@ use crate::bodies::late_at;
 use rtl_flat::act::Does;
 use rtl_flat::design::Design;
 use rtl_flat::signal::{Kind, Signal};
-use rtl_tree::memory::Memory;
 use std::alloc::Global;
+use text_ground::memory::Memory;
 
 /// What the processes of a design cost.
 #[derive(Drop)]

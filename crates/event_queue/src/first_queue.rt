@@ -20,8 +20,8 @@ use rtl_bits::{Bit, Vec4};
 use rtl_flat::act::{Does, ProcId};
 use rtl_flat::design::Design;
 use rtl_flat::signal::{Kind, Signal};
-use rtl_tree::memory::Memory;
 use std::alloc::Global;
+use text_ground::memory::Memory;
 
 /// The first value of a signal.
 fn first_value(signal: &Signal) -> Vec4

@@ -17,8 +17,8 @@ use rtl_bits::{Bit, Vec4};
 use rtl_flat::act::ProcId;
 use rtl_flat::design::Design;
 use rtl_flat::expr::SigId;
-use rtl_tree::memory::Memory;
 use std::alloc::Global;
+use text_ground::memory::Memory;
 
 /// A tally for each bit of a signal of so many bits, if it has several drivers. All of them are at z.
 fn first_row(alloc: Global, width: u8, drivers: usize) -> Result<Vec<Tally>, Memory>

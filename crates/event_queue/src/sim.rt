@@ -20,8 +20,8 @@ use event_take::policies::choose;
 use rtl_bits::Vec4;
 use rtl_flat::design::Design;
 use rtl_flat::expr::SigId;
-use rtl_tree::memory::Memory;
 use std::alloc::Global;
+use text_ground::memory::Memory;
 use thiserror::Error;
 
 /// The events of a step cost more than a step may cost, so it may be that it never settles.

@@ -10,8 +10,8 @@ use event_tables::event_write::queue_state::QueueState;
 use rtl_bits::Vec4;
 use rtl_flat::act::ProcId;
 use rtl_flat::design::Design;
-use rtl_tree::memory::Memory;
 use std::alloc::Global;
+use text_ground::memory::Memory;
 
 /// Where a simulator begins.
 #[derive(Drop)]

@@ -10,8 +10,8 @@ use crate::rows::empty_rows;
 use rtl_flat::act::{Does, ProcId, TargetPart};
 use rtl_flat::design::Design;
 use rtl_flat::expr::SigId;
-use rtl_tree::memory::Memory;
 use std::alloc::Global;
+use text_ground::memory::Memory;
 
 /// Whether a process is the last one in a row.
 fn ends_in(row: &[ProcId], process: ProcId) -> bool

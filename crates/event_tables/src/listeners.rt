@@ -16,8 +16,8 @@ use event_write::rtl_scan::{lists, reads, selected};
 use rtl_bits::Edge;
 use rtl_flat::act::{Does, EventItem, Listed, ProcId};
 use rtl_flat::design::Design;
-use rtl_tree::memory::Memory;
 use std::alloc::Global;
+use text_ground::memory::Memory;
 
 /// Where in a row the listener with a kind of event and a mask stands, if there is one.
 fn place_of(row: &[Listener], edge: Edge, mask: u128) -> Option<usize>

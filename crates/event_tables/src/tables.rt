@@ -7,8 +7,8 @@ use crate::drivers::drivers_of;
 use crate::listeners::listeners_of;
 use event_write::fanout::Fanout;
 use rtl_flat::design::Design;
-use rtl_tree::memory::Memory;
 use std::alloc::Global;
+use text_ground::memory::Memory;
 
 /// Who hears changes of each signal of a design, and who drives it.
 pub fn fanout_of(alloc: Global, design: &Design) -> Result<Fanout<'_>, Memory>

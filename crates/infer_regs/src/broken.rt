@@ -21,8 +21,8 @@ use rtl_bits::Edge;
 use rtl_flat::act::{Does, EventItem, ProcId};
 use rtl_flat::design::Design;
 use rtl_rule::rule::Rule;
-use rtl_tree::memory::Memory;
 use std::alloc::Global;
+use text_ground::memory::Memory;
 
 /// The events of a process.
 pub(crate) fn events_of(does: &Does) -> &[EventItem]

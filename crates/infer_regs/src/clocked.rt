@@ -19,8 +19,8 @@ use net_list::registers::Registers;
 use net_list::rtl_scan::bits::BitSet;
 use rtl_flat::act::ProcId;
 use rtl_flat::design::Design;
-use rtl_tree::memory::Memory;
 use std::alloc::Global;
+use text_ground::memory::Memory;
 
 /// A process that waits for edges with its clock and its resets; none where it breaks a rule about
 /// its list, its clock or its resets.

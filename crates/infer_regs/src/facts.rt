@@ -11,8 +11,8 @@ use net_list::check_gates::tops::tops_of;
 use net_list::rtl_scan::temporaries;
 use rtl_bits::Vec4;
 use rtl_flat::design::Design;
-use rtl_tree::memory::Memory;
 use std::alloc::Global;
+use text_ground::memory::Memory;
 
 /// What rules about one process ask of all of them.
 #[derive(Drop)]

@@ -14,8 +14,8 @@ use net_list::check_chains::chain::{Guard, chain_of};
 use rtl_flat::act::{EventItem, ProcId};
 use rtl_flat::design::Design;
 use rtl_rule::rule::Rule;
-use rtl_tree::memory::Memory;
 use std::alloc::Global;
+use text_ground::memory::Memory;
 
 /// What a process that waits for edges is.
 #[derive(Drop)]

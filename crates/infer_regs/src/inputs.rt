@@ -15,8 +15,8 @@ use net_list::check_gates::waits::mark_all_waited;
 use net_list::check_gates::{gate_inputs, gates};
 use rtl_flat::design::Design;
 use rtl_flat::expr::SigId;
-use rtl_tree::memory::Memory;
 use std::alloc::Global;
+use text_ground::memory::Memory;
 
 /// Whether a top input is a gate, or an edge of something that is reached from it is waited for.
 fn reaches_control(

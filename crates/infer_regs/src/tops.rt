@@ -10,8 +10,8 @@ ghost use Rattle.infer_regs.specs.Taken.{AreResetTops, HasTop};
 use net_list::check_chains::chain::Guard;
 use net_list::check_gates::tops::row_at;
 use rtl_flat::expr::SigId;
-use rtl_tree::memory::Memory;
 use std::alloc::Global;
+use text_ground::memory::Memory;
 
 /// A top input that a signal comes from.
 pub(crate) fn top_of(tops: &[Vec<u32>], signal: SigId) -> SigId

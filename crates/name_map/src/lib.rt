@@ -7,10 +7,10 @@ ghost use Rattle.std.specs.Prelude.{◌≡◌, IfOk, IsSome, OnErr, OnOk};
 ghost use Rattle.name_map.specs.Values.{entered, no_values, values_of, with_value};
 
 use crate::packed::{is_short, packed};
-use rtl_tree::memory::Memory;
-use rtl_tree::text::Text;
 use std::alloc::Global;
 use std::collections::BTreeMap;
+use text_ground::memory::Memory;
+use text_ground::text::Text;
 
 /// A map from names to values. The order of its keys can't be made slow by a choice of names.
 ///

@@ -6,7 +6,7 @@ use Rattle.rtl_bits.specs.declared.Bit.TheVariants.{X}
 use Rattle.rtl_bits.specs.Bits.{tabulate}
 use Rattle.rtl_bits.specs.Inside.{length-tabulate}
 use Rattle.rtl_bits.proofs.Lists.{get_or-tabulate, tabulate-congr}
-use Rattle.rtl_tree.specs.declared.text.Spot.{Spot}
+use Rattle.text_ground.specs.declared.text.Spot.{Spot}
 use Rattle.rtl_flat.specs.declared.act.CaseKind.{CaseKind}
 use Rattle.rtl_flat.specs.Expression.{Tree}
 use Rattle.rtl_flat.specs.Flows.{action_then, actions_then, body_flow, is_complete, may_select, may_target, other_flow, way_past, ways}

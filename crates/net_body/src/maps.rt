@@ -31,8 +31,8 @@ use rtl_bits::{Bit, Vec4};
 use rtl_flat::act::{Act, Process, Target};
 use rtl_flat::design::Design;
 use rtl_flat::expr::{SigId, SizedExpr};
-use rtl_tree::memory::Memory;
 use std::alloc::Global;
+use text_ground::memory::Memory;
 
 /// The digits of all signals of a design, and room for what bodies make of them.
 #[derive(Drop)]

@@ -1,7 +1,7 @@
 //! Statements, each made as it is reached.
 
 ghost use Rattle.std.specs.Prelude.{◌≡◌, ◌≤◌, ◌+◌, ◌*◌, cond, length, map, max};
-ghost use Rattle.rtl_tree.specs.declared.text.Spot.{Spot};
+ghost use Rattle.text_ground.specs.declared.text.Spot.{Spot};
 ghost use Rattle.rtl_flat.specs.declared.signal.Kind.TheVariants.{Var};
 ghost use Rattle.rtl_flat.specs.Expression.{tree};
 ghost use Rattle.rtl_flat.specs.Process.{Case, action, body_of, piece};

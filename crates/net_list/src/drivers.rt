@@ -13,8 +13,8 @@ use check_assign::check_found::sets::written;
 use check_assign::rtl_scan::bits::{BitSet, Row};
 use rtl_flat::act::ProcId;
 use rtl_flat::design::Design;
-use rtl_tree::memory::Memory;
 use std::alloc::Global;
+use text_ground::memory::Memory;
 
 /// Whether a bit of a row is in a set.
 fn shares(bits: &BitSet, row: Row) -> bool

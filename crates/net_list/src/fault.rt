@@ -4,8 +4,8 @@ ghost use Rattle.std.specs.Prelude.{◌≡◌};
 ghost use Rattle.net_list.specs.declared.fault.InferFault.TheVariants as fault;
 
 use rtl_flat::act::ProcId;
-use rtl_tree::memory::Memory;
 use std::alloc::{AllocError, AllocFailed};
+use text_ground::memory::Memory;
 use thiserror::Error;
 
 /// Why nothing is inferred of a design.

@@ -4,7 +4,7 @@ use Rattle.rtl_bits.specs.declared.Bit.{Bit}
 use Rattle.rtl_bits.specs.declared.Bit.TheVariants.{Zero, One, X, Z}
 use Rattle.rtl_bits.specs.declared.Edge.{Edge}
 use Rattle.rtl_bits.specs.declared.Edge.TheVariants as edge
-use Rattle.rtl_tree.specs.declared.text.Spot.{Spot}
+use Rattle.text_ground.specs.declared.text.Spot.{Spot}
 use Rattle.rtl_flat.specs.declared.act.CaseKind.{CaseKind}
 use Rattle.rtl_flat.specs.declared.act.CaseKind.TheVariants as kind
 use Rattle.rtl_flat.specs.declared.expr.Compare.TheVariants as compare

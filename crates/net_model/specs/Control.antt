@@ -3,7 +3,7 @@
 -- Worked examples: proofs/Clocks.antt, crates/sign_cycles/proofs/Register.antt.
 use Rattle.std.specs.Prelude.{◌≡◌, ◌≢◌, ℕ, ◌==◌, Bool, true, ◌&&◌, List, [], ◌∷◌, Some, IsTrue}
 use Rattle.std.specs.List.{slice_get, list_any}
-use Rattle.rtl_tree.specs.declared.text.Spot.{Spot}
+use Rattle.text_ground.specs.declared.text.Spot.{Spot}
 use Rattle.rtl_flat.specs.Expression.{Tree, Sized}
 use Rattle.rtl_flat.specs.Expression as tree
 use Rattle.rtl_flat.specs.Flows.{reads}

@@ -6,7 +6,7 @@ use Rattle.std.specs.List.{slice_get}
 use Rattle.rtl_bits.specs.declared.Bit.{Bit}
 use Rattle.rtl_bits.specs.declared.Bit.TheVariants.{Zero, One}
 use Rattle.rtl_bits.specs.Bits.{same_bit}
-use Rattle.rtl_tree.specs.declared.text.Spot.{Spot}
+use Rattle.text_ground.specs.declared.text.Spot.{Spot}
 use Rattle.rtl_flat.specs.declared.expr.Compare.TheVariants as compare
 use Rattle.rtl_flat.specs.declared.expr.Fold.TheVariants as fold
 use Rattle.rtl_flat.specs.declared.expr.Turn.TheVariants as turn

@@ -1,7 +1,7 @@
 -- Forms that are no literal.
 use Rattle.std.proofs.Common.{◌≡◌, ℕ, Bool, false, List, refl}
 use Rattle.rtl_bits.specs.declared.Bit.{Bit}
-use Rattle.rtl_tree.specs.declared.text.Spot.{Spot}
+use Rattle.text_ground.specs.declared.text.Spot.{Spot}
 use Rattle.rtl_flat.specs.declared.expr.Index.TheVariants as index
 use Rattle.rtl_flat.specs.declared.expr.Select.TheVariants as select
 use Rattle.rtl_flat.specs.declared.expr.Node.{Node, Row_of-SizedExpr, end_of-SizedExpr, more_of-SizedExpr}

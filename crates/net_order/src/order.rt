@@ -10,8 +10,8 @@ use check_found::rtl_scan::graph::depths;
 use rtl_flat::act::ProcId;
 use rtl_flat::design::Design;
 use rtl_flat::expr::SigId;
-use rtl_tree::memory::Memory;
 use std::alloc::Global;
+use text_ground::memory::Memory;
 
 /// The answer of `order`.
 #[derive(Drop)]

@@ -10,8 +10,8 @@ use check_found::sets::first_written;
 use rtl_flat::act::ProcId;
 use rtl_flat::design::Design;
 use rtl_flat::expr::SigId;
-use rtl_tree::memory::Memory;
 use std::alloc::Global;
+use text_ground::memory::Memory;
 
 /// A process with the greatest number of arrows in a chain to it.
 #[derive(Clone, Copy)]

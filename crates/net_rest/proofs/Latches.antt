@@ -5,7 +5,7 @@ use Rattle.std.proofs.lemmas.Bool.{and_from, eq-eqb, le-leb, lt-ltb, or_left}
 use Rattle.std.proofs.lemmas.List.{append-nil, length-replicate}
 use Rattle.rtl_bits.specs.declared.Bit.TheVariants.{X, Z}
 use Rattle.rtl_bits.specs.Bits.{same_bit, selected}
-use Rattle.rtl_tree.specs.declared.text.Spot.{Spot}
+use Rattle.text_ground.specs.declared.text.Spot.{Spot}
 use Rattle.rtl_flat.specs.Expression.{Tree, Sized}
 use Rattle.rtl_flat.specs.Expression as tree
 use Rattle.rtl_flat.specs.Flows.{may_target}

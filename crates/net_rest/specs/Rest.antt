@@ -3,7 +3,7 @@ use Rattle.std.specs.Prelude.{◌≡◌, ◌⊎◌, ℕ, ◌<◌, Bool, true, fa
 use Rattle.std.specs.List.{list_any}
 use Rattle.rtl_bits.specs.Bit.{is_one, is_unknown}
 use Rattle.rtl_bits.specs.Bits.{has_unknown, same_bit, tabulate, truth_bit}
-use Rattle.rtl_tree.specs.declared.text.Spot.{Spot}
+use Rattle.text_ground.specs.declared.text.Spot.{Spot}
 use Rattle.rtl_flat.specs.Expression.{Tree}
 use Rattle.rtl_flat.specs.Flows.{body_flow, flow_of, may_target}
 use Rattle.rtl_flat.specs.Levels.{IsArrow, IsNode}

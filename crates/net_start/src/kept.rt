@@ -15,8 +15,8 @@ use check_found::rtl_scan::bits::{BitSet, Row};
 use check_found::sets::{sure, written};
 use rtl_flat::act::{Does, ProcId};
 use rtl_flat::design::Design;
-use rtl_tree::memory::Memory;
 use std::alloc::Global;
+use text_ground::memory::Memory;
 
 /// Adds rows to a set.
 fn add(bits: &mut BitSet, rows: &[Row]) -> Result<(), Memory>

@@ -19,8 +19,8 @@ use net_model::fill::Fill;
 use rtl_bits::{Bit, Vec4};
 use rtl_flat::design::Design;
 use rtl_flat::expr::SigId;
-use rtl_tree::memory::Memory;
 use std::alloc::Global;
+use text_ground::memory::Memory;
 
 /// The fill as a bit.
 fn fill_bit(fill: Fill) -> Bit

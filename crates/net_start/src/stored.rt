@@ -12,8 +12,8 @@ use check_found::rtl_scan::temporaries;
 use rtl_flat::design::Design;
 use rtl_flat::expr::SigId;
 use rtl_flat::signal::Kind;
-use rtl_tree::memory::Memory;
 use std::alloc::Global;
+use text_ground::memory::Memory;
 
 /// Puts a signal behind others, where it is one of them.
 fn push_if(found: &mut Vec<SigId>, holds: bool, signal: SigId) -> Result<(), Memory>

@@ -1,5 +1,5 @@
 -- It serves inner contracts and proofs; no answer of the program is stated by it.
--- What processes that wait for edges run where a clock or a reset changes.
+-- What processes that wait for edges run where a clock, a reset or a gate changes.
 use Rattle.std.specs.Prelude.{◌≡◌, ◌≢◌, ◌⊎◌, ℕ, ◌<◌, Bool, cond, List, [], ◌∷◌, length, map, Option, Some, None, slice_index_or}
 use Rattle.std.specs.List.{slice_get}
 use Rattle.std.specs.Option.{IsSomeAnd}

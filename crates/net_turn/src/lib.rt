@@ -1,4 +1,4 @@
-//! A step in which a clock or a reset changes, and where a simulation begins.
+//! A step in which a clock, a reset or a gate changes, and where a simulation begins.
 #![tactic(auto)]
 
 mod choice;

@@ -1,4 +1,4 @@
-//! A clock or a reset changes; and where a simulation begins.
+//! A clock, a reset or a gate changes; and where a simulation begins.
 
 ghost use Rattle.std.specs.Prelude.{ℕ, ◌≡◌, [], ◌∷◌, false, length, Some};
 ghost use Rattle.std.specs.List.{All};
@@ -20,8 +20,8 @@ use net_settle::work::work;
 use rtl_bits::Vec4;
 use rtl_flat::act::ProcId;
 
-/// Sets a clock or a reset and works out what follows: from a solution it comes to the numbers after the step. It takes no
-/// memory.
+/// Sets a clock, a reset or a gate and works out what follows: from a solution it comes to the numbers after the step. It
+/// takes no memory.
 pub fn turn(
     maps: &mut Maps,
     order: &[ProcId],

@@ -11,7 +11,7 @@ use Rattle.netlist_eval.specs.declared.basis.Basis.{Basis}
 use Rattle.netlist_eval.specs.Steps.{HasNoCycle}
 
 -- that of a design: an order of its processes, the signals that are given values, the bits that are kept, and which inputs
--- are clocks and resets
+-- are clocks, resets and gates
 pub record IsBasisOf (d : Flat) (basis : Basis) : Type 0 where
   pub is_order : IsOrder d (numbers_of basis.order.items)
   pub no_cycle : HasNoCycle d

@@ -14,7 +14,7 @@ use Rattle.net_turn.specs.net_settle.Settle.{IsSolved}
 use Rattle.netlist_eval.specs.Netlists.{flat_in}
 
 -- numbers that solve the equations of the netlist's design, an order of its processes, which of its inputs
--- are clocks and resets, and room
+-- are clocks, resets and gates, and room
 pub record IsSimulator (netlist : Netlist) (order : List ProcId) (m : Maps) (before after : List (List Bit)) (controls : List Bool) : Type 0 where
   pub design : m.design.now ≡ netlist.design.now
   pub able : IsAble m

@@ -33,14 +33,14 @@ abbrev pub step_view : Step → cycle.Step
 step_view (Data settings) = cycle.Data (map setting_view settings.now)
 step_view (Turn setting) = cycle.Turn (setting_view setting)
 
--- settings as a step: one setting of a clock or a reset turns it, all others set data inputs
+-- settings as a step: one setting of a clock, a reset or a gate turns it, all others set data inputs
 abbrev pub IsStepOf : Flat → List Setting → Step → Type 0
 IsStepOf d settings (Data all) =
     (all.now ≡ settings) × ((one : Setting) → settings ≡ one ∷ [] → IsControl d one.signal.0 → ⊥)
 IsStepOf d settings (Turn one) = (settings ≡ one ∷ []) × ∥ IsControl d one.signal.0 ∥₁
 
 -- a step that may be taken from some numbers: known values of their width for data inputs, or the other value for one
--- clock or reset
+-- clock, reset or gate
 abbrev pub IsLawful : Flat → Values → Step → Type 0
 IsLawful d n step = ∥ IsLawfulStep d n (step_view step) ∥₁
 

@@ -18,8 +18,8 @@ use net_start::stored::{stored, top_inputs};
 use rtl_flat::act::ProcId;
 use rtl_flat::design::Design;
 use rtl_flat::expr::SigId;
-use rtl_tree::memory::Memory;
 use std::alloc::Global;
+use text_ground::memory::Memory;
 
 /// What all simulators of a design's netlists begin with, whatever their fill and their values.
 #[derive(Drop)]
@@ -31,7 +31,7 @@ pub struct Basis {
     pub tops: Vec<SigId>,
     /// The bits of registers and latches.
     pub kept: BitSet,
-    /// Of each signal whether it is a clock or a reset among the top inputs.
+    /// Of each signal whether it is a clock, a reset or a gate among the top inputs.
     pub controls: Vec<bool>,
 }
 
@@ -46,7 +46,7 @@ fn places_of(alloc: Global, signals: &[SigId]) -> Result<Vec<u32>, Memory>
     Ok(found)
 }
 
-/// Of each signal whether it is a clock or a reset among the top inputs.
+/// Of each signal whether it is a clock, a reset or a gate among the top inputs.
 fn marked_controls(alloc: Global, design: &Design) -> Result<Vec<bool>, Memory>
     ensures { IfOk result (λ marks. (s : ℕ) →
         slice_index_or marks.items s false ≡ true ↔ IsControl (flat design.now) s) }

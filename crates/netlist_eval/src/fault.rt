@@ -4,8 +4,8 @@ ghost use Rattle.std.specs.Prelude.{◌≡◌};
 ghost use Rattle.netlist_eval.specs.declared.fault.NetFault.TheVariants as fault;
 
 use rtl_flat::expr::SigId;
-use rtl_tree::memory::Memory;
 use std::alloc::{AllocError, AllocFailed};
+use text_ground::memory::Memory;
 use thiserror::Error;
 
 /// Why a netlist isn't simulated.

@@ -29,7 +29,7 @@ pub struct NetSim<'n> {
     /// Room for the numbers before a turn, and for those after it.
     before: Vec<Vec4>,
     after: Vec<Vec4>,
-    /// Of each signal whether it is a clock or a reset among the top inputs.
+    /// Of each signal whether it is a clock, a reset or a gate among the top inputs.
     controls: Vec<bool>,
     ghost is_simulator: { ∥ IsSimulator netlist.now order.items maps
         before.items after.items controls.items ∥₁ },
@@ -193,7 +193,7 @@ impl<'n> NetSim<'n> {
             && setting.value.width() == design.signals[setting.signal.0 as usize].width
     }
 
-    /// Whether a signal is a clock or a reset among the top inputs.
+    /// Whether a signal is a clock, a reset or a gate among the top inputs.
     fn is_control(&self, signal: SigId) -> bool
         ensures { result ≡ true ↔ ∥ IsControl (flat_of self.now) signal.0 ∥₁ }
     {
@@ -221,7 +221,7 @@ impl<'n> NetSim<'n> {
         true
     }
 
-    /// Whether a setting gives a clock or a reset the other value.
+    /// Whether a setting gives a clock, a reset or a gate the other value.
     fn turns_control(&self, setting: &Setting) -> bool
         ensures { result
             ≡ true ↔ ∥ TurnsControl (flat_of self.now) (shown self.now)
@@ -232,7 +232,7 @@ impl<'n> NetSim<'n> {
             && !self.value(setting.signal).is_same(setting.value)
     }
 
-    /// Settings as a step: one setting of a clock or a reset turns it, all others set data inputs.
+    /// Settings as a step: one setting of a clock, a reset or a gate turns it, all others set data inputs.
     pub fn step_of<'a>(&self, settings: &'a [Setting]) -> Step<'a>
         ensures { IsStepOf (flat_of self.now) settings.now result }
     {

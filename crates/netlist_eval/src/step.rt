@@ -7,6 +7,6 @@ use event_model::setting::Setting;
 pub enum Step<'a> {
     /// Data inputs are set; of two settings of one input the last counts.
     Data(&'a [Setting]),
-    /// One clock or reset is set to the other value.
+    /// One clock, reset or gate is set to the other value.
     Turn(Setting),
 }

@@ -18,9 +18,9 @@ use elab_lawful::elab_walk::top::{Walked, top_visit, walk};
 use elab_lawful::elab_walk::trail::Placement;
 use elab_readings::readings::notes_of;
 use rtl_flat::note::Note;
-use rtl_tree::memory::Memory;
-use rtl_tree::text::Text;
 use std::alloc::Global;
+use text_ground::memory::Memory;
+use text_ground::text::Text;
 
 /// The instances of the module with a name, each before those that it holds, up to the first of which something is told,
 /// and what that is.

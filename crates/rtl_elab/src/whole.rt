@@ -17,11 +17,11 @@ use elab_lawful::elab_links::module_set::ModuleSet;
 use elab_lawful::elab_scope::fault::ElabFault;
 use elab_lawful::elab_walk::library::Library;
 use rtl_flat::design::Design;
-use rtl_tree::text::Text;
 use rtl_tree::tree::modules::Module;
 use std::alloc::Global;
 use std::sync::ledger::Ledger;
 use steps::Steps;
+use text_ground::text::Text;
 
 /// The design that is made of these parts.
 pub fn design_of(made: NotedParts) -> Design

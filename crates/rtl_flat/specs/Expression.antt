@@ -2,7 +2,7 @@
 -- Worked examples: crates/event_laws/proofs/Example.antt.
 use Rattle.std.specs.Prelude.{ℕ, ℤ, Bool, List, [], ◌∷◌, ◌++◌}
 use Rattle.rtl_bits.specs.declared.Bit.{Bit}
-use Rattle.rtl_tree.specs.declared.text.Spot.{Spot}
+use Rattle.text_ground.specs.declared.text.Spot.{Spot}
 use Rattle.rtl_flat.specs.declared.expr.Turn.{Turn}
 use Rattle.rtl_flat.specs.declared.expr.Join.{Join}
 use Rattle.rtl_flat.specs.declared.expr.Compare.{Compare}

@@ -2,7 +2,7 @@
 -- Worked examples: crates/event_laws/proofs/Example.antt, crates/event_laws/proofs/BodyExample.antt.
 use Rattle.std.specs.Prelude.{ℕ, ℤ, Bool, List, [], ◌∷◌, map, Option, Some, None}
 use Rattle.rtl_bits.specs.declared.Edge.{Edge}
-use Rattle.rtl_tree.specs.declared.text.Spot.{Spot}
+use Rattle.text_ground.specs.declared.text.Spot.{Spot}
 use Rattle.rtl_flat.specs.declared.expr.Index.{Index}
 use Rattle.rtl_flat.specs.declared.expr.Index.TheVariants as index
 use Rattle.rtl_flat.specs.declared.expr.Select.{Select}

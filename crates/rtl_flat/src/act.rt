@@ -2,7 +2,7 @@
 
 use crate::expr::{Select, SigId, SizedExpr};
 use rtl_bits::Edge;
-use rtl_tree::text::Spot;
+use text_ground::text::Spot;
 
 /// The number of a process in its design, from 0.
 #[derive(Clone, Copy, PartialEq, Eq, PartialOrd, Ord, Debug)]

@@ -1,7 +1,7 @@
 //! Sized expressions.
 
 use rtl_bits::Vec4;
-use rtl_tree::text::Spot;
+use text_ground::text::Spot;
 
 /// The number of a signal in its design, from 0.
 #[derive(Clone, Copy, PartialEq, Eq, PartialOrd, Ord, Debug)]

@@ -1,8 +1,8 @@
 //! Instances, and what of their text has no meaning in the design.
 
 use crate::act::ProcId;
-use rtl_tree::dropped::DropKind;
-use rtl_tree::text::{Spot, Text};
+use text_ground::dropped::DropKind;
+use text_ground::text::{Spot, Text};
 
 /// An instance of a module.
 #[derive(Drop)]

@@ -1,7 +1,7 @@
 //! Places of a text that other tools read otherwise than the design has them.
 
 use crate::expr::SigId;
-use rtl_tree::text::Spot;
+use text_ground::text::Spot;
 
 /// What is read otherwise.
 #[derive(Clone, Copy, PartialEq, Eq, Debug)]

@@ -3,7 +3,7 @@
 ghost use Rattle.std.specs.Prelude.{◌≡◌, position};
 ghost use Rattle.std.specs.Str.{bytes_eq};
 
-use rtl_tree::text::{Spot, Text};
+use text_ground::text::{Spot, Text};
 
 /// What a signal is.
 #[derive(Clone, Copy, PartialEq, Eq, Debug)]

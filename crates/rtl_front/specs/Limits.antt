@@ -1,7 +1,7 @@
 -- The limits of a text, as numbers: what clauses call by their names elsewhere.
 -- Worked examples: crates/tests_layers/stdin.
 use Rattle.std.specs.Prelude.{◌≡◌}
-use Rattle.rtl_tree.specs.declared.text.TheConstants.{MAX_BYTES}
+use Rattle.text_ground.specs.declared.text.TheConstants.{MAX_BYTES}
 use Rattle.rtl_tree.specs.declared.token.TheConstants.{MAX_TOKENS, MAX_WORD}
 use Rattle.rtl_tree.specs.declared.tree.nesting.TheConstants.{MAX_NESTING}
 use Rattle.rtl_prep.specs.declared.replace.TheConstants.{MAX_REPLACEMENTS}

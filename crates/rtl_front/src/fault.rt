@@ -3,8 +3,8 @@
 use rtl_parse::ParseFault;
 use rtl_prep::PrepFault;
 use rtl_text::LexFault;
-use rtl_tree::memory::Memory;
 use std::alloc::{AllocError, AllocFailed};
+use text_ground::memory::Memory;
 use thiserror::Error;
 
 /// Why a file's text has no modules.

@@ -10,13 +10,13 @@ use crate::fault::{FileFault, SourceFault};
 use rtl_parse::{ParseFault, parse};
 use rtl_prep::{Conditions, PrepFault, Preparation, prepare};
 use rtl_text::{LexFault, lex};
-use rtl_tree::memory::Memory;
 use rtl_tree::tree::modules::Module;
 use source_file::SourceFile;
 use std::alloc::Global;
 use std::sync::ledger::Ledger;
 use steps::Steps;
 use text_build::spelled_once;
+use text_ground::memory::Memory;
 
 /// The modules of a file, and what its conditions ask.
 #[derive(Drop)]

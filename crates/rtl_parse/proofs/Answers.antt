@@ -10,7 +10,7 @@ use Rattle.rtl_tree.specs.TreeModule.{Circuit, circuit}
 use Rattle.rtl_tree.specs.GrammarModule.{AreSpelled, Spells}
 use Rattle.rtl_tree.specs.Deeper.{too_deep}
 use Rattle.rtl_tree.specs.Depth.{depth}
-use Rattle.rtl_tree.specs.declared.dropped.Dropped.{Dropped}
+use Rattle.text_ground.specs.declared.dropped.Dropped.{Dropped}
 use Rattle.rtl_tree.specs.declared.token.Token.{Token}
 use Rattle.rtl_tree.specs.declared.tree.nesting.TheConstants.{MAX_NESTING}
 use Rattle.text_survey.specs.Terminals.{is_refused}

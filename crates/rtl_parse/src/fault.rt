@@ -1,7 +1,7 @@
 // Why a text isn't parsed.
 
-use rtl_tree::memory::Memory;
 use std::alloc::{AllocError, AllocFailed};
+use text_ground::memory::Memory;
 use thiserror::Error;
 
 /// Why a text isn't parsed. Places are in bytes from 0.

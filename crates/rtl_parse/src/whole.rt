@@ -9,8 +9,6 @@ ghost use Rattle.rtl_tree.specs.Deeper.{too_deep};
 ghost use Rattle.rtl_parse.specs.Parses.{IsCause, IsThere, first_outside};
 
 use crate::fault::ParseFault;
-use rtl_tree::dropped::Dropped;
-use rtl_tree::memory::Memory;
 use rtl_tree::prepared::Prepared;
 use rtl_tree::symbol::Terminal;
 use rtl_tree::tree::modules::Module;
@@ -18,6 +16,8 @@ use std::alloc::Global;
 use std::sync::ledger::Ledger;
 use steps::Steps;
 use text_build::{BuildFault, are_proper, build, is_ordinary};
+use text_ground::dropped::Dropped;
+use text_ground::memory::Memory;
 use text_survey::{Surveyed, refused, survey, terminals};
 
 /// The text and the place of a token, or of the end of the text.

@@ -9,7 +9,7 @@ use Rattle.rtl_tree.specs.declared.token.Tok.TheVariants as tok
 use Rattle.rtl_tree.specs.declared.token.Pragma.TheVariants as pragma
 use Rattle.rtl_tree.specs.declared.token.Token.{Token}
 use Rattle.rtl_tree.specs.declared.token.TheConstants.{MAX_TOKENS}
-use Rattle.rtl_tree.specs.declared.dropped.Dropped.{Dropped}
+use Rattle.text_ground.specs.declared.dropped.Dropped.{Dropped}
 use Rattle.rtl_prep.specs.declared.initial.Within.TheVariants.{Outside, Opened}
 use Rattle.rtl_prep.specs.Stops.{Full, and_then, each}
 use Rattle.rtl_prep.specs.Regions.{Cut, bounds, bounds_region, cut, cut_at, regions}

@@ -6,7 +6,7 @@ use Rattle.std.proofs.lemmas.List.{reverse-append}
 use Rattle.rtl_tree.specs.declared.token.Tok.{Tok}
 use Rattle.rtl_tree.specs.declared.token.Tok.TheVariants as tok
 use Rattle.rtl_tree.specs.declared.token.Token.{Token}
-use Rattle.rtl_tree.specs.declared.dropped.Dropped.{Dropped}
+use Rattle.text_ground.specs.declared.dropped.Dropped.{Dropped}
 use Rattle.rtl_prep.specs.declared.comments.Last.{Last}
 use Rattle.rtl_prep.specs.declared.comments.Last.TheVariants as last
 use Rattle.rtl_prep.specs.Comments.{Place, is_pragma, opens_head, opened, behind_close, closed_from, behind, tells_nothing, comment_at, comment_of, comments_from}

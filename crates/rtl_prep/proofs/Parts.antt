@@ -1,7 +1,7 @@
 -- The two passes that need no text's lines: what they answer after their last token.
 use Rattle.std.proofs.Common.{◌≡◌, ℕ, List, [], Option, Ok, Err, ap, ◌∙◌}
 use Rattle.rtl_tree.specs.declared.token.Token.{Token}
-use Rattle.rtl_tree.specs.declared.dropped.Dropped.{Dropped}
+use Rattle.text_ground.specs.declared.dropped.Dropped.{Dropped}
 use Rattle.rtl_prep.specs.declared.initial.Within.TheVariants.{Outside}
 use Rattle.rtl_prep.specs.Stops.{Stop, and_then, each}
 use Rattle.rtl_prep.specs.Regions.{Cut, whole, cut, closed, regions}

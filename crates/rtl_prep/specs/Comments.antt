@@ -6,8 +6,8 @@ use Rattle.rtl_tree.specs.declared.token.Tok.{Tok}
 use Rattle.rtl_tree.specs.declared.token.Tok.TheVariants.{Pragma}
 use Rattle.rtl_tree.specs.declared.token.Pragma.TheVariants.{Case, Loose}
 use Rattle.rtl_tree.specs.declared.token.Token.{Token}
-use Rattle.rtl_tree.specs.declared.dropped.Dropped.{Dropped}
-use Rattle.rtl_tree.specs.declared.dropped.DropKind.TheVariants as kind
+use Rattle.text_ground.specs.declared.dropped.Dropped.{Dropped}
+use Rattle.text_ground.specs.declared.dropped.DropKind.TheVariants as kind
 use Rattle.rtl_prep.specs.declared.comments.Last.{Last}
 use Rattle.rtl_prep.specs.declared.comments.Last.TheVariants as last
 use Rattle.rtl_prep.specs.declared.comments.Notes as code

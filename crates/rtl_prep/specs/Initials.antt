@@ -5,8 +5,8 @@ use Rattle.std.specs.Str.{bytes_eq}
 use Rattle.rtl_tree.specs.declared.token.Tok.{Tok}
 use Rattle.rtl_tree.specs.declared.token.Tok.TheVariants.{Word, Mark}
 use Rattle.rtl_tree.specs.declared.token.Token.{Token}
-use Rattle.rtl_tree.specs.declared.dropped.Dropped.{Dropped}
-use Rattle.rtl_tree.specs.declared.dropped.DropKind.TheVariants as kind
+use Rattle.text_ground.specs.declared.dropped.Dropped.{Dropped}
+use Rattle.text_ground.specs.declared.dropped.DropKind.TheVariants as kind
 use Rattle.rtl_prep.specs.declared.initial.Within.{Within}
 use Rattle.rtl_prep.specs.declared.initial.Within.TheVariants.{Outside, Opened, Block, Statement}
 use Rattle.rtl_prep.specs.declared.initial.Shed as code

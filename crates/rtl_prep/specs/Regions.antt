@@ -5,8 +5,8 @@ use Rattle.rtl_tree.specs.declared.token.Tok.{Tok}
 use Rattle.rtl_tree.specs.declared.token.Tok.TheVariants.{Pragma}
 use Rattle.rtl_tree.specs.declared.token.Pragma.TheVariants.{TranslateOff, TranslateOn}
 use Rattle.rtl_tree.specs.declared.token.Token.{Token}
-use Rattle.rtl_tree.specs.declared.dropped.Dropped.{Dropped}
-use Rattle.rtl_tree.specs.declared.dropped.DropKind.TheVariants as kind
+use Rattle.text_ground.specs.declared.dropped.Dropped.{Dropped}
+use Rattle.text_ground.specs.declared.dropped.DropKind.TheVariants as kind
 use Rattle.rtl_prep.specs.declared.region.Cut as region
 use Rattle.rtl_prep.specs.Stops.{Stop, Alone, and_then, each}
 

@@ -9,10 +9,10 @@ use crate::conditions::Ask;
 use crate::directive::Known;
 use crate::names::Names;
 use crate::notices::Notice;
-use rtl_tree::memory::Memory;
-use rtl_tree::text::Text;
 use std::alloc::Global;
 use std::collections::LinkedList;
+use text_ground::memory::Memory;
+use text_ground::text::Text;
 
 /// What is known behind some directives.
 #[derive(Drop)]

@@ -7,9 +7,9 @@ ghost use Rattle.rtl_prep.specs.Passes.{all_seen, closing, seen};
 
 use crate::conditions::Span;
 use crate::notices::Notice;
-use rtl_tree::memory::Memory;
 use std::alloc::Global;
 use std::collections::LinkedList;
+use text_ground::memory::Memory;
 
 /// The end of a chain.
 #[derive(Clone, Copy, PartialEq, Eq, Debug)]

@@ -7,9 +7,9 @@ ghost use Rattle.rtl_prep.specs.Comments as spec;
 
 use crate::fault::PrepFault;
 use crate::word::{is_mark, is_word};
-use rtl_tree::dropped::{DropKind, Dropped};
 use rtl_tree::token::{Pragma, Tok, Token};
 use std::alloc::Global;
+use text_ground::dropped::{DropKind, Dropped};
 
 /// What the last token is, pragmas aside.
 #[derive(Clone, Copy, PartialEq, Eq, Debug)]

@@ -2,9 +2,9 @@
 
 ghost use Rattle.std.specs.Prelude.{◌≡◌, []};
 
-use rtl_tree::text::Text;
 use std::alloc::Global;
 use std::marker::Model;
+use text_ground::text::Text;
 
 /// A tested condition that asks for a name which no directive before it in its file settles.
 #[derive(Drop)]

@@ -6,9 +6,9 @@ ghost use Rattle.rtl_prep.specs.Passes as pass;
 
 use crate::conditions::{Ask, Extent};
 use crate::word::is_word;
-use rtl_tree::memory::Memory;
 use rtl_tree::token::Token;
 use std::alloc::Global;
+use text_ground::memory::Memory;
 
 fn extent_to(from: u32, end: Option<u32>) -> Extent
     ensures { result ≡ spec.extent from end }

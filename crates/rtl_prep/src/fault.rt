@@ -1,7 +1,7 @@
 // Why a text can't be prepared.
 
-use rtl_tree::memory::Memory;
 use std::alloc::{AllocError, AllocFailed};
+use text_ground::memory::Memory;
 use thiserror::Error;
 
 /// Why a text can't be prepared, with the place in bytes from 0.

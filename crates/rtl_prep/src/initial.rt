@@ -7,9 +7,9 @@ ghost use Rattle.rtl_prep.specs.Initials as spec;
 
 use crate::fault::PrepFault;
 use crate::word::{is_mark, is_word};
-use rtl_tree::dropped::{DropKind, Dropped};
 use rtl_tree::token::Token;
 use std::alloc::Global;
+use text_ground::dropped::{DropKind, Dropped};
 
 /// Where a place is, with the place of the `initial`.
 #[derive(Clone, Copy, PartialEq, Eq, Debug)]

@@ -6,11 +6,11 @@ ghost use Rattle.rtl_prep.specs.Passes.{all_seen, has, seen};
 
 use crate::directive::Known;
 use crate::notices::Notice;
-use rtl_tree::memory::Memory;
-use rtl_tree::text::Text;
 use std::alloc::Global;
 use std::collections::BTreeSet;
 use std::marker::Model;
+use text_ground::memory::Memory;
+use text_ground::text::Text;
 
 /// Names of a text, each once.
 #[derive(Drop)]

@@ -6,9 +6,9 @@ ghost use Rattle.rtl_prep.specs.Stops.{Tells};
 ghost use Rattle.rtl_prep.specs.Regions as spec;
 
 use crate::fault::PrepFault;
-use rtl_tree::dropped::{DropKind, Dropped};
 use rtl_tree::token::{Pragma, Tok, Token};
 use std::alloc::Global;
+use text_ground::dropped::{DropKind, Dropped};
 
 /// What stands outside the regions, and where they begin.
 #[derive(Drop)]

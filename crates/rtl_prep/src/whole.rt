@@ -25,12 +25,12 @@ use crate::notices::{Notice, notice_at};
 use crate::reader::{Reader, after};
 use crate::region::regions;
 use crate::replace::{Replacer, is_directive};
-use rtl_tree::memory::Memory;
 use rtl_tree::prepared::Prepared;
-use rtl_tree::text::Text;
 use rtl_tree::token::{MAX_TOKENS, Token, Tokens};
 use std::alloc::Global;
 use std::collections::LinkedList;
+use text_ground::memory::Memory;
+use text_ground::text::Text;
 
 /// The place of the first chain that is open.
 #[tactic(auto, unfolding(crate::specs::Prepares::outermost))]

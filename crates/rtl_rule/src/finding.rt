@@ -5,7 +5,7 @@ ghost use Rattle.rtl_rule.specs.Rows.{has_first_grade, has_needed, is_needed, ro
 
 use crate::rule::{Rule, first_grade, needed};
 use rtl_flat::expr::SigId;
-use rtl_tree::text::{Spot, Text};
+use text_ground::text::{Spot, Text};
 
 /// A rule that a design breaks, with the signal, the instance and the place in the text.
 #[derive(Clone, Copy, PartialEq, Eq, Debug)]

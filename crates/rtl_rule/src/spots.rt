@@ -3,7 +3,7 @@
 ghost use Rattle.std.specs.Prelude.{◌≡◌};
 ghost use Rattle.rtl_rule.specs.Parts.{is_earlier};
 
-use rtl_tree::text::Spot;
+use text_ground::text::Spot;
 
 /// Whether a place comes before another.
 pub fn is_earlier(one: Spot, other: Spot) -> bool

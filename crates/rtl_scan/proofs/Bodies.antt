@@ -2,7 +2,7 @@
 use Rattle.std.specs.Prelude.{Bool, map, Vec, Option, Some, None}
 use Rattle.std.specs.declared.alloc.Global.{Global}
 use Rattle.std.proofs.Common.{◌≡◌, ◌∙◌, ap, sym, refl}
-use Rattle.rtl_tree.specs.declared.text.Spot.{Spot}
+use Rattle.text_ground.specs.declared.text.Spot.{Spot}
 use Rattle.rtl_flat.specs.declared.expr.SizedExpr.{SizedExpr}
 use Rattle.rtl_flat.specs.declared.act.CaseKind.{CaseKind}
 use Rattle.rtl_flat.specs.declared.act.CaseItem.{CaseItem}

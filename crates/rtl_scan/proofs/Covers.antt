@@ -8,7 +8,7 @@ use Rattle.rtl_flat.specs.declared.expr.Index.TheVariants as index
 use Rattle.rtl_flat.specs.declared.expr.Select.TheVariants as select
 use Rattle.rtl_flat.specs.declared.expr.Node.{Node}
 use Rattle.rtl_flat.specs.declared.expr.Node.TheVariants as node
-use Rattle.rtl_tree.specs.declared.text.Spot.{Spot}
+use Rattle.text_ground.specs.declared.text.Spot.{Spot}
 use Rattle.rtl_flat.specs.declared.expr.Node.{Row_of-SizedExpr, end_of-SizedExpr, more_of-SizedExpr}
 use Rattle.rtl_flat.specs.Expression.{Tree, Sized, form, row}
 use Rattle.std.proofs.Common.{◌*◌, ◌%◌, drop, map}

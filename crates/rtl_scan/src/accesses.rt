@@ -10,8 +10,8 @@ use crate::spans::Widths;
 use crate::usages::{Usage, answers, note};
 use rtl_flat::act::Process;
 use rtl_flat::design::Design;
-use rtl_tree::memory::Memory;
 use std::alloc::Global;
+use text_ground::memory::Memory;
 
 /// What each process accesses, in order of the processes, and which signals are temporaries.
 #[derive(Drop)]

@@ -5,8 +5,8 @@ ghost use Rattle.rtl_scan.specs.Sets.{has_row, has_rows};
 ghost use Rattle.rtl_scan.specs.Arrows.{bucket, comes, Grows, IsPut, IsNotedAt, Gathers, MeetsIn, FedBy};
 
 use crate::bits::Row;
-use rtl_tree::memory::Memory;
 use std::alloc::Global;
+use text_ground::memory::Memory;
 
 /// A process that writes bits of a signal: those whose digits in `mask` are 1.
 #[derive(Clone, Copy)]

@@ -4,9 +4,9 @@ ghost use Rattle.std.specs.Prelude.{ℕ, ◌++◌, ◌≡◌, ◌||◌, ◌&&◌
 ghost use Rattle.rtl_scan.specs.Sets.{has, has_rows, has_row, mask_of, put, row_of, IsInOrder};
 
 use rtl_flat::expr::SigId;
-use rtl_tree::memory::Memory;
 use std::alloc::Global;
 use std::collections::BTreeMap;
+use text_ground::memory::Memory;
 
 /// Bits of one signal: those whose digits in `mask` are 1.
 #[derive(Clone, Copy, PartialEq, Eq, Debug)]

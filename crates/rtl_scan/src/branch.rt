@@ -15,8 +15,8 @@ use crate::spans::Widths;
 use crate::steps::Pass;
 use rtl_flat::act::{Act, EventItem};
 use rtl_flat::design::Design;
-use rtl_tree::memory::Memory;
 use std::alloc::Global;
+use text_ground::memory::Memory;
 
 /// Scans statements from nothing.
 fn scan_body(alloc: Global, widths: Widths, body: &[Act], counted: Counted) -> Result<Sets, Memory>

@@ -15,8 +15,8 @@ use rtl_bits::{Bit, Vec4};
 use rtl_flat::act::{CaseItem, CaseKind};
 use rtl_flat::design::Design;
 use rtl_flat::expr::{Index, Node, Select, SigId, SizedExpr};
-use rtl_tree::memory::Memory;
 use std::alloc::Global;
+use text_ground::memory::Memory;
 
 /// Adds a label if it is a literal.
 fn push_literal(label: &SizedExpr, found: &mut Vec<Vec4>) -> Result<(), Memory>

@@ -9,7 +9,7 @@ ghost use Rattle.rtl_scan.specs.Sets.{has_row, Adds};
 use crate::bits::Row;
 use crate::spans::Widths;
 use rtl_flat::expr::{Index, Node, Select, SigId, SizedExpr};
-use rtl_tree::memory::Memory;
+use text_ground::memory::Memory;
 
 impl<'d> Widths<'d> {
     /// Adds the bits that an expression reads.

@@ -14,8 +14,8 @@ use crate::bits::Bits;
 use crate::graph::depths;
 use rtl_flat::act::{Does, Process};
 use rtl_flat::design::Design;
-use rtl_tree::memory::Memory;
 use std::alloc::Global;
+use text_ground::memory::Memory;
 
 /// For which bits a process waits.
 #[derive(Clone, Copy)]

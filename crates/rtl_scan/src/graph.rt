@@ -4,8 +4,8 @@ ghost use Rattle.std.specs.Prelude.{ℕ, ◌≡◌, ◌<◌, ◌≤◌, ◌+◌,
 ghost use Rattle.rtl_flat.specs.Levels.{IsLevelIn};
 ghost use Rattle.rtl_scan.specs.Graph.{at, row, fresh, answer, ArrowIn, AreRows, IsSearching, IsStep, IsVisit, IsVisited, HasSearched, AreDepths, answer_of};
 
-use rtl_tree::memory::Memory;
 use std::alloc::Global;
+use text_ground::memory::Memory;
 
 /// How far a node is searched.
 #[derive(Clone, Copy)]

@@ -15,7 +15,7 @@ use crate::scan::{Sets, common};
 use crate::steps::{Pass, commit, restore};
 use rtl_flat::act::{Act, CaseItem, CaseKind};
 use rtl_flat::expr::SizedExpr;
-use rtl_tree::memory::Memory;
+use text_ground::memory::Memory;
 
 impl<'d> Pass<'d> {
     /// Scans statements. The log gets what they surely write and none before them did.

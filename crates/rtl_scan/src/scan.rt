@@ -10,9 +10,9 @@ ghost use Rattle.rtl_scan.specs.Counting.{counts_as_sure};
 use crate::bits::{BitSet, Row};
 use crate::spans::Widths;
 use rtl_flat::act::TargetPart;
-use rtl_tree::memory::Memory;
 use std::alloc::Global;
 use std::mem;
+use text_ground::memory::Memory;
 
 /// Which writes count as sure.
 #[derive(Clone, Copy)]

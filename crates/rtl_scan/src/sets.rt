@@ -17,8 +17,8 @@ use rtl_flat::act::{Does, EventItem, Listed, ProcId};
 use rtl_flat::design::Design;
 use rtl_flat::expr::{Select, SigId};
 use rtl_flat::signal::Signal;
-use rtl_tree::memory::Memory;
 use std::alloc::Global;
+use text_ground::memory::Memory;
 
 /// Scans a process from nothing.
 pub(crate) fn scan(

@@ -17,8 +17,8 @@ use crate::scan::{
 use crate::spans::Widths;
 use rtl_flat::act::{CaseItem, TargetPart};
 use rtl_flat::expr::SizedExpr;
-use rtl_tree::memory::Memory;
 use std::alloc::Global;
+use text_ground::memory::Memory;
 
 /// What stays the same in a pass.
 #[derive(Drop)]

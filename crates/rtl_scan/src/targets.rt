@@ -12,7 +12,7 @@ use crate::bits::Row;
 use crate::spans::{Widths, no_bits};
 use rtl_flat::act::{CaseItem, TargetPart};
 use rtl_flat::expr::{Index, Select, SigId, SizedExpr};
-use rtl_tree::memory::Memory;
+use text_ground::memory::Memory;
 
 impl<'d> Widths<'d> {
     /// The bits that a select may mean.

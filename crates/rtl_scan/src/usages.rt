@@ -16,8 +16,8 @@ use rtl_flat::act::Process;
 use rtl_flat::design::Design;
 use rtl_flat::expr::SigId;
 use rtl_flat::signal::{Kind, Signal};
-use rtl_tree::memory::Memory;
 use std::alloc::Global;
+use text_ground::memory::Memory;
 
 /// Which processes use a signal, of those that were looked at.
 #[derive(Clone, Copy)]

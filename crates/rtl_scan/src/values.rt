@@ -13,9 +13,9 @@ use rtl_bits::Vec4;
 use rtl_expr::is_match;
 use rtl_flat::act::CaseKind;
 use rtl_flat::expr::{Node, SizedExpr};
-use rtl_tree::memory::Memory;
 use std::alloc::Global;
 use std::collections::BTreeSet;
+use text_ground::memory::Memory;
 
 /// The bits of a label that is a literal.
 pub fn literal_of(label: &SizedExpr) -> Option<Vec4>

@@ -2,7 +2,7 @@
 
 ghost use Rattle.std.specs.Prelude.{◌≡◌, ℕ, Result, ◌+◌, ◌<◌, ◌≤◌, List, [], ◌∷◌, ◌++◌, length, drop, IfOk, IfErr, OnOk};
 ghost use Rattle.rtl_text.specs.Fronts.{front};
-ghost use Rattle.rtl_tree.specs.declared.text.TheConstants.{MAX_BYTES};
+ghost use Rattle.text_ground.specs.declared.text.TheConstants.{MAX_BYTES};
 ghost use Rattle.rtl_tree.specs.declared.token.TheConstants.{MAX_TOKENS};
 ghost use Rattle.rtl_tree.specs.Token.{token};
 ghost use Rattle.rtl_tree.specs.Splits.{Upto, Splits};

@@ -2,7 +2,7 @@
 -- Worked examples: crates/tests_layers/stdin.
 use Rattle.std.specs.Prelude.{ℕ, List}
 use Rattle.rtl_tree.specs.declared.token.Token.{Token}
-use Rattle.rtl_tree.specs.declared.dropped.Dropped.{Dropped}
+use Rattle.text_ground.specs.declared.dropped.Dropped.{Dropped}
 
 pub record Ready : Type 0 where
   pub tokens : List Token

@@ -4,7 +4,7 @@ use Rattle.std.specs.Prelude.{ℕ, List, map, Option}
 use Rattle.std.specs.Option.{option_map}
 use Rattle.rtl_tree.specs.TreeExpr.{Identifier, Formula, Bounds, identifier, formula, bounds}
 use Rattle.rtl_tree.specs.TreeItem.{Head, ModuleItem, head, module_item}
-use Rattle.rtl_tree.specs.declared.dropped.Dropped.{Dropped}
+use Rattle.text_ground.specs.declared.dropped.Dropped.{Dropped}
 use Rattle.rtl_tree.specs.declared.tree.modules.ParameterHead.{ParameterHead}
 use Rattle.rtl_tree.specs.declared.tree.modules.HeadParameter.{HeadParameter}
 use Rattle.rtl_tree.specs.declared.tree.modules.HeadPort.{HeadPort}

@@ -2,10 +2,10 @@
 
 ghost use Rattle.std.specs.Prelude.{◌≡◌};
 
-use crate::dropped::Dropped;
-use crate::text::Text;
 use crate::token::Token;
 use std::marker::Model;
+use text_ground::dropped::Dropped;
+use text_ground::text::Text;
 
 /// A prepared text: the tokens that the parser reads, the regions that synthesis doesn't see, and the text itself.
 #[derive(Drop)]

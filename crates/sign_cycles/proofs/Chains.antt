@@ -10,7 +10,7 @@ use Rattle.rtl_bits.specs.declared.Edge.{Edge}
 use Rattle.rtl_bits.specs.declared.Edge.TheVariants.{No, Pos, Neg}
 use Rattle.rtl_bits.specs.Bit.{is_one, is_unknown}
 use Rattle.rtl_bits.specs.Bits.{same_bit, truth_bit}
-use Rattle.rtl_tree.specs.declared.text.Spot.{Spot}
+use Rattle.text_ground.specs.declared.text.Spot.{Spot}
 use Rattle.rtl_flat.specs.Expression.{Tree}
 use Rattle.rtl_flat.specs.Flows.{body_flow, reads}
 use Rattle.rtl_flat.specs.Paths.{Read, Step, MayWrite, MayWriteLate, MayWriteNow, ReadsOutside, first, may_write_late, may_write_now, reads_bit, some, writes_now}

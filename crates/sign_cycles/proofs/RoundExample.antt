@@ -5,7 +5,7 @@ use Rattle.std.proofs.lemmas.Bool.{eqb-true, false≢true}
 use Rattle.std.proofs.lemmas.List.Elements.{All-cons, All-nil}
 use Rattle.rtl_bits.specs.declared.Bit.TheVariants.{One}
 use Rattle.rtl_bits.specs.Bits.{has_unknown}
-use Rattle.rtl_tree.specs.declared.text.Spot.{Spot}
+use Rattle.text_ground.specs.declared.text.Spot.{Spot}
 use Rattle.rtl_flat.specs.declared.signal.Signal.{Signal}
 use Rattle.rtl_flat.specs.declared.signal.Kind.{Kind}
 use Rattle.rtl_flat.specs.declared.signal.Kind.TheVariants.{TopInput, Var}

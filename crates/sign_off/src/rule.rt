@@ -18,8 +18,8 @@ use crate::promise::vouch;
 use check_clean::check_all::check;
 use rtl_flat::design::Design;
 use rtl_rule::finding::{Ruling, has_first_grade};
-use rtl_tree::memory::Memory;
 use std::alloc::Global;
+use text_ground::memory::Memory;
 
 /// Applies every rule to a design: all findings in their order, and the judgement.
 ///

@@ -1,9 +1,9 @@
 //! A file by its name and its text: what all that reads files goes by.
 #![tactic(auto)]
 
-use rtl_tree::memory::Memory;
-use rtl_tree::text::Text;
 use std::alloc::Global;
+use text_ground::memory::Memory;
+use text_ground::text::Text;
 
 /// A file by its name and its text.
 #[derive(Drop)]

@@ -10,10 +10,10 @@ mod transmitter;
 use desk_build::{design_of, modules_of};
 use rtl_elab::elab_scope::fault::ElabFault;
 use rtl_flat::design::Design;
-use rtl_tree::memory::Memory;
-use rtl_tree::text::Text;
 use source_file::SourceFile;
 use std::alloc::{AllocError, Global};
+use text_ground::memory::Memory;
+use text_ground::text::Text;
 use thiserror::Error;
 pub use transmitter::TRANSMITTER;
 

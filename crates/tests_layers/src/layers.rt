@@ -1,7 +1,7 @@
 //! The calls of the front end one by one, and the trees of small texts.
 
 ghost use Rattle.std.specs.Prelude.{◌≡◌, ◌≤◌, ◌<◌, length};
-ghost use Rattle.rtl_tree.specs.declared.text.TheConstants.{MAX_BYTES};
+ghost use Rattle.text_ground.specs.declared.text.TheConstants.{MAX_BYTES};
 
 use crate::stop::Stop;
 use crate::texts::prepared;
@@ -9,7 +9,6 @@ use rtl_front::law;
 use rtl_parse::{ParseFault, parse};
 use rtl_text::lex;
 use rtl_tree::prepared::Prepared;
-use rtl_tree::text::Text;
 use rtl_tree::token::Tokens;
 use rtl_tree::tree::item::Item;
 use rtl_tree::tree::modules::Module;
@@ -19,6 +18,7 @@ use std::marker::Brand;
 use std::sync::ledger::{Blank, Ledger};
 use steps::Steps;
 use text_build::{build, spelled_once};
+use text_ground::text::Text;
 use text_survey::{refused, survey, terminals};
 
 fn counted<L: Ledger>(

@@ -3,11 +3,11 @@
 use crate::stop::Stop;
 use crate::{expressions, items, layers, names, numbers, scans, sets, texts, vectors};
 use rtl_flat::design::Design;
-use rtl_tree::text::MAX_BYTES;
 use std::alloc::Global;
 use std::io;
 use tests_designs::designed;
 use tests_reader::{Row, show};
+use text_ground::text::MAX_BYTES;
 
 /// What a look without a file says.
 fn without_file(alloc: Global, row: &Row, goal: &str) -> Result<Vec<u8>, Stop> {

@@ -8,8 +8,6 @@ use crate::words::{put, say};
 use elab_names::elab_links::module_set::{Lookup, ModuleSet};
 use elab_names::elab_scope::fault::ElabFault;
 use elab_names::{Elaborated, LookUp, elaborate, resolve};
-use rtl_tree::memory::Memory;
-use rtl_tree::text::{MAX_BYTES, Text};
 use rtl_tree::tree::modules::Module;
 use source_file::SourceFile;
 use std::alloc::Global;
@@ -18,6 +16,8 @@ use std::sync::ledger::{Blank, Ledger};
 use steps::Steps;
 use tests_designs::desk_build::modules_of;
 use tests_reader::File;
+use text_ground::memory::Memory;
+use text_ground::text::{MAX_BYTES, Text};
 
 /// One file more.
 fn add(alloc: Global, sources: &mut Vec<SourceFile>, text: &[u8]) -> Result<(), Stop>

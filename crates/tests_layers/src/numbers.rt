@@ -1,7 +1,7 @@
 //! Numbers of a text, with their values.
 
 ghost use Rattle.std.specs.Prelude.{◌≤◌, length};
-ghost use Rattle.rtl_tree.specs.declared.text.TheConstants.{MAX_BYTES};
+ghost use Rattle.text_ground.specs.declared.text.TheConstants.{MAX_BYTES};
 
 use crate::stop::Stop;
 use rtl_text::lex;

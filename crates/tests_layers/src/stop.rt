@@ -3,9 +3,9 @@
 ghost use Rattle.std.specs.Prelude.{◌≡◌};
 ghost use Rattle.tests_layers.specs.declared.stop.Stop.TheVariants as stop;
 
-use rtl_tree::memory::Memory;
 use std::alloc::{AllocError, AllocFailed};
 use tests_designs::NoDesign;
+use text_ground::memory::Memory;
 use thiserror::Error;
 
 /// Why a look ends early.

@@ -1,7 +1,7 @@
 //! Tokens and modules of a text, or its fault.
 
 ghost use Rattle.std.specs.Prelude.{◌≡◌, ◌≤◌, ◌<◌, IfOk, length};
-ghost use Rattle.rtl_tree.specs.declared.text.TheConstants.{MAX_BYTES};
+ghost use Rattle.text_ground.specs.declared.text.TheConstants.{MAX_BYTES};
 ghost use Rattle.source_file.specs.SourceFiles.{AreShort};
 
 use crate::stop::Stop;
@@ -10,16 +10,16 @@ use rtl_front::{FileFault, FilesRead, SourceFault, read_files};
 use rtl_parse::ParseFault;
 use rtl_prep::{PrepFault, prepare};
 use rtl_text::{law, lex};
-use rtl_tree::dropped::DropKind;
-use rtl_tree::memory::Memory;
 use rtl_tree::prepared::Prepared;
-use rtl_tree::text::MAX_BYTES;
 use rtl_tree::tree::modules::Module;
 use source_file::SourceFile;
 use std::alloc::Global;
 use std::marker::Brand;
 use std::sync::ledger::{Blank, Ledger};
 use steps::Steps;
+use text_ground::dropped::DropKind;
+use text_ground::memory::Memory;
+use text_ground::text::MAX_BYTES;
 
 fn counted<L: Ledger>(
     alloc: Global,

@@ -18,8 +18,8 @@ use netlist_eval::sim::NetSim;
 use rtl_bits::Vec4;
 use rtl_flat::design::Design;
 use rtl_flat::expr::SigId;
-use rtl_tree::memory::Memory;
 use std::alloc::{AllocError, AllocFailed, Global};
+use text_ground::memory::Memory;
 use thiserror::Error;
 
 /// Why a netlist doesn't run.

@@ -4,9 +4,9 @@
 
 use crate::stop::Stop;
 use desk_tables::{Change, Day, Digest, FileRow, Name, ReplyRow, SignOffRow, WaiverId, WaiverRow};
-use rtl_tree::text::Text;
 use std::alloc::Global;
 use tests_reader::unescaped;
+use text_ground::text::Text;
 
 fn digest(first: u8) -> Digest {
     let mut digest = [0; 32];

@@ -6,10 +6,10 @@ ghost use Rattle.source_file.specs.SourceFiles.{AreShort};
 use crate::stop::Stop;
 use desk_places::lines::LineTable;
 use desk_places::sources::Sources;
-use rtl_tree::text::{MAX_BYTES, Spot};
 use source_file::SourceFile;
 use std::alloc::Global;
 use tests_reader::File;
+use text_ground::text::{MAX_BYTES, Spot};
 
 /// The line and the column of each place in a text.
 pub fn positions(alloc: Global, places: &[String], text: &[u8]) -> Result<Vec<u8>, Stop> {

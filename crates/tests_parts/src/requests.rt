@@ -6,8 +6,8 @@ ghost use Rattle.desk_http.specs.Replies.{IsStatus};
 use crate::stop::Stop;
 use desk_http::{HeadState, MAX_BODY_BYTES, NO_MEMORY, read_head, reply_head, request};
 use desk_requests::{Ask, BodyKind, Reply, Request, WaiverAsk};
-use rtl_tree::text::Text;
 use std::alloc::Global;
+use text_ground::text::Text;
 
 /// Appends a word with a space before it.
 fn push_word(out: &mut Vec<u8>, word: &[u8]) -> Result<(), Stop> {

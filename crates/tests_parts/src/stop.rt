@@ -1,9 +1,9 @@
 //! Why a look ends early.
 
-use rtl_tree::memory::Memory;
 use std::alloc::{AllocError, AllocFailed};
 use std::io;
 use tests_designs::NoDesign;
+use text_ground::memory::Memory;
 use thiserror::Error;
 
 /// Why a look ends early.

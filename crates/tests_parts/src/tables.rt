@@ -3,9 +3,9 @@
 use crate::calls::say;
 use crate::stop::Stop;
 use desk_tables::{Day, Digest, FileRow, Name, ReplyRow, SignOffRow, Tables, WaiverRow};
-use rtl_tree::text::Text;
 use std::alloc::Global;
 use tests_reader::push_quoted;
+use text_ground::text::Text;
 
 /// How many rows the tables have, in the order of the tables.
 pub fn counts(alloc: Global, tables: &Tables) -> Result<String, Stop> {

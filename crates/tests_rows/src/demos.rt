@@ -7,8 +7,8 @@ use rtl_flat::design::Design;
 use rtl_flat::expr::SigId;
 use rtl_rule::finding::Finding;
 use rtl_rule::rule::rule_of;
-use rtl_tree::text::Spot;
 use std::alloc::Global;
+use text_ground::text::Spot;
 
 /// A finding of the rule with a code on a signal.
 fn finding(design: &Design, code: &str, path: &str) -> Result<Finding, Stop> {

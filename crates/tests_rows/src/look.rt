@@ -5,11 +5,11 @@ ghost use Rattle.tests_rows.specs.declared.look.Stop.TheVariants as stop;
 
 use crate::{beside, demos, events, moments, netlists, runs, starts};
 use rtl_flat::design::Design;
-use rtl_tree::memory::Memory;
 use std::alloc::{AllocError, AllocFailed, Global};
 use tests_designs::{NoDesign, designed};
 use tests_netlists::NoRun;
 use tests_reader::Row;
+use text_ground::memory::Memory;
 use thiserror::Error;
 
 /// Why a look ends early.

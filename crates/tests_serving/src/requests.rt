@@ -4,10 +4,10 @@ use crate::outside::{Outside, outside_over};
 use crate::stop::Stop;
 use desk_links::MemoryLink;
 use desk_tables::{Day, FileRow, Name};
-use rtl_tree::text::Text;
 use sha2::{Digest, Sha256};
 use std::alloc::Global;
 use tests_reader::{File, Row};
+use text_ground::text::Text;
 
 /// 2024-01-01, which the clock gives where no request says otherwise.
 const TODAY: i32 = 19_723;

@@ -1,8 +1,8 @@
 //! Why a row ends early.
 
-use rtl_tree::memory::Memory;
 use std::alloc::{AllocError, AllocFailed};
 use std::io;
+use text_ground::memory::Memory;
 use thiserror::Error;
 
 /// Why a row ends early.

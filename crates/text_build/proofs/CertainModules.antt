@@ -1,6 +1,6 @@
 -- Modules, and whole texts.
 use Rattle.std.proofs.Common.{ℕ, List, [], Some, refl, sym, subst}
-use Rattle.rtl_tree.specs.declared.dropped.Dropped.{Dropped}
+use Rattle.text_ground.specs.declared.dropped.Dropped.{Dropped}
 use Rattle.rtl_tree.specs.declared.symbol.Symbol.TheVariants as symbol
 use Rattle.rtl_tree.specs.Grammar.{AreAll}
 use Rattle.rtl_tree.specs.GrammarItem.{IsMarkedItem}

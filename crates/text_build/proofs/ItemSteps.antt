@@ -1,6 +1,6 @@
 -- What the loops over events and modules begin with and do in a turn.
 use Rattle.std.proofs.Common.{◌≡◌, ℕ, suc, ◌<◌, true, List, [], ◌∷◌, ◌++◌, length, Some, None, refl, sym, ap, ◌∙◌}
-use Rattle.rtl_tree.specs.declared.dropped.Dropped.{Dropped}
+use Rattle.text_ground.specs.declared.dropped.Dropped.{Dropped}
 use Rattle.rtl_tree.specs.Symbols.{Terminal}
 use Rattle.rtl_tree.specs.TreeItem.{Happening}
 use Rattle.rtl_tree.specs.TreeModule.{Circuit}

@@ -3,7 +3,7 @@
 use Rattle.std.specs.Prelude.{◌≡◌, List, map, Result, Ok, Err, Vec}
 use Rattle.std.specs.declared.alloc.Global.{Global}
 use Rattle.rtl_tree.specs.declared.tree.modules.Module.{Module}
-use Rattle.rtl_tree.specs.declared.dropped.Dropped.{Dropped}
+use Rattle.text_ground.specs.declared.dropped.Dropped.{Dropped}
 use Rattle.rtl_tree.specs.Symbols.{Terminal}
 use Rattle.rtl_tree.specs.TreeModule.{Circuit, circuit}
 use Rattle.rtl_tree.specs.GrammarModule.{AreSpelled}

@@ -9,10 +9,10 @@ ghost use Rattle.text_build.specs.Reading.{Reads};
 use crate::fault::BuildFault;
 use rtl_tree::literal::Literal;
 use rtl_tree::symbol::{Symbol, Terminal};
-use rtl_tree::text::Text;
 use rtl_tree::token::Tok;
 use rtl_tree::tree::names::Name;
 use std::alloc::Global;
+use text_ground::text::Text;
 
 #[tactic(auto, unfolding(crate::specs::Reading::same_symbol))]
 fn same_symbol(a: Symbol, b: Symbol) -> bool

@@ -9,8 +9,8 @@ ghost use Rattle.text_build.specs.Told.{told};
 
 use crate::fault::BuildFault;
 use crate::run::{Run, first_run, is_between};
-use rtl_tree::dropped::Dropped;
 use std::alloc::Global;
+use text_ground::dropped::Dropped;
 
 /// All regions of a text. Preparation tells first those between pragmas, then the `initial` constructs, then the comments that
 /// tell nothing, each by place.

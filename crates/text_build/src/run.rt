@@ -4,12 +4,12 @@ ghost use Rattle.std.specs.Prelude.{◌≡◌, ◌≤◌, ◌<◌, ◌++◌, len
 ghost use Rattle.std.specs.List.{filter};
 ghost use Rattle.std.specs.List.Sorted.{IsNonDecreasingBy};
 ghost use Rattle.std.specs.Result.{OnOk, IsOkUnless};
-ghost use Rattle.rtl_tree.specs.declared.dropped.Dropped.{Dropped};
+ghost use Rattle.text_ground.specs.declared.dropped.Dropped.{Dropped};
 ghost use Rattle.rtl_tree.specs.GrammarModule.{is_between};
 ghost use Rattle.text_build.specs.declared.fault.BuildFault.TheVariants.{Memory};
 
 use crate::fault::BuildFault;
-use rtl_tree::dropped::Dropped;
+use text_ground::dropped::Dropped;
 
 /// Whether a region begins neither before one place nor after another.
 pub fn is_between(first: u32, last: u32, region: Dropped) -> bool

@@ -12,10 +12,10 @@ ghost use Rattle.text_build.specs.ReadingModule.{circuits};
 use crate::cursor::Cursor;
 use crate::fault::BuildFault;
 use crate::regions::Regions;
-use rtl_tree::dropped::Dropped;
 use rtl_tree::symbol::Terminal;
 use rtl_tree::tree::modules::Module;
 use std::alloc::Global;
+use text_ground::dropped::Dropped;
 
 /// The modules that the tokens of a text spell, with the regions that were dropped from it.
 ///

@@ -1,7 +1,7 @@
 -- The least place where tokens stop spelling modules.
 -- Worked examples: crates/tests_layers/stdin.
 use Rattle.std.specs.Prelude.{◌≡◌, ◌≤◌, ℕ, false, List, [], ◌∷◌, ◌++◌, take, length}
-use Rattle.rtl_tree.specs.declared.dropped.Dropped.{Dropped}
+use Rattle.text_ground.specs.declared.dropped.Dropped.{Dropped}
 use Rattle.rtl_tree.specs.Symbols.{Terminal, symbol}
 use Rattle.rtl_tree.specs.TreeModule.{Circuit}
 use Rattle.rtl_tree.specs.GrammarModule.{AreSpelled}

@@ -4,8 +4,8 @@ ghost use Rattle.std.specs.Prelude.{◌≡◌, reverse, IfOk};
 ghost use Rattle.text_survey.specs.Depths as spec;
 
 use crate::task::{Taking, Task};
-use rtl_tree::memory::Memory;
 use std::alloc::Global;
+use text_ground::memory::Memory;
 
 /// The least places of the nodes of some trees, by depth: that of the roots is the last.
 type Profile = Vec<u32>;

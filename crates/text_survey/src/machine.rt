@@ -10,10 +10,10 @@ ghost use Rattle.text_survey.specs.Depths as depth;
 use crate::depths::Depths;
 use crate::table::rule;
 use crate::task::{Taking, Task};
-use rtl_tree::memory::Memory;
 use rtl_tree::symbol::{Symbol, Terminal};
 use rtl_tree::tree::nesting::MAX_NESTING;
 use std::alloc::Global;
+use text_ground::memory::Memory;
 
 /// What tokens are to the grammar.
 #[derive(Clone, Copy, PartialEq, Eq, Debug)]

@@ -5,10 +5,10 @@ ghost use Rattle.rtl_tree.specs.Symbols as spec;
 ghost use Rattle.text_survey.specs.Surveys as surveys;
 ghost use Rattle.text_survey.specs.Terminals as here;
 
-use rtl_tree::memory::Memory;
 use rtl_tree::symbol::{Symbol, Terminal};
 use rtl_tree::token::{Pragma, Tok, Token};
 use std::alloc::Global;
+use text_ground::memory::Memory;
 
 /// The keywords of the grammar, and those of constructs outside this language (IEEE 1364-2001 annex B), by their buckets, so that a
 /// word is compared with few of them.

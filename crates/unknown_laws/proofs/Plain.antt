@@ -1,7 +1,7 @@
 -- Without findings of X4 what is assigned has no `===` and no `!==`.
 use Rattle.std.proofs.Common.{◌≡◌, ◌++◌, ℕ, Bool, true, [], Some, refl}
 use Rattle.std.specs.List.{flat_map, slice_get}
-use Rattle.rtl_tree.specs.declared.text.Spot.{Spot}
+use Rattle.text_ground.specs.declared.text.Spot.{Spot}
 use Rattle.rtl_flat.specs.declared.expr.Compare.{Compare}
 use Rattle.rtl_flat.specs.declared.expr.Compare.TheVariants as compare
 use Rattle.rtl_flat.specs.Expression.{Tree, Sized, Literal, Whole, BitAt, BitBy, Part, Turned, Joined, Compared, Linked, Folded, Shifted, Chosen, Empty, Beside, Repeated, Recast}

@@ -7,8 +7,8 @@ ghost use Rattle.desk_links.specs.Held.{clock_days, clock_faults};
 use super::Clock;
 use desk_io::{Calls, Failed};
 use desk_tables::Day;
-use rtl_tree::memory::Memory;
 use std::alloc::Global;
+use text_ground::memory::Memory;
 
 /// A clock that gives the days of a list, with the numbers of the calls that fail. The first call
 /// has the number 1. Where no day is left it fails.

@@ -8,10 +8,10 @@ ghost use Rattle.desk_links.specs.Held.{door_faults, door_visits, link_faults, l
 use super::Door;
 use crate::link::{MemoryLink, Past};
 use desk_io::{Calls, Failed};
-use rtl_tree::memory::Memory;
 use std::alloc::Global;
 use std::collections::VecDeque;
 use std::mem;
+use text_ground::memory::Memory;
 
 // The links that were given back, the last of them first. Each brings the place of the next with it,
 // so taking one back takes no memory.

@@ -8,8 +8,8 @@ ghost use Rattle.desk_links.specs.Held.{link_faults, link_talk, talk_of};
 use super::Link;
 use crate::door::Chain;
 use desk_io::{Calls, Failed};
-use rtl_tree::memory::Memory;
 use std::alloc::Global;
+use text_ground::memory::Memory;
 
 // What a link has heard and said.
 #[derive(Drop)]

@@ -4,9 +4,9 @@ ghost use Rattle.desk_tables.specs.Seen.{key_of, seen};
 
 use crate::ReplyRow;
 use name_map::NameMap;
-use rtl_tree::memory::Memory;
-use rtl_tree::text::Text;
 use std::alloc::Global;
+use text_ground::memory::Memory;
+use text_ground::text::Text;
 
 // The texts that were met so far.
 #[derive(Drop)]

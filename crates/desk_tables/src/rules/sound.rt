@@ -9,8 +9,8 @@ ghost use Rattle.desk_tables.specs.Rules.{is_file_letter, is_file_name, is_sound
 use super::MAX_FILE_NAME_BYTES;
 use crate::{FileRow, Grade, ReplyRow, SignOffRow, WaiverRow};
 use rtl_rule::rule::rule_of;
-use rtl_tree::text::{MAX_BYTES, Text};
 use sha2::{Digest, Sha256};
+use text_ground::text::{MAX_BYTES, Text};
 
 fn is_file_letter(letter: u8) -> bool
     ensures { result ≡ is_file_letter letter }

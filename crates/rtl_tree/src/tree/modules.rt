@@ -1,9 +1,9 @@
 // Modules.
 
-use crate::dropped::Dropped;
 use crate::tree::expr::{Expr, Range};
 use crate::tree::item::{Item, PortHead};
 use crate::tree::names::Name;
+use text_ground::dropped::Dropped;
 
 /// `parameter range` before a parameter of a module's head.
 #[derive(Drop)]

@@ -1,6 +1,6 @@
 // Names as they are written.
 
-use crate::text::Text;
+use text_ground::text::Text;
 
 /// A name as it is written.
 #[derive(Drop)]

@@ -1,5 +1,5 @@
 use Rattle.std.proofs.Common.{◌≡◌, ◌++◌, ℕ, drop}
-use Rattle.rtl_tree.specs.declared.text.Spot.{Spot}
+use Rattle.text_ground.specs.declared.text.Spot.{Spot}
 use Rattle.check_gates.specs.check_chains.check_parts.Kept.{expressions}
 use Rattle.rtl_flat.specs.Flats.{flat, widths}
 use Rattle.check_clocks.specs.Uses.{places_of, read_places}

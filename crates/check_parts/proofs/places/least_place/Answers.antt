@@ -1,7 +1,7 @@
 use Rattle.std.specs.Prelude.{List}
 use Rattle.std.proofs.Common.{◌∙◌, ◌∷◌, ◌+◌, ap, sym, drop}
 use Rattle.std.proofs.lemmas.List.{drop_more}
-use Rattle.rtl_tree.specs.declared.text.Spot.{Spot}
+use Rattle.text_ground.specs.declared.text.Spot.{Spot}
 use Rattle.rtl_rule.specs.Parts.{least_place}
 use Rattle.check_parts.proofs.Earlier.{least_more}
 use Rattle.check_parts.proofs.places.least_place.Goals as goal

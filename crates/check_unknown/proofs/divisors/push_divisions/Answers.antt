@@ -2,7 +2,7 @@ use Rattle.std.specs.Prelude.{Vec}
 use Rattle.std.specs.declared.alloc.Global.{Global}
 use Rattle.std.proofs.Common.{◌∙◌, ◌<◌, ◌++◌, ap, arith, refl, sym, map, length}
 use Rattle.std.proofs.lemmas.Result.{on_ok_weaker}
-use Rattle.rtl_tree.specs.declared.text.Spot.{Spot}
+use Rattle.text_ground.specs.declared.text.Spot.{Spot}
 use Rattle.rtl_flat.specs.Expression.{tree}
 use Rattle.rtl_flat.specs.Process.{task}
 use Rattle.rtl_flat.specs.Signs.{width_in}

@@ -1,5 +1,5 @@
 use Rattle.std.proofs.lemmas.Result.{IfOk-weaker}
-use Rattle.rtl_tree.specs.declared.dropped.DropKind.TheVariants.{TranslateOff}
+use Rattle.text_ground.specs.declared.dropped.DropKind.TheVariants.{TranslateOff}
 use Rattle.rtl_rule.specs.declared.rule.Rule.TheVariants as rule
 use Rattle.check_unknown.proofs.Regions.{regions_found}
 use Rattle.check_unknown.proofs.dropped.translate_off.Goals as goal

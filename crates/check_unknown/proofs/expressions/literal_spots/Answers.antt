@@ -1,7 +1,7 @@
 use Rattle.std.specs.Prelude.{Vec}
 use Rattle.std.specs.declared.alloc.Global.{Global}
 use Rattle.std.proofs.Common.{◌∙◌, List, ap, sym, refl, map, Bor}
-use Rattle.rtl_tree.specs.declared.text.Spot.{Spot}
+use Rattle.text_ground.specs.declared.text.Spot.{Spot}
 use Rattle.rtl_flat.specs.Expression.{tree}
 use Rattle.std.specs.List.{flat_map}
 use Rattle.rtl_flat.specs.declared.expr.SizedExpr.{SizedExpr}

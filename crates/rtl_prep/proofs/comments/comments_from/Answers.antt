@@ -1,7 +1,7 @@
 use Rattle.std.proofs.Common.{Ok, Vec, Global, sym, ap, ◌∙◌, ◌++◌, arith}
 use Rattle.std.proofs.lemmas.List.{append-nil}
 use Rattle.std.proofs.lemmas.Result.{err_from_is_err_and}
-use Rattle.rtl_tree.specs.declared.dropped.Dropped.{Dropped}
+use Rattle.text_ground.specs.declared.dropped.Dropped.{Dropped}
 use Rattle.rtl_prep.specs.Comments as spec
 use Rattle.rtl_prep.proofs.Each.{tells_err}
 use Rattle.rtl_prep.proofs.Noted.{same_ok, from_turn, from_end}

@@ -1,5 +1,5 @@
 use Rattle.std.proofs.Common.{◌-◌, ◌≤◌, ◌<◌, length, get_or, ℕ}
-use Rattle.rtl_tree.specs.declared.dropped.Dropped.{Dropped}
+use Rattle.text_ground.specs.declared.dropped.Dropped.{Dropped}
 use Rattle.text_build.proofs.run.Run.before.Given as goal
 
 abbrev pub invariant-loop-low : goal.invariant-loop-low
