@@ -5,6 +5,7 @@ pub mod Stores
 pub use Rattle.desk_verdict.specs.check_all
 pub use Rattle.desk_verdict.specs.check_clean
 pub use Rattle.desk_verdict.specs.net_clean
+pub use Rattle.desk_verdict.specs.sign_firm
 pub use Rattle.desk_answers.specs as desk_answers
 pub use Rattle.desk_answers.specs.desk_build
 pub use Rattle.desk_memo.specs as desk_memo

@@ -127,6 +127,7 @@ of_design kept top files are circuits spelled conditions asked numbers used (Ok 
       findings = is.0.found;
       found = is.0.are_all;
       clean = clean;
+      firmly = is.0.firmly;
     }
 of_design kept top files are circuits spelled conditions asked numbers used (Ok flat) same (Refused line) is request today says = absurd is
 of_design kept top files are circuits spelled conditions asked numbers used (Err fault) same (Ruled verdict reached) is request today says = absurd is

@@ -1,11 +1,12 @@
 -- What a sign-off with the grade `clean` promises of its module.
 -- Worked examples: crates/tests_serving/stdin.
-use Rattle.std.specs.Prelude.{◌≡◌, ℕ, List, find, map, None, Ok}
+use Rattle.std.specs.Prelude.{◌≡◌, ℕ, List, [], find, map, None, Ok}
 use Rattle.rtl_tree.specs.TreeModule.{Circuit}
 use Rattle.rtl_rule.specs.declared.finding.Finding.{Finding}
 use Rattle.design_db.specs.check_all.Findings.{AreAllFindings, IsClean}
 use Rattle.design_db.specs.check_clean.Promise.{IsPromised}
 use Rattle.design_db.specs.net_clean.Netlist.{HasHardware}
+use Rattle.design_db.specs.sign_firm.Firm.{IsFirm}
 use Rattle.rtl_flat.specs.Flats.{DesignParts}
 use Rattle.design_db.specs.elab_names.Extracts.{extract}
 use Rattle.design_db.specs.elab_names.LookUps.{AreUsed}
@@ -53,7 +54,7 @@ pub record IsClaimed (kept : Kept) (top : List ℕ) (design : DesignParts) : Typ
   pub promised : IsPromised design.parts.flat
 
 -- The headline: the claim of a design of which no finding is of the first grade, also none of the conditions of its files, and
--- synthesis refuses nothing
+-- synthesis refuses nothing. Where there is no finding at all, simulation is sound for synthesis from unknown values too
 pub record IsSignedClean (kept : Kept) (top : List ℕ) : Type 0 where
   pub design : DesignParts
   pub claim : IsClaimed kept top design
@@ -63,6 +64,7 @@ pub record IsSignedClean (kept : Kept) (top : List ℕ) : Type 0 where
   pub findings : List Finding
   pub found : AreAllFindings (with_tools (map (foreign_in conditions) claim.numbers) design).parts findings
   pub clean : IsClean findings
+  pub firmly : findings ≡ [] → IsFirm design.parts.flat
 
 -- a reply that says that a new sign-off of a module is clean says so of a module that is
 abbrev pub IsTrustworthy : Request → Kept → Said → Type 0

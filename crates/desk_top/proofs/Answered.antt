@@ -146,6 +146,7 @@ zero_is_clean words world wanted before now asked is zero written = by_order (or
             are_shown = ruled.are_shown;
             reported = rw (← ap (λ o. o.bytes) outcome) written;
           };
+          firmly = ruled.firmly;
         }
 
     by_built : (top : List ℕ) (files texts : List (List ℕ)) (circuits : List (List Circuit)) (conditions : List FileConditions) → order words ≡ Some (Sign top files) → texts_of world.files files ≡ Some texts

@@ -9,6 +9,7 @@ use Rattle.desk_build.specs.rtl_elab.Designs.{library_of}
 use Rattle.desk_build.specs.rtl_elab.Elaborated.{elaborated}
 use Rattle.desk_verdict.specs.check_clean.Promise.{IsPromised}
 use Rattle.desk_verdict.specs.net_clean.Netlist.{HasHardware}
+use Rattle.desk_verdict.specs.sign_firm.Firm.{IsFirm}
 use Rattle.rtl_rule.specs.declared.finding.Finding.{Finding}
 use Rattle.desk_verdict.specs.check_all.Findings.{AreAllFindings, IsClean}
 use Rattle.desk_top.specs.Delivery.{Outcome, Delivers, IsCut, gave_up}
@@ -65,7 +66,8 @@ pub record IsWritten (top : List ℕ) (files texts : List (List ℕ)) (design : 
   pub are_shown : AreShown design findings shown
   pub reported : Appends before now (report_of top (named files texts) design findings shown)
 
--- The headline: the claim and the report of one design, of which synthesis refuses nothing
+-- The headline: the claim and the report of one design, of which synthesis refuses nothing. Where the report says `firm yes`, which
+-- is where it has no finding, simulation is sound for synthesis from unknown values too
 pub record IsSignedClean (words : List (List ℕ)) (before now : Option (List ℕ)) (world : World) : Type 0 where
   pub top : List ℕ
   pub files : List (List ℕ)
@@ -74,3 +76,4 @@ pub record IsSignedClean (words : List (List ℕ)) (before now : Option (List �
   pub claim : IsClaimed words world top files texts design
   pub hardware : HasHardware design.parts.flat
   pub report : IsWritten top files texts design before now
+  pub firmly : report.findings ≡ [] → IsFirm design.parts.flat

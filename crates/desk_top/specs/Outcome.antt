@@ -9,6 +9,7 @@ use Rattle.rtl_rule.specs.declared.finding.Finding.{Finding}
 use Rattle.desk_verdict.specs.check_all.Findings.{AreAllFindings, IsClean}
 use Rattle.desk_verdict.specs.check_clean.Promise.{IsPromised}
 use Rattle.desk_verdict.specs.net_clean.Netlist.{HasHardware}
+use Rattle.desk_verdict.specs.sign_firm.Firm.{IsFirm}
 use Rattle.demo_told.specs.declared.demo.Demo.{Demo}
 use Rattle.demo_told.specs.declared.demo.Shown.{Shown as Values}
 use Rattle.desk_verdict.specs.demo_replay.declared.fault.Part.{Part}
@@ -55,7 +56,7 @@ ruling_outcome top sources design found shown =
     }
 
 -- the answer for a design: all its findings are told, the first of them with where they show; and
--- where none of them is of the first grade, simulation agrees with synthesis
+-- where none of them is of the first grade, simulation agrees with synthesis; where there is none, also from unknown values
 pub record IsRuled (top : List ℕ) (sources : List SourceFile) (design : DesignParts) (outcome : Outcome) : Type 0 where
   pub found : List Finding
   pub are_all : AreAllFindings design.parts found
@@ -64,6 +65,7 @@ pub record IsRuled (top : List ℕ) (sources : List SourceFile) (design : Design
   pub is : outcome ≡ ruling_outcome top sources design found shown
   pub promised : IsClean found → IsPromised design.parts.flat
   pub hardware : IsClean found → HasHardware design.parts.flat
+  pub firmly : found ≡ [] → IsFirm design.parts.flat
 
 -- the source is refused
 abbrev pub refused : List ℕ → Outcome

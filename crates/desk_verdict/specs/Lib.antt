@@ -5,4 +5,5 @@ pub use Rattle.sign_off.specs.check_clean
 pub use Rattle.demo_clean.specs.demo_replay
 pub use Rattle.sign_off.specs.event_settling
 pub use Rattle.sign_off.specs.net_clean
+pub use Rattle.sign_off.specs.sign_firm
 pub use Rattle.sign_off.specs.sign_cycles

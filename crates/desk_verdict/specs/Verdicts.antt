@@ -7,6 +7,7 @@ use Rattle.rtl_rule.specs.Rows.{has_first_grade}
 use Rattle.sign_off.specs.check_all.Findings.{AreAllFindings, IsClean}
 use Rattle.sign_off.specs.check_clean.Promise.{IsPromised}
 use Rattle.sign_off.specs.net_clean.Netlist.{HasHardware}
+use Rattle.sign_off.specs.sign_firm.Firm.{IsFirm}
 use Rattle.demo_told.specs.declared.demo.Demo.{Demo}
 use Rattle.demo_told.specs.declared.demo.Shown.{Shown}
 use Rattle.demo_clean.specs.demo_replay.Firsts.{AreFirsts, told}
@@ -27,7 +28,8 @@ abbrev pub AreShown : DesignParts → List Finding → List (Option (Demo × Sho
 AreShown design found shown = AreFirsts design.parts.flat (take 64 found) (map told shown)
 
 -- all findings are told, the first of them with where they show; and where none of them is of the
--- first grade, simulation agrees with synthesis, which refuses nothing of the design
+-- first grade, simulation agrees with synthesis, which refuses nothing of the design; where there is none of either, it is
+-- sound where values are unknown
 pub record IsVerdict (design : DesignParts) (verdict : Verdict) : Type 0 where
   pub found : List Finding
   pub are_all : AreAllFindings design.parts found
@@ -39,3 +41,4 @@ pub record IsVerdict (design : DesignParts) (verdict : Verdict) : Type 0 where
       verdict.rows.items ≡ tellings design.parts.flat.signals design.instances found shown
   pub promised : IsClean found → IsPromised design.parts.flat
   pub hardware : IsClean found → HasHardware design.parts.flat
+  pub firmly : found ≡ [] → IsFirm design.parts.flat

@@ -1,7 +1,7 @@
 -- What a design without a finding of either grade is.
 -- Worked examples: crates/sign_unknown/proofs/Example.antt.
 use Rattle.std.specs.Prelude.{ℕ, []}
-use Rattle.rtl_flat.specs.Flats.{Parts}
+use Rattle.rtl_flat.specs.Flats.{Flat, Parts}
 use Rattle.net_model.specs.declared.fill.Fill.{Fill}
 use Rattle.net_model.specs.Cycle.{AreChains, Chain}
 use Rattle.check_clean.specs.check_all.Findings.{AreAllFindings}
@@ -9,6 +9,14 @@ use Rattle.check_clean.specs.check_laws.Expressions.{AreMarked}
 use Rattle.check_clean.specs.event_laws.Steady.{AreLawful}
 use Rattle.unknown_starts.specs.Starts.{Completes}
 use Rattle.unknown_starts.specs.sign_unknown.Unknown.{IsSound}
+
+-- what is promised of a design without a finding of either grade. Whichever tests are taken for those of resets, and for either
+-- fill: from every settled state whose inputs and whose registers with a reset are known, all others holding anything, each bit
+-- that is known after lawful steps is the synthesised number's, whatever the unknown bits are taken for; and each choice of digits
+-- for these has numbers
+pub record IsFirm (d : Flat) : Type 0 where
+  pub sound : (chains : ℕ → Chain) → AreChains d chains → (fill : Fill) → IsSound d chains fill
+  pub complete : (chains : ℕ → Chain) → AreChains d chains → (fill : Fill) → Completes d chains fill
 
 -- where no rule has a finding in a lawful design, simulation from unknown values is sound for its synthesis, whichever tests
 -- are taken for those of resets, and for either fill

@@ -2,3 +2,6 @@
 #![tactic(auto)]
 
 pub mod law;
+
+// Passed on to the crates above.
+pub use check_clean;

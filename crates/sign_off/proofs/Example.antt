@@ -33,8 +33,8 @@ use Rattle.net_model.specs.Gates.{IsControl}
 use Rattle.net_model.specs.Lawful.{SetsData}
 use Rattle.net_model.specs.Numbers.{bit, digits}
 use Rattle.net_model.specs.Solution.{IsLasting, IsSolution}
-use Rattle.check_clean.specs.sign_cycles.Agree.{Agree, AreCycles, AreRuns, IsSettledKnown, after_offer}
-use Rattle.check_clean.specs.sign_cycles.BringUp.{BringsUp, IsBringUp, SetsInput, sets}
+use Rattle.sign_firm.specs.check_clean.sign_cycles.Agree.{Agree, AreCycles, AreRuns, IsSettledKnown, after_offer}
+use Rattle.sign_firm.specs.check_clean.sign_cycles.BringUp.{BringsUp, IsBringUp, SetsInput, sets}
 
 -- a signal of one bit, and where what stands at a place in the text does
 abbrev bit_of : List ℕ → Kind → Bool → ℕ → Signal

@@ -1,3 +1,3 @@
 mod Example
 -- passed on to the crates above
-pub use Rattle.check_clean.proofs.check_all_proofs
+pub use Rattle.sign_firm.proofs.check_clean_proofs.check_all_proofs

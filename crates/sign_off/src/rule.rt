@@ -2,22 +2,23 @@
 
 ghost use Rattle.std.specs.Prelude.{◌≡◌, ◌↔◌, ℕ, [], Option, IsTrue, IfOk};
 ghost use Rattle.rtl_flat.specs.Flats.{flat, parts};
-ghost use Rattle.check_clean.specs.event_settling.Ending.{RunsEnd};
+ghost use Rattle.sign_firm.specs.check_clean.event_settling.Ending.{RunsEnd};
 ghost use Rattle.net_model.specs.declared.fill.Fill.{Fill};
 ghost use Rattle.net_model.specs.Cycle.{AreChains, Chain};
-ghost use Rattle.check_clean.specs.sign_cycles.Agree.{Agree};
-ghost use Rattle.check_clean.specs.sign_cycles.BringUp.{BringsUp, HaveResets};
-ghost use Rattle.check_clean.specs.sign_cycles.Known.{KnownSettles};
-ghost use Rattle.check_clean.specs.sign_cycles.Lacking.{BringUpsAre};
-ghost use Rattle.check_clean.specs.check_all.Findings.{AreAllFindings, IsClean};
-ghost use Rattle.check_clean.specs.Benches.{ServesBenches};
-ghost use Rattle.check_clean.specs.Levelled.{AreLevels, RestsByLevel};
+ghost use Rattle.sign_firm.specs.check_clean.sign_cycles.Agree.{Agree};
+ghost use Rattle.sign_firm.specs.check_clean.sign_cycles.BringUp.{BringsUp, HaveResets};
+ghost use Rattle.sign_firm.specs.check_clean.sign_cycles.Known.{KnownSettles};
+ghost use Rattle.sign_firm.specs.check_clean.sign_cycles.Lacking.{BringUpsAre};
+ghost use Rattle.sign_firm.specs.check_clean.check_all.Findings.{AreAllFindings, IsClean};
+ghost use Rattle.sign_firm.specs.check_clean.Benches.{ServesBenches};
+ghost use Rattle.sign_firm.specs.check_clean.Levelled.{AreLevels, RestsByLevel};
 ghost use Rattle.net_clean.specs.Netlist.{HasHardware};
+ghost use Rattle.sign_firm.specs.Firm.{IsFirm};
 
 use crate::promise::vouch;
-use check_clean::check_all::check;
 use rtl_flat::design::Design;
 use rtl_rule::finding::{Ruling, has_first_grade};
+use sign_firm::check_clean::check_all::check;
 use std::alloc::Global;
 use text_ground::memory::Memory;
 
@@ -61,8 +62,13 @@ pub fn rule(alloc: Global, design: &Design) -> Result<Ruling, Memory>
     ensures hardware { IfOk result (λ r. IsTrue r.clean → HasHardware (flat design.now)) }
 
     // Nor does a test bench that gives data beside a turn of a clock or a reset, by nonblocking assignments, see
-    // anything but the synthesised values after the turn and then the data.
+    // anything but the synthesised values after the turn and then the data; nor one that changes several inputs in a
+    // step in which no clock fires, in whatever order.
     ensures benches { IfOk result (λ r. IsTrue r.clean → ServesBenches (flat design.now)) }
+
+    // What a firm design promises beside: from wherever inputs and registers with a reset are known, each bit that is
+    // known after lawful steps is the synthesised value's, whatever the unknown bits are taken for.
+    ensures sound_unknown { IfOk result (λ r. IsTrue r.firm → IsFirm (flat design.now)) }
 {
     let findings = check(alloc, design)?;
     vouch(design, &findings);

@@ -40,4 +40,5 @@ returns c =
         benches = is.benches (is.clean.1 none);
       });
       hardware = λ none. is.hardware (is.clean.1 none);
+      firmly = λ none. is.sound_unknown (is.firm.1 none);
     }
