@@ -9,6 +9,16 @@ set -eu
 top=$(CDPATH='' cd -- "$(dirname -- "$0")/.." && pwd)
 program=${DESK_PROGRAM:-$top/crates/desk/out/desk}
 port=${1:-8765}
+if [ ! -x "$program" ]; then
+  printf 'server.sh: there is no program %s: ./desk builds it, or DESK_PROGRAM names another\n' "$program" >&2
+  exit 70
+fi
+for tool in curl sqlite3; do
+  if ! command -v "$tool" >/dev/null 2>&1; then
+    printf 'server.sh: %s is not installed\n' "$tool" >&2
+    exit 70
+  fi
+done
 today=$(date -u +%F)
 later=$(date -u -d '+30 days' +%F)
 room=$(mktemp -d)
