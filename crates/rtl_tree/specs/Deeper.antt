@@ -2,10 +2,11 @@
 -- Worked examples: crates/tests_layers/stdin.
 use Rattle.std.specs.Prelude.{ℕ, zero, suc, ◌-◌, ◌≤◌, List, [], ◌∷◌, ◌++◌, Option, Some, None}
 use Rattle.std.specs.List.{All, Contains, flat_map}
-use Rattle.rtl_tree.specs.TreeExpr.{Formula, Number, Read, ReadBit, ReadPart, Parens, Convert, Concat, Repeat, Unary, Binary, Choose, Formulas, no_formulas, more_formulas, Bounds}
-use Rattle.rtl_tree.specs.TreeStmt.{Target, Whole, Bit, Part, Joined, Targets, no_targets, more_targets, Span, Fixed, Named, Valued, Pause, Action, Null, Delayed, Assign, If, IfElse, Case, For, Block, Actions, no_actions, more_actions, Branch, Labelled, Default, Branches, no_branches, more_branches, target_place, action_place}
-use Rattle.rtl_tree.specs.TreeItem.{Head, Net, Valuation, Drive, Happening, Edge, Change, ChangeBit, ChangePart, Sensitivity, Star, StarInParens, Listed, Positional, Associated, Association, ByPosition, ByName, Instantiation, ModuleItem, Ports, Nets, Variables, Integers, Parameters, Drives, Always, Instances}
-use Rattle.rtl_tree.specs.TreeModule.{Circuit, HeaderParameter, HeaderPort, Header, Absent, Empty, Declared}
+use Rattle.rtl_tree.specs.TreeExpr.{Formula, Number, Read, ReadBit, ReadPart, Parens, Apply, Concat, Repeat, Unary, Binary, Choose, Formulas, no_formulas, more_formulas, Bounds}
+use Rattle.rtl_tree.specs.TreeStmt.{Target, Whole, Bit, Part, Joined, Targets, no_targets, more_targets, Span, Fixed, Named, Valued, Pause, Action, Null, Delayed, Assign, If, IfElse, Case, For, Block, Actions, no_actions, more_actions, Branch, Labelled, Default, Branches, no_branches, more_branches, target_place}
+use Rattle.rtl_tree.specs.TreeItem.{Head, Net, Valuation, Drive, GateDrive, Happening, Edge, Change, ChangeBit, ChangePart, Sensitivity, Star, StarInParens, Listed, Positional, Associated, Association, ByPosition, ByName, Instantiation, ModuleItem, Ports, Nets, Variables, Integers, Parameters, Drives, Gates, Always, Instances}
+use Rattle.rtl_tree.specs.TreeGate.{GateSpan, One, Two, GatePause, Gate, WrittenItem, Plain, Primitives}
+use Rattle.rtl_tree.specs.TreeModule.{WrittenCircuit, HeaderParameter, HeaderPort, Header, Absent, Empty, Declared}
 use Rattle.rtl_tree.specs.TreeModule as modules
 use Rattle.rtl_tree.specs.declared.tree.nesting.TheConstants.{MAX_NESTING}
 
@@ -25,9 +26,9 @@ abbrev mutual
   formula_deeper k (Number value at) = here k at
   formula_deeper k (Read name) = here k name.at
   formula_deeper k (ReadBit name index) = here k name.at ++ formula_deeper (k - 1) index
-  formula_deeper k (ReadPart name msb lsb) = here k name.at ++ formula_deeper (k - 1) msb ++ formula_deeper (k - 1) lsb
+  formula_deeper k (ReadPart name kind first second) = here k name.at ++ formula_deeper (k - 1) first ++ formula_deeper (k - 1) second
   formula_deeper k (Parens at inner) = here k at ++ formula_deeper (k - 1) inner
-  formula_deeper k (Convert signedness at inner) = here k at ++ formula_deeper (k - 1) inner
+  formula_deeper k (Apply function at inner) = here k at ++ formula_deeper (k - 1) inner
   formula_deeper k (Concat at parts) = here k at ++ formulas_deeper (k - 1) parts
   formula_deeper k (Repeat at times parts) = here k at ++ formula_deeper (k - 1) times ++ formulas_deeper (k - 1) parts
   formula_deeper k (Unary operator at operand) = here k at ++ formula_deeper (k - 1) operand
@@ -47,7 +48,7 @@ abbrev mutual
   pub target_deeper : ℕ → Target → List ℕ
   target_deeper k (Whole name) = here k name.at
   target_deeper k (Bit name index) = here k name.at ++ formula_deeper (k - 1) index
-  target_deeper k (Part name msb lsb) = here k name.at ++ formula_deeper (k - 1) msb ++ formula_deeper (k - 1) lsb
+  target_deeper k (Part name kind first second) = here k name.at ++ formula_deeper (k - 1) first ++ formula_deeper (k - 1) second
   target_deeper k (Joined at parts) = here k at ++ targets_deeper (k - 1) parts
 
   pub targets_deeper : ℕ → Targets → List ℕ
@@ -102,6 +103,9 @@ valuation_deeper k valuation = formula_deeper k valuation.value
 abbrev pub drive_deeper : ℕ → Drive → List ℕ
 drive_deeper k drive = target_deeper k drive.target ++ formula_deeper k drive.value
 
+abbrev pub gate_drive_deeper : ℕ → GateDrive → List ℕ
+gate_drive_deeper k drive = flat_map (target_deeper k) drive.outputs ++ formula_deeper k drive.value
+
 abbrev pub happening_deeper : ℕ → Happening → List ℕ
 happening_deeper k (Edge edge at name) = []
 happening_deeper k (Change name) = []
@@ -134,9 +138,24 @@ item_deeper k (Variables at signed bounds variables) = of_any (bounds_deeper k) 
 item_deeper k (Integers at names) = []
 item_deeper k (Parameters at kind bounds values) = of_any (bounds_deeper k) bounds ++ flat_map (valuation_deeper k) values
 item_deeper k (Drives at pause drives) = of_any (pause_deeper k) pause ++ flat_map (drive_deeper k) drives
+item_deeper k (Gates at names pause drives) = of_any (pause_deeper k) pause ++ flat_map (gate_drive_deeper k) drives
 item_deeper k (Always at sensitivity body) = sensitivity_deeper k sensitivity ++ action_deeper k body
 item_deeper k (Instances child parameters instantiations) =
     association_deeper k parameters ++ flat_map (instantiation_deeper k) instantiations
+
+abbrev pub gate_span_deeper : ℕ → GateSpan → List ℕ
+gate_span_deeper k (One span) = span_deeper k span
+gate_span_deeper k (Two rise fall) = formula_deeper k rise ++ formula_deeper k fall
+
+abbrev pub gate_pause_deeper : ℕ → GatePause → List ℕ
+gate_pause_deeper k pause = gate_span_deeper k pause.span
+
+abbrev pub gate_deeper : ℕ → Gate → List ℕ
+gate_deeper k gate = target_deeper k gate.output ++ flat_map (formula_deeper k) gate.terminals
+
+abbrev pub written_deeper : ℕ → WrittenItem → List ℕ
+written_deeper k (Plain item) = item_deeper k item
+written_deeper k (Primitives at kind pause gates) = of_any (gate_pause_deeper k) pause ++ flat_map (gate_deeper k) gates
 
 abbrev pub header_parameter_deeper : ℕ → HeaderParameter → List ℕ
 header_parameter_deeper k parameter =
@@ -152,12 +171,12 @@ header_deeper k (Declared ports) = flat_map (header_port_deeper k) ports
 header_deeper k (modules.Named names) = []
 
 -- the places in a module, of all expressions and statements that are deeper than `k`
-abbrev pub deeper : ℕ → Circuit → List ℕ
+abbrev pub deeper : ℕ → WrittenCircuit → List ℕ
 deeper k circuit =
-    flat_map (header_parameter_deeper k) circuit.parameters ++ header_deeper k circuit.header ++ flat_map (item_deeper k) circuit.items
+    flat_map (header_parameter_deeper k) circuit.parameters ++ header_deeper k circuit.header ++ flat_map (written_deeper k) circuit.items
 
 -- the places in these modules, of all that is nested too deep
-abbrev pub too_deep : List Circuit → List ℕ
+abbrev pub too_deep : List WrittenCircuit → List ℕ
 too_deep circuits = flat_map (deeper MAX_NESTING) circuits
 
 -- a place of a list, and none of them is less

@@ -1,10 +1,11 @@
 -- It serves inner contracts and proofs; no answer of the program is stated by it.
 -- How deep the expressions and statements of a module are nested.
 use Rattle.std.specs.Prelude.{ℕ, ◌+◌, max, List, [], ◌∷◌, Option, None, Some}
-use Rattle.rtl_tree.specs.TreeExpr.{Formula, Number, Read, ReadBit, ReadPart, Parens, Convert, Concat, Repeat, Unary, Binary, Choose, Formulas, no_formulas, more_formulas, Bounds}
+use Rattle.rtl_tree.specs.TreeExpr.{Formula, Number, Read, ReadBit, ReadPart, Parens, Apply, Concat, Repeat, Unary, Binary, Choose, Formulas, no_formulas, more_formulas, Bounds}
 use Rattle.rtl_tree.specs.TreeStmt.{Target, Whole, Bit, Part, Joined, Targets, no_targets, more_targets, Span, Fixed, Named, Valued, Pause, Action, Null, Delayed, Assign, If, IfElse, Case, For, Block, Actions, no_actions, more_actions, Branch, Labelled, Default, Branches, no_branches, more_branches}
-use Rattle.rtl_tree.specs.TreeItem.{Head, Net, Valuation, Drive, Happening, Edge, Change, ChangeBit, ChangePart, Sensitivity, Star, StarInParens, Listed, Positional, Associated, Association, ByPosition, ByName, Instantiation, ModuleItem, Ports, Nets, Variables, Integers, Parameters, Drives, Always, Instances}
-use Rattle.rtl_tree.specs.TreeModule.{Circuit, HeaderParameter, HeaderPort, Header, Absent, Empty, Declared}
+use Rattle.rtl_tree.specs.TreeItem.{Head, Net, Valuation, Drive, GateDrive, Happening, Edge, Change, ChangeBit, ChangePart, Sensitivity, Star, StarInParens, Listed, Positional, Associated, Association, ByPosition, ByName, Instantiation, ModuleItem, Ports, Nets, Variables, Integers, Parameters, Drives, Gates, Always, Instances}
+use Rattle.rtl_tree.specs.TreeGate.{GateSpan, One, Two, GatePause, Gate, WrittenItem, Plain, Primitives}
+use Rattle.rtl_tree.specs.TreeModule.{WrittenCircuit, HeaderParameter, HeaderPort, Header, Absent, Empty, Declared}
 use Rattle.rtl_tree.specs.TreeModule as modules
 
 -- the greatest number that a function gives of a list's elements, or 0
@@ -23,9 +24,9 @@ abbrev mutual
   formula_depth (Number value at) = 1
   formula_depth (Read name) = 1
   formula_depth (ReadBit name index) = 1 + formula_depth index
-  formula_depth (ReadPart name msb lsb) = 1 + max (formula_depth msb) (formula_depth lsb)
+  formula_depth (ReadPart name kind first second) = 1 + max (formula_depth first) (formula_depth second)
   formula_depth (Parens at inner) = 1 + formula_depth inner
-  formula_depth (Convert signedness at inner) = 1 + formula_depth inner
+  formula_depth (Apply function at inner) = 1 + formula_depth inner
   formula_depth (Concat at parts) = 1 + formulas_depth parts
   formula_depth (Repeat at times parts) = 1 + max (formula_depth times) (formulas_depth parts)
   formula_depth (Unary operator at operand) = 1 + formula_depth operand
@@ -46,7 +47,7 @@ abbrev mutual
   pub target_depth : Target → ℕ
   target_depth (Whole name) = 1
   target_depth (Bit name index) = 1 + formula_depth index
-  target_depth (Part name msb lsb) = 1 + max (formula_depth msb) (formula_depth lsb)
+  target_depth (Part name kind first second) = 1 + max (formula_depth first) (formula_depth second)
   target_depth (Joined at parts) = 1 + targets_depth parts
 
   pub targets_depth : Targets → ℕ
@@ -104,6 +105,9 @@ valuation_depth valuation = formula_depth valuation.value
 abbrev pub drive_depth : Drive → ℕ
 drive_depth drive = max (target_depth drive.target) (formula_depth drive.value)
 
+abbrev pub gate_drive_depth : GateDrive → ℕ
+gate_drive_depth drive = max (greatest target_depth drive.outputs) (formula_depth drive.value)
+
 abbrev pub happening_depth : Happening → ℕ
 happening_depth (Edge edge at name) = 0
 happening_depth (Change name) = 0
@@ -137,9 +141,26 @@ item_depth (Integers at names) = 0
 item_depth (Parameters at kind bounds values) =
     max (if_any bounds_depth bounds) (greatest valuation_depth values)
 item_depth (Drives at pause drives) = max (if_any pause_depth pause) (greatest drive_depth drives)
+item_depth (Gates at names pause drives) = max (if_any pause_depth pause) (greatest gate_drive_depth drives)
 item_depth (Always at sensitivity body) = max (sensitivity_depth sensitivity) (action_depth body)
 item_depth (Instances child parameters instantiations) =
     max (association_depth parameters) (greatest instantiation_depth instantiations)
+
+abbrev pub gate_span_depth : GateSpan → ℕ
+gate_span_depth (One span) = span_depth span
+gate_span_depth (Two rise fall) = max (formula_depth rise) (formula_depth fall)
+
+abbrev pub gate_pause_depth : GatePause → ℕ
+gate_pause_depth pause = gate_span_depth pause.span
+
+abbrev pub gate_depth : Gate → ℕ
+gate_depth gate = max (target_depth gate.output) (greatest formula_depth gate.terminals)
+
+-- a terminal stands directly in its item
+abbrev pub written_depth : WrittenItem → ℕ
+written_depth (Plain item) = item_depth item
+written_depth (Primitives at kind pause gates) =
+    max (if_any gate_pause_depth pause) (greatest gate_depth gates)
 
 abbrev pub header_parameter_depth : HeaderParameter → ℕ
 header_parameter_depth parameter =
@@ -157,8 +178,8 @@ header_depth (Declared ports) = greatest header_port_depth ports
 header_depth (modules.Named names) = 0
 
 -- the greatest depth of an expression or statement in a module
-abbrev pub depth : Circuit → ℕ
+abbrev pub depth : WrittenCircuit → ℕ
 depth circuit =
     max
     (greatest header_parameter_depth circuit.parameters)
-    (max (header_depth circuit.header) (greatest item_depth circuit.items))
+    (max (header_depth circuit.header) (greatest written_depth circuit.items))

@@ -1,6 +1,6 @@
 -- What it means that tokens spell something, and the smallest things that they spell (IEEE 1364-2001 annex A).
 -- Worked examples: crates/tests_layers/stdin.
-use Rattle.std.specs.Prelude.{◌≡◌, ℕ, ◌⊎◌, Bool, true, false, List, [], ◌∷◌, Option, Some, None}
+use Rattle.std.specs.Prelude.{◌≡◌, ℕ, Bool, true, false, List, [], ◌∷◌, Option, Some, None}
 use Rattle.rtl_tree.specs.declared.literal.Literal.{Literal}
 use Rattle.rtl_tree.specs.declared.token.Tok.TheVariants as tok
 use Rattle.rtl_tree.specs.declared.symbol.Symbol.{Symbol}

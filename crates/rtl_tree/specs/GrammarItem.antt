@@ -12,11 +12,11 @@ use Rattle.rtl_tree.specs.declared.tree.item.EventEdge.TheVariants as edge
 use Rattle.rtl_tree.specs.declared.symbol.Symbol.{Symbol}
 use Rattle.rtl_tree.specs.declared.symbol.Symbol.TheVariants as symbol
 use Rattle.rtl_tree.specs.Symbols.{Terminal}
-use Rattle.rtl_tree.specs.TreeExpr.{Formula, Identifier}
-use Rattle.rtl_tree.specs.TreeItem.{Head, Net, Variable, Valuation, Drive, Happening, Edge, Change, ChangeBit, ChangePart, Sensitivity, Star, StarInParens, Listed, Positional, Associated, Association, ByPosition, ByName, Instantiation, ModuleItem, Ports, Nets, Variables, Integers, Parameters, Drives, Always, Instances}
-use Rattle.rtl_tree.specs.Grammar.{Spelling, ◌⨾◌, Nothing, Never, IsA, IsAt, IsName, IsOptional, IsFlag, AreMore, AreListed}
+use Rattle.rtl_tree.specs.TreeExpr.{Formula}
+use Rattle.rtl_tree.specs.TreeItem.{Head, Net, Variable, Valuation, Drive, Happening, Edge, Change, ChangeBit, ChangePart, Sensitivity, Star, StarInParens, Listed, Positional, Associated, Association, ByPosition, ByName, Instantiation, ModuleItem, Ports, Nets, Variables, Integers, Parameters, Drives, Gates, Always, Instances}
+use Rattle.rtl_tree.specs.Grammar.{Spelling, ◌⨾◌, Nothing, Never, IsA, IsAt, IsName, IsOptional, IsFlag, AreListed}
 use Rattle.rtl_tree.specs.GrammarExpr.{IsExpression, IsBounds}
-use Rattle.rtl_tree.specs.GrammarStmt.{Marked, IsTarget, IsPause, IsStatement}
+use Rattle.rtl_tree.specs.GrammarStmt.{IsTarget, IsPause, IsStatement}
 
 -- ---- declarations
 
@@ -144,7 +144,7 @@ AreOverrides (ByName arguments) = AreSet (ByName arguments)
 
 -- ---- items
 
--- an item after its attributes
+-- an item after its attributes; what gates drive is made of them, and isn't written so
 abbrev pub IsItem : ModuleItem → Spelling
 IsItem (Ports head names) = IsHead head ⨾ AreListed IsName names ⨾ IsA symbol.Semicolon
 IsItem (Nets at signed bounds nets) =
@@ -156,10 +156,7 @@ IsItem (Parameters at k bounds values) =
     IsAt (parameter_symbol k) at ⨾ IsOptional IsBounds bounds ⨾ AreListed IsValuation values ⨾ IsA symbol.Semicolon
 IsItem (Drives at pause drives) =
     IsAt symbol.Assign at ⨾ IsOptional IsPause pause ⨾ AreListed IsDrive drives ⨾ IsA symbol.Semicolon
+IsItem (Gates at names pause drives) = Never
 IsItem (Always at sensitivity body) = IsAt symbol.Always at ⨾ IsA symbol.At ⨾ IsSensitivity sensitivity ⨾ IsStatement body
 IsItem (Instances child parameters instantiations) =
     IsName child ⨾ AreOverrides parameters ⨾ AreListed IsInstantiation instantiations ⨾ IsA symbol.Semicolon
-
--- an item with the attributes before it
-abbrev pub IsMarkedItem : ModuleItem → Spelling
-IsMarkedItem item = Marked (λ marks. IsItem item)

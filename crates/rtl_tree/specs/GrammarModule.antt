@@ -1,18 +1,17 @@
 -- Which tokens spell which modules (IEEE 1364-2001 annexes A.1.3 to A.1.5).
 -- Worked examples: crates/tests_layers/stdin.
-use Rattle.std.specs.Prelude.{◌≡◌, ℕ, ◌≤◌, Bool, ◌&&◌, nat_le, List, [], ◌∷◌, Option, Some, None}
+use Rattle.std.specs.Prelude.{◌≡◌, ℕ, Bool, ◌&&◌, nat_le, List, [], ◌∷◌, Option, Some, None}
 use Rattle.std.specs.List.{filter}
 use Rattle.text_ground.specs.declared.dropped.Dropped.{Dropped}
 use Rattle.rtl_tree.specs.declared.symbol.Symbol.TheVariants as symbol
 use Rattle.rtl_tree.specs.Prepared.{Ready}
 use Rattle.rtl_tree.specs.Symbols.{Terminal, terminals}
-use Rattle.rtl_tree.specs.TreeExpr.{Identifier}
-use Rattle.rtl_tree.specs.TreeItem.{Head, ModuleItem}
-use Rattle.rtl_tree.specs.TreeModule.{Heading, HeaderParameter, HeaderPort, Header, Absent, Empty, Declared, Named, Circuit}
+use Rattle.rtl_tree.specs.TreeModule.{Heading, HeaderParameter, HeaderPort, Header, Absent, Empty, Declared, Named, WrittenCircuit}
 use Rattle.rtl_tree.specs.Grammar.{Spelling, ◌⨾◌, Nothing, Never, IsA, IsAt, IsName, IsOptional, AreAll, AreMore, AreListed}
 use Rattle.rtl_tree.specs.GrammarExpr.{IsBounds}
 use Rattle.rtl_tree.specs.GrammarStmt.{Marked}
-use Rattle.rtl_tree.specs.GrammarItem.{IsHead, IsValue, IsMarkedItem}
+use Rattle.rtl_tree.specs.GrammarItem.{IsHead, IsValue}
+use Rattle.rtl_tree.specs.GrammarGate.{IsMarkedItem}
 
 -- something is there
 abbrev pub IsThere : {A : Type 0} → Option A → Type 0
@@ -48,23 +47,23 @@ abbrev pub is_between : ℕ → ℕ → Dropped → Bool
 is_between first last region = nat_le first region.at && nat_le region.at last
 
 -- a module of a text from which these regions were dropped: it has those between its first token and its last
-abbrev pub IsCircuit : List Dropped → Circuit → Spelling
+abbrev pub IsCircuit : List Dropped → WrittenCircuit → Spelling
 IsCircuit regions c =
     λ tokens rest. (last : ℕ) × (c.dropped ≡ filter (is_between c.at last) regions)
     × (IsAt symbol.Module c.at ⨾ IsName c.name ⨾ AreParameters c.parameters ⨾ IsHeader c.header ⨾ IsA symbol.Semicolon ⨾ AreAll IsMarkedItem c.items ⨾ IsAt symbol.Endmodule last) tokens rest
 
 -- a module with the attributes before it
-abbrev pub IsMarkedCircuit : List Dropped → Circuit → Spelling
+abbrev pub IsMarkedCircuit : List Dropped → WrittenCircuit → Spelling
 IsMarkedCircuit regions c = Marked (λ marks. IsCircuit regions c)
 
 -- the modules of a text
-abbrev pub AreCircuits : List Dropped → List Circuit → Spelling
+abbrev pub AreCircuits : List Dropped → List WrittenCircuit → Spelling
 AreCircuits regions = AreAll (IsMarkedCircuit regions)
 
 -- tokens as the grammar sees them spell these modules, and nothing is left
-pub record AreSpelled (regions : List Dropped) (tokens : List Terminal) (circuits : List Circuit) : Type 0 where
+pub record AreSpelled (regions : List Dropped) (tokens : List Terminal) (circuits : List WrittenCircuit) : Type 0 where
   pub spelled : AreCircuits regions circuits tokens []
 
 -- a prepared text spells these modules
-abbrev pub Spells : Ready → List Circuit → Type 0
+abbrev pub Spells : Ready → List WrittenCircuit → Type 0
 Spells ready circuits = AreSpelled ready.dropped (terminals ready.text ready.tokens) circuits

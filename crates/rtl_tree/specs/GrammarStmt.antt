@@ -1,6 +1,6 @@
 -- Which tokens spell which statement (IEEE 1364-2001 annexes A.6, A.8.5 and A.9.1): one case for each alternative.
 -- Worked examples: crates/tests_layers/stdin.
-use Rattle.std.specs.Prelude.{◌≡◌, ℕ, ◌≤◌, ◌+◌, ◌⊎◌, Bool, true, false, ◌||◌, List, [], ◌∷◌, Option, Some, None, codes}
+use Rattle.std.specs.Prelude.{◌≡◌, ℕ, ◌≤◌, ◌+◌, ◌⊎◌, Bool, true, false, ◌||◌, List, codes}
 use Rattle.std.specs.List.{list_any}
 use Rattle.std.specs.Str.{bytes_eq}
 use Rattle.rtl_tree.specs.declared.tree.stmt.AssignmentKind.{AssignmentKind}
@@ -9,11 +9,10 @@ use Rattle.rtl_tree.specs.declared.tree.stmt.CaseKind.{CaseKind}
 use Rattle.rtl_tree.specs.declared.tree.stmt.CaseKind.TheVariants as kind
 use Rattle.rtl_tree.specs.declared.symbol.Symbol.{Symbol}
 use Rattle.rtl_tree.specs.declared.symbol.Symbol.TheVariants as symbol
-use Rattle.rtl_tree.specs.Symbols.{Terminal}
 use Rattle.rtl_tree.specs.TreeExpr.{Formula, Identifier}
 use Rattle.rtl_tree.specs.TreeStmt.{Target, Whole, Bit, Part, Joined, Targets, no_targets, more_targets, Span, Fixed, Named, Valued, Pause, Action, Null, Delayed, Assign, If, IfElse, Case, For, Block, Actions, no_actions, more_actions, Branch, Labelled, Default, Branches, no_branches, more_branches}
 use Rattle.rtl_tree.specs.Grammar.{Spelling, ◌⨾◌, Nothing, Never, One, IsA, IsAt, IsName, IsNumber, IsOptional, AreAll, AreListed}
-use Rattle.rtl_tree.specs.GrammarExpr.{IsExpression}
+use Rattle.rtl_tree.specs.GrammarExpr.{IsExpression, part_symbol}
 
 -- ---- attributes (2.8)
 
@@ -48,8 +47,8 @@ abbrev mutual
   pub IsTarget : Target → Spelling
   IsTarget (Whole name) = IsName name
   IsTarget (Bit name index) = IsName name ⨾ IsA symbol.OpenBracket ⨾ IsExpression index ⨾ IsA symbol.CloseBracket
-  IsTarget (Part name msb lsb) =
-      IsName name ⨾ IsA symbol.OpenBracket ⨾ IsExpression msb ⨾ IsA symbol.Colon ⨾ IsExpression lsb ⨾ IsA symbol.CloseBracket
+  IsTarget (Part name kind first second) =
+      IsName name ⨾ IsA symbol.OpenBracket ⨾ IsExpression first ⨾ IsA (part_symbol kind) ⨾ IsExpression second ⨾ IsA symbol.CloseBracket
   IsTarget (Joined at parts) = IsAt symbol.OpenBrace at ⨾ AreTargets parts ⨾ IsA symbol.CloseBrace
 
   -- one or more targets, with commas between them

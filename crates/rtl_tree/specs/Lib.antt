@@ -4,6 +4,7 @@ pub mod Grammar
 pub mod GrammarExpr
 pub mod GrammarStmt
 pub mod GrammarItem
+pub mod GrammarGate
 pub mod GrammarModule
 pub mod Token
 pub mod Lexemes
@@ -12,6 +13,7 @@ pub mod Prepared
 pub mod Splits
 pub mod Symbols
 pub mod TreeExpr
+pub mod TreeGate
 pub mod TreeItem
 pub mod TreeModule
 pub mod TreeStmt

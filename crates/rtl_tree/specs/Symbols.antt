@@ -1,6 +1,6 @@
 -- The terminal symbols of the grammar: keywords (IEEE 1364-2001 annex B), operators and punctuation (2.4), and what is refused.
 -- Worked examples: crates/tests_layers/stdin.
-use Rattle.std.specs.Prelude.{ℕ, ◌-◌, ◌||◌, Bool, true, false, if◌then◌else◌, nat_eq, Option, Some, None, List, [], ◌∷◌, ◌++◌, take, drop, map, codes}
+use Rattle.std.specs.Prelude.{ℕ, ◌-◌, ◌||◌, Bool, false, if◌then◌else◌, nat_eq, Option, Some, None, List, [], ◌∷◌, ◌++◌, take, drop, map, codes}
 use Rattle.std.specs.Str.{bytes_eq}
 use Rattle.rtl_tree.specs.declared.token.Tok.{Tok}
 use Rattle.rtl_tree.specs.declared.token.Tok.TheVariants as tok
@@ -8,7 +8,7 @@ use Rattle.rtl_tree.specs.declared.token.Pragma.{Pragma}
 use Rattle.rtl_tree.specs.declared.token.Pragma.TheVariants as pragma
 use Rattle.rtl_tree.specs.declared.token.Token.{Token}
 use Rattle.rtl_tree.specs.declared.symbol.Symbol.{Symbol}
-use Rattle.rtl_tree.specs.declared.symbol.Symbol.TheVariants.{Name, Number, Quoted, Refused, Alien, Always, Assign, Begin, Case, Casex, Casez, Default, Else, End, Endcase, Endmodule, For, If, Input, Integer, Localparam, Module, Negedge, Or, Output, Parameter, Posedge, Reg, Signed, Wire, ToSigned, ToUnsigned, OpenParen, CloseParen, OpenBracket, CloseBracket, OpenBrace, CloseBrace, OpenAttribute, CloseAttribute, Semicolon, Colon, Comma, Dot, Equals, At, Hash, Question, Plus, Minus, Star, Slash, Percent, Bang, Tilde, Ampersand, TildeAmpersand, Bar, TildeBar, Caret, TildeCaret, ShiftLeft, ShiftRight, ArithmeticShiftLeft, ArithmeticShiftRight, Less, LessEquals, Greater, GreaterEquals, EqualEquals, BangEquals, CaseEquals, CaseBangEquals, AndAnd, OrOr}
+use Rattle.rtl_tree.specs.declared.symbol.Symbol.TheVariants.{Name, Number, Quoted, Refused, Alien, Always, And, Assign, Begin, Buf, Case, Casex, Casez, Default, Else, End, Endcase, Endmodule, For, If, Input, Integer, Localparam, Module, Nand, Negedge, Nor, Not, Or, Output, Parameter, Posedge, Reg, Signed, Wire, Xnor, Xor, ToSigned, ToUnsigned, Clog2, OpenParen, CloseParen, OpenBracket, CloseBracket, OpenBrace, CloseBrace, OpenAttribute, CloseAttribute, Semicolon, Colon, Comma, Dot, Equals, At, Hash, Question, Plus, Minus, PlusColon, MinusColon, StarStar, Star, Slash, Percent, Bang, Tilde, Ampersand, TildeAmpersand, Bar, TildeBar, Caret, TildeCaret, ShiftLeft, ShiftRight, ArithmeticShiftLeft, ArithmeticShiftRight, Less, LessEquals, Greater, GreaterEquals, EqualEquals, BangEquals, CaseEquals, CaseBangEquals, AndAnd, OrOr}
 use Rattle.rtl_tree.specs.declared.symbol.Terminal as code
 
 -- a token as the grammar sees it: its symbol, its kind with a number's value, its place, its text, and what the pragmas directly after
@@ -33,7 +33,9 @@ keywords =
     (codes "posedge", Posedge) ∷ (codes "negedge", Negedge) ∷ (codes "or", Or) ∷ (codes "begin", Begin) ∷ (codes "end", End) ∷
     (codes "if", If) ∷ (codes "else", Else) ∷ (codes "case", Case) ∷ (codes "casez", Casez) ∷ (codes "casex", Casex) ∷
     (codes "endcase", Endcase) ∷ (codes "default", Default) ∷ (codes "for", For) ∷
-    (codes "$signed", ToSigned) ∷ (codes "$unsigned", ToUnsigned) ∷
+    (codes "$signed", ToSigned) ∷ (codes "$unsigned", ToUnsigned) ∷ (codes "$clog2", Clog2) ∷
+    (codes "and", And) ∷ (codes "nand", Nand) ∷ (codes "nor", Nor) ∷ (codes "xor", Xor) ∷ (codes "xnor", Xnor) ∷
+    (codes "buf", Buf) ∷ (codes "not", Not) ∷
     []
 
 -- the keywords of constructs outside this language
@@ -44,15 +46,14 @@ refused_words =
     codes "specify" ∷ codes "endspecify" ∷ codes "specparam" ∷ codes "primitive" ∷ codes "endprimitive" ∷ codes "table" ∷
     codes "endtable" ∷ codes "while" ∷ codes "repeat" ∷ codes "forever" ∷ codes "supply0" ∷ codes "supply1" ∷ codes "tri" ∷
     codes "tri0" ∷ codes "tri1" ∷ codes "triand" ∷ codes "trior" ∷ codes "trireg" ∷ codes "wand" ∷ codes "wor" ∷
-    codes "scalared" ∷ codes "vectored" ∷ codes "and" ∷ codes "nand" ∷ codes "nor" ∷ codes "xor" ∷ codes "xnor" ∷ codes "not" ∷
-    codes "buf" ∷ codes "bufif0" ∷ codes "bufif1" ∷ codes "notif0" ∷ codes "notif1" ∷ codes "nmos" ∷ codes "pmos" ∷
+    codes "scalared" ∷ codes "vectored" ∷ codes "bufif0" ∷ codes "bufif1" ∷ codes "notif0" ∷ codes "notif1" ∷ codes "nmos" ∷ codes "pmos" ∷
     codes "cmos" ∷ codes "rnmos" ∷ codes "rpmos" ∷ codes "rcmos" ∷ codes "tran" ∷ codes "tranif0" ∷ codes "tranif1" ∷
     codes "rtran" ∷ codes "rtranif0" ∷ codes "rtranif1" ∷ codes "pullup" ∷ codes "pulldown" ∷ codes "inout" ∷
     codes "function" ∷ codes "endfunction" ∷ codes "generate" ∷ codes "endgenerate" ∷ codes "genvar" ∷ codes "config" ∷
     codes "library" ∷
     []
 
--- the marks, those of constructs outside this language among them: `**`, `->`, `+:` and `-:`
+-- the marks, that of a construct outside this language among them: `->`
 unfoldable pub marks : List (List ℕ × Symbol)
 marks =
     (codes "(", OpenParen) ∷ (codes ")", CloseParen) ∷ (codes "[", OpenBracket) ∷ (codes "]", CloseBracket) ∷
@@ -65,7 +66,7 @@ marks =
     (codes ">>", ShiftRight) ∷ (codes "~&", TildeAmpersand) ∷ (codes "~|", TildeBar) ∷ (codes "~^", TildeCaret) ∷
     (codes "^~", TildeCaret) ∷ (codes "(*", OpenAttribute) ∷ (codes "*)", CloseAttribute) ∷ (codes "===", CaseEquals) ∷
     (codes "!==", CaseBangEquals) ∷ (codes "<<<", ArithmeticShiftLeft) ∷ (codes ">>>", ArithmeticShiftRight) ∷
-    (codes "**", Refused) ∷ (codes "->", Refused) ∷ (codes "+:", Refused) ∷ (codes "-:", Refused) ∷
+    (codes "**", StarStar) ∷ (codes "+:", PlusColon) ∷ (codes "-:", MinusColon) ∷ (codes "->", Refused) ∷
     []
 
 -- what a table has for a text, or else something else
@@ -81,7 +82,7 @@ is_system (b ∷ bs) = nat_eq b 36
 unfoldable pub words : List (List ℕ × Symbol)
 words = keywords ++ map (λ word. (word, Refused)) refused_words
 
--- a keyword, a refused word, or a name; system names are refused but for the two conversions (2.7.3)
+-- a keyword, a refused word, or a name; system names are refused but for the three functions (2.7.3)
 unfoldable pub word_symbol : List ℕ → Symbol
 word_symbol text = lookup words (if is_system text then Refused else Name) text
 

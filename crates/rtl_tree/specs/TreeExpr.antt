@@ -5,7 +5,8 @@ use Rattle.rtl_tree.specs.declared.literal.Literal.{Literal}
 use Rattle.rtl_tree.specs.declared.tree.names.Name.{Name}
 use Rattle.rtl_tree.specs.declared.tree.operators.UnaryOperator.{UnaryOperator}
 use Rattle.rtl_tree.specs.declared.tree.operators.BinaryOperator.{BinaryOperator}
-use Rattle.rtl_tree.specs.declared.tree.operators.Signedness.{Signedness}
+use Rattle.rtl_tree.specs.declared.tree.operators.SystemFunction.{SystemFunction}
+use Rattle.rtl_tree.specs.declared.tree.operators.PartKind.{PartKind}
 use Rattle.rtl_tree.specs.declared.tree.expr.Expr.{Expr, Row_of-Expr, end_of-Expr, more_of-Expr}
 use Rattle.rtl_tree.specs.declared.tree.expr.Expr.TheVariants as written
 use Rattle.rtl_tree.specs.declared.tree.expr.Range.{Range}
@@ -21,9 +22,9 @@ mutual
     Number : (value : Literal) (at : ℕ) → Formula
     Read : (name : Identifier) → Formula
     ReadBit : (name : Identifier) (index : Formula) → Formula
-    ReadPart : (name : Identifier) (msb lsb : Formula) → Formula
+    ReadPart : (name : Identifier) (kind : PartKind) (first second : Formula) → Formula
     Parens : (at : ℕ) (inner : Formula) → Formula
-    Convert : (signedness : Signedness) (at : ℕ) (inner : Formula) → Formula
+    Apply : (function : SystemFunction) (at : ℕ) (inner : Formula) → Formula
     Concat : (at : ℕ) (parts : Formulas) → Formula
     Repeat : (at : ℕ) (times : Formula) (parts : Formulas) → Formula
     Unary : (operator : UnaryOperator) (at : ℕ) (operand : Formula) → Formula
@@ -50,9 +51,9 @@ abbrev pub formula_place : Formula → ℕ
 formula_place (Number value at) = at
 formula_place (Read name) = name.at
 formula_place (ReadBit name index) = name.at
-formula_place (ReadPart name msb lsb) = name.at
+formula_place (ReadPart name kind first second) = name.at
 formula_place (Parens at inner) = at
-formula_place (Convert signedness at inner) = at
+formula_place (Apply function at inner) = at
 formula_place (Concat at parts) = at
 formula_place (Repeat at times parts) = at
 formula_place (Unary operator at operand) = at
@@ -73,10 +74,10 @@ abbrev mutual
   formula (written.Number value at) = Number value at
   formula (written.Read name) = Read (identifier name)
   formula (written.ReadBit' name p index) = ReadBit (identifier name) (formula index)
-  formula (written.ReadPart' name p msb q lsb) =
-      ReadPart (identifier name) (formula msb) (formula lsb)
+  formula (written.ReadPart' name kind p first q second) =
+      ReadPart (identifier name) kind (formula first) (formula second)
   formula (written.Parens' at p inner) = Parens at (formula inner)
-  formula (written.Convert' signedness at p inner) = Convert signedness at (formula inner)
+  formula (written.Apply' function at p inner) = Apply function at (formula inner)
   formula (written.Concat' at shape parts) = Concat at (formulas parts)
   formula (written.Repeat' at p times shape parts) = Repeat at (formula times) (formulas parts)
   formula (written.Unary' operator at p operand) = Unary operator at (formula operand)

@@ -12,6 +12,7 @@ use Rattle.rtl_tree.specs.declared.tree.item.Reg.{Reg}
 use Rattle.rtl_tree.specs.declared.tree.item.ParameterKind.{ParameterKind}
 use Rattle.rtl_tree.specs.declared.tree.item.Setting.{Setting}
 use Rattle.rtl_tree.specs.declared.tree.item.Assignment.{Assignment}
+use Rattle.rtl_tree.specs.declared.tree.item.GateDrive as declared
 use Rattle.rtl_tree.specs.declared.tree.item.EventEdge.{EventEdge}
 use Rattle.rtl_tree.specs.declared.tree.item.Event.{Event}
 use Rattle.rtl_tree.specs.declared.tree.item.Event.TheVariants as awaited
@@ -51,6 +52,11 @@ pub record Valuation : Type 0 where
 -- a continuous assignment
 pub record Drive : Type 0 where
   pub target : Target
+  pub value : Formula
+
+-- what a gate drives: outputs of one bit, each with the same value, which is made of the gate's inputs, each in parentheses
+pub record GateDrive : Type 0 where
+  pub outputs : List Target
   pub value : Formula
 
 -- an event that a process waits for
@@ -102,6 +108,7 @@ pub data ModuleItem : Type 0 where
   Integers : (at : ℕ) (names : List Identifier) → ModuleItem
   Parameters : (at : ℕ) (kind : ParameterKind) (bounds : Option Bounds) (values : List Valuation) → ModuleItem
   Drives : (at : ℕ) (pause : Option Pause) (drives : List Drive) → ModuleItem
+  Gates : (at : ℕ) (names : List Identifier) (pause : Option Pause) (drives : List GateDrive) → ModuleItem
   Always : (at : ℕ) (sensitivity : Sensitivity) (body : Action) → ModuleItem
   Instances : (child : Identifier) (parameters : Association) (instantiations : List Instantiation) → ModuleItem
 
@@ -127,6 +134,10 @@ valuation setting = record { name = identifier setting.name; value = formula set
 abbrev pub drive : Assignment → Drive
 drive assignment =
     record { target = target assignment.target; value = formula assignment.value }
+
+abbrev pub gate_drive : declared.GateDrive → GateDrive
+gate_drive drive =
+    record { outputs = map target drive.outputs.items; value = formula drive.value }
 
 abbrev pub happening : Event → Happening
 happening (awaited.Edge edge at name) = Edge edge at (identifier name)
@@ -172,6 +183,8 @@ module_item (written.Parameters at kind range settings) =
     Parameters at kind (option_map bounds range) (map valuation settings.items)
 module_item (written.Assigns at delay assignments) =
     Drives at (option_map pause delay) (map drive assignments.items)
+module_item (written.Gates at names delay drives) =
+    Gates at (map identifier names.items) (option_map pause delay) (map gate_drive drives.items)
 module_item (written.Always at control body) = Always at (sensitivity control) (action body)
 module_item (written.Instances child parameters instances) =
     Instances (identifier child) (association parameters) (map instantiation instances.items)

@@ -4,6 +4,7 @@ use Rattle.std.specs.Prelude.{ℕ, List, map, Option}
 use Rattle.std.specs.Option.{option_map}
 use Rattle.rtl_tree.specs.TreeExpr.{Identifier, Formula, Bounds, identifier, formula, bounds}
 use Rattle.rtl_tree.specs.TreeItem.{Head, ModuleItem, head, module_item}
+use Rattle.rtl_tree.specs.TreeGate.{WrittenItem, written_item}
 use Rattle.text_ground.specs.declared.dropped.Dropped.{Dropped}
 use Rattle.rtl_tree.specs.declared.tree.modules.ParameterHead.{ParameterHead}
 use Rattle.rtl_tree.specs.declared.tree.modules.HeadParameter.{HeadParameter}
@@ -11,6 +12,7 @@ use Rattle.rtl_tree.specs.declared.tree.modules.HeadPort.{HeadPort}
 use Rattle.rtl_tree.specs.declared.tree.modules.PortList.{PortList}
 use Rattle.rtl_tree.specs.declared.tree.modules.PortList.TheVariants as listed
 use Rattle.rtl_tree.specs.declared.tree.modules.Module.{Module}
+use Rattle.rtl_tree.specs.declared.tree.modules.WrittenModule.{WrittenModule}
 
 -- what stands before a parameter of a module's head
 pub record Heading : Type 0 where
@@ -35,13 +37,22 @@ pub data Header : Type 0 where
   Declared : (ports : List HeaderPort) → Header
   Named : (names : List Identifier) → Header
 
--- a module
+-- a module whose gates are assignments
 pub record Circuit : Type 0 where
   pub at : ℕ
   pub name : Identifier
   pub parameters : List HeaderParameter
   pub header : Header
   pub items : List ModuleItem
+  pub dropped : List Dropped
+
+-- a module as it is written
+pub record WrittenCircuit : Type 0 where
+  pub at : ℕ
+  pub name : Identifier
+  pub parameters : List HeaderParameter
+  pub header : Header
+  pub items : List WrittenItem
   pub dropped : List Dropped
 
 abbrev pub heading : ParameterHead → Heading
@@ -73,5 +84,16 @@ circuit written =
       parameters = map header_parameter written.parameters.items;
       header = header written.ports;
       items = map module_item written.items.items;
+      dropped = written.dropped.items;
+    }
+
+abbrev pub written_circuit : WrittenModule → WrittenCircuit
+written_circuit written =
+    record {
+      at = written.at;
+      name = identifier written.name;
+      parameters = map header_parameter written.parameters.items;
+      header = header written.ports;
+      items = map written_item written.items.items;
       dropped = written.dropped.items;
     }

@@ -4,6 +4,7 @@ use Rattle.std.specs.Prelude.{ℕ, Bool, List, [], ◌∷◌, map, Option}
 use Rattle.std.specs.Option.{option_map}
 use Rattle.rtl_tree.specs.TreeExpr.{Identifier, Formula, identifier, formula}
 use Rattle.rtl_tree.specs.declared.literal.Literal.{Literal}
+use Rattle.rtl_tree.specs.declared.tree.operators.PartKind.{PartKind}
 use Rattle.rtl_tree.specs.declared.tree.stmt.Lvalue.{Lvalue, Row_of-Lvalue, end_of-Lvalue, more_of-Lvalue}
 use Rattle.rtl_tree.specs.declared.tree.stmt.Lvalue.TheVariants as assigned
 use Rattle.rtl_tree.specs.declared.tree.stmt.Ticks.{Ticks}
@@ -21,7 +22,7 @@ mutual
   pub data Target : Type 0 where
     Whole : (name : Identifier) → Target
     Bit : (name : Identifier) (index : Formula) → Target
-    Part : (name : Identifier) (msb lsb : Formula) → Target
+    Part : (name : Identifier) (kind : PartKind) (first second : Formula) → Target
     Joined : (at : ℕ) (parts : Targets) → Target
 
   -- targets in a row
@@ -43,7 +44,7 @@ target_list (more_targets first others) = first ∷ target_list others
 abbrev pub target_place : Target → ℕ
 target_place (Whole name) = name.at
 target_place (Bit name index) = name.at
-target_place (Part name msb lsb) = name.at
+target_place (Part name kind first second) = name.at
 target_place (Joined at parts) = at
 
 -- how long a delay is
@@ -119,7 +120,7 @@ abbrev mutual
   pub target : Lvalue → Target
   target (assigned.Whole name) = Whole (identifier name)
   target (assigned.Bit name index) = Bit (identifier name) (formula index)
-  target (assigned.Part name msb lsb) = Part (identifier name) (formula msb) (formula lsb)
+  target (assigned.Part name kind first second) = Part (identifier name) kind (formula first) (formula second)
   target (assigned.Concat' at shape parts) = Joined at (targets parts)
 
   pub targets : {m : _} → Row_of-Lvalue m → Targets

@@ -16,8 +16,10 @@ pub enum Symbol {
     Alien,
     // Words
     Always,
+    And,
     Assign,
     Begin,
+    Buf,
     Case,
     Casex,
     Casez,
@@ -32,7 +34,10 @@ pub enum Symbol {
     Integer,
     Localparam,
     Module,
+    Nand,
     Negedge,
+    Nor,
+    Not,
     Or,
     Output,
     Parameter,
@@ -40,10 +45,14 @@ pub enum Symbol {
     Reg,
     Signed,
     Wire,
+    Xnor,
+    Xor,
     /// `$signed`
     ToSigned,
     /// `$unsigned`
     ToUnsigned,
+    /// `$clog2`
+    Clog2,
     // Marks
     /// `(`
     OpenParen,
@@ -81,6 +90,12 @@ pub enum Symbol {
     Plus,
     /// `-`
     Minus,
+    /// `+:`
+    PlusColon,
+    /// `-:`
+    MinusColon,
+    /// `**`
+    StarStar,
     /// `*`
     Star,
     /// `/`

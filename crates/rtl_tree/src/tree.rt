@@ -4,6 +4,7 @@
 // mark; the place of any other part is that of its first token after its attributes.
 
 pub mod expr;
+pub mod gate;
 pub mod item;
 pub mod modules;
 pub mod names;

@@ -5,7 +5,7 @@ ghost use Rattle.rtl_tree.specs.TreeExpr.{Concat, Repeat, formula, formula_place
 
 use crate::literal::Literal;
 use crate::tree::names::Name;
-use crate::tree::operators::{BinaryOperator, Signedness, UnaryOperator};
+use crate::tree::operators::{BinaryOperator, PartKind, SystemFunction, UnaryOperator};
 
 /// An expression as it is written, each node with its place.
 #[derive(Drop)]
@@ -16,12 +16,12 @@ pub enum Expr {
     Read(Name),
     /// `name[index]`
     ReadBit(Name, Box<Expr>),
-    /// `name[msb:lsb]`
-    ReadPart(Name, Box<Expr>, Box<Expr>),
+    /// `name[msb:lsb]`, `name[base +: width]` or `name[base -: width]`
+    ReadPart(Name, PartKind, Box<Expr>, Box<Expr>),
     /// `(inner)`
     Parens(u32, Box<Expr>),
-    /// `$signed(inner)` or `$unsigned(inner)`
-    Convert(Signedness, u32, Box<Expr>),
+    /// `$signed(inner)`, `$unsigned(inner)` or `$clog2(inner)`
+    Apply(SystemFunction, u32, Box<Expr>),
     /// `{part, part}`, at least one part
     Concat(u32, Vec<Expr>),
     /// `{times{part, part}}`, at least one part
@@ -55,10 +55,10 @@ impl Expr {
         ensures { result ≡ formula_place (formula self.now) }
     {
         match self {
-            Expr::Read(name) | Expr::ReadBit(name, _) | Expr::ReadPart(name, _, _) => name.at,
+            Expr::Read(name) | Expr::ReadBit(name, _) | Expr::ReadPart(name, _, _, _) => name.at,
             Expr::Number(_, at)
             | Expr::Parens(at, _)
-            | Expr::Convert(_, at, _)
+            | Expr::Apply(_, at, _)
             | Expr::Concat(at, _)
             | Expr::Repeat(at, _, _)
             | Expr::Unary(_, at, _)

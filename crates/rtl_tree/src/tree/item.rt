@@ -70,6 +70,15 @@ pub struct Assignment {
     pub value: Expr,
 }
 
+/// What a gate drives: outputs of one bit, each with the same value.
+#[derive(Drop)]
+pub struct GateDrive {
+    /// At least one.
+    pub outputs: Vec<Lvalue>,
+    /// Made of the gate's inputs, each in parentheses.
+    pub value: Expr,
+}
+
 /// The edge of an event.
 #[derive(Clone, Copy, PartialEq, Eq, Debug)]
 pub enum EventEdge {
@@ -176,6 +185,13 @@ pub enum Item {
     },
     /// `assign delay target = value, target = value;`
     Assigns(u32, Option<Delay>, Vec<Assignment>),
+    /// What gates drive, and the names that they have.
+    Gates {
+        at: u32,
+        names: Vec<Name>,
+        delay: Option<Delay>,
+        drives: Vec<GateDrive>,
+    },
     /// `always @ control body`
     Always(u32, EventControl, Stmt),
     /// `child #(parameters) instance, instance;`

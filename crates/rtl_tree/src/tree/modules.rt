@@ -1,6 +1,7 @@
 // Modules.
 
 use crate::tree::expr::{Expr, Range};
+use crate::tree::gate::WrittenItem;
 use crate::tree::item::{Item, PortHead};
 use crate::tree::names::Name;
 use text_ground::dropped::Dropped;
@@ -42,7 +43,7 @@ pub enum PortList {
     Named(Vec<Name>),
 }
 
-/// A module.
+/// A module whose gates are assignments.
 #[derive(Drop)]
 pub struct Module {
     /// The place of its `module`.
@@ -51,6 +52,19 @@ pub struct Module {
     pub parameters: Vec<HeadParameter>,
     pub ports: PortList,
     pub items: Vec<Item>,
+    /// The regions that were dropped between its first token and its last; the initial values of `reg` are in its items.
+    pub dropped: Vec<Dropped>,
+}
+
+/// A module as it is written.
+#[derive(Drop)]
+pub struct WrittenModule {
+    /// The place of its `module`.
+    pub at: u32,
+    pub name: Name,
+    pub parameters: Vec<HeadParameter>,
+    pub ports: PortList,
+    pub items: Vec<WrittenItem>,
     /// The regions that were dropped between its first token and its last; the initial values of `reg` are in its items.
     pub dropped: Vec<Dropped>,
 }

@@ -3,16 +3,18 @@
 ghost use Rattle.std.specs.Prelude.{◌≡◌, ◌-◌, ◌^◌, map, max, min};
 ghost use Rattle.std.specs.Option.{option_map};
 ghost use Rattle.rtl_tree.specs.Depth.{depth, greatest, header_depth, header_parameter_depth, header_port_depth};
-ghost use Rattle.rtl_tree.specs.TreeModule.{circuit, header, header_parameter, header_port};
+ghost use Rattle.rtl_tree.specs.TreeModule.{header, header_parameter, header_port, written_circuit};
 
-use crate::tree::modules::{HeadParameter, HeadPort, Module, PortList};
+use crate::tree::modules::{HeadParameter, HeadPort, PortList, WrittenModule};
 use crate::tree::nesting::exprs::{expr_depth, range_depth};
-use crate::tree::nesting::items::{items_depth, optional_head_depth};
+use crate::tree::nesting::gates::items_depth;
+use crate::tree::nesting::items::optional_head_depth;
 
 /// How deep expressions and statements may be nested.
 pub const MAX_NESTING: u32 = 200;
 
 pub(crate) mod exprs;
+pub(crate) mod gates;
 pub(crate) mod items;
 pub(crate) mod stmts;
 
@@ -58,8 +60,8 @@ fn port_list_depth(ports: &PortList) -> u32
 
 /// How deep the expressions and statements of the module are nested: one that stands directly in an item or in the
 /// head has depth 1, and what stands in another is one deeper than it. Numbers stop at the greatest u32.
-pub fn depth(m: &Module) -> u32
-    ensures { result ≡ min (depth (circuit m.now)) (2 ^ 32 - 1) }
+pub fn depth(m: &WrittenModule) -> u32
+    ensures { result ≡ min (depth (written_circuit m.now)) (2 ^ 32 - 1) }
 {
     let heads = head_parameters_depth(&m.parameters).max(port_list_depth(&m.ports));
     heads.max(items_depth(&m.items))

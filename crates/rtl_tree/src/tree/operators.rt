@@ -28,6 +28,8 @@ pub enum UnaryOperator {
 /// An operator between two operands.
 #[derive(Clone, Copy, PartialEq, Eq, Debug)]
 pub enum BinaryOperator {
+    /// `**`
+    Power,
     /// `*`
     Multiply,
     /// `/`
@@ -76,9 +78,24 @@ pub enum BinaryOperator {
     LogicalOr,
 }
 
-/// How the bits of a value are read as a number.
+/// A function of the system, of one argument.
 #[derive(Clone, Copy, PartialEq, Eq, Debug)]
-pub enum Signedness {
+pub enum SystemFunction {
+    /// `$signed`
     Signed,
+    /// `$unsigned`
     Unsigned,
+    /// `$clog2`
+    Clog2,
+}
+
+/// Which bits a select of several names.
+#[derive(Clone, Copy, PartialEq, Eq, Debug)]
+pub enum PartKind {
+    /// `[msb:lsb]`
+    Between,
+    /// `[base +: width]`
+    Up,
+    /// `[base -: width]`
+    Down,
 }

@@ -8,6 +8,7 @@ ghost use Rattle.rtl_tree.specs.TreeStmt.{Block, Case, Joined, action, action_pl
 use crate::literal::Literal;
 use crate::tree::expr::Expr;
 use crate::tree::names::Name;
+use crate::tree::operators::PartKind;
 
 /// The left side of an assignment (IEEE 1364-2001 annex A.8.5).
 #[derive(Drop)]
@@ -16,8 +17,8 @@ pub enum Lvalue {
     Whole(Name),
     /// `name[index]`
     Bit(Name, Expr),
-    /// `name[msb:lsb]`
-    Part(Name, Expr, Expr),
+    /// `name[msb:lsb]`, `name[base +: width]` or `name[base -: width]`
+    Part(Name, PartKind, Expr, Expr),
     /// `{part, part}` and its place, at least one part
     Concat(u32, Vec<Lvalue>),
 }
@@ -28,7 +29,7 @@ impl Lvalue {
         ensures { result ≡ target_place (target self.now) }
     {
         match self {
-            Lvalue::Whole(name) | Lvalue::Bit(name, _) | Lvalue::Part(name, _, _) => name.at,
+            Lvalue::Whole(name) | Lvalue::Bit(name, _) | Lvalue::Part(name, _, _, _) => name.at,
             Lvalue::Concat(at, _) => *at,
         }
     }

@@ -22,9 +22,9 @@ pub(crate) fn expr_depth(e: &Expr) -> u32
         Expr::Number(_, _) | Expr::Read(_) => 1,
         Expr::ReadBit(_, inner)
         | Expr::Parens(_, inner)
-        | Expr::Convert(_, _, inner)
+        | Expr::Apply(_, _, inner)
         | Expr::Unary(_, _, inner) => above(expr_depth(inner)),
-        Expr::ReadPart(_, left, right) | Expr::Binary(_, _, left, right) => {
+        Expr::ReadPart(_, _, left, right) | Expr::Binary(_, _, left, right) => {
             above(expr_depth(left).max(expr_depth(right)))
         }
         Expr::Concat(_, parts) => above(exprs_depth(parts)),

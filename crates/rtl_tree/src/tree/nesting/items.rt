@@ -2,15 +2,15 @@
 
 ghost use Rattle.std.specs.Prelude.{◌≡◌, ◌-◌, ◌^◌, map, max, min};
 ghost use Rattle.std.specs.Option.{option_map};
-ghost use Rattle.rtl_tree.specs.Depth.{associated_depth, association_depth, drive_depth, greatest, happening_depth, head_depth, if_any, item_depth, net_depth, instantiation_depth, positional_depth, sensitivity_depth, valuation_depth};
-ghost use Rattle.rtl_tree.specs.TreeItem.{associated, association, drive, happening, head, module_item, net, instantiation, positional, sensitivity, valuation};
+ghost use Rattle.rtl_tree.specs.Depth.{associated_depth, association_depth, drive_depth, gate_drive_depth, greatest, happening_depth, head_depth, if_any, item_depth, net_depth, instantiation_depth, positional_depth, sensitivity_depth, valuation_depth};
+ghost use Rattle.rtl_tree.specs.TreeItem.{associated, association, drive, gate_drive, happening, head, module_item, net, instantiation, positional, sensitivity, valuation};
 
 use crate::tree::item::{
-    Arguments, Assignment, Event, EventControl, Instance, Item, NamedArgument, OrderedArgument,
-    PortHead, Setting, Wire,
+    Arguments, Assignment, Event, EventControl, GateDrive, Instance, Item, NamedArgument,
+    OrderedArgument, PortHead, Setting, Wire,
 };
 use crate::tree::nesting::exprs::{expr_depth, optional_depth, range_depth};
-use crate::tree::nesting::stmts::{optional_delay_depth, stmt_depth, target_depth};
+use crate::tree::nesting::stmts::{optional_delay_depth, stmt_depth, target_depth, targets_depth};
 
 /// Of a port's head that may be left out.
 pub(crate) fn optional_head_depth(written: &Option<PortHead>) -> u32
@@ -48,6 +48,17 @@ fn assignments_depth(all: &[Assignment]) -> u32
     let mut most = 0;
     for assignment in all {
         let here = target_depth(&assignment.target).max(expr_depth(&assignment.value));
+        most = here.max(most);
+    }
+    most
+}
+
+fn gate_drives_depth(all: &[GateDrive]) -> u32
+    ensures { result ≡ min (greatest gate_drive_depth (map gate_drive all.now)) (2 ^ 32 - 1) }
+{
+    let mut most = 0;
+    for drive in all {
+        let here = targets_depth(&drive.outputs).max(expr_depth(&drive.value));
         most = here.max(most);
     }
     most
@@ -121,7 +132,7 @@ fn instances_depth(all: &[Instance]) -> u32
     most
 }
 
-fn item_depth(item: &Item) -> u32
+pub(crate) fn item_depth(item: &Item) -> u32
     ensures { result ≡ min (item_depth (module_item item.now)) (2 ^ 32 - 1) }
 {
     match item {
@@ -137,6 +148,9 @@ fn item_depth(item: &Item) -> u32
         Item::Assigns(_, delay, assignments) => {
             optional_delay_depth(delay).max(assignments_depth(assignments))
         }
+        Item::Gates { delay, drives, .. } => optional_delay_depth(delay).max(gate_drives_depth(
+            drives,
+        )),
         Item::Always(_, control, body) => control_depth(control).max(stmt_depth(body)),
         Item::Instances {
             parameters,
@@ -144,14 +158,4 @@ fn item_depth(item: &Item) -> u32
             ..
         } => arguments_depth(parameters).max(instances_depth(instances)),
     }
-}
-
-pub(crate) fn items_depth(all: &[Item]) -> u32
-    ensures { result ≡ min (greatest item_depth (map module_item all.now)) (2 ^ 32 - 1) }
-{
-    let mut most = 0;
-    for item in all {
-        most = item_depth(item).max(most);
-    }
-    most
 }

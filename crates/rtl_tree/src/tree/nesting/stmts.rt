@@ -2,8 +2,8 @@
 
 ghost use Rattle.std.specs.Prelude.{◌≡◌, ◌-◌, ◌^◌, map, min};
 ghost use Rattle.std.specs.Option.{option_map};
-ghost use Rattle.rtl_tree.specs.Depth.{action_depth, branch_depth, greatest, if_any, pause_depth, target_depth};
-ghost use Rattle.rtl_tree.specs.TreeStmt.{action, branch, pause, target};
+ghost use Rattle.rtl_tree.specs.Depth.{action_depth, branch_depth, greatest, if_any, pause_depth, span_depth, target_depth};
+ghost use Rattle.rtl_tree.specs.TreeStmt.{action, branch, pause, span, target};
 
 use crate::tree::nesting::exprs::{above, expr_depth, exprs_depth};
 use crate::tree::stmt::{CaseItem, Delay, Lvalue, Stmt, Ticks};
@@ -15,13 +15,13 @@ pub(crate) fn target_depth(lvalue: &Lvalue) -> u32
     match lvalue {
         Lvalue::Whole(_) => 1,
         Lvalue::Bit(_, index) => above(expr_depth(index)),
-        Lvalue::Part(_, msb, lsb) => above(expr_depth(msb).max(expr_depth(lsb))),
+        Lvalue::Part(_, _, first, second) => above(expr_depth(first).max(expr_depth(second))),
         Lvalue::Concat(_, parts) => above(targets_depth(parts)),
     }
 }
 
 #[cycle(nested_targets)]
-fn targets_depth(all: &[Lvalue]) -> u32
+pub(crate) fn targets_depth(all: &[Lvalue]) -> u32
     ensures { result ≡ min (greatest target_depth (map target all.now)) (2 ^ 32 - 1) }
 {
     let mut most = 0;
@@ -31,14 +31,20 @@ fn targets_depth(all: &[Lvalue]) -> u32
     most
 }
 
-/// Of a delay, which holds an expression only in parentheses.
-pub(crate) fn delay_depth(delay: &Delay) -> u32
-    ensures { result ≡ min (pause_depth (pause delay.now)) (2 ^ 32 - 1) }
+/// Of how long a delay is, which holds an expression only in parentheses.
+pub(crate) fn ticks_depth(ticks: &Ticks) -> u32
+    ensures { result ≡ min (span_depth (span ticks.now)) (2 ^ 32 - 1) }
 {
-    match &delay.ticks {
+    match ticks {
         Ticks::Number(_) | Ticks::Name(_) => 0,
         Ticks::Parens(value) => expr_depth(value),
     }
+}
+
+pub(crate) fn delay_depth(delay: &Delay) -> u32
+    ensures { result ≡ min (pause_depth (pause delay.now)) (2 ^ 32 - 1) }
+{
+    ticks_depth(&delay.ticks)
 }
 
 /// Of a delay that may be left out.
