@@ -10,7 +10,8 @@ use Rattle.text_survey.specs.declared.task.Taking.TheVariants as taking
 use Rattle.text_survey.specs.Table.{Step, go, is_next, same_symbol, required, optional, unless, rank, looseness, link}
 use Rattle.text_survey.specs.Rule.{rule}
 use Rattle.text_survey.proofs.Laws.Means.{same_is}
-use Rattle.text_survey.proofs.Rows.{ends, ends_name, ends_statement, is_end, fits, fit, and_true}
+use Rattle.text_survey.proofs.Laws.Tails.{tail}
+use Rattle.text_survey.proofs.Rows.{ends, ends_name, ends_part, ends_statement, is_end, fits, fit, and_true}
 
 -- ---- what follows
 
@@ -26,6 +27,11 @@ pub name_ends : (o : Option Symbol) → ends o ≡ true → ends_name o ≡ true
 name_ends None h = cc
 name_ends (Some symbol.Equals) h = refl
 name_ends (Some other) h = h
+
+pub part_ends : (o : Option Symbol) → ends_name o ≡ true → ends_part o ≡ true
+part_ends None h = cc
+part_ends (Some symbol.Comma) h = refl
+part_ends (Some other) h = h
 
 -- ---- what a step leaves
 
@@ -57,7 +63,7 @@ two a b e f = and_true a (b && true) e (one b f)
 
 keeps_operand : (o next : Option Symbol) → ends next ≡ true → Keeps (rule (task.Level level.Operand) o) next
 keeps_operand None next h = refl
-keeps_operand (Some symbol.Name) next h = one (ends_name next) (name_ends next h)
+keeps_operand (Some symbol.Name) next h = one (ends_part next) (part_ends next (name_ends next h))
 keeps_operand (Some symbol.Plus) next h = one (ends next) h
 keeps_operand (Some symbol.Minus) next h = one (ends next) h
 keeps_operand (Some symbol.Bang) next h = one (ends next) h
@@ -100,9 +106,9 @@ keeps_constant None next h = one (ends next) h
 keeps_constant (Some symbol.Quoted) next h = refl
 keeps_constant (Some other) next h = one (ends next) h
 
-keeps_target : (o next : Option Symbol) → ends_name next ≡ true → Keeps (rule task.Target o) next
+keeps_target : (o next : Option Symbol) → ends_part next ≡ true → Keeps (rule task.Target o) next
 keeps_target None next h = refl
-keeps_target (Some symbol.Name) next h = one (ends_name next) h
+keeps_target (Some symbol.Name) next h = one (ends_part next) h
 keeps_target (Some other) next h = refl
 
 keeps_ticks : (o next : Option Symbol) → Keeps (rule task.Ticks o) next
@@ -183,6 +189,30 @@ keeps_events (Some other) next h = refl
 closed : (next : Option Symbol) → is_next symbol.CloseParen next ≡ true → ends next ≡ true
 closed next h = of_next ends symbol.CloseParen next refl h
 
+keeps_event_select_end : (o next : Option Symbol) → Keeps (rule task.EventSelectEnd o) next
+keeps_event_select_end None next = refl
+keeps_event_select_end (Some symbol.Colon) next = refl
+keeps_event_select_end (Some other) next = refl
+
+keeps_gate_ticks : (o next : Option Symbol) → Keeps (rule task.GateTicks o) next
+unfolding same_symbol
+keeps_gate_ticks None next = refl
+keeps_gate_ticks (Some symbol.OpenParen) next = refl
+keeps_gate_ticks (Some other) next = refl
+
+keeps_output : (o next : Option Symbol) → ends next ≡ true → Keeps (rule task.OutputOrInput o) next
+keeps_output None next h = one (ends next) h
+keeps_output (Some symbol.Name) next h = two (ends_part next) (ends next) (part_ends next (name_ends next h)) h
+keeps_output (Some other) next h = one (ends next) h
+
+keeps_tail : (next : Option Symbol) → ends next ≡ true → fit tail next ≡ true
+keeps_tail next h = ap (λ b. b && (b && (b && (b && (b && (b && (b && (b && (b && (b && (b && (b && (true && true))))))))))))) h
+
+keeps_after_name : (o next : Option Symbol) → ends next ≡ true → Keeps (rule task.AfterName o) next
+keeps_after_name None next h = keeps_tail next h
+keeps_after_name (Some symbol.Comma) next h = one (ends next) h
+keeps_after_name (Some other) next h = keeps_tail next h
+
 keeps_arguments : (o next : Option Symbol) → is_next symbol.CloseParen next ≡ true → Keeps (rule task.Arguments o) next
 keeps_arguments None next h = two (ends next) (is_next symbol.CloseParen next) (closed next h) h
 keeps_arguments (Some symbol.Dot) next h = one (is_next symbol.CloseParen next) h
@@ -243,7 +273,7 @@ keeps task.Attributes o next h = by_optional symbol.Comma o next (task.Attribute
 keeps task.AttributeValue o next h = by_optional symbol.Equals o next (task.AttributeConstant ∷ []) (one (ends next) h)
 keeps task.AttributeConstant o next h = keeps_constant o next h
 keeps task.Target o next h = keeps_target o next h
-keeps task.Targets o next h = by_optional symbol.Comma o next (task.Target ∷ task.Targets ∷ []) (two (ends_name next) (ends_name next) h h)
+keeps task.Targets o next h = by_optional symbol.Comma o next (task.Target ∷ task.Targets ∷ []) (two (ends_part next) (ends_name next) (part_ends next h) h)
 keeps task.Delay o next h = by_optional symbol.Hash o next (task.Ticks ∷ []) refl
 keeps task.Ticks o next h = keeps_ticks o next
 keeps task.Assigner o next h = keeps_assigner o next
@@ -279,6 +309,18 @@ keeps task.Sensitivity o next h = keeps_sensitivity o next
 keeps task.EventList o next h = keeps_event_list o next
 keeps task.Event o next h = keeps_event o next h
 keeps task.Events o next h = keeps_events o next h
+keeps task.EventSelect o next h = by_optional symbol.OpenBracket o next (task.Expression ∷ task.EventSelectEnd ∷ []) refl
+keeps task.EventSelectEnd o next h = keeps_event_select_end o next
+keeps task.GateDelay o next h = by_optional symbol.Hash o next (task.GateTicks ∷ []) refl
+keeps task.GateTicks o next h = keeps_gate_ticks o next
+keeps task.Fall o next h = by_optional symbol.Comma o next (task.Expression ∷ []) (one (ends next) (closed next h))
+keeps task.GateName o next h = by_optional symbol.Name o next [] refl
+keeps task.Gate o next h = refl
+keeps task.Gates o next h = by_optional symbol.Comma o next (task.Gate ∷ task.Gates ∷ []) (one (ends next) h)
+keeps task.Buffer o next h = refl
+keeps task.Buffers o next h = by_optional symbol.Comma o next (task.Buffer ∷ task.Buffers ∷ []) (one (ends next) h)
+keeps task.OutputOrInput o next h = keeps_output o next h
+keeps task.AfterName o next h = keeps_after_name o next h
 keeps task.Overrides o next h = by_optional symbol.Hash o next (task.Expect symbol.OpenParen ∷ task.Arguments ∷ task.Expect symbol.CloseParen ∷ []) refl
 keeps task.Instance o next h = by_required symbol.Name o next (task.Expect symbol.OpenParen ∷ task.Connections ∷ task.Expect symbol.CloseParen ∷ []) refl
 keeps task.Instances o next h = by_optional symbol.Comma o next (task.Instance ∷ task.Instances ∷ []) (one (ends next) h)

@@ -10,6 +10,8 @@ pub mod Lists
 pub mod Statements
 pub mod Declarations
 pub mod Items
+pub mod Tails
+pub mod Gates
 pub mod Weights
 pub mod Stops
 pub mod Loops
@@ -17,6 +19,7 @@ pub mod Means
 pub mod SoundExpressions
 pub mod SoundStatements
 pub mod SoundItems
+pub mod SoundGates
 pub mod SoundModules
 pub mod Sound
 pub mod Inside

@@ -32,6 +32,7 @@ text_of symbol.CloseBrace = codes "}"
 text_of symbol.CloseAttribute = codes "*)"
 text_of symbol.Semicolon = codes ";"
 text_of symbol.Colon = codes ":"
+text_of symbol.Comma = codes ","
 text_of symbol.Equals = codes "="
 text_of symbol.Dot = codes "."
 text_of symbol.Star = codes "*"
@@ -66,6 +67,7 @@ used symbol.CloseBrace = true
 used symbol.CloseAttribute = true
 used symbol.Semicolon = true
 used symbol.Colon = true
+used symbol.Comma = true
 used symbol.Equals = true
 used symbol.Dot = true
 used symbol.Star = true
@@ -93,6 +95,7 @@ word_is symbol.CloseBrace h = refl
 word_is symbol.CloseAttribute h = refl
 word_is symbol.Semicolon h = refl
 word_is symbol.Colon h = refl
+word_is symbol.Comma h = refl
 word_is symbol.Equals h = refl
 word_is symbol.Dot h = refl
 word_is symbol.Star h = refl
@@ -139,6 +142,11 @@ row task.Drive = symbol.Name ∷ symbol.Equals ∷ symbol.Name ∷ []
 row task.Sensitivity = symbol.Star ∷ []
 row task.EventList = symbol.Star ∷ symbol.CloseParen ∷ []
 row task.Event = symbol.Name ∷ []
+row task.EventSelectEnd = symbol.CloseBracket ∷ []
+row task.GateTicks = symbol.Name ∷ []
+row task.Gate = symbol.OpenParen ∷ symbol.Name ∷ symbol.Comma ∷ symbol.Name ∷ symbol.CloseParen ∷ []
+row task.Buffer = symbol.OpenParen ∷ symbol.Name ∷ symbol.Comma ∷ symbol.Name ∷ symbol.CloseParen ∷ []
+row task.OutputOrInput = symbol.Name ∷ []
 row task.Instance = symbol.Name ∷ symbol.OpenParen ∷ symbol.CloseParen ∷ []
 row task.Arguments = symbol.Name ∷ []
 row task.NamedArgument = symbol.Dot ∷ symbol.Name ∷ symbol.OpenParen ∷ symbol.CloseParen ∷ []
@@ -166,6 +174,11 @@ abbrev pub ends_name : Option Symbol → Bool
 ends_name (Some symbol.Equals) = true
 ends_name next = ends next
 
+-- a name with its select ends here, or the first terminal of a gate
+abbrev pub ends_part : Option Symbol → Bool
+ends_part (Some symbol.Comma) = true
+ends_part next = ends_name next
+
 -- a statement ends here
 abbrev pub ends_statement : Option Symbol → Bool
 ends_statement (Some symbol.End) = true
@@ -180,11 +193,15 @@ is_end (Some s) = false
 -- the shortest text of a task may be followed by this
 abbrev pub fits : Task → Option Symbol → Bool
 fits (task.Expect s) next = used s
-fits task.Select next = ends_name next
-fits task.Target next = ends_name next
+fits task.Select next = ends_part next
+fits task.Target next = ends_part next
 fits task.Targets next = ends_name next
 fits task.Event next = ends_name next
 fits task.Events next = ends_name next
+fits task.EventSelect next = ends_name next
+fits task.GateDelay next = is_next symbol.OpenParen next
+fits task.GateName next = is_next symbol.OpenParen next
+fits task.Fall next = is_next symbol.CloseParen next
 fits task.Delay next = is_next symbol.Name next
 fits task.PortKind next = is_next symbol.Name next
 fits task.Sign next = is_next symbol.Name next
@@ -211,6 +228,10 @@ fits task.Wrap next = true
 fits task.Join next = true
 fits task.Forget next = true
 fits task.SelectEnd next = true
+fits task.EventSelectEnd next = true
+fits task.GateTicks next = true
+fits task.Gate next = true
+fits task.Buffer next = true
 fits task.Parts next = true
 fits task.Ticks next = true
 fits task.Assigner next = true

@@ -15,8 +15,9 @@ use Rattle.text_survey.specs.Machine.{symbol_at}
 use Rattle.text_survey.proofs.Laws.Means.{same_is}
 use Rattle.text_survey.proofs.Laws.Operands.{no_link, no_choice, same_refl, rank_small}
 use Rattle.text_survey.proofs.Laws.Steps.{Does, nothing, ◌▸◌, stay, look, token, node}
-use Rattle.text_survey.proofs.Rows.{ends, ends_name, ends_statement, is_end, fits, row, put, made}
-use Rattle.text_survey.proofs.Keeps.{next_is, name_ends}
+use Rattle.text_survey.proofs.Laws.Tails.{tail}
+use Rattle.text_survey.proofs.Rows.{ends, ends_name, ends_part, ends_statement, is_end, fits, row, put, made}
+use Rattle.text_survey.proofs.Keeps.{next_is, name_ends, part_ends}
 
 it : (s : Symbol) (ts : List Terminal) → IsA s (made s ∷ ts) ts
 it s ts = (made s, refl, refl)
@@ -56,7 +57,7 @@ at t mark ts e h = stay (ap (rule t) (next_is mark (symbol_at ts) h) ∙ e) (not
 
 -- ---- expressions
 
-loose : (o : Option Symbol) → ends o ≡ true → looseness o ≡ 12
+loose : (o : Option Symbol) → ends o ≡ true → looseness o ≡ 13
 loose None h = cc
 loose (Some symbol.Semicolon) h = refl
 loose (Some symbol.CloseParen) h = refl
@@ -72,8 +73,8 @@ chain_runs k ts h = stay (no_link k (symbol_at ts) (omega (arith, loose (symbol_
 choice_runs : (ts : List Terminal) → ends (symbol_at ts) ≡ true → Does task.Choice ts ts
 choice_runs ts h = stay (no_choice (symbol_at ts) (omega (arith, loose (symbol_at ts) h))) (nothing ts)
 
-select_runs : (ts : List Terminal) → ends_name (symbol_at ts) ≡ true → Does task.Select ts ts
-select_runs ts h = left_out ends_name task.Select symbol.OpenBracket (task.Expression ∷ task.SelectEnd ∷ []) ts (λ o. refl) refl h
+select_runs : (ts : List Terminal) → ends_part (symbol_at ts) ≡ true → Does task.Select ts ts
+select_runs ts h = left_out ends_part task.Select symbol.OpenBracket (task.Expression ∷ task.SelectEnd ∷ []) ts (λ o. refl) refl h
 
 wrap : (ts : List Terminal) → Does task.Wrap ts ts
 wrap ts = stay refl (nothing ts)
@@ -90,14 +91,17 @@ Named k = (ts : List Terminal) → ends (symbol_at ts) ≡ true → Does (task.L
 
 operand_runs : Named level.Operand
 unfolding Named
-operand_runs ts h = node symbol.Name refl (it symbol.Name ts) (select_runs ts (name_ends (symbol_at ts) h) ▸ wrap ts ▸ nothing ts)
+operand_runs ts h = node symbol.Name refl (it symbol.Name ts) (select_runs ts (part_ends (symbol_at ts) (name_ends (symbol_at ts) h)) ▸ wrap ts ▸ nothing ts)
 
 up : (k : Level) → ((o : Option Symbol) → rule (task.Level k) o ≡ go taking.Nothing (task.Level (tighter k) ∷ task.Chain k ∷ [])) → Named (tighter k) → Named k
 unfolding Named
 up k e w ts h = stay (e (Some symbol.Name)) (w ts h ▸ chain_runs k ts h ▸ nothing ts)
 
+power_runs : Named level.Power
+power_runs = up level.Power (λ o. refl) operand_runs
+
 product_runs : Named level.Product
-product_runs = up level.Product (λ o. refl) operand_runs
+product_runs = up level.Product (λ o. refl) power_runs
 
 sum_runs : Named level.Sum
 sum_runs = up level.Sum (λ o. refl) product_runs
@@ -128,6 +132,7 @@ logical_or_runs = up level.LogicalOr (λ o. refl) logical_and_runs
 
 level_runs : (k : Level) → Named k
 level_runs level.Operand = operand_runs
+level_runs level.Power = power_runs
 level_runs level.Product = product_runs
 level_runs level.Sum = sum_runs
 level_runs level.Shift = shift_runs
@@ -162,7 +167,7 @@ attribute_runs : (ts : List Terminal) → ends (symbol_at ts) ≡ true → Does 
 unfolding same_symbol
 attribute_runs ts h = token symbol.Name refl (it symbol.Name ts) (value_left_out ts h ▸ nothing ts)
 
-target_runs : (ts : List Terminal) → ends_name (symbol_at ts) ≡ true → Does task.Target (made symbol.Name ∷ ts) ts
+target_runs : (ts : List Terminal) → ends_part (symbol_at ts) ≡ true → Does task.Target (made symbol.Name ∷ ts) ts
 target_runs ts h = node symbol.Name refl (it symbol.Name ts) (select_runs ts h ▸ wrap ts ▸ join ts ▸ nothing ts)
 
 statement_runs : (ts : List Terminal) → Does task.Statement (made symbol.Semicolon ∷ ts) ts
@@ -230,8 +235,12 @@ drive_runs ts h =
 event_list_runs : (ts : List Terminal) → Does task.EventList (made symbol.Star ∷ made symbol.CloseParen ∷ ts) ts
 event_list_runs ts = token symbol.Star refl (it symbol.Star (made symbol.CloseParen ∷ ts)) (expect symbol.CloseParen ts ▸ nothing ts)
 
+event_select_runs : (ts : List Terminal) → ends_name (symbol_at ts) ≡ true → Does task.EventSelect ts ts
+unfolding same_symbol
+event_select_runs ts h = left_out ends_name task.EventSelect symbol.OpenBracket (task.Expression ∷ task.EventSelectEnd ∷ []) ts (λ o. refl) refl h
+
 event_runs : (ts : List Terminal) → ends_name (symbol_at ts) ≡ true → Does task.Event (made symbol.Name ∷ ts) ts
-event_runs ts h = token symbol.Name refl (it symbol.Name ts) (select_runs ts h ▸ nothing ts)
+event_runs ts h = token symbol.Name refl (it symbol.Name ts) (event_select_runs ts h ▸ nothing ts)
 
 no_event : (o : Option Symbol) → ends_name o ≡ true → rule task.Events o ≡ go taking.Nothing []
 no_event None h = refl
@@ -241,6 +250,46 @@ no_event (Some other) h = refl
 
 events_runs : (ts : List Terminal) → ends_name (symbol_at ts) ≡ true → Does task.Events ts ts
 events_runs ts h = stay (no_event (symbol_at ts) h) (nothing ts)
+
+-- ---- gates
+
+no_comma : (o : Option Symbol) → ends o ≡ true → rule task.AfterName o ≡ go taking.Nothing tail
+no_comma None h = cc
+no_comma (Some symbol.Comma) h = cc
+no_comma (Some other) h = refl
+
+after_name_runs : (ts : List Terminal) → ends (symbol_at ts) ≡ true → Does task.AfterName ts ts
+after_name_runs ts h =
+    stay (no_comma (symbol_at ts) h) (
+    chain_runs level.Power ts h ▸ chain_runs level.Product ts h ▸ chain_runs level.Sum ts h ▸ chain_runs level.Shift ts h ▸ chain_runs level.Comparison ts h ▸ chain_runs level.Equality ts h
+    ▸ chain_runs level.And ts h ▸ chain_runs level.Xor ts h ▸ chain_runs level.Or ts h ▸ chain_runs level.LogicalAnd ts h ▸ chain_runs level.LogicalOr ts h ▸ choice_runs ts h ▸ join ts ▸ nothing ts)
+
+output_runs : (ts : List Terminal) → ends (symbol_at ts) ≡ true → Does task.OutputOrInput (made symbol.Name ∷ ts) ts
+output_runs ts h = node symbol.Name refl (it symbol.Name ts) (select_runs ts (part_ends (symbol_at ts) (name_ends (symbol_at ts) h)) ▸ wrap ts ▸ after_name_runs ts h ▸ nothing ts)
+
+gate_name_runs : (ts : List Terminal) → is_next symbol.OpenParen (symbol_at ts) ≡ true → Does task.GateName ts ts
+unfolding same_symbol
+gate_name_runs ts h = at task.GateName symbol.OpenParen ts refl h
+
+gate_runs : (ts : List Terminal) → Does task.Gate (made symbol.OpenParen ∷ made symbol.Name ∷ made symbol.Comma ∷ made symbol.Name ∷ made symbol.CloseParen ∷ ts) ts
+unfolding same_symbol
+gate_runs ts =
+    let close = made symbol.CloseParen ∷ ts in
+    let input = made symbol.Name ∷ close in
+    let output = made symbol.Name ∷ made symbol.Comma ∷ input in
+    stay refl (
+    gate_name_runs (made symbol.OpenParen ∷ output) refl ▸ expect symbol.OpenParen output ▸ target_runs (made symbol.Comma ∷ input) refl ▸ expect symbol.Comma input
+    ▸ expression_runs close refl ▸ expressions_runs close refl ▸ expect symbol.CloseParen ts ▸ nothing ts)
+
+buffer_runs : (ts : List Terminal) → Does task.Buffer (made symbol.OpenParen ∷ made symbol.Name ∷ made symbol.Comma ∷ made symbol.Name ∷ made symbol.CloseParen ∷ ts) ts
+unfolding same_symbol
+buffer_runs ts =
+    let close = made symbol.CloseParen ∷ ts in
+    let input = made symbol.Name ∷ close in
+    let output = made symbol.Name ∷ made symbol.Comma ∷ input in
+    stay refl (
+    gate_name_runs (made symbol.OpenParen ∷ output) refl ▸ expect symbol.OpenParen output ▸ target_runs (made symbol.Comma ∷ input) refl ▸ expect symbol.Comma input
+    ▸ output_runs close refl ▸ expect symbol.CloseParen ts ▸ nothing ts)
 
 -- ---- instances
 
@@ -367,6 +416,18 @@ runs task.Sensitivity ts h = token symbol.Star refl (it symbol.Star ts) (nothing
 runs task.EventList ts h = event_list_runs ts
 runs task.Event ts h = event_runs ts h
 runs task.Events ts h = events_runs ts h
+runs task.EventSelect ts h = event_select_runs ts h
+runs task.EventSelectEnd ts h = token symbol.CloseBracket refl (it symbol.CloseBracket ts) (nothing ts)
+runs task.GateDelay ts h = at task.GateDelay symbol.OpenParen ts refl h
+runs task.GateTicks ts h = token symbol.Name refl (it symbol.Name ts) (nothing ts)
+runs task.Fall ts h = at task.Fall symbol.CloseParen ts refl h
+runs task.GateName ts h = gate_name_runs ts h
+runs task.Gate ts h = gate_runs ts
+runs task.Gates ts h = left_out ends task.Gates symbol.Comma (task.Gate ∷ task.Gates ∷ []) ts (λ o. refl) refl h
+runs task.Buffer ts h = buffer_runs ts
+runs task.Buffers ts h = left_out ends task.Buffers symbol.Comma (task.Buffer ∷ task.Buffers ∷ []) ts (λ o. refl) refl h
+runs task.OutputOrInput ts h = output_runs ts h
+runs task.AfterName ts h = after_name_runs ts h
 runs task.Overrides ts h = at task.Overrides symbol.Name ts refl h
 runs task.Instance ts h = instance_runs ts
 runs task.Instances ts h = left_out ends task.Instances symbol.Comma (task.Instance ∷ task.Instances ∷ []) ts (λ o. refl) refl h

@@ -3,7 +3,7 @@
 use Rattle.std.specs.Prelude.{◌≡◌, ◌≤◌, ℕ, false, List, [], ◌∷◌, ◌++◌, take, length}
 use Rattle.text_ground.specs.declared.dropped.Dropped.{Dropped}
 use Rattle.rtl_tree.specs.Symbols.{Terminal, symbol}
-use Rattle.rtl_tree.specs.TreeModule.{Circuit}
+use Rattle.rtl_tree.specs.TreeModule.{WrittenCircuit}
 use Rattle.rtl_tree.specs.GrammarModule.{AreSpelled}
 use Rattle.text_survey.specs.Terminals.{is_refused}
 use Rattle.text_survey.specs.Surveys.{IsDead}
@@ -18,7 +18,7 @@ AreWords (t ∷ ts) = IsWord t × AreWords ts
 
 -- tokens spell some modules, whatever was dropped from them
 abbrev pub Spell : List Terminal → Type 0
-Spell tokens = (regions : List Dropped) → (circuits : List Circuit) × AreSpelled regions tokens circuits
+Spell tokens = (regions : List Dropped) → (circuits : List WrittenCircuit) × AreSpelled regions tokens circuits
 
 -- the first `n` tokens and some words after them spell modules
 abbrev pub GoesOn : List Terminal → ℕ → Type 0

@@ -1,6 +1,7 @@
 pub mod Table
 pub mod Terminals
 pub mod TableStatement
+pub mod TableGate
 pub mod TableItem
 pub mod Rule
 pub mod Machine

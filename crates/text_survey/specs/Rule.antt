@@ -9,7 +9,8 @@ use Rattle.text_survey.specs.declared.task.Taking.TheVariants as taking
 use Rattle.text_survey.specs.declared.task.Level.TheVariants as level
 use Rattle.text_survey.specs.Table.{Step, go, required, optional, unless, leveled, chain, choice, select_end, parts}
 use Rattle.text_survey.specs.TableStatement.{attribute_constant, target, ticks, assigner, one_statement, otherwise, first_branch, branches}
-use Rattle.text_survey.specs.TableItem.{one_item, port_kind, initial, sensitivity, event_list, event, events, arguments, argument, source, one_module, head_parameter, port_list, port}
+use Rattle.text_survey.specs.TableGate.{gate_ticks, output_or_input, after_name}
+use Rattle.text_survey.specs.TableItem.{one_item, port_kind, initial, sensitivity, event_list, event, event_select_end, events, arguments, argument, source, one_module, head_parameter, port_list, port}
 
 abbrev pub modules : Task → Option Symbol → Option Step
 modules task.Source next = source next
@@ -36,13 +37,31 @@ instance task.NamedArgument next = required symbol.Dot next (task.Name ∷ task.
 instance task.Associated next = optional symbol.Comma next (task.NamedArgument ∷ task.Associated ∷ [])
 instance task next = modules task next
 
+-- what stands in items of gates
+abbrev pub gate : Task → Option Symbol → Option Step
+gate task.GateDelay next = optional symbol.Hash next (task.GateTicks ∷ [])
+gate task.GateTicks next = gate_ticks next
+gate task.Fall next = optional symbol.Comma next (task.Expression ∷ [])
+gate task.GateName next = optional symbol.Name next []
+gate task.Gate next =
+    go taking.Nothing (task.GateName ∷ task.Expect symbol.OpenParen ∷ task.Target ∷ task.Expect symbol.Comma ∷ task.Expression ∷ task.Expressions ∷ task.Expect symbol.CloseParen ∷ [])
+gate task.Gates next = optional symbol.Comma next (task.Gate ∷ task.Gates ∷ [])
+gate task.Buffer next =
+    go taking.Nothing (task.GateName ∷ task.Expect symbol.OpenParen ∷ task.Target ∷ task.Expect symbol.Comma ∷ task.OutputOrInput ∷ task.Expect symbol.CloseParen ∷ [])
+gate task.Buffers next = optional symbol.Comma next (task.Buffer ∷ task.Buffers ∷ [])
+gate task.OutputOrInput next = output_or_input next
+gate task.AfterName next = after_name next
+gate task next = instance task next
+
 -- what an `always` waits for
 abbrev pub waiting : Task → Option Symbol → Option Step
 waiting task.Sensitivity next = sensitivity next
 waiting task.EventList next = event_list next
 waiting task.Event next = event next
 waiting task.Events next = events next
-waiting task next = instance task next
+waiting task.EventSelect next = optional symbol.OpenBracket next (task.Expression ∷ task.EventSelectEnd ∷ [])
+waiting task.EventSelectEnd next = event_select_end next
+waiting task next = gate task next
 
 -- what stands in declarations
 abbrev pub declared : Task → Option Symbol → Option Step

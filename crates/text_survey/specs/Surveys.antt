@@ -7,7 +7,7 @@ use Rattle.rtl_tree.specs.declared.literal.Literal.{Literal}
 use Rattle.rtl_tree.specs.declared.symbol.Symbol.TheVariants as symbol
 use Rattle.rtl_tree.specs.declared.token.Tok.TheVariants as tok
 use Rattle.rtl_tree.specs.Symbols.{Terminal, terminal}
-use Rattle.rtl_tree.specs.TreeModule.{Circuit}
+use Rattle.rtl_tree.specs.TreeModule.{WrittenCircuit}
 use Rattle.rtl_tree.specs.GrammarModule.{AreSpelled}
 use Rattle.rtl_tree.specs.Deeper.{too_deep, IsLeastPlace}
 use Rattle.text_survey.specs.declared.machine.Machine.{Machine}
@@ -27,7 +27,7 @@ start tokens = at (task.Source ∷ []) tokens
 abbrev pub IsDead : List Terminal → ℕ → Type 0
 IsDead tokens n =
     (other : List Terminal) → take n other ≡ take n tokens → symbol_at (drop n other) ≡ symbol_at (drop n tokens)
-    → (regions : List Dropped) (circuits : List Circuit) → AreSpelled regions other circuits → ⊥
+    → (regions : List Dropped) (circuits : List WrittenCircuit) → AreSpelled regions other circuits → ⊥
 
 -- a token that is a number has a value
 abbrev pub IsNumbered : Terminal → Type 0
@@ -38,11 +38,11 @@ AreNumbered [] = Unit {0}
 AreNumbered (t ∷ ts) = IsNumbered t × AreNumbered ts
 
 -- tokens spell some modules of which this holds, whatever was dropped from them
-abbrev pub SpellSomeThat : (List Circuit → Type 0) → List Terminal → Type 0
-SpellSomeThat P tokens = AreNumbered tokens → (regions : List Dropped) → (circuits : List Circuit) × AreSpelled regions tokens circuits × P circuits
+abbrev pub SpellSomeThat : (List WrittenCircuit → Type 0) → List Terminal → Type 0
+SpellSomeThat P tokens = AreNumbered tokens → (regions : List Dropped) → (circuits : List WrittenCircuit) × AreSpelled regions tokens circuits × P circuits
 
 abbrev pub SpellSome : List Terminal → Type 0
-SpellSome tokens = AreNumbered tokens → (regions : List Dropped) → (circuits : List Circuit) × AreSpelled regions tokens circuits
+SpellSome tokens = AreNumbered tokens → (regions : List Dropped) → (circuits : List WrittenCircuit) × AreSpelled regions tokens circuits
 
 -- the tokens through each `endmodule` of the first `n` spell some modules
 abbrev pub AreClosed : List Terminal → ℕ → Type 0

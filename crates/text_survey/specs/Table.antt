@@ -47,21 +47,23 @@ unless mark next tasks = if is_next mark next then go taking.Nothing [] else go 
 -- how loosely the operators of a level bind
 abbrev pub rank : Level → ℕ
 rank level.Operand = 0
-rank level.Product = 1
-rank level.Sum = 2
-rank level.Shift = 3
-rank level.Comparison = 4
-rank level.Equality = 5
-rank level.And = 6
-rank level.Xor = 7
-rank level.Or = 8
-rank level.LogicalAnd = 9
-rank level.LogicalOr = 10
+rank level.Power = 1
+rank level.Product = 2
+rank level.Sum = 3
+rank level.Shift = 4
+rank level.Comparison = 5
+rank level.Equality = 6
+rank level.And = 7
+rank level.Xor = 8
+rank level.Or = 9
+rank level.LogicalAnd = 10
+rank level.LogicalOr = 11
 
 -- the level of the right operand
 abbrev pub tighter : Level → Level
 tighter level.Operand = level.Operand
-tighter level.Product = level.Operand
+tighter level.Power = level.Operand
+tighter level.Product = level.Power
 tighter level.Sum = level.Product
 tighter level.Shift = level.Sum
 tighter level.Comparison = level.Shift
@@ -72,34 +74,35 @@ tighter level.Or = level.Xor
 tighter level.LogicalAnd = level.Or
 tighter level.LogicalOr = level.LogicalAnd
 
--- the rank of the operator that comes next: 0 for a select, 11 for `?`, 12 where an expression ends
+-- the rank of the operator that comes next: 0 for a select, 12 for `?`, 13 where an expression ends
 abbrev pub looseness : Option Symbol → ℕ
 looseness (Some symbol.OpenBracket) = 0
-looseness (Some symbol.Star) = 1
-looseness (Some symbol.Slash) = 1
-looseness (Some symbol.Percent) = 1
-looseness (Some symbol.Plus) = 2
-looseness (Some symbol.Minus) = 2
-looseness (Some symbol.ShiftLeft) = 3
-looseness (Some symbol.ShiftRight) = 3
-looseness (Some symbol.ArithmeticShiftLeft) = 3
-looseness (Some symbol.ArithmeticShiftRight) = 3
-looseness (Some symbol.Less) = 4
-looseness (Some symbol.LessEquals) = 4
-looseness (Some symbol.Greater) = 4
-looseness (Some symbol.GreaterEquals) = 4
-looseness (Some symbol.EqualEquals) = 5
-looseness (Some symbol.BangEquals) = 5
-looseness (Some symbol.CaseEquals) = 5
-looseness (Some symbol.CaseBangEquals) = 5
-looseness (Some symbol.Ampersand) = 6
-looseness (Some symbol.Caret) = 7
-looseness (Some symbol.TildeCaret) = 7
-looseness (Some symbol.Bar) = 8
-looseness (Some symbol.AndAnd) = 9
-looseness (Some symbol.OrOr) = 10
-looseness (Some symbol.Question) = 11
-looseness next = 12
+looseness (Some symbol.StarStar) = 1
+looseness (Some symbol.Star) = 2
+looseness (Some symbol.Slash) = 2
+looseness (Some symbol.Percent) = 2
+looseness (Some symbol.Plus) = 3
+looseness (Some symbol.Minus) = 3
+looseness (Some symbol.ShiftLeft) = 4
+looseness (Some symbol.ShiftRight) = 4
+looseness (Some symbol.ArithmeticShiftLeft) = 4
+looseness (Some symbol.ArithmeticShiftRight) = 4
+looseness (Some symbol.Less) = 5
+looseness (Some symbol.LessEquals) = 5
+looseness (Some symbol.Greater) = 5
+looseness (Some symbol.GreaterEquals) = 5
+looseness (Some symbol.EqualEquals) = 6
+looseness (Some symbol.BangEquals) = 6
+looseness (Some symbol.CaseEquals) = 6
+looseness (Some symbol.CaseBangEquals) = 6
+looseness (Some symbol.Ampersand) = 7
+looseness (Some symbol.Caret) = 8
+looseness (Some symbol.TildeCaret) = 8
+looseness (Some symbol.Bar) = 9
+looseness (Some symbol.AndAnd) = 10
+looseness (Some symbol.OrOr) = 11
+looseness (Some symbol.Question) = 12
+looseness next = 13
 
 -- an operand after the operator before it
 abbrev pub signed : Option Symbol → Option Step
@@ -121,6 +124,7 @@ operand (Some symbol.Name) = go taking.Node (task.Select ∷ task.Wrap ∷ [])
 operand (Some symbol.OpenParen) = go taking.Node (task.Expression ∷ task.Expect symbol.CloseParen ∷ task.Wrap ∷ [])
 operand (Some symbol.ToSigned) = go taking.Node (task.Expect symbol.OpenParen ∷ task.Expression ∷ task.Expect symbol.CloseParen ∷ task.Wrap ∷ [])
 operand (Some symbol.ToUnsigned) = go taking.Node (task.Expect symbol.OpenParen ∷ task.Expression ∷ task.Expect symbol.CloseParen ∷ task.Wrap ∷ [])
+operand (Some symbol.Clog2) = go taking.Node (task.Expect symbol.OpenParen ∷ task.Expression ∷ task.Expect symbol.CloseParen ∷ task.Wrap ∷ [])
 operand (Some symbol.OpenBrace) = go taking.Node (task.Expression ∷ task.Parts ∷ task.Wrap ∷ [])
 operand next = signed next
 
@@ -131,6 +135,8 @@ choice next = go taking.Nothing []
 abbrev pub select_end : Option Symbol → Option Step
 select_end (Some symbol.CloseBracket) = go taking.Token []
 select_end (Some symbol.Colon) = go taking.Token (task.Expression ∷ task.Expect symbol.CloseBracket ∷ [])
+select_end (Some symbol.PlusColon) = go taking.Token (task.Expression ∷ task.Expect symbol.CloseBracket ∷ [])
+select_end (Some symbol.MinusColon) = go taking.Token (task.Expression ∷ task.Expect symbol.CloseBracket ∷ [])
 select_end next = None
 
 abbrev pub parts : Option Symbol → Option Step

@@ -6,12 +6,13 @@ use Rattle.rtl_tree.specs.declared.symbol.Symbol.TheVariants as symbol
 use Rattle.text_survey.specs.declared.task.Task.TheVariants as task
 use Rattle.text_survey.specs.declared.task.Taking.TheVariants as taking
 use Rattle.text_survey.specs.Table.{Step, go}
+use Rattle.text_survey.specs.TableGate.{gates}
 
 abbrev pub plain_declaration : Option Symbol → Option Step
 plain_declaration (Some symbol.Integer) = go taking.Token (task.Name ∷ task.Names ∷ task.Expect symbol.Semicolon ∷ [])
 plain_declaration (Some symbol.Parameter) = go taking.Token (task.Range ∷ task.Setting ∷ task.Settings ∷ task.Expect symbol.Semicolon ∷ [])
 plain_declaration (Some symbol.Localparam) = go taking.Token (task.Range ∷ task.Setting ∷ task.Settings ∷ task.Expect symbol.Semicolon ∷ [])
-plain_declaration next = None
+plain_declaration next = gates next
 
 abbrev pub declaration : Option Symbol → Option Step
 declaration (Some symbol.Input) = go taking.Token (task.PortKind ∷ task.Sign ∷ task.Range ∷ task.Name ∷ task.Names ∷ task.Expect symbol.Semicolon ∷ [])
@@ -49,8 +50,13 @@ event_list next = go taking.Nothing (task.Event ∷ task.Events ∷ task.Expect 
 abbrev pub event : Option Symbol → Option Step
 event (Some symbol.Posedge) = go taking.Token (task.Name ∷ [])
 event (Some symbol.Negedge) = go taking.Token (task.Name ∷ [])
-event (Some symbol.Name) = go taking.Token (task.Select ∷ [])
+event (Some symbol.Name) = go taking.Token (task.EventSelect ∷ [])
 event next = None
+
+abbrev pub event_select_end : Option Symbol → Option Step
+event_select_end (Some symbol.CloseBracket) = go taking.Token []
+event_select_end (Some symbol.Colon) = go taking.Token (task.Expression ∷ task.Expect symbol.CloseBracket ∷ [])
+event_select_end next = None
 
 abbrev pub events : Option Symbol → Option Step
 events (Some symbol.Or) = go taking.Token (task.Event ∷ task.Events ∷ [])

@@ -6,6 +6,7 @@ ghost use Rattle.text_survey.specs.TableItem as items;
 ghost use Rattle.text_survey.specs.Rule as rules;
 
 mod expression;
+mod gate;
 mod item;
 mod modules;
 mod statement;

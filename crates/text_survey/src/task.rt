@@ -7,6 +7,7 @@ use rtl_tree::symbol::Symbol;
 pub enum Level {
     /// An operand, with the operators before it.
     Operand,
+    Power,
     Product,
     Sum,
     Shift,
@@ -41,6 +42,7 @@ pub enum Task {
     Choice,
     /// The bit or the part of a name.
     Select,
+    /// What follows the first expression of one.
     SelectEnd,
     /// What follows the first expression after `{`.
     Parts,
@@ -96,6 +98,29 @@ pub enum Task {
     EventList,
     Event,
     Events,
+    /// The bit or the part of a name in an event list.
+    EventSelect,
+    EventSelectEnd,
+    // Gates
+    /// The delay of gates, which may be left out.
+    GateDelay,
+    /// What follows its `#`.
+    GateTicks,
+    /// The delay of a fall, after that of a rise.
+    Fall,
+    /// The name of a gate, which may be left out.
+    GateName,
+    /// A gate with any number of inputs.
+    Gate,
+    Gates,
+    /// A gate with one input, which may have further outputs.
+    Buffer,
+    Buffers,
+    /// A further output of such a gate with what comes after it, or the input.
+    OutputOrInput,
+    /// What follows a name with its select there.
+    AfterName,
+    // Instances
     Overrides,
     Instance,
     Instances,

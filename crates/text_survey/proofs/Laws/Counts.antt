@@ -4,13 +4,11 @@ use Rattle.rtl_tree.specs.declared.symbol.Symbol.{Symbol}
 use Rattle.rtl_tree.specs.Symbols.{Terminal}
 use Rattle.rtl_tree.specs.Grammar.{IsA, IsAt}
 use Rattle.text_survey.specs.declared.task.Task.{Task}
-use Rattle.text_survey.specs.declared.task.Task.TheVariants as task
-use Rattle.text_survey.specs.declared.task.Taking.{Taking}
 use Rattle.text_survey.specs.declared.task.Taking.TheVariants as taking
 use Rattle.text_survey.specs.Table.{Step, go}
 use Rattle.text_survey.specs.Rule.{rule}
-use Rattle.text_survey.specs.Machine.{State, at, symbol_at, left, moved, next, after, Leads}
-use Rattle.text_survey.specs.Depths.{Nest, Nothing, Both, Within, Depths, depths, begun, counted, place, Reading, reading, advanced, advance, carry_on, reading_after, ReadsOn}
+use Rattle.text_survey.specs.Machine.{State, at, symbol_at, left, moved, next, Leads}
+use Rattle.text_survey.specs.Depths.{Nest, Depths, depths, begun, counted, place, Reading, reading, advanced, advance, carry_on, reading_after, ReadsOn}
 use Rattle.text_survey.proofs.Laws.Steps.{goes, stays}
 
 some_is : {A : Type 0} (x y : A) → Some x ≡ Some y → x ≡ y
@@ -57,6 +55,52 @@ one_end_from (suc n) (suc m) s a b e x f y =
 
 pub one_end_read : (s a b : Reading) → ReadsOn s a → advance a.tasks a.rest a.read ≡ None → ReadsOn s b → advance b.tasks b.rest b.read ≡ None → a ≡ b
 one_end_read s a b v x w y = one_end_from v.0 w.0 s a b v.1 x w.1 y
+
+-- what comes before an end where nothing more can be done goes on to it
+between_from : (n m : ℕ) (s t u : Reading) → reading_after n s ≡ Some t → advance t.tasks t.rest t.read ≡ None → reading_after m s ≡ Some u → ReadsOn u t
+between_from n zero s t u e x f = subst (λ z. ReadsOn z t) (some_is s u f) (n, e)
+between_from zero (suc m) s t u e x f =
+    let v = first m u (advance s.tasks s.rest s.read) f in
+    absurd (none_some (advance s.tasks s.rest s.read) v.0 (ap (λ (z : Reading). advance z.tasks z.rest z.read) (some_is s t e) ∙ x) v.1)
+between_from (suc n) (suc m) s t u e x f =
+    let v = first n t (advance s.tasks s.rest s.read) e in
+    let w = first m u (advance s.tasks s.rest s.read) f in
+    between_from n m v.0 t u v.2 x (ap (λ z. reading_after m z) (some_is v.0 w.0 (sym v.1 ∙ w.1)) ∙ w.2)
+
+pub between : (s t u : Reading) → ReadsOn s t → advance t.tasks t.rest t.read ≡ None → ReadsOn s u → ReadsOn u t
+between s t u v x w = between_from v.0 w.0 s t u v.1 x w.1
+
+assoc : (xs ys zs : List Task) → (xs ++ ys) ++ zs ≡ xs ++ (ys ++ zs)
+assoc [] ys zs = refl
+assoc (x ∷ xs) ys zs = ap (λ l. x ∷ l) (assoc xs ys zs)
+
+-- tasks that are done to the end are done over others too
+Framed : ℕ → Type 0
+Framed n = (tasks others : List Task) (ts rest : List Terminal) (d d' : Depths) → reading_after n (reading tasks ts d) ≡ Some (reading [] rest d') → ReadsOn (reading (tasks ++ others) ts d) (reading others rest d')
+
+framed_by : (n : ℕ) → Framed n → (t : Task) (tasks others : List Task) (ts rest : List Terminal) (d d' : Depths) (a : Reading) (o : Option Step) → rule t (symbol_at ts) ≡ o → advanced o t tasks ts d ≡ Some a
+    → reading_after n a ≡ Some (reading [] rest d') → ReadsOn (reading (t ∷ (tasks ++ others)) ts d) (reading others rest d')
+unfolding Framed advance
+framed_by n ih t tasks others ts rest d d' a None r m e = cc
+framed_by n ih t tasks others ts rest d d' a (Some step) r m e =
+    let after' = counted t (begun step.taking (place ts) d) in
+    let b = some_is (reading (step.tasks ++ tasks) (left step.taking ts) after') a m in
+    let w = ih (step.tasks ++ tasks) others (left step.taking ts) rest after' d' (ap (λ z. reading_after n z) b ∙ e) in
+    goes_read (reading (t ∷ (tasks ++ others)) ts d) (reading (step.tasks ++ (tasks ++ others)) (left step.taking ts) after') (reading others rest d') (ap (λ o. advanced o t (tasks ++ others) ts d) r)
+    (subst (λ xs. ReadsOn (reading xs (left step.taking ts) after') (reading others rest d')) (assoc step.tasks tasks others) w)
+
+framed_from : (n : ℕ) → Framed n
+unfolding Framed advance
+framed_from zero tasks others ts rest d d' e =
+    subst (λ (z : Reading). ReadsOn (reading (z.tasks ++ others) z.rest z.read) (reading others rest d')) (sym (some_is (reading tasks ts d) (reading [] rest d') e)) (stays_read (reading others rest d'))
+framed_from (suc n) [] others ts rest d d' e = cc
+framed_from (suc n) (t ∷ tasks) others ts rest d d' e =
+    let v = first n (reading [] rest d') (advanced (rule t (symbol_at ts)) t tasks ts d) e in
+    framed_by n (framed_from n) t tasks others ts rest d d' v.0 (rule t (symbol_at ts)) refl v.1 v.2
+
+pub framed : (tasks others : List Task) (ts rest : List Terminal) (d d' : Depths) → ReadsOn (reading tasks ts d) (reading [] rest d') → ReadsOn (reading (tasks ++ others) ts d) (reading others rest d')
+unfolding Framed
+framed tasks others ts rest d d' w = framed_from w.0 tasks others ts rest d d' w.1
 
 -- ---- the steps alone
 

@@ -1,5 +1,5 @@
 -- What is spelled is gone through: what stands in declarations, event lists and instances.
-use Rattle.std.proofs.Common.{◌≡◌, ℕ, ◌<◌, ◌≤◌, ◌⊎◌, inl, inr, Bool, true, false, if◌then◌else◌, List, [], ◌∷◌, Option, Some, None, refl, sym, ap, subst, ◌∙◌, arith}
+use Rattle.std.proofs.Common.{◌≡◌, ℕ, ◌<◌, ◌⊎◌, inl, inr, Bool, true, false, if◌then◌else◌, List, [], ◌∷◌, Option, Some, None, refl, sym, ap, subst, ◌∙◌, arith}
 use Rattle.rtl_tree.specs.declared.symbol.Symbol.{Symbol}
 use Rattle.rtl_tree.specs.declared.symbol.Symbol.TheVariants as symbol
 use Rattle.rtl_tree.specs.declared.tree.item.PortKind.{PortKind}
@@ -8,22 +8,20 @@ use Rattle.rtl_tree.specs.declared.tree.item.EventEdge.{EventEdge}
 use Rattle.rtl_tree.specs.declared.tree.item.EventEdge.TheVariants as edge
 use Rattle.rtl_tree.specs.Symbols.{Terminal}
 use Rattle.rtl_tree.specs.TreeExpr.{Formula, Identifier, Bounds}
-use Rattle.rtl_tree.specs.TreeItem.{Net, Variable, Valuation, Drive, Happening, Edge, Change, ChangeBit, ChangePart, Sensitivity, Star, StarInParens, Listed, Positional, Associated, Association, ByPosition, ByName, Instantiation}
-use Rattle.rtl_tree.specs.Grammar.{◌⨾◌, IsA, IsName, IsOptional, IsFlag, AreMore, AreListed}
+use Rattle.rtl_tree.specs.TreeItem.{Happening, Edge, Change, ChangeBit, ChangePart, Sensitivity, Star, StarInParens, Listed, Positional, Association, ByPosition, ByName}
+use Rattle.rtl_tree.specs.Grammar.{◌⨾◌, IsA, IsName, IsOptional, IsFlag, AreMore}
 use Rattle.rtl_tree.specs.GrammarExpr.{IsExpression, IsBounds}
 use Rattle.rtl_tree.specs.GrammarItem.{kind_symbol, IsKind, IsValue, IsNet, IsInitial, IsVariable, IsValuation, IsDrive, edge_symbol, IsHappening, AreMoreEvents, IsSensitivity, IsPositional, IsAssociated, IsMoreThanEmpty, AreArguments, AreConnections, IsInstantiation, AreOverrides}
-use Rattle.text_survey.specs.declared.task.Task.{Task}
 use Rattle.text_survey.specs.declared.task.Task.TheVariants as task
 use Rattle.text_survey.specs.declared.task.Taking.TheVariants as taking
 use Rattle.text_survey.specs.Table.{go, is_next, same_symbol, looseness}
 use Rattle.text_survey.specs.Rule.{rule}
 use Rattle.text_survey.specs.Machine.{symbol_at}
-use Rattle.text_survey.specs.Depths.{Nest, Depths, counted}
-use Rattle.text_survey.proofs.Laws.Counts.{Runs, Does, ◌▸◌, ◌▹◌, same, grow, nothing, stay, token, node}
+use Rattle.text_survey.proofs.Laws.Counts.{Runs, Does, ◌▸◌, same, grow, nothing, stay, token, node}
 use Rattle.text_survey.proofs.Laws.Nests.{beside, skip, all_beside, valued, bounded, net, valuation, drive, happening, awaited, positional, associated, arguments, placed}
-use Rattle.text_survey.proofs.Laws.Operands.{no_select}
-use Rattle.text_survey.proofs.Laws.Expressions.{head, expect, Ends, ends, Not, apart, left_out, bit, part, expression_runs}
-use Rattle.text_survey.proofs.Laws.Starts.{Opens, Closes, opens, closes_by, closes_ends, closes_equals, closes_initial, formula_opens}
+use Rattle.text_survey.proofs.Laws.Operands.{no_event_select}
+use Rattle.text_survey.proofs.Laws.Expressions.{head, expect, ends, Not, apart, left_out, expression_runs}
+use Rattle.text_survey.proofs.Laws.Starts.{Closes, opens, closes_by, closes_ends, closes_equals, closes_initial, formula_opens}
 use Rattle.text_survey.proofs.Laws.Lists.{Each, listed_run, target_run, forget}
 
 pub name_each : Each IsName task.Name skip
@@ -146,12 +144,30 @@ edge_rule : (e : EventEdge) → rule task.Event (Some (edge_symbol e)) ≡ go ta
 edge_rule edge.Posedge = refl
 edge_rule edge.Negedge = refl
 
+event_bit : (ts rest : List Terminal) (index : Formula) → (IsA symbol.OpenBracket ⨾ IsExpression index ⨾ IsA symbol.CloseBracket) ts rest → Does task.EventSelect ts rest (grow (beside index))
+unfolding same_symbol
+event_bit ts rest index w =
+    token symbol.OpenBracket refl w.1 (
+    expression_runs index w.0 w.2.0 w.2.1 (ends symbol.CloseBracket w.2.0 rest refl w.2.2)
+    ▸ token symbol.CloseBracket refl w.2.2 (nothing rest)
+    ▸ nothing rest)
+
+event_part : (ts rest : List Terminal) (msb lsb : Formula) → (IsA symbol.OpenBracket ⨾ IsExpression msb ⨾ IsA symbol.Colon ⨾ IsExpression lsb ⨾ IsA symbol.CloseBracket) ts rest
+    → Does task.EventSelect ts rest (grow (λ before. beside lsb (beside msb before)))
+unfolding same_symbol
+event_part ts rest msb lsb w =
+    let v = w.2.2 in
+    token symbol.OpenBracket refl w.1 (
+    expression_runs msb w.0 w.2.0 w.2.1 (ends symbol.Colon w.2.0 v.0 refl v.1)
+    ▸ token symbol.Colon refl v.1 (expression_runs lsb v.0 v.2.0 v.2.1 (ends symbol.CloseBracket v.2.0 rest refl v.2.2) ▸ expect symbol.CloseBracket v.2.0 rest v.2.2 ▸ nothing rest)
+    ▸ nothing rest)
+
 event_run : (h : Happening) (ts rest : List Terminal) → IsHappening h ts rest → 0 < looseness (symbol_at rest) → Does task.Event ts rest (grow (happening h))
 event_run (Edge e at name) ts rest w l = token (edge_symbol e) (edge_rule e) (w.1.0, w.1.1, w.1.2.0) (name_run name w.0 rest w.2 ▸ nothing rest)
-event_run (Change name) ts rest w l = token symbol.Name refl (w.0, w.1, w.2.0) (stay (no_select (symbol_at rest) l) (nothing rest) ▸ nothing rest)
-event_run (ChangeBit name index) ts rest w l = token symbol.Name refl (w.1.0, w.1.1, w.1.2.0) (bit w.0 rest index (expression_runs index) w.2 ▸ nothing rest)
+event_run (Change name) ts rest w l = token symbol.Name refl (w.0, w.1, w.2.0) (stay (no_event_select (symbol_at rest) l) (nothing rest) ▸ nothing rest)
+event_run (ChangeBit name index) ts rest w l = token symbol.Name refl (w.1.0, w.1.1, w.1.2.0) (event_bit w.0 rest index w.2 ▸ nothing rest)
 event_run (ChangePart name msb lsb) ts rest w l =
-    token symbol.Name refl (w.1.0, w.1.1, w.1.2.0) (part w.0 rest msb lsb (expression_runs msb) (expression_runs lsb) w.2 ▸ nothing rest)
+    token symbol.Name refl (w.1.0, w.1.1, w.1.2.0) (event_part w.0 rest msb lsb w.2 ▸ nothing rest)
 
 events_loose : (es : List Happening) (ts mid rest : List Terminal) → AreMoreEvents es ts mid → IsA symbol.CloseParen mid rest → 0 < looseness (symbol_at ts)
 events_loose [] ts mid rest w c = subst (λ x. 0 < looseness (symbol_at x)) (sym w) (omega (arith, ends symbol.CloseParen mid rest refl c))
@@ -204,7 +220,7 @@ argued_none (Some symbol.CloseParen) h = refl
 argued_none None h = cc
 argued_none (Some other) h = cc
 
-argued_ends : (o : Option Symbol) → argued o ≡ true → 11 < looseness o
+argued_ends : (o : Option Symbol) → argued o ≡ true → 12 < looseness o
 argued_ends (Some symbol.Comma) h = omega arith
 argued_ends (Some symbol.CloseParen) h = omega arith
 argued_ends None h = omega arith
@@ -231,7 +247,7 @@ opens_close (Some other) h = refl
 argument_run : (v : Option Formula) (ts rest : List Terminal) → IsOptional IsExpression v ts rest → argued (symbol_at rest) ≡ true → Does task.Argument ts rest (grow (valued v))
 argument_run None ts rest w a = subst (λ x. Does task.Argument x rest same) (sym w) (stay (argued_none (symbol_at rest) a) (nothing rest))
 argument_run (Some f) ts rest w a =
-    stay (opens_argument (symbol_at ts) (formula_opens f 11 ts rest w)) (expression_runs f ts rest w (argued_ends (symbol_at rest) a) ▸ nothing rest)
+    stay (opens_argument (symbol_at ts) (formula_opens f 12 ts rest w)) (expression_runs f ts rest w (argued_ends (symbol_at rest) a) ▸ nothing rest)
 
 positional_argued : (xs : List Positional) (ts mid rest : List Terminal) → AreMore IsPositional xs ts mid → IsA symbol.CloseParen mid rest → argued (symbol_at ts) ≡ true
 positional_argued [] ts mid rest w c = ap (λ x. argued (symbol_at x)) w ∙ ap argued (head symbol.CloseParen mid rest c)
@@ -260,7 +276,7 @@ named_each a ts rest w c =
 first_positional : (at : ℕ) (v : Option Formula) (xs : List Positional) (ts mid rest : List Terminal) → IsMoreThanEmpty (record { at = at; value = v } ∷ xs) → IsOptional IsExpression v ts mid
     → (end : List Terminal) → AreMore IsPositional xs mid end → IsA symbol.CloseParen end rest → Does task.Arguments ts end (grow (λ before. all_beside positional xs (valued v before)))
 first_positional at (Some f) xs ts mid rest m w end v c =
-    stay (opens_arguments (symbol_at ts) (formula_opens f 11 ts mid w)) (
+    stay (opens_arguments (symbol_at ts) (formula_opens f 12 ts mid w)) (
     expression_runs f ts mid w (argued_ends (symbol_at mid) (positional_argued xs mid end rest v c)) ▸ positional_run xs mid end rest v c ▸ nothing end)
 first_positional at None [] ts mid rest m w end v c = absurd m
 first_positional at None (x ∷ xs) ts mid rest m w end v c =
@@ -283,7 +299,7 @@ arguments_run (ByName (x ∷ xs)) ts mid rest w c =
 first_close : (at : ℕ) (v : Option Formula) (xs : List Positional) (ts mid end : List Terminal) → IsMoreThanEmpty (record { at = at; value = v } ∷ xs) → IsOptional IsExpression v ts mid → AreMore IsPositional xs mid end
     → Not symbol.CloseParen ts
 unfolding same_symbol
-first_close at (Some f) xs ts mid end m w v = opens_close (symbol_at ts) (formula_opens f 11 ts mid w)
+first_close at (Some f) xs ts mid end m w v = opens_close (symbol_at ts) (formula_opens f 12 ts mid w)
 first_close at None [] ts mid end m w v = absurd m
 first_close at None (x ∷ xs) ts mid end m w v = subst (λ y. Not symbol.CloseParen y) (sym w) (apart symbol.Comma symbol.CloseParen mid v.0 refl v.1)
 

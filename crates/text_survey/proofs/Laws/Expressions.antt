@@ -1,18 +1,20 @@
 -- What is spelled is gone through: expressions.
 use Rattle.std.proofs.Math.Nat.{eq-or-lt_of_le}
-use Rattle.std.proofs.Common.{◌≡◌, ℕ, zero, suc, ◌+◌, ◌-◌, ◌<◌, ◌≤◌, ◌⊎◌, inl, inr, cond, true, false, List, [], ◌∷◌, ◌++◌, Option, Some, None, refl, sym, ap, subst, ◌∙◌, eq-eqb, arith}
+use Rattle.std.proofs.Common.{◌≡◌, ℕ, zero, suc, ◌+◌, ◌-◌, ◌<◌, ◌≤◌, ◌⊎◌, inl, inr, cond, false, List, [], ◌∷◌, Option, Some, None, refl, sym, ap, subst, ◌∙◌, arith}
 use Rattle.rtl_tree.specs.declared.symbol.Symbol.{Symbol}
 use Rattle.rtl_tree.specs.declared.symbol.Symbol.TheVariants as symbol
 use Rattle.rtl_tree.specs.declared.tree.operators.UnaryOperator.{UnaryOperator}
 use Rattle.rtl_tree.specs.declared.tree.operators.UnaryOperator.TheVariants as unary
 use Rattle.rtl_tree.specs.declared.tree.operators.BinaryOperator.{BinaryOperator}
 use Rattle.rtl_tree.specs.declared.tree.operators.BinaryOperator.TheVariants as binary
-use Rattle.rtl_tree.specs.declared.tree.operators.Signedness.{Signedness}
-use Rattle.rtl_tree.specs.declared.tree.operators.Signedness.TheVariants as sign
+use Rattle.rtl_tree.specs.declared.tree.operators.SystemFunction.{SystemFunction}
+use Rattle.rtl_tree.specs.declared.tree.operators.SystemFunction.TheVariants as sign
+use Rattle.rtl_tree.specs.declared.tree.operators.PartKind.{PartKind}
+use Rattle.rtl_tree.specs.declared.tree.operators.PartKind.TheVariants as kind
 use Rattle.rtl_tree.specs.Symbols.{Terminal}
-use Rattle.rtl_tree.specs.TreeExpr.{Identifier, Formula, Number, Read, ReadBit, ReadPart, Parens, Convert, Concat, Repeat, Unary, Binary, Choose, Formulas, no_formulas, more_formulas}
+use Rattle.rtl_tree.specs.TreeExpr.{Identifier, Formula, Number, Read, ReadBit, ReadPart, Parens, Apply, Concat, Repeat, Unary, Binary, Choose, Formulas, no_formulas, more_formulas}
 use Rattle.rtl_tree.specs.Grammar.{◌⨾◌, IsA, IsAt, IsName}
-use Rattle.rtl_tree.specs.GrammarExpr.{IsFormula, AreFormulas, AreMoreFormulas, unary_symbol, binary_symbol, level, conversion_symbol}
+use Rattle.rtl_tree.specs.GrammarExpr.{IsFormula, AreFormulas, AreMoreFormulas, unary_symbol, binary_symbol, level, function_symbol, part_symbol}
 use Rattle.text_survey.specs.declared.task.Level.{Level}
 use Rattle.text_survey.specs.declared.task.Level.TheVariants as grade
 use Rattle.text_survey.specs.declared.task.Task.{Task}
@@ -21,7 +23,7 @@ use Rattle.text_survey.specs.declared.task.Taking.TheVariants as taking
 use Rattle.text_survey.specs.Table.{go, is_next, optional, same_symbol, rank, tighter, looseness}
 use Rattle.text_survey.specs.Rule.{rule}
 use Rattle.text_survey.specs.Machine.{symbol_at}
-use Rattle.text_survey.specs.Depths.{Depths, depths, wrapped, joined, counted, begun, Nest, Both, Within, Reading, reading, ReadsOn}
+use Rattle.text_survey.specs.Depths.{Depths, wrapped, joined, counted, begun, Nest, Both, Within, reading, ReadsOn}
 use Rattle.text_survey.proofs.Laws.Nests.{nest, nest_row, beside}
 use Rattle.text_survey.proofs.Laws.Counts.{Runs, Does, ◌▸◌, ◌▹◌, same, push, grow, told, nothing, trans_read, stay, token, node, operator, one, one_taken}
 use Rattle.text_survey.proofs.Laws.Operands.{no_select, no_choice, no_link, next_link, tighter_rank, by_level, same_rank, same_refl, rank_small}
@@ -42,9 +44,9 @@ expect s ts rest w = token s (ap (λ b. cond b (go taking.Token []) None) (same_
 
 -- an expression ends here
 abbrev pub Ends : List Terminal → Type 0
-Ends ts = 11 < looseness (symbol_at ts)
+Ends ts = 12 < looseness (symbol_at ts)
 
-pub ends : (s : Symbol) (ts rest : List Terminal) → looseness (Some s) ≡ 12 → IsA s ts rest → Ends ts
+pub ends : (s : Symbol) (ts rest : List Terminal) → looseness (Some s) ≡ 13 → IsA s ts rest → Ends ts
 ends s ts rest e w = omega (arith, ap looseness (head s ts rest w), e)
 
 -- this token doesn't come next
@@ -127,6 +129,7 @@ equal_or_less a b h = eq-or-lt_of_le h
 
 -- the level of an operator
 pub grade_of : BinaryOperator → Level
+grade_of binary.Power = grade.Power
 grade_of binary.Multiply = grade.Product
 grade_of binary.Divide = grade.Product
 grade_of binary.Modulus = grade.Product
@@ -156,15 +159,15 @@ unfolding grade_of
 grade_rank binary.Add = refl
 grade_rank other = refl
 
-grade_loose : (op : BinaryOperator) → looseness (Some (binary_symbol op)) ≡ level op
+pub grade_loose : (op : BinaryOperator) → looseness (Some (binary_symbol op)) ≡ level op
 grade_loose binary.Add = refl
 grade_loose other = refl
 
-level_some : (op : BinaryOperator) → 1 ≤ level op
+pub level_some : (op : BinaryOperator) → 1 ≤ level op
 level_some binary.Add = omega arith
 level_some other = omega arith
 
-level_small : (op : BinaryOperator) → level op ≤ 10
+pub level_small : (op : BinaryOperator) → level op ≤ 11
 level_small binary.Add = omega arith
 level_small other = omega arith
 
@@ -172,16 +175,27 @@ unary_rule : (op : UnaryOperator) → rule (task.Level grade.Operand) (Some (una
 unary_rule unary.Plus = refl
 unary_rule other = refl
 
-convert_rule : (s : Signedness) → rule (task.Level grade.Operand) (Some (conversion_symbol s)) ≡ go taking.Node (task.Expect symbol.OpenParen ∷ task.Expression ∷ task.Expect symbol.CloseParen ∷ task.Wrap ∷ [])
+convert_rule : (s : SystemFunction) → rule (task.Level grade.Operand) (Some (function_symbol s)) ≡ go taking.Node (task.Expect symbol.OpenParen ∷ task.Expression ∷ task.Expect symbol.CloseParen ∷ task.Wrap ∷ [])
 convert_rule sign.Signed = refl
 convert_rule sign.Unsigned = refl
+convert_rule sign.Clog2 = refl
+
+part_rule : (k : PartKind) → rule task.SelectEnd (Some (part_symbol k)) ≡ go taking.Token (task.Expression ∷ task.Expect symbol.CloseBracket ∷ [])
+part_rule kind.Between = refl
+part_rule kind.Up = refl
+part_rule kind.Down = refl
+
+part_loose : (k : PartKind) → looseness (Some (part_symbol k)) ≡ 13
+part_loose kind.Between = refl
+part_loose kind.Up = refl
+part_loose kind.Down = refl
 
 -- ---- expressions
 
 -- what is spelled by an expression is gone through
 record Good (f : Formula) : Type 0 where
   reads : (k : Level) (ts rest : List Terminal) → IsFormula (rank k) f ts rest → Reads k (push (nest f)) ts rest
-  whole : (ts rest : List Terminal) → IsFormula 11 f ts rest → Ends rest → Does task.Expression ts rest (grow (beside f))
+  whole : (ts rest : List Terminal) → IsFormula 12 f ts rest → Ends rest → Does task.Expression ts rest (grow (beside f))
 
 record GoodRow (fs : Formulas) : Type 0 where
   row : (ts rest : List Terminal) → AreFormulas fs ts rest → Ends rest → Not symbol.Comma rest → Runs (task.Expression ∷ task.Expressions ∷ []) ts rest (grow (nest_row fs))
@@ -198,11 +212,11 @@ Base f = (ts rest : List Terminal) → IsFormula 0 f ts rest → 0 < looseness (
 
 -- an expression between others, as it is gone through
 abbrev pub Whole : Formula → Type 0
-Whole f = (ts rest : List Terminal) → IsFormula 11 f ts rest → Ends rest → Does task.Expression ts rest (grow (beside f))
+Whole f = (ts rest : List Terminal) → IsFormula 12 f ts rest → Ends rest → Does task.Expression ts rest (grow (beside f))
 
 -- the select of a name
 pub bit : (ts rest : List Terminal) (index : Formula) → Whole index
-    → (IsA symbol.OpenBracket ⨾ IsFormula 11 index ⨾ IsA symbol.CloseBracket) ts rest → Does task.Select ts rest (grow (beside index))
+    → (IsA symbol.OpenBracket ⨾ IsFormula 12 index ⨾ IsA symbol.CloseBracket) ts rest → Does task.Select ts rest (grow (beside index))
 unfolding same_symbol
 bit ts rest index g w =
     token symbol.OpenBracket refl w.1 (
@@ -210,14 +224,14 @@ bit ts rest index g w =
     ▸ token symbol.CloseBracket refl w.2.2 (nothing rest)
     ▸ nothing rest)
 
-pub part : (ts rest : List Terminal) (msb lsb : Formula) → Whole msb → Whole lsb
-    → (IsA symbol.OpenBracket ⨾ IsFormula 11 msb ⨾ IsA symbol.Colon ⨾ IsFormula 11 lsb ⨾ IsA symbol.CloseBracket) ts rest → Does task.Select ts rest (grow (λ before. beside lsb (beside msb before)))
+pub part : (ts rest : List Terminal) (k : PartKind) (first second : Formula) → Whole first → Whole second
+    → (IsA symbol.OpenBracket ⨾ IsFormula 12 first ⨾ IsA (part_symbol k) ⨾ IsFormula 12 second ⨾ IsA symbol.CloseBracket) ts rest → Does task.Select ts rest (grow (λ before. beside second (beside first before)))
 unfolding same_symbol
-part ts rest msb lsb g h w =
+part ts rest k first second g h w =
     let v = w.2.2 in
     token symbol.OpenBracket refl w.1 (
-    g w.0 w.2.0 w.2.1 (ends symbol.Colon w.2.0 v.0 refl v.1)
-    ▸ token symbol.Colon refl v.1 (h v.0 v.2.0 v.2.1 (ends symbol.CloseBracket v.2.0 rest refl v.2.2) ▸ expect symbol.CloseBracket v.2.0 rest v.2.2 ▸ nothing rest)
+    g w.0 w.2.0 w.2.1 (ends (part_symbol k) w.2.0 v.0 (part_loose k) v.1)
+    ▸ token (part_symbol k) (part_rule k) v.1 (h v.0 v.2.0 v.2.1 (ends symbol.CloseBracket v.2.0 rest refl v.2.2) ▸ expect symbol.CloseBracket v.2.0 rest v.2.2 ▸ nothing rest)
     ▸ nothing rest)
 
 -- ---- operands
@@ -228,7 +242,7 @@ unfolding Base
 good_operand f same' base =
     record {
       reads = λ k ts rest w. operand_reads k (push (nest f)) ts rest (base ts rest (same' (rank k) ts rest w));
-      whole = λ ts rest w h. whole_of (nest f) ts rest ((operand_reads grade.LogicalOr (push (nest f)) ts rest (base ts rest (same' 11 ts rest w))).done (omega (arith, h))) h;
+      whole = λ ts rest w h. whole_of (nest f) ts rest ((operand_reads grade.LogicalOr (push (nest f)) ts rest (base ts rest (same' 12 ts rest w))).done (omega (arith, h))) h;
     }
 
 -- a name at its place
@@ -251,11 +265,11 @@ good_bit name index g =
     good_operand (ReadBit name index) (λ k ts rest w. w)
     (λ ts rest w h. node symbol.Name name.at refl (name_at name ts w.0 w.1) (bit w.0 rest index g.whole w.2 ▸ wrap rest ▸ nothing rest))
 
-good_part : (name : _) (msb lsb : Formula) → Good msb → Good lsb → Good (ReadPart name msb lsb)
+good_part : (name : _) (k : PartKind) (first second : Formula) → Good first → Good second → Good (ReadPart name k first second)
 unfolding Base
-good_part name msb lsb g h =
-    good_operand (ReadPart name msb lsb) (λ k ts rest w. w)
-    (λ ts rest w x. node symbol.Name name.at refl (name_at name ts w.0 w.1) (part w.0 rest msb lsb g.whole h.whole w.2 ▸ wrap rest ▸ nothing rest))
+good_part name k first second g h =
+    good_operand (ReadPart name k first second) (λ j ts rest w. w)
+    (λ ts rest w x. node symbol.Name name.at refl (name_at name ts w.0 w.1) (part w.0 rest k first second g.whole h.whole w.2 ▸ wrap rest ▸ nothing rest))
 
 good_parens : (at : ℕ) (inner : Formula) → Good inner → Good (Parens at inner)
 unfolding Base
@@ -264,13 +278,13 @@ good_parens at inner g =
     (λ ts rest w h. node symbol.OpenParen at refl w.1 (
     g.whole w.0 w.2.0 w.2.1 (ends symbol.CloseParen w.2.0 rest refl w.2.2) ▸ expect symbol.CloseParen w.2.0 rest w.2.2 ▸ wrap rest ▸ nothing rest))
 
-good_convert : (s : Signedness) (at : ℕ) (inner : Formula) → Good inner → Good (Convert s at inner)
+good_convert : (s : SystemFunction) (at : ℕ) (inner : Formula) → Good inner → Good (Apply s at inner)
 unfolding Base
 good_convert s at inner g =
-    good_operand (Convert s at inner) (λ k ts rest w. w)
+    good_operand (Apply s at inner) (λ k ts rest w. w)
     (λ ts rest w h.
     let v = w.2.2 in
-    node (conversion_symbol s) at (convert_rule s) w.1 (
+    node (function_symbol s) at (convert_rule s) w.1 (
     expect symbol.OpenParen w.0 w.2.0 w.2.1 ▸ g.whole w.2.0 v.0 v.1 (ends symbol.CloseParen v.0 rest refl v.2) ▸ expect symbol.CloseParen v.0 rest v.2 ▸ wrap rest ▸ nothing rest))
 
 good_unary : (op : UnaryOperator) (at : ℕ) (operand : Formula) → Good operand → Good (Unary op at operand)
@@ -320,7 +334,7 @@ good_binary op at l r g h =
       whole = λ ts rest w e.
           whole_of (nest (Binary op at l r)) ts rest
           ((chain_by (grade_of op) grade.LogicalOr (push (nest (Binary op at l r))) ts rest some (λ less. good_link op at l r g h (grade_of op) refl ts rest w.1 less)
-          (equal_or_less (rank (grade_of op)) 10 (rank_small (grade_of op)))).done (omega (arith, e)))
+          (equal_or_less (rank (grade_of op)) 11 (rank_small (grade_of op)))).done (omega (arith, e)))
           e;
     }
 
@@ -331,7 +345,7 @@ good_choose at c t o gc gt go' =
       whole = λ ts rest w e.
           let v = w.1.2 in
           let u = v.2.2 in
-          let loose : looseness (symbol_at w.1.0) ≡ 11 = ap looseness (head symbol.Question w.1.0 v.0 (v.1.0, v.1.1, v.1.2.0)) in
+          let loose : looseness (symbol_at w.1.0) ≡ 12 = ap looseness (head symbol.Question w.1.0 v.0 (v.1.0, v.1.1, v.1.2.0)) in
           stay refl (
           (gc.reads grade.LogicalOr ts w.1.0 w.1.1).done (omega (arith, loose))
           ▸ operator symbol.Question at refl v.1 (
@@ -402,9 +416,9 @@ mutual
   all (Number value at) = good_number value at
   all (Read name) = good_read name
   all (ReadBit name index) = good_bit name index (all index)
-  all (ReadPart name msb lsb) = good_part name msb lsb (all msb) (all lsb)
+  all (ReadPart name k first second) = good_part name k first second (all first) (all second)
   all (Parens at inner) = good_parens at inner (all inner)
-  all (Convert s at inner) = good_convert s at inner (all inner)
+  all (Apply s at inner) = good_convert s at inner (all inner)
   all (Concat at parts) = good_concat at parts (rows parts)
   all (Repeat at times parts) = good_repeat at times parts (all times) (rows parts)
   all (Unary op at operand) = good_unary op at operand (all operand)
@@ -417,3 +431,7 @@ mutual
 
 pub expression_runs : (f : Formula) → Whole f
 expression_runs f = (all f).whole
+
+-- an operand
+pub operand_runs : (f : Formula) (ts rest : List Terminal) → IsFormula 0 f ts rest → 0 < looseness (symbol_at rest) → Does (task.Level grade.Operand) ts rest (push (nest f))
+operand_runs f ts rest w h = ((all f).reads grade.Operand ts rest w).done h

@@ -198,6 +198,30 @@ stays_events None = refl
 stays_events (Some symbol.Or) = refl
 stays_events (Some other) = refl
 
+stays_event_select_end : (o : Option Symbol) → Stays o (rule task.EventSelectEnd o)
+unfolding Stays stays_by inner all_inner spares
+stays_event_select_end None = refl
+stays_event_select_end (Some symbol.Colon) = refl
+stays_event_select_end (Some other) = refl
+
+stays_gate_ticks : (o : Option Symbol) → Stays o (rule task.GateTicks o)
+unfolding Stays stays_by inner all_inner spares
+stays_gate_ticks None = refl
+stays_gate_ticks (Some symbol.Name) = refl
+stays_gate_ticks (Some other) = refl
+
+stays_output : (o : Option Symbol) → Stays o (rule task.OutputOrInput o)
+unfolding Stays stays_by inner all_inner spares
+stays_output None = refl
+stays_output (Some symbol.Name) = refl
+stays_output (Some other) = refl
+
+stays_after_name : (o : Option Symbol) → Stays o (rule task.AfterName o)
+unfolding Stays stays_by inner all_inner spares
+stays_after_name None = refl
+stays_after_name (Some symbol.Comma) = refl
+stays_after_name (Some other) = refl
+
 stays_arguments : (o : Option Symbol) → Stays o (rule task.Arguments o)
 unfolding Stays stays_by inner all_inner spares
 stays_arguments None = refl
@@ -291,6 +315,18 @@ inside task.Sensitivity o h = stays_sensitivity o
 inside task.EventList o h = stays_event_list o
 inside task.Event o h = stays_event o
 inside task.Events o h = stays_events o
+inside task.EventSelect o h = by_optional symbol.OpenBracket o (task.Expression ∷ task.EventSelectEnd ∷ []) refl refl
+inside task.EventSelectEnd o h = stays_event_select_end o
+inside task.GateDelay o h = by_optional symbol.Hash o (task.GateTicks ∷ []) refl refl
+inside task.GateTicks o h = stays_gate_ticks o
+inside task.Fall o h = by_optional symbol.Comma o (task.Expression ∷ []) refl refl
+inside task.GateName o h = by_optional symbol.Name o [] refl refl
+inside task.Gate o h = by_nothing o (task.GateName ∷ task.Expect symbol.OpenParen ∷ task.Target ∷ task.Expect symbol.Comma ∷ task.Expression ∷ task.Expressions ∷ task.Expect symbol.CloseParen ∷ []) refl
+inside task.Gates o h = by_optional symbol.Comma o (task.Gate ∷ task.Gates ∷ []) refl refl
+inside task.Buffer o h = by_nothing o (task.GateName ∷ task.Expect symbol.OpenParen ∷ task.Target ∷ task.Expect symbol.Comma ∷ task.OutputOrInput ∷ task.Expect symbol.CloseParen ∷ []) refl
+inside task.Buffers o h = by_optional symbol.Comma o (task.Buffer ∷ task.Buffers ∷ []) refl refl
+inside task.OutputOrInput o h = stays_output o
+inside task.AfterName o h = stays_after_name o
 inside task.PortKind o h = stays_port_kind o
 inside task.Sign o h = by_optional symbol.Signed o [] refl refl
 inside task.Range o h = by_optional symbol.OpenBracket o (task.Expression ∷ task.Expect symbol.Colon ∷ task.Expression ∷ task.Expect symbol.CloseBracket ∷ []) refl refl

@@ -1,5 +1,5 @@
 -- What is spelled is gone through: items and modules.
-use Rattle.std.proofs.Common.{◌≡◌, ℕ, ◌<◌, ◌⊎◌, inl, inr, Bool, true, false, List, [], ◌∷◌, Option, Some, None, refl, sym, ap, subst, ◌∙◌, arith}
+use Rattle.std.proofs.Common.{◌≡◌, Bool, true, false, List, [], ◌∷◌, Option, Some, None, refl, sym, ap, subst, ◌∙◌}
 use Rattle.text_ground.specs.declared.dropped.Dropped.{Dropped}
 use Rattle.rtl_tree.specs.declared.symbol.Symbol.{Symbol}
 use Rattle.rtl_tree.specs.declared.symbol.Symbol.TheVariants as symbol
@@ -7,39 +7,34 @@ use Rattle.rtl_tree.specs.declared.tree.item.Direction.{Direction}
 use Rattle.rtl_tree.specs.declared.tree.item.Direction.TheVariants as direction
 use Rattle.rtl_tree.specs.declared.tree.item.ParameterKind.{ParameterKind}
 use Rattle.rtl_tree.specs.declared.tree.item.ParameterKind.TheVariants as parameter
+use Rattle.rtl_tree.specs.declared.tree.gate.GateKind.{GateKind}
+use Rattle.rtl_tree.specs.declared.tree.gate.GateKind.TheVariants as kind
 use Rattle.rtl_tree.specs.Symbols.{Terminal}
 use Rattle.rtl_tree.specs.TreeExpr.{Formula, Identifier}
-use Rattle.rtl_tree.specs.TreeStmt.{Target, Whole, Bit, Part, Joined, Pause}
-use Rattle.rtl_tree.specs.TreeItem.{Head, Drive, ModuleItem, Ports, Nets, Variables, Integers, Parameters, Drives, Always, Instances, Instantiation}
-use Rattle.rtl_tree.specs.TreeModule.{Heading, HeaderParameter, HeaderPort, Header, Absent, Empty, Declared, Named, Circuit}
+use Rattle.rtl_tree.specs.TreeStmt.{Target, Whole, Bit, Part, Joined}
+use Rattle.rtl_tree.specs.TreeItem.{Head, Drive, ModuleItem, Ports, Nets, Variables, Integers, Parameters, Drives, Gates, Always, Instances}
+use Rattle.rtl_tree.specs.TreeGate.{WrittenItem, Plain, Primitives}
+use Rattle.rtl_tree.specs.TreeModule.{Heading, HeaderParameter, Header, Absent, Empty, Declared, Named, WrittenCircuit}
 use Rattle.rtl_tree.specs.Grammar.{Spelling, ◌⨾◌, IsA, IsName, IsOptional, AreAll, AreMore, AreListed}
 use Rattle.rtl_tree.specs.GrammarStmt.{AreAttributes, IsTarget}
-use Rattle.rtl_tree.specs.GrammarItem.{direction_symbol, IsHead, IsNet, IsVariable, IsValuation, IsDrive, IsValue, IsInstantiation, parameter_symbol, IsItem, IsMarkedItem}
+use Rattle.rtl_tree.specs.GrammarItem.{direction_symbol, IsHead, IsNet, IsVariable, IsValuation, IsDrive, IsValue, IsInstantiation, parameter_symbol, IsItem}
+use Rattle.rtl_tree.specs.GrammarGate.{gate_symbol, IsWritten, IsMarkedItem}
 use Rattle.rtl_tree.specs.GrammarModule.{IsThere, IsHeading, IsParameter, AreParameters, IsPort, IsHeader, IsCircuit, IsMarkedCircuit, AreCircuits}
 use Rattle.text_survey.specs.declared.task.Task.{Task}
 use Rattle.text_survey.specs.declared.task.Task.TheVariants as task
 use Rattle.text_survey.specs.declared.task.Taking.TheVariants as taking
-use Rattle.text_survey.specs.Table.{go, is_next, same_symbol, looseness}
+use Rattle.text_survey.specs.Table.{go, is_next, same_symbol}
 use Rattle.text_survey.specs.Rule.{rule}
 use Rattle.text_survey.specs.Machine.{symbol_at}
-use Rattle.text_survey.specs.Depths.{Nest, Depths, counted}
-use Rattle.text_survey.proofs.Laws.Counts.{Runs, Does, ◌▸◌, ◌▹◌, same, grow, told, nothing, stay, token, node}
-use Rattle.text_survey.proofs.Laws.Nests.{beside, skip, all_beside, bounded, net, valuation, drive, placed, in_item, headed, heading, head_parameter, head_port, in_header, in_circuit}
+use Rattle.text_survey.specs.Depths.{Depths, counted}
+use Rattle.text_survey.proofs.Laws.Counts.{Runs, Does, ◌▸◌, ◌▹◌, same, grow, told, nothing, stay, token}
+use Rattle.text_survey.proofs.Laws.Nests.{beside, skip, all_beside, bounded, net, valuation, drive, placed, in_item, in_written, headed, heading, head_parameter, head_port, in_header, in_circuit}
 use Rattle.text_survey.proofs.Laws.Expressions.{head, expect, Not, apart, left_out}
 use Rattle.text_survey.proofs.Laws.Starts.{Closes, closes_by}
-use Rattle.text_survey.proofs.Laws.Lists.{Each, Many, listed_run, more_run, marked_run, delay_run}
+use Rattle.text_survey.proofs.Laws.Lists.{Each, listed_run, more_run, ended, marked_run, delay_run}
 use Rattle.text_survey.proofs.Laws.Statements.{statement_runs}
-use Rattle.text_survey.proofs.Laws.Declarations.{name_each, name_run, declares, range_run, range_begins, sign_run, sign_begins, kind_run, net_each, variable_each, setting_run, setting_each, drive_each, sensitivity_run, instantiation_each, overrides_run}
-
--- ---- lists that end with a mark
-
--- a list up to its semicolon
-ended : {A : Type 0} (p : A → Spelling) (one many : Task) (g : A → Nest → Nest) → Many one many → Each p one g → (xs : List A) (ts rest : List Terminal) → (AreListed p xs ⨾ IsA symbol.Semicolon) ts rest
-    → Runs (one ∷ many ∷ task.Expect symbol.Semicolon ∷ []) ts rest (grow (all_beside g xs))
-unfolding same_symbol
-ended p one many g m each xs ts rest w =
-    listed_run p one many g m each xs ts w.0 w.1 (closes_by symbol.Semicolon w.0 rest refl w.2) (apart symbol.Semicolon symbol.Comma w.0 rest refl w.2)
-    ▹ expect symbol.Semicolon w.0 rest w.2 ▸ nothing rest
+use Rattle.text_survey.proofs.Laws.Gates.{gates_run}
+use Rattle.text_survey.proofs.Laws.Declarations.{name_each, name_run, range_run, range_begins, sign_run, sign_begins, kind_run, net_each, variable_each, setting_run, setting_each, drive_each, sensitivity_run, instantiation_each, overrides_run}
 
 -- ---- what stands before names
 
@@ -82,7 +77,7 @@ target_delay : (t : Target) (ts rest : List Terminal) → IsTarget t ts rest →
 unfolding same_symbol
 target_delay (Whole name) ts rest w = apart symbol.Name symbol.Hash ts rest refl (w.0, w.1, w.2.0)
 target_delay (Bit name index) ts rest w = apart symbol.Name symbol.Hash ts w.0 refl (w.1.0, w.1.1, w.1.2.0)
-target_delay (Part name msb lsb) ts rest w = apart symbol.Name symbol.Hash ts w.0 refl (w.1.0, w.1.1, w.1.2.0)
+target_delay (Part name kind msb lsb) ts rest w = apart symbol.Name symbol.Hash ts w.0 refl (w.1.0, w.1.1, w.1.2.0)
 target_delay (Joined at parts) ts rest w = apart symbol.OpenBrace symbol.Hash ts w.0 refl (w.1.0, w.1.1, w.1.2.0)
 
 drives_delay : (ds : List Drive) (ts rest : List Terminal) → AreListed IsDrive ds ts rest → Not symbol.Hash ts
@@ -126,6 +121,7 @@ item_run (Drives at pause drives) ts rest w e =
     let v = w2.2 in
     token symbol.Assign refl (w.1.0, w.1.1, w.1.2.0) (
     delay_run pause w.0 w2.0 w2.1 (drives_delay drives w2.0 v.0 v.1) ▸ ended IsDrive task.Drive task.Drives drive ((λ o. refl), (λ d. refl)) drive_each drives w2.0 rest w2.2)
+item_run (Gates at names pause drives) ts rest w e = absurd w
 item_run (Always at sensitivity body) ts rest w e =
     let w2 = w.2 in
     let w3 = w2.2 in
@@ -137,6 +133,10 @@ item_run (Instances child parameters instantiations) ts rest w e =
     let n = first_name IsInstantiation instantiations w2.0 v.0 (λ x ts' rest' y. (y.0, (y.1.0, y.1.1, y.1.2.0))) v.1 in
     token symbol.Name refl (w.1.0, w.1.1, w.1.2.0) (
     overrides_run parameters w.0 w2.0 n.0 w2.1 n.1 ▸ ended IsInstantiation task.Instance task.Instances placed ((λ o. refl), (λ d. refl)) instantiation_each instantiations w2.0 rest w2.2)
+
+written_run : (i : WrittenItem) (ts rest : List Terminal) → IsWritten i ts rest → Not symbol.Else rest → Does task.Item ts rest (grow (in_written i))
+written_run (Plain item) ts rest w e = item_run item ts rest w e
+written_run (Primitives at k pause gates) ts rest w e = gates_run at k pause gates ts rest w
 
 -- an item begins here
 abbrev items_begin : Option Symbol → Bool
@@ -151,6 +151,14 @@ items_begin (Some symbol.Localparam) = true
 items_begin (Some symbol.Assign) = true
 items_begin (Some symbol.Always) = true
 items_begin (Some symbol.Name) = true
+items_begin (Some symbol.And) = true
+items_begin (Some symbol.Nand) = true
+items_begin (Some symbol.Or) = true
+items_begin (Some symbol.Nor) = true
+items_begin (Some symbol.Xor) = true
+items_begin (Some symbol.Xnor) = true
+items_begin (Some symbol.Buf) = true
+items_begin (Some symbol.Not) = true
 items_begin other = false
 
 begin_direction : (d : Direction) → items_begin (Some (direction_symbol d)) ≡ true
@@ -160,6 +168,10 @@ begin_direction direction.Output = refl
 begin_parameter : (k : ParameterKind) → items_begin (Some (parameter_symbol k)) ≡ true
 begin_parameter parameter.Parameter = refl
 begin_parameter parameter.Local = refl
+
+begin_gate : (k : GateKind) → items_begin (Some (gate_symbol k)) ≡ true
+begin_gate kind.And = refl
+begin_gate other = refl
 
 begin_rule : (o : Option Symbol) → items_begin o ≡ true → rule task.Items o ≡ go taking.Nothing (task.Item ∷ task.Items ∷ [])
 unfolding same_symbol
@@ -185,31 +197,36 @@ item_begins (Variables at signed bounds variables) ts rest w = begins_by symbol.
 item_begins (Integers at names) ts rest w = begins_by symbol.Integer ts w.0 refl (w.1.0, w.1.1, w.1.2.0)
 item_begins (Parameters at k bounds values) ts rest w = begins_by (parameter_symbol k) ts w.0 (begin_parameter k) (w.1.0, w.1.1, w.1.2.0)
 item_begins (Drives at pause drives) ts rest w = begins_by symbol.Assign ts w.0 refl (w.1.0, w.1.1, w.1.2.0)
+item_begins (Gates at names pause drives) ts rest w = absurd w
 item_begins (Always at sensitivity body) ts rest w = begins_by symbol.Always ts w.0 refl (w.1.0, w.1.1, w.1.2.0)
 item_begins (Instances child parameters instantiations) ts rest w = begins_by symbol.Name ts w.0 refl (w.1.0, w.1.1, w.1.2.0)
+
+written_begins : (i : WrittenItem) (ts rest : List Terminal) → IsWritten i ts rest → items_begin (symbol_at ts) ≡ true
+written_begins (Plain item) ts rest w = item_begins item ts rest w
+written_begins (Primitives at k pause gates) ts rest w = begins_by (gate_symbol k) ts w.0 (begin_gate k) (w.1.0, w.1.1, w.1.2.0)
 
 marks_begin : (marks : List (List Identifier)) (ts mid : List Terminal) → AreAttributes marks ts mid → items_begin (symbol_at mid) ≡ true → items_begin (symbol_at ts) ≡ true
 marks_begin [] ts mid w b = ap (λ x. items_begin (symbol_at x)) w ∙ b
 marks_begin (names ∷ others) ts mid w b = begins_by symbol.OpenAttribute ts w.1.0 refl w.1.1
 
-marked_item_begins : (i : ModuleItem) (ts rest : List Terminal) → IsMarkedItem i ts rest → items_begin (symbol_at ts) ≡ true
+marked_item_begins : (i : WrittenItem) (ts rest : List Terminal) → IsMarkedItem i ts rest → items_begin (symbol_at ts) ≡ true
 marked_item_begins i ts rest w =
     let v = w.1 in
-    marks_begin w.0 ts v.0 v.1 (item_begins i v.0 rest v.2)
+    marks_begin w.0 ts v.0 v.1 (written_begins i v.0 rest v.2)
 
-items_else : (is : List ModuleItem) (ts mid rest : List Terminal) → AreAll IsMarkedItem is ts mid → IsA symbol.Endmodule mid rest → Not symbol.Else ts
+items_else : (is : List WrittenItem) (ts mid rest : List Terminal) → AreAll IsMarkedItem is ts mid → IsA symbol.Endmodule mid rest → Not symbol.Else ts
 unfolding same_symbol
 items_else [] ts mid rest w e = subst (λ x. Not symbol.Else x) (sym w) (apart symbol.Endmodule symbol.Else mid rest refl e)
 items_else (i ∷ is) ts mid rest w e = begin_else (symbol_at ts) (marked_item_begins i ts w.0 w.1)
 
-items_run : (is : List ModuleItem) (ts mid rest : List Terminal) → AreAll IsMarkedItem is ts mid → IsA symbol.Endmodule mid rest → Does task.Items ts mid (grow (all_beside in_item is))
+items_run : (is : List WrittenItem) (ts mid rest : List Terminal) → AreAll IsMarkedItem is ts mid → IsA symbol.Endmodule mid rest → Does task.Items ts mid (grow (all_beside in_written is))
 unfolding same_symbol
 items_run [] ts mid rest w e = subst (λ x. Does task.Items x mid same) (sym w) (stay (ap (λ o. rule task.Items o) (head symbol.Endmodule mid rest e)) (nothing mid))
 items_run (i ∷ is) ts mid rest w e =
     let m = w.1 in
     let v = m.1 in
     stay (begin_rule (symbol_at ts) (marked_item_begins i ts w.0 w.1)) (
-    marked_run task.Item refl m.0 ts v.0 w.0 v.1 (grow (in_item i)) (λ d. refl) (item_run i v.0 w.0 v.2 (items_else is w.0 mid rest w.2 e)) ▸ items_run is w.0 mid rest w.2 e ▸ nothing mid)
+    marked_run task.Item refl m.0 ts v.0 w.0 v.1 (grow (in_written i)) (λ d. refl) (written_run i v.0 w.0 v.2 (items_else is w.0 mid rest w.2 e)) ▸ items_run is w.0 mid rest w.2 e ▸ nothing mid)
 
 -- ---- heads of modules
 
@@ -302,7 +319,7 @@ header_hash (Named names) ts mid rest w e = apart symbol.OpenParen symbol.Hash t
 
 -- ---- modules
 
-circuit_run : (regions : List Dropped) (c : Circuit) (ts rest : List Terminal) → IsCircuit regions c ts rest → Does task.Module ts rest (grow (in_circuit c))
+circuit_run : (regions : List Dropped) (c : WrittenCircuit) (ts rest : List Terminal) → IsCircuit regions c ts rest → Does task.Module ts rest (grow (in_circuit c))
 circuit_run regions c ts rest x =
     let w = x.2 in
     let w2 = w.2 in
@@ -315,13 +332,13 @@ circuit_run regions c ts rest x =
     name_run c.name w.0 w2.0 w2.1 ▸ parameters_run c.parameters w2.0 w3.0 w3.1 (header_hash c.header w3.0 w4.0 w5.0 w4.1 w5.1) ▸ header_run c.header w3.0 w4.0 w5.0 w4.1 w5.1
     ▸ expect symbol.Semicolon w4.0 w5.0 w5.1 ▸ items_run c.items w5.0 w6.0 rest w6.1 finish ▸ expect symbol.Endmodule w6.0 rest finish ▸ nothing rest)
 
-marked_circuit_run : (regions : List Dropped) (c : Circuit) (ts rest : List Terminal) → IsMarkedCircuit regions c ts rest → Does task.Module ts rest (grow (in_circuit c))
+marked_circuit_run : (regions : List Dropped) (c : WrittenCircuit) (ts rest : List Terminal) → IsMarkedCircuit regions c ts rest → Does task.Module ts rest (grow (in_circuit c))
 marked_circuit_run regions c ts rest w =
     let v = w.1 in
     marked_run task.Module refl w.0 ts v.0 rest v.1 (grow (in_circuit c)) (λ d. refl) (circuit_run regions c v.0 rest v.2)
 
 -- a module begins with a token
-begun : (marks : List (List Identifier)) (regions : List Dropped) (c : Circuit) (ts mid rest : List Terminal) → AreAttributes marks ts mid → IsCircuit regions c mid rest
+begun : (marks : List (List Identifier)) (regions : List Dropped) (c : WrittenCircuit) (ts mid rest : List Terminal) → AreAttributes marks ts mid → IsCircuit regions c mid rest
     → rule task.Source (symbol_at ts) ≡ go taking.Nothing (task.Module ∷ task.Source ∷ [])
 begun [] regions c ts mid rest w x =
     let v = x.2.1 in
@@ -329,7 +346,7 @@ begun [] regions c ts mid rest w x =
 begun (names ∷ others) regions c ts mid rest w x = ap (λ o. rule task.Source o) (head symbol.OpenAttribute ts w.1.0 w.1.1)
 
 -- what modules spell is gone through whole
-pub circuits_run : (regions : List Dropped) (cs : List Circuit) (ts : List Terminal) → AreCircuits regions cs ts [] → Does task.Source ts [] (grow (all_beside in_circuit cs))
+pub circuits_run : (regions : List Dropped) (cs : List WrittenCircuit) (ts : List Terminal) → AreCircuits regions cs ts [] → Does task.Source ts [] (grow (all_beside in_circuit cs))
 circuits_run regions [] ts w = subst (λ x. Does task.Source x [] same) (sym w) (stay refl (nothing []))
 circuits_run regions (c ∷ cs) ts w =
     let v = w.1.1 in

@@ -1,25 +1,24 @@
 -- What is spelled is gone through: lists, attributes, delays and targets.
-use Rattle.std.proofs.Common.{◌≡◌, ℕ, ◌<◌, ◌≤◌, ◌⊎◌, inl, inr, Bool, true, false, List, [], ◌∷◌, Option, Some, None, refl, sym, ap, subst, ◌∙◌, arith}
+use Rattle.std.proofs.Common.{◌≡◌, ◌<◌, inl, inr, List, [], ◌∷◌, Option, Some, None, refl, sym, ap, subst, arith}
 use Rattle.rtl_tree.specs.declared.symbol.Symbol.{Symbol}
 use Rattle.rtl_tree.specs.declared.symbol.Symbol.TheVariants as symbol
 use Rattle.rtl_tree.specs.Symbols.{Terminal}
-use Rattle.rtl_tree.specs.TreeExpr.{Formula, Identifier}
+use Rattle.rtl_tree.specs.TreeExpr.{Identifier}
 use Rattle.rtl_tree.specs.TreeStmt.{Target, Whole, Bit, Part, Joined, Targets, no_targets, more_targets, Span, Fixed, Named, Valued, Pause}
-use Rattle.rtl_tree.specs.Grammar.{Spelling, ◌⨾◌, IsA, IsName, IsOptional, AreAll, AreMore, AreListed}
-use Rattle.rtl_tree.specs.GrammarExpr.{IsExpression}
-use Rattle.rtl_tree.specs.GrammarStmt.{IsAttributeValue, IsAttribute, AreMarked, AreAttributes, IsTarget, AreTargets, AreMoreTargets, IsSpan, IsPause}
+use Rattle.rtl_tree.specs.Grammar.{Spelling, ◌⨾◌, IsA, IsOptional, AreMore, AreListed}
+use Rattle.rtl_tree.specs.GrammarStmt.{IsAttributeValue, IsAttribute, AreAttributes, IsTarget, AreTargets, AreMoreTargets, IsSpan, IsPause}
 use Rattle.text_survey.specs.declared.task.Task.{Task}
 use Rattle.text_survey.specs.declared.task.Task.TheVariants as task
 use Rattle.text_survey.specs.declared.task.Taking.TheVariants as taking
-use Rattle.text_survey.specs.Table.{go, is_next, optional, same_symbol, looseness}
+use Rattle.text_survey.specs.Table.{go, optional, same_symbol, looseness}
 use Rattle.text_survey.specs.Rule.{rule}
 use Rattle.text_survey.specs.Machine.{symbol_at}
-use Rattle.text_survey.specs.Depths.{Nest, Both, Depths, wrapped, joined, forgotten, behind_place, counted, place}
+use Rattle.text_survey.specs.Depths.{Nest, Depths, wrapped, joined, forgotten, behind_place, counted, place}
 use Rattle.text_survey.proofs.Laws.Counts.{Runs, Does, ◌▸◌, ◌▹◌, same, grow, told, nothing, stay, look, token, node}
-use Rattle.text_survey.proofs.Laws.Nests.{beside, skip, all_beside, spanned, paused, nest_target, nest_targets, beside_target}
+use Rattle.text_survey.proofs.Laws.Nests.{skip, all_beside, spanned, paused, nest_targets, beside_target}
 use Rattle.text_survey.proofs.Laws.Operands.{no_select}
-use Rattle.text_survey.proofs.Laws.Expressions.{head, wrap, join, expect, Ends, ends, Not, apart, left_out, bit, part, name_at, expression_runs}
-use Rattle.text_survey.proofs.Laws.Starts.{Opens, Begins, Closes, closes_by, formula_opens, closes_ends, closes_equals, opens_delay, opens_constant}
+use Rattle.text_survey.proofs.Laws.Expressions.{wrap, join, expect, ends, Not, apart, left_out, bit, part, name_at, expression_runs}
+use Rattle.text_survey.proofs.Laws.Starts.{Closes, closes_by, formula_opens, closes_ends, closes_equals, opens_constant}
 
 -- ---- lists
 
@@ -55,6 +54,14 @@ listed_run p one many g m each [] ts rest w c n = absurd w
 listed_run p one many g m each (x ∷ xs) ts rest w c n =
     each x ts w.0 w.1 (more_closes p xs w.0 rest w.2 c) ▸ more_run p one many g m each xs w.0 rest w.2 c n ▸ nothing rest
 
+-- a list up to its semicolon
+pub ended : {A : Type 0} (p : A → Spelling) (one many : Task) (g : A → Nest → Nest) → Many one many → Each p one g → (xs : List A) (ts rest : List Terminal) → (AreListed p xs ⨾ IsA symbol.Semicolon) ts rest
+    → Runs (one ∷ many ∷ task.Expect symbol.Semicolon ∷ []) ts rest (grow (all_beside g xs))
+unfolding same_symbol
+ended p one many g m each xs ts rest w =
+    listed_run p one many g m each xs ts w.0 w.1 (closes_by symbol.Semicolon w.0 rest refl w.2) (apart symbol.Semicolon symbol.Comma w.0 rest refl w.2)
+    ▹ expect symbol.Semicolon w.0 rest w.2 ▸ nothing rest
+
 -- ---- attributes
 
 pub forget : (ts : List Terminal) → Does task.Forget ts ts (λ d. forgotten (behind_place d.places) d.top d.under)
@@ -62,7 +69,7 @@ forget ts = stay refl (nothing ts)
 
 constant_runs : (ts rest : List Terminal) → IsAttributeValue ts rest → Closes rest → Does task.AttributeConstant ts rest same
 constant_runs ts rest (inl w) c =
-    look (place ts) refl (opens_constant (symbol_at ts) (formula_opens w.0 11 ts rest w.1)) (
+    look (place ts) refl (opens_constant (symbol_at ts) (formula_opens w.0 12 ts rest w.1)) (
     expression_runs w.0 ts rest w.1 (closes_ends (symbol_at rest) c) ▸ forget rest ▸ nothing rest)
 constant_runs ts rest (inr w) c = token symbol.Quoted refl w (nothing rest)
 
@@ -144,8 +151,8 @@ mutual
       node symbol.Name name.at refl (name_at name ts rest w) (stay (no_select (symbol_at rest) h) (nothing rest) ▸ target_end rest)
   target_run (Bit name index) ts rest w h =
       node symbol.Name name.at refl (name_at name ts w.0 w.1) (bit w.0 rest index (expression_runs index) w.2 ▸ target_end rest)
-  target_run (Part name msb lsb) ts rest w h =
-      node symbol.Name name.at refl (name_at name ts w.0 w.1) (part w.0 rest msb lsb (expression_runs msb) (expression_runs lsb) w.2 ▸ target_end rest)
+  target_run (Part name kind msb lsb) ts rest w h =
+      node symbol.Name name.at refl (name_at name ts w.0 w.1) (part w.0 rest kind msb lsb (expression_runs msb) (expression_runs lsb) w.2 ▸ target_end rest)
   target_run (Joined at parts) ts rest w h =
       let v = w.2 in
       node symbol.OpenBrace at refl w.1 (

@@ -1,5 +1,5 @@
 -- What it means that a task was done.
-use Rattle.std.proofs.Common.{◌≡◌, ℕ, ◌≤◌, ◌⊎◌, inl, inr, cond, Bool, true, false, List, [], ◌∷◌, ◌++◌, Option, Some, None, refl, sym, ap, subst, ◌∙◌, rules}
+use Rattle.std.proofs.Common.{◌≡◌, ℕ, ◌≤◌, ◌⊎◌, inl, inr, cond, Bool, true, false, List, [], ◌∷◌, Option, Some, None, refl, subst, ◌∙◌, rules}
 use denote.Enum.Bare.{same_true}
 use Rattle.rtl_tree.specs.contracts.symbol.Symbol.{the_type}
 use Rattle.text_ground.specs.declared.dropped.Dropped.{Dropped}
@@ -7,17 +7,15 @@ use Rattle.rtl_tree.specs.declared.literal.Literal.{Literal}
 use Rattle.rtl_tree.specs.declared.token.Tok.TheVariants as tok
 use Rattle.rtl_tree.specs.declared.symbol.Symbol.{Symbol}
 use Rattle.rtl_tree.specs.declared.symbol.Symbol.TheVariants as symbol
-use Rattle.rtl_tree.specs.declared.tree.stmt.AssignmentKind.{AssignmentKind}
-use Rattle.rtl_tree.specs.declared.tree.item.PortKind.{PortKind}
+use Rattle.rtl_tree.specs.declared.tree.operators.PartKind.{PartKind}
 use Rattle.rtl_tree.specs.Symbols.{Terminal}
-use Rattle.rtl_tree.specs.TreeExpr.{Formula, Formulas, Identifier, Bounds}
-use Rattle.rtl_tree.specs.TreeStmt.{Target, Targets, Span, Pause, Action, Actions, Branches}
-use Rattle.rtl_tree.specs.TreeItem.{Net, Variable, Valuation, Drive, Happening, Sensitivity, Positional, Associated, Association, Instantiation, ModuleItem}
-use Rattle.rtl_tree.specs.TreeModule.{HeaderParameter, HeaderPort, Header, Circuit}
-use Rattle.rtl_tree.specs.Grammar.{Spelling, ◌⨾◌, Nothing, IsA, IsName, IsOptional, IsFlag, AreAll, AreMore}
-use Rattle.rtl_tree.specs.GrammarExpr.{IsFormula, IsExpression, AreFormulas, AreMoreFormulas, IsBounds}
+use Rattle.rtl_tree.specs.TreeExpr.{Formula}
+use Rattle.rtl_tree.specs.TreeModule.{Header, WrittenCircuit}
+use Rattle.rtl_tree.specs.Grammar.{Spelling, ◌⨾◌, Nothing, IsA, IsName, IsOptional, IsFlag, AreAll, AreMore, AreListed}
+use Rattle.rtl_tree.specs.GrammarExpr.{IsFormula, IsExpression, AreFormulas, AreMoreFormulas, IsBounds, part_symbol}
 use Rattle.rtl_tree.specs.GrammarStmt.{IsAttributeValue, IsAttribute, IsTarget, AreMoreTargets, IsSpan, IsPause, assignment_symbol, ends_open, defaults, IsLabel, IsDefaultEnd, IsStatement, AreStatements, AreBranches, AreMoreBranches}
-use Rattle.rtl_tree.specs.GrammarItem.{IsKind, IsValue, IsNet, IsInitial, IsVariable, IsValuation, IsDrive, IsHappening, AreMoreEvents, AreEvents, IsSensitivity, Begins, IsPositional, IsAssociated, AreArguments, AreConnections, IsInstantiation, AreOverrides, IsMarkedItem}
+use Rattle.rtl_tree.specs.GrammarItem.{IsKind, IsValue, IsNet, IsInitial, IsVariable, IsValuation, IsDrive, IsHappening, AreMoreEvents, AreEvents, IsSensitivity, IsPositional, IsAssociated, AreArguments, AreConnections, IsInstantiation, AreOverrides}
+use Rattle.rtl_tree.specs.GrammarGate.{IsGateSpan, IsGatePause, is_named, AreTerminals, IsMarkedItem}
 use Rattle.rtl_tree.specs.GrammarModule.{IsThere, IsParameter, AreParameters, IsPort, IsHeader, IsMarkedCircuit, AreCircuits}
 use Rattle.text_survey.specs.declared.task.Task.{Task}
 use Rattle.text_survey.specs.declared.task.Task.TheVariants as task
@@ -25,6 +23,7 @@ use Rattle.text_survey.specs.declared.task.Taking.TheVariants as taking
 use Rattle.text_survey.specs.Table.{Step, go, same_symbol, is_next, required, optional, unless, rank}
 use Rattle.text_survey.specs.Machine.{symbol_at, left}
 use Rattle.text_survey.proofs.Laws.Expressions.{Not}
+use Rattle.text_survey.proofs.Laws.Gates.{IsGateOf}
 
 -- something is spelled
 abbrev pub Any : {A : Type 0} → (A → Spelling) → Spelling
@@ -39,6 +38,10 @@ p ⊎⊎ q = λ ts rest. p ts rest ⊎ q ts rest
 abbrev pub Onward : ℕ → ℕ → Spelling
 Onward j k = λ ts rest. (begun : List Terminal) (f : Formula) → IsFormula j f begun ts → (g : Formula) × IsFormula k g begun rest
 
+-- further outputs before one input
+abbrev pub AreOutputs : List Formula → Spelling
+AreOutputs fs = λ ts rest. AreListed IsExpression fs ts rest × AreTerminals true fs
+
 abbrev pub Means : Task → Spelling
 Means (task.Expect s) = IsA s
 Means task.Wrap = Nothing
@@ -47,11 +50,11 @@ Means task.Forget = Nothing
 Means task.Expression = Any IsExpression
 Means (task.Level k) = Any (IsFormula (rank k))
 Means (task.Chain k) = λ ts rest. 1 ≤ rank k → Onward (rank k) (rank k) ts rest
-Means task.Choice = Onward 10 11
+Means task.Choice = Onward 11 12
 Means task.Select =
     Nothing ⊎⊎ Any (λ f. IsA symbol.OpenBracket ⨾ IsExpression f ⨾ IsA symbol.CloseBracket)
-    ⊎⊎ Any (λ (p : Formula × Formula). IsA symbol.OpenBracket ⨾ IsExpression p.0 ⨾ IsA symbol.Colon ⨾ IsExpression p.1 ⨾ IsA symbol.CloseBracket)
-Means task.SelectEnd = IsA symbol.CloseBracket ⊎⊎ Any (λ f. IsA symbol.Colon ⨾ IsExpression f ⨾ IsA symbol.CloseBracket)
+    ⊎⊎ Any (λ (p : PartKind × Formula × Formula). IsA symbol.OpenBracket ⨾ IsExpression p.1 ⨾ IsA (part_symbol p.0) ⨾ IsExpression p.2 ⨾ IsA symbol.CloseBracket)
+Means task.SelectEnd = IsA symbol.CloseBracket ⊎⊎ Any (λ (p : PartKind × Formula). IsA (part_symbol p.0) ⨾ IsExpression p.1 ⨾ IsA symbol.CloseBracket)
 Means task.Parts =
     Any (λ fs. AreMoreFormulas fs ⨾ IsA symbol.CloseBrace)
     ⊎⊎ Any (λ fs. IsA symbol.OpenBrace ⨾ AreFormulas fs ⨾ IsA symbol.CloseBrace ⨾ IsA symbol.CloseBrace)
@@ -94,6 +97,20 @@ Means task.Sensitivity = Any IsSensitivity
 Means task.EventList = (IsA symbol.Star ⨾ IsA symbol.CloseParen) ⊎⊎ Any (λ es. AreEvents es ⨾ IsA symbol.CloseParen)
 Means task.Event = Any IsHappening
 Means task.Events = Any AreMoreEvents
+Means task.EventSelect =
+    Nothing ⊎⊎ Any (λ f. IsA symbol.OpenBracket ⨾ IsExpression f ⨾ IsA symbol.CloseBracket)
+    ⊎⊎ Any (λ (p : Formula × Formula). IsA symbol.OpenBracket ⨾ IsExpression p.0 ⨾ IsA symbol.Colon ⨾ IsExpression p.1 ⨾ IsA symbol.CloseBracket)
+Means task.EventSelectEnd = IsA symbol.CloseBracket ⊎⊎ Any (λ f. IsA symbol.Colon ⨾ IsExpression f ⨾ IsA symbol.CloseBracket)
+Means task.GateDelay = Any (IsOptional IsGatePause)
+Means task.GateTicks = Any IsGateSpan
+Means task.Fall = Nothing ⊎⊎ Any (λ f. IsA symbol.Comma ⨾ IsExpression f)
+Means task.GateName = Any (IsOptional IsName)
+Means task.Gate = Any (IsGateOf false)
+Means task.Gates = Any (AreMore (IsGateOf false))
+Means task.Buffer = Any (IsGateOf true)
+Means task.Buffers = Any (AreMore (IsGateOf true))
+Means task.OutputOrInput = Any AreOutputs
+Means task.AfterName = λ ts rest. (begun : List Terminal) (f : Formula) → is_named f ≡ true → IsFormula 0 f begun ts → Any AreOutputs begun rest
 Means task.Overrides = Any AreOverrides
 Means task.Instance = Any IsInstantiation
 Means task.Instances = Any (AreMore IsInstantiation)
@@ -103,8 +120,8 @@ Means task.Argument = Any IsPositional
 Means task.Positional = Any (λ ps ts rest. AreMore IsPositional ps ts rest × Not symbol.Comma rest)
 Means task.NamedArgument = Any IsAssociated
 Means task.Associated = Any (AreMore IsAssociated)
-Means task.Source = λ ts rest. (regions : List Dropped) → (cs : List Circuit) × AreCircuits regions cs ts rest
-Means task.Module = λ ts rest. (regions : List Dropped) → (c : Circuit) × IsMarkedCircuit regions c ts rest
+Means task.Source = λ ts rest. (regions : List Dropped) → (cs : List WrittenCircuit) × AreCircuits regions cs ts rest
+Means task.Module = λ ts rest. (regions : List Dropped) → (c : WrittenCircuit) × IsMarkedCircuit regions c ts rest
 Means task.Parameters = Any AreParameters
 Means task.FirstParameter = Any (λ p ts rest. IsParameter p ts rest × IsThere p.heading)
 Means task.HeadParameter = Any IsParameter

@@ -1,9 +1,10 @@
 -- How what is spelled is nested, as the survey puts it together.
-use Rattle.std.proofs.Common.{ℕ, List, [], ◌∷◌, Option, Some, None}
-use Rattle.rtl_tree.specs.TreeExpr.{Formula, Number, Read, ReadBit, ReadPart, Parens, Convert, Concat, Repeat, Unary, Binary, Choose, Formulas, no_formulas, more_formulas, Bounds}
+use Rattle.std.proofs.Common.{List, [], ◌∷◌, Option, Some, None}
+use Rattle.rtl_tree.specs.TreeExpr.{Formula, Number, Read, ReadBit, ReadPart, Parens, Apply, Concat, Repeat, Unary, Binary, Choose, Formulas, no_formulas, more_formulas, Bounds}
 use Rattle.rtl_tree.specs.TreeStmt.{Target, Whole, Bit, Part, Joined, Targets, no_targets, more_targets, Span, Fixed, Named, Valued, Pause, Action, Null, Delayed, Assign, If, IfElse, Case, For, Block, Actions, no_actions, more_actions, Branch, Labelled, Default, Branches, no_branches, more_branches, target_place}
-use Rattle.rtl_tree.specs.TreeItem.{Head, Net, Valuation, Drive, Happening, Edge, Change, ChangeBit, ChangePart, Sensitivity, Star, StarInParens, Listed, Positional, Associated, Association, ByPosition, ByName, Instantiation, ModuleItem, Ports, Nets, Variables, Integers, Parameters, Drives, Always, Instances}
-use Rattle.rtl_tree.specs.TreeModule.{Circuit, Heading, HeaderParameter, HeaderPort, Header, Absent, Empty, Declared}
+use Rattle.rtl_tree.specs.TreeItem.{Head, Net, Valuation, Drive, Happening, Edge, Change, ChangeBit, ChangePart, Sensitivity, Star, StarInParens, Listed, Positional, Associated, Association, ByPosition, ByName, Instantiation, ModuleItem, Ports, Nets, Variables, Integers, Parameters, Drives, GateDrive, Gates, Always, Instances}
+use Rattle.rtl_tree.specs.TreeGate.{GateSpan, One, Two, GatePause, Gate, WrittenItem, Plain, Primitives}
+use Rattle.rtl_tree.specs.TreeModule.{WrittenCircuit, Heading, HeaderParameter, HeaderPort, Header, Absent, Empty, Declared}
 use Rattle.rtl_tree.specs.TreeModule as modules
 use Rattle.text_survey.specs.Depths.{Nest, Nothing, Both, Within}
 
@@ -12,9 +13,9 @@ abbrev mutual
   nest (Number value at) = Within at Nothing
   nest (Read name) = Within name.at Nothing
   nest (ReadBit name index) = Within name.at (Both Nothing (nest index))
-  nest (ReadPart name msb lsb) = Within name.at (Both (Both Nothing (nest msb)) (nest lsb))
+  nest (ReadPart name kind msb lsb) = Within name.at (Both (Both Nothing (nest msb)) (nest lsb))
   nest (Parens at inner) = Within at (Both Nothing (nest inner))
-  nest (Convert s at inner) = Within at (Both Nothing (nest inner))
+  nest (Apply s at inner) = Within at (Both Nothing (nest inner))
   nest (Concat at parts) = Within at (nest_row parts Nothing)
   nest (Repeat at times parts) = Within at (nest_row parts (Both Nothing (nest times)))
   nest (Unary op at operand) = Within at (nest operand)
@@ -62,7 +63,7 @@ abbrev mutual
   pub nest_target : Target → Nest
   nest_target (Whole name) = Within name.at Nothing
   nest_target (Bit name index) = Within name.at (beside index Nothing)
-  nest_target (Part name msb lsb) = Within name.at (beside lsb (beside msb Nothing))
+  nest_target (Part name kind msb lsb) = Within name.at (beside lsb (beside msb Nothing))
   nest_target (Joined at parts) = Within at (nest_targets parts Nothing)
 
   pub nest_targets : Targets → Nest → Nest
@@ -113,6 +114,9 @@ valuation v before = beside v.value before
 abbrev pub drive : Drive → Nest → Nest
 drive d before = beside d.value (beside_target d.target before)
 
+abbrev pub gate_drive : GateDrive → Nest → Nest
+gate_drive d before = beside d.value (all_beside beside_target d.outputs before)
+
 abbrev pub happening : Happening → Nest → Nest
 happening (Edge e at name) before = before
 happening (Change name) before = before
@@ -144,8 +148,26 @@ in_item (Variables at signed bounds variables) before = all_beside skip variable
 in_item (Integers at names) before = all_beside skip names before
 in_item (Parameters at k bounds values) before = all_beside valuation values (bounded bounds before)
 in_item (Drives at pause drives) before = all_beside drive drives (paused pause before)
+in_item (Gates at names pause drives) before = all_beside gate_drive drives (paused pause before)
 in_item (Always at s body) before = beside_action body (awaited s before)
 in_item (Instances child parameters instantiations) before = all_beside placed instantiations (arguments parameters before)
+
+-- ---- gates
+
+abbrev pub gate_spanned : GateSpan → Nest → Nest
+gate_spanned (One s) before = spanned s before
+gate_spanned (Two rise fall) before = beside fall (beside rise before)
+
+abbrev pub gate_paused : Option GatePause → Nest → Nest
+gate_paused None before = before
+gate_paused (Some p) before = gate_spanned p.span before
+
+abbrev pub gate : Gate → Nest → Nest
+gate g before = all_beside beside g.terminals (beside_target g.output before)
+
+abbrev pub in_written : WrittenItem → Nest → Nest
+in_written (Plain item) before = in_item item before
+in_written (Primitives at kind pause gates) before = all_beside gate gates (gate_paused pause before)
 
 -- ---- modules
 
@@ -169,5 +191,5 @@ in_header Empty before = before
 in_header (Declared ports) before = all_beside head_port ports before
 in_header (modules.Named names) before = all_beside skip names before
 
-abbrev pub in_circuit : Circuit → Nest → Nest
-in_circuit c before = all_beside in_item c.items (in_header c.header (all_beside head_parameter c.parameters before))
+abbrev pub in_circuit : WrittenCircuit → Nest → Nest
+in_circuit c before = all_beside in_written c.items (in_header c.header (all_beside head_parameter c.parameters before))

@@ -1,5 +1,5 @@
 -- What follows an expression.
-use Rattle.std.proofs.Common.{◌≡◌, ℕ, ◌<◌, ◌≤◌, ◌-◌, cond, Bool, true, false, nat_eq, List, [], ◌∷◌, Option, Some, None, refl, sym, ap, ◌∙◌, eq-eqb, arith}
+use Rattle.std.proofs.Common.{◌≡◌, ℕ, ◌<◌, ◌≤◌, ◌-◌, cond, true, false, nat_eq, [], ◌∷◌, Option, Some, None, refl, sym, ap, ◌∙◌, eq-eqb, arith}
 use denote.Enum.Declared.{tag_of}
 use Rattle.rtl_tree.specs.contracts.symbol.Symbol.{the_type}
 use Rattle.std.proofs.lemmas.Bool.{ne_eqb}
@@ -18,7 +18,13 @@ no_select None h = refl
 no_select (Some symbol.OpenBracket) h = absurd (omega arith)
 no_select (Some other) h = refl
 
-pub no_choice : (o : Option Symbol) → 11 < looseness o → rule task.Choice o ≡ go taking.Nothing []
+pub no_event_select : (o : Option Symbol) → 0 < looseness o → rule task.EventSelect o ≡ go taking.Nothing []
+unfolding same_symbol
+no_event_select None h = refl
+no_event_select (Some symbol.OpenBracket) h = absurd (omega arith)
+no_event_select (Some other) h = refl
+
+pub no_choice : (o : Option Symbol) → 12 < looseness o → rule task.Choice o ≡ go taking.Nothing []
 no_choice None h = refl
 no_choice (Some symbol.Question) h = absurd (omega arith)
 no_choice (Some other) h = refl
@@ -46,8 +52,8 @@ same_refl a = eq-eqb (tag_of the_type a) (tag_of the_type a) refl
 
 of_rank : ℕ → Level
 of_rank n =
-    cond (nat_eq n 0) level.Operand (cond (nat_eq n 1) level.Product (cond (nat_eq n 2) level.Sum (cond (nat_eq n 3) level.Shift (cond (nat_eq n 4) level.Comparison (cond (nat_eq n 5) level.Equality
-    (cond (nat_eq n 6) level.And (cond (nat_eq n 7) level.Xor (cond (nat_eq n 8) level.Or (cond (nat_eq n 9) level.LogicalAnd level.LogicalOr)))))))))
+    cond (nat_eq n 0) level.Operand (cond (nat_eq n 1) level.Power (cond (nat_eq n 2) level.Product (cond (nat_eq n 3) level.Sum (cond (nat_eq n 4) level.Shift (cond (nat_eq n 5) level.Comparison
+    (cond (nat_eq n 6) level.Equality (cond (nat_eq n 7) level.And (cond (nat_eq n 8) level.Xor (cond (nat_eq n 9) level.Or (cond (nat_eq n 10) level.LogicalAnd level.LogicalOr))))))))))
 
 of_rank_of : (k : Level) → of_rank (rank k) ≡ k
 unfolding of_rank
@@ -57,6 +63,6 @@ of_rank_of other = refl
 pub same_rank : (a b : Level) → rank a ≡ rank b → a ≡ b
 same_rank a b e = sym (of_rank_of a) ∙ ap of_rank e ∙ of_rank_of b
 
-pub rank_small : (k : Level) → rank k ≤ 10
+pub rank_small : (k : Level) → rank k ≤ 11
 rank_small level.Operand = omega arith
 rank_small other = omega arith

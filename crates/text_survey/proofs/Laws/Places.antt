@@ -1,15 +1,16 @@
 -- The places in a nest are those in the trees that it came from.
-use Rattle.std.proofs.Common.{◌≡◌, ℕ, zero, suc, ◌-◌, List, [], ◌∷◌, ◌++◌, Option, Some, None, refl, sym, ap, ◌∙◌}
+use Rattle.std.proofs.Common.{◌≡◌, ℕ, ◌-◌, List, [], ◌∷◌, ◌++◌, Option, Some, None, refl, sym, ap, ◌∙◌}
 use Rattle.std.specs.List.{flat_map}
-use Rattle.rtl_tree.specs.TreeExpr.{Formula, Number, Read, ReadBit, ReadPart, Parens, Convert, Concat, Repeat, Unary, Binary, Choose, Formulas, no_formulas, more_formulas, Bounds}
+use Rattle.rtl_tree.specs.TreeExpr.{Formula, Number, Read, ReadBit, ReadPart, Parens, Apply, Concat, Repeat, Unary, Binary, Choose, Formulas, no_formulas, more_formulas, Bounds}
 use Rattle.rtl_tree.specs.TreeStmt.{Target, Whole, Bit, Part, Joined, Targets, no_targets, more_targets, Span, Fixed, Named, Valued, Pause, Action, Null, Delayed, Assign, If, IfElse, Case, For, Block, Actions, no_actions, more_actions, Branch, Labelled, Default, Branches, no_branches, more_branches, target_place}
-use Rattle.rtl_tree.specs.TreeItem.{Head, Net, Valuation, Drive, Happening, Edge, Change, ChangeBit, ChangePart, Sensitivity, Star, StarInParens, Listed, Positional, Associated, Association, ByPosition, ByName, Instantiation, ModuleItem, Ports, Nets, Variables, Integers, Parameters, Drives, Always, Instances}
-use Rattle.rtl_tree.specs.TreeModule.{Circuit, Heading, HeaderParameter, HeaderPort, Header, Absent, Empty, Declared}
+use Rattle.rtl_tree.specs.TreeItem.{Head, Net, Drive, Happening, Edge, Change, ChangeBit, ChangePart, Sensitivity, Star, StarInParens, Listed, Association, ByPosition, ByName, ModuleItem, Ports, Nets, Variables, Integers, Parameters, Drives, GateDrive, Gates, Always, Instances}
+use Rattle.rtl_tree.specs.TreeGate.{GateSpan, One, Two, GatePause, Gate, WrittenItem, Plain, Primitives}
+use Rattle.rtl_tree.specs.TreeModule.{WrittenCircuit, Heading, HeaderParameter, HeaderPort, Header, Absent, Empty, Declared}
 use Rattle.rtl_tree.specs.TreeModule as modules
-use Rattle.rtl_tree.specs.Deeper.{of_any, here, formula_deeper, formulas_deeper, bounds_deeper, target_deeper, targets_deeper, span_deeper, pause_deeper, action_deeper, actions_deeper, branch_deeper, branches_deeper, head_deeper, net_deeper, valuation_deeper, drive_deeper, happening_deeper, sensitivity_deeper, positional_deeper, associated_deeper, association_deeper, instantiation_deeper, item_deeper, header_parameter_deeper, header_port_deeper, header_deeper, deeper, too_deep}
+use Rattle.rtl_tree.specs.Deeper.{of_any, here, formula_deeper, formulas_deeper, bounds_deeper, target_deeper, targets_deeper, span_deeper, pause_deeper, action_deeper, actions_deeper, branch_deeper, branches_deeper, head_deeper, net_deeper, valuation_deeper, drive_deeper, happening_deeper, sensitivity_deeper, positional_deeper, associated_deeper, association_deeper, instantiation_deeper, gate_drive_deeper, item_deeper, gate_span_deeper, gate_pause_deeper, gate_deeper, written_deeper, header_parameter_deeper, header_port_deeper, header_deeper, deeper, too_deep}
 use Rattle.rtl_tree.specs.declared.tree.nesting.TheConstants.{MAX_NESTING}
 use Rattle.text_survey.specs.Depths.{Nest, Nothing, Both, Within, nest_deeper}
-use Rattle.text_survey.proofs.Laws.Nests.{nest, nest_row, beside, skip, all_beside, valued, bounded, spanned, paused, nest_target, nest_targets, nest_action, nest_actions, nest_branch, nest_branches, net, valuation, drive, happening, awaited, positional, associated, arguments, placed, in_item, headed, heading, head_parameter, head_port, in_header, in_circuit}
+use Rattle.text_survey.proofs.Laws.Nests.{nest, nest_row, beside, skip, all_beside, valued, bounded, spanned, paused, nest_target, nest_targets, nest_action, nest_actions, nest_branch, nest_branches, net, valuation, drive, beside_target, happening, awaited, positional, associated, arguments, placed, gate_drive, in_item, gate_spanned, gate_paused, gate, in_written, headed, heading, head_parameter, head_port, in_header, in_circuit}
 
 -- what comes in front of the same, and what follows the same
 front : (xs ys zs : List ℕ) → ys ≡ zs → xs ++ ys ≡ xs ++ zs
@@ -67,11 +68,11 @@ mutual
   formula_places (Number value at) k = nil (here k at)
   formula_places (Read name) k = nil (here k name.at)
   formula_places (ReadBit name i) k = front (here k name.at) _ _ (formula_places i (k - 1))
-  formula_places (ReadPart name a b) k =
+  formula_places (ReadPart name kind a b) k =
       front (here k name.at) _ _ (ap (λ l. l ++ nest_deeper (k - 1) (nest b)) (formula_places a (k - 1)) ∙ front (formula_deeper (k - 1) a) _ _ (formula_places b (k - 1)))
       ∙ left2 (here k name.at) (formula_deeper (k - 1) a) (formula_deeper (k - 1) b)
   formula_places (Parens at i) k = front (here k at) _ _ (formula_places i (k - 1))
-  formula_places (Convert s at i) k = front (here k at) _ _ (formula_places i (k - 1))
+  formula_places (Apply s at i) k = front (here k at) _ _ (formula_places i (k - 1))
   formula_places (Concat at fs) k = front (here k at) _ _ (row_places fs (k - 1) Nothing)
   formula_places (Repeat at t fs) k =
       front (here k at) _ _ (row_places fs (k - 1) (Both Nothing (nest t)) ∙ ap (λ l. l ++ formulas_deeper (k - 1) fs) (formula_places t (k - 1)))
@@ -122,7 +123,7 @@ mutual
   target_places : (t : Target) (k : ℕ) → nest_deeper k (nest_target t) ≡ target_deeper k t
   target_places (Whole name) k = nil (here k name.at)
   target_places (Bit name i) k = front (here k name.at) _ _ (formula_places i (k - 1))
-  target_places (Part name a b) k =
+  target_places (Part name kind a b) k =
       front (here k name.at) _ _ (ap (λ l. l ++ nest_deeper (k - 1) (nest b)) (formula_places a (k - 1)) ∙ front (formula_deeper (k - 1) a) _ _ (formula_places b (k - 1)))
       ∙ left2 (here k name.at) (formula_deeper (k - 1) a) (formula_deeper (k - 1) b)
   target_places (Joined at ts) k = front (here k at) _ _ (targets_places ts (k - 1) Nothing)
@@ -205,6 +206,10 @@ puts_net n k = puts_value n.value k
 puts_drive : (d : Drive) (k : ℕ) → Puts (drive d) k (drive_deeper k d)
 puts_drive d k = puts_then (λ m. Both m (nest_target d.target)) (beside d.value) k (target_deeper k d.target) (formula_deeper k d.value) (puts_target d.target k) (puts_formula d.value k)
 
+puts_gate_drive : (d : GateDrive) (k : ℕ) → Puts (gate_drive d) k (gate_drive_deeper k d)
+puts_gate_drive d k =
+    puts_then (all_beside beside_target d.outputs) (beside d.value) k (flat_map (target_deeper k) d.outputs) (formula_deeper k d.value) (puts_all beside_target k (target_deeper k) (λ t. puts_target t k) d.outputs) (puts_formula d.value k)
+
 puts_happening : (h : Happening) (k : ℕ) → Puts (happening h) k (happening_deeper k h)
 puts_happening (Edge e at name) k = puts_nothing (happening (Edge e at name)) k (λ m. refl)
 puts_happening (Change name) k = puts_nothing (happening (Change name)) k (λ m. refl)
@@ -236,11 +241,31 @@ puts_item (Parameters at kind bounds values) k =
     (puts_all valuation k (valuation_deeper k) (λ v. puts_formula v.value k) values)
 puts_item (Drives at pause drives) k =
     puts_then (paused pause) (all_beside drive drives) k (of_any (pause_deeper k) pause) (flat_map (drive_deeper k) drives) (puts_pause pause k) (puts_all drive k (drive_deeper k) (λ d. puts_drive d k) drives)
+puts_item (Gates at names pause drives) k =
+    puts_then (paused pause) (all_beside gate_drive drives) k (of_any (pause_deeper k) pause) (flat_map (gate_drive_deeper k) drives) (puts_pause pause k)
+    (puts_all gate_drive k (gate_drive_deeper k) (λ d. puts_gate_drive d k) drives)
 puts_item (Always at s body) k =
     puts_then (awaited s) (λ m. Both m (nest_action body)) k (sensitivity_deeper k s) (action_deeper k body) (puts_sensitivity s k) (puts_node (nest_action body) k (action_deeper k body) (action_places body k))
 puts_item (Instances child parameters instantiations) k =
     puts_then (arguments parameters) (all_beside placed instantiations) k (association_deeper k parameters) (flat_map (instantiation_deeper k) instantiations) (puts_arguments parameters k)
     (puts_all placed k (instantiation_deeper k) (λ p. puts_arguments p.connections k) instantiations)
+
+puts_gate_span : (s : GateSpan) (k : ℕ) → Puts (gate_spanned s) k (gate_span_deeper k s)
+puts_gate_span (One s) k = puts_span s k
+puts_gate_span (Two rise fall) k = puts_then (beside rise) (beside fall) k (formula_deeper k rise) (formula_deeper k fall) (puts_formula rise k) (puts_formula fall k)
+
+puts_gate_pause : (p : Option GatePause) (k : ℕ) → Puts (gate_paused p) k (of_any (gate_pause_deeper k) p)
+puts_gate_pause None k = puts_nothing (gate_paused None) k (λ m. refl)
+puts_gate_pause (Some p) k = puts_gate_span p.span k
+
+puts_gate : (g : Gate) (k : ℕ) → Puts (gate g) k (gate_deeper k g)
+puts_gate g k =
+    puts_then (beside_target g.output) (all_beside beside g.terminals) k (target_deeper k g.output) (flat_map (formula_deeper k) g.terminals) (puts_target g.output k) (puts_all beside k (formula_deeper k) (λ f. puts_formula f k) g.terminals)
+
+puts_written : (i : WrittenItem) (k : ℕ) → Puts (in_written i) k (written_deeper k i)
+puts_written (Plain item) k = puts_item item k
+puts_written (Primitives at kind pause gates) k =
+    puts_then (gate_paused pause) (all_beside gate gates) k (of_any (gate_pause_deeper k) pause) (flat_map (gate_deeper k) gates) (puts_gate_pause pause k) (puts_all gate k (gate_deeper k) (λ g. puts_gate g k) gates)
 
 puts_heading : (h : Option Heading) (k : ℕ) → Puts (heading h) k (of_any (λ x. of_any (bounds_deeper k) x.bounds) h)
 puts_heading None k = puts_nothing (heading None) k (λ m. refl)
@@ -260,17 +285,17 @@ puts_header Empty k = puts_nothing (in_header Empty) k (λ m. refl)
 puts_header (Declared ports) k = puts_all head_port k (header_port_deeper k) (λ p. puts_head p.head k) ports
 puts_header (modules.Named names) k = puts_skip names k
 
-puts_circuit : (c : Circuit) (k : ℕ) → Puts (in_circuit c) k (deeper k c)
+puts_circuit : (c : WrittenCircuit) (k : ℕ) → Puts (in_circuit c) k (deeper k c)
 unfolding Puts
 puts_circuit c k m =
-    puts_then (all_beside head_parameter c.parameters) (λ m. all_beside in_item c.items (in_header c.header m)) k
-    (flat_map (header_parameter_deeper k) c.parameters) (header_deeper k c.header ++ flat_map (item_deeper k) c.items)
+    puts_then (all_beside head_parameter c.parameters) (λ m. all_beside in_written c.items (in_header c.header m)) k
+    (flat_map (header_parameter_deeper k) c.parameters) (header_deeper k c.header ++ flat_map (written_deeper k) c.items)
     (puts_all head_parameter k (header_parameter_deeper k) (λ p. puts_parameter p k) c.parameters)
-    (puts_then (in_header c.header) (all_beside in_item c.items) k (header_deeper k c.header) (flat_map (item_deeper k) c.items) (puts_header c.header k)
-    (puts_all in_item k (item_deeper k) (λ i. puts_item i k) c.items)) m
-    ∙ front (nest_deeper k m) _ _ (left2 (flat_map (header_parameter_deeper k) c.parameters) (header_deeper k c.header) (flat_map (item_deeper k) c.items))
+    (puts_then (in_header c.header) (all_beside in_written c.items) k (header_deeper k c.header) (flat_map (written_deeper k) c.items) (puts_header c.header k)
+    (puts_all in_written k (written_deeper k) (λ i. puts_written i k) c.items)) m
+    ∙ front (nest_deeper k m) _ _ (left2 (flat_map (header_parameter_deeper k) c.parameters) (header_deeper k c.header) (flat_map (written_deeper k) c.items))
 
 -- the places of all modules that are nested too deep
-pub places : (cs : List Circuit) → nest_deeper MAX_NESTING (all_beside in_circuit cs Nothing) ≡ too_deep cs
+pub places : (cs : List WrittenCircuit) → nest_deeper MAX_NESTING (all_beside in_circuit cs Nothing) ≡ too_deep cs
 unfolding Puts
 places cs = puts_all in_circuit MAX_NESTING (deeper MAX_NESTING) (λ c. puts_circuit c MAX_NESTING) cs Nothing

@@ -11,11 +11,12 @@ use Rattle.text_survey.specs.Rule.{rule}
 use Rattle.text_survey.specs.Machine.{State, at, symbol_at, left, moved, next, after, Leads}
 use Rattle.text_survey.specs.Surveys.{AreNumbered, SpellSome, start}
 use Rattle.text_survey.proofs.Laws.Steps.{some_is, first}
-use Rattle.text_survey.proofs.Laws.Means.{Means, AllMean, Then, Numbered, to, was_required}
+use Rattle.text_survey.proofs.Laws.Means.{AllMean, Then, Numbered, to, was_required}
 use Rattle.text_survey.proofs.Laws.SoundExpressions.{Sound, sound_level, sound_chain}
 use Rattle.text_survey.proofs.Laws.SoundExpressions as expressions
 use Rattle.text_survey.proofs.Laws.SoundStatements as statements
 use Rattle.text_survey.proofs.Laws.SoundItems as declarations
+use Rattle.text_survey.proofs.Laws.SoundGates as gates
 use Rattle.text_survey.proofs.Laws.SoundModules as modules
 
 sound : (t : Task) → Sound t
@@ -71,6 +72,18 @@ sound task.Sensitivity ts rest n w = declarations.sound_sensitivity ts rest n w
 sound task.EventList ts rest n w = declarations.sound_event_list ts rest n w
 sound task.Event ts rest n w = declarations.sound_event ts rest n w
 sound task.Events ts rest n w = declarations.sound_events ts rest n w
+sound task.EventSelect ts rest n w = declarations.sound_event_select ts rest n w
+sound task.EventSelectEnd ts rest n w = declarations.sound_event_select_end ts rest n w
+sound task.GateDelay ts rest n w = gates.sound_delay ts rest n w
+sound task.GateTicks ts rest n w = gates.sound_ticks ts rest n w
+sound task.Fall ts rest n w = gates.sound_fall ts rest n w
+sound task.GateName ts rest n w = gates.sound_gate_name ts rest n w
+sound task.Gate ts rest n w = gates.sound_gate ts rest n w
+sound task.Gates ts rest n w = gates.sound_gates ts rest n w
+sound task.Buffer ts rest n w = gates.sound_buffer ts rest n w
+sound task.Buffers ts rest n w = gates.sound_buffers ts rest n w
+sound task.OutputOrInput ts rest n w = gates.sound_output ts rest n w
+sound task.AfterName ts rest n w = gates.sound_after ts rest n w
 sound task.Overrides ts rest n w = modules.sound_overrides ts rest n w
 sound task.Instance ts rest n w = modules.sound_instance ts rest n w
 sound task.Instances ts rest n w = modules.sound_instances ts rest n w

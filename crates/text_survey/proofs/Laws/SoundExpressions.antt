@@ -1,28 +1,31 @@
 -- What was gone through is spelled: expressions.
-use Rattle.std.proofs.Common.{◌≡◌, ℕ, ◌-◌, ◌≤◌, ◌⊎◌, inl, inr, cond, Bool, true, false, nat_eq, List, [], ◌∷◌, Option, Some, None, refl, sym, ap, subst, ◌∙◌, eqb-true, arith}
+use Rattle.std.proofs.Common.{◌≡◌, ℕ, ◌-◌, ◌≤◌, ◌⊎◌, inl, inr, cond, Bool, true, false, nat_eq, List, [], ◌∷◌, Some, None, refl, sym, ap, subst, ◌∙◌, eqb-true, arith}
 use Rattle.rtl_tree.specs.declared.symbol.Symbol.{Symbol}
 use Rattle.rtl_tree.specs.declared.symbol.Symbol.TheVariants as symbol
 use Rattle.rtl_tree.specs.declared.tree.operators.UnaryOperator.{UnaryOperator}
 use Rattle.rtl_tree.specs.declared.tree.operators.UnaryOperator.TheVariants as unary
 use Rattle.rtl_tree.specs.declared.tree.operators.BinaryOperator.{BinaryOperator}
 use Rattle.rtl_tree.specs.declared.tree.operators.BinaryOperator.TheVariants as binary
-use Rattle.rtl_tree.specs.declared.tree.operators.Signedness.{Signedness}
-use Rattle.rtl_tree.specs.declared.tree.operators.Signedness.TheVariants as sign
+use Rattle.rtl_tree.specs.declared.tree.operators.SystemFunction.{SystemFunction}
+use Rattle.rtl_tree.specs.declared.tree.operators.SystemFunction.TheVariants as sign
+use Rattle.rtl_tree.specs.declared.tree.operators.PartKind.{PartKind}
+use Rattle.rtl_tree.specs.declared.tree.operators.PartKind.TheVariants as kind
 use Rattle.rtl_tree.specs.Symbols.{Terminal}
-use Rattle.rtl_tree.specs.TreeExpr.{Formula, Number, Read, ReadBit, ReadPart, Parens, Convert, Concat, Repeat, Unary, Binary, Choose, Formulas, no_formulas, more_formulas, formula_row}
-use Rattle.rtl_tree.specs.Grammar.{Spelling, ◌⨾◌, Nothing, IsA, IsName, AreMore, identifier_of}
-use Rattle.rtl_tree.specs.GrammarExpr.{IsFormula, IsExpression, AreFormulas, AreMoreFormulas, unary_symbol, binary_symbol, level, conversion_symbol}
+use Rattle.rtl_tree.specs.TreeExpr.{Formula, Number, Read, ReadBit, ReadPart, Parens, Apply, Concat, Repeat, Unary, Binary, Choose, more_formulas, formula_row}
+use Rattle.rtl_tree.specs.Grammar.{IsA, AreMore, identifier_of}
+use Rattle.rtl_tree.specs.GrammarExpr.{IsFormula, IsExpression, AreMoreFormulas, unary_symbol, binary_symbol, level, function_symbol, part_symbol}
+use Rattle.rtl_tree.specs.GrammarGate.{is_named}
 use Rattle.text_survey.specs.declared.task.Level.{Level}
 use Rattle.text_survey.specs.declared.task.Level.TheVariants as grade
 use Rattle.text_survey.specs.declared.task.Task.{Task}
 use Rattle.text_survey.specs.declared.task.Task.TheVariants as task
 use Rattle.text_survey.specs.declared.task.Taking.TheVariants as taking
-use Rattle.text_survey.specs.Table.{go, rank, tighter, looseness, link, chain}
+use Rattle.text_survey.specs.Table.{go, rank, tighter, looseness, link}
 use Rattle.text_survey.specs.Rule.{rule}
-use Rattle.text_survey.specs.Machine.{symbol_at, left}
+use Rattle.text_survey.specs.Machine.{symbol_at}
 use Rattle.text_survey.proofs.Laws.Operands.{tighter_rank, rank_small}
 use Rattle.text_survey.proofs.Laws.Expressions.{Not}
-use Rattle.text_survey.proofs.Laws.Means.{Any, ◌⊎⊎◌, Onward, Means, AllMean, Then, IsNumbered, Numbered, to, wrapped, was_required, was_optional, was_more}
+use Rattle.text_survey.proofs.Laws.Means.{Any, Onward, Means, AllMean, Then, IsNumbered, Numbered, to, wrapped, was_optional, was_more}
 
 -- what the step of a task says of it
 abbrev pub Sound : Task → Type 0
@@ -41,16 +44,22 @@ sound_by t f g (a ∷ ts) rest n w = f a ts rest a.symbol refl n w
 
 -- ---- operands
 
-moved : (k : ℕ) (f : Formula) (ts mid rest : List Terminal) → mid ≡ rest → IsFormula k f ts mid → IsFormula k f ts rest
+pub moved : (k : ℕ) (f : Formula) (ts mid rest : List Terminal) → mid ≡ rest → IsFormula k f ts mid → IsFormula k f ts rest
 moved k f ts mid rest e w = subst (λ x. IsFormula k f ts x) e w
 
-selected : (a : Terminal) (ts mid rest : List Terminal) → a.symbol ≡ symbol.Name → Means task.Select ts mid → mid ≡ rest → Any (IsFormula 0) (a ∷ ts) rest
-selected a ts mid rest e (inl w) m = (Read (identifier_of a), (a, ap (λ x. a ∷ x) (w ∙ m), (e, refl)))
-selected a ts mid rest e (inr (inl w)) m =
-    (ReadBit (identifier_of a) w.0, moved 0 (ReadBit (identifier_of a) w.0) (a ∷ ts) mid rest m (ts, (a, refl, (e, refl)), w.1))
-selected a ts mid rest e (inr (inr w)) m =
+-- a name with its select
+pub selected_name : (a : Terminal) (ts mid rest : List Terminal) → a.symbol ≡ symbol.Name → Means task.Select ts mid → mid ≡ rest → (f : Formula) × (is_named f ≡ true) × IsFormula 0 f (a ∷ ts) rest
+selected_name a ts mid rest e (inl w) m = (Read (identifier_of a), refl, (a, ap (λ x. a ∷ x) (w ∙ m), (e, refl)))
+selected_name a ts mid rest e (inr (inl w)) m =
+    (ReadBit (identifier_of a) w.0, refl, moved 0 (ReadBit (identifier_of a) w.0) (a ∷ ts) mid rest m (ts, (a, refl, (e, refl)), w.1))
+selected_name a ts mid rest e (inr (inr w)) m =
     let p = w.0 in
-    (ReadPart (identifier_of a) p.0 p.1, moved 0 (ReadPart (identifier_of a) p.0 p.1) (a ∷ ts) mid rest m (ts, (a, refl, (e, refl)), w.1))
+    (ReadPart (identifier_of a) p.0 p.1 p.2, refl, moved 0 (ReadPart (identifier_of a) p.0 p.1 p.2) (a ∷ ts) mid rest m (ts, (a, refl, (e, refl)), w.1))
+
+selected : (a : Terminal) (ts mid rest : List Terminal) → a.symbol ≡ symbol.Name → Means task.Select ts mid → mid ≡ rest → Any (IsFormula 0) (a ∷ ts) rest
+selected a ts mid rest e w m =
+    let f = selected_name a ts mid rest e w m in
+    (f.0, f.2)
 
 braced : (a : Terminal) (ts : List Terminal) (f : Formula) (mid end rest : List Terminal) → a.symbol ≡ symbol.OpenBrace → IsExpression f ts mid → Means task.Parts mid end → end ≡ rest
     → Any (IsFormula 0) (a ∷ ts) rest
@@ -65,13 +74,13 @@ sound_unary op a ts rest e w =
     let f = w.1 in
     (Unary op a.at f.0, (ts, (a, refl, (e, refl)), moved 0 f.0 ts w.0 rest (wrapped w.0 rest w.2) f.1))
 
-sound_convert : (s : Signedness) (a : Terminal) (ts rest : List Terminal) → a.symbol ≡ conversion_symbol s
+sound_convert : (s : SystemFunction) (a : Terminal) (ts rest : List Terminal) → a.symbol ≡ function_symbol s
     → AllMean (task.Expect symbol.OpenParen ∷ task.Expression ∷ task.Expect symbol.CloseParen ∷ task.Wrap ∷ []) ts rest → Any (IsFormula 0) (a ∷ ts) rest
 sound_convert s a ts rest e w =
     let v = w.2 in
     let f = v.1 in
     let u = v.2 in
-    (Convert s a.at f.0, (ts, (a, refl, (e, refl)), (w.0, w.1, (v.0, f.1, to symbol.CloseParen v.0 u.0 rest u.1 (wrapped u.0 rest u.2)))))
+    (Apply s a.at f.0, (ts, (a, refl, (e, refl)), (w.0, w.1, (v.0, f.1, to symbol.CloseParen v.0 u.0 rest u.1 (wrapped u.0 rest u.2)))))
 
 operand_at : SoundAt (task.Level grade.Operand)
 operand_at a ts rest symbol.Number e n w =
@@ -84,6 +93,7 @@ operand_at a ts rest symbol.OpenParen e n w =
     (Parens a.at f.0, (ts, (a, refl, (e, refl)), (w.0, f.1, to symbol.CloseParen w.0 v.0 rest v.1 (wrapped v.0 rest v.2))))
 operand_at a ts rest symbol.ToSigned e n w = sound_convert sign.Signed a ts rest e w
 operand_at a ts rest symbol.ToUnsigned e n w = sound_convert sign.Unsigned a ts rest e w
+operand_at a ts rest symbol.Clog2 e n w = sound_convert sign.Clog2 a ts rest e w
 operand_at a ts rest symbol.OpenBrace e n w =
     let f = w.1 in
     let v = w.2 in
@@ -102,13 +112,13 @@ operand_at a ts rest other e n w = absurd w
 
 -- ---- levels
 
-looser : (j k : ℕ) (f : Formula) (ts rest : List Terminal) → j ≤ k → IsFormula j f ts rest → IsFormula k f ts rest
+pub looser : (j k : ℕ) (f : Formula) (ts rest : List Terminal) → j ≤ k → IsFormula j f ts rest → IsFormula k f ts rest
 looser j k (Number value at) ts rest h w = w
 looser j k (Read name) ts rest h w = w
 looser j k (ReadBit name index) ts rest h w = w
-looser j k (ReadPart name msb lsb) ts rest h w = w
+looser j k (ReadPart name kind msb lsb) ts rest h w = w
 looser j k (Parens at inner) ts rest h w = w
-looser j k (Convert s at inner) ts rest h w = w
+looser j k (Apply s at inner) ts rest h w = w
 looser j k (Concat at parts) ts rest h w = w
 looser j k (Repeat at times parts) ts rest h w = w
 looser j k (Unary op at operand) ts rest h w = w
@@ -130,8 +140,9 @@ sound_level other ts rest n w = level_steps other ts rest (omega arith) w
 Linked : ℕ → Symbol → Type 0
 Linked k s = (op : BinaryOperator) × (s ≡ binary_symbol op) × (level op ≡ k)
 
-linked : (s : Symbol) (k : ℕ) → 1 ≤ k → k ≤ 10 → looseness (Some s) ≡ k → Linked k s
+linked : (s : Symbol) (k : ℕ) → 1 ≤ k → k ≤ 11 → looseness (Some s) ≡ k → Linked k s
 unfolding Linked
+linked symbol.StarStar k p q e = (binary.Power, refl, e)
 linked symbol.Star k p q e = (binary.Multiply, refl, e)
 linked symbol.Slash k p q e = (binary.Divide, refl, e)
 linked symbol.Percent k p q e = (binary.Modulus, refl, e)
@@ -173,7 +184,7 @@ onward_link k a ts rest p l w begun f x =
     (g.0, moved (rank k) g.0 begun z.0 rest z.2 g.1)
 
 chain_by : (k : Level) (ts rest : List Terminal) (b : Bool) → nat_eq (looseness (symbol_at ts)) (rank k) ≡ b → 1 ≤ rank k → Then (cond b (link k) (go taking.Nothing [])) ts rest → Onward (rank k) (rank k) ts rest
-chain_by k [] rest true e p w = absurd (omega (arith, eqb-true 12 (rank k) e, rank_small k))
+chain_by k [] rest true e p w = absurd (omega (arith, eqb-true 13 (rank k) e, rank_small k))
 chain_by k (a ∷ ts) rest true e p w =
     onward_link k a ts rest p (linked a.symbol (rank k) p (rank_small k) (eqb-true (looseness (Some a.symbol)) (rank k) e)) w
 chain_by k ts rest false e p w = λ begun f x. (f, moved (rank k) f begun ts rest w x)
@@ -189,12 +200,12 @@ choice_at a ts rest symbol.Question e n w =
     let u = v.2 in
     let o = u.1 in (
       Choose a.at f t.0 o.0,
-      (omega arith, (a ∷ ts, x, (ts, (a, refl, (e, refl)), (w.0, t.1, (v.0, v.1, moved 11 o.0 v.0 u.0 rest (wrapped u.0 rest u.2) o.1))))),
+      (omega arith, (a ∷ ts, x, (ts, (a, refl, (e, refl)), (w.0, t.1, (v.0, v.1, moved 12 o.0 v.0 u.0 rest (wrapped u.0 rest u.2) o.1))))),
     )
-choice_at a ts rest other e n w = λ begun f x. (f, looser 10 11 f begun rest (omega arith) (moved 10 f begun (a ∷ ts) rest w x))
+choice_at a ts rest other e n w = λ begun f x. (f, looser 11 12 f begun rest (omega arith) (moved 11 f begun (a ∷ ts) rest w x))
 
 choice_end : SoundEnd task.Choice
-choice_end rest w = λ begun f x. (f, looser 10 11 f begun rest (omega arith) (moved 10 f begun [] rest w x))
+choice_end rest w = λ begun f x. (f, looser 11 12 f begun rest (omega arith) (moved 11 f begun [] rest w x))
 
 pub sound_choice : Sound task.Choice
 sound_choice = sound_by task.Choice choice_at choice_end
@@ -205,16 +216,21 @@ sound_expression ts rest n w =
     let v = w.2 in
     let g = v.1 ts f.0 f.1 in
     let u = v.2 in
-    (g.0, moved 11 g.0 ts v.0 rest (u.1 ∙ u.2) g.1)
+    (g.0, moved 12 g.0 ts v.0 rest (u.1 ∙ u.2) g.1)
 
 -- ---- selects, parts and rows
 
-select_end_at : SoundAt task.SelectEnd
-select_end_at a ts rest symbol.CloseBracket e n w = inl (a, ap (λ x. a ∷ x) w, e)
-select_end_at a ts rest symbol.Colon e n w =
+part_end : (k : PartKind) (a : Terminal) (ts rest : List Terminal) → a.symbol ≡ part_symbol k → AllMean (task.Expression ∷ task.Expect symbol.CloseBracket ∷ []) ts rest → Means task.SelectEnd (a ∷ ts) rest
+part_end k a ts rest e w =
     let f = w.1 in
     let v = w.2 in
-    inr (f.0, (ts, (a, refl, e), (w.0, f.1, to symbol.CloseBracket w.0 v.0 rest v.1 v.2)))
+    inr ((k, f.0), (ts, (a, refl, e), (w.0, f.1, to symbol.CloseBracket w.0 v.0 rest v.1 v.2)))
+
+select_end_at : SoundAt task.SelectEnd
+select_end_at a ts rest symbol.CloseBracket e n w = inl (a, ap (λ x. a ∷ x) w, e)
+select_end_at a ts rest symbol.Colon e n w = part_end kind.Between a ts rest e w
+select_end_at a ts rest symbol.PlusColon e n w = part_end kind.Up a ts rest e w
+select_end_at a ts rest symbol.MinusColon e n w = part_end kind.Down a ts rest e w
 select_end_at a ts rest other e n w = absurd w
 
 pub sound_select_end : Sound task.SelectEnd
@@ -226,7 +242,7 @@ select_by ts rest mid f end o x last (inl c) e = inr (inl (f, (mid, o, (end, x, 
 select_by ts rest mid f end o x last (inr c) e =
     let v = c.1 in
     let u = v.2 in
-    inr (inr ((f, c.0), (mid, o, (end, x, (v.0, v.1, (u.0, u.1, to symbol.CloseBracket u.0 last rest u.2 e))))))
+    inr (inr ((c.0.0, f, c.0.1), (mid, o, (end, x, (v.0, v.1, (u.0, u.1, to symbol.CloseBracket u.0 last rest u.2 e))))))
 
 pub sound_select : Sound task.Select
 sound_select ts rest n w = by_option (was_optional symbol.OpenBracket (task.Expression ∷ task.SelectEnd ∷ []) ts rest w)

@@ -1,28 +1,19 @@
 -- What was gone through is spelled: items.
-use Rattle.std.proofs.Common.{◌≡◌, ℕ, ◌⊎◌, inl, inr, Bool, true, false, List, [], ◌∷◌, Option, Some, None, refl, sym, ap, subst, ◌∙◌}
-use Rattle.rtl_tree.specs.declared.symbol.Symbol.{Symbol}
+use Rattle.std.proofs.Common.{◌≡◌, ◌⊎◌, inl, inr, true, false, List, [], ◌∷◌, Some, None, refl, ap, subst, ◌∙◌}
 use Rattle.rtl_tree.specs.declared.symbol.Symbol.TheVariants as symbol
-use Rattle.rtl_tree.specs.declared.tree.item.Direction.{Direction}
-use Rattle.rtl_tree.specs.declared.tree.item.Direction.TheVariants as direction
 use Rattle.rtl_tree.specs.declared.tree.item.PortKind.TheVariants as kind
-use Rattle.rtl_tree.specs.declared.tree.item.ParameterKind.{ParameterKind}
-use Rattle.rtl_tree.specs.declared.tree.item.ParameterKind.TheVariants as parameter
 use Rattle.rtl_tree.specs.declared.tree.item.EventEdge.{EventEdge}
 use Rattle.rtl_tree.specs.declared.tree.item.EventEdge.TheVariants as edge
 use Rattle.rtl_tree.specs.Symbols.{Terminal}
-use Rattle.rtl_tree.specs.TreeExpr.{Formula, Identifier}
-use Rattle.rtl_tree.specs.TreeItem.{Happening, Edge, Change, ChangeBit, ChangePart, Star, StarInParens, Listed, Positional, Associated, Association, ByPosition, ByName, Instantiation, ModuleItem, Ports, Nets, Variables, Integers, Parameters, Drives, Always, Instances}
-use Rattle.rtl_tree.specs.Grammar.{Spelling, ◌⨾◌, IsA, IsName, IsOptional, AreAll, AreMore, AreListed, identifier_of}
-use Rattle.rtl_tree.specs.GrammarExpr.{IsExpression, IsBounds}
-use Rattle.rtl_tree.specs.GrammarStmt.{IsAttribute}
-use Rattle.rtl_tree.specs.GrammarItem.{direction_symbol, IsHead, IsKind, IsValue, IsNet, IsInitial, IsVariable, IsValuation, IsDrive, parameter_symbol, edge_symbol, IsHappening, AreMoreEvents, AreEvents, Begins, IsPositional, IsAssociated, AreArguments, AreConnections, IsInstantiation, AreOverrides, IsItem, IsMarkedItem}
-use Rattle.text_survey.specs.declared.task.Task.{Task}
+use Rattle.rtl_tree.specs.TreeExpr.{Formula}
+use Rattle.rtl_tree.specs.TreeItem.{Edge, Change, ChangeBit, ChangePart, Star, StarInParens, Listed}
+use Rattle.rtl_tree.specs.Grammar.{Spelling, IsA, IsName, IsOptional, identifier_of}
+use Rattle.rtl_tree.specs.GrammarExpr.{IsExpression}
+use Rattle.rtl_tree.specs.GrammarItem.{IsValue, IsNet, IsInitial, IsVariable, IsValuation, IsDrive, edge_symbol, IsHappening, AreMoreEvents}
 use Rattle.text_survey.specs.declared.task.Task.TheVariants as task
-use Rattle.text_survey.specs.Rule.{rule}
-use Rattle.text_survey.specs.Machine.{symbol_at, left}
 use Rattle.text_survey.proofs.Laws.Expressions.{Not}
-use Rattle.text_survey.proofs.Laws.Means.{Any, Means, AllMean, Then, IsNumbered, Numbered, to, was_required, was_optional, was_unless, was_more}
-use Rattle.text_survey.proofs.Laws.SoundExpressions.{Sound, SoundAt, SoundEnd, sound_by}
+use Rattle.text_survey.proofs.Laws.Means.{Any, Means, AllMean, to, was_required, was_optional, was_more}
+use Rattle.text_survey.proofs.Laws.SoundExpressions.{Sound, SoundAt, sound_by}
 use Rattle.text_survey.proofs.Laws.SoundStatements.{named}
 
 -- one thing that ends elsewhere
@@ -164,12 +155,42 @@ event_list_at a ts rest other e n w = listed (a ∷ ts) rest w
 pub sound_event_list : Sound task.EventList
 sound_event_list = sound_by task.EventList event_list_at (λ rest w. listed [] rest w)
 
+event_end_at : SoundAt task.EventSelectEnd
+event_end_at a ts rest symbol.CloseBracket e n w = inl (a, ap (λ x. a ∷ x) w, e)
+event_end_at a ts rest symbol.Colon e n w =
+    let f = w.1 in
+    let v = w.2 in
+    inr (f.0, (ts, (a, refl, e), (w.0, f.1, to symbol.CloseBracket w.0 v.0 rest v.1 v.2)))
+event_end_at a ts rest other e n w = absurd w
+
+pub sound_event_select_end : Sound task.EventSelectEnd
+sound_event_select_end = sound_by task.EventSelectEnd event_end_at (λ rest w. absurd w)
+
+event_select_by : (ts rest : List Terminal) (mid : List Terminal) (f : Formula) (end : List Terminal) → IsA symbol.OpenBracket ts mid → IsExpression f mid end → (last : List Terminal) → Means task.EventSelectEnd end last → last ≡ rest
+    → Means task.EventSelect ts rest
+event_select_by ts rest mid f end o x last (inl c) e = inr (inl (f, (mid, o, (end, x, to symbol.CloseBracket end last rest c e))))
+event_select_by ts rest mid f end o x last (inr c) e =
+    let v = c.1 in
+    let u = v.2 in
+    inr (inr ((f, c.0), (mid, o, (end, x, (v.0, v.1, (u.0, u.1, to symbol.CloseBracket u.0 last rest u.2 e))))))
+
+pub sound_event_select : Sound task.EventSelect
+sound_event_select ts rest n w = by_option (was_optional symbol.OpenBracket (task.Expression ∷ task.EventSelectEnd ∷ []) ts rest w)
+  where
+    by_option : ((mid : List Terminal) × IsA symbol.OpenBracket ts mid × AllMean (task.Expression ∷ task.EventSelectEnd ∷ []) mid rest) ⊎ ((ts ≡ rest) × Not symbol.OpenBracket ts) → Means task.EventSelect ts rest
+    by_option (inr v) = inl v.0
+    by_option (inl v) =
+        let u = v.2 in
+        let f = u.1 in
+        let z = u.2 in
+        event_select_by ts rest v.0 f.0 u.0 v.1 f.1 z.0 z.1 z.2
+
 edge_by : (d : EventEdge) (a : Terminal) (ts rest : List Terminal) → a.symbol ≡ edge_symbol d → AllMean (task.Name ∷ []) ts rest → Any IsHappening (a ∷ ts) rest
 edge_by d a ts rest e w =
     let i = ends_at IsName ts w.0 rest w.1 w.2 in
     (Edge d a.at i.0, (ts, (a, refl, (e, refl)), i.1))
 
-change_by : (a : Terminal) (ts mid rest : List Terminal) → a.symbol ≡ symbol.Name → Means task.Select ts mid → mid ≡ rest → Any IsHappening (a ∷ ts) rest
+change_by : (a : Terminal) (ts mid rest : List Terminal) → a.symbol ≡ symbol.Name → Means task.EventSelect ts mid → mid ≡ rest → Any IsHappening (a ∷ ts) rest
 change_by a ts mid rest e (inl w) m = (Change (identifier_of a), (a, ap (λ x. a ∷ x) (w ∙ m), (e, refl)))
 change_by a ts mid rest e (inr (inl w)) m =
     (ChangeBit (identifier_of a) w.0, subst (λ x. IsHappening (ChangeBit (identifier_of a) w.0) (a ∷ ts) x) m (ts, (a, refl, (e, refl)), w.1))

@@ -1,39 +1,39 @@
 -- What was gone through is spelled: instances, items and modules.
-use Rattle.std.proofs.Common.{◌≡◌, ℕ, ◌⊎◌, inl, inr, Bool, true, false, List, [], ◌∷◌, Option, Some, None, refl, sym, ap, subst, ◌∙◌}
+use Rattle.std.proofs.Common.{◌≡◌, ◌⊎◌, inl, inr, Bool, true, false, List, [], ◌∷◌, Option, Some, None, refl, sym, ap, subst, ◌∙◌}
 use Rattle.std.specs.List.{filter}
-use Rattle.text_ground.specs.declared.dropped.Dropped.{Dropped}
-use Rattle.rtl_tree.specs.declared.symbol.Symbol.{Symbol}
 use Rattle.rtl_tree.specs.declared.symbol.Symbol.TheVariants as symbol
 use Rattle.rtl_tree.specs.declared.tree.item.Direction.{Direction}
 use Rattle.rtl_tree.specs.declared.tree.item.Direction.TheVariants as direction
 use Rattle.rtl_tree.specs.declared.tree.item.ParameterKind.{ParameterKind}
 use Rattle.rtl_tree.specs.declared.tree.item.ParameterKind.TheVariants as parameter
+use Rattle.rtl_tree.specs.declared.tree.gate.GateKind.{GateKind}
+use Rattle.rtl_tree.specs.declared.tree.gate.GateKind.TheVariants as kind
 use Rattle.rtl_tree.specs.Symbols.{Terminal}
 use Rattle.rtl_tree.specs.TreeExpr.{Formula, Identifier}
-use Rattle.rtl_tree.specs.TreeItem.{Head, Positional, Associated, Association, ByPosition, ByName, Instantiation, ModuleItem, Ports, Nets, Variables, Integers, Parameters, Drives, Always, Instances}
-use Rattle.rtl_tree.specs.TreeModule.{Heading, HeaderParameter, HeaderPort, Header, Absent, Empty, Declared, Named, Circuit}
-use Rattle.rtl_tree.specs.Grammar.{Spelling, ◌⨾◌, IsA, IsName, IsOptional, AreAll, AreMore, AreListed, identifier_of}
-use Rattle.rtl_tree.specs.GrammarExpr.{IsExpression, IsBounds}
-use Rattle.rtl_tree.specs.GrammarStmt.{IsAttribute, AreAttributes}
-use Rattle.rtl_tree.specs.GrammarItem.{direction_symbol, IsHead, IsValue, parameter_symbol, Begins, IsPositional, IsAssociated, IsMoreThanEmpty, AreArguments, AreConnections, IsInstantiation, AreOverrides, IsItem, IsMarkedItem}
-use Rattle.rtl_tree.specs.GrammarModule.{IsThere, IsHeading, IsParameter, AreParameters, IsPort, IsHeader, is_between, IsCircuit, IsMarkedCircuit, AreCircuits}
-use Rattle.text_survey.specs.declared.task.Task.{Task}
+use Rattle.rtl_tree.specs.TreeItem.{Head, Positional, Association, ByPosition, ByName, ModuleItem, Ports, Nets, Variables, Integers, Parameters, Drives, Always, Instances}
+use Rattle.rtl_tree.specs.TreeGate.{Plain, Primitives}
+use Rattle.rtl_tree.specs.TreeModule.{HeaderParameter, Absent, Empty, Declared, Named, WrittenCircuit}
+use Rattle.rtl_tree.specs.Grammar.{◌⨾◌, IsA, IsName, IsOptional, AreAll, AreMore, AreListed, identifier_of}
+use Rattle.rtl_tree.specs.GrammarExpr.{IsExpression}
+use Rattle.rtl_tree.specs.GrammarItem.{direction_symbol, IsHead, parameter_symbol, IsPositional, IsAssociated, AreArguments, AreConnections, IsInstantiation, AreOverrides, IsItem}
+use Rattle.rtl_tree.specs.GrammarGate.{gate_symbol, has_one_input, IsMarkedItem}
+use Rattle.rtl_tree.specs.GrammarModule.{IsThere, IsParameter, IsPort, IsHeader, is_between, IsMarkedCircuit, AreCircuits}
 use Rattle.text_survey.specs.declared.task.Task.TheVariants as task
-use Rattle.text_survey.specs.Rule.{rule}
-use Rattle.text_survey.specs.Table.{is_next, same_symbol}
-use Rattle.text_survey.specs.Machine.{symbol_at, left}
+use Rattle.text_survey.specs.Table.{is_next}
+use Rattle.text_survey.specs.Machine.{symbol_at}
 use Rattle.text_survey.proofs.Laws.Expressions.{Not, head}
 use Rattle.text_survey.proofs.Laws.Operands.{same_refl}
+use Rattle.text_survey.proofs.Laws.Gates.{IsGateOf}
 use Rattle.text_survey.proofs.Laws.Starts.{opens, formula_opens}
-use Rattle.text_survey.proofs.Laws.Means.{Any, Means, AllMean, Then, IsNumbered, Numbered, to, was_required, was_optional, was_unless, was_more}
-use Rattle.text_survey.proofs.Laws.SoundExpressions.{Sound, SoundAt, SoundEnd, sound_by}
+use Rattle.text_survey.proofs.Laws.Means.{Any, Means, AllMean, to, was_required, was_optional, was_unless, was_more}
+use Rattle.text_survey.proofs.Laws.SoundExpressions.{Sound, SoundAt, sound_by}
 use Rattle.text_survey.proofs.Laws.SoundStatements.{named}
 use Rattle.text_survey.proofs.Laws.SoundItems.{ends_at}
 
 -- ---- arguments
 
 no_expression : (f : Formula) (rest : List Terminal) → IsExpression f [] rest → ⊥
-no_expression f rest w = never (formula_opens f 11 [] rest w)
+no_expression f rest w = never (formula_opens f 12 [] rest w)
   where
     never : opens None ≡ true → ⊥
     never e = cc
@@ -160,7 +160,7 @@ sound_instances ts rest n w = was_more IsInstantiation task.Instance task.Instan
 -- ---- items
 
 unmarked : (i : ModuleItem) (ts rest : List Terminal) → IsItem i ts rest → Any IsMarkedItem ts rest
-unmarked i ts rest w = (i, ([], (ts, refl, w)))
+unmarked i ts rest w = (Plain i, ([], (ts, refl, w)))
 
 ports_by : (d : Direction) (a : Terminal) (ts rest : List Terminal) → a.symbol ≡ direction_symbol d
     → AllMean (task.PortKind ∷ task.Sign ∷ task.Range ∷ task.Name ∷ task.Names ∷ task.Expect symbol.Semicolon ∷ []) ts rest → Any IsMarkedItem (a ∷ ts) rest
@@ -189,6 +189,29 @@ parameters_by k a ts rest e w =
     let is = w3.1 in
     unmarked (Parameters a.at k b.0 (i.0 ∷ is.0)) (a ∷ ts) rest
     (ts, (a, refl, (e, refl)), (w.0, b.1, (w3.0, (w2.0, i.1, is.1), to symbol.Semicolon w3.0 w4.0 rest w4.1 w4.2)))
+
+-- gates of a kind, by whether it has one input
+primitives_by : (k : GateKind) (b : Bool) → has_one_input k ≡ b → (a : Terminal) (ts m1 m2 m3 m4 rest : List Terminal) → a.symbol ≡ gate_symbol k → Means task.GateDelay ts m1 → Any (IsGateOf b) m1 m2 → Any (AreMore (IsGateOf b)) m2 m3
+    → IsA symbol.Semicolon m3 m4 → m4 ≡ rest → Any IsMarkedItem (a ∷ ts) rest
+primitives_by k b h a ts m1 m2 m3 m4 rest e p g gs s f =
+    let listed = subst (λ x. AreListed (IsGateOf x) (g.0 ∷ gs.0) m1 m3) (sym h) (m2, g.1, gs.1) in
+    (Primitives a.at k p.0 (g.0 ∷ gs.0), ([], (a ∷ ts, refl, (ts, (a, refl, (e, refl)), (m1, p.1, (m3, listed, to symbol.Semicolon m3 m4 rest s f))))))
+
+many_by : (k : GateKind) → has_one_input k ≡ false → (a : Terminal) (ts rest : List Terminal) → a.symbol ≡ gate_symbol k → AllMean (task.GateDelay ∷ task.Gate ∷ task.Gates ∷ task.Expect symbol.Semicolon ∷ []) ts rest
+    → Any IsMarkedItem (a ∷ ts) rest
+many_by k h a ts rest e w =
+    let w2 = w.2 in
+    let w3 = w2.2 in
+    let w4 = w3.2 in
+    primitives_by k false h a ts w.0 w2.0 w3.0 w4.0 rest e w.1 w2.1 w3.1 w4.1 w4.2
+
+buffers_by : (k : GateKind) → has_one_input k ≡ true → (a : Terminal) (ts rest : List Terminal) → a.symbol ≡ gate_symbol k → AllMean (task.GateDelay ∷ task.Buffer ∷ task.Buffers ∷ task.Expect symbol.Semicolon ∷ []) ts rest
+    → Any IsMarkedItem (a ∷ ts) rest
+buffers_by k h a ts rest e w =
+    let w2 = w.2 in
+    let w3 = w2.2 in
+    let w4 = w3.2 in
+    primitives_by k true h a ts w.0 w2.0 w3.0 w4.0 rest e w.1 w2.1 w3.1 w4.1 w4.2
 
 item_at : SoundAt task.Item
 item_at a ts rest symbol.OpenAttribute e n w =
@@ -257,6 +280,14 @@ item_at a ts rest symbol.Name e n w =
     let is = w3.1 in
     unmarked (Instances (identifier_of a) o.0 (i.0 ∷ is.0)) (a ∷ ts) rest
     (ts, (a, refl, (e, refl)), (w.0, o.1, (w3.0, (w2.0, i.1, is.1), to symbol.Semicolon w3.0 w4.0 rest w4.1 w4.2)))
+item_at a ts rest symbol.And e n w = many_by kind.And refl a ts rest e w
+item_at a ts rest symbol.Nand e n w = many_by kind.Nand refl a ts rest e w
+item_at a ts rest symbol.Or e n w = many_by kind.Or refl a ts rest e w
+item_at a ts rest symbol.Nor e n w = many_by kind.Nor refl a ts rest e w
+item_at a ts rest symbol.Xor e n w = many_by kind.Xor refl a ts rest e w
+item_at a ts rest symbol.Xnor e n w = many_by kind.Xnor refl a ts rest e w
+item_at a ts rest symbol.Buf e n w = buffers_by kind.Buf refl a ts rest e w
+item_at a ts rest symbol.Not e n w = buffers_by kind.Not refl a ts rest e w
 item_at a ts rest other e n w = absurd w
 
 pub sound_item : Sound task.Item
@@ -421,7 +452,7 @@ module_at a ts rest symbol.Module e n w =
     let h = w3.1 in
     let is = w5.1 in
     let last = to symbol.Endmodule w5.0 w6.0 rest w6.1 w6.2 in
-    let c : Circuit = record { at = a.at; name = i.0; parameters = ps.0; header = h.0; items = is.0; dropped = filter (is_between a.at last.0.at) regions } in (
+    let c : WrittenCircuit = record { at = a.at; name = i.0; parameters = ps.0; header = h.0; items = is.0; dropped = filter (is_between a.at last.0.at) regions } in (
       c,
       (
         [],

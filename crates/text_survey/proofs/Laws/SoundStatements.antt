@@ -1,25 +1,22 @@
 -- What was gone through is spelled: statements.
-use Rattle.std.proofs.Common.{◌≡◌, ℕ, ◌+◌, ◌≤◌, ◌⊎◌, inl, inr, Bool, true, false, ◌||◌, List, [], ◌∷◌, Option, Some, None, refl, sym, ap, subst, ◌∙◌, codes, arith}
-use Rattle.rtl_tree.specs.declared.symbol.Symbol.{Symbol}
+use Rattle.std.proofs.Common.{◌≡◌, ℕ, ◌≤◌, ◌⊎◌, inl, inr, Bool, true, false, ◌||◌, List, [], ◌∷◌, Some, None, refl, sym, ap, subst, ◌∙◌, codes, arith}
 use Rattle.rtl_tree.specs.declared.symbol.Symbol.TheVariants as symbol
 use Rattle.rtl_tree.specs.declared.tree.stmt.AssignmentKind.TheVariants as assignment
 use Rattle.rtl_tree.specs.declared.tree.stmt.CaseKind.{CaseKind}
 use Rattle.rtl_tree.specs.declared.tree.stmt.CaseKind.TheVariants as kind
 use Rattle.rtl_tree.specs.Symbols.{Terminal}
 use Rattle.rtl_tree.specs.TreeExpr.{Formula, Identifier}
-use Rattle.rtl_tree.specs.TreeStmt.{Target, Whole, Bit, Part, Joined, Targets, no_targets, more_targets, Span, Fixed, Named, Valued, Pause, Action, Null, Delayed, Assign, If, IfElse, Case, For, Block, Actions, no_actions, more_actions, Branch, Labelled, Default, Branches, no_branches, more_branches}
-use Rattle.rtl_tree.specs.Grammar.{Spelling, ◌⨾◌, Nothing, IsA, IsName, IsOptional, AreMore, AreListed, identifier_of}
+use Rattle.rtl_tree.specs.TreeStmt.{Whole, Bit, Part, Joined, no_targets, more_targets, Fixed, Named, Valued, Action, Null, Delayed, Assign, If, IfElse, Case, For, Block, no_actions, more_actions, Labelled, Default, no_branches, more_branches}
+use Rattle.rtl_tree.specs.Grammar.{IsA, IsName, AreMore, identifier_of}
 use Rattle.rtl_tree.specs.GrammarExpr.{IsExpression}
-use Rattle.rtl_tree.specs.GrammarStmt.{IsAttributeValue, IsAttribute, AreAttributes, names, IsTarget, AreTargets, AreMoreTargets, IsSpan, IsPause, assignment_symbol, case_symbol, ends_open, defaults, IsLabel, IsDefaultEnd, IsAction, AreStatements, IsBranch, AreBranches, AreMoreBranches, IsStatement}
-use Rattle.text_survey.specs.declared.task.Task.{Task}
+use Rattle.rtl_tree.specs.GrammarStmt.{IsAttributeValue, IsAttribute, names, IsTarget, AreMoreTargets, IsSpan, case_symbol, ends_open, defaults, IsAction, AreStatements, IsBranch, AreBranches, AreMoreBranches, IsStatement}
 use Rattle.text_survey.specs.declared.task.Task.TheVariants as task
-use Rattle.text_survey.specs.Rule.{rule}
-use Rattle.text_survey.specs.Machine.{symbol_at, left}
+use Rattle.text_survey.specs.Machine.{symbol_at}
 use Rattle.text_survey.proofs.Laws.Operands.{same_refl}
 use Rattle.text_survey.specs.Table.{is_next, same_symbol}
 use Rattle.text_survey.proofs.Laws.Expressions.{Not, head}
-use Rattle.text_survey.proofs.Laws.Means.{Any, Means, AllMean, Then, IsNumbered, Numbered, to, finished, was_required, was_optional, was_unless, was_more}
-use Rattle.text_survey.proofs.Laws.SoundExpressions.{Sound, SoundAt, SoundEnd, sound_by}
+use Rattle.text_survey.proofs.Laws.Means.{Any, Means, AllMean, to, finished, was_required, was_optional, was_unless, was_more}
+use Rattle.text_survey.proofs.Laws.SoundExpressions.{Sound, SoundAt, sound_by}
 
 -- ---- attributes
 
@@ -74,7 +71,7 @@ target_by a ts mid rest e (inr (inl w)) m =
     (Bit (identifier_of a) w.0, subst (λ x. IsTarget (Bit (identifier_of a) w.0) (a ∷ ts) x) m (ts, (a, refl, (e, refl)), w.1))
 target_by a ts mid rest e (inr (inr w)) m =
     let p = w.0 in
-    (Part (identifier_of a) p.0 p.1, subst (λ x. IsTarget (Part (identifier_of a) p.0 p.1) (a ∷ ts) x) m (ts, (a, refl, (e, refl)), w.1))
+    (Part (identifier_of a) p.0 p.1 p.2, subst (λ x. IsTarget (Part (identifier_of a) p.0 p.1 p.2) (a ∷ ts) x) m (ts, (a, refl, (e, refl)), w.1))
 
 target_at : SoundAt task.Target
 target_at a ts rest symbol.Name e n w = target_by a ts w.0 rest e w.1 (finished w.0 rest w.2)

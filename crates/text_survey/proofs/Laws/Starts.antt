@@ -1,16 +1,15 @@
 -- What begins an expression or a statement, and what comes after parts of lists.
-use Rattle.std.proofs.Common.{◌≡◌, ℕ, ◌<◌, ◌≤◌, Bool, true, false, List, [], ◌∷◌, Option, Some, None, refl, sym, ap, ◌∙◌, arith}
+use Rattle.std.proofs.Common.{◌≡◌, ℕ, ◌<◌, Bool, true, false, List, [], ◌∷◌, Option, Some, None, refl, ap, ◌∙◌, arith}
 use Rattle.rtl_tree.specs.declared.symbol.Symbol.{Symbol}
 use Rattle.rtl_tree.specs.declared.symbol.Symbol.TheVariants as symbol
 use Rattle.rtl_tree.specs.declared.tree.operators.UnaryOperator.{UnaryOperator}
 use Rattle.rtl_tree.specs.declared.tree.operators.UnaryOperator.TheVariants as unary
-use Rattle.rtl_tree.specs.declared.tree.operators.Signedness.{Signedness}
-use Rattle.rtl_tree.specs.declared.tree.operators.Signedness.TheVariants as sign
+use Rattle.rtl_tree.specs.declared.tree.operators.SystemFunction.{SystemFunction}
+use Rattle.rtl_tree.specs.declared.tree.operators.SystemFunction.TheVariants as sign
 use Rattle.rtl_tree.specs.Symbols.{Terminal}
-use Rattle.rtl_tree.specs.TreeExpr.{Formula, Number, Read, ReadBit, ReadPart, Parens, Convert, Concat, Repeat, Unary, Binary, Choose}
+use Rattle.rtl_tree.specs.TreeExpr.{Formula, Number, Read, ReadBit, ReadPart, Parens, Apply, Concat, Repeat, Unary, Binary, Choose}
 use Rattle.rtl_tree.specs.Grammar.{IsA}
-use Rattle.rtl_tree.specs.GrammarExpr.{IsFormula, unary_symbol, conversion_symbol, level}
-use Rattle.text_survey.specs.declared.task.Task.{Task}
+use Rattle.rtl_tree.specs.GrammarExpr.{IsFormula, unary_symbol, function_symbol, level}
 use Rattle.text_survey.specs.declared.task.Task.TheVariants as task
 use Rattle.text_survey.specs.declared.task.Taking.TheVariants as taking
 use Rattle.text_survey.specs.Table.{go, same_symbol, is_next, looseness}
@@ -25,6 +24,7 @@ opens (Some symbol.Name) = true
 opens (Some symbol.OpenParen) = true
 opens (Some symbol.ToSigned) = true
 opens (Some symbol.ToUnsigned) = true
+opens (Some symbol.Clog2) = true
 opens (Some symbol.OpenBrace) = true
 opens (Some symbol.Plus) = true
 opens (Some symbol.Minus) = true
@@ -85,26 +85,27 @@ opens_unary : (op : UnaryOperator) → opens (Some (unary_symbol op)) ≡ true
 opens_unary unary.Plus = refl
 opens_unary other = refl
 
-opens_convert : (s : Signedness) → opens (Some (conversion_symbol s)) ≡ true
+opens_convert : (s : SystemFunction) → opens (Some (function_symbol s)) ≡ true
 opens_convert sign.Signed = refl
 opens_convert sign.Unsigned = refl
+opens_convert sign.Clog2 = refl
 
 pub formula_opens : (f : Formula) (k : ℕ) (ts rest : List Terminal) → IsFormula k f ts rest → Opens ts
 formula_opens (Number value at) k ts rest w = opens_by symbol.Number ts rest refl (w.0, w.1, w.2.0)
 formula_opens (Read name) k ts rest w = opens_by symbol.Name ts rest refl (w.0, w.1, w.2.0)
 formula_opens (ReadBit name index) k ts rest w = opens_by symbol.Name ts w.0 refl (w.1.0, w.1.1, w.1.2.0)
-formula_opens (ReadPart name msb lsb) k ts rest w = opens_by symbol.Name ts w.0 refl (w.1.0, w.1.1, w.1.2.0)
+formula_opens (ReadPart name kind msb lsb) k ts rest w = opens_by symbol.Name ts w.0 refl (w.1.0, w.1.1, w.1.2.0)
 formula_opens (Parens at inner) k ts rest w = opens_by symbol.OpenParen ts w.0 refl (w.1.0, w.1.1, w.1.2.0)
-formula_opens (Convert s at inner) k ts rest w = opens_by (conversion_symbol s) ts w.0 (opens_convert s) (w.1.0, w.1.1, w.1.2.0)
+formula_opens (Apply s at inner) k ts rest w = opens_by (function_symbol s) ts w.0 (opens_convert s) (w.1.0, w.1.1, w.1.2.0)
 formula_opens (Concat at parts) k ts rest w = opens_by symbol.OpenBrace ts w.0 refl (w.1.0, w.1.1, w.1.2.0)
 formula_opens (Repeat at times parts) k ts rest w = opens_by symbol.OpenBrace ts w.0 refl (w.1.0, w.1.1, w.1.2.0)
 formula_opens (Unary op at operand) k ts rest w = opens_by (unary_symbol op) ts w.0 (opens_unary op) (w.1.0, w.1.1, w.1.2.0)
 formula_opens (Binary op at l r) k ts rest w = formula_opens l (level op) ts w.1.0 w.1.1
-formula_opens (Choose at c t o) k ts rest w = formula_opens c 10 ts w.1.0 w.1.1
+formula_opens (Choose at c t o) k ts rest w = formula_opens c 11 ts w.1.0 w.1.1
 
 -- ---- what a task does there
 
-pub closes_ends : (o : Option Symbol) → closes o ≡ true → 11 < looseness o
+pub closes_ends : (o : Option Symbol) → closes o ≡ true → 12 < looseness o
 closes_ends None h = cc
 closes_ends (Some symbol.Comma) h = omega arith
 closes_ends (Some symbol.Semicolon) h = omega arith

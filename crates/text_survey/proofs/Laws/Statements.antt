@@ -1,6 +1,5 @@
 -- What is spelled is gone through: statements.
-use Rattle.std.proofs.Common.{◌≡◌, ℕ, ◌+◌, ◌<◌, ◌≤◌, ◌⊎◌, inl, inr, Bool, true, false, List, [], ◌∷◌, Option, Some, None, refl, sym, ap, subst, ◌∙◌, arith}
-use Rattle.rtl_tree.specs.declared.symbol.Symbol.{Symbol}
+use Rattle.std.proofs.Common.{◌≡◌, ℕ, ◌<◌, ◌≤◌, inl, inr, Bool, true, false, List, [], ◌∷◌, Option, Some, None, refl, sym, ap, subst, ◌∙◌, arith}
 use Rattle.rtl_tree.specs.declared.symbol.Symbol.TheVariants as symbol
 use Rattle.rtl_tree.specs.declared.tree.stmt.AssignmentKind.{AssignmentKind}
 use Rattle.rtl_tree.specs.declared.tree.stmt.AssignmentKind.TheVariants as assignment
@@ -11,18 +10,18 @@ use Rattle.rtl_tree.specs.TreeExpr.{Formula, Identifier}
 use Rattle.rtl_tree.specs.TreeStmt.{target_place, Target, Whole, Bit, Part, Joined, Pause, Action, Null, Delayed, Assign, If, IfElse, Case, For, Block, Actions, no_actions, more_actions, Branch, Labelled, Default, Branches, no_branches, more_branches}
 use Rattle.rtl_tree.specs.Grammar.{◌⨾◌, IsA, IsName, IsOptional, AreListed}
 use Rattle.rtl_tree.specs.GrammarExpr.{IsExpression}
-use Rattle.rtl_tree.specs.GrammarStmt.{Marked, IsTarget, IsPause, AreAttributes, assignment_symbol, case_symbol, ends_open, defaults, IsLabel, IsDefaultEnd, IsAction, AreStatements, IsBranch, AreBranches, AreMoreBranches, IsStatement}
+use Rattle.rtl_tree.specs.GrammarStmt.{IsTarget, AreAttributes, assignment_symbol, case_symbol, ends_open, defaults, IsLabel, IsDefaultEnd, IsAction, AreStatements, IsBranch, AreBranches, AreMoreBranches, IsStatement}
 use Rattle.text_survey.specs.declared.task.Task.{Task}
 use Rattle.text_survey.specs.declared.task.Task.TheVariants as task
 use Rattle.text_survey.specs.declared.task.Taking.TheVariants as taking
-use Rattle.text_survey.specs.Table.{go, is_next, same_symbol, looseness}
+use Rattle.text_survey.specs.Table.{go, same_symbol, looseness}
 use Rattle.text_survey.specs.Rule.{rule}
 use Rattle.text_survey.specs.Machine.{symbol_at}
-use Rattle.text_survey.specs.Depths.{Nest, Nothing, Both, Depths, counted, place}
+use Rattle.text_survey.specs.Depths.{Depths, counted, place}
 use Rattle.text_survey.proofs.Laws.Counts.{Runs, Does, ◌▸◌, ◌▹◌, same, grow, told, nothing, stay, look, token, node}
-use Rattle.text_survey.proofs.Laws.Nests.{beside, all_beside, beside_action, nest_action, nest_actions, nest_branch, nest_branches}
-use Rattle.text_survey.proofs.Laws.Expressions.{head, wrap, join, expect, Ends, ends, Not, apart, left_out, expression_runs}
-use Rattle.text_survey.proofs.Laws.Starts.{Opens, Begins, opens, begins, opens_by, begins_by, closes_by, closes_ends, formula_opens, opens_delay, opens_first, opens_branches, opens_labelled, opens_else, begins_else, begins_statements, begins_colon, no_else}
+use Rattle.text_survey.proofs.Laws.Nests.{beside, beside_action, nest_actions, nest_branches}
+use Rattle.text_survey.proofs.Laws.Expressions.{head, wrap, join, expect, ends, Not, apart, left_out, expression_runs}
+use Rattle.text_survey.proofs.Laws.Starts.{Opens, Begins, begins, begins_by, closes_by, closes_ends, formula_opens, opens_delay, opens_first, opens_branches, opens_labelled, opens_else, begins_else, begins_statements, begins_colon, no_else}
 use Rattle.text_survey.proofs.Laws.Lists.{ended_node, listed_run, marked_run, delay_run, ticks_run, target_run}
 
 -- ---- how statements begin
@@ -30,7 +29,7 @@ use Rattle.text_survey.proofs.Laws.Lists.{ended_node, listed_run, marked_run, de
 assign_begins : (t : Target) (ts rest : List Terminal) → IsTarget t ts rest → Begins ts
 assign_begins (Whole name) ts rest w = begins_by symbol.Name ts rest refl (w.0, w.1, w.2.0)
 assign_begins (Bit name index) ts rest w = begins_by symbol.Name ts w.0 refl (w.1.0, w.1.1, w.1.2.0)
-assign_begins (Part name msb lsb) ts rest w = begins_by symbol.Name ts w.0 refl (w.1.0, w.1.1, w.1.2.0)
+assign_begins (Part name kind msb lsb) ts rest w = begins_by symbol.Name ts w.0 refl (w.1.0, w.1.1, w.1.2.0)
 assign_begins (Joined at parts) ts rest w = begins_by symbol.OpenBrace ts w.0 refl (w.1.0, w.1.1, w.1.2.0)
 
 begins_case : (k : CaseKind) → begins (Some (case_symbol k)) ≡ true
@@ -112,13 +111,13 @@ target_opens : (t : Target) (ts rest : List Terminal) → IsTarget t ts rest
     → rule task.Statement (symbol_at ts) ≡ go taking.Ahead (task.Target ∷ task.Assigner ∷ task.Delay ∷ task.Expression ∷ task.Expect symbol.Semicolon ∷ task.Wrap ∷ task.Join ∷ [])
 target_opens (Whole name) ts rest w = ap (λ o. rule task.Statement o) (head symbol.Name ts rest (w.0, w.1, w.2.0))
 target_opens (Bit name index) ts rest w = ap (λ o. rule task.Statement o) (head symbol.Name ts w.0 (w.1.0, w.1.1, w.1.2.0))
-target_opens (Part name msb lsb) ts rest w = ap (λ o. rule task.Statement o) (head symbol.Name ts w.0 (w.1.0, w.1.1, w.1.2.0))
+target_opens (Part name kind msb lsb) ts rest w = ap (λ o. rule task.Statement o) (head symbol.Name ts w.0 (w.1.0, w.1.1, w.1.2.0))
 target_opens (Joined at parts) ts rest w = ap (λ o. rule task.Statement o) (head symbol.OpenBrace ts w.0 (w.1.0, w.1.1, w.1.2.0))
 
 target_at : (t : Target) (ts rest : List Terminal) → IsTarget t ts rest → place ts ≡ target_place t
 target_at (Whole name) ts rest w = ap place w.1 ∙ ap (λ (n : Identifier). n.at) w.2.1
 target_at (Bit name index) ts rest w = ap place w.1.1 ∙ ap (λ (n : Identifier). n.at) w.1.2.1
-target_at (Part name msb lsb) ts rest w = ap place w.1.1 ∙ ap (λ (n : Identifier). n.at) w.1.2.1
+target_at (Part name kind msb lsb) ts rest w = ap place w.1.1 ∙ ap (λ (n : Identifier). n.at) w.1.2.1
 target_at (Joined at parts) ts rest w = ap place w.1.1 ∙ w.1.2.1
 
 good_assign : (t : Target) (k : AssignmentKind) (p : Option Pause) (value : Formula) → Good (Assign t k p value)
@@ -130,7 +129,7 @@ good_assign t k p value marks ts rest w s =
     look (target_place t) (target_at t ts w.0 w.1) (target_opens t ts w.0 w.1) (
     target_run t ts w.0 w.1 (subst (λ o. 0 < looseness o) (sym (head (assignment_symbol k) w.0 v.0 v.1)) (assigner_loose k))
     ▸ token (assignment_symbol k) (assigner_rule k) v.1 (nothing v.0)
-    ▸ delay_run p v.0 u.0 u.1 (opens_delay (symbol_at u.0) (formula_opens value 11 u.0 z.0 z.1))
+    ▸ delay_run p v.0 u.0 u.1 (opens_delay (symbol_at u.0) (formula_opens value 12 u.0 z.0 z.1))
     ▸ expression_runs value u.0 z.0 z.1 (ends symbol.Semicolon z.0 rest refl z.2)
     ▸ expect symbol.Semicolon z.0 rest z.2 ▸ finished rest)
 
@@ -232,7 +231,7 @@ branch_shut no_branches ts mid rest w e = subst (λ x. Not symbol.Else x) (sym w
 branch_shut (more_branches (Labelled [] body) others) ts mid rest w e = absurd w.1.1
 branch_shut (more_branches (Labelled (f ∷ fs) body) others) ts mid rest w e =
     let v = w.1.1 in
-    opens_else (symbol_at ts) (formula_opens f 11 ts v.0 v.1)
+    opens_else (symbol_at ts) (formula_opens f 12 ts v.0 v.1)
 branch_shut (more_branches (Default at body) others) ts mid rest w e =
     let v = w.1.1 in
     apart symbol.Default symbol.Else ts w.1.0 refl (v.0, v.1, v.2.0)
@@ -254,7 +253,7 @@ no_more =
 
 labels_opens : (fs : List Formula) (ts rest : List Terminal) → AreListed IsExpression fs ts rest → Opens ts
 labels_opens [] ts rest w = absurd w
-labels_opens (f ∷ fs) ts rest w = formula_opens f 11 ts w.0 w.1
+labels_opens (f ∷ fs) ts rest w = formula_opens f 12 ts w.0 w.1
 
 labelled_part : (fs : List Formula) (body : Action) (others : Branches) (t : Task) → Good body
     → ((ts mid rest : List Terminal) → AreMoreBranches others ts mid → IsA symbol.Endcase mid rest → Does t ts mid (grow (nest_branches others)))

@@ -4,8 +4,6 @@ use Rattle.rtl_tree.specs.declared.symbol.Symbol.{Symbol}
 use Rattle.rtl_tree.specs.Symbols.{Terminal}
 use Rattle.rtl_tree.specs.Grammar.{IsA}
 use Rattle.text_survey.specs.declared.task.Task.{Task}
-use Rattle.text_survey.specs.declared.task.Task.TheVariants as task
-use Rattle.text_survey.specs.declared.task.Taking.{Taking}
 use Rattle.text_survey.specs.declared.task.Taking.TheVariants as taking
 use Rattle.text_survey.specs.Table.{Step, go}
 use Rattle.text_survey.specs.Rule.{rule}

@@ -1,8 +1,8 @@
 -- Where the survey stops, no modules go on.
-use Rattle.std.proofs.Common.{◌≡◌, ℕ, ◌-◌, ◌≤◌, ◌+◌, List, [], ◌∷◌, ◌++◌, length, take, drop, Option, Some, None, refl, sym, ap, subst, ◌∙◌, arith}
+use Rattle.std.proofs.Common.{◌≡◌, ◌-◌, ◌+◌, List, [], ◌∷◌, ◌++◌, length, take, drop, Option, Some, None, refl, sym, ap, subst, ◌∙◌, arith}
 use Rattle.text_ground.specs.declared.dropped.Dropped.{Dropped}
 use Rattle.rtl_tree.specs.Symbols.{Terminal}
-use Rattle.rtl_tree.specs.TreeModule.{Circuit}
+use Rattle.rtl_tree.specs.TreeModule.{WrittenCircuit}
 use Rattle.rtl_tree.specs.GrammarModule.{AreSpelled}
 use Rattle.text_survey.specs.declared.task.Task.{Task}
 use Rattle.text_survey.specs.declared.task.Task.TheVariants as task
@@ -43,7 +43,7 @@ unfolding next
 end_none = refl
 
 dead_after : (u r : List Terminal) (tasks : List Task) → ((other : List Terminal) → symbol_at r ≡ symbol_at other → Leads (start (u ++ other)) (at tasks other)) → next tasks r ≡ None → (tasks ≡ [] → r ≡ [] → ⊥)
-    → (v : List Terminal) → symbol_at v ≡ symbol_at r → (regions : List Dropped) (cs : List Circuit) → AreSpelled regions (u ++ v) cs → ⊥
+    → (v : List Terminal) → symbol_at v ≡ symbol_at r → (regions : List Dropped) (cs : List WrittenCircuit) → AreSpelled regions (u ++ v) cs → ⊥
 dead_after u r tasks f h open' v e regions cs s =
     let run = leads (reading (task.Source ∷ []) (u ++ v) none_read) (reading [] [] (grow (all_beside in_circuit cs) none_read)) ((circuits_run regions cs (u ++ v) s.spelled).runs [] none_read) in
     let same = one_end (start (u ++ v)) (at tasks v) (at [] []) (f v (sym e)) (none_same tasks r v (sym e) h) run end_none in

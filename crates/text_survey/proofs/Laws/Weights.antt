@@ -1,5 +1,5 @@
 -- The survey comes to an end.
-use Rattle.std.proofs.Common.{◌≡◌, ℕ, ◌+◌, ◌*◌, ◌<◌, ◌≤◌, cond, Bool, true, false, ◌&&◌, nat_lt, nat_eq, List, [], ◌∷◌, ◌++◌, length, Option, Some, None, refl, sym, ap, subst, ◌∙◌, ltb-true, arith}
+use Rattle.std.proofs.Common.{◌≡◌, ℕ, ◌+◌, ◌*◌, ◌<◌, ◌≤◌, cond, Bool, true, false, ◌&&◌, nat_lt, nat_eq, List, [], ◌∷◌, ◌++◌, length, Option, Some, None, refl, subst, ltb-true, arith}
 use Rattle.rtl_tree.specs.declared.symbol.Symbol.{Symbol}
 use Rattle.rtl_tree.specs.declared.symbol.Symbol.TheVariants as symbol
 use Rattle.rtl_tree.specs.Symbols.{Terminal}
@@ -9,9 +9,9 @@ use Rattle.text_survey.specs.declared.task.Task.{Task}
 use Rattle.text_survey.specs.declared.task.Task.TheVariants as task
 use Rattle.text_survey.specs.declared.task.Taking.{Taking}
 use Rattle.text_survey.specs.declared.task.Taking.TheVariants as taking
-use Rattle.text_survey.specs.Table.{Step, go, is_next, same_symbol, required, optional, unless, rank, tighter, looseness, link, chain}
+use Rattle.text_survey.specs.Table.{Step, go, is_next, same_symbol, required, optional, unless, rank, tighter, looseness, link}
 use Rattle.text_survey.specs.Rule.{rule}
-use Rattle.text_survey.specs.Machine.{State, at, symbol_at, behind, left, moved}
+use Rattle.text_survey.specs.Machine.{State, at, symbol_at, left, moved}
 use Rattle.text_survey.proofs.Laws.Steps.{some_is}
 
 -- no such task is done without a token that is taken
@@ -24,13 +24,18 @@ certain task.Target = true
 certain task.Drive = true
 certain task.Item = true
 certain task.Module = true
+certain task.OutputOrInput = true
 certain other = false
 
 weight : Task → ℕ
 weight (task.Level k) = 2 * rank k + 1
-weight task.Expression = 24
-weight task.Statement = 31
-weight task.Drive = 27
+weight task.Expression = 26
+weight task.Statement = 33
+weight task.Drive = 29
+weight task.Gate = 33
+weight task.Buffer = 33
+weight task.OutputOrInput = 27
+weight task.AfterName = 14
 weight task.Parts = 3
 weight task.Else = 3
 weight task.Connections = 5
@@ -233,6 +238,30 @@ light_events None = refl
 light_events (Some symbol.Or) = refl
 light_events (Some other) = refl
 
+light_event_select_end : (o : Option Symbol) → Light task.EventSelectEnd o (rule task.EventSelectEnd o)
+unfolding Light light_by falls is_some certain weight slack sum slacks load token_weight
+light_event_select_end None = refl
+light_event_select_end (Some symbol.Colon) = refl
+light_event_select_end (Some other) = refl
+
+light_gate_ticks : (o : Option Symbol) → Light task.GateTicks o (rule task.GateTicks o)
+unfolding Light light_by falls is_some certain weight slack sum slacks load token_weight
+light_gate_ticks None = refl
+light_gate_ticks (Some symbol.Name) = refl
+light_gate_ticks (Some other) = refl
+
+light_output : (o : Option Symbol) → Light task.OutputOrInput o (rule task.OutputOrInput o)
+unfolding Light light_by falls is_some certain weight slack sum slacks load token_weight
+light_output None = refl
+light_output (Some symbol.Name) = refl
+light_output (Some other) = refl
+
+light_after_name : (o : Option Symbol) → Light task.AfterName o (rule task.AfterName o)
+unfolding Light light_by falls is_some certain weight slack sum slacks load token_weight
+light_after_name None = refl
+light_after_name (Some symbol.Comma) = refl
+light_after_name (Some other) = refl
+
 light_arguments : (o : Option Symbol) → Light task.Arguments o (rule task.Arguments o)
 unfolding Light light_by falls is_some certain weight slack sum slacks load token_weight
 light_arguments None = refl
@@ -323,6 +352,19 @@ light task.Sensitivity o = light_sensitivity o
 light task.EventList o = light_event_list o
 light task.Event o = light_event o
 light task.Events o = light_events o
+light task.EventSelect o = light_optional task.EventSelect symbol.OpenBracket o (task.Expression ∷ task.EventSelectEnd ∷ []) refl refl
+light task.EventSelectEnd o = light_event_select_end o
+light task.GateDelay o = light_optional task.GateDelay symbol.Hash o (task.GateTicks ∷ []) refl refl
+light task.GateTicks o = light_gate_ticks o
+light task.Fall o = light_optional task.Fall symbol.Comma o (task.Expression ∷ []) refl refl
+light task.GateName o = light_optional task.GateName symbol.Name o [] refl refl
+light task.Gate o =
+    light_nothing task.Gate o (task.GateName ∷ task.Expect symbol.OpenParen ∷ task.Target ∷ task.Expect symbol.Comma ∷ task.Expression ∷ task.Expressions ∷ task.Expect symbol.CloseParen ∷ []) refl
+light task.Gates o = light_optional task.Gates symbol.Comma o (task.Gate ∷ task.Gates ∷ []) refl refl
+light task.Buffer o = light_nothing task.Buffer o (task.GateName ∷ task.Expect symbol.OpenParen ∷ task.Target ∷ task.Expect symbol.Comma ∷ task.OutputOrInput ∷ task.Expect symbol.CloseParen ∷ []) refl
+light task.Buffers o = light_optional task.Buffers symbol.Comma o (task.Buffer ∷ task.Buffers ∷ []) refl refl
+light task.OutputOrInput o = light_output o
+light task.AfterName o = light_after_name o
 light task.PortKind o = light_port_kind o
 light task.Sign o = light_optional task.Sign symbol.Signed o [] refl refl
 light task.Range o = light_optional task.Range symbol.OpenBracket o (task.Expression ∷ task.Expect symbol.Colon ∷ task.Expression ∷ task.Expect symbol.CloseBracket ∷ []) refl refl

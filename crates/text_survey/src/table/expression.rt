@@ -15,40 +15,42 @@ impl Level {
     {
         match self {
             Level::Operand => 0,
-            Level::Product => 1,
-            Level::Sum => 2,
-            Level::Shift => 3,
-            Level::Comparison => 4,
-            Level::Equality => 5,
-            Level::And => 6,
-            Level::Xor => 7,
-            Level::Or => 8,
-            Level::LogicalAnd => 9,
-            Level::LogicalOr => 10,
+            Level::Power => 1,
+            Level::Product => 2,
+            Level::Sum => 3,
+            Level::Shift => 4,
+            Level::Comparison => 5,
+            Level::Equality => 6,
+            Level::And => 7,
+            Level::Xor => 8,
+            Level::Or => 9,
+            Level::LogicalAnd => 10,
+            Level::LogicalOr => 11,
         }
     }
 }
 
-/// The rank of the operator that comes next: 0 for a select, 11 for `?`, 12 where an expression ends.
+/// The rank of the operator that comes next: 0 for a select, 12 for `?`, 13 where an expression ends.
 fn looseness(next: Option<Symbol>) -> u8
     ensures { result ≡ spec.looseness next }
 {
     match next {
         Some(Symbol::OpenBracket) => 0,
-        Some(Symbol::Star | Symbol::Slash | Symbol::Percent) => 1,
-        Some(Symbol::Plus | Symbol::Minus) => 2,
-        Some(Symbol::ShiftLeft | Symbol::ShiftRight) => 3,
-        Some(Symbol::ArithmeticShiftLeft | Symbol::ArithmeticShiftRight) => 3,
-        Some(Symbol::Less | Symbol::LessEquals | Symbol::Greater | Symbol::GreaterEquals) => 4,
-        Some(Symbol::EqualEquals | Symbol::BangEquals) => 5,
-        Some(Symbol::CaseEquals | Symbol::CaseBangEquals) => 5,
-        Some(Symbol::Ampersand) => 6,
-        Some(Symbol::Caret | Symbol::TildeCaret) => 7,
-        Some(Symbol::Bar) => 8,
-        Some(Symbol::AndAnd) => 9,
-        Some(Symbol::OrOr) => 10,
-        Some(Symbol::Question) => 11,
-        _ => 12,
+        Some(Symbol::StarStar) => 1,
+        Some(Symbol::Star | Symbol::Slash | Symbol::Percent) => 2,
+        Some(Symbol::Plus | Symbol::Minus) => 3,
+        Some(Symbol::ShiftLeft | Symbol::ShiftRight) => 4,
+        Some(Symbol::ArithmeticShiftLeft | Symbol::ArithmeticShiftRight) => 4,
+        Some(Symbol::Less | Symbol::LessEquals | Symbol::Greater | Symbol::GreaterEquals) => 5,
+        Some(Symbol::EqualEquals | Symbol::BangEquals) => 6,
+        Some(Symbol::CaseEquals | Symbol::CaseBangEquals) => 6,
+        Some(Symbol::Ampersand) => 7,
+        Some(Symbol::Caret | Symbol::TildeCaret) => 8,
+        Some(Symbol::Bar) => 9,
+        Some(Symbol::AndAnd) => 10,
+        Some(Symbol::OrOr) => 11,
+        Some(Symbol::Question) => 12,
+        _ => 13,
     }
 }
 
@@ -66,7 +68,7 @@ fn operand(next: Option<Symbol>) -> Option<Move>
                 Task::Wrap,
             ],
         ),
-        Some(Symbol::ToSigned | Symbol::ToUnsigned) => go(
+        Some(Symbol::ToSigned | Symbol::ToUnsigned | Symbol::Clog2) => go(
             Taking::Node,
             &[
                 Task::Expect(Symbol::OpenParen),
@@ -99,12 +101,14 @@ fn leveled(level: Level, next: Option<Symbol>) -> Option<Move>
     ensures { option_map spec.plain result ≡ spec.leveled level next }
 {
     use Level::{
-        And, Comparison, Equality, LogicalAnd, LogicalOr, Operand, Or, Product, Shift, Sum, Xor,
+        And, Comparison, Equality, LogicalAnd, LogicalOr, Operand, Or, Power, Product, Shift, Sum,
+        Xor,
     };
     use Task::Chain;
     match level {
         Operand => operand(next),
-        Product => go(Taking::Nothing, &[Task::Level(Operand), Chain(Product)]),
+        Power => go(Taking::Nothing, &[Task::Level(Operand), Chain(Power)]),
+        Product => go(Taking::Nothing, &[Task::Level(Power), Chain(Product)]),
         Sum => go(Taking::Nothing, &[Task::Level(Product), Chain(Sum)]),
         Shift => go(Taking::Nothing, &[Task::Level(Sum), Chain(Shift)]),
         Comparison => go(Taking::Nothing, &[Task::Level(Shift), Chain(Comparison)]),
@@ -125,7 +129,8 @@ fn link(level: Level) -> Option<Move>
     ensures { option_map spec.plain result ≡ spec.link level }
 {
     use Level::{
-        And, Comparison, Equality, LogicalAnd, LogicalOr, Operand, Or, Product, Shift, Sum, Xor,
+        And, Comparison, Equality, LogicalAnd, LogicalOr, Operand, Or, Power, Product, Shift, Sum,
+        Xor,
     };
     use Taking::Operator;
     use Task::{Chain, Join, Wrap};
@@ -134,10 +139,8 @@ fn link(level: Level) -> Option<Move>
             Operator,
             &[Task::Level(Operand), Join, Wrap, Chain(Operand)],
         ),
-        Product => go(
-            Operator,
-            &[Task::Level(Operand), Join, Wrap, Chain(Product)],
-        ),
+        Power => go(Operator, &[Task::Level(Operand), Join, Wrap, Chain(Power)]),
+        Product => go(Operator, &[Task::Level(Power), Join, Wrap, Chain(Product)]),
         Sum => go(Operator, &[Task::Level(Product), Join, Wrap, Chain(Sum)]),
         Shift => go(Operator, &[Task::Level(Sum), Join, Wrap, Chain(Shift)]),
         Comparison => go(
@@ -191,7 +194,7 @@ fn select_end(next: Option<Symbol>) -> Option<Move>
 {
     match next {
         Some(Symbol::CloseBracket) => go(Taking::Token, &[]),
-        Some(Symbol::Colon) => go(
+        Some(Symbol::Colon | Symbol::PlusColon | Symbol::MinusColon) => go(
             Taking::Token,
             &[Task::Expression, Task::Expect(Symbol::CloseBracket)],
         ),

@@ -5,6 +5,7 @@ ghost use Rattle.text_survey.specs.Table as spec;
 ghost use Rattle.text_survey.specs.TableItem as items;
 ghost use Rattle.text_survey.specs.Rule as rules;
 
+use super::gate::{gate, gates};
 use super::{go, modules, optional, required, unless};
 use crate::task::{Move, Taking, Task};
 use rtl_tree::symbol::Symbol;
@@ -65,7 +66,7 @@ fn plain_declaration(next: Option<Symbol>) -> Option<Move>
                 Task::Expect(Symbol::Semicolon),
             ],
         ),
-        _ => None,
+        _ => gates(next),
     }
 }
 
@@ -154,7 +155,20 @@ fn event(next: Option<Symbol>) -> Option<Move>
 {
     match next {
         Some(Symbol::Posedge | Symbol::Negedge) => go(Taking::Token, &[Task::Name]),
-        Some(Symbol::Name) => go(Taking::Token, &[Task::Select]),
+        Some(Symbol::Name) => go(Taking::Token, &[Task::EventSelect]),
+        _ => None,
+    }
+}
+
+fn event_select_end(next: Option<Symbol>) -> Option<Move>
+    ensures { option_map spec.plain result ≡ items.event_select_end next }
+{
+    match next {
+        Some(Symbol::CloseBracket) => go(Taking::Token, &[]),
+        Some(Symbol::Colon) => go(
+            Taking::Token,
+            &[Task::Expression, Task::Expect(Symbol::CloseBracket)],
+        ),
         _ => None,
     }
 }
@@ -197,11 +211,17 @@ fn waiting(task: Task, next: Option<Symbol>) -> Option<Move>
         Task::EventList => event_list(next),
         Task::Event => event(next),
         Task::Events => events(next),
-        _ => instance(task, next),
+        Task::EventSelect => optional(
+            Symbol::OpenBracket,
+            next,
+            &[Task::Expression, Task::EventSelectEnd],
+        ),
+        Task::EventSelectEnd => event_select_end(next),
+        _ => gate(task, next),
     }
 }
 
-fn instance(task: Task, next: Option<Symbol>) -> Option<Move>
+pub fn instance(task: Task, next: Option<Symbol>) -> Option<Move>
     ensures { option_map spec.plain result ≡ rules.instance task next }
 {
     const CLOSE: Task = Task::Expect(Symbol::CloseParen);
