@@ -1,5 +1,5 @@
 -- What the tests of a text and of its modules say.
-use Rattle.std.proofs.Common.{◌≡◌, ℕ, zero, suc, ◌≤◌, Bool, true, false, ◌&&◌, not, if◌then◌else◌, List, [], ◌∷◌, Option, None, Some, refl, sym, subst, arith}
+use Rattle.std.proofs.Common.{◌≡◌, ℕ, zero, suc, ◌≤◌, Bool, true, false, ◌&&◌, not, if◌then◌else◌, List, [], ◌∷◌, Option, None, Some, refl, arith}
 use Rattle.std.specs.List.{list_all}
 use Rattle.std.proofs.lemmas.Bool.{leb-true}
 use denote.Enum.Bare.{sameb}
@@ -9,19 +9,21 @@ use Rattle.rtl_tree.specs.declared.tree.nesting.TheConstants.{MAX_NESTING}
 use Rattle.rtl_tree.specs.Symbols.{Terminal}
 use Rattle.rtl_tree.specs.TreeExpr.{Formula}
 use Rattle.rtl_tree.specs.TreeStmt.{Action, Null, Delayed, Assign, If, IfElse, Case, For, Block, Actions, no_actions, more_actions, Branch, Labelled, Default, Branches, no_branches, more_branches}
-use Rattle.rtl_tree.specs.TreeItem.{Positional, Association, ByPosition, ByName, Variable, ModuleItem, Ports, Nets, Variables, Integers, Parameters, Drives, Always, Instances}
-use Rattle.rtl_tree.specs.TreeModule.{HeaderParameter, Heading, Circuit}
+use Rattle.rtl_tree.specs.TreeItem.{Association, ByPosition, ByName, ModuleItem, Ports, Nets, Variables, Integers, Parameters, Drives, Gates, Always, Instances}
+use Rattle.rtl_tree.specs.TreeGate.{WrittenItem, Plain, Primitives}
+use Rattle.rtl_tree.specs.TreeModule.{HeaderParameter, Heading, WrittenCircuit}
 use Rattle.rtl_tree.specs.Depth.{depth, greatest}
 use Rattle.rtl_tree.specs.GrammarStmt.{defaults}
 use Rattle.rtl_tree.specs.GrammarItem.{IsMoreThanEmpty}
+use Rattle.rtl_tree.specs.GrammarGate.{has_one_input, is_named, AreTerminals}
 use Rattle.rtl_tree.specs.GrammarModule.{IsThere}
 use Rattle.text_build.specs.Reading.{same_symbol}
 use Rattle.text_build.specs.Sound.{IsPlain}
 use Rattle.text_build.specs.Proper.{HasItem, IsProper, AreProper, IsProperBranch, AreProperBranches}
-use Rattle.text_build.specs.ProperModule.{Each, AreProperArguments, IsProperVariable, IsProperItem, AreProperParameters, IsProperCircuit}
+use Rattle.text_build.specs.ProperModule.{Each, AreProperArguments, IsProperVariable, IsProperItem, IsProperGate, IsProperWritten, AreProperParameters, IsProperCircuit}
 use Rattle.text_build.specs.Ordinary.{is_ordinary_in}
 use Rattle.text_build.specs.declared.ordinary.TheConstants.{MOST_TOKENS}
-use Rattle.text_build.specs.Tests.{has_item, is_proper, are_proper, is_proper_branch, are_proper_branches, has_value, are_proper_arguments, has_no_value, is_proper_item, has_heading, has_first_heading, is_proper_circuit}
+use Rattle.text_build.specs.Tests.{has_item, is_proper, are_proper, is_proper_branch, are_proper_branches, has_value, are_proper_arguments, has_no_value, is_proper_item, are_terminals, is_proper_gate, is_proper_written, has_heading, has_first_heading, is_proper_circuit}
 use Rattle.text_build.specs.Certain.{ReadingsAreCertain}
 use Rattle.text_build.proofs.CertainModules.{texts}
 use Rattle.text_build.proofs.Shallow.{all_shallow}
@@ -96,8 +98,20 @@ item (Variables at signed bounds variables) e =
 item (Integers at names) e = tt
 item (Parameters at kind bounds values) e = tt
 item (Drives at pause drives) e = tt
+item (Gates at names pause drives) e = absurd (cc)
 item (Always at sensitivity body) e = proper body e
 item (Instances child parameters instantiations) e = arguments parameters e
+
+terminals : (one : Bool) (fs : List Formula) → are_terminals one fs ≡ true → AreTerminals one fs
+terminals false fs e = tt
+terminals true [] e = tt
+terminals true (f ∷ []) e = tt
+terminals true (f ∷ g ∷ fs) e = (left (is_named f) (are_terminals true (g ∷ fs)) e, terminals true (g ∷ fs) (right (is_named f) (are_terminals true (g ∷ fs)) e))
+
+written : (i : WrittenItem) → is_proper_written i ≡ true → IsProperWritten i
+written (Plain i) e = item i e
+written (Primitives at kind pause gates) e =
+    each (is_proper_gate (has_one_input kind)) (IsProperGate (has_one_input kind)) (λ g k. terminals (has_one_input kind) g.terminals k) gates e
 
 there : (o : Option Heading) → has_heading o ≡ true → IsThere o
 there None e = absurd (cc)
@@ -107,14 +121,14 @@ heads : (ps : List HeaderParameter) → has_first_heading ps ≡ true → ArePro
 heads [] e = tt
 heads (p ∷ ps) e = there p.heading e
 
-module_of : (c : Circuit) → is_proper_circuit c ≡ true → IsProperCircuit c × (depth c ≤ MAX_NESTING)
+module_of : (c : WrittenCircuit) → is_proper_circuit c ≡ true → IsProperCircuit c × (depth c ≤ MAX_NESTING)
 module_of c e =
-    let both = left _ (list_all is_proper_item c.items) e in (
-      (heads c.parameters (right _ (has_first_heading c.parameters) both), each is_proper_item IsProperItem item c.items (right _ (list_all is_proper_item c.items) e)),
+    let both = left _ (list_all is_proper_written c.items) e in (
+      (heads c.parameters (right _ (has_first_heading c.parameters) both), each is_proper_written IsProperWritten written c.items (right _ (list_all is_proper_written c.items) e)),
       leb-true (depth c) MAX_NESTING (left _ (has_first_heading c.parameters) both),
     )
 
-modules : (cs : List Circuit) → list_all is_proper_circuit cs ≡ true → Each IsProperCircuit cs × (greatest depth cs ≤ MAX_NESTING)
+modules : (cs : List WrittenCircuit) → list_all is_proper_circuit cs ≡ true → Each IsProperCircuit cs × (greatest depth cs ≤ MAX_NESTING)
 modules [] e = (tt, omega arith)
 modules (c ∷ cs) e =
     let first = module_of c (left (is_proper_circuit c) (list_all is_proper_circuit cs) e) in

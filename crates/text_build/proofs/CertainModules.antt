@@ -3,12 +3,12 @@ use Rattle.std.proofs.Common.{ℕ, List, [], Some, refl, sym, subst}
 use Rattle.text_ground.specs.declared.dropped.Dropped.{Dropped}
 use Rattle.rtl_tree.specs.declared.symbol.Symbol.TheVariants as symbol
 use Rattle.rtl_tree.specs.Grammar.{AreAll}
-use Rattle.rtl_tree.specs.GrammarItem.{IsMarkedItem}
+use Rattle.rtl_tree.specs.GrammarGate.{IsMarkedItem}
 use Rattle.rtl_tree.specs.GrammarModule.{IsCircuit, IsMarkedCircuit}
 use Rattle.text_build.specs.Reading.{and_then, until}
 use Rattle.text_build.specs.ReadingModule.{item, circuit_after, circuit, is_more, circuits}
 use Rattle.text_build.specs.Sound.{IsPlain}
-use Rattle.text_build.specs.ProperModule.{IsProperItem, IsProperCircuit}
+use Rattle.text_build.specs.ProperModule.{IsProperWritten, IsProperCircuit}
 use Rattle.text_build.specs.Whole.{TextsAreSound}
 use Rattle.text_build.proofs.Gives.{Gives, Sound, bind, weaken, behind, mark_gives, name_gives}
 use Rattle.text_build.proofs.Lists.{until_gives, repeat_gives}
@@ -25,10 +25,10 @@ module _ (d : ℕ) (regions : List Dropped) where
       (λ at m w. bind (name_gives m w.1)
       (λ n m1 v. bind (parameters_give d m1 v.1)
       (λ ps m2 q. bind (header_gives d m2 q.1)
-      (λ h m3 r. bind (behind symbol.Semicolon (until symbol.Endmodule (item d)) (until_gives (item d) (If IsProperItem IsMarkedItem) (item_gives d) symbol.Endmodule) m3 r.1)
+      (λ h m3 r. bind (behind symbol.Semicolon (until symbol.Endmodule (item d)) (until_gives (item d) (If IsProperWritten IsMarkedItem) (item_gives d) symbol.Endmodule) m3 r.1)
       (λ is m4 x. bind (mark_gives symbol.Endmodule m4 x.1)
       (λ last m5 y. record {
-        given = (λ p. (last, refl, (m, w.0, (m1, v.0, (m2, q.0 p.0, (m3, r.0, (x.0.0, x.0.1, (m4, each_all IsProperItem IsMarkedItem is x.0.0 m4 x.0.2 p.1, y.0))))))), y.1);
+        given = (λ p. (last, refl, (m, w.0, (m1, v.0, (m2, q.0 p.0, (m3, r.0, (x.0.0, x.0.1, (m4, each_all IsProperWritten IsMarkedItem is x.0.0 m4 x.0.2 p.1, y.0))))))), y.1);
       }))))))
 
   circuit_gives : Sound (circuit d regions) (If IsProperCircuit (IsMarkedCircuit regions))

@@ -5,18 +5,19 @@ use Rattle.rtl_tree.specs.declared.symbol.Symbol.TheVariants as symbol
 use Rattle.rtl_tree.specs.declared.tree.operators.BinaryOperator.{BinaryOperator}
 use Rattle.rtl_tree.specs.declared.tree.operators.UnaryOperator.{UnaryOperator}
 use Rattle.rtl_tree.specs.Symbols.{Terminal}
-use Rattle.rtl_tree.specs.TreeExpr.{Formula, Number, Read, ReadBit, ReadPart, Parens, Convert, Concat, Repeat, Unary, Binary, Choose}
+use Rattle.rtl_tree.specs.TreeExpr.{Formula, Number, Read, ReadBit, ReadPart, Parens, Apply, Concat, Repeat, Unary, Binary, Choose}
 use Rattle.rtl_tree.specs.GrammarExpr.{unary_symbol, binary_symbol, level, IsFormula}
 use Rattle.text_build.specs.Reading.{symbol_at}
 use Rattle.text_build.specs.ReadingExpr.{binary_of, unary_of, looseness, goes}
 
 -- what the operator of a symbol says of it; what goes on and is no operator is a `?`
 abbrev pub IsLink : Option BinaryOperator → Symbol → Type 0
-IsLink None s = looseness s ≤ 11 → s ≡ symbol.Question
+IsLink None s = looseness s ≤ 12 → s ≡ symbol.Question
 IsLink (Some op) s = (s ≡ binary_symbol op) × (looseness s ≡ level op)
 
 pub link_is : (s : Symbol) → IsLink (binary_of s) s
 unfolding binary_of looseness
+link_is symbol.StarStar = (refl, refl)
 link_is symbol.Star = (refl, refl)
 link_is symbol.Slash = (refl, refl)
 link_is symbol.Percent = (refl, refl)
@@ -84,9 +85,9 @@ pub wider : (j k : ℕ) → j ≤ k → (f : Formula) (ts rest : List Terminal) 
 wider j k h (Number value at) ts rest w = w
 wider j k h (Read n) ts rest w = w
 wider j k h (ReadBit n i) ts rest w = w
-wider j k h (ReadPart n a b) ts rest w = w
+wider j k h (ReadPart n p a b) ts rest w = w
 wider j k h (Parens at f) ts rest w = w
-wider j k h (Convert x at f) ts rest w = w
+wider j k h (Apply x at f) ts rest w = w
 wider j k h (Concat at fs) ts rest w = w
 wider j k h (Repeat at t fs) ts rest w = w
 wider j k h (Unary op at f) ts rest w = w

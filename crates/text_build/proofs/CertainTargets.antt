@@ -41,7 +41,7 @@ whole_row (x ∷ xs) ts rest w = (w.0, w.1, more_row xs w.0 rest w.2)
 target_is : (r : Reference) (ts rest : List Terminal) → IsReference r ts rest → IsTarget (target_of r) ts rest
 target_is (whole n) ts rest w = w
 target_is (bit n i) ts rest w = w
-target_is (part n a b) ts rest w = w
+target_is (part n k a b) ts rest w = w
 
 part_gives : (e : Parser Formula) → Sound e IsExpression → Sound (part_target e) IsTarget
 unfolding part_target

@@ -1,16 +1,18 @@
 -- How deep statements are nested that were read where no expression is deeper than its fuel.
-use Rattle.std.proofs.Common.{ℕ, zero, suc, ◌≤◌, max, Bool, List, [], ◌∷◌, ◌++◌, length, Some, None, arith}
+use Rattle.std.proofs.Common.{ℕ, zero, suc, ◌≤◌, max, Bool, List, [], ◌∷◌, ◌++◌, length, Option, Some, None, arith}
 use Rattle.rtl_tree.specs.declared.symbol.Symbol.{Symbol}
 use Rattle.rtl_tree.specs.declared.symbol.Symbol.TheVariants as symbol
 use Rattle.rtl_tree.specs.declared.tree.stmt.CaseKind.{CaseKind}
 use Rattle.rtl_tree.specs.declared.tree.stmt.CaseKind.TheVariants as kind
+use Rattle.rtl_tree.specs.declared.tree.operators.PartKind.{PartKind}
 use Rattle.rtl_tree.specs.Symbols.{Terminal}
+use Rattle.rtl_tree.specs.GrammarExpr.{part_symbol}
 use Rattle.rtl_tree.specs.TreeExpr.{Identifier, Formula}
 use Rattle.rtl_tree.specs.TreeStmt.{Target, target_row, Action, action_row, Branch, branch_row}
 use Rattle.rtl_tree.specs.Depth.{greatest, if_any, formula_depth, target_depth, targets_depth, span_depth, pause_depth, action_depth, actions_depth, branch_depth, branches_depth}
 use Rattle.text_build.specs.declared.attributes.Marks.{Marks}
-use Rattle.text_build.specs.Reading.{Parser, and_then, ◌>>=◌, ◌>>◌, pure, starts, after, token, advance, mark, name, literal, optional, add, until_in, until, links, commas, listed}
-use Rattle.text_build.specs.ReadingExpr.{Reference, whole, bit, part, rest_of_bit, rest_of_part, selection, selected, reference, expression}
+use Rattle.text_build.specs.Reading.{Parser, and_then, ◌>>=◌, ◌>>◌, pure, symbol_at, starts, after, token, advance, mark, name, literal, optional, add, until_in, until, links, commas, listed}
+use Rattle.text_build.specs.ReadingExpr.{Reference, whole, bit, part, part_by, rest_of_bit, rest_of_part, rest_by, rest_of_selection, selection, selected, reference, expression}
 use Rattle.text_build.specs.ReadingStmt.{attributes, target_of, part_target, joined, target, fixed, named, valued, span_by, span, pause, null, delayed, assignment_kind, assign, alternative, conditional, labelled, no_colon, otherwise, branch, case_of, step_of, loop_of, label, block, action_by, action, statement_within, statement}
 use Rattle.text_build.proofs.Gives.{Gives, anything, bind, choose, either_gives}
 
@@ -74,24 +76,27 @@ branches_row n (x ∷ xs) h = omega (arith, h, branches_row n xs (omega (arith, 
 reference_depth : Reference → ℕ
 reference_depth (whole n) = 0
 reference_depth (bit n i) = formula_depth i
-reference_depth (part n a b) = max (formula_depth a) (formula_depth b)
+reference_depth (part n k a b) = max (formula_depth a) (formula_depth b)
 
 target_of_depth : (r : Reference) (n : ℕ) → reference_depth r ≤ n → target_depth (target_of r) ≤ suc n
 unfolding reference_depth
 target_of_depth (whole x) n h = omega (arith, h)
 target_of_depth (bit x i) n h = omega (arith, h)
-target_of_depth (part x a b) n h = omega (arith, h)
+target_of_depth (part x k a b) n h = omega (arith, h)
 
 module _ (e : Parser Formula) (n : ℕ) (c : Deep formula_depth n e) where
+  rest_deep : (o : Option PartKind) (x : Identifier) (first : Formula) → formula_depth first ≤ n → Deep reference_depth n (rest_by o e x first)
+  unfolding rest_of_bit rest_of_part reference_depth
+  rest_deep None x first h ts = bind (anything (mark symbol.CloseBracket ts)) (λ y m w. record { given = h })
+  rest_deep (Some k) x first h ts =
+      bind (behind_deep formula_depth n e c (part_symbol k) ts)
+      (λ second m w. bind (anything (mark symbol.CloseBracket m)) (λ y m1 v. record { given = omega (arith, h, w) }))
+
   selected_deep : (x : Identifier) → Deep reference_depth n (selected e x)
-  unfolding selected selection rest_of_bit rest_of_part reference_depth
+  unfolding selected selection rest_of_selection reference_depth
   selected_deep x ts =
       either_gives _ _ _ ts
-      (λ h. bind (behind_deep formula_depth n e c symbol.OpenBracket ts)
-      (λ first m w. either_gives _ _ _ m
-      (λ k. bind (behind_deep formula_depth n e c symbol.Colon m)
-      (λ lsb m1 v. bind (anything (mark symbol.CloseBracket m1)) (λ y m2 u. record { given = omega (arith, w, v) })))
-      (λ k. bind (anything (mark symbol.CloseBracket m)) (λ y m2 u. record { given = w }))))
+      (λ h. bind (behind_deep formula_depth n e c symbol.OpenBracket ts) (λ first m w. rest_deep (part_by (symbol_at m)) x first w m))
       (λ h. record { given = omega arith })
 
   reference_deep : Deep reference_depth n (reference e)

@@ -2,6 +2,7 @@
 use Rattle.std.proofs.Common.{◌≡◌, ℕ, Bool, true, false, ◌||◌, cond, List, [], ◌∷◌, length, Some, inl, inr, refl, sym, subst}
 use Rattle.rtl_tree.specs.declared.symbol.Symbol.{Symbol}
 use Rattle.rtl_tree.specs.declared.symbol.Symbol.TheVariants as symbol
+use Rattle.rtl_tree.specs.declared.tree.operators.PartKind.TheVariants as selects
 use Rattle.rtl_tree.specs.declared.tree.item.EventEdge.{EventEdge}
 use Rattle.rtl_tree.specs.declared.tree.item.EventEdge.TheVariants as edge
 use Rattle.rtl_tree.specs.Symbols.{Terminal}
@@ -9,7 +10,7 @@ use Rattle.rtl_tree.specs.TreeItem.{Happening}
 use Rattle.rtl_tree.specs.GrammarItem.{edge_symbol, IsHappening, IsBetweenEvents, AreMoreEvents, AreEvents, IsSensitivity}
 use Rattle.text_build.specs.Reading.{symbol_at, starts, after, mark}
 use Rattle.text_build.specs.ReadingExpr.{Reference, whole, bit, part, expression}
-use Rattle.text_build.specs.ReadingItem.{any_expression, edge_of, change_of, change, event_by, event, joins_events, after_joint, events, star, star_in_parens, listed_events, in_parens, sensitivity}
+use Rattle.text_build.specs.ReadingItem.{any_expression, edge_of, change_of, change_by, change, event_by, event, joins_events, after_joint, events, star, star_in_parens, listed_events, in_parens, sensitivity}
 use Rattle.text_build.proofs.Laws.Tokens.{after_not}
 use Rattle.text_build.specs.Sound.{IsPlain}
 use Rattle.text_build.proofs.Gives.{Gives, Sound, bind, weaken, either_gives, behind_found, a_gives, a_of, next_gives, found_gives, name_gives, starts_symbol, after_found}
@@ -21,14 +22,16 @@ edge_gives : (e : EventEdge) (ts : List Terminal) → IsPlain ts → symbol_at t
 unfolding edge_of
 edge_gives e ts pl h = bind (next_gives (edge_symbol e) ts pl h) (λ at m w. bind (name_gives m w.1) (λ n m1 v. record { given = ((m, w.0, v.0), v.1) }))
 
-change_is : (r : Reference) (ts rest : List Terminal) → IsReference r ts rest → IsHappening (change_of r) ts rest
-change_is (whole n) ts rest w = w
-change_is (bit n i) ts rest w = w
-change_is (part n a b) ts rest w = w
+change_is : (r : Reference) (ts rest : List Terminal) → IsReference r ts rest → IsPlain rest → Gives (change_by (change_of r) rest) (λ h us. IsHappening h ts us × IsPlain us)
+change_is (whole n) ts rest w pl = record { given = (w, pl) }
+change_is (bit n i) ts rest w pl = record { given = (w, pl) }
+change_is (part n selects.Between a b) ts rest w pl = record { given = (w, pl) }
+change_is (part n selects.Up a b) ts rest w pl = record { given = tt }
+change_is (part n selects.Down a b) ts rest w pl = record { given = tt }
 
 change_gives : (d : ℕ) → Sound (change d) IsHappening
 unfolding change any_expression
-change_gives d ts pl = bind (reference_gives (expression d) (expression_gives d) ts pl) (λ r m w. record { given = (change_is r ts m w.0, w.1) })
+change_gives d ts pl = bind (reference_gives (expression d) (expression_gives d) ts pl) (λ r m w. change_is r ts m w.0 w.1)
 
 event_from : (d : ℕ) (s : Symbol) (ts : List Terminal) → IsPlain ts → symbol_at ts ≡ Some s → Gives (event_by d (Some s) ts) (λ h rest. IsHappening h ts rest × IsPlain rest)
 event_from d symbol.Posedge ts pl h = edge_gives edge.Posedge ts pl h

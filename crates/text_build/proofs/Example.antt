@@ -6,14 +6,16 @@ use Rattle.rtl_tree.specs.declared.token.Tok.TheVariants as tok
 use Rattle.rtl_tree.specs.declared.tree.stmt.CaseKind.TheVariants as kind
 use Rattle.rtl_tree.specs.Symbols.{Terminal}
 use Rattle.rtl_tree.specs.declared.tree.operators.BinaryOperator.TheVariants as binary
-use Rattle.rtl_tree.specs.TreeExpr.{Identifier, Read, Parens, Binary}
+use Rattle.rtl_tree.specs.declared.tree.operators.UnaryOperator.TheVariants as unary
+use Rattle.rtl_tree.specs.TreeExpr.{Identifier, Read, Parens, Unary, Binary}
 use Rattle.rtl_tree.specs.Depth.{formula_depth}
-use Rattle.rtl_tree.specs.TreeStmt.{Case, no_branches}
+use Rattle.rtl_tree.specs.TreeStmt.{Whole, Case, no_branches}
 use Rattle.rtl_tree.specs.TreeItem.{ByPosition}
 use Rattle.text_build.specs.Reading.{refuse, same_symbol, starts, optional, turns, after, token, place, advance, mark, name, either, until_in, until, links, commas, listed}
-use Rattle.text_build.specs.ReadingExpr.{binary_of, looseness, goes, selected, reference, read, parens, operand, joint, link, ended, chain, sequence, climb, expression}
-use Rattle.text_build.specs.ReadingStmt.{after_value, case_of, no_marks}
+use Rattle.text_build.specs.ReadingExpr.{binary_of, unary_of, looseness, goes, selected, reference, read, parens, operation, operand, joint, link, ended, chain, sequence, climb, expression}
+use Rattle.text_build.specs.ReadingStmt.{after_value, part_target, target, case_of, no_marks}
 use Rattle.text_build.specs.ReadingItem.{any_expression, value, initial, variable, argument_value, positional, by_position, arguments, overrides_of, overrides}
+use Rattle.text_build.specs.ReadingGate.{gate}
 use Rattle.text_build.specs.ReadingModule.{parameter, parameters_of, parameters}
 
 -- a token with this symbol
@@ -50,3 +52,9 @@ no_item = refl
 no_parameter : parameters 1 (word symbol.Hash ∷ word symbol.OpenParen ∷ word symbol.Name ∷ word symbol.Equals ∷ word symbol.Name ∷ word symbol.CloseParen ∷ []) ≡ Some (record { heading = None; name = a; value = Read a } ∷ [], [])
 unfolding word a parameters parameters_of parameter optional value any_expression listed commas links after climb sequence operand read reference selected chain turns goes looseness binary_of ended either name mark advance token starts same_symbol
 no_parameter = refl
+
+-- `(a, ~a, a)` of a `buf`: a further output that is no name
+no_name : gate 2 (word symbol.OpenParen ∷ word symbol.Name ∷ word symbol.Comma ∷ word symbol.Tilde ∷ word symbol.Name ∷ word symbol.Comma ∷ word symbol.Name ∷ word symbol.CloseParen ∷ [])
+    ≡ Some (record { name = None; output = Whole a; terminals = Unary unary.BitwiseNot 0 (Read a) ∷ Read a ∷ [] }, [])
+unfolding word a gate optional target part_target any_expression listed commas links after climb sequence operand operation unary_of read reference selected chain turns goes looseness binary_of ended either name mark advance token starts same_symbol
+no_name = refl

@@ -1,5 +1,5 @@
 -- What one turn of a chain of operators does, and one level of depth of an expression.
-use Rattle.std.proofs.Common.{◌≡◌, ◌<◌, cond, ℕ, zero, suc, ◌∷◌, [], List, length, Option, Some, None, true, false, refl, ap, ◌∙◌, arith}
+use Rattle.std.proofs.Common.{◌≡◌, ◌<◌, cond, ℕ, zero, suc, List, Some, None, true, false, refl, ap, ◌∙◌, arith}
 use Rattle.rtl_tree.specs.Symbols.{Terminal}
 use Rattle.rtl_tree.specs.TreeExpr.{Formula}
 use Rattle.text_build.specs.Reading.{Parser, Outcome, and_then, turns}

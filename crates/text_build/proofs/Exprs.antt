@@ -19,9 +19,9 @@ record SoFar (k : ℕ) (f : Formula) (ts m : List Terminal) : Type 0 where
   most : ℕ
   is : IsFormula most f ts m
   within : most ≤ k
-  next : (i : ℕ) → i ≤ 11 → goes i m ≡ true → (most ≤ i) × (most ≤ 10)
+  next : (i : ℕ) → i ≤ 12 → goes i m ≡ true → (most ≤ i) × (most ≤ 11)
 
-module _ (e : ℕ → Parser Formula) (c : Levels e) (k : ℕ) (low : k ≤ 11) where
+module _ (e : ℕ → Parser Formula) (c : Levels e) (k : ℕ) (low : k ≤ 12) where
   joint_gives : (op : BinaryOperator) (f : Formula) (ts m : List Terminal) → SoFar k f ts m → IsPlain m → symbol_at m ≡ Some (binary_symbol op) → level op ≤ k
       → Gives (joint op (e (level op - 1)) f m) (λ g rest. SoFar k g ts rest × IsPlain rest)
   unfolding joint
@@ -40,20 +40,20 @@ module _ (e : ℕ → Parser Formula) (c : Levels e) (k : ℕ) (low : k ≤ 11) 
         );
       }))
 
-  choice_gives : (f : Formula) (ts m : List Terminal) → SoFar k f ts m → IsPlain m → symbol_at m ≡ Some symbol.Question → 11 ≤ k → goes k m ≡ true
-      → Gives (choice (e 11) f m) (λ g rest. SoFar k g ts rest × IsPlain rest)
+  choice_gives : (f : Formula) (ts m : List Terminal) → SoFar k f ts m → IsPlain m → symbol_at m ≡ Some symbol.Question → 12 ≤ k → goes k m ≡ true
+      → Gives (choice (e 12) f m) (λ g rest. SoFar k g ts rest × IsPlain rest)
   unfolding choice
   choice_gives f ts m so pl h l g =
       bind (next_gives symbol.Question m pl h)
-      (λ at m1 w. bind (c 11 (omega arith) m1 w.1)
-      (λ taken m2 v. bind (behind symbol.Colon (e 11) (c 11 (omega arith)) m2 v.1)
+      (λ at m1 w. bind (c 12 (omega arith) m1 w.1)
+      (λ taken m2 v. bind (behind symbol.Colon (e 12) (c 12 (omega arith)) m2 v.1)
       (λ other m3 u. record {
         given = (
           record {
-            most = 11;
-            is = (omega arith, (m, wider so.most 10 (so.next k low g).1 f ts m so.is, (m1, w.0, (m2, v.0.0, (u.0.0, u.0.1, u.0.2.0)))));
+            most = 12;
+            is = (omega arith, (m, wider so.most 11 (so.next k low g).1 f ts m so.is, (m1, w.0, (m2, v.0.0, (u.0.0, u.0.1, u.0.2.0)))));
             within = l;
-            next = λ i b q. let z : true ≡ false = sym q ∙ goes_mono i 11 b m3 u.0.2.1 in absurd (cc);
+            next = λ i b q. let z : true ≡ false = sym q ∙ goes_mono i 12 b m3 u.0.2.1 in absurd (cc);
           },
           u.1,
         );

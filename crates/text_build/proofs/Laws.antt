@@ -15,4 +15,6 @@ pub mod Lists
 pub mod Events
 pub mod Arguments
 pub mod Items
+pub mod Gates
+pub mod Written
 pub mod Modules

@@ -17,6 +17,7 @@ mod Events
 mod Each
 mod Arguments
 mod Heads
+mod CertainGates
 mod Items
 mod Headers
 pub mod CertainModules

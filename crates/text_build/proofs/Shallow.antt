@@ -1,13 +1,14 @@
 -- Where nothing is deeper than a number, no place is.
 use Rattle.std.proofs.Common.{◌≡◌, ℕ, zero, suc, ◌-◌, ◌≤◌, List, [], ◌∷◌, ◌++◌, Option, Some, None, refl, arith}
 use Rattle.std.specs.List.{flat_map}
-use Rattle.rtl_tree.specs.TreeExpr.{Formula, Number, Read, ReadBit, ReadPart, Parens, Convert, Concat, Repeat, Unary, Binary, Choose, Formulas, no_formulas, more_formulas, Bounds}
+use Rattle.rtl_tree.specs.TreeExpr.{Formula, Number, Read, ReadBit, ReadPart, Parens, Apply, Concat, Repeat, Unary, Binary, Choose, Formulas, no_formulas, more_formulas, Bounds}
 use Rattle.rtl_tree.specs.TreeStmt.{Target, Whole, Bit, Part, Joined, Targets, no_targets, more_targets, Span, Fixed, Named, Valued, Pause, Action, Null, Delayed, Assign, If, IfElse, Case, For, Block, Actions, no_actions, more_actions, Branch, Labelled, Default, Branches, no_branches, more_branches, target_place}
-use Rattle.rtl_tree.specs.TreeItem.{Head, Drive, Happening, Edge, Change, ChangeBit, ChangePart, Sensitivity, Star, StarInParens, Listed, Association, ByPosition, ByName, ModuleItem, Ports, Nets, Variables, Integers, Parameters, Drives, Always, Instances}
-use Rattle.rtl_tree.specs.TreeModule.{Circuit, HeaderParameter, Header, Absent, Empty, Declared}
+use Rattle.rtl_tree.specs.TreeItem.{Head, Drive, GateDrive, Happening, Edge, Change, ChangeBit, ChangePart, Sensitivity, Star, StarInParens, Listed, Association, ByPosition, ByName, ModuleItem, Ports, Nets, Variables, Integers, Parameters, Drives, Gates, Always, Instances}
+use Rattle.rtl_tree.specs.TreeGate.{GateSpan, One, Two, GatePause, Gate, WrittenItem, Plain, Primitives}
+use Rattle.rtl_tree.specs.TreeModule.{WrittenCircuit, HeaderParameter, Header, Absent, Empty, Declared}
 use Rattle.rtl_tree.specs.TreeModule as modules
-use Rattle.rtl_tree.specs.Deeper.{of_any, here, formula_deeper, formulas_deeper, bounds_deeper, target_deeper, targets_deeper, span_deeper, pause_deeper, action_deeper, actions_deeper, branch_deeper, branches_deeper, head_deeper, net_deeper, valuation_deeper, drive_deeper, happening_deeper, sensitivity_deeper, positional_deeper, associated_deeper, association_deeper, instantiation_deeper, item_deeper, header_parameter_deeper, header_port_deeper, header_deeper, deeper, too_deep}
-use Rattle.rtl_tree.specs.Depth.{greatest, if_any, formula_depth, formulas_depth, bounds_depth, target_depth, targets_depth, span_depth, pause_depth, action_depth, actions_depth, branch_depth, branches_depth, head_depth, net_depth, valuation_depth, drive_depth, happening_depth, sensitivity_depth, positional_depth, associated_depth, association_depth, instantiation_depth, item_depth, header_parameter_depth, header_port_depth, header_depth, depth}
+use Rattle.rtl_tree.specs.Deeper.{of_any, here, formula_deeper, formulas_deeper, bounds_deeper, target_deeper, targets_deeper, span_deeper, pause_deeper, action_deeper, actions_deeper, branch_deeper, branches_deeper, head_deeper, net_deeper, valuation_deeper, drive_deeper, gate_drive_deeper, happening_deeper, sensitivity_deeper, positional_deeper, associated_deeper, association_deeper, instantiation_deeper, item_deeper, gate_span_deeper, gate_pause_deeper, gate_deeper, written_deeper, header_parameter_deeper, header_port_deeper, header_deeper, deeper, too_deep}
+use Rattle.rtl_tree.specs.Depth.{greatest, if_any, formula_depth, formulas_depth, bounds_depth, target_depth, targets_depth, span_depth, pause_depth, action_depth, actions_depth, branch_depth, branches_depth, head_depth, net_depth, valuation_depth, drive_depth, gate_drive_depth, happening_depth, sensitivity_depth, positional_depth, associated_depth, association_depth, instantiation_depth, item_depth, gate_span_depth, gate_pause_depth, gate_depth, written_depth, header_parameter_depth, header_port_depth, header_depth, depth}
 use Rattle.rtl_tree.specs.declared.tree.nesting.TheConstants.{MAX_NESTING}
 
 -- parts without places make a whole without
@@ -32,9 +33,9 @@ mutual
   formula (Number value at) k e = none k at e
   formula (Read name) k e = none k name.at e
   formula (ReadBit name i) k e = join (none k name.at (omega (arith, e))) (formula i (k - 1) (omega (arith, e)))
-  formula (ReadPart name a b) k e = join (join (none k name.at (omega (arith, e))) (formula a (k - 1) (omega (arith, e)))) (formula b (k - 1) (omega (arith, e)))
+  formula (ReadPart name p a b) k e = join (join (none k name.at (omega (arith, e))) (formula a (k - 1) (omega (arith, e)))) (formula b (k - 1) (omega (arith, e)))
   formula (Parens at i) k e = join (none k at (omega (arith, e))) (formula i (k - 1) (omega (arith, e)))
-  formula (Convert s at i) k e = join (none k at (omega (arith, e))) (formula i (k - 1) (omega (arith, e)))
+  formula (Apply s at i) k e = join (none k at (omega (arith, e))) (formula i (k - 1) (omega (arith, e)))
   formula (Concat at fs) k e = join (none k at (omega (arith, e))) (formulas fs (k - 1) (omega (arith, e)))
   formula (Repeat at t fs) k e = join (join (none k at (omega (arith, e))) (formula t (k - 1) (omega (arith, e)))) (formulas fs (k - 1) (omega (arith, e)))
   formula (Unary op at a) k e = join (none k at (omega (arith, e))) (formula a (k - 1) (omega (arith, e)))
@@ -53,7 +54,7 @@ mutual
   target : (t : Target) (k : ℕ) → target_depth t ≤ k → target_deeper k t ≡ []
   target (Whole name) k e = none k name.at e
   target (Bit name i) k e = join (none k name.at (omega (arith, e))) (formula i (k - 1) (omega (arith, e)))
-  target (Part name a b) k e = join (join (none k name.at (omega (arith, e))) (formula a (k - 1) (omega (arith, e)))) (formula b (k - 1) (omega (arith, e)))
+  target (Part name p a b) k e = join (join (none k name.at (omega (arith, e))) (formula a (k - 1) (omega (arith, e)))) (formula b (k - 1) (omega (arith, e)))
   target (Joined at ts) k e = join (none k at (omega (arith, e))) (targets ts (k - 1) (omega (arith, e)))
 
   targets : (ts : Targets) (k : ℕ) → targets_depth ts ≤ k → targets_deeper k ts ≡ []
@@ -106,6 +107,9 @@ head h k e = of_option (bounds_deeper k) bounds_depth k (λ b x. bounds b k x) h
 drive : (d : Drive) (k : ℕ) → drive_depth d ≤ k → drive_deeper k d ≡ []
 drive d k e = join (target d.target k (omega (arith, e))) (formula d.value k (omega (arith, e)))
 
+gate_drive : (d : GateDrive) (k : ℕ) → gate_drive_depth d ≤ k → gate_drive_deeper k d ≡ []
+gate_drive d k e = join (of_list (target_deeper k) target_depth k (λ t h. target t k h) d.outputs (omega (arith, e))) (formula d.value k (omega (arith, e)))
+
 happening : (h : Happening) (k : ℕ) → happening_depth h ≤ k → happening_deeper k h ≡ []
 happening (Edge edge at name) k e = refl
 happening (Change name) k e = refl
@@ -135,9 +139,24 @@ item (Integers at names) k e = refl
 item (Parameters at kind b values) k e =
     join (range b k (omega (arith, e))) (of_list (valuation_deeper k) valuation_depth k (λ x h. formula x.value k h) values (omega (arith, e)))
 item (Drives at p drives) k e = join (pauses p k (omega (arith, e))) (of_list (drive_deeper k) drive_depth k (λ d h. drive d k h) drives (omega (arith, e)))
+item (Gates at names p drives) k e = join (pauses p k (omega (arith, e))) (of_list (gate_drive_deeper k) gate_drive_depth k (λ d h. gate_drive d k h) drives (omega (arith, e)))
 item (Always at s body) k e = join (sensitivity s k (omega (arith, e))) (action body k (omega (arith, e)))
 item (Instances child parameters instantiations) k e =
     join (association parameters k (omega (arith, e))) (of_list (instantiation_deeper k) instantiation_depth k (λ p h. association p.connections k h) instantiations (omega (arith, e)))
+
+gate_span : (s : GateSpan) (k : ℕ) → gate_span_depth s ≤ k → gate_span_deeper k s ≡ []
+gate_span (One s) k e = span s k e
+gate_span (Two rise fall) k e = join (formula rise k (omega (arith, e))) (formula fall k (omega (arith, e)))
+
+gate_pauses : (o : Option GatePause) (k : ℕ) → if_any gate_pause_depth o ≤ k → of_any (gate_pause_deeper k) o ≡ []
+gate_pauses o k e = of_option (gate_pause_deeper k) gate_pause_depth k (λ p h. gate_span p.span k h) o e
+
+gate : (g : Gate) (k : ℕ) → gate_depth g ≤ k → gate_deeper k g ≡ []
+gate g k e = join (target g.output k (omega (arith, e))) (of_list (formula_deeper k) formula_depth k (λ f h. formula f k h) g.terminals (omega (arith, e)))
+
+written : (i : WrittenItem) (k : ℕ) → written_depth i ≤ k → written_deeper k i ≡ []
+written (Plain i) k e = item i k e
+written (Primitives at kind p gates) k e = join (gate_pauses p k (omega (arith, e))) (of_list (gate_deeper k) gate_depth k (λ g h. gate g k h) gates (omega (arith, e)))
 
 parameter : (p : HeaderParameter) (k : ℕ) → header_parameter_depth p ≤ k → header_parameter_deeper k p ≡ []
 parameter p k e =
@@ -151,12 +170,12 @@ header Empty k e = refl
 header (Declared ports) k e = of_list (header_port_deeper k) header_port_depth k (λ p h. of_option (head_deeper k) head_depth k (λ x y. head x k y) p.head h) ports e
 header (modules.Named names) k e = refl
 
-pub module_shallow : (c : Circuit) (k : ℕ) → depth c ≤ k → deeper k c ≡ []
+pub module_shallow : (c : WrittenCircuit) (k : ℕ) → depth c ≤ k → deeper k c ≡ []
 module_shallow c k e =
     join
     (join (of_list (header_parameter_deeper k) header_parameter_depth k (λ p h. parameter p k h) c.parameters (omega (arith, e))) (header c.header k (omega (arith, e))))
-    (of_list (item_deeper k) item_depth k (λ i h. item i k h) c.items (omega (arith, e)))
+    (of_list (written_deeper k) written_depth k (λ i h. written i k h) c.items (omega (arith, e)))
 
 -- modules that are shallow enough hold nothing too deep
-pub all_shallow : (cs : List Circuit) → greatest depth cs ≤ MAX_NESTING → too_deep cs ≡ []
+pub all_shallow : (cs : List WrittenCircuit) → greatest depth cs ≤ MAX_NESTING → too_deep cs ≡ []
 all_shallow cs e = of_list (deeper MAX_NESTING) depth MAX_NESTING (λ c h. module_shallow c MAX_NESTING h) cs e

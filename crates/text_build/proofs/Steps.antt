@@ -5,7 +5,7 @@ use Rattle.rtl_tree.specs.Symbols.{Terminal}
 use Rattle.text_build.specs.declared.fault.BuildFault.{BuildFault}
 use Rattle.text_build.specs.declared.fault.BuildFault.TheVariants.{NotSpelled, Memory}
 use Rattle.rtl_tree.specs.declared.symbol.Symbol.TheVariants as symbol
-use Rattle.text_build.specs.Reading.{Parser, Outcome, Reads, and_then, ◌>>=◌, pure, starts, after, add, turns, repeat, until_in, until, links, commas, listed}
+use Rattle.text_build.specs.Reading.{Parser, Outcome, Reads, and_then, pure, starts, after, add, turns, repeat, until_in, until, links, commas, listed}
 
 -- ---- outcomes
 

@@ -5,7 +5,7 @@ use Rattle.std.specs.List.{list_all}
 use Rattle.text_ground.specs.declared.dropped.Dropped.{Dropped}
 use Rattle.rtl_tree.specs.declared.tree.nesting.TheConstants.{MAX_NESTING}
 use Rattle.rtl_tree.specs.Symbols.{Terminal}
-use Rattle.rtl_tree.specs.TreeModule.{Circuit}
+use Rattle.rtl_tree.specs.TreeModule.{WrittenCircuit}
 use Rattle.rtl_tree.specs.GrammarModule.{AreSpelled}
 use Rattle.rtl_tree.specs.Deeper.{too_deep}
 use Rattle.text_build.specs.ReadingModule.{circuits}
@@ -15,6 +15,6 @@ use Rattle.text_build.specs.Tests.{is_proper_circuit}
 -- proper modules that were read of an ordinary text are spelled by it, and hold nothing that is nested too deep
 abbrev pub ReadingsAreCertain : Type 0
 ReadingsAreCertain =
-    (regions : List Dropped) (tokens : List Terminal) (cs : List Circuit) → is_ordinary tokens ≡ true →
+    (regions : List Dropped) (tokens : List Terminal) (cs : List WrittenCircuit) → is_ordinary tokens ≡ true →
     circuits MAX_NESTING regions tokens ≡ Some (cs, []) → list_all is_proper_circuit cs ≡ true →
     AreSpelled regions tokens cs × (too_deep cs ≡ [])

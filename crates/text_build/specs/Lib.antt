@@ -2,6 +2,7 @@ pub mod Reading
 pub mod ReadingExpr
 pub mod ReadingStmt
 pub mod ReadingItem
+pub mod ReadingGate
 pub mod ReadingModule
 pub mod References
 pub mod Built

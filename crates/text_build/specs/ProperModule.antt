@@ -1,9 +1,11 @@
 -- It serves laws; no answer of the program is stated by it.
 -- What the grammar asks of a module and the builder doesn't test.
-use Rattle.std.specs.Prelude.{◌≡◌, false, List, [], ◌∷◌}
-use Rattle.rtl_tree.specs.TreeItem.{Association, ByPosition, ByName, Variable, ModuleItem, Ports, Nets, Variables, Integers, Parameters, Drives, Always, Instances}
-use Rattle.rtl_tree.specs.TreeModule.{HeaderParameter, Circuit}
+use Rattle.std.specs.Prelude.{◌≡◌, Bool, false, List, [], ◌∷◌}
+use Rattle.rtl_tree.specs.TreeItem.{Association, ByPosition, ByName, Variable, ModuleItem, Ports, Nets, Variables, Integers, Parameters, Drives, Gates, Always, Instances}
+use Rattle.rtl_tree.specs.TreeGate.{Gate, WrittenItem, Plain, Primitives}
+use Rattle.rtl_tree.specs.TreeModule.{HeaderParameter, WrittenCircuit}
 use Rattle.rtl_tree.specs.GrammarItem.{IsMoreThanEmpty}
+use Rattle.rtl_tree.specs.GrammarGate.{has_one_input, AreTerminals}
 use Rattle.rtl_tree.specs.GrammarModule.{IsThere}
 use Rattle.text_build.specs.Proper.{IsProper}
 
@@ -22,7 +24,7 @@ AreProperArguments (ByName arguments) = Unit {0}
 abbrev pub IsProperVariable : Variable → Type 0
 IsProperVariable v = v.initial ≡ false
 
--- no variable has an initial value, cases are proper, and so are the parameters that an instance sets
+-- no variable has an initial value, cases are proper, and so are the parameters that an instance sets; what gates drive isn't read
 abbrev pub IsProperItem : ModuleItem → Type 0
 IsProperItem (Ports head names) = Unit {0}
 IsProperItem (Nets at signed bounds nets) = Unit {0}
@@ -30,13 +32,22 @@ IsProperItem (Variables at signed bounds variables) = Each IsProperVariable vari
 IsProperItem (Integers at names) = Unit {0}
 IsProperItem (Parameters at kind bounds values) = Unit {0}
 IsProperItem (Drives at pause drives) = Unit {0}
+IsProperItem (Gates at names pause drives) = ⊥
 IsProperItem (Always at sensitivity body) = IsProper body
 IsProperItem (Instances child parameters instantiations) = AreProperArguments parameters
+
+-- where a gate has one input, its other terminals may be outputs
+abbrev pub IsProperGate : Bool → Gate → Type 0
+IsProperGate one gate = AreTerminals one gate.terminals
+
+abbrev pub IsProperWritten : WrittenItem → Type 0
+IsProperWritten (Plain item) = IsProperItem item
+IsProperWritten (Primitives at kind pause gates) = Each (IsProperGate (has_one_input kind)) gates
 
 -- the first parameter in the head of a module stands after `parameter`
 abbrev pub AreProperParameters : List HeaderParameter → Type 0
 AreProperParameters [] = Unit {0}
 AreProperParameters (parameter ∷ parameters) = IsThere parameter.heading
 
-abbrev pub IsProperCircuit : Circuit → Type 0
-IsProperCircuit c = AreProperParameters c.parameters × Each IsProperItem c.items
+abbrev pub IsProperCircuit : WrittenCircuit → Type 0
+IsProperCircuit c = AreProperParameters c.parameters × Each IsProperWritten c.items

@@ -7,15 +7,18 @@ use Rattle.rtl_tree.specs.declared.tree.operators.UnaryOperator.{UnaryOperator}
 use Rattle.rtl_tree.specs.declared.tree.operators.UnaryOperator.TheVariants as unary
 use Rattle.rtl_tree.specs.declared.tree.operators.BinaryOperator.{BinaryOperator}
 use Rattle.rtl_tree.specs.declared.tree.operators.BinaryOperator.TheVariants as binary
-use Rattle.rtl_tree.specs.declared.tree.operators.Signedness.{Signedness}
-use Rattle.rtl_tree.specs.declared.tree.operators.Signedness.TheVariants as sign
+use Rattle.rtl_tree.specs.declared.tree.operators.SystemFunction.{SystemFunction}
+use Rattle.rtl_tree.specs.declared.tree.operators.SystemFunction.TheVariants as function
+use Rattle.rtl_tree.specs.declared.tree.operators.PartKind.{PartKind}
+use Rattle.rtl_tree.specs.declared.tree.operators.PartKind.TheVariants as selects
 use Rattle.rtl_tree.specs.Symbols.{Terminal}
-use Rattle.rtl_tree.specs.TreeExpr.{Identifier, Formula, Number, Read, ReadBit, ReadPart, Parens, Convert, Concat, Repeat, Unary, Binary, Choose, formula_row, Bounds}
-use Rattle.rtl_tree.specs.GrammarExpr.{level}
+use Rattle.rtl_tree.specs.TreeExpr.{Identifier, Formula, Number, Read, ReadBit, ReadPart, Parens, Apply, Concat, Repeat, Unary, Binary, Choose, formula_row, Bounds}
+use Rattle.rtl_tree.specs.GrammarExpr.{level, part_symbol}
 use Rattle.text_build.specs.Reading.{Parser, ◌>>=◌, ◌>>◌, pure, refuse, symbol_at, starts, place, advance, mark, name, literal, either, turns, commas, add, listed}
 
 -- the operator between operands that is written so
 unfoldable pub binary_of : Symbol → Option BinaryOperator
+binary_of symbol.StarStar = Some binary.Power
 binary_of symbol.Star = Some binary.Multiply
 binary_of symbol.Slash = Some binary.Divide
 binary_of symbol.Percent = Some binary.Modulus
@@ -59,10 +62,10 @@ abbrev pub level_or : ℕ → Option BinaryOperator → ℕ
 level_or n None = n
 level_or n (Some op) = level op
 
--- how loosely what goes on with an expression binds: `?` as level 11, and above it what doesn't go on
+-- how loosely what goes on with an expression binds: `?` as level 12, and above it what doesn't go on
 unfoldable pub looseness : Symbol → ℕ
-looseness symbol.Question = 11
-looseness s = level_or 12 (binary_of s)
+looseness symbol.Question = 12
+looseness s = level_or 13 (binary_of s)
 
 abbrev pub goes_by : ℕ → Option Symbol → Bool
 goes_by k None = false
@@ -78,17 +81,35 @@ goes k ts = goes_by k (symbol_at ts)
 pub data Reference : Type 0 where
   whole : (n : Identifier) → Reference
   bit : (n : Identifier) (index : Formula) → Reference
-  part : (n : Identifier) (msb lsb : Formula) → Reference
+  part : (n : Identifier) (kind : PartKind) (first second : Formula) → Reference
 
 unfoldable pub rest_of_bit : Identifier → Formula → Parser Reference
 rest_of_bit n index = mark symbol.CloseBracket >> pure (bit n index)
 
-unfoldable pub rest_of_part : Parser Formula → Identifier → Formula → Parser Reference
-rest_of_part e n msb = mark symbol.Colon >> e >>= (λ lsb. mark symbol.CloseBracket >> pure (part n msb lsb))
+unfoldable pub rest_of_part : PartKind → Parser Formula → Identifier → Formula → Parser Reference
+rest_of_part k e n first = mark (part_symbol k) >> e >>= (λ second. mark symbol.CloseBracket >> pure (part n k first second))
+
+-- the kind of part that is written so
+unfoldable pub part_of : Symbol → Option PartKind
+part_of symbol.Colon = Some selects.Between
+part_of symbol.PlusColon = Some selects.Up
+part_of symbol.MinusColon = Some selects.Down
+part_of s = None
+
+abbrev pub part_by : Option Symbol → Option PartKind
+part_by None = None
+part_by (Some s) = part_of s
+
+abbrev pub rest_by : Option PartKind → Parser Formula → Identifier → Formula → Parser Reference
+rest_by None e n first = rest_of_bit n first
+rest_by (Some k) e n first = rest_of_part k e n first
+
+-- `[first` was read
+unfoldable pub rest_of_selection : Parser Formula → Identifier → Formula → Parser Reference
+rest_of_selection e n first = λ ts. rest_by (part_by (symbol_at ts)) e n first ts
 
 unfoldable pub selection : Parser Formula → Identifier → Parser Reference
-selection e n =
-    mark symbol.OpenBracket >> e >>= (λ first. either (starts symbol.Colon) (rest_of_part e n first) (rest_of_bit n first))
+selection e n = mark symbol.OpenBracket >> e >>= rest_of_selection e n
 
 unfoldable pub selected : Parser Formula → Identifier → Parser Reference
 selected e n = either (starts symbol.OpenBracket) (selection e n) (pure (whole n))
@@ -100,7 +121,7 @@ reference e = name >>= selected e
 abbrev pub read_of : Reference → Formula
 read_of (whole n) = Read n
 read_of (bit n index) = ReadBit n index
-read_of (part n msb lsb) = ReadPart n msb lsb
+read_of (part n kind first second) = ReadPart n kind first second
 
 -- ---- operands: `e k` reads what has at most level k
 
@@ -113,8 +134,8 @@ read e = reference e >>= (λ r. pure (read_of r))
 unfoldable pub parens : Parser Formula → Parser Formula
 parens e = advance >>= (λ at. e >>= (λ inner. mark symbol.CloseParen >> pure (Parens at inner)))
 
-unfoldable pub conversion : Signedness → Parser Formula → Parser Formula
-conversion s e = advance >>= (λ at. mark symbol.OpenParen >> e >>= (λ inner. mark symbol.CloseParen >> pure (Convert s at inner)))
+unfoldable pub application : SystemFunction → Parser Formula → Parser Formula
+application f e = advance >>= (λ at. mark symbol.OpenParen >> e >>= (λ inner. mark symbol.CloseParen >> pure (Apply f at inner)))
 
 -- `{times` was read, and `{` comes next
 unfoldable pub replication : Parser Formula → ℕ → Formula → Parser Formula
@@ -144,11 +165,12 @@ prefix_by (Some op) e = operation op e
 abbrev pub operand_by : Option Symbol → (ℕ → Parser Formula) → Parser Formula
 operand_by None e = refuse
 operand_by (Some symbol.Number) e = number
-operand_by (Some symbol.Name) e = read (e 11)
-operand_by (Some symbol.OpenParen) e = parens (e 11)
-operand_by (Some symbol.ToSigned) e = conversion sign.Signed (e 11)
-operand_by (Some symbol.ToUnsigned) e = conversion sign.Unsigned (e 11)
-operand_by (Some symbol.OpenBrace) e = braces (e 11)
+operand_by (Some symbol.Name) e = read (e 12)
+operand_by (Some symbol.OpenParen) e = parens (e 12)
+operand_by (Some symbol.ToSigned) e = application function.Signed (e 12)
+operand_by (Some symbol.ToUnsigned) e = application function.Unsigned (e 12)
+operand_by (Some symbol.Clog2) e = application function.Clog2 (e 12)
+operand_by (Some symbol.OpenBrace) e = braces (e 12)
 operand_by (Some s) e = prefix_by (unary_of s) (e 0)
 
 unfoldable pub operand : (ℕ → Parser Formula) → Parser Formula
@@ -164,7 +186,7 @@ unfoldable pub joint : BinaryOperator → Parser Formula → Formula → Parser 
 joint op e left = advance >>= (λ at. e >>= (λ right. pure (Binary op at left right)))
 
 abbrev pub link_of : Option BinaryOperator → (ℕ → Parser Formula) → Formula → Parser Formula
-link_of None e left = choice (e 11) left
+link_of None e left = choice (e 12) left
 link_of (Some op) e left = joint op (e (level op - 1)) left
 
 abbrev pub link_by : Option Symbol → (ℕ → Parser Formula) → Formula → Parser Formula
@@ -192,7 +214,7 @@ climb zero k = refuse
 climb (suc d) k = sequence d k (climb d)
 
 abbrev pub expression : ℕ → Parser Formula
-expression d = climb d 11
+expression d = climb d 12
 
 unfoldable pub bounds : Parser Formula → Parser Bounds
 bounds e =

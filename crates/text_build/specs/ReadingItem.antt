@@ -1,8 +1,9 @@
 -- It serves inner contracts and proofs; no answer of the program is stated by it.
 -- The builder as functions on tokens: the items of a module.
-use Rattle.std.specs.Prelude.{ℕ, Bool, true, false, ◌||◌, if◌then◌else◌, List, [], ◌∷◌, length, Option, Some, None}
+use Rattle.std.specs.Prelude.{ℕ, Bool, ◌||◌, if◌then◌else◌, List, [], length, Option, Some, None}
 use Rattle.rtl_tree.specs.declared.symbol.Symbol.{Symbol}
 use Rattle.rtl_tree.specs.declared.symbol.Symbol.TheVariants as symbol
+use Rattle.rtl_tree.specs.declared.tree.operators.PartKind.TheVariants as selects
 use Rattle.rtl_tree.specs.declared.tree.item.Direction.{Direction}
 use Rattle.rtl_tree.specs.declared.tree.item.Direction.TheVariants as direction
 use Rattle.rtl_tree.specs.declared.tree.item.PortKind.{PortKind}
@@ -12,8 +13,7 @@ use Rattle.rtl_tree.specs.declared.tree.item.ParameterKind.TheVariants as parame
 use Rattle.rtl_tree.specs.declared.tree.item.EventEdge.{EventEdge}
 use Rattle.rtl_tree.specs.declared.tree.item.EventEdge.TheVariants as edge
 use Rattle.rtl_tree.specs.Symbols.{Terminal}
-use Rattle.rtl_tree.specs.TreeExpr.{Formula, Identifier, Bounds}
-use Rattle.rtl_tree.specs.TreeStmt.{Target, Action}
+use Rattle.rtl_tree.specs.TreeExpr.{Formula, Bounds}
 use Rattle.rtl_tree.specs.TreeItem.{Head, Net, Variable, Valuation, Drive, Happening, Edge, Change, ChangeBit, ChangePart, Sensitivity, Star, StarInParens, Listed, Positional, Associated, Association, ByPosition, ByName, Instantiation, ModuleItem, Ports, Nets, Variables, Integers, Parameters, Drives, Always, Instances}
 use Rattle.text_build.specs.Reading.{Parser, ◌>>=◌, ◌>>◌, pure, refuse, symbol_at, starts, after, place, advance, mark, name, either, optional, add, links, listed}
 use Rattle.text_build.specs.ReadingExpr.{Reference, whole, bit, part, reference, expression, bounds}
@@ -101,13 +101,20 @@ drives d =
 unfoldable pub edge_of : EventEdge → Parser Happening
 edge_of e = advance >>= (λ at. name >>= (λ n. pure (Edge e at n)))
 
-abbrev pub change_of : Reference → Happening
-change_of (whole n) = Change n
-change_of (bit n index) = ChangeBit n index
-change_of (part n msb lsb) = ChangePart n msb lsb
+-- a part of a name stands in an event with a colon alone
+abbrev pub change_of : Reference → Option Happening
+change_of (whole n) = Some (Change n)
+change_of (bit n index) = Some (ChangeBit n index)
+change_of (part n selects.Between msb lsb) = Some (ChangePart n msb lsb)
+change_of (part n selects.Up base width) = None
+change_of (part n selects.Down base width) = None
+
+abbrev pub change_by : Option Happening → Parser Happening
+change_by None = refuse
+change_by (Some h) = pure h
 
 unfoldable pub change : ℕ → Parser Happening
-change d = reference (any_expression d) >>= (λ r. pure (change_of r))
+change d = reference (any_expression d) >>= (λ r. change_by (change_of r))
 
 abbrev pub event_by : ℕ → Option Symbol → Parser Happening
 event_by d (Some symbol.Posedge) = edge_of edge.Posedge

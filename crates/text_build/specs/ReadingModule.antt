@@ -1,20 +1,21 @@
 -- It serves inner contracts and proofs; no answer of the program is stated by it.
 -- The builder as functions on tokens: modules, and a whole text.
-use Rattle.std.specs.Prelude.{ℕ, Bool, true, false, ◌||◌, List, [], ◌∷◌, ◌++◌, Option, Some, None}
+use Rattle.std.specs.Prelude.{ℕ, Bool, true, false, ◌||◌, List, [], ◌∷◌, Option, Some, None}
 use Rattle.std.specs.List.{filter}
 use Rattle.text_ground.specs.declared.dropped.Dropped.{Dropped}
 use Rattle.rtl_tree.specs.declared.symbol.Symbol.TheVariants as symbol
 use Rattle.rtl_tree.specs.Symbols.{Terminal}
-use Rattle.rtl_tree.specs.TreeExpr.{Identifier}
-use Rattle.rtl_tree.specs.TreeItem.{Head, ModuleItem}
-use Rattle.rtl_tree.specs.TreeModule.{Heading, HeaderParameter, HeaderPort, Header, Absent, Empty, Declared, Named, Circuit}
+use Rattle.rtl_tree.specs.TreeItem.{Head}
+use Rattle.rtl_tree.specs.TreeGate.{WrittenItem}
+use Rattle.rtl_tree.specs.TreeModule.{Heading, HeaderParameter, HeaderPort, Header, Absent, Empty, Declared, Named, WrittenCircuit}
 use Rattle.rtl_tree.specs.GrammarModule.{is_between}
-use Rattle.text_build.specs.Reading.{Parser, Outcome, ◌>>=◌, ◌>>◌, pure, starts, advance, mark, name, either, optional, add, repeat, until, listed}
+use Rattle.text_build.specs.Reading.{Parser, ◌>>=◌, ◌>>◌, pure, starts, advance, mark, name, either, optional, add, repeat, until, listed}
 use Rattle.text_build.specs.ReadingStmt.{attributes}
-use Rattle.text_build.specs.ReadingItem.{range, value, port_head, item_after}
+use Rattle.text_build.specs.ReadingItem.{range, value, port_head}
+use Rattle.text_build.specs.ReadingGate.{written_after}
 
-unfoldable pub item : ℕ → Parser ModuleItem
-item d = attributes >> item_after d
+unfoldable pub item : ℕ → Parser WrittenItem
+item d = attributes >> written_after d
 
 unfoldable pub heading : ℕ → Parser Heading
 heading d = advance >>= (λ at. range d >>= (λ b. pure (record { at = at; bounds = b })))
@@ -54,12 +55,12 @@ unfoldable pub header : ℕ → Parser Header
 header d = either (starts symbol.OpenParen) (port_list d) (pure Absent)
 
 -- a module after its attributes
-unfoldable pub circuit_after : ℕ → List Dropped → Parser Circuit
+unfoldable pub circuit_after : ℕ → List Dropped → Parser WrittenCircuit
 circuit_after d regions =
     mark symbol.Module >>= (λ at. name >>= (λ n. parameters d >>= (λ ps. header d >>= (λ h. mark symbol.Semicolon >> until symbol.Endmodule (item d) >>= (λ is. mark symbol.Endmodule
     >>= (λ last. pure (record { at = at; name = n; parameters = ps; header = h; items = is; dropped = filter (is_between at last) regions })))))))
 
-unfoldable pub circuit : ℕ → List Dropped → Parser Circuit
+unfoldable pub circuit : ℕ → List Dropped → Parser WrittenCircuit
 circuit d regions = attributes >> circuit_after d regions
 
 abbrev pub is_more : List Terminal → Bool
@@ -67,5 +68,5 @@ is_more [] = false
 is_more (t ∷ ts) = true
 
 -- the modules of a text
-unfoldable pub circuits : ℕ → List Dropped → Parser (List Circuit)
+unfoldable pub circuits : ℕ → List Dropped → Parser (List WrittenCircuit)
 circuits d regions = repeat is_more (add (circuit d regions)) []

@@ -1,6 +1,6 @@
 -- It serves inner contracts and proofs; no answer of the program is stated by it.
 -- The builder as functions on tokens: attributes, targets, delays and statements.
-use Rattle.std.specs.Prelude.{ℕ, zero, suc, ◌+◌, ◌-◌, Bool, true, false, ◌||◌, if◌then◌else◌, List, [], ◌∷◌, Option, Some, None, codes}
+use Rattle.std.specs.Prelude.{ℕ, zero, suc, ◌+◌, ◌-◌, Bool, false, ◌||◌, if◌then◌else◌, List, [], ◌∷◌, Option, Some, None, codes}
 use Rattle.std.specs.Str.{bytes_eq}
 use Rattle.rtl_tree.specs.declared.symbol.Symbol.{Symbol}
 use Rattle.rtl_tree.specs.declared.symbol.Symbol.TheVariants as symbol
@@ -82,7 +82,7 @@ attributes = repeat (starts symbol.OpenAttribute) marked no_marks
 abbrev pub target_of : Reference → Target
 target_of (whole n) = Whole n
 target_of (bit n index) = Bit n index
-target_of (part n msb lsb) = Part n msb lsb
+target_of (part n kind first second) = Part n kind first second
 
 unfoldable pub part_target : Parser Formula → Parser Target
 part_target e = reference e >>= (λ r. pure (target_of r))

@@ -9,7 +9,7 @@ use Rattle.text_build.specs.ReadingExpr as reading
 abbrev pub reference : Reference → reading.Reference
 reference (written.Whole name) = reading.whole (identifier name)
 reference (written.Bit name index) = reading.bit (identifier name) (formula index.value)
-reference (written.Part name msb lsb) = reading.part (identifier name) (formula msb.value) (formula lsb.value)
+reference (written.Part name kind first second) = reading.part (identifier name) kind (formula first.value) (formula second.value)
 
 abbrev pub step : Step → Identifier × Formula
 step held = (identifier held.name, formula held.value.value)

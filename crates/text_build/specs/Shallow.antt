@@ -3,9 +3,9 @@
 use Rattle.std.specs.Prelude.{◌≡◌, ◌≤◌, List, []}
 use Rattle.rtl_tree.specs.Deeper.{too_deep}
 use Rattle.rtl_tree.specs.Depth.{greatest, depth}
-use Rattle.rtl_tree.specs.TreeModule.{Circuit}
+use Rattle.rtl_tree.specs.TreeModule.{WrittenCircuit}
 use Rattle.rtl_tree.specs.declared.tree.nesting.TheConstants.{MAX_NESTING}
 
 -- modules that are shallow enough hold nothing that is nested too deep
 abbrev pub ShallowIsNotTooDeep : Type 0
-ShallowIsNotTooDeep = (cs : List Circuit) → greatest depth cs ≤ MAX_NESTING → too_deep cs ≡ []
+ShallowIsNotTooDeep = (cs : List WrittenCircuit) → greatest depth cs ≤ MAX_NESTING → too_deep cs ≡ []

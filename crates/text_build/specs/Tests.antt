@@ -4,9 +4,11 @@ use Rattle.std.specs.Prelude.{Bool, true, false, ◌&&◌, not, nat_le, List, []
 use Rattle.std.specs.List.{list_all}
 use Rattle.rtl_tree.specs.TreeExpr.{Formula}
 use Rattle.rtl_tree.specs.TreeStmt.{Action, Null, Delayed, Assign, If, IfElse, Case, For, Block, Actions, no_actions, more_actions, Branch, Labelled, Default, Branches, no_branches, more_branches}
-use Rattle.rtl_tree.specs.TreeItem.{Positional, Association, ByPosition, ByName, Variable, ModuleItem, Ports, Nets, Variables, Integers, Parameters, Drives, Always, Instances}
-use Rattle.rtl_tree.specs.TreeModule.{HeaderParameter, Heading, Circuit}
+use Rattle.rtl_tree.specs.TreeItem.{Association, ByPosition, ByName, Variable, ModuleItem, Ports, Nets, Variables, Integers, Parameters, Drives, Gates, Always, Instances}
+use Rattle.rtl_tree.specs.TreeGate.{Gate, WrittenItem, Plain, Primitives}
+use Rattle.rtl_tree.specs.TreeModule.{HeaderParameter, Heading, WrittenCircuit}
 use Rattle.rtl_tree.specs.GrammarStmt.{defaults}
+use Rattle.rtl_tree.specs.GrammarGate.{has_one_input, is_named}
 use Rattle.rtl_tree.specs.Depth.{depth}
 use Rattle.rtl_tree.specs.declared.tree.nesting.TheConstants.{MAX_NESTING}
 
@@ -62,8 +64,23 @@ is_proper_item (Variables at signed bounds variables) = list_all has_no_value va
 is_proper_item (Integers at names) = true
 is_proper_item (Parameters at kind bounds values) = true
 is_proper_item (Drives at pause drives) = true
+is_proper_item (Gates at names pause drives) = false
 is_proper_item (Always at sensitivity body) = is_proper body
 is_proper_item (Instances child parameters instantiations) = are_proper_arguments parameters
+
+-- all terminals but the last may be outputs, where there is one input
+abbrev pub are_terminals : Bool → List Formula → Bool
+are_terminals false terminals = true
+are_terminals true [] = true
+are_terminals true (last ∷ []) = true
+are_terminals true (output ∷ next ∷ others) = is_named output && are_terminals true (next ∷ others)
+
+abbrev pub is_proper_gate : Bool → Gate → Bool
+is_proper_gate one gate = are_terminals one gate.terminals
+
+abbrev pub is_proper_written : WrittenItem → Bool
+is_proper_written (Plain item) = is_proper_item item
+is_proper_written (Primitives at kind pause gates) = list_all (is_proper_gate (has_one_input kind)) gates
 
 abbrev pub has_heading : Option Heading → Bool
 has_heading None = false
@@ -75,6 +92,6 @@ has_first_heading [] = true
 has_first_heading (parameter ∷ parameters) = has_heading parameter.heading
 
 -- and nothing in it is nested too deep
-abbrev pub is_proper_circuit : Circuit → Bool
+abbrev pub is_proper_circuit : WrittenCircuit → Bool
 is_proper_circuit c =
-    (nat_le (depth c) MAX_NESTING && has_first_heading c.parameters) && list_all is_proper_item c.items
+    (nat_le (depth c) MAX_NESTING && has_first_heading c.parameters) && list_all is_proper_written c.items

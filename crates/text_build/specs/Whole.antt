@@ -3,7 +3,7 @@
 use Rattle.std.specs.Prelude.{◌≡◌, ℕ, List, [], Some}
 use Rattle.text_ground.specs.declared.dropped.Dropped.{Dropped}
 use Rattle.rtl_tree.specs.Symbols.{Terminal}
-use Rattle.rtl_tree.specs.TreeModule.{Circuit}
+use Rattle.rtl_tree.specs.TreeModule.{WrittenCircuit}
 use Rattle.rtl_tree.specs.GrammarModule.{AreSpelled}
 use Rattle.text_build.specs.ReadingModule.{circuits}
 use Rattle.text_build.specs.Sound.{IsPlain}
@@ -12,5 +12,5 @@ use Rattle.text_build.specs.ProperModule.{Each, IsProperCircuit}
 -- proper modules that were read of a whole text with no attributes are spelled by it
 abbrev pub TextsAreSound : Type 0
 TextsAreSound =
-    (d : ℕ) (regions : List Dropped) (tokens : List Terminal) (cs : List Circuit) →
+    (d : ℕ) (regions : List Dropped) (tokens : List Terminal) (cs : List WrittenCircuit) →
     IsPlain tokens → circuits d regions tokens ≡ Some (cs, []) → Each IsProperCircuit cs → AreSpelled regions tokens cs

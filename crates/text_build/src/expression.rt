@@ -12,15 +12,15 @@ ghost use Rattle.rtl_tree.specs.GrammarExpr.{level};
 
 use crate::cursor::Cursor;
 use crate::fault::BuildFault;
-use crate::operators::{binary_of, level, looseness, unary_of};
+use crate::operators::{binary_of, level, looseness, part_of, part_symbol, unary_of};
 use crate::reference::Reference;
 use rtl_tree::symbol::Symbol;
 use rtl_tree::tree::expr::{Expr, Range};
 use rtl_tree::tree::names::Name;
-use rtl_tree::tree::operators::{BinaryOperator, Signedness, UnaryOperator};
+use rtl_tree::tree::operators::{BinaryOperator, PartKind, SystemFunction, UnaryOperator};
 
 /// The level of `?:`, and so of any expression.
-const LOOSEST: u32 = 11;
+const LOOSEST: u32 = 12;
 
 impl<'a> Cursor<'a> {
     /// Any expression, nested at most `depth` deep.
@@ -153,7 +153,7 @@ impl<'a> Cursor<'a> {
     #[cycle(expression)]
     #[tactic(auto, unfolding(crate::specs::ReadingExpr::choice))]
     fn choice(&mut self, depth: u32, condition: Box<Expr>) -> Result<Expr, BuildFault>
-        ensures { Reads formula (reading.choice (reading.climb depth 11) (formula condition.value)
+        ensures { Reads formula (reading.choice (reading.climb depth 12) (formula condition.value)
             (map terminal self.old.rest.now)) result (map terminal self.new.rest.now) }
     {
         let at = self.advance()?;
@@ -173,8 +173,9 @@ impl<'a> Cursor<'a> {
             Some(Symbol::Number) => self.number(),
             Some(Symbol::Name) => self.read(depth),
             Some(Symbol::OpenParen) => self.parens(depth),
-            Some(Symbol::ToSigned) => self.conversion(depth, Signedness::Signed),
-            Some(Symbol::ToUnsigned) => self.conversion(depth, Signedness::Unsigned),
+            Some(Symbol::ToSigned) => self.application(depth, SystemFunction::Signed),
+            Some(Symbol::ToUnsigned) => self.application(depth, SystemFunction::Unsigned),
+            Some(Symbol::Clog2) => self.application(depth, SystemFunction::Clog2),
             Some(Symbol::OpenBrace) => self.braces(depth),
             Some(symbol) => self.prefixed(depth, unary_of(symbol)),
             None => Err(BuildFault::NotSpelled),
@@ -194,7 +195,7 @@ impl<'a> Cursor<'a> {
     #[cycle(expression)]
     #[tactic(auto, unfolding(crate::specs::ReadingExpr::read))]
     fn read(&mut self, depth: u32) -> Result<Expr, BuildFault>
-        ensures { Reads formula (reading.read (reading.climb depth 11)
+        ensures { Reads formula (reading.read (reading.climb depth 12)
             (map terminal self.old.rest.now)) result (map terminal self.new.rest.now) }
     {
         let reference = self.reference(depth)?;
@@ -204,7 +205,7 @@ impl<'a> Cursor<'a> {
     #[cycle(expression)]
     #[tactic(auto, unfolding(crate::specs::ReadingExpr::parens))]
     fn parens(&mut self, depth: u32) -> Result<Expr, BuildFault>
-        ensures { Reads formula (reading.parens (reading.climb depth 11)
+        ensures { Reads formula (reading.parens (reading.climb depth 12)
             (map terminal self.old.rest.now)) result (map terminal self.new.rest.now) }
     {
         let at = self.advance()?;
@@ -214,23 +215,23 @@ impl<'a> Cursor<'a> {
     }
 
     #[cycle(expression)]
-    #[tactic(auto, unfolding(crate::specs::ReadingExpr::conversion))]
-    fn conversion(&mut self, depth: u32, signedness: Signedness) -> Result<Expr, BuildFault>
-        ensures { Reads formula (reading.conversion signedness (reading.climb depth 11)
+    #[tactic(auto, unfolding(crate::specs::ReadingExpr::application))]
+    fn application(&mut self, depth: u32, function: SystemFunction) -> Result<Expr, BuildFault>
+        ensures { Reads formula (reading.application function (reading.climb depth 12)
             (map terminal self.old.rest.now)) result (map terminal self.new.rest.now) }
     {
         let at = self.advance()?;
         self.mark(Symbol::OpenParen)?;
         let inner = self.boxed(depth, LOOSEST)?;
         self.mark(Symbol::CloseParen)?;
-        Ok(Expr::Convert(signedness, at, inner))
+        Ok(Expr::Apply(function, at, inner))
     }
 
     /// A concatenation or a replication.
     #[cycle(expression)]
     #[tactic(auto, unfolding(crate::specs::ReadingExpr::braces))]
     fn braces(&mut self, depth: u32) -> Result<Expr, BuildFault>
-        ensures { Reads formula (reading.braces (reading.climb depth 11)
+        ensures { Reads formula (reading.braces (reading.climb depth 12)
             (map terminal self.old.rest.now)) result (map terminal self.new.rest.now) }
     {
         let at = self.advance()?;
@@ -243,8 +244,8 @@ impl<'a> Cursor<'a> {
     #[tactic(auto, unfolding(crate::specs::Reading::either))]
     fn after_first(&mut self, depth: u32, at: u32, first: Expr) -> Result<Expr, BuildFault>
         ensures { Reads formula (generic.either (generic.starts symbol.OpenBrace)
-            (reading.replication (reading.climb depth 11) at (formula first))
-            (reading.concatenation (reading.climb depth 11) at (formula first))
+            (reading.replication (reading.climb depth 12) at (formula first))
+            (reading.concatenation (reading.climb depth 12) at (formula first))
             (map terminal self.old.rest.now)) result (map terminal self.new.rest.now) }
     {
         if self.is_next(Symbol::OpenBrace) {
@@ -257,7 +258,7 @@ impl<'a> Cursor<'a> {
     #[cycle(expression)]
     #[tactic(auto, unfolding(crate::specs::ReadingExpr::replication))]
     fn replication(&mut self, depth: u32, at: u32, times: Expr) -> Result<Expr, BuildFault>
-        ensures { Reads formula (reading.replication (reading.climb depth 11) at (formula times)
+        ensures { Reads formula (reading.replication (reading.climb depth 12) at (formula times)
             (map terminal self.old.rest.now)) result (map terminal self.new.rest.now) }
     {
         let times = Box::new(self.alloc, times)?;
@@ -271,7 +272,7 @@ impl<'a> Cursor<'a> {
     #[cycle(expression)]
     #[tactic(auto, unfolding(crate::specs::ReadingExpr::concatenation))]
     fn concatenation(&mut self, depth: u32, at: u32, first: Expr) -> Result<Expr, BuildFault>
-        ensures { Reads formula (reading.concatenation (reading.climb depth 11) at (formula first)
+        ensures { Reads formula (reading.concatenation (reading.climb depth 12) at (formula first)
             (map terminal self.old.rest.now)) result (map terminal self.new.rest.now) }
     {
         let parts = self.more_listed(depth, first)?;
@@ -283,7 +284,7 @@ impl<'a> Cursor<'a> {
     #[tactic(auto, unfolding(crate::specs::ReadingExpr::more_listed, crate::specs::Reading::either))]
     fn more_listed(&mut self, depth: u32, first: Expr) -> Result<Vec<Expr>, BuildFault>
         ensures { Reads (λ all. map formula all.items)
-            (reading.more_listed (reading.climb depth 11) (formula first)
+            (reading.more_listed (reading.climb depth 12) (formula first)
             (map terminal self.old.rest.now)) result (map terminal self.new.rest.now) }
     {
         let mut all = Vec::new(self.alloc);
@@ -301,7 +302,7 @@ impl<'a> Cursor<'a> {
     #[tactic(auto, unfolding(crate::specs::Reading::listed))]
     pub(crate) fn listed_expressions(&mut self, depth: u32) -> Result<Vec<Expr>, BuildFault>
         ensures { Reads (λ all. map formula all.items)
-            (generic.listed (reading.climb depth 11) (map terminal self.old.rest.now)) result
+            (generic.listed (reading.climb depth 12) (map terminal self.old.rest.now)) result
             (map terminal self.new.rest.now) }
     {
         self.expressions_after(depth, Vec::with_capacity(self.alloc, 1)?)
@@ -310,7 +311,7 @@ impl<'a> Cursor<'a> {
     #[cycle(expression)]
     fn expressions_after(&mut self, depth: u32, before: Vec<Expr>) -> Result<Vec<Expr>, BuildFault>
         ensures { Reads (λ all. map formula all.items)
-            (generic.commas (generic.add (reading.climb depth 11)) (map formula before.items)
+            (generic.commas (generic.add (reading.climb depth 12)) (map formula before.items)
             (map terminal self.old.rest.now)) result (map terminal self.new.rest.now) }
     {
         let mut all = before;
@@ -350,7 +351,7 @@ impl<'a> Cursor<'a> {
     #[cycle(expression)]
     #[tactic(auto, unfolding(crate::specs::ReadingExpr::reference))]
     pub fn reference(&mut self, depth: u32) -> Result<Reference, BuildFault>
-        ensures { Reads reference (reading.reference (reading.climb depth 11)
+        ensures { Reads reference (reading.reference (reading.climb depth 12)
             (map terminal self.old.rest.now)) result (map terminal self.new.rest.now) }
     {
         let name = self.name()?;
@@ -360,7 +361,7 @@ impl<'a> Cursor<'a> {
     #[cycle(expression)]
     #[tactic(auto, unfolding(crate::specs::ReadingExpr::selected, crate::specs::Reading::either))]
     fn selected(&mut self, depth: u32, name: Name) -> Result<Reference, BuildFault>
-        ensures { Reads reference (reading.selected (reading.climb depth 11) (identifier name)
+        ensures { Reads reference (reading.selected (reading.climb depth 12) (identifier name)
             (map terminal self.old.rest.now)) result (map terminal self.new.rest.now) }
     {
         if self.is_next(Symbol::OpenBracket) {
@@ -373,7 +374,7 @@ impl<'a> Cursor<'a> {
     #[cycle(expression)]
     #[tactic(auto, unfolding(crate::specs::ReadingExpr::selection))]
     fn selection(&mut self, depth: u32, name: Name) -> Result<Reference, BuildFault>
-        ensures { Reads reference (reading.selection (reading.climb depth 11) (identifier name)
+        ensures { Reads reference (reading.selection (reading.climb depth 12) (identifier name)
             (map terminal self.old.rest.now)) result (map terminal self.new.rest.now) }
     {
         self.mark(Symbol::OpenBracket)?;
@@ -381,23 +382,31 @@ impl<'a> Cursor<'a> {
         self.rest_of_selection(depth, name, first)
     }
 
+    /// The kind of part whose mark comes next.
+    fn part_next(&self) -> Option<PartKind>
+        ensures { result ≡ reading.part_by (generic.symbol_at (map terminal self.now.rest.now)) }
+    {
+        match self.peek() {
+            Some(symbol) => part_of(symbol),
+            None => None,
+        }
+    }
+
     #[cycle(expression)]
-    #[tactic(auto, unfolding(crate::specs::Reading::either))]
+    #[tactic(auto, unfolding(crate::specs::ReadingExpr::rest_of_selection))]
     fn rest_of_selection(
         &mut self,
         depth: u32,
         name: Name,
         first: Box<Expr>,
     ) -> Result<Reference, BuildFault>
-        ensures { Reads reference (generic.either (generic.starts symbol.Colon)
-            (reading.rest_of_part (reading.climb depth 11) (identifier name)
-            (formula first.value)) (reading.rest_of_bit (identifier name) (formula first.value))
-            (map terminal self.old.rest.now)) result (map terminal self.new.rest.now) }
+        ensures { Reads reference (reading.rest_of_selection (reading.climb depth 12)
+            (identifier name) (formula first.value) (map terminal self.old.rest.now)) result
+            (map terminal self.new.rest.now) }
     {
-        if self.is_next(Symbol::Colon) {
-            self.rest_of_part(depth, name, first)
-        } else {
-            self.rest_of_bit(name, first)
+        match self.part_next() {
+            Some(kind) => self.rest_of_part(depth, kind, name, first),
+            None => self.rest_of_bit(name, first),
         }
     }
 
@@ -415,23 +424,24 @@ impl<'a> Cursor<'a> {
     fn rest_of_part(
         &mut self,
         depth: u32,
+        kind: PartKind,
         name: Name,
-        msb: Box<Expr>,
+        first: Box<Expr>,
     ) -> Result<Reference, BuildFault>
-        ensures { Reads reference (reading.rest_of_part (reading.climb depth 11) (identifier name)
-            (formula msb.value) (map terminal self.old.rest.now)) result
+        ensures { Reads reference (reading.rest_of_part kind (reading.climb depth 12)
+            (identifier name) (formula first.value) (map terminal self.old.rest.now)) result
             (map terminal self.new.rest.now) }
     {
-        self.mark(Symbol::Colon)?;
-        let lsb = self.boxed(depth, LOOSEST)?;
+        self.mark(part_symbol(kind))?;
+        let second = self.boxed(depth, LOOSEST)?;
         self.mark(Symbol::CloseBracket)?;
-        Ok(Reference::Part(name, msb, lsb))
+        Ok(Reference::Part(name, kind, first, second))
     }
 
     /// `[msb:lsb]`
     #[tactic(auto, unfolding(crate::specs::ReadingExpr::bounds))]
     pub fn range(&mut self, depth: u32) -> Result<Range, BuildFault>
-        ensures { Reads bounds (reading.bounds (reading.climb depth 11)
+        ensures { Reads bounds (reading.bounds (reading.climb depth 12)
             (map terminal self.old.rest.now)) result (map terminal self.new.rest.now) }
     {
         let at = self.advance()?;

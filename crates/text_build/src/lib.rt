@@ -7,6 +7,7 @@ mod cursor;
 mod declarations;
 mod expression;
 mod fault;
+mod gates;
 mod instances;
 pub mod law;
 mod modules;

@@ -3,8 +3,9 @@
 ghost use Rattle.std.specs.Prelude.{◌≡◌, map};
 ghost use Rattle.std.specs.Option.{option_map};
 ghost use Rattle.rtl_tree.specs.Symbols.{terminal};
-ghost use Rattle.rtl_tree.specs.TreeItem.{head, module_item};
-ghost use Rattle.rtl_tree.specs.TreeModule.{heading, header_parameter, header_port, header, circuit};
+ghost use Rattle.rtl_tree.specs.TreeItem.{head};
+ghost use Rattle.rtl_tree.specs.TreeGate.{written_item};
+ghost use Rattle.rtl_tree.specs.TreeModule.{heading, header_parameter, header_port, header, written_circuit};
 ghost use Rattle.text_build.specs.Reading as generic;
 ghost use Rattle.text_build.specs.Reading.{Reads};
 ghost use Rattle.text_build.specs.ReadingModule as reading;
@@ -16,21 +17,22 @@ use crate::cursor::Cursor;
 use crate::fault::BuildFault;
 use crate::regions::Regions;
 use rtl_tree::symbol::Symbol;
-use rtl_tree::tree::item::{Item, PortHead};
-use rtl_tree::tree::modules::{HeadParameter, HeadPort, Module, ParameterHead, PortList};
+use rtl_tree::tree::gate::WrittenItem;
+use rtl_tree::tree::item::PortHead;
+use rtl_tree::tree::modules::{HeadParameter, HeadPort, ParameterHead, PortList, WrittenModule};
 
 impl<'a> Cursor<'a> {
     #[tactic(auto, unfolding(crate::specs::ReadingModule::item))]
-    fn item(&mut self) -> Result<Item, BuildFault>
-        ensures { Reads module_item (reading.item MAX_NESTING (map terminal self.old.rest.now))
+    fn item(&mut self) -> Result<WrittenItem, BuildFault>
+        ensures { Reads written_item (reading.item MAX_NESTING (map terminal self.old.rest.now))
             result (map terminal self.new.rest.now) }
     {
         self.attributes()?;
-        self.item_after()
+        self.written_after()
     }
 
-    fn items(&mut self) -> Result<Vec<Item>, BuildFault>
-        ensures { Reads (λ all. map module_item all.items)
+    fn items(&mut self) -> Result<Vec<WrittenItem>, BuildFault>
+        ensures { Reads (λ all. map written_item all.items)
             (generic.until symbol.Endmodule (reading.item MAX_NESTING)
             (map terminal self.old.rest.now)) result (map terminal self.new.rest.now) }
     {
@@ -255,8 +257,8 @@ impl<'a> Cursor<'a> {
 
     /// A module after its attributes.
     #[tactic(auto, unfolding(crate::specs::ReadingModule::circuit_after))]
-    fn module_after(&mut self, regions: &Regions) -> Result<Module, BuildFault>
-        ensures { Reads circuit (reading.circuit_after MAX_NESTING (told regions.now)
+    fn module_after(&mut self, regions: &Regions) -> Result<WrittenModule, BuildFault>
+        ensures { Reads written_circuit (reading.circuit_after MAX_NESTING (told regions.now)
             (map terminal self.old.rest.now)) result (map terminal self.new.rest.now) }
     {
         let at = self.mark(Symbol::Module)?;
@@ -267,7 +269,7 @@ impl<'a> Cursor<'a> {
         let items = self.items()?;
         let last = self.mark(Symbol::Endmodule)?;
         let dropped = regions.between(self.alloc, at, last)?;
-        Ok(Module {
+        Ok(WrittenModule {
             at,
             name,
             parameters,
@@ -278,8 +280,8 @@ impl<'a> Cursor<'a> {
     }
 
     #[tactic(auto, unfolding(crate::specs::ReadingModule::circuit))]
-    fn module(&mut self, regions: &Regions) -> Result<Module, BuildFault>
-        ensures { Reads circuit (reading.circuit MAX_NESTING (told regions.now)
+    fn module(&mut self, regions: &Regions) -> Result<WrittenModule, BuildFault>
+        ensures { Reads written_circuit (reading.circuit MAX_NESTING (told regions.now)
             (map terminal self.old.rest.now)) result (map terminal self.new.rest.now) }
     {
         self.attributes()?;
@@ -297,8 +299,8 @@ impl<'a> Cursor<'a> {
     }
 
     /// All modules, to the end of the tokens.
-    pub fn modules(&mut self, regions: &Regions) -> Result<Vec<Module>, BuildFault>
-        ensures { Reads (λ all. map circuit all.items)
+    pub fn modules(&mut self, regions: &Regions) -> Result<Vec<WrittenModule>, BuildFault>
+        ensures { Reads (λ all. map written_circuit all.items)
             (reading.circuits MAX_NESTING (told regions.now) (map terminal self.old.rest.now))
             result (map terminal self.new.rest.now) }
     {

@@ -5,7 +5,7 @@ ghost use Rattle.rtl_tree.specs.GrammarExpr as grammar;
 ghost use Rattle.text_build.specs.ReadingExpr as reading;
 
 use rtl_tree::symbol::Symbol;
-use rtl_tree::tree::operators::{BinaryOperator, UnaryOperator};
+use rtl_tree::tree::operators::{BinaryOperator, PartKind, UnaryOperator};
 
 /// The operator between operands that is written so.
 #[tactic(auto, unfolding(crate::specs::ReadingExpr::binary_of))]
@@ -13,6 +13,7 @@ pub(crate) fn binary_of(symbol: Symbol) -> Option<BinaryOperator>
     ensures { result ≡ reading.binary_of symbol }
 {
     match symbol {
+        Symbol::StarStar => Some(BinaryOperator::Power),
         Symbol::Star => Some(BinaryOperator::Multiply),
         Symbol::Slash => Some(BinaryOperator::Divide),
         Symbol::Percent => Some(BinaryOperator::Modulus),
@@ -60,30 +61,31 @@ pub(crate) fn unary_of(symbol: Symbol) -> Option<UnaryOperator>
     }
 }
 
-/// How loosely an operator binds, from 1 to 10.
+/// How loosely an operator binds, from 1 to 11.
 pub fn level(operator: BinaryOperator) -> u32
     ensures { result ≡ grammar.level operator }
 {
     match operator {
-        BinaryOperator::Multiply | BinaryOperator::Divide | BinaryOperator::Modulus => 1,
-        BinaryOperator::Add | BinaryOperator::Subtract => 2,
+        BinaryOperator::Power => 1,
+        BinaryOperator::Multiply | BinaryOperator::Divide | BinaryOperator::Modulus => 2,
+        BinaryOperator::Add | BinaryOperator::Subtract => 3,
         BinaryOperator::ShiftLeft
         | BinaryOperator::ShiftRight
         | BinaryOperator::ArithmeticShiftLeft
-        | BinaryOperator::ArithmeticShiftRight => 3,
+        | BinaryOperator::ArithmeticShiftRight => 4,
         BinaryOperator::Less
         | BinaryOperator::LessOrEqual
         | BinaryOperator::Greater
-        | BinaryOperator::GreaterOrEqual => 4,
+        | BinaryOperator::GreaterOrEqual => 5,
         BinaryOperator::Equal
         | BinaryOperator::NotEqual
         | BinaryOperator::CaseEqual
-        | BinaryOperator::CaseNotEqual => 5,
-        BinaryOperator::BitwiseAnd => 6,
-        BinaryOperator::BitwiseXor | BinaryOperator::BitwiseXnor => 7,
-        BinaryOperator::BitwiseOr => 8,
-        BinaryOperator::LogicalAnd => 9,
-        BinaryOperator::LogicalOr => 10,
+        | BinaryOperator::CaseNotEqual => 6,
+        BinaryOperator::BitwiseAnd => 7,
+        BinaryOperator::BitwiseXor | BinaryOperator::BitwiseXnor => 8,
+        BinaryOperator::BitwiseOr => 9,
+        BinaryOperator::LogicalAnd => 10,
+        BinaryOperator::LogicalOr => 11,
     }
 }
 
@@ -96,13 +98,37 @@ fn level_or(level_without: u32, operator: Option<BinaryOperator>) -> u32
     }
 }
 
-/// How loosely what goes on with an expression binds: `?` as level 11, and above it what doesn't go on.
+/// How loosely what goes on with an expression binds: `?` as level 12, and above it what doesn't go on.
 #[tactic(auto, unfolding(crate::specs::ReadingExpr::looseness))]
 pub fn looseness(symbol: Symbol) -> u32
     ensures { result ≡ reading.looseness symbol }
 {
     match symbol {
-        Symbol::Question => 11,
-        _ => level_or(12, binary_of(symbol)),
+        Symbol::Question => 12,
+        _ => level_or(13, binary_of(symbol)),
+    }
+}
+
+/// The kind of part of a name that is written so between two expressions.
+#[tactic(auto, unfolding(crate::specs::ReadingExpr::part_of))]
+pub(crate) fn part_of(symbol: Symbol) -> Option<PartKind>
+    ensures { result ≡ reading.part_of symbol }
+{
+    match symbol {
+        Symbol::Colon => Some(PartKind::Between),
+        Symbol::PlusColon => Some(PartKind::Up),
+        Symbol::MinusColon => Some(PartKind::Down),
+        _ => None,
+    }
+}
+
+/// What stands between the two expressions of a part.
+pub(crate) fn part_symbol(kind: PartKind) -> Symbol
+    ensures { result ≡ grammar.part_symbol kind }
+{
+    match kind {
+        PartKind::Between => Symbol::Colon,
+        PartKind::Up => Symbol::PlusColon,
+        PartKind::Down => Symbol::MinusColon,
     }
 }

@@ -31,7 +31,10 @@ impl<'a> Cursor<'a> {
             result (map terminal self.new.rest.now) }
     {
         let reference = self.reference(MAX_NESTING)?;
-        Ok(reference.into_event())
+        match reference.into_event() {
+            Some(event) => Ok(event),
+            None => Err(BuildFault::NotSpelled),
+        }
     }
 
     #[tactic(auto, unfolding(crate::specs::ReadingItem::event))]

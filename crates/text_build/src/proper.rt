@@ -1,15 +1,20 @@
 // Modules that hold nothing that the builder reads and no text may have.
 
-ghost use Rattle.std.specs.Prelude.{◌≡◌, ◌&&◌, map, nat_le};
+ghost use Rattle.std.specs.Prelude.{◌≡◌, ◌&&◌, map, nat_le, true};
 ghost use Rattle.std.specs.List.{list_all};
 ghost use Rattle.rtl_tree.specs.GrammarStmt.{defaults};
+ghost use Rattle.rtl_tree.specs.GrammarGate.{has_one_input, is_named};
+ghost use Rattle.rtl_tree.specs.TreeExpr.{formula};
+ghost use Rattle.rtl_tree.specs.TreeGate.{gate, written_item};
 ghost use Rattle.rtl_tree.specs.TreeItem.{association, module_item, variable};
-ghost use Rattle.rtl_tree.specs.TreeModule.{circuit, header_parameter};
+ghost use Rattle.rtl_tree.specs.TreeModule.{header_parameter, written_circuit};
 ghost use Rattle.rtl_tree.specs.TreeStmt.{action, action_row, branch, branch_row};
-ghost use Rattle.text_build.specs.Tests.{are_proper, are_proper_arguments, are_proper_branches, has_first_heading, has_item, has_no_value, is_proper, is_proper_branch, is_proper_circuit, is_proper_item};
+ghost use Rattle.text_build.specs.Tests.{are_proper, are_proper_arguments, are_proper_branches, are_terminals, has_first_heading, has_item, has_no_value, is_proper, is_proper_branch, is_proper_circuit, is_proper_gate, is_proper_item, is_proper_written};
 
+use rtl_tree::tree::expr::Expr;
+use rtl_tree::tree::gate::{Gate, GateKind, WrittenItem};
 use rtl_tree::tree::item::{Arguments, Item, Reg};
-use rtl_tree::tree::modules::{HeadParameter, Module};
+use rtl_tree::tree::modules::{HeadParameter, WrittenModule};
 use rtl_tree::tree::nesting::{MAX_NESTING, depth};
 use rtl_tree::tree::stmt::{CaseItem, Stmt};
 
@@ -126,14 +131,80 @@ fn is_proper_item(item: &Item) -> bool
         | Item::Integers(_, _)
         | Item::Parameters { .. }
         | Item::Assigns(_, _, _) => true,
+        // What gates drive is made of them, and isn't written so.
+        Item::Gates { .. } => false,
     }
 }
 
-fn are_proper_items(items: &[Item]) -> bool
-    ensures { result ≡ list_all is_proper_item (map module_item items.now) }
+/// Whether a gate of this kind has one input, and its other terminals are outputs.
+fn has_one_input(kind: GateKind) -> bool
+    ensures { result ≡ has_one_input kind }
+{
+    match kind {
+        GateKind::And
+        | GateKind::Nand
+        | GateKind::Or
+        | GateKind::Nor
+        | GateKind::Xor
+        | GateKind::Xnor => false,
+        GateKind::Buf | GateKind::Not => true,
+    }
+}
+
+/// Whether an expression is a name, or a select of one.
+fn is_named(expr: &Expr) -> bool
+    ensures { result ≡ is_named (formula expr.now) }
+{
+    match expr {
+        Expr::Read(_) | Expr::ReadBit(_, _) | Expr::ReadPart(_, _, _, _) => true,
+        _ => false,
+    }
+}
+
+/// Whether all terminals but the last may be outputs.
+fn may_be_outputs(terminals: &[Expr]) -> bool
+    ensures { result ≡ are_terminals true (map formula terminals.now) }
+{
+    for index in 1..terminals.len() {
+        if !is_named(&terminals[index - 1]) {
+            return false;
+        }
+    }
+    true
+}
+
+fn is_proper_gate(one: bool, written: &Gate) -> bool
+    ensures { result ≡ is_proper_gate one (gate written.now) }
+{
+    !one || may_be_outputs(&written.terminals)
+}
+
+/// Whether gates, which have one input or several, may have these terminals.
+fn are_proper_gates(one: bool, gates: &[Gate]) -> bool
+    ensures { result ≡ list_all (is_proper_gate one) (map gate gates.now) }
+{
+    for written in gates {
+        if !is_proper_gate(one, written) {
+            return false;
+        }
+    }
+    true
+}
+
+fn is_proper_written(item: &WrittenItem) -> bool
+    ensures { result ≡ is_proper_written (written_item item.now) }
+{
+    match item {
+        WrittenItem::Plain(item) => is_proper_item(item),
+        WrittenItem::Gates { kind, gates, .. } => are_proper_gates(has_one_input(*kind), gates),
+    }
+}
+
+fn are_proper_items(items: &[WrittenItem]) -> bool
+    ensures { result ≡ list_all is_proper_written (map written_item items.now) }
 {
     for item in items {
-        if !is_proper_item(item) {
+        if !is_proper_written(item) {
             return false;
         }
     }
@@ -150,8 +221,8 @@ fn has_first_heading(parameters: &[HeadParameter]) -> bool
     }
 }
 
-fn is_proper_module(written: &Module) -> bool
-    ensures { result ≡ is_proper_circuit (circuit written.now) }
+fn is_proper_module(written: &WrittenModule) -> bool
+    ensures { result ≡ is_proper_circuit (written_circuit written.now) }
 {
     depth(written) <= MAX_NESTING
         && has_first_heading(&written.parameters)
@@ -159,9 +230,10 @@ fn is_proper_module(written: &Module) -> bool
 }
 
 /// Whether modules hold nothing that the builder reads and no text may have: an initial value, a `case` without items or with two
-/// defaults, one empty parameter of an instance, a first parameter without `parameter`, or what is nested more than 200 deep.
-pub fn are_proper(modules: &[Module]) -> bool
-    ensures { result ≡ list_all is_proper_circuit (map circuit modules.now) }
+/// defaults, one empty parameter of an instance, a first parameter without `parameter`, a further output of a gate that is no
+/// name, or what is nested more than 200 deep.
+pub fn are_proper(modules: &[WrittenModule]) -> bool
+    ensures { result ≡ list_all is_proper_circuit (map written_circuit modules.now) }
 {
     for module in modules {
         if !is_proper_module(module) {

@@ -1,6 +1,7 @@
 // Names with what is selected of them, before they stand in an expression, a target or an event.
 
 ghost use Rattle.std.specs.Prelude.{◌≡◌};
+ghost use Rattle.std.specs.Option.{option_map};
 ghost use Rattle.rtl_tree.specs.TreeExpr.{formula};
 ghost use Rattle.rtl_tree.specs.TreeStmt.{target};
 ghost use Rattle.rtl_tree.specs.TreeItem.{happening};
@@ -12,6 +13,7 @@ ghost use Rattle.text_build.specs.References.{reference};
 use rtl_tree::tree::expr::Expr;
 use rtl_tree::tree::item::Event;
 use rtl_tree::tree::names::Name;
+use rtl_tree::tree::operators::PartKind;
 use rtl_tree::tree::stmt::Lvalue;
 
 /// A name, one bit of it, or a part of it.
@@ -21,8 +23,8 @@ pub enum Reference {
     Whole(Name),
     /// `name[index]`
     Bit(Name, Box<Expr>),
-    /// `name[msb:lsb]`
-    Part(Name, Box<Expr>, Box<Expr>),
+    /// `name[msb:lsb]`, `name[base +: width]` or `name[base -: width]`
+    Part(Name, PartKind, Box<Expr>, Box<Expr>),
 }
 
 impl Reference {
@@ -33,7 +35,9 @@ impl Reference {
         match self {
             Reference::Whole(name) => Expr::Read(name),
             Reference::Bit(name, index) => Expr::ReadBit(name, index),
-            Reference::Part(name, msb, lsb) => Expr::ReadPart(name, msb, lsb),
+            Reference::Part(name, kind, first, second) => {
+                Expr::ReadPart(name, kind, first, second)
+            }
         }
     }
 
@@ -44,22 +48,23 @@ impl Reference {
         match self {
             Reference::Whole(name) => Lvalue::Whole(name),
             Reference::Bit(name, index) => Lvalue::Bit(name, Box::into_inner(index)),
-            Reference::Part(name, msb, lsb) => {
-                Lvalue::Part(name, Box::into_inner(msb), Box::into_inner(lsb))
+            Reference::Part(name, kind, first, second) => {
+                Lvalue::Part(name, kind, Box::into_inner(first), Box::into_inner(second))
             }
         }
     }
 
-    /// As an event.
-    pub(crate) fn into_event(self) -> Event
-        ensures { happening result ≡ change_of (reference self) }
+    /// As an event, in which a part stands with a colon alone.
+    pub(crate) fn into_event(self) -> Option<Event>
+        ensures { option_map happening result ≡ change_of (reference self) }
     {
         match self {
-            Reference::Whole(name) => Event::Whole(name),
-            Reference::Bit(name, index) => Event::Bit(name, Box::into_inner(index)),
-            Reference::Part(name, msb, lsb) => {
-                Event::Part(name, Box::into_inner(msb), Box::into_inner(lsb))
+            Reference::Whole(name) => Some(Event::Whole(name)),
+            Reference::Bit(name, index) => Some(Event::Bit(name, Box::into_inner(index))),
+            Reference::Part(name, PartKind::Between, msb, lsb) => {
+                Some(Event::Part(name, Box::into_inner(msb), Box::into_inner(lsb)))
             }
+            Reference::Part(_, PartKind::Up | PartKind::Down, _, _) => None,
         }
     }
 }

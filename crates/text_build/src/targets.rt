@@ -91,7 +91,7 @@ impl<'a> Cursor<'a> {
     }
 
     #[tactic(auto, unfolding(crate::specs::ReadingStmt::fixed))]
-    fn fixed(&mut self) -> Result<Ticks, BuildFault>
+    pub(crate) fn fixed(&mut self) -> Result<Ticks, BuildFault>
         ensures { Reads span (reading.fixed (map terminal self.old.rest.now)) result
             (map terminal self.new.rest.now) }
     {
@@ -100,7 +100,7 @@ impl<'a> Cursor<'a> {
     }
 
     #[tactic(auto, unfolding(crate::specs::ReadingStmt::named))]
-    fn named(&mut self) -> Result<Ticks, BuildFault>
+    pub(crate) fn named(&mut self) -> Result<Ticks, BuildFault>
         ensures { Reads span (reading.named (map terminal self.old.rest.now)) result
             (map terminal self.new.rest.now) }
     {

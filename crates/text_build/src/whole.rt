@@ -4,7 +4,7 @@ ghost use Rattle.std.specs.Prelude.{◌≡◌, ◌≤◌, [], All, List, Some, m
 ghost use Rattle.rtl_tree.specs.Depth.{depth};
 ghost use Rattle.rtl_tree.specs.GrammarModule.{AreSpelled};
 ghost use Rattle.rtl_tree.specs.Symbols.{terminal};
-ghost use Rattle.rtl_tree.specs.TreeModule.{Circuit, circuit};
+ghost use Rattle.rtl_tree.specs.TreeModule.{WrittenCircuit, written_circuit};
 ghost use Rattle.rtl_tree.specs.declared.tree.nesting.TheConstants.{MAX_NESTING};
 ghost use Rattle.text_build.specs.Built.{IsBuilt, SpelledOnce};
 ghost use Rattle.text_build.specs.ReadingModule.{circuits};
@@ -13,7 +13,7 @@ use crate::cursor::Cursor;
 use crate::fault::BuildFault;
 use crate::regions::Regions;
 use rtl_tree::symbol::Terminal;
-use rtl_tree::tree::modules::Module;
+use rtl_tree::tree::modules::WrittenModule;
 use std::alloc::Global;
 use text_ground::dropped::Dropped;
 
@@ -27,12 +27,12 @@ pub fn build(
     alloc: Global,
     tokens: &[Terminal],
     regions: &[Dropped],
-) -> Result<Vec<Module>, BuildFault>
-    ensures built { (cs : List Circuit) → AreSpelled regions.now (map terminal tokens.now) cs
+) -> Result<Vec<WrittenModule>, BuildFault>
+    ensures built { (cs : List WrittenCircuit) → AreSpelled regions.now (map terminal tokens.now) cs
         → All (λ c. depth c ≤ MAX_NESTING) cs → IsBuilt cs result }
     ensures read { IfOk result (λ modules.
         circuits MAX_NESTING regions.now (map terminal tokens.now)
-        ≡ Some (map circuit modules.items, [])) }
+        ≡ Some (map written_circuit modules.items, [])) }
 {
     let mut cursor = Cursor {
         rest: tokens,

@@ -1,24 +1,23 @@
 -- What is spelled is read: the arguments of instances.
-use Rattle.std.proofs.Common.{◌≡◌, ◌⊎◌, ℕ, zero, suc, ◌≤◌, ◌<◌, Bool, true, false, cond, ◌||◌, List, [], ◌∷◌, length, Option, Some, None, refl, sym, ap, subst, ◌∙◌, inl, inr, max, arith}
-use Rattle.rtl_tree.specs.declared.symbol.Symbol.{Symbol}
+use Rattle.std.proofs.Common.{◌≡◌, ℕ, ◌≤◌, true, false, ◌||◌, List, [], ◌∷◌, length, Option, Some, None, refl, sym, ap, subst, ◌∙◌, arith}
 use Rattle.rtl_tree.specs.declared.symbol.Symbol.TheVariants as symbol
 use Rattle.rtl_tree.specs.Symbols.{Terminal}
-use Rattle.rtl_tree.specs.TreeExpr.{Identifier, Formula}
+use Rattle.rtl_tree.specs.TreeExpr.{Formula}
 use Rattle.rtl_tree.specs.TreeItem.{Positional, Associated, Association, ByPosition, ByName, Instantiation}
 use Rattle.rtl_tree.specs.Depth.{greatest, if_any, formula_depth, positional_depth, associated_depth, association_depth, instantiation_depth}
-use Rattle.rtl_tree.specs.Grammar.{Spelling, ◌⨾◌, IsA, IsAt, IsName, IsOptional, AreMore, AreListed}
-use Rattle.rtl_tree.specs.GrammarExpr.{IsFormula, IsExpression}
+use Rattle.rtl_tree.specs.Grammar.{IsA, IsOptional, AreMore, AreListed}
+use Rattle.rtl_tree.specs.GrammarExpr.{IsExpression}
 use Rattle.rtl_tree.specs.GrammarItem.{Begins, IsPositional, IsAssociated, IsMoreThanEmpty, AreArguments, AreConnections, IsInstantiation, AreSet, AreOverrides}
-use Rattle.text_build.specs.Reading.{Parser, and_then, ◌>>=◌, ◌>>◌, pure, same_symbol, starts, place, name, advance, mark, either, listed}
+use Rattle.text_build.specs.Reading.{and_then, ◌>>=◌, ◌>>◌, pure, same_symbol, starts, place, name, mark, listed}
 use Rattle.text_build.specs.ReadingItem.{any_expression, ends_argument, argument_value, positional, associated, by_position, by_name, arguments, connections, instantiation, overrides_of, overrides}
-use Rattle.text_build.proofs.Laws.Tokens.{at_is, name_is, mark_at, mark_then, advance_then, place_again, starts_is, starts_not, name_again, bind, either_first, either_second}
-use Rattle.text_build.proofs.Laws.Repeats.{Again, Shrinks, CommaEnds, listed_again}
-use Rattle.text_build.proofs.Laws.Follows.{Stops, is_start, stop_stops, Opens, opens_not, formula_opens, formula_shorter}
+use Rattle.text_build.proofs.Laws.Tokens.{at_is, mark_at, mark_then, advance_then, place_again, starts_is, starts_not, name_again, bind, either_first, either_second}
+use Rattle.text_build.proofs.Laws.Repeats.{Again, Shrinks, listed_again}
+use Rattle.text_build.proofs.Laws.Follows.{Stops, is_start, stop_stops, opens_not, formula_opens}
 use Rattle.text_build.proofs.Laws.Lists.{ends_by, listed_shrinks, optional_shrinks, expression_shrinks, any_again}
 
 -- an argument may end here
 record Ended (ts : List Terminal) : Type 0 where
-  stops : Stops 11 ts
+  stops : Stops 12 ts
   ended : ends_argument ts ≡ true
 
 comma_ends : (ts rest : List Terminal) → IsA symbol.Comma ts rest → Ended ts
@@ -38,7 +37,7 @@ unfolding argument_value
 argument_again d None ts rest w h s =
     either_first ends_argument (pure None) (any_expression d >>= (λ v. pure (Some v))) ts (ap ends_argument w ∙ s.ended) ∙ ap (λ x. Some (None, x)) w
 argument_again d (Some f) ts rest w h s =
-    let o = formula_opens 11 f ts rest w in
+    let o = formula_opens 12 f ts rest w in
     either_second ends_argument (pure None) (any_expression d >>= (λ v. pure (Some v))) ts
     (ap (λ q. q || starts symbol.CloseParen ts) (opens_not is_start symbol.Comma ts refl o) ∙ opens_not is_start symbol.CloseParen ts refl o)
     ∙ bind (any_expression d ts) (λ v. pure (Some v)) f rest (any_again d f ts rest w h s.stops)
@@ -86,7 +85,7 @@ plain_comma ts rest w = record { dot = starts_not symbol.Dot symbol.Comma ts res
 
 plain_value : (f : Formula) (ts rest : List Terminal) → IsExpression f ts rest → Plain ts
 plain_value f ts rest w =
-    let o = formula_opens 11 f ts rest w in
+    let o = formula_opens 12 f ts rest w in
     record { dot = opens_not is_start symbol.Dot ts refl o; close = opens_not is_start symbol.CloseParen ts refl o }
 
 plain_by : (at : ℕ) (v : Option Formula) (xs : List Positional) (ts mid rest : List Terminal) → IsMoreThanEmpty (record { at = at; value = v } ∷ xs) → IsOptional IsExpression v ts mid → AreMore IsPositional xs mid rest → Plain ts

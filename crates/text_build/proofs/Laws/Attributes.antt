@@ -1,20 +1,18 @@
 -- What is spelled is read: attributes, with what they say of a case.
-use Rattle.std.proofs.Common.{◌≡◌, ◌⊎◌, ℕ, zero, suc, ◌≤◌, ◌<◌, Bool, true, false, cond, ◌||◌, List, [], ◌∷◌, length, Option, Some, None, refl, sym, ap, subst, ◌∙◌, inl, inr, codes, arith}
+use Rattle.std.proofs.Common.{◌≡◌, ℕ, zero, suc, ◌≤◌, ◌<◌, Bool, true, false, cond, ◌||◌, List, [], ◌∷◌, length, Some, refl, sym, ap, subst, ◌∙◌, inl, inr, codes, arith}
 use Rattle.std.specs.List.{list_any}
 use Rattle.std.specs.Str.{bytes_eq}
-use Rattle.rtl_tree.specs.declared.symbol.Symbol.{Symbol}
 use Rattle.rtl_tree.specs.declared.symbol.Symbol.TheVariants as symbol
 use Rattle.rtl_tree.specs.Symbols.{Terminal}
 use Rattle.rtl_tree.specs.TreeExpr.{Identifier, Formula}
-use Rattle.rtl_tree.specs.Grammar.{◌⨾◌, IsA, IsName, AreAll, AreMore, AreListed, identifier_of}
-use Rattle.rtl_tree.specs.GrammarExpr.{IsFormula, IsExpression}
+use Rattle.rtl_tree.specs.Grammar.{IsA, IsName, AreMore, AreListed}
+use Rattle.rtl_tree.specs.GrammarExpr.{IsExpression}
 use Rattle.rtl_tree.specs.GrammarStmt.{IsAttributeValue, IsAttribute, AreMarked, AreAttributes, names}
 use Rattle.text_build.specs.declared.attributes.Marks.{Marks}
-use Rattle.text_build.specs.declared.attributes.Role.TheVariants as role
-use Rattle.text_build.specs.Reading.{Parser, and_then, ◌>>=◌, ◌>>◌, pure, same_symbol, starts, after, token, turns, repeat, links, commas, advance, mark}
-use Rattle.text_build.specs.ReadingStmt.{no_marks, with_name, role_of, past, after_value, attribute, marked, attributes}
+use Rattle.text_build.specs.Reading.{and_then, ◌>>◌, pure, same_symbol, starts, after, token, turns, repeat, links, commas, mark}
+use Rattle.text_build.specs.ReadingStmt.{no_marks, with_name, past, after_value, attribute, marked, attributes}
 use Rattle.text_build.proofs.Steps.{turns_go, turns_stop, links_turn, links_stop}
-use Rattle.text_build.proofs.Laws.Tokens.{name_is, token_again, starts_is, starts_not, after_is, after_not, mark_then, advance_then, bind}
+use Rattle.text_build.proofs.Laws.Tokens.{token_again, starts_is, starts_not, after_is, after_not, mark_then, advance_then, bind}
 use Rattle.text_build.proofs.Laws.Follows.{formula_shorter}
 use Rattle.text_build.proofs.Laws.Passes.{past_formula, past_ends, past_quoted}
 
@@ -32,7 +30,7 @@ passed ts mid w =
 
 -- a value is passed over as a whole
 pub formula_passed : (f : Formula) (ts mid rest : List Terminal) → IsA symbol.Equals ts mid → IsExpression f mid rest → past 0 rest ≡ rest → after_value ts ≡ rest
-formula_passed f ts mid rest w v e = passed ts mid w ∙ past_formula 11 f 0 mid rest v ∙ e
+formula_passed f ts mid rest w v e = passed ts mid w ∙ past_formula 12 f 0 mid rest v ∙ e
 
 value_passed : (ts mid rest : List Terminal) → IsA symbol.Equals ts mid → IsAttributeValue mid rest → past 0 rest ≡ rest → after_value ts ≡ rest
 value_passed ts mid rest w (inl v) e = formula_passed v.0 ts mid rest w v.1 e
@@ -67,7 +65,7 @@ attribute_again m n ts rest (inl w) f = named m n ts rest rest w (no_value rest 
 attribute_again m n ts rest (inr w) f = let a = w.2 in named m n ts w.0 rest w.1 (value_passed w.0 a.0 rest a.1 a.2 f.ended)
 
 value_shorter : (ts rest : List Terminal) → IsAttributeValue ts rest → length rest < length ts
-value_shorter ts rest (inl v) = formula_shorter 11 v.0 ts rest v.1
+value_shorter ts rest (inl v) = formula_shorter 12 v.0 ts rest v.1
 value_shorter ts rest (inr v) = omega (arith, ap length v.1)
 
 attribute_shorter : (n : Identifier) (ts rest : List Terminal) → IsAttribute n ts rest → length rest < length ts

@@ -1,23 +1,23 @@
 -- What is spelled is read: cases, loops, blocks, and whole statements.
-use Rattle.std.proofs.Common.{◌≡◌, ◌⊎◌, ℕ, zero, suc, ◌≤◌, ◌<◌, Bool, true, false, ◌||◌, List, [], ◌∷◌, length, Option, Some, None, refl, sym, ap, subst, ◌∙◌, inl, inr, max, codes, arith}
+use Rattle.std.proofs.Common.{◌≡◌, ℕ, zero, suc, ◌≤◌, Bool, true, false, ◌||◌, List, Option, Some, None, refl, sym, ap, subst, ◌∙◌, inl, inr, max, codes, arith}
 use Rattle.rtl_tree.specs.declared.symbol.Symbol.{Symbol}
 use Rattle.rtl_tree.specs.declared.symbol.Symbol.TheVariants as symbol
 use Rattle.rtl_tree.specs.declared.tree.stmt.CaseKind.{CaseKind}
 use Rattle.rtl_tree.specs.declared.tree.stmt.CaseKind.TheVariants as kind
 use Rattle.rtl_tree.specs.Symbols.{Terminal}
 use Rattle.rtl_tree.specs.TreeExpr.{Identifier, Formula}
-use Rattle.rtl_tree.specs.TreeStmt.{Target, Whole, Bit, Part, Joined, Pause, Action, Null, Delayed, Assign, If, IfElse, Case, For, Block, Actions, no_actions, more_actions, action_row, action_list, Branch, Labelled, Default, Branches, no_branches, more_branches, branch_row, branch_list}
+use Rattle.rtl_tree.specs.TreeStmt.{Target, Whole, Bit, Part, Joined, Action, Null, Delayed, Assign, If, IfElse, Case, For, Block, Actions, no_actions, more_actions, action_row, action_list, Branch, Labelled, Default, Branches, no_branches, more_branches, branch_row, branch_list}
 use Rattle.rtl_tree.specs.Depth.{greatest, formula_depth, target_depth, action_depth, actions_depth, branch_depth, branches_depth}
-use Rattle.rtl_tree.specs.Grammar.{◌⨾◌, IsA, IsAt, IsName, IsOptional, AreMore, AreListed}
-use Rattle.rtl_tree.specs.GrammarExpr.{IsFormula, IsExpression}
-use Rattle.rtl_tree.specs.GrammarStmt.{AreAttributes, names, IsTarget, case_symbol, ends_open, IsSelectorEnd, IsLabel, IsDefaultEnd, IsAction, AreStatements, IsBranch, AreBranches, AreMoreBranches, IsStatement}
+use Rattle.rtl_tree.specs.Grammar.{◌⨾◌, IsA, IsAt, IsName, IsOptional, AreListed}
+use Rattle.rtl_tree.specs.GrammarExpr.{IsExpression}
+use Rattle.rtl_tree.specs.GrammarStmt.{names, IsTarget, case_symbol, IsLabel, IsDefaultEnd, IsAction, AreStatements, IsBranch, AreBranches, AreMoreBranches, IsStatement}
 use Rattle.text_build.specs.declared.attributes.Marks.{Marks}
-use Rattle.text_build.specs.Reading.{Parser, and_then, ◌>>=◌, ◌>>◌, pure, same_symbol, symbol_at, starts, after, token, name, advance, mark, either, optional, until, listed}
+use Rattle.text_build.specs.Reading.{Parser, and_then, ◌>>=◌, ◌>>◌, pure, same_symbol, starts, token, name, advance, mark, optional, until, listed}
 use Rattle.text_build.specs.ReadingExpr.{climb}
 use Rattle.text_build.specs.ReadingStmt.{with_pragmas, attributes, labelled, no_colon, otherwise, branch, case_of, step_of, loop_of, label, block, action_by, action, target, statement_within, statement}
 use Rattle.text_build.proofs.Laws.Tokens.{at_is, name_is, token_again, mark_then, advance_at, advance_then, starts_is, starts_not, after_is, after_not, symbol_is, name_again, bind, either_first, either_second, optional_there, optional_absent}
-use Rattle.text_build.proofs.Laws.Repeats.{Again, CommaEnds, Rows, Begins, until_again, listed_again}
-use Rattle.text_build.proofs.Laws.Follows.{Stops, is_start, is_stop, stop_stops, Opens, opens_not, formula_shorter}
+use Rattle.text_build.proofs.Laws.Repeats.{Again, Rows, Begins, until_again, listed_again}
+use Rattle.text_build.proofs.Laws.Follows.{Stops, is_start, is_stop, stop_stops, opens_not, formula_shorter}
 use Rattle.text_build.proofs.Laws.Exprs.{Entire, before, stop_ends}
 use Rattle.text_build.proofs.Laws.Chains.{expression_again}
 use Rattle.text_build.proofs.Laws.Attributes.{marks_of, full_said, parallel_said, attributes_again}
@@ -25,7 +25,7 @@ use Rattle.text_build.proofs.Laws.Targets.{IsWhole, target_again}
 use Rattle.text_build.proofs.Laws.Openings.{is_action, is_statement, is_branch, action_opens, statement_opens, listed_opens, branch_opens, statement_shorter, branch_consumes}
 use Rattle.text_build.proofs.Laws.Statements.{Closed, NoElse, Within, closed, no_else_is, assign_again, null_again, delayed_again, if_again, else_again}
 
-comma_stops : (ts mid : List Terminal) → IsA symbol.Comma ts mid → Stops 11 ts
+comma_stops : (ts mid : List Terminal) → IsA symbol.Comma ts mid → Stops 12 ts
 comma_stops ts mid w = stop_stops symbol.Comma ts mid refl w
 
 module _ (d : ℕ) (e : Parser Formula) (c : Entire d e) (s : Parser Action) (i : Within d s) where
@@ -37,7 +37,7 @@ module _ (d : ℕ) (e : Parser Formula) (c : Entire d e) (s : Parser Action) (i 
   labelled_again labels body ts rest w h k o =
       let a = w.2 in
       bind (listed e ts) (λ ls. mark symbol.Colon >> s >>= (λ b. pure (Labelled ls b))) labels w.0
-      (listed_again IsExpression (Stops 11) formula_depth d e c (λ x us vs m. let l = formula_shorter 11 x us vs m in omega (arith, l)) comma_stops labels ts w.0 w.1 h
+      (listed_again IsExpression (Stops 12) formula_depth d e c (λ x us vs m. let l = formula_shorter 12 x us vs m in omega (arith, l)) comma_stops labels ts w.0 w.1 h
       (stop_ends symbol.Colon w.0 a.0 refl refl a.1))
       ∙ ap (λ q. and_then q (λ b. pure (Labelled labels b))) (mark_then symbol.Colon s w.0 a.0 a.1)
       ∙ bind (s a.0) (λ b. pure (Labelled labels b)) body rest (i body a.0 rest a.2 k o)
@@ -227,7 +227,7 @@ module _ (d : ℕ) (e : Parser Formula) (c : Entire d e) (s : Parser Action) (i 
     by_target : (m : List (List Identifier)) (to : Target) (ts rest : List Terminal) → IsTarget to ts rest → action (marks_of m) e t s ts ≡ action_by (Some symbol.Name) (marks_of m) e t s ts
     by_target m (Whole n) ts rest w = by m symbol.Name ts rest (name_is n ts rest w)
     by_target m (Bit n x) ts rest w = by m symbol.Name ts w.0 (name_is n ts w.0 w.1)
-    by_target m (Part n x y) ts rest w = by m symbol.Name ts w.0 (name_is n ts w.0 w.1)
+    by_target m (Part n k x y) ts rest w = by m symbol.Name ts w.0 (name_is n ts w.0 w.1)
     by_target m (Joined at parts) ts rest w = by m symbol.OpenBrace ts w.0 (at_is symbol.OpenBrace at ts w.0 w.1)
 
     action_again : (m : List (List Identifier)) (a : Action) (ts rest : List Terminal) → IsAction m a ts rest → action_depth a ≤ suc d → Closed a rest → action (marks_of m) e t s ts ≡ Some (a, rest)
@@ -277,4 +277,4 @@ pub statement_again : (d : ℕ) → Within d (statement d)
 unfolding statement
 statement_again zero a ts rest w h o = absurd (omega (arith, deep a, h))
 statement_again (suc d) a ts rest w h o =
-    within_again d (climb d 11) (expression_again d) (statement d) (statement_again d) (target d) (target_again d) a ts rest w h o
+    within_again d (climb d 12) (expression_again d) (statement d) (statement_again d) (target d) (target_again d) a ts rest w h o

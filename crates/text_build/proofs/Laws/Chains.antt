@@ -1,18 +1,18 @@
 -- What is spelled is read: operators between operands, grouped to the left, and `?:`.
-use Rattle.std.proofs.Common.{◌≡◌, cond, ℕ, zero, suc, ◌+◌, ◌-◌, ◌≤◌, ◌<◌, Bool, true, false, List, [], ◌∷◌, length, Option, Some, None, refl, sym, ap, subst, ◌∙◌, max, arith}
+use Rattle.std.proofs.Common.{◌≡◌, cond, ℕ, zero, suc, ◌+◌, ◌-◌, ◌≤◌, false, List, Some, None, refl, ap, ◌∙◌, arith}
 use Rattle.rtl_tree.specs.declared.symbol.Symbol.{Symbol}
 use Rattle.rtl_tree.specs.declared.symbol.Symbol.TheVariants as symbol
 use Rattle.rtl_tree.specs.declared.tree.operators.BinaryOperator.{BinaryOperator}
 use Rattle.rtl_tree.specs.Symbols.{Terminal}
-use Rattle.rtl_tree.specs.TreeExpr.{Formula, Number, Read, ReadBit, ReadPart, Parens, Convert, Concat, Repeat, Unary, Binary, Choose, Bounds}
+use Rattle.rtl_tree.specs.TreeExpr.{Formula, Number, Read, ReadBit, ReadPart, Parens, Apply, Concat, Repeat, Unary, Binary, Choose, Bounds}
 use Rattle.rtl_tree.specs.Depth.{formula_depth, bounds_depth}
 use Rattle.rtl_tree.specs.Grammar.{◌⨾◌, IsA, IsAt}
 use Rattle.rtl_tree.specs.GrammarExpr.{binary_symbol, level, IsFormula, IsBounds}
-use Rattle.text_build.specs.Reading.{Parser, and_then, ◌>>=◌, ◌>>◌, pure, symbol_at, starts, turns, advance, mark}
+use Rattle.text_build.specs.Reading.{Parser, and_then, ◌>>=◌, ◌>>◌, pure, turns, advance, mark}
 use Rattle.text_build.specs.ReadingExpr.{ended, binary_of, goes, choice, joint, link_of, link_by, link, chain, operand, sequence, climb, bounds}
 use Rattle.text_build.proofs.Steps.{turns_go, turns_stop}
-use Rattle.text_build.proofs.Laws.Tokens.{at_is, mark_again, advance_at, symbol_is, mark_then, bind}
-use Rattle.text_build.proofs.Laws.Follows.{Stops, IsLevel, level_is, binary_back, stops_mono, goes_mono, operator_stops, operator_goes, question_stops, question_goes, stop_stops, formula_shorter}
+use Rattle.text_build.proofs.Laws.Tokens.{at_is, advance_at, symbol_is, mark_then, bind}
+use Rattle.text_build.proofs.Laws.Follows.{Stops, level_is, binary_back, stops_mono, operator_stops, operator_goes, question_stops, question_goes}
 use Rattle.text_build.proofs.Laws.Exprs.{Complete, Entire, whole_of, before, IsOperand, operand_again}
 
 -- ---- one more operand
@@ -31,25 +31,25 @@ joint_again d e c op at left right ts rest w h s =
     ∙ bind (e (level op - 1) w.0) (λ x. pure (Binary op at left x)) right rest (c (level op - 1) right w.0 rest w.2 h s)
 
 choice_again : (d : ℕ) (e : ℕ → Parser Formula) → Complete d e → (at : ℕ) (condition taken otherwise : Formula) (ts rest : List Terminal)
-    → (IsAt symbol.Question at ⨾ IsFormula 11 taken ⨾ IsA symbol.Colon ⨾ IsFormula 11 otherwise) ts rest → formula_depth taken ≤ d → formula_depth otherwise ≤ d → Stops 11 rest
+    → (IsAt symbol.Question at ⨾ IsFormula 12 taken ⨾ IsA symbol.Colon ⨾ IsFormula 12 otherwise) ts rest → formula_depth taken ≤ d → formula_depth otherwise ≤ d → Stops 12 rest
     → link e condition ts ≡ Some (Choose at condition taken otherwise, rest)
 unfolding choice binary_of
 choice_again d e c at condition taken otherwise ts rest w h k s =
     let a = w.2 in
     let b = a.2 in
     link_from e condition symbol.Question ts w.0 (at_is symbol.Question at ts w.0 w.1)
-    ∙ bind (advance ts) (λ p. e 11 >>= (λ t. mark symbol.Colon >> e 11 >>= (λ o. pure (Choose p condition t o)))) at w.0 (advance_at symbol.Question at ts w.0 w.1)
-    ∙ before d (e 11) (whole_of d e c) symbol.Colon (λ t. mark symbol.Colon >> e 11 >>= (λ o. pure (Choose at condition t o))) taken w.0 a.0 b.0 a.1 h refl b.1
-    ∙ ap (λ q. and_then q (λ o. pure (Choose at condition taken o))) (mark_then symbol.Colon (e 11) a.0 b.0 b.1)
-    ∙ bind (e 11 b.0) (λ o. pure (Choose at condition taken o)) otherwise rest (c 11 otherwise b.0 rest b.2 k s)
+    ∙ bind (advance ts) (λ p. e 12 >>= (λ t. mark symbol.Colon >> e 12 >>= (λ o. pure (Choose p condition t o)))) at w.0 (advance_at symbol.Question at ts w.0 w.1)
+    ∙ before d (e 12) (whole_of d e c) symbol.Colon (λ t. mark symbol.Colon >> e 12 >>= (λ o. pure (Choose at condition t o))) taken w.0 a.0 b.0 a.1 h refl b.1
+    ∙ ap (λ q. and_then q (λ o. pure (Choose at condition taken o))) (mark_then symbol.Colon (e 12) a.0 b.0 b.1)
+    ∙ bind (e 12 b.0) (λ o. pure (Choose at condition taken o)) otherwise rest (c 12 otherwise b.0 rest b.2 k s)
 
 deep : (f : Formula) → 1 ≤ formula_depth f
 deep (Number value at) = omega arith
 deep (Read n) = omega arith
 deep (ReadBit n i) = omega arith
-deep (ReadPart n a b) = omega arith
+deep (ReadPart n p a b) = omega arith
 deep (Parens at f) = omega arith
-deep (Convert x at f) = omega arith
+deep (Apply x at f) = omega arith
 deep (Concat at fs) = omega arith
 deep (Repeat at t fs) = omega arith
 deep (Unary op at f) = omega arith
@@ -83,14 +83,14 @@ grown d e c k op at l r ts rest w v h m q s =
           (joint_again d e c op at l r w.0 rest (a.0, a.1, a.2) q s));
     }
 
-spine : (d : ℕ) (e : ℕ → Parser Formula) → Complete d e → (k : ℕ) (f : Formula) (j : ℕ) → j ≤ k → j ≤ 10 → (ts rest : List Terminal) → IsFormula j f ts rest → formula_depth f ≤ suc d
+spine : (d : ℕ) (e : ℕ → Parser Formula) → Complete d e → (k : ℕ) (f : Formula) (j : ℕ) → j ≤ k → j ≤ 11 → (ts rest : List Terminal) → IsFormula j f ts rest → formula_depth f ≤ suc d
     → Stops (j - 1) rest → Spine d k e f ts rest
 spine d e c k (Number value at) j h m ts rest w q s = leaf d k e (Number value at) ts rest (operand_again d e c j (Number value at) ts rest tt w q s.whole)
 spine d e c k (Read n) j h m ts rest w q s = leaf d k e (Read n) ts rest (operand_again d e c j (Read n) ts rest tt w q s.whole)
 spine d e c k (ReadBit n i) j h m ts rest w q s = leaf d k e (ReadBit n i) ts rest (operand_again d e c j (ReadBit n i) ts rest tt w q s.whole)
-spine d e c k (ReadPart n a b) j h m ts rest w q s = leaf d k e (ReadPart n a b) ts rest (operand_again d e c j (ReadPart n a b) ts rest tt w q s.whole)
+spine d e c k (ReadPart n p a b) j h m ts rest w q s = leaf d k e (ReadPart n p a b) ts rest (operand_again d e c j (ReadPart n p a b) ts rest tt w q s.whole)
 spine d e c k (Parens at f) j h m ts rest w q s = leaf d k e (Parens at f) ts rest (operand_again d e c j (Parens at f) ts rest tt w q s.whole)
-spine d e c k (Convert x at f) j h m ts rest w q s = leaf d k e (Convert x at f) ts rest (operand_again d e c j (Convert x at f) ts rest tt w q s.whole)
+spine d e c k (Apply x at f) j h m ts rest w q s = leaf d k e (Apply x at f) ts rest (operand_again d e c j (Apply x at f) ts rest tt w q s.whole)
 spine d e c k (Concat at fs) j h m ts rest w q s = leaf d k e (Concat at fs) ts rest (operand_again d e c j (Concat at fs) ts rest tt w q s.whole)
 spine d e c k (Repeat at t fs) j h m ts rest w q s = leaf d k e (Repeat at t fs) ts rest (operand_again d e c j (Repeat at t fs) ts rest tt w q s.whole)
 spine d e c k (Unary op at f) j h m ts rest w q s = leaf d k e (Unary op at f) ts rest (operand_again d e c j (Unary op at f) ts rest tt w q s.whole)
@@ -120,10 +120,10 @@ choose_again : (d : ℕ) (e : ℕ → Parser Formula) → Complete d e → (k at
 choose_again d e c k at x t o ts rest w h s =
     let v = w.1 in
     let a = v.2 in
-    let p = spine d e c k x 10 (omega (arith, w.0)) (omega arith) ts v.0 v.1 (omega (arith, h)) (stops_mono 9 10 (omega arith) v.0 (question_stops at v.0 a.0 a.1)) in
+    let p = spine d e c k x 11 (omega (arith, w.0)) (omega arith) ts v.0 v.1 (omega (arith, h)) (stops_mono 10 11 (omega arith) v.0 (question_stops at v.0 a.0 a.1)) in
     p.goes_on
     ∙ ap (λ q. and_then q (ended k)) (turns_go p.fuel (p.fuel - 1) (goes k) (link e) x v.0 (Some (Choose at x t o, rest)) (omega (arith, p.enough, h)) (question_goes k at v.0 a.0 w.0 a.1)
-    (choice_again d e c at x t o v.0 rest a (omega (arith, h)) (omega (arith, h)) (stops_mono 11 k w.0 rest s)))
+    (choice_again d e c at x t o v.0 rest a (omega (arith, h)) (omega (arith, h)) (stops_mono 12 k w.0 rest s)))
     ∙ ap (λ q. and_then q (ended k)) (turns_stop (p.fuel - 1) (goes k) (link e) (Choose at x t o) rest s.ends)
     ∙ no_more k (Choose at x t o) rest s.ends
 
@@ -132,9 +132,9 @@ sequence_again : (d : ℕ) (e : ℕ → Parser Formula) → Complete d e → (k 
 sequence_again d e c k (Number value at) ts rest w h s = simple d e c k (Number value at) ts rest tt w h s
 sequence_again d e c k (Read n) ts rest w h s = simple d e c k (Read n) ts rest tt w h s
 sequence_again d e c k (ReadBit n i) ts rest w h s = simple d e c k (ReadBit n i) ts rest tt w h s
-sequence_again d e c k (ReadPart n a b) ts rest w h s = simple d e c k (ReadPart n a b) ts rest tt w h s
+sequence_again d e c k (ReadPart n p a b) ts rest w h s = simple d e c k (ReadPart n p a b) ts rest tt w h s
 sequence_again d e c k (Parens at f) ts rest w h s = simple d e c k (Parens at f) ts rest tt w h s
-sequence_again d e c k (Convert x at f) ts rest w h s = simple d e c k (Convert x at f) ts rest tt w h s
+sequence_again d e c k (Apply x at f) ts rest w h s = simple d e c k (Apply x at f) ts rest tt w h s
 sequence_again d e c k (Concat at fs) ts rest w h s = simple d e c k (Concat at fs) ts rest tt w h s
 sequence_again d e c k (Repeat at t fs) ts rest w h s = simple d e c k (Repeat at t fs) ts rest tt w h s
 sequence_again d e c k (Unary op at f) ts rest w h s = simple d e c k (Unary op at f) ts rest tt w h s
@@ -154,7 +154,7 @@ climb_again zero k f ts rest w h s = absurd (omega (arith, deep f, h))
 climb_again (suc d) k f ts rest w h s = sequence_again d (climb d) (climb_again d) k f ts rest w h s
 
 -- any expression, nested at most `d` deep
-pub expression_again : (d : ℕ) → Entire d (climb d 11)
+pub expression_again : (d : ℕ) → Entire d (climb d 12)
 expression_again d = whole_of d (climb d) (climb_again d)
 
 pub bounds_again : (d : ℕ) (e : Parser Formula) → Entire d e → (b : Bounds) (ts rest : List Terminal) → IsBounds b ts rest → bounds_depth b ≤ d → bounds e ts ≡ Some (b, rest)

@@ -1,31 +1,31 @@
 -- What is spelled is read: event lists, and the arguments of instances.
-use Rattle.std.proofs.Common.{◌≡◌, ◌⊎◌, ℕ, zero, suc, ◌≤◌, ◌<◌, Bool, true, false, cond, ◌||◌, List, [], ◌∷◌, length, Option, Some, None, refl, sym, ap, subst, ◌∙◌, inl, inr, max, arith}
+use Rattle.std.proofs.Common.{◌≡◌, ℕ, ◌≤◌, Bool, true, false, cond, ◌||◌, List, [], ◌∷◌, length, Some, refl, ap, ◌∙◌, inl, inr, arith}
 use Rattle.rtl_tree.specs.declared.symbol.Symbol.{Symbol}
 use Rattle.rtl_tree.specs.declared.symbol.Symbol.TheVariants as symbol
+use Rattle.rtl_tree.specs.declared.tree.operators.PartKind.TheVariants as selects
 use Rattle.rtl_tree.specs.declared.tree.item.EventEdge.{EventEdge}
 use Rattle.rtl_tree.specs.declared.tree.item.EventEdge.TheVariants as edge
 use Rattle.rtl_tree.specs.Symbols.{Terminal}
-use Rattle.rtl_tree.specs.TreeExpr.{Identifier, Formula}
-use Rattle.rtl_tree.specs.TreeItem.{Happening, Edge, Change, ChangeBit, ChangePart, Sensitivity, Star, StarInParens, Listed, Positional, Associated, Association, ByPosition, ByName, Instantiation}
-use Rattle.rtl_tree.specs.Depth.{greatest, if_any, formula_depth, happening_depth, sensitivity_depth, positional_depth, associated_depth, association_depth, instantiation_depth}
-use Rattle.rtl_tree.specs.Grammar.{Spelling, ◌⨾◌, IsA, IsAt, IsName, IsOptional, AreMore, AreListed}
-use Rattle.rtl_tree.specs.GrammarExpr.{IsFormula, IsExpression}
-use Rattle.rtl_tree.specs.GrammarItem.{edge_symbol, IsHappening, IsBetweenEvents, AreMoreEvents, AreEvents, IsSensitivity, Begins, IsPositional, IsAssociated, IsMoreThanEmpty, AreArguments, AreConnections, IsInstantiation, AreSet, AreOverrides}
-use Rattle.text_build.specs.Reading.{Parser, and_then, ◌>>=◌, ◌>>◌, pure, same_symbol, symbol_at, starts, after, place, name, advance, mark, either, add, links, listed}
+use Rattle.rtl_tree.specs.TreeExpr.{Identifier}
+use Rattle.rtl_tree.specs.TreeItem.{Happening, Edge, Change, ChangeBit, ChangePart, Sensitivity, Star, StarInParens, Listed}
+use Rattle.rtl_tree.specs.Depth.{greatest, happening_depth, sensitivity_depth}
+use Rattle.rtl_tree.specs.Grammar.{◌⨾◌, IsA, IsAt, IsName}
+use Rattle.rtl_tree.specs.GrammarItem.{edge_symbol, IsHappening, IsBetweenEvents, AreMoreEvents, AreEvents, IsSensitivity}
+use Rattle.text_build.specs.Reading.{and_then, ◌>>=◌, ◌>>◌, pure, same_symbol, starts, after, name, advance, mark, either}
 use Rattle.text_build.specs.ReadingExpr.{climb, Reference, whole, bit, part, reference}
-use Rattle.text_build.specs.ReadingItem.{any_expression, edge_of, change_of, change, event_by, event, joins_events, after_joint, events, star, star_in_parens, listed_events, in_parens, sensitivity, ends_argument, argument_value, positional, associated, by_position, by_name, arguments, connections, instantiation, overrides_of, overrides}
-use Rattle.text_build.proofs.Laws.Tokens.{at_is, name_is, mark_at, mark_then, advance_at, advance_then, place_again, symbol_is, starts_is, starts_not, after_is, after_not, name_again, bind, either_first, either_second}
-use Rattle.text_build.proofs.Laws.Repeats.{Again, Shrinks, Separates, Furthers, Ends, CommaEnds, lists_again, listed_again}
-use Rattle.text_build.proofs.Laws.Follows.{Stops, is_start, is_stop, stop_stops, Opens, opens_by, opens_not, formula_opens, formula_shorter}
+use Rattle.text_build.specs.ReadingItem.{any_expression, edge_of, change_of, change_by, change, event_by, event, joins_events, after_joint, events, star, star_in_parens, listed_events, in_parens, sensitivity}
+use Rattle.text_build.proofs.Laws.Tokens.{at_is, name_is, mark_then, advance_at, advance_then, symbol_is, starts_is, starts_not, after_is, after_not, name_again, bind, either_first, either_second}
+use Rattle.text_build.proofs.Laws.Repeats.{Again, Shrinks, Separates, Furthers, Ends, lists_again}
+use Rattle.text_build.proofs.Laws.Follows.{Opens, opens_by, opens_not, formula_shorter}
 use Rattle.text_build.proofs.Laws.Exprs.{whole_read, bit_read, part_read}
 use Rattle.text_build.proofs.Laws.Chains.{expression_again}
 use Rattle.text_build.proofs.Laws.Targets.{IsWhole}
 
 -- ---- events
 
-change_by : (d : ℕ) (r : Reference) (ts rest : List Terminal) → reference (climb d 11) ts ≡ Some (r, rest) → change d ts ≡ Some (change_of r, rest)
+change_read : (d : ℕ) (r : Reference) (e : Happening) (ts rest : List Terminal) → reference (climb d 12) ts ≡ Some (r, rest) → change_of r ≡ Some e → change d ts ≡ Some (e, rest)
 unfolding change any_expression
-change_by d r ts rest h = bind (reference (climb d 11) ts) (λ x. pure (change_of x)) r rest h
+change_read d r e ts rest h k = bind (reference (climb d 12) ts) (λ x. change_by (change_of x)) r rest h ∙ ap (λ o. change_by o rest) k
 
 edge_again : (e : EventEdge) (at : ℕ) (n : Identifier) (ts rest : List Terminal) → (IsAt (edge_symbol e) at ⨾ IsName n) ts rest → edge_of e ts ≡ Some (Edge e at n, rest)
 unfolding edge_of
@@ -40,20 +40,20 @@ event_again : (d : ℕ) → Again happening_depth d (event d) IsHappening IsWhol
 event_again d (Edge edge.Posedge at n) ts rest w h s = event_from d symbol.Posedge ts w.0 (at_is symbol.Posedge at ts w.0 w.1) ∙ edge_again edge.Posedge at n ts rest w
 event_again d (Edge edge.Negedge at n) ts rest w h s = event_from d symbol.Negedge ts w.0 (at_is symbol.Negedge at ts w.0 w.1) ∙ edge_again edge.Negedge at n ts rest w
 event_again d (Change n) ts rest w h s =
-    event_from d symbol.Name ts rest (name_is n ts rest w) ∙ change_by d (whole n) ts rest (whole_read d (climb d 11) (expression_again d) n ts rest w s)
+    event_from d symbol.Name ts rest (name_is n ts rest w) ∙ change_read d (whole n) (Change n) ts rest (whole_read d (climb d 12) (expression_again d) n ts rest w s) refl
 event_again d (ChangeBit n i) ts rest w h s =
-    event_from d symbol.Name ts w.0 (name_is n ts w.0 w.1) ∙ change_by d (bit n i) ts rest (bit_read d (climb d 11) (expression_again d) n i ts rest w h)
+    event_from d symbol.Name ts w.0 (name_is n ts w.0 w.1) ∙ change_read d (bit n i) (ChangeBit n i) ts rest (bit_read d (climb d 12) (expression_again d) n i ts rest w h) refl
 event_again d (ChangePart n m l) ts rest w h s =
-    event_from d symbol.Name ts w.0 (name_is n ts w.0 w.1) ∙ change_by d (part n m l) ts rest (part_read d (climb d 11) (expression_again d) n m l ts rest w (omega (arith, h)) (omega (arith, h)))
+    event_from d symbol.Name ts w.0 (name_is n ts w.0 w.1) ∙ change_read d (part n selects.Between m l) (ChangePart n m l) ts rest (part_read d (climb d 12) (expression_again d) n selects.Between m l ts rest w (omega (arith, h)) (omega (arith, h))) refl
 
 event_shrinks : (e : Happening) → Shrinks (IsHappening e)
 event_shrinks (Edge e at n) ts rest w = omega (arith, ap length w.1.1, ap length w.2.1)
 event_shrinks (Change n) ts rest w = omega (arith, ap length w.1)
 event_shrinks (ChangeBit n i) ts rest w =
-    let a = w.2 in let b = a.2 in omega (arith, ap length w.1.1, ap length a.1.1, formula_shorter 11 i a.0 b.0 b.1, ap length b.2.1)
+    let a = w.2 in let b = a.2 in omega (arith, ap length w.1.1, ap length a.1.1, formula_shorter 12 i a.0 b.0 b.1, ap length b.2.1)
 event_shrinks (ChangePart n m l) ts rest w =
     let a = w.2 in let b = a.2 in let c = b.2 in let e = c.2 in
-    omega (arith, ap length w.1.1, ap length a.1.1, formula_shorter 11 m a.0 b.0 b.1, ap length c.1.1, formula_shorter 11 l c.0 e.0 e.1, ap length e.2.1)
+    omega (arith, ap length w.1.1, ap length a.1.1, formula_shorter 12 m a.0 b.0 b.1, ap length c.1.1, formula_shorter 12 l c.0 e.0 e.1, ap length e.2.1)
 
 -- the symbols that an event may begin with
 abbrev is_event : Symbol → Bool

@@ -1,18 +1,20 @@
 -- What may follow an expression, and what an expression begins with.
-use Rattle.std.proofs.Common.{◌≡◌, ℕ, zero, suc, ◌-◌, ◌≤◌, ◌<◌, Bool, true, false, List, [], ◌∷◌, length, Option, Some, None, refl, sym, ap, ◌∙◌, le-leb, leb-true, nat_le, arith}
+use Rattle.std.proofs.Common.{◌≡◌, ℕ, ◌-◌, ◌≤◌, ◌<◌, Bool, true, false, List, ◌∷◌, length, Option, Some, None, refl, sym, ap, ◌∙◌, le-leb, leb-true, nat_le, arith}
 use Rattle.rtl_tree.specs.declared.symbol.Symbol.{Symbol}
 use Rattle.rtl_tree.specs.declared.symbol.Symbol.TheVariants as symbol
 use Rattle.rtl_tree.specs.declared.tree.operators.BinaryOperator.{BinaryOperator}
 use Rattle.rtl_tree.specs.declared.tree.operators.BinaryOperator.TheVariants as binary
 use Rattle.rtl_tree.specs.declared.tree.operators.UnaryOperator.{UnaryOperator}
 use Rattle.rtl_tree.specs.declared.tree.operators.UnaryOperator.TheVariants as unary
-use Rattle.rtl_tree.specs.declared.tree.operators.Signedness.TheVariants as sign
+use Rattle.rtl_tree.specs.declared.tree.operators.SystemFunction.TheVariants as function
+use Rattle.rtl_tree.specs.declared.tree.operators.PartKind.{PartKind}
+use Rattle.rtl_tree.specs.declared.tree.operators.PartKind.TheVariants as selects
 use Rattle.rtl_tree.specs.Symbols.{Terminal}
-use Rattle.rtl_tree.specs.TreeExpr.{Formula, Number, Read, ReadBit, ReadPart, Parens, Convert, Concat, Repeat, Unary, Binary, Choose, Formulas, no_formulas, more_formulas}
+use Rattle.rtl_tree.specs.TreeExpr.{Formula, Number, Read, ReadBit, ReadPart, Parens, Apply, Concat, Repeat, Unary, Binary, Choose, Formulas, no_formulas, more_formulas}
 use Rattle.rtl_tree.specs.Grammar.{IsA, IsAt}
-use Rattle.rtl_tree.specs.GrammarExpr.{unary_symbol, binary_symbol, level, IsFormula, AreFormulas, AreMoreFormulas}
+use Rattle.rtl_tree.specs.GrammarExpr.{unary_symbol, binary_symbol, part_symbol, level, IsFormula, AreFormulas, AreMoreFormulas}
 use Rattle.text_build.specs.Reading.{same_symbol, symbol_at, starts}
-use Rattle.text_build.specs.ReadingExpr.{binary_of, unary_of, level_or, looseness, goes_by, goes}
+use Rattle.text_build.specs.ReadingExpr.{binary_of, unary_of, part_of, level_or, looseness, goes_by, goes}
 use Rattle.text_build.proofs.Laws.Tokens.{symbol_is, starts_not, differ}
 
 -- no operator of at most this level comes next, nor a selection
@@ -24,6 +26,7 @@ pub record Stops (k : ℕ) (ts : List Terminal) : Type 0 where
 
 pub binary_back : (op : BinaryOperator) → binary_of (binary_symbol op) ≡ Some op
 unfolding binary_of
+binary_back binary.Power = refl
 binary_back binary.Multiply = refl
 binary_back binary.Divide = refl
 binary_back binary.Modulus = refl
@@ -50,6 +53,7 @@ binary_back binary.LogicalOr = refl
 
 pub loose_back : (op : BinaryOperator) → looseness (binary_symbol op) ≡ level op
 unfolding looseness binary_of
+loose_back binary.Power = refl
 loose_back binary.Multiply = refl
 loose_back binary.Divide = refl
 loose_back binary.Modulus = refl
@@ -87,12 +91,19 @@ unary_back unary.ReduceNor = refl
 unary_back unary.ReduceXor = refl
 unary_back unary.ReduceXnor = refl
 
--- levels are from 1 to 10
+pub part_back : (k : PartKind) → part_of (part_symbol k) ≡ Some k
+unfolding part_of
+part_back selects.Between = refl
+part_back selects.Up = refl
+part_back selects.Down = refl
+
+-- levels are from 1 to 11
 pub record IsLevel (k : ℕ) : Type 0 where
   pub least : 1 ≤ k
-  pub most : k ≤ 10
+  pub most : k ≤ 11
 
 pub level_is : (op : BinaryOperator) → IsLevel (level op)
+level_is binary.Power = record { least = omega arith; most = omega arith }
 level_is binary.Multiply = record { least = omega arith; most = omega arith }
 level_is binary.Divide = record { least = omega arith; most = omega arith }
 level_is binary.Modulus = record { least = omega arith; most = omega arith }
@@ -141,7 +152,7 @@ goes_mono j k h ts e = goes_mono_by j k h (symbol_at ts) e
 pub stops_mono : (j k : ℕ) → j ≤ k → (ts : List Terminal) → Stops k ts → Stops j ts
 stops_mono j k h ts s = record { ends = goes_mono j k h ts s.ends; whole = s.whole }
 
-positive : (o : Option BinaryOperator) → 1 ≤ level_or 12 o
+positive : (o : Option BinaryOperator) → 1 ≤ level_or 13 o
 positive None = omega arith
 positive (Some op) = (level_is op).least
 
@@ -194,19 +205,19 @@ question_bracket : same_symbol symbol.Question symbol.OpenBracket ≡ false
 unfolding same_symbol
 question_bracket = refl
 
-question_loose : looseness symbol.Question ≡ 11
+question_loose : looseness symbol.Question ≡ 12
 unfolding looseness
 question_loose = refl
 
-pub question_stops : (at : ℕ) (ts rest : List Terminal) → IsAt symbol.Question at ts rest → Stops 10 ts
+pub question_stops : (at : ℕ) (ts rest : List Terminal) → IsAt symbol.Question at ts rest → Stops 11 ts
 question_stops at ts rest w =
     record {
-      ends = goes_at 10 symbol.Question ts rest w.0 w.1 w.2.0 ∙ ap (λ l. nat_le l 10) question_loose;
+      ends = goes_at 11 symbol.Question ts rest w.0 w.1 w.2.0 ∙ ap (λ l. nat_le l 11) question_loose;
       whole = starts_not symbol.OpenBracket symbol.Question ts rest w.0 w.1 w.2.0 question_bracket;
     }
 
-pub question_goes : (k at : ℕ) (ts rest : List Terminal) → 11 ≤ k → IsAt symbol.Question at ts rest → goes k ts ≡ true
-question_goes k at ts rest h w = goes_at k symbol.Question ts rest w.0 w.1 w.2.0 ∙ ap (λ l. nat_le l k) question_loose ∙ le-leb 11 k h
+pub question_goes : (k at : ℕ) (ts rest : List Terminal) → 12 ≤ k → IsAt symbol.Question at ts rest → goes k ts ≡ true
+question_goes k at ts rest h w = goes_at k symbol.Question ts rest w.0 w.1 w.2.0 ∙ ap (λ l. nat_le l k) question_loose ∙ le-leb 12 k h
 
 -- ---- before another mark
 
@@ -215,6 +226,8 @@ abbrev pub is_stop : Symbol → Bool
 is_stop symbol.Comma = true
 is_stop symbol.Semicolon = true
 is_stop symbol.Colon = true
+is_stop symbol.PlusColon = true
+is_stop symbol.MinusColon = true
 is_stop symbol.Or = true
 is_stop symbol.CloseParen = true
 is_stop symbol.CloseBracket = true
@@ -224,11 +237,13 @@ is_stop symbol.OpenBrace = true
 is_stop symbol.Equals = true
 is_stop s = false
 
-stop_loose : (s : Symbol) → is_stop s ≡ true → looseness s ≡ 12
+stop_loose : (s : Symbol) → is_stop s ≡ true → looseness s ≡ 13
 unfolding looseness binary_of
 stop_loose symbol.Comma h = refl
 stop_loose symbol.Semicolon h = refl
 stop_loose symbol.Colon h = refl
+stop_loose symbol.PlusColon h = refl
+stop_loose symbol.MinusColon h = refl
 stop_loose symbol.Or h = refl
 stop_loose symbol.CloseParen h = refl
 stop_loose symbol.CloseBracket h = refl
@@ -238,10 +253,15 @@ stop_loose symbol.OpenBrace h = refl
 stop_loose symbol.Equals h = refl
 stop_loose s h = absurd (cc)
 
-pub stop_stops : (s : Symbol) (ts rest : List Terminal) → is_stop s ≡ true → IsA s ts rest → Stops 11 ts
+pub part_stops : (k : PartKind) → is_stop (part_symbol k) ≡ true
+part_stops selects.Between = refl
+part_stops selects.Up = refl
+part_stops selects.Down = refl
+
+pub stop_stops : (s : Symbol) (ts rest : List Terminal) → is_stop s ≡ true → IsA s ts rest → Stops 12 ts
 stop_stops s ts rest h w =
     record {
-      ends = goes_at 11 s ts rest w.0 w.1 w.2 ∙ ap (λ l. nat_le l 11) (stop_loose s h);
+      ends = goes_at 12 s ts rest w.0 w.1 w.2 ∙ ap (λ l. nat_le l 12) (stop_loose s h);
       whole = starts_not symbol.OpenBracket s ts rest w.0 w.1 w.2 (differ is_stop s symbol.OpenBracket h refl);
     }
 
@@ -254,6 +274,7 @@ is_start symbol.Name = true
 is_start symbol.OpenParen = true
 is_start symbol.ToSigned = true
 is_start symbol.ToUnsigned = true
+is_start symbol.Clog2 = true
 is_start symbol.OpenBrace = true
 is_start symbol.Plus = true
 is_start symbol.Minus = true
@@ -296,15 +317,16 @@ pub formula_opens : (k : ℕ) (f : Formula) (ts rest : List Terminal) → IsForm
 formula_opens k (Number value at) ts rest w = opens_by is_start symbol.Number ts rest w.0 w.1 w.2.0 refl
 formula_opens k (Read n) ts rest w = opens_by is_start symbol.Name ts rest w.0 w.1 w.2.0 refl
 formula_opens k (ReadBit n i) ts rest w = let v = w.1 in opens_by is_start symbol.Name ts w.0 v.0 v.1 v.2.0 refl
-formula_opens k (ReadPart n m l) ts rest w = let v = w.1 in opens_by is_start symbol.Name ts w.0 v.0 v.1 v.2.0 refl
+formula_opens k (ReadPart n p m l) ts rest w = let v = w.1 in opens_by is_start symbol.Name ts w.0 v.0 v.1 v.2.0 refl
 formula_opens k (Parens at f) ts rest w = let v = w.1 in opens_by is_start symbol.OpenParen ts w.0 v.0 v.1 v.2.0 refl
-formula_opens k (Convert sign.Signed at f) ts rest w = let v = w.1 in opens_by is_start symbol.ToSigned ts w.0 v.0 v.1 v.2.0 refl
-formula_opens k (Convert sign.Unsigned at f) ts rest w = let v = w.1 in opens_by is_start symbol.ToUnsigned ts w.0 v.0 v.1 v.2.0 refl
+formula_opens k (Apply function.Signed at f) ts rest w = let v = w.1 in opens_by is_start symbol.ToSigned ts w.0 v.0 v.1 v.2.0 refl
+formula_opens k (Apply function.Unsigned at f) ts rest w = let v = w.1 in opens_by is_start symbol.ToUnsigned ts w.0 v.0 v.1 v.2.0 refl
+formula_opens k (Apply function.Clog2 at f) ts rest w = let v = w.1 in opens_by is_start symbol.Clog2 ts w.0 v.0 v.1 v.2.0 refl
 formula_opens k (Concat at parts) ts rest w = let v = w.1 in opens_by is_start symbol.OpenBrace ts w.0 v.0 v.1 v.2.0 refl
 formula_opens k (Repeat at times parts) ts rest w = let v = w.1 in opens_by is_start symbol.OpenBrace ts w.0 v.0 v.1 v.2.0 refl
 formula_opens k (Unary op at f) ts rest w = let v = w.1 in opens_by is_start (unary_symbol op) ts w.0 v.0 v.1 v.2.0 (unary_starts op)
 formula_opens k (Binary op at l r) ts rest w = let v = w.1 in formula_opens (level op) l ts v.0 v.1
-formula_opens k (Choose at c t o) ts rest w = let v = w.1 in formula_opens 10 c ts v.0 v.1
+formula_opens k (Choose at c t o) ts rest w = let v = w.1 in formula_opens 11 c ts v.0 v.1
 
 -- ---- nothing is longer after it was read
 
@@ -313,31 +335,31 @@ mutual
   formula_shorter k (Number value at) ts rest w = omega (arith, ap length w.1)
   formula_shorter k (Read n) ts rest w = omega (arith, ap length w.1)
   formula_shorter k (ReadBit n i) ts rest w =
-      let a = w.2 in let b = a.2 in omega (arith, ap length w.1.1, ap length a.1.1, formula_shorter 11 i a.0 b.0 b.1, ap length b.2.1)
-  formula_shorter k (ReadPart n m l) ts rest w =
+      let a = w.2 in let b = a.2 in omega (arith, ap length w.1.1, ap length a.1.1, formula_shorter 12 i a.0 b.0 b.1, ap length b.2.1)
+  formula_shorter k (ReadPart n p m l) ts rest w =
       let a = w.2 in let b = a.2 in let c = b.2 in let e = c.2 in
-      omega (arith, ap length w.1.1, ap length a.1.1, formula_shorter 11 m a.0 b.0 b.1, ap length c.1.1, formula_shorter 11 l c.0 e.0 e.1, ap length e.2.1)
+      omega (arith, ap length w.1.1, ap length a.1.1, formula_shorter 12 m a.0 b.0 b.1, ap length c.1.1, formula_shorter 12 l c.0 e.0 e.1, ap length e.2.1)
   formula_shorter k (Parens at f) ts rest w =
-      let a = w.2 in omega (arith, ap length w.1.1, formula_shorter 11 f w.0 a.0 a.1, ap length a.2.1)
-  formula_shorter k (Convert s at f) ts rest w =
-      let a = w.2 in let b = a.2 in omega (arith, ap length w.1.1, ap length a.1.1, formula_shorter 11 f a.0 b.0 b.1, ap length b.2.1)
+      let a = w.2 in omega (arith, ap length w.1.1, formula_shorter 12 f w.0 a.0 a.1, ap length a.2.1)
+  formula_shorter k (Apply s at f) ts rest w =
+      let a = w.2 in let b = a.2 in omega (arith, ap length w.1.1, ap length a.1.1, formula_shorter 12 f a.0 b.0 b.1, ap length b.2.1)
   formula_shorter k (Concat at parts) ts rest w =
       let a = w.2 in omega (arith, ap length w.1.1, formulas_shorter parts w.0 a.0 a.1, ap length a.2.1)
   formula_shorter k (Repeat at times parts) ts rest w =
       let a = w.2 in let b = a.2 in let c = b.2 in let e = c.2 in
-      omega (arith, ap length w.1.1, formula_shorter 11 times w.0 a.0 a.1, ap length b.1.1, formulas_shorter parts b.0 c.0 c.1, ap length e.1.1, ap length e.2.1)
+      omega (arith, ap length w.1.1, formula_shorter 12 times w.0 a.0 a.1, ap length b.1.1, formulas_shorter parts b.0 c.0 c.1, ap length e.1.1, ap length e.2.1)
   formula_shorter k (Unary op at f) ts rest w = omega (arith, ap length w.1.1, formula_shorter 0 f w.0 rest w.2)
   formula_shorter k (Binary op at l r) ts rest w =
       let v = w.1 in let a = v.2 in omega (arith, formula_shorter (level op) l ts v.0 v.1, ap length a.1.1, formula_shorter (level op - 1) r a.0 rest a.2)
   formula_shorter k (Choose at c t o) ts rest w =
       let v = w.1 in let a = v.2 in let b = a.2 in let e = b.2 in
-      omega (arith, formula_shorter 10 c ts v.0 v.1, ap length a.1.1, formula_shorter 11 t a.0 b.0 b.1, ap length e.1.1, formula_shorter 11 o e.0 rest e.2)
+      omega (arith, formula_shorter 11 c ts v.0 v.1, ap length a.1.1, formula_shorter 12 t a.0 b.0 b.1, ap length e.1.1, formula_shorter 12 o e.0 rest e.2)
 
   pub formulas_shorter : (fs : Formulas) (ts rest : List Terminal) → AreFormulas fs ts rest → length rest < length ts
   formulas_shorter no_formulas ts rest w = absurd w
-  formulas_shorter (more_formulas f fs) ts rest w = omega (arith, formula_shorter 11 f ts w.0 w.1, further_shorter fs w.0 rest w.2)
+  formulas_shorter (more_formulas f fs) ts rest w = omega (arith, formula_shorter 12 f ts w.0 w.1, further_shorter fs w.0 rest w.2)
 
   pub further_shorter : (fs : Formulas) (ts rest : List Terminal) → AreMoreFormulas fs ts rest → length rest ≤ length ts
   further_shorter no_formulas ts rest w = omega (arith, ap length w)
   further_shorter (more_formulas f fs) ts rest w =
-      let a = w.2 in omega (arith, ap length w.1.1, formula_shorter 11 f w.0 a.0 a.1, further_shorter fs a.0 rest a.2)
+      let a = w.2 in omega (arith, ap length w.1.1, formula_shorter 12 f w.0 a.0 a.1, further_shorter fs a.0 rest a.2)

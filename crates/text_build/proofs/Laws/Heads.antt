@@ -1,5 +1,5 @@
 -- What is spelled is read: ranges, flags and heads of declarations.
-use Rattle.std.proofs.Common.{◌≡◌, ℕ, ◌≤◌, ◌<◌, Bool, true, false, List, [], ◌∷◌, length, Option, Some, None, max, refl, sym, ap, subst, ◌∙◌, arith}
+use Rattle.std.proofs.Common.{◌≡◌, ℕ, ◌≤◌, ◌<◌, Bool, true, false, List, length, Option, Some, None, refl, sym, ap, subst, ◌∙◌, arith}
 use Rattle.rtl_tree.specs.declared.symbol.Symbol.{Symbol}
 use Rattle.rtl_tree.specs.declared.symbol.Symbol.TheVariants as symbol
 use Rattle.rtl_tree.specs.declared.tree.item.Direction.{Direction}
@@ -10,15 +10,14 @@ use Rattle.rtl_tree.specs.Symbols.{Terminal}
 use Rattle.rtl_tree.specs.TreeExpr.{Formula, Identifier, Bounds}
 use Rattle.rtl_tree.specs.TreeItem.{Head}
 use Rattle.rtl_tree.specs.Depth.{formula_depth, bounds_depth, head_depth, if_any}
-use Rattle.rtl_tree.specs.Grammar.{◌⨾◌, IsA, IsAt, IsName, IsOptional, IsFlag}
-use Rattle.rtl_tree.specs.GrammarExpr.{IsExpression, IsBounds}
-use Rattle.rtl_tree.specs.GrammarItem.{direction_symbol, kind_symbol, IsKind, IsHead, IsValue}
-use Rattle.text_build.specs.Reading.{Parser, and_then, ◌>>=◌, ◌>>◌, pure, same_symbol, symbol_at, starts, after, advance, mark, optional}
+use Rattle.rtl_tree.specs.Grammar.{IsAt, IsName, IsOptional, IsFlag}
+use Rattle.rtl_tree.specs.GrammarExpr.{IsBounds}
+use Rattle.rtl_tree.specs.GrammarItem.{direction_symbol, IsKind, IsHead, IsValue}
+use Rattle.text_build.specs.Reading.{pure, symbol_at, starts, after, advance}
 use Rattle.text_build.specs.ReadingExpr.{climb, bounds}
 use Rattle.text_build.specs.ReadingItem.{any_expression, range, direction_by, direction_next, kind_by, port_kind, flag, port_head, value}
 use Rattle.text_build.proofs.Laws.Tokens.{advance_at, advance_then, mark_then, starts_is, after_is, after_not, symbol_is, bind, optional_there, optional_absent}
-use Rattle.text_build.proofs.Laws.Follows.{Stops, stop_stops, Opens, opens_by, opens_not, formula_shorter}
-use Rattle.text_build.proofs.Laws.Exprs.{Entire}
+use Rattle.text_build.proofs.Laws.Follows.{Stops, Opens, opens_by, opens_not, formula_shorter}
 use Rattle.text_build.proofs.Laws.Chains.{expression_again, bounds_again}
 
 -- ---- what may come after the parts of a head
@@ -66,10 +65,10 @@ sign_opens true ts rest w o = opens_by is_sign_or_range_or_name symbol.Signed ts
 pub range_again : (d : ℕ) (b : Option Bounds) (ts rest : List Terminal) → IsOptional IsBounds b ts rest → if_any bounds_depth b ≤ d → Opens is_name rest → range d ts ≡ Some (b, rest)
 unfolding range any_expression
 range_again d None ts rest w h o =
-    optional_absent symbol.OpenBracket (bounds (climb d 11)) ts (ap (starts symbol.OpenBracket) w ∙ opens_not is_name symbol.OpenBracket rest refl o) ∙ ap (λ x. Some (None, x)) w
+    optional_absent symbol.OpenBracket (bounds (climb d 12)) ts (ap (starts symbol.OpenBracket) w ∙ opens_not is_name symbol.OpenBracket rest refl o) ∙ ap (λ x. Some (None, x)) w
 range_again d (Some b) ts rest w h o =
     let v = w.1 in
-    optional_there symbol.OpenBracket (bounds (climb d 11)) b ts rest (starts_is symbol.OpenBracket ts w.0 v.0 v.1 v.2.0) (bounds_again d (climb d 11) (expression_again d) b ts rest w h)
+    optional_there symbol.OpenBracket (bounds (climb d 12)) b ts rest (starts_is symbol.OpenBracket ts w.0 v.0 v.1 v.2.0) (bounds_again d (climb d 12) (expression_again d) b ts rest w h)
 
 pub flag_again : (s : Symbol) (b : Bool) (ts rest : List Terminal) → IsFlag s b ts rest → starts s rest ≡ false → flag s ts ≡ Some (b, rest)
 unfolding flag
@@ -132,9 +131,9 @@ head_opens h ts rest w = let v = w.1 in opens_by is_direction (direction_symbol 
 
 -- ---- values
 
-pub value_again : (d : ℕ) (f : Formula) (ts rest : List Terminal) → IsValue f ts rest → formula_depth f ≤ d → Stops 11 rest → value d ts ≡ Some (f, rest)
+pub value_again : (d : ℕ) (f : Formula) (ts rest : List Terminal) → IsValue f ts rest → formula_depth f ≤ d → Stops 12 rest → value d ts ≡ Some (f, rest)
 unfolding value any_expression
-value_again d f ts rest w h s = mark_then symbol.Equals (climb d 11) ts w.0 w.1 ∙ expression_again d f w.0 rest w.2 h s
+value_again d f ts rest w h s = mark_then symbol.Equals (climb d 12) ts w.0 w.1 ∙ expression_again d f w.0 rest w.2 h s
 
 pub bounds_shorter : (b : Option Bounds) (ts rest : List Terminal) → IsOptional IsBounds b ts rest → length rest ≤ length ts
 bounds_shorter None ts rest w = omega (arith, ap length w)
@@ -142,7 +141,7 @@ bounds_shorter (Some b) ts rest w =
     let a = w.2 in
     let c = a.2 in
     let e = c.2 in
-    omega (arith, ap length w.1.1, formula_shorter 11 b.msb w.0 a.0 a.1, ap length c.1.1, formula_shorter 11 b.lsb c.0 e.0 e.1, ap length e.2.1)
+    omega (arith, ap length w.1.1, formula_shorter 12 b.msb w.0 a.0 a.1, ap length c.1.1, formula_shorter 12 b.lsb c.0 e.0 e.1, ap length e.2.1)
 
 pub value_shorter : (f : Formula) (ts rest : List Terminal) → IsValue f ts rest → length rest < length ts
-value_shorter f ts rest w = omega (arith, ap length w.1.1, formula_shorter 11 f w.0 rest w.2)
+value_shorter f ts rest w = omega (arith, ap length w.1.1, formula_shorter 12 f w.0 rest w.2)

@@ -1,5 +1,5 @@
 -- What is spelled is read: the items of a module.
-use Rattle.std.proofs.Common.{◌≡◌, ◌⊎◌, ℕ, zero, suc, ◌≤◌, ◌<◌, Bool, true, false, List, [], ◌∷◌, length, Option, Some, None, refl, sym, ap, subst, ◌∙◌, max, arith}
+use Rattle.std.proofs.Common.{◌≡◌, ℕ, ◌≤◌, Bool, true, false, List, [], ◌∷◌, length, Option, Some, refl, ap, ◌∙◌, arith}
 use Rattle.rtl_tree.specs.declared.symbol.Symbol.{Symbol}
 use Rattle.rtl_tree.specs.declared.symbol.Symbol.TheVariants as symbol
 use Rattle.rtl_tree.specs.declared.tree.item.Direction.{Direction}
@@ -7,29 +7,26 @@ use Rattle.rtl_tree.specs.declared.tree.item.Direction.TheVariants as direction
 use Rattle.rtl_tree.specs.declared.tree.item.ParameterKind.{ParameterKind}
 use Rattle.rtl_tree.specs.declared.tree.item.ParameterKind.TheVariants as parameter
 use Rattle.rtl_tree.specs.Symbols.{Terminal}
-use Rattle.rtl_tree.specs.TreeExpr.{Identifier, Formula, Bounds}
+use Rattle.rtl_tree.specs.TreeExpr.{Identifier, Bounds}
 use Rattle.rtl_tree.specs.TreeStmt.{Pause, Action}
-use Rattle.rtl_tree.specs.TreeItem.{Head, Net, Variable, Valuation, Drive, Sensitivity, Association, ByPosition, ByName, Instantiation, ModuleItem, Ports, Nets, Variables, Integers, Parameters, Drives, Always, Instances}
-use Rattle.rtl_tree.specs.Depth.{greatest, if_any, bounds_depth, item_depth}
-use Rattle.rtl_tree.specs.Grammar.{Spelling, ◌⨾◌, IsA, IsAt, IsName, IsOptional, IsFlag, AreMore, AreListed}
+use Rattle.rtl_tree.specs.TreeItem.{Head, Net, Variable, Valuation, Drive, Sensitivity, Association, Instantiation, ModuleItem, Ports, Nets, Variables, Integers, Parameters, Drives, Gates, Always, Instances}
+use Rattle.rtl_tree.specs.Depth.{item_depth}
+use Rattle.rtl_tree.specs.Grammar.{Spelling, IsA, IsAt, IsName, IsOptional, AreListed}
 use Rattle.rtl_tree.specs.GrammarExpr.{IsBounds}
-use Rattle.rtl_tree.specs.GrammarStmt.{Marked, AreAttributes, IsPause, IsTarget}
-use Rattle.rtl_tree.specs.GrammarItem.{direction_symbol, IsKind, IsHead, IsNet, IsVariable, parameter_symbol, IsValuation, IsDrive, IsSensitivity, IsInstantiation, AreOverrides, AreSet, IsItem, IsMarkedItem}
-use Rattle.text_build.specs.Reading.{Parser, and_then, ◌>>=◌, ◌>>◌, pure, same_symbol, symbol_at, starts, name, advance, mark, optional, listed}
+use Rattle.rtl_tree.specs.GrammarItem.{direction_symbol, IsKind, IsHead, IsNet, IsVariable, parameter_symbol, IsValuation, IsDrive, IsInstantiation, IsItem}
+use Rattle.text_build.specs.Reading.{and_then, ◌>>=◌, ◌>>◌, pure, same_symbol, starts, name, advance, mark, optional, listed}
 use Rattle.text_build.specs.ReadingExpr.{climb}
-use Rattle.text_build.specs.ReadingStmt.{attributes, pause, statement}
+use Rattle.text_build.specs.ReadingStmt.{pause, statement}
 use Rattle.text_build.specs.ReadingItem.{any_expression, range, flag, port_head, ports, net, nets, variable, variables, integers, valuation, parameters, drive, drives, sensitivity, always, instantiation, overrides, instances, item_by, item_after}
-use Rattle.text_build.specs.ReadingModule.{item}
-use Rattle.text_build.proofs.Laws.Tokens.{at_is, name_is, mark_then, advance_at, starts_is, starts_not, symbol_is, name_again, bind}
-use Rattle.text_build.proofs.Laws.Repeats.{Again, Shrinks, Consumes, Begins}
+use Rattle.text_build.proofs.Laws.Tokens.{at_is, name_is, mark_then, advance_at, symbol_is, name_again, bind}
+use Rattle.text_build.proofs.Laws.Repeats.{Shrinks, Consumes}
 use Rattle.text_build.proofs.Laws.Follows.{Opens, opens_by, opens_not}
 use Rattle.text_build.proofs.Laws.Chains.{expression_again}
-use Rattle.text_build.proofs.Laws.Attributes.{marks_of, attributes_again, attributes_shorter}
 use Rattle.text_build.proofs.Laws.Targets.{is_target, target_opens, optional_pause, optional_shorter}
 use Rattle.text_build.proofs.Laws.Openings.{statement_shorter}
 use Rattle.text_build.proofs.Laws.Statements.{NoElse, closed}
 use Rattle.text_build.proofs.Laws.Blocks.{statement_again}
-use Rattle.text_build.proofs.Laws.Heads.{is_name, is_range_or_name, is_direction, wider, name_opens, range_opens, sign_opens, range_again, flag_again, head_again, head_opens}
+use Rattle.text_build.proofs.Laws.Heads.{is_name, is_range_or_name, is_direction, wider, name_opens, range_opens, range_again, flag_again, head_again, head_opens}
 use Rattle.text_build.proofs.Laws.Lists.{names_again, nets_again, nets_shrink, variables_again, variables_shrink, valuations_again, valuations_shrink, drives_again, drives_shrink, listed_shrinks, optional_shrinks, flag_shrinks, name_shrinks, bounds_shrinks}
 use Rattle.text_build.proofs.Laws.Events.{sensitivity_again, sensitivity_shrinks}
 use Rattle.text_build.proofs.Laws.Arguments.{instantiations_again, instantiations_shrink, overrides_again, overrides_shrink}
@@ -121,9 +118,9 @@ unfolding drives any_expression
 drives_item d at p xs ts rest w k =
     let a = w.2 in
     let c = a.2 in
-    bind (advance ts) (λ at. optional symbol.Hash (pause (climb d 11)) >>= (λ p. listed (drive d) >>= (λ all. mark symbol.Semicolon >> pure (Drives at p all)))) at w.0 (advance_at symbol.Assign at ts w.0 w.1)
-    ∙ bind (optional symbol.Hash (pause (climb d 11)) w.0) (λ p. listed (drive d) >>= (λ all. mark symbol.Semicolon >> pure (Drives at p all))) p a.0
-    (optional_pause d (climb d 11) (expression_again d) p w.0 a.0 a.1 (omega (arith, k)) (opens_not is_target symbol.Hash a.0 refl (drives_open xs a.0 c.0 c.1)))
+    bind (advance ts) (λ at. optional symbol.Hash (pause (climb d 12)) >>= (λ p. listed (drive d) >>= (λ all. mark symbol.Semicolon >> pure (Drives at p all)))) at w.0 (advance_at symbol.Assign at ts w.0 w.1)
+    ∙ bind (optional symbol.Hash (pause (climb d 12)) w.0) (λ p. listed (drive d) >>= (λ all. mark symbol.Semicolon >> pure (Drives at p all))) p a.0
+    (optional_pause d (climb d 12) (expression_again d) p w.0 a.0 a.1 (omega (arith, k)) (opens_not is_target symbol.Hash a.0 refl (drives_open xs a.0 c.0 c.1)))
     ∙ bind (listed (drive d) a.0) (λ all. mark symbol.Semicolon >> pure (Drives at p all)) xs c.0 (drives_again d xs a.0 c.0 rest c.1 (omega (arith, k)) c.2)
     ∙ mark_then symbol.Semicolon (pure (Drives at p xs)) c.0 rest c.2
 
@@ -158,7 +155,7 @@ from_head : (d : ℕ) (o : Direction) (at : ℕ) (ts rest : List Terminal) → I
 from_head d direction.Input at ts rest w = from d symbol.Input ts rest (at_is symbol.Input at ts rest w)
 from_head d direction.Output at ts rest w = from d symbol.Output ts rest (at_is symbol.Output at ts rest w)
 
-after_again : (d : ℕ) (i : ModuleItem) (ts rest : List Terminal) → IsItem i ts rest → item_depth i ≤ d → NoElse rest → item_after d ts ≡ Some (i, rest)
+pub after_again : (d : ℕ) (i : ModuleItem) (ts rest : List Terminal) → IsItem i ts rest → item_depth i ≤ d → NoElse rest → item_after d ts ≡ Some (i, rest)
 after_again d (Ports h ns) ts rest w k o = let v = w.1 in from_head d h.direction h.at ts v.0 v.1 ∙ ports_item d h ns ts rest w k
 after_again d (Nets at s b xs) ts rest w k o = from d symbol.Wire ts w.0 (at_is symbol.Wire at ts w.0 w.1) ∙ nets_item d at s b xs ts rest w k
 after_again d (Variables at s b xs) ts rest w k o = from d symbol.Reg ts w.0 (at_is symbol.Reg at ts w.0 w.1) ∙ variables_item d at s b xs ts rest w k
@@ -168,11 +165,12 @@ after_again d (Parameters at parameter.Parameter b xs) ts rest w k o =
 after_again d (Parameters at parameter.Local b xs) ts rest w k o =
     from d symbol.Localparam ts w.0 (at_is symbol.Localparam at ts w.0 w.1) ∙ parameters_item d at parameter.Local b xs ts rest w k
 after_again d (Drives at p xs) ts rest w k o = from d symbol.Assign ts w.0 (at_is symbol.Assign at ts w.0 w.1) ∙ drives_item d at p xs ts rest w k
+after_again d (Gates at ns p xs) ts rest w k o = absurd w
 after_again d (Always at s body) ts rest w k o = from d symbol.Always ts w.0 (at_is symbol.Always at ts w.0 w.1) ∙ always_item d at s body ts rest w k o
 after_again d (Instances n ps xs) ts rest w k o = from d symbol.Name ts w.0 (name_is n ts w.0 w.1) ∙ instances_item d n ps xs ts rest w k
 
--- the symbols that an item may begin with, after its attributes or with them
-abbrev is_item : Symbol → Bool
+-- the symbols that an item may begin with after its attributes
+abbrev pub is_item : Symbol → Bool
 is_item symbol.Input = true
 is_item symbol.Output = true
 is_item symbol.Wire = true
@@ -185,20 +183,12 @@ is_item symbol.Always = true
 is_item symbol.Name = true
 is_item s = false
 
-abbrev is_marked : Symbol → Bool
-is_marked symbol.OpenAttribute = true
-is_marked s = is_item s
-
-item_marked : (s : Symbol) → is_item s ≡ true → is_marked s ≡ true
-item_marked symbol.OpenAttribute h = refl
-item_marked s h = h
-
 direction_item : (s : Symbol) → is_direction s ≡ true → is_item s ≡ true
 direction_item symbol.Input h = refl
 direction_item symbol.Output h = refl
 direction_item s h = absurd (cc)
 
-item_opens : (i : ModuleItem) (ts rest : List Terminal) → IsItem i ts rest → Opens is_item ts
+pub item_opens : (i : ModuleItem) (ts rest : List Terminal) → IsItem i ts rest → Opens is_item ts
 item_opens (Ports h ns) ts rest w = wider is_direction is_item direction_item ts (head_opens h ts w.0 w.1)
 item_opens (Nets at s b xs) ts rest w = let v = w.1 in opens_by is_item symbol.Wire ts w.0 v.0 v.1 v.2.0 refl
 item_opens (Variables at s b xs) ts rest w = let v = w.1 in opens_by is_item symbol.Reg ts w.0 v.0 v.1 v.2.0 refl
@@ -206,19 +196,9 @@ item_opens (Integers at ns) ts rest w = let v = w.1 in opens_by is_item symbol.I
 item_opens (Parameters at parameter.Parameter b xs) ts rest w = let v = w.1 in opens_by is_item symbol.Parameter ts w.0 v.0 v.1 v.2.0 refl
 item_opens (Parameters at parameter.Local b xs) ts rest w = let v = w.1 in opens_by is_item symbol.Localparam ts w.0 v.0 v.1 v.2.0 refl
 item_opens (Drives at p xs) ts rest w = let v = w.1 in opens_by is_item symbol.Assign ts w.0 v.0 v.1 v.2.0 refl
+item_opens (Gates at ns p xs) ts rest w = absurd w
 item_opens (Always at s body) ts rest w = let v = w.1 in opens_by is_item symbol.Always ts w.0 v.0 v.1 v.2.0 refl
 item_opens (Instances n ps xs) ts rest w = let v = w.1 in opens_by is_item symbol.Name ts w.0 v.0 v.1 v.2.0 refl
-
-marked_opens : (m : List (List Identifier)) (ts mid : List Terminal) → AreAttributes m ts mid → Opens is_item mid → Opens is_marked ts
-marked_opens [] ts mid w o = wider is_item is_marked item_marked ts (subst (Opens is_item) (sym w) o)
-marked_opens (ns ∷ m) ts mid w o = let x = w.1 in let y = x.1 in opens_by is_marked symbol.OpenAttribute ts x.0 y.0 y.1 y.2 refl
-
-pub item_again : (d : ℕ) → Again item_depth d (item d) IsMarkedItem NoElse
-unfolding item
-item_again d i ts rest w k o =
-    let v = w.1 in
-    bind (attributes ts) (λ _. item_after d) (marks_of w.0) v.0 (attributes_again w.0 ts v.0 v.1 (opens_not is_item symbol.OpenAttribute v.0 refl (item_opens i v.0 rest v.2)))
-    ∙ after_again d i v.0 rest v.2 k o
 
 bounds_shrink : (b : Option Bounds) → Shrinks (IsOptional IsBounds b)
 bounds_shrink b ts rest w = optional_shrinks IsBounds bounds_shrinks b ts rest w
@@ -228,7 +208,7 @@ head_shorter h ts rest w =
     let a = w.2 in let b = a.2 in let c = b.2 in
     omega (arith, ap length w.1.1, optional_shrinks IsKind (λ x us vs m. omega (arith, ap length m.1)) h.kind w.0 a.0 a.1, flag_shrinks symbol.Signed h.signed a.0 b.0 b.1, bounds_shrink h.bounds b.0 rest c)
 
-item_shorter : (i : ModuleItem) → Consumes (IsItem i)
+pub item_shorter : (i : ModuleItem) → Consumes (IsItem i)
 item_shorter (Ports h ns) ts rest w = let a = w.2 in omega (arith, head_shorter h ts w.0 w.1, listed_shrinks IsName name_shrinks ns w.0 a.0 a.1, ap length a.2.1)
 item_shorter (Nets at s b xs) ts rest w =
     let a = w.2 in let c = a.2 in let e = c.2 in
@@ -241,18 +221,11 @@ item_shorter (Parameters at q b xs) ts rest w =
     let a = w.2 in let c = a.2 in omega (arith, ap length w.1.1, bounds_shrink b w.0 a.0 a.1, valuations_shrink xs a.0 c.0 c.1, ap length c.2.1)
 item_shorter (Drives at p xs) ts rest w =
     let a = w.2 in let c = a.2 in omega (arith, ap length w.1.1, optional_shorter p w.0 a.0 a.1, drives_shrink xs a.0 c.0 c.1, ap length c.2.1)
+item_shorter (Gates at ns p xs) ts rest w = absurd w
 item_shorter (Always at s body) ts rest w =
     let a = w.2 in let c = a.2 in omega (arith, ap length w.1.1, ap length a.1.1, sensitivity_shrinks s a.0 c.0 c.1, statement_shorter body c.0 rest c.2)
 item_shorter (Instances n ps xs) ts rest w =
     let a = w.2 in let c = a.2 in omega (arith, ap length w.1.1, overrides_shrink ps w.0 a.0 a.1, instantiations_shrink xs a.0 c.0 c.1, ap length c.2.1)
-
-pub item_begins : Begins IsMarkedItem symbol.Endmodule NoElse
-item_begins =
-    record {
-      consumes = λ i ts rest w. let v = w.1 in omega (arith, attributes_shorter w.0 ts v.0 v.1, item_shorter i v.0 rest v.2);
-      other = λ i ts rest w. let v = w.1 in opens_not is_marked symbol.Endmodule ts refl (marked_opens w.0 ts v.0 v.1 (item_opens i v.0 rest v.2));
-      follows = λ i ts rest w. let v = w.1 in opens_not is_marked symbol.Else ts refl (marked_opens w.0 ts v.0 v.1 (item_opens i v.0 rest v.2));
-    }
 
 pub head_shrinks : (h : Head) → Shrinks (IsHead h)
 head_shrinks h ts rest w = let l = head_shorter h ts rest w in omega (arith, l)

@@ -1,23 +1,21 @@
 -- What is spelled is read: names, and lists in items.
-use Rattle.std.proofs.Common.{◌≡◌, ◌⊎◌, ℕ, zero, suc, ◌≤◌, ◌<◌, Bool, true, false, List, [], ◌∷◌, length, Option, Some, None, refl, sym, ap, subst, ◌∙◌, inl, inr, max, arith}
+use Rattle.std.proofs.Common.{◌≡◌, ℕ, ◌≤◌, Bool, true, false, List, [], ◌∷◌, length, Option, Some, None, refl, ap, ◌∙◌, arith}
 use Rattle.rtl_tree.specs.declared.symbol.Symbol.{Symbol}
 use Rattle.rtl_tree.specs.declared.symbol.Symbol.TheVariants as symbol
 use Rattle.rtl_tree.specs.Symbols.{Terminal}
 use Rattle.rtl_tree.specs.TreeExpr.{Identifier, Formula, Bounds}
 use Rattle.rtl_tree.specs.TreeItem.{Net, Variable, Valuation, Drive}
-use Rattle.rtl_tree.specs.Depth.{greatest, if_any, formula_depth, bounds_depth, net_depth, valuation_depth, drive_depth}
-use Rattle.rtl_tree.specs.Grammar.{Spelling, ◌⨾◌, IsA, IsAt, IsName, IsOptional, IsFlag, AreMore, AreListed}
-use Rattle.rtl_tree.specs.GrammarExpr.{IsFormula, IsExpression, IsBounds}
+use Rattle.rtl_tree.specs.Depth.{greatest, if_any, formula_depth, net_depth, valuation_depth, drive_depth}
+use Rattle.rtl_tree.specs.Grammar.{Spelling, IsA, IsName, IsOptional, IsFlag, AreMore, AreListed}
+use Rattle.rtl_tree.specs.GrammarExpr.{IsExpression, IsBounds}
 use Rattle.rtl_tree.specs.GrammarItem.{IsValue, IsNet, IsInitial, IsVariable, IsValuation, IsDrive}
-use Rattle.text_build.specs.declared.attributes.Role.TheVariants as role
-use Rattle.text_build.specs.Reading.{Parser, and_then, ◌>>=◌, ◌>>◌, pure, same_symbol, starts, after, name, advance, mark, optional, listed}
-use Rattle.text_build.specs.ReadingExpr.{climb, bounds}
-use Rattle.text_build.specs.ReadingStmt.{role_of, past, after_value, target}
-use Rattle.text_build.specs.ReadingItem.{any_expression, range, flag, value, net, initial, variable, valuation, drive}
-use Rattle.text_build.proofs.Laws.Tokens.{at_is, name_is, mark_then, starts_is, starts_not, after_is, after_not, name_again, bind, optional_there, optional_absent}
+use Rattle.text_build.specs.Reading.{◌>>=◌, pure, same_symbol, starts, name, optional, listed}
+use Rattle.text_build.specs.ReadingStmt.{past, after_value, target}
+use Rattle.text_build.specs.ReadingItem.{any_expression, value, net, initial, variable, valuation, drive}
+use Rattle.text_build.proofs.Laws.Tokens.{starts_is, starts_not, after_not, name_again, bind, optional_there, optional_absent}
 use Rattle.text_build.proofs.Laws.Repeats.{Again, Shrinks, CommaEnds, listed_again}
-use Rattle.text_build.proofs.Laws.Follows.{Stops, is_stop, stop_stops, Opens, opens_by, opens_not, formula_shorter}
-use Rattle.text_build.proofs.Laws.Chains.{expression_again, bounds_again}
+use Rattle.text_build.proofs.Laws.Follows.{Stops, stop_stops, formula_shorter}
+use Rattle.text_build.proofs.Laws.Chains.{expression_again}
 use Rattle.text_build.proofs.Laws.Heads.{value_again}
 use Rattle.text_build.proofs.Laws.Passes.{past_ends}
 use Rattle.text_build.proofs.Laws.Attributes.{no_value, formula_passed}
@@ -53,15 +51,15 @@ pub name_shrinks : (n : Identifier) → Shrinks (IsName n)
 name_shrinks n ts rest w = omega (arith, ap length w.1)
 
 pub expression_shrinks : (f : Formula) → Shrinks (IsExpression f)
-expression_shrinks f ts rest w = let l = formula_shorter 11 f ts rest w in omega (arith, l)
+expression_shrinks f ts rest w = let l = formula_shorter 12 f ts rest w in omega (arith, l)
 
 pub bounds_shrinks : (b : Bounds) → Shrinks (IsBounds b)
 bounds_shrinks b ts rest w =
     let x = w.2 in let y = x.2 in let z = y.2 in
-    omega (arith, ap length w.1.1, formula_shorter 11 b.msb w.0 x.0 x.1, ap length y.1.1, formula_shorter 11 b.lsb y.0 z.0 z.1, ap length z.2.1)
+    omega (arith, ap length w.1.1, formula_shorter 12 b.msb w.0 x.0 x.1, ap length y.1.1, formula_shorter 12 b.lsb y.0 z.0 z.1, ap length z.2.1)
 
 pub value_shrinks : (v : Formula) → Shrinks (IsValue v)
-value_shrinks v ts rest w = omega (arith, ap length w.1.1, formula_shorter 11 v w.0 rest w.2)
+value_shrinks v ts rest w = omega (arith, ap length w.1.1, formula_shorter 12 v w.0 rest w.2)
 
 -- ---- names
 
@@ -74,13 +72,13 @@ names_again s ns ts mid rest w m k =
 
 -- ---- values
 
-pub any_again : (d : ℕ) (f : Formula) (ts rest : List Terminal) → IsExpression f ts rest → formula_depth f ≤ d → Stops 11 rest → any_expression d ts ≡ Some (f, rest)
+pub any_again : (d : ℕ) (f : Formula) (ts rest : List Terminal) → IsExpression f ts rest → formula_depth f ≤ d → Stops 12 rest → any_expression d ts ≡ Some (f, rest)
 unfolding any_expression
 any_again d f ts rest w h s = expression_again d f ts rest w h s
 
 -- what may follow a name with a value or without one
 pub record Bare (ts : List Terminal) : Type 0 where
-  pub stops : Stops 11 ts
+  pub stops : Stops 12 ts
   pub plain : starts symbol.Equals ts ≡ false
   pub ended : past 0 ts ≡ ts
 

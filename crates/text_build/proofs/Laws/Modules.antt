@@ -1,5 +1,5 @@
 -- What is spelled is read: modules, and so no tokens spell two lists of modules.
-use Rattle.std.proofs.Common.{◌≡◌, ◌⊎◌, ℕ, zero, suc, ◌≤◌, ◌<◌, Bool, true, false, ◌||◌, List, [], ◌∷◌, ◌++◌, length, Option, Some, None, refl, sym, ap, subst, ◌∙◌, max, append_assoc, append-nil, All, Result, Ok, Err, Vec, Global, map, arith}
+use Rattle.std.proofs.Common.{◌≡◌, ℕ, zero, suc, ◌≤◌, ◌<◌, true, false, ◌||◌, List, [], ◌∷◌, ◌++◌, length, Option, Some, None, refl, sym, ap, subst, ◌∙◌, max, append_assoc, append-nil, All, Result, Ok, Err, Vec, Global, map, arith}
 use Rattle.std.specs.List.{filter}
 use Rattle.text_ground.specs.declared.dropped.Dropped.{Dropped}
 use Rattle.rtl_tree.specs.declared.symbol.Symbol.{Symbol}
@@ -8,14 +8,16 @@ use Rattle.rtl_tree.specs.declared.tree.item.Direction.{Direction}
 use Rattle.rtl_tree.specs.declared.tree.item.Direction.TheVariants as direction
 use Rattle.rtl_tree.specs.Symbols.{Terminal}
 use Rattle.rtl_tree.specs.TreeExpr.{Identifier}
-use Rattle.rtl_tree.specs.TreeItem.{Head, ModuleItem}
-use Rattle.rtl_tree.specs.declared.tree.modules.Module.{Module}
-use Rattle.rtl_tree.specs.TreeModule.{Heading, HeaderParameter, HeaderPort, Header, Absent, Empty, Declared, Named, Circuit}
-use Rattle.rtl_tree.specs.TreeModule.{circuit as view}
-use Rattle.rtl_tree.specs.Depth.{greatest, if_any, bounds_depth, head_depth, item_depth, header_parameter_depth, header_port_depth, header_depth, depth}
-use Rattle.rtl_tree.specs.Grammar.{◌⨾◌, IsA, IsAt, IsName, IsOptional, AreAll, AreMore, AreListed}
+use Rattle.rtl_tree.specs.TreeItem.{Head}
+use Rattle.rtl_tree.specs.TreeGate.{WrittenItem}
+use Rattle.rtl_tree.specs.declared.tree.modules.WrittenModule.{WrittenModule}
+use Rattle.rtl_tree.specs.TreeModule.{Heading, HeaderParameter, HeaderPort, Header, Absent, Empty, Declared, Named, WrittenCircuit}
+use Rattle.rtl_tree.specs.TreeModule.{written_circuit as view}
+use Rattle.rtl_tree.specs.Depth.{greatest, if_any, bounds_depth, head_depth, written_depth, header_parameter_depth, header_port_depth, header_depth, depth}
+use Rattle.rtl_tree.specs.Grammar.{IsA, IsAt, IsName, IsOptional, AreAll, AreMore, AreListed}
 use Rattle.rtl_tree.specs.GrammarExpr.{IsBounds}
-use Rattle.rtl_tree.specs.GrammarItem.{direction_symbol, IsHead, IsMarkedItem}
+use Rattle.rtl_tree.specs.GrammarItem.{direction_symbol, IsHead}
+use Rattle.rtl_tree.specs.GrammarGate.{IsMarkedItem}
 use Rattle.rtl_tree.specs.GrammarModule.{IsHeading, IsParameter, AreParameters, IsPort, IsHeader, IsThere, is_between, IsCircuit, IsMarkedCircuit, AreCircuits, AreSpelled}
 use Rattle.text_build.specs.declared.fault.BuildFault.{BuildFault}
 use Rattle.text_build.specs.declared.fault.BuildFault.TheVariants as fault
@@ -25,17 +27,18 @@ use Rattle.text_build.specs.ReadingStmt.{attributes}
 use Rattle.text_build.specs.ReadingItem.{range, value, port_head}
 use Rattle.text_build.specs.ReadingModule.{item, heading, parameter, parameters_of, parameters, starts_head, own_head, port, declared, named, empty, port_list, header, circuit_after, circuit, is_more, circuits}
 use Rattle.text_build.proofs.Steps.{turns_go, turns_stop, add_some}
-use Rattle.text_build.proofs.Laws.Tokens.{at_is, name_is, mark_at, mark_then, advance_at, advance_then, starts_is, starts_not, name_again, bind, either_first, either_second, optional_there, optional_absent}
-use Rattle.text_build.proofs.Laws.Repeats.{Again, Shrinks, Consumes, Rows, CommaEnds, more_furthers, listed_from, until_again}
+use Rattle.text_build.proofs.Laws.Tokens.{at_is, mark_at, mark_then, advance_at, advance_then, starts_is, starts_not, name_again, bind, either_first, either_second, optional_there, optional_absent}
+use Rattle.text_build.proofs.Laws.Repeats.{Again, Shrinks, Consumes, Rows, more_furthers, listed_from, until_again}
 use Rattle.text_build.proofs.Laws.Follows.{Stops, stop_stops}
 use Rattle.text_build.proofs.Laws.Exprs.{stop_ends}
 use Rattle.text_build.proofs.Laws.Attributes.{marks_of, attributes_again, attributes_shorter}
 use Rattle.text_build.proofs.Laws.Statements.{NoElse, no_else_is}
 use Rattle.text_build.proofs.Laws.Heads.{name_opens, range_again, head_again, value_again}
 use Rattle.text_build.proofs.Laws.Lists.{ends_by, names_again, more_shrinks, listed_shrinks, optional_shrinks, name_shrinks, bounds_shrinks, value_shrinks}
-use Rattle.text_build.proofs.Laws.Items.{item_again, item_begins, head_shrinks}
+use Rattle.text_build.proofs.Laws.Items.{head_shrinks}
+use Rattle.text_build.proofs.Laws.Written.{item_again, item_begins}
 
-comma_stops : (ts mid : List Terminal) → IsA symbol.Comma ts mid → Stops 11 ts
+comma_stops : (ts mid : List Terminal) → IsA symbol.Comma ts mid → Stops 12 ts
 comma_stops ts mid w = stop_stops symbol.Comma ts mid refl w
 
 not_name : (s : Symbol) (n : Identifier) (ts rest : List Terminal) → IsName n ts rest → same_symbol symbol.Name s ≡ false → starts s ts ≡ false
@@ -60,7 +63,7 @@ optional_heading d None n ts mid rest w k m =
 optional_heading d (Some h) n ts mid rest w k m =
     optional_there symbol.Parameter (heading d) h ts mid (starts_is symbol.Parameter ts w.0 w.1.0 w.1.1 w.1.2.0) (heading_again d h n ts mid rest w k m)
 
-parameter_again : (d : ℕ) → Again header_parameter_depth d (parameter d) IsParameter (Stops 11)
+parameter_again : (d : ℕ) → Again header_parameter_depth d (parameter d) IsParameter (Stops 12)
 unfolding parameter
 parameter_again d p ts rest w k s =
     let a = w.2 in
@@ -88,7 +91,7 @@ parameters_again d (p ∷ ps) ts rest v k s =
     either_first (starts symbol.Hash) (parameters_of d) (pure []) ts (starts_is symbol.Hash ts w.0 w.1.0 w.1.1 w.1.2)
     ∙ ap (λ o. and_then (and_then o (λ _. listed (parameter d))) (λ all. mark symbol.CloseParen >> pure all)) (advance_then symbol.Hash (mark symbol.OpenParen) ts w.0 w.1)
     ∙ ap (λ o. and_then o (λ all. mark symbol.CloseParen >> pure all)) (mark_then symbol.OpenParen (listed (parameter d)) w.0 a.0 a.1
-    ∙ listed_from IsParameter (AreMore IsParameter) (Stops 11) header_parameter_depth d (parameter d) (parameter_again d) parameter_shrinks comma_stops (more_furthers IsParameter) p ps a.0 b.0 c.0 b.1 c.1 k
+    ∙ listed_from IsParameter (AreMore IsParameter) (Stops 12) header_parameter_depth d (parameter d) (parameter_again d) parameter_shrinks comma_stops (more_furthers IsParameter) p ps a.0 b.0 c.0 b.1 c.1 k
     (stop_ends symbol.CloseParen c.0 rest refl refl c.2))
     ∙ mark_then symbol.CloseParen (pure (p ∷ ps)) c.0 rest c.2
 
@@ -210,21 +213,21 @@ header_shrinks (Named ns) ts rest w = let a = w.2 in omega (arith, ap length w.1
 rows_of : Rows IsMarkedItem (AreAll IsMarkedItem)
 rows_of = record { at_end = λ ts rest w. w; goes_on = λ x xs ts rest w. w }
 
-items_again : (d : ℕ) (is : List ModuleItem) (at : ℕ) (ts mid rest : List Terminal) → AreAll IsMarkedItem is ts mid → greatest item_depth is ≤ d → IsAt symbol.Endmodule at mid rest
+items_again : (d : ℕ) (is : List WrittenItem) (at : ℕ) (ts mid rest : List Terminal) → AreAll IsMarkedItem is ts mid → greatest written_depth is ≤ d → IsAt symbol.Endmodule at mid rest
     → until symbol.Endmodule (item d) ts ≡ Some (is, mid)
 unfolding same_symbol
 items_again d is at ts mid rest w k m =
-    until_again IsMarkedItem (AreAll IsMarkedItem) symbol.Endmodule NoElse item_depth d (item d) (item_again d) item_begins rows_of is ts mid w k
+    until_again IsMarkedItem (AreAll IsMarkedItem) symbol.Endmodule NoElse written_depth d (item d) (item_again d) item_begins rows_of is ts mid w k
     (no_else_is symbol.Endmodule mid rest (at_is symbol.Endmodule at mid rest m) refl) (starts_is symbol.Endmodule mid rest m.0 m.1 m.2.0)
 
-items_shrink : (is : List ModuleItem) → Shrinks (AreAll IsMarkedItem is)
+items_shrink : (is : List WrittenItem) → Shrinks (AreAll IsMarkedItem is)
 items_shrink [] ts rest w = omega (arith, ap length w)
 items_shrink (i ∷ is) ts rest w = omega (arith, item_begins.consumes i ts w.0 w.1, items_shrink is w.0 rest w.2)
 
-abbrev of_parts : List Dropped → ℕ → Identifier → List HeaderParameter → Header → List ModuleItem → ℕ → Circuit
+abbrev of_parts : List Dropped → ℕ → Identifier → List HeaderParameter → Header → List WrittenItem → ℕ → WrittenCircuit
 of_parts regions at n ps h is last = record { at = at; name = n; parameters = ps; header = h; items = is; dropped = filter (is_between at last) regions }
 
-after_again : (d : ℕ) (regions : List Dropped) (c : Circuit) (ts rest : List Terminal) → IsCircuit regions c ts rest → depth c ≤ d → circuit_after d regions ts ≡ Some (c, rest)
+after_again : (d : ℕ) (regions : List Dropped) (c : WrittenCircuit) (ts rest : List Terminal) → IsCircuit regions c ts rest → depth c ≤ d → circuit_after d regions ts ≡ Some (c, rest)
 unfolding circuit_after
 after_again d regions c ts rest v k =
     let w = v.2 in
@@ -244,12 +247,12 @@ after_again d regions c ts rest v k =
     ∙ bind (mark symbol.Endmodule g.0) (λ last. pure (of_parts regions c.at c.name c.parameters c.header c.items last)) v.0 rest (mark_at symbol.Endmodule v.0 g.0 rest g.2)
     ∙ ap (λ x. Some (record { at = c.at; name = c.name; parameters = c.parameters; header = c.header; items = c.items; dropped = x }, rest)) (sym v.1)
 
-circuit_shorter : (regions : List Dropped) (c : Circuit) → Consumes (IsCircuit regions c)
+circuit_shorter : (regions : List Dropped) (c : WrittenCircuit) → Consumes (IsCircuit regions c)
 circuit_shorter regions c ts rest v =
     let w = v.2 in let a = w.2 in let b = a.2 in let e = b.2 in let f = e.2 in let g = f.2 in
     omega (arith, ap length w.1.1, ap length a.1.1, parameters_shrink c.parameters a.0 b.0 b.1, header_shrinks c.header b.0 e.0 e.1, ap length f.1.1, items_shrink c.items f.0 g.0 g.1, ap length g.2.1)
 
-circuit_again : (d : ℕ) (regions : List Dropped) (c : Circuit) (ts rest : List Terminal) → IsMarkedCircuit regions c ts rest → depth c ≤ d → circuit d regions ts ≡ Some (c, rest)
+circuit_again : (d : ℕ) (regions : List Dropped) (c : WrittenCircuit) (ts rest : List Terminal) → IsMarkedCircuit regions c ts rest → depth c ≤ d → circuit d regions ts ≡ Some (c, rest)
 unfolding circuit same_symbol
 circuit_again d regions c ts rest w k =
     let v = w.1 in
@@ -258,14 +261,14 @@ circuit_again d regions c ts rest w k =
     (attributes_again w.0 ts v.0 v.1 (starts_not symbol.OpenAttribute symbol.Module v.0 m.0 m.1.0 m.1.1 m.1.2.0 refl))
     ∙ after_again d regions c v.0 rest v.2 k
 
-marked_shorter : (regions : List Dropped) (c : Circuit) → Consumes (IsMarkedCircuit regions c)
+marked_shorter : (regions : List Dropped) (c : WrittenCircuit) → Consumes (IsMarkedCircuit regions c)
 marked_shorter regions c ts rest w = let v = w.1 in omega (arith, attributes_shorter w.0 ts v.0 v.1, circuit_shorter regions c v.0 rest v.2)
 
 more_is : (ts rest : List Terminal) → length rest < length ts → is_more ts ≡ true
 more_is [] rest h = absurd (omega arith)
 more_is (t ∷ ts) rest h = refl
 
-turns_again : (n d : ℕ) (regions : List Dropped) (found cs : List Circuit) (ts : List Terminal) → length ts ≤ n → AreCircuits regions cs ts [] → greatest depth cs ≤ d
+turns_again : (n d : ℕ) (regions : List Dropped) (found cs : List WrittenCircuit) (ts : List Terminal) → length ts ≤ n → AreCircuits regions cs ts [] → greatest depth cs ≤ d
     → turns n is_more (add (circuit d regions)) found ts ≡ Some (found ++ cs, [])
 turns_again n d regions found [] ts l w k =
     turns_stop n is_more (add (circuit d regions)) found ts (ap is_more w) ∙ ap (λ x. Some (found, x)) w ∙ ap (λ x. Some (x, [])) (sym (append-nil found))
@@ -278,11 +281,11 @@ turns_again (suc n) d regions found (c ∷ cs) ts l w k =
     ∙ ap (λ x. Some (x, [])) (append_assoc found (c ∷ []) cs)
 
 -- what is spelled is read as just that
-pub circuits_again : (d : ℕ) (regions : List Dropped) (ts : List Terminal) (cs : List Circuit) → AreSpelled regions ts cs → greatest depth cs ≤ d → circuits d regions ts ≡ Some (cs, [])
+pub circuits_again : (d : ℕ) (regions : List Dropped) (ts : List Terminal) (cs : List WrittenCircuit) → AreSpelled regions ts cs → greatest depth cs ≤ d → circuits d regions ts ≡ Some (cs, [])
 unfolding circuits repeat
 circuits_again d regions ts cs w k = turns_again (length ts) d regions [] cs ts (omega arith) w.spelled k
 
-pub all_below : (d : ℕ) (cs : List Circuit) → All (λ c. depth c ≤ d) cs → greatest depth cs ≤ d
+pub all_below : (d : ℕ) (cs : List WrittenCircuit) → All (λ c. depth c ≤ d) cs → greatest depth cs ≤ d
 all_below d [] h = omega arith
 all_below d (c ∷ cs) h =
     let first : depth c ≤ d = h 0 c (omega arith) in
@@ -293,8 +296,8 @@ all_below d (c ∷ cs) h =
 some_is : {A : Type 0} (x y : A) → Some x ≡ Some y → x ≡ y
 some_is x y h = cc
 
-same_first : (a b : List Circuit) → ◌≡◌ {A = Outcome (List Circuit)} (Some (a, [])) (Some (b, [])) → a ≡ b
-same_first a b h = ap (λ (p : List Circuit × List Terminal). p.0) (some_is (a, []) (b, []) h)
+same_first : (a b : List WrittenCircuit) → ◌≡◌ {A = Outcome (List WrittenCircuit)} (Some (a, [])) (Some (b, [])) → a ≡ b
+same_first a b h = ap (λ (p : List WrittenCircuit × List Terminal). p.0) (some_is (a, []) (b, []) h)
 
 pub spelled_once : SpelledOnce
 spelled_once regions ts a b u v =
@@ -304,17 +307,17 @@ spelled_once regions ts a b u v =
 -- ---- what the code answers
 
 -- what is read of a spelled text is what it spells
-pub built : (cs : List Circuit) (o : Outcome (List Circuit)) (r : Result (Vec Module Global) BuildFault) (rest : List Terminal) → o ≡ Some (cs, []) → Reads (λ (v : Vec Module Global). map view v.items) o r rest → IsBuilt cs r
+pub built : (cs : List WrittenCircuit) (o : Outcome (List WrittenCircuit)) (r : Result (Vec WrittenModule Global) BuildFault) (rest : List Terminal) → o ≡ Some (cs, []) → Reads (λ (v : Vec WrittenModule Global). map view v.items) o r rest → IsBuilt cs r
 built cs o (Ok v) rest e h =
-    let q : ◌≡◌ {A = Outcome (List Circuit)} (Some (map view v.items, rest)) (Some (cs, [])) = sym h ∙ e in
-    ap (λ (p : List Circuit × List Terminal). p.0) (some_is (map view v.items, rest) (cs, []) q)
-built cs o (Err fault.NotSpelled) rest e h = let q : ◌≡◌ {A = Outcome (List Circuit)} None (Some (cs, [])) = sym h ∙ e in absurd (cc)
+    let q : ◌≡◌ {A = Outcome (List WrittenCircuit)} (Some (map view v.items, rest)) (Some (cs, [])) = sym h ∙ e in
+    ap (λ (p : List WrittenCircuit × List Terminal). p.0) (some_is (map view v.items, rest) (cs, []) q)
+built cs o (Err fault.NotSpelled) rest e h = let q : ◌≡◌ {A = Outcome (List WrittenCircuit)} None (Some (cs, [])) = sym h ∙ e in absurd (cc)
 built cs o (Err fault.Memory) rest e h = tt
 
 -- where all is read that is spelled, nothing is left
-pub none_left : (cs : List Circuit) (o : Outcome (List Circuit)) (r : Result (Vec Module Global) BuildFault) (v : Vec Module Global) (rest : List Terminal) → o ≡ Some (cs, []) → Reads (λ (v : Vec Module Global). map view v.items) o r rest → r ≡ Ok v → is_more rest ≡ true → ⊥
+pub none_left : (cs : List WrittenCircuit) (o : Outcome (List WrittenCircuit)) (r : Result (Vec WrittenModule Global) BuildFault) (v : Vec WrittenModule Global) (rest : List Terminal) → o ≡ Some (cs, []) → Reads (λ (v : Vec WrittenModule Global). map view v.items) o r rest → r ≡ Ok v → is_more rest ≡ true → ⊥
 none_left cs o r v rest e h k more =
-    let read : ◌≡◌ {A = Outcome (List Circuit)} o (Some (map view v.items, rest)) = subst (λ r. Reads (λ (v : Vec Module Global). map view v.items) o r rest) k h in
-    let q : ◌≡◌ {A = Outcome (List Circuit)} (Some (map view v.items, rest)) (Some (cs, [])) = sym read ∙ e in
-    let z : true ≡ false = sym more ∙ ap (λ (p : List Circuit × List Terminal). is_more p.1) (some_is (map view v.items, rest) (cs, []) q) in
+    let read : ◌≡◌ {A = Outcome (List WrittenCircuit)} o (Some (map view v.items, rest)) = subst (λ r. Reads (λ (v : Vec WrittenModule Global). map view v.items) o r rest) k h in
+    let q : ◌≡◌ {A = Outcome (List WrittenCircuit)} (Some (map view v.items, rest)) (Some (cs, [])) = sym read ∙ e in
+    let z : true ≡ false = sym more ∙ ap (λ (p : List WrittenCircuit × List Terminal). is_more p.1) (some_is (map view v.items, rest) (cs, []) q) in
     absurd (cc)

@@ -1,15 +1,14 @@
 -- What statements and the items of a case begin with, and that nothing is longer after they were read.
-use Rattle.std.proofs.Common.{◌≡◌, ◌⊎◌, ℕ, ◌≤◌, ◌<◌, Bool, true, false, List, [], ◌∷◌, length, Option, Some, None, refl, sym, ap, subst, ◌∙◌, inl, inr, arith}
+use Rattle.std.proofs.Common.{◌≡◌, ◌≤◌, ◌<◌, Bool, true, false, List, [], ◌∷◌, length, Option, Some, None, refl, sym, ap, subst, inl, inr, arith}
 use Rattle.rtl_tree.specs.declared.symbol.Symbol.{Symbol}
 use Rattle.rtl_tree.specs.declared.symbol.Symbol.TheVariants as symbol
 use Rattle.rtl_tree.specs.declared.tree.stmt.CaseKind.TheVariants as kind
 use Rattle.rtl_tree.specs.Symbols.{Terminal}
 use Rattle.rtl_tree.specs.TreeExpr.{Identifier, Formula}
 use Rattle.rtl_tree.specs.TreeStmt.{Action, Null, Delayed, Assign, If, IfElse, Case, For, Block, Actions, no_actions, more_actions, Branch, Labelled, Default, Branches, no_branches, more_branches}
-use Rattle.rtl_tree.specs.Grammar.{◌⨾◌, IsA, IsOptional, AreMore, AreListed}
+use Rattle.rtl_tree.specs.Grammar.{IsOptional, AreMore, AreListed}
 use Rattle.rtl_tree.specs.GrammarExpr.{IsExpression}
 use Rattle.rtl_tree.specs.GrammarStmt.{AreAttributes, IsLabel, IsDefaultEnd, IsAction, AreStatements, IsBranch, AreBranches, AreMoreBranches, IsStatement}
-use Rattle.text_build.specs.Reading.{starts}
 use Rattle.text_build.proofs.Laws.Follows.{is_start, Opens, opens_by, formula_opens, formula_shorter}
 use Rattle.text_build.proofs.Laws.Attributes.{attributes_shorter}
 use Rattle.text_build.proofs.Laws.Targets.{is_target, target_opens, target_shorter, pause_shorter, optional_shorter}
@@ -75,7 +74,7 @@ start_branch s h = h
 
 pub listed_opens : (labels : List Formula) (ts rest : List Terminal) → AreListed IsExpression labels ts rest → Opens is_start ts
 listed_opens [] ts rest w = absurd w
-listed_opens (f ∷ fs) ts rest w = formula_opens 11 f ts w.0 w.1
+listed_opens (f ∷ fs) ts rest w = formula_opens 12 f ts w.0 w.1
 
 pub branch_opens : (b : Branch) (ts rest : List Terminal) → IsBranch b ts rest → Opens is_branch ts
 branch_opens (Labelled labels body) ts rest w = weaker is_start is_branch start_branch ts (listed_opens labels ts w.0 w.1)
@@ -85,11 +84,11 @@ branch_opens (Default at body) ts rest w = let x = w.1 in opens_by is_branch sym
 
 more_shorter : (fs : List Formula) (ts rest : List Terminal) → AreMore IsExpression fs ts rest → length rest ≤ length ts
 more_shorter [] ts rest w = omega (arith, ap length w)
-more_shorter (f ∷ fs) ts rest w = let a = w.2 in omega (arith, ap length w.1.1, formula_shorter 11 f w.0 a.0 a.1, more_shorter fs a.0 rest a.2)
+more_shorter (f ∷ fs) ts rest w = let a = w.2 in omega (arith, ap length w.1.1, formula_shorter 12 f w.0 a.0 a.1, more_shorter fs a.0 rest a.2)
 
 labels_shorter : (fs : List Formula) (ts rest : List Terminal) → AreListed IsExpression fs ts rest → length rest < length ts
 labels_shorter [] ts rest w = absurd w
-labels_shorter (f ∷ fs) ts rest w = omega (arith, formula_shorter 11 f ts w.0 w.1, more_shorter fs w.0 rest w.2)
+labels_shorter (f ∷ fs) ts rest w = omega (arith, formula_shorter 12 f ts w.0 w.1, more_shorter fs w.0 rest w.2)
 
 label_shorter : (l : Option Identifier) (ts rest : List Terminal) → IsOptional IsLabel l ts rest → length rest ≤ length ts
 label_shorter None ts rest w = omega (arith, ap length w)
@@ -105,17 +104,17 @@ mutual
   action_shorter (Delayed p body) m ts rest w = let a = w.2 in let b = a.1 in omega (arith, pause_shorter p ts w.0 w.1, attributes_shorter a.0 w.0 b.0 b.1, action_shorter body a.0 b.0 rest b.2)
   action_shorter (Assign t k p v) m ts rest w =
       let a = w.2 in let b = a.2 in let c = b.2 in
-      omega (arith, target_shorter t ts w.0 w.1, ap length a.1.1, optional_shorter p a.0 b.0 b.1, formula_shorter 11 v b.0 c.0 c.1, ap length c.2.1)
+      omega (arith, target_shorter t ts w.0 w.1, ap length a.1.1, optional_shorter p a.0 b.0 b.1, formula_shorter 12 v b.0 c.0 c.1, ap length c.2.1)
   action_shorter (If at x t) m ts rest w =
       let a = w.2 in let b = a.2 in let c = b.2 in let e = c.2 in let f = e.1 in
-      omega (arith, ap length w.1.1, ap length a.1.1, formula_shorter 11 x a.0 b.0 b.1, ap length c.1.1, attributes_shorter e.0 c.0 f.0 f.1, action_shorter t e.0 f.0 rest f.2)
+      omega (arith, ap length w.1.1, ap length a.1.1, formula_shorter 12 x a.0 b.0 b.1, ap length c.1.1, attributes_shorter e.0 c.0 f.0 f.1, action_shorter t e.0 f.0 rest f.2)
   action_shorter (IfElse at x t o) m ts rest w =
       let v = w.1 in let a = v.2 in let b = a.2 in let c = b.2 in let e = c.2 in let y = e.1 in let f = y.1 in let g = e.2 in let z = g.2 in let h = z.1 in
       omega (
         arith,
         ap length v.1.1,
         ap length a.1.1,
-        formula_shorter 11 x a.0 b.0 b.1,
+        formula_shorter 12 x a.0 b.0 b.1,
         ap length c.1.1,
         attributes_shorter y.0 c.0 f.0 f.1,
         action_shorter t y.0 f.0 e.0 f.2,
@@ -125,7 +124,7 @@ mutual
       )
   action_shorter (Case at k f p s bs) m ts rest w =
       let v = w.5 in let a = v.2 in let b = a.2 in let c = b.2 in let e = c.2 in
-      omega (arith, ap length v.1.1, ap length a.1.1, formula_shorter 11 s a.0 b.0 b.1, ap length c.1.1, first_shorter bs c.0 e.0 e.1, ap length e.2.1)
+      omega (arith, ap length v.1.1, ap length a.1.1, formula_shorter 12 s a.0 b.0 b.1, ap length c.1.1, first_shorter bs c.0 e.0 e.1, ap length e.2.1)
   action_shorter (For at i s x n e body) m ts rest w =
       let a = w.2 in let b = a.2 in let c = b.2 in let f = c.2 in let g = f.2 in let h = g.2 in let j = h.2 in let k = j.2 in let l = k.2 in let o = l.2 in let q = o.2 in let r = q.2 in let u = r.1 in
       omega (
@@ -134,13 +133,13 @@ mutual
         ap length a.1.1,
         ap length b.1.1,
         ap length c.1.1,
-        formula_shorter 11 s c.0 f.0 f.1,
+        formula_shorter 12 s c.0 f.0 f.1,
         ap length g.1.1,
-        formula_shorter 11 x g.0 h.0 h.1,
+        formula_shorter 12 x g.0 h.0 h.1,
         ap length j.1.1,
         ap length k.1.1,
         ap length l.1.1,
-        formula_shorter 11 e l.0 o.0 o.1,
+        formula_shorter 12 e l.0 o.0 o.1,
         ap length q.1.1,
         attributes_shorter r.0 q.0 u.0 u.1,
         action_shorter body r.0 u.0 rest u.2,

@@ -1,16 +1,19 @@
 -- The pass over a value goes over just an expression, however deep it is nested.
-use Rattle.std.proofs.Common.{◌≡◌, ◌⊎◌, ℕ, zero, suc, ◌+◌, ◌-◌, Bool, true, false, List, [], ◌∷◌, Option, Some, None, refl, sym, ap, ◌∙◌, inl, inr, arith}
+use Rattle.std.proofs.Common.{◌≡◌, ℕ, suc, ◌+◌, ◌-◌, List, ◌∷◌, Some, refl, sym, ap, ◌∙◌, arith}
 use Rattle.rtl_tree.specs.declared.symbol.Symbol.{Symbol}
 use Rattle.rtl_tree.specs.declared.symbol.Symbol.TheVariants as symbol
 use Rattle.rtl_tree.specs.declared.tree.operators.BinaryOperator.{BinaryOperator}
 use Rattle.rtl_tree.specs.declared.tree.operators.BinaryOperator.TheVariants as binary
 use Rattle.rtl_tree.specs.declared.tree.operators.UnaryOperator.{UnaryOperator}
 use Rattle.rtl_tree.specs.declared.tree.operators.UnaryOperator.TheVariants as unary
-use Rattle.rtl_tree.specs.declared.tree.operators.Signedness.TheVariants as sign
+use Rattle.rtl_tree.specs.declared.tree.operators.SystemFunction.{SystemFunction}
+use Rattle.rtl_tree.specs.declared.tree.operators.SystemFunction.TheVariants as function
+use Rattle.rtl_tree.specs.declared.tree.operators.PartKind.{PartKind}
+use Rattle.rtl_tree.specs.declared.tree.operators.PartKind.TheVariants as selects
 use Rattle.rtl_tree.specs.Symbols.{Terminal}
-use Rattle.rtl_tree.specs.TreeExpr.{Formula, Number, Read, ReadBit, ReadPart, Parens, Convert, Concat, Repeat, Unary, Binary, Choose, Formulas, no_formulas, more_formulas}
-use Rattle.rtl_tree.specs.Grammar.{IsA, IsAt}
-use Rattle.rtl_tree.specs.GrammarExpr.{unary_symbol, binary_symbol, level, IsFormula, AreFormulas, AreMoreFormulas}
+use Rattle.rtl_tree.specs.TreeExpr.{Formula, Number, Read, ReadBit, ReadPart, Parens, Apply, Concat, Repeat, Unary, Binary, Choose, Formulas, no_formulas, more_formulas}
+use Rattle.rtl_tree.specs.Grammar.{IsA}
+use Rattle.rtl_tree.specs.GrammarExpr.{unary_symbol, binary_symbol, part_symbol, function_symbol, level, IsFormula, AreFormulas, AreMoreFormulas}
 use Rattle.text_build.specs.declared.attributes.Role.{Role}
 use Rattle.text_build.specs.declared.attributes.Role.TheVariants as role
 use Rattle.text_build.specs.ReadingStmt.{role_of, open_after, past_by, past}
@@ -59,6 +62,7 @@ unary_inside unary.ReduceXor = refl
 unary_inside unary.ReduceXnor = refl
 
 binary_inside : (op : BinaryOperator) → role_of (binary_symbol op) ≡ role.Inside
+binary_inside binary.Power = refl
 binary_inside binary.Multiply = refl
 binary_inside binary.Divide = refl
 binary_inside binary.Modulus = refl
@@ -83,6 +87,16 @@ binary_inside binary.BitwiseOr = refl
 binary_inside binary.LogicalAnd = refl
 binary_inside binary.LogicalOr = refl
 
+part_inside : (k : PartKind) → role_of (part_symbol k) ≡ role.Inside
+part_inside selects.Between = refl
+part_inside selects.Up = refl
+part_inside selects.Down = refl
+
+function_inside : (f : SystemFunction) → role_of (function_symbol f) ≡ role.Inside
+function_inside function.Signed = refl
+function_inside function.Unsigned = refl
+function_inside function.Clog2 = refl
+
 mutual
   pub past_formula : (k : ℕ) (f : Formula) (n : ℕ) (ts rest : List Terminal) → IsFormula k f ts rest → past n ts ≡ past n rest
   past_formula k (Number value at) n ts rest w = past_inside n symbol.Number ts rest (w.0, w.1, w.2.0) refl
@@ -92,37 +106,30 @@ mutual
       let b = a.2 in
       past_inside n symbol.Name ts w.0 (name_is x ts w.0 w.1) refl
       ∙ past_open n symbol.OpenBracket w.0 a.0 a.1 refl
-      ∙ past_formula 11 i (suc n) a.0 b.0 b.1
+      ∙ past_formula 12 i (suc n) a.0 b.0 b.1
       ∙ past_close n symbol.CloseBracket b.0 rest b.2 refl
-  past_formula k (ReadPart x m l) n ts rest w =
+  past_formula k (ReadPart x j m l) n ts rest w =
       let a = w.2 in
       let b = a.2 in
       let c = b.2 in
       let d = c.2 in
       past_inside n symbol.Name ts w.0 (name_is x ts w.0 w.1) refl
       ∙ past_open n symbol.OpenBracket w.0 a.0 a.1 refl
-      ∙ past_formula 11 m (suc n) a.0 b.0 b.1
-      ∙ past_inside (suc n) symbol.Colon b.0 c.0 c.1 refl
-      ∙ past_formula 11 l (suc n) c.0 d.0 d.1
+      ∙ past_formula 12 m (suc n) a.0 b.0 b.1
+      ∙ past_inside (suc n) (part_symbol j) b.0 c.0 c.1 (part_inside j)
+      ∙ past_formula 12 l (suc n) c.0 d.0 d.1
       ∙ past_close n symbol.CloseBracket d.0 rest d.2 refl
   past_formula k (Parens at f) n ts rest w =
       let a = w.2 in
       past_open n symbol.OpenParen ts w.0 (at_is symbol.OpenParen at ts w.0 w.1) refl
-      ∙ past_formula 11 f (suc n) w.0 a.0 a.1
+      ∙ past_formula 12 f (suc n) w.0 a.0 a.1
       ∙ past_close n symbol.CloseParen a.0 rest a.2 refl
-  past_formula k (Convert sign.Signed at f) n ts rest w =
+  past_formula k (Apply s at f) n ts rest w =
       let a = w.2 in
       let b = a.2 in
-      past_inside n symbol.ToSigned ts w.0 (at_is symbol.ToSigned at ts w.0 w.1) refl
+      past_inside n (function_symbol s) ts w.0 (at_is (function_symbol s) at ts w.0 w.1) (function_inside s)
       ∙ past_open n symbol.OpenParen w.0 a.0 a.1 refl
-      ∙ past_formula 11 f (suc n) a.0 b.0 b.1
-      ∙ past_close n symbol.CloseParen b.0 rest b.2 refl
-  past_formula k (Convert sign.Unsigned at f) n ts rest w =
-      let a = w.2 in
-      let b = a.2 in
-      past_inside n symbol.ToUnsigned ts w.0 (at_is symbol.ToUnsigned at ts w.0 w.1) refl
-      ∙ past_open n symbol.OpenParen w.0 a.0 a.1 refl
-      ∙ past_formula 11 f (suc n) a.0 b.0 b.1
+      ∙ past_formula 12 f (suc n) a.0 b.0 b.1
       ∙ past_close n symbol.CloseParen b.0 rest b.2 refl
   past_formula k (Concat at parts) n ts rest w =
       let a = w.2 in
@@ -135,7 +142,7 @@ mutual
       let c = b.2 in
       let d = c.2 in
       past_open n symbol.OpenBrace ts w.0 (at_is symbol.OpenBrace at ts w.0 w.1) refl
-      ∙ past_formula 11 times (suc n) w.0 a.0 a.1
+      ∙ past_formula 12 times (suc n) w.0 a.0 a.1
       ∙ past_open (suc n) symbol.OpenBrace a.0 b.0 b.1 refl
       ∙ past_formulas parts (suc n) b.0 c.0 c.1
       ∙ past_close (suc n) symbol.CloseBrace c.0 d.0 d.1 refl
@@ -153,18 +160,18 @@ mutual
       let a = v.2 in
       let b = a.2 in
       let c = b.2 in
-      past_formula 10 x n ts v.0 v.1
+      past_formula 11 x n ts v.0 v.1
       ∙ past_inside n symbol.Question v.0 a.0 (at_is symbol.Question at v.0 a.0 a.1) refl
-      ∙ past_formula 11 t n a.0 b.0 b.1
+      ∙ past_formula 12 t n a.0 b.0 b.1
       ∙ past_inside n symbol.Colon b.0 c.0 c.1 refl
-      ∙ past_formula 11 o n c.0 rest c.2
+      ∙ past_formula 12 o n c.0 rest c.2
 
   past_formulas : (fs : Formulas) (n : ℕ) (ts rest : List Terminal) → AreFormulas fs ts rest → past (suc n) ts ≡ past (suc n) rest
   past_formulas no_formulas n ts rest w = absurd w
-  past_formulas (more_formulas f fs) n ts rest w = past_formula 11 f (suc n) ts w.0 w.1 ∙ past_further fs n w.0 rest w.2
+  past_formulas (more_formulas f fs) n ts rest w = past_formula 12 f (suc n) ts w.0 w.1 ∙ past_further fs n w.0 rest w.2
 
   past_further : (fs : Formulas) (n : ℕ) (ts rest : List Terminal) → AreMoreFormulas fs ts rest → past (suc n) ts ≡ past (suc n) rest
   past_further no_formulas n ts rest w = ap (past (suc n)) w
   past_further (more_formulas f fs) n ts rest w =
       let a = w.2 in
-      past_comma n ts w.0 w.1 ∙ past_formula 11 f (suc n) w.0 a.0 a.1 ∙ past_further fs n a.0 rest a.2
+      past_comma n ts w.0 w.1 ∙ past_formula 12 f (suc n) w.0 a.0 a.1 ∙ past_further fs n a.0 rest a.2

@@ -1,13 +1,13 @@
 -- What is spelled is read: lists, with and without separators.
-use Rattle.std.proofs.Common.{◌≡◌, ℕ, zero, suc, ◌<◌, ◌≤◌, Bool, true, false, List, [], ◌∷◌, ◌++◌, length, Some, None, refl, sym, ap, subst, ◌∙◌, append_assoc, append-nil, max, arith}
+use Rattle.std.proofs.Common.{◌≡◌, ℕ, zero, suc, ◌<◌, ◌≤◌, Bool, true, false, List, [], ◌∷◌, ◌++◌, length, Some, refl, sym, ap, subst, ◌∙◌, append_assoc, append-nil, max, arith}
 use Rattle.rtl_tree.specs.declared.symbol.Symbol.{Symbol}
 use Rattle.rtl_tree.specs.declared.symbol.Symbol.TheVariants as symbol
 use Rattle.rtl_tree.specs.Symbols.{Terminal}
-use Rattle.rtl_tree.specs.Grammar.{Spelling, ◌⨾◌, Nothing, IsA, AreAll, AreMore, AreListed}
+use Rattle.rtl_tree.specs.Grammar.{Spelling, ◌⨾◌, IsA, AreMore, AreListed}
 use Rattle.rtl_tree.specs.Depth.{greatest}
-use Rattle.text_build.specs.Reading.{Parser, Outcome, and_then, starts, after, add, until_in, until, links, commas, listed}
-use Rattle.text_build.proofs.Steps.{add_some, links_turn, links_stop, lists_turn, lists_stop, until_turn, until_stop}
-use Rattle.text_build.proofs.Laws.Tokens.{starts_is, after_is, after_not}
+use Rattle.text_build.specs.Reading.{Parser, starts, after, add, until_in, until, links, commas, listed}
+use Rattle.text_build.proofs.Steps.{lists_turn, lists_stop, until_turn, until_stop}
+use Rattle.text_build.proofs.Laws.Tokens.{starts_is, after_is}
 
 -- nothing is longer after it was read
 abbrev pub Shrinks : Spelling → Type 0

@@ -1,27 +1,23 @@
 -- What is spelled is read: statements; an `else` belongs to the nearest `if`.
-use Rattle.std.proofs.Common.{◌≡◌, ◌⊎◌, ℕ, zero, suc, ◌≤◌, ◌<◌, Bool, true, false, ◌||◌, List, [], ◌∷◌, length, Option, Some, None, refl, sym, ap, subst, ◌∙◌, max, codes, arith}
+use Rattle.std.proofs.Common.{◌≡◌, ℕ, ◌≤◌, Bool, true, false, List, Option, Some, refl, sym, ap, ◌∙◌}
 use Rattle.rtl_tree.specs.declared.symbol.Symbol.{Symbol}
 use Rattle.rtl_tree.specs.declared.symbol.Symbol.TheVariants as symbol
 use Rattle.rtl_tree.specs.declared.tree.stmt.AssignmentKind.{AssignmentKind}
 use Rattle.rtl_tree.specs.declared.tree.stmt.AssignmentKind.TheVariants as assignment
-use Rattle.rtl_tree.specs.declared.tree.stmt.CaseKind.{CaseKind}
-use Rattle.rtl_tree.specs.declared.tree.stmt.CaseKind.TheVariants as kind
 use Rattle.rtl_tree.specs.Symbols.{Terminal}
-use Rattle.rtl_tree.specs.TreeExpr.{Identifier, Formula}
-use Rattle.rtl_tree.specs.TreeStmt.{Target, Pause, Action, Null, Delayed, Assign, If, IfElse, Case, For, Block, Actions, no_actions, more_actions, action_row, action_list, Branch, Labelled, Default, Branches, no_branches, more_branches, branch_row, branch_list}
-use Rattle.rtl_tree.specs.Depth.{greatest, formula_depth, target_depth, pause_depth, if_any, action_depth, actions_depth, branch_depth, branches_depth}
-use Rattle.rtl_tree.specs.Grammar.{◌⨾◌, IsA, IsAt, IsName, IsOptional, AreListed}
-use Rattle.rtl_tree.specs.GrammarExpr.{IsFormula, IsExpression}
-use Rattle.rtl_tree.specs.GrammarStmt.{AreAttributes, Marked, names, IsTarget, IsPause, assignment_symbol, case_symbol, ends_open, IsSelectorEnd, IsLabel, IsDefaultEnd, IsAction, AreStatements, IsBranch, AreBranches, AreMoreBranches, IsStatement}
-use Rattle.text_build.specs.declared.attributes.Marks.{Marks}
-use Rattle.text_build.specs.Reading.{Parser, and_then, ◌>>=◌, ◌>>◌, pure, same_symbol, symbol_at, starts, after, token, name, advance, mark, either, optional, until, listed}
-use Rattle.text_build.specs.ReadingStmt.{with_pragmas, null, delayed, kind_by, assignment_kind, assign, alternative, conditional, labelled, no_colon, otherwise, branch, case_of, step_of, loop_of, label, block, action_by, action, pause}
-use Rattle.text_build.proofs.Laws.Tokens.{at_is, name_is, token_again, mark_again, mark_at, mark_then, advance_a, advance_at, advance_then, starts_is, starts_not, after_is, after_not, symbol_is, name_again, bind, either_first, either_second, optional_there, optional_absent}
-use Rattle.text_build.proofs.Laws.Repeats.{Again, CommaEnds, Rows, Begins, until_again, listed_again}
-use Rattle.text_build.proofs.Laws.Follows.{Stops, is_start, is_stop, stop_stops, Opens, opens_by, opens_not, formula_opens, formula_shorter}
-use Rattle.text_build.proofs.Laws.Exprs.{Entire, before, stop_ends}
-use Rattle.text_build.proofs.Laws.Attributes.{marks_of, full_said, parallel_said}
-use Rattle.text_build.proofs.Laws.Targets.{IsWhole, is_target, target_opens, optional_pause, pause_again}
+use Rattle.rtl_tree.specs.TreeExpr.{Formula}
+use Rattle.rtl_tree.specs.TreeStmt.{Target, Pause, Action, Null, Delayed, Assign, If, IfElse}
+use Rattle.rtl_tree.specs.Depth.{formula_depth, target_depth, pause_depth, if_any, action_depth}
+use Rattle.rtl_tree.specs.Grammar.{◌⨾◌, IsA, IsAt, IsOptional}
+use Rattle.rtl_tree.specs.GrammarExpr.{IsExpression}
+use Rattle.rtl_tree.specs.GrammarStmt.{IsTarget, IsPause, assignment_symbol, ends_open, IsStatement}
+use Rattle.text_build.specs.Reading.{Parser, and_then, ◌>>=◌, ◌>>◌, pure, same_symbol, starts, advance, mark, either, optional}
+use Rattle.text_build.specs.ReadingStmt.{null, delayed, kind_by, assignment_kind, assign, alternative, conditional, pause}
+use Rattle.text_build.proofs.Laws.Tokens.{mark_then, advance_at, advance_then, starts_is, starts_not, symbol_is, bind, either_first, either_second}
+use Rattle.text_build.proofs.Laws.Repeats.{Again}
+use Rattle.text_build.proofs.Laws.Follows.{is_start, opens_not, formula_opens}
+use Rattle.text_build.proofs.Laws.Exprs.{Entire, before}
+use Rattle.text_build.proofs.Laws.Targets.{IsWhole, optional_pause, pause_again}
 
 -- an `else` that comes next belongs to no `if` that the statement ends in
 abbrev pub Closed : Action → List Terminal → Type 0
@@ -71,7 +67,7 @@ module _ (d : ℕ) (e : Parser Formula) (c : Entire d e) (t : Parser Target) (g 
       bind (t ts) (λ x. assignment_kind >>= (λ k. optional symbol.Hash (pause e) >>= (λ p. e >>= (λ value. mark symbol.Semicolon >> pure (Assign x k p value))))) to w.0 (g to ts w.0 w.1 h (kind_whole k w.0 a.0 a.1))
       ∙ bind (assignment_kind w.0) (λ k. optional symbol.Hash (pause e) >>= (λ p. e >>= (λ value. mark symbol.Semicolon >> pure (Assign to k p value)))) k a.0 (kind_again k w.0 a.0 a.1)
       ∙ bind (optional symbol.Hash (pause e) a.0) (λ p. e >>= (λ value. mark symbol.Semicolon >> pure (Assign to k p value))) p b.0
-      (optional_pause d e c p a.0 b.0 b.1 m (opens_not is_start symbol.Hash b.0 refl (formula_opens 11 value b.0 f.0 f.1)))
+      (optional_pause d e c p a.0 b.0 b.1 m (opens_not is_start symbol.Hash b.0 refl (formula_opens 12 value b.0 f.0 f.1)))
       ∙ before d e c symbol.Semicolon (λ value. mark symbol.Semicolon >> pure (Assign to k p value)) value b.0 f.0 rest f.1 q refl f.2
       ∙ mark_then symbol.Semicolon (pure (Assign to k p value)) f.0 rest f.2
 

@@ -1,20 +1,19 @@
 -- What is spelled is read: targets and delays.
-use Rattle.std.proofs.Common.{◌≡◌, ℕ, zero, suc, ◌≤◌, ◌<◌, Bool, true, false, List, [], ◌∷◌, length, Option, Some, None, refl, sym, ap, subst, ◌∙◌, max, arith}
+use Rattle.std.proofs.Common.{◌≡◌, ℕ, zero, suc, ◌≤◌, ◌<◌, Bool, true, false, List, ◌∷◌, length, Option, Some, None, refl, sym, ap, subst, ◌∙◌, max, arith}
 use Rattle.rtl_tree.specs.declared.symbol.Symbol.{Symbol}
 use Rattle.rtl_tree.specs.declared.symbol.Symbol.TheVariants as symbol
 use Rattle.rtl_tree.specs.Symbols.{Terminal}
 use Rattle.rtl_tree.specs.TreeExpr.{Identifier, Formula}
 use Rattle.rtl_tree.specs.TreeStmt.{Target, Whole, Bit, Part, Joined, Targets, no_targets, more_targets, target_row, target_list, Span, Fixed, Named, Valued, Pause}
-use Rattle.rtl_tree.specs.Depth.{greatest, formula_depth, target_depth, targets_depth, span_depth, pause_depth, if_any}
-use Rattle.rtl_tree.specs.Grammar.{◌⨾◌, IsA, IsAt, IsName, IsNumber, IsOptional}
-use Rattle.rtl_tree.specs.GrammarExpr.{IsFormula, IsExpression}
+use Rattle.rtl_tree.specs.Depth.{greatest, target_depth, targets_depth, span_depth, pause_depth, if_any}
+use Rattle.rtl_tree.specs.Grammar.{◌⨾◌, IsA, IsAt, IsName, IsOptional}
 use Rattle.rtl_tree.specs.GrammarStmt.{IsTarget, AreTargets, AreMoreTargets, IsSpan, IsPause}
-use Rattle.text_build.specs.Reading.{Parser, and_then, ◌>>=◌, ◌>>◌, pure, same_symbol, symbol_at, starts, after, listed, name, literal, advance, mark, either, optional}
+use Rattle.text_build.specs.Reading.{Parser, and_then, ◌>>=◌, ◌>>◌, pure, same_symbol, starts, listed, name, literal, advance, mark, either, optional}
 use Rattle.text_build.specs.ReadingExpr.{climb, Reference, whole, bit, part, reference}
 use Rattle.text_build.specs.ReadingStmt.{target_of, part_target, joined, target, fixed, named, valued, span_by, span, pause}
-use Rattle.text_build.proofs.Laws.Tokens.{at_is, name_is, mark_then, advance_at, starts_is, starts_not, after_not, symbol_is, name_again, literal_again, bind, either_first, either_second, optional_there, optional_absent, differ}
-use Rattle.text_build.proofs.Laws.Repeats.{Again, Furthers, Ends, CommaEnds, listed_from}
-use Rattle.text_build.proofs.Laws.Follows.{Stops, Opens, opens_by, opens_not, formula_shorter}
+use Rattle.text_build.proofs.Laws.Tokens.{mark_then, advance_at, starts_is, starts_not, after_not, symbol_is, name_again, literal_again, bind, either_first, either_second, optional_there, optional_absent}
+use Rattle.text_build.proofs.Laws.Repeats.{Again, Furthers, CommaEnds, listed_from}
+use Rattle.text_build.proofs.Laws.Follows.{Opens, opens_by, formula_shorter}
 use Rattle.text_build.proofs.Laws.Exprs.{Entire, before, whole_read, bit_read, part_read}
 use Rattle.text_build.proofs.Laws.Chains.{expression_again}
 
@@ -26,10 +25,10 @@ mutual
   pub target_shorter : (t : Target) (ts rest : List Terminal) → IsTarget t ts rest → length rest < length ts
   target_shorter (Whole n) ts rest w = omega (arith, ap length w.1)
   target_shorter (Bit n i) ts rest w =
-      let a = w.2 in let b = a.2 in omega (arith, ap length w.1.1, ap length a.1.1, formula_shorter 11 i a.0 b.0 b.1, ap length b.2.1)
-  target_shorter (Part n m l) ts rest w =
+      let a = w.2 in let b = a.2 in omega (arith, ap length w.1.1, ap length a.1.1, formula_shorter 12 i a.0 b.0 b.1, ap length b.2.1)
+  target_shorter (Part n j m l) ts rest w =
       let a = w.2 in let b = a.2 in let c = b.2 in let e = c.2 in
-      omega (arith, ap length w.1.1, ap length a.1.1, formula_shorter 11 m a.0 b.0 b.1, ap length c.1.1, formula_shorter 11 l c.0 e.0 e.1, ap length e.2.1)
+      omega (arith, ap length w.1.1, ap length a.1.1, formula_shorter 12 m a.0 b.0 b.1, ap length c.1.1, formula_shorter 12 l c.0 e.0 e.1, ap length e.2.1)
   target_shorter (Joined at parts) ts rest w =
       let a = w.2 in omega (arith, ap length w.1.1, targets_shorter parts w.0 a.0 a.1, ap length a.2.1)
 
@@ -97,8 +96,8 @@ target_by : (d : ℕ) (p : Parser Target) (e : Parser Formula) → Again target_
 target_by d p e c k (Whole n) ts rest w h s = name_first n (joined p) (part_target e) ts rest w ∙ part_again e (whole n) ts rest (whole_read d e k n ts rest w s)
 target_by d p e c k (Bit n i) ts rest w h s =
     name_first n (joined p) (part_target e) ts w.0 w.1 ∙ part_again e (bit n i) ts rest (bit_read d e k n i ts rest w (omega (arith, h)))
-target_by d p e c k (Part n m l) ts rest w h s =
-    name_first n (joined p) (part_target e) ts w.0 w.1 ∙ part_again e (part n m l) ts rest (part_read d e k n m l ts rest w (omega (arith, h)) (omega (arith, h)))
+target_by d p e c k (Part n j m l) ts rest w h s =
+    name_first n (joined p) (part_target e) ts w.0 w.1 ∙ part_again e (part n j m l) ts rest (part_read d e k n j m l ts rest w (omega (arith, h)) (omega (arith, h)))
 target_by d p e c k (Joined at parts) ts rest w h s =
     either_first (starts symbol.OpenBrace) (joined p) (part_target e) ts (starts_is symbol.OpenBrace ts w.0 w.1.0 w.1.1 w.1.2.0)
     ∙ joined_again d p c at parts ts rest w (omega (arith, h))
@@ -106,13 +105,13 @@ target_by d p e c k (Joined at parts) ts rest w h s =
 deep : (t : Target) → 1 ≤ target_depth t
 deep (Whole n) = omega arith
 deep (Bit n i) = omega arith
-deep (Part n m l) = omega arith
+deep (Part n j m l) = omega arith
 deep (Joined at parts) = omega arith
 
 pub target_again : (d : ℕ) → Again target_depth d (target d) IsTarget IsWhole
 unfolding target
 target_again zero t ts rest w h s = absurd (omega (arith, deep t, h))
-target_again (suc d) t ts rest w h s = target_by d (target d) (climb d 11) (target_again d) (expression_again d) t ts rest w h s
+target_again (suc d) t ts rest w h s = target_by d (target d) (climb d 12) (target_again d) (expression_again d) t ts rest w h s
 
 -- ---- delays
 
@@ -143,10 +142,10 @@ module _ (d : ℕ) (e : Parser Formula) (c : Entire d e) where
   optional_pause (Some p) ts rest w h s =
       optional_there symbol.Hash (pause e) p ts rest (starts_is symbol.Hash ts w.0 w.1.0 w.1.1 w.1.2.0) (pause_again p ts rest w h)
 
-span_shorter : (s : Span) (ts rest : List Terminal) → IsSpan s ts rest → length rest < length ts
+pub span_shorter : (s : Span) (ts rest : List Terminal) → IsSpan s ts rest → length rest < length ts
 span_shorter (Fixed value) ts rest w = omega (arith, ap length w.1)
 span_shorter (Named n) ts rest w = omega (arith, ap length w.1)
-span_shorter (Valued f) ts rest w = let a = w.2 in omega (arith, ap length w.1.1, formula_shorter 11 f w.0 a.0 a.1, ap length a.2.1)
+span_shorter (Valued f) ts rest w = let a = w.2 in omega (arith, ap length w.1.1, formula_shorter 12 f w.0 a.0 a.1, ap length a.2.1)
 
 pub pause_shorter : (p : Pause) (ts rest : List Terminal) → IsPause p ts rest → length rest < length ts
 pause_shorter p ts rest w = omega (arith, ap length w.1.1, span_shorter p.span w.0 rest w.2)
@@ -164,5 +163,5 @@ is_target s = false
 pub target_opens : (t : Target) (ts rest : List Terminal) → IsTarget t ts rest → Opens is_target ts
 target_opens (Whole n) ts rest w = opens_by is_target symbol.Name ts rest w.0 w.1 w.2.0 refl
 target_opens (Bit n i) ts rest w = let v = w.1 in opens_by is_target symbol.Name ts w.0 v.0 v.1 v.2.0 refl
-target_opens (Part n m l) ts rest w = let v = w.1 in opens_by is_target symbol.Name ts w.0 v.0 v.1 v.2.0 refl
+target_opens (Part n j m l) ts rest w = let v = w.1 in opens_by is_target symbol.Name ts w.0 v.0 v.1 v.2.0 refl
 target_opens (Joined at parts) ts rest w = let v = w.1 in opens_by is_target symbol.OpenBrace ts w.0 v.0 v.1 v.2.0 refl

@@ -1,5 +1,5 @@
 -- What is spelled is read: single tokens.
-use Rattle.std.proofs.Common.{◌≡◌, ℕ, suc, ◌≤◌, Bool, true, false, cond, List, [], ◌∷◌, length, Some, None, refl, sym, ap, subst, ◌∙◌, eq-eqb, rules, arith}
+use Rattle.std.proofs.Common.{◌≡◌, ℕ, Bool, true, false, cond, List, [], ◌∷◌, Some, None, refl, sym, ap, subst, ◌∙◌, eq-eqb, rules}
 use denote.Enum.Bare.{same_true}
 use denote.Enum.Declared.{tag_of}
 use Rattle.rtl_tree.specs.contracts.symbol.Symbol.{the_type}
@@ -8,8 +8,8 @@ use Rattle.rtl_tree.specs.declared.symbol.Symbol.TheVariants as symbol
 use Rattle.rtl_tree.specs.declared.literal.Literal.{Literal}
 use Rattle.rtl_tree.specs.Symbols.{Terminal}
 use Rattle.rtl_tree.specs.TreeExpr.{Identifier}
-use Rattle.rtl_tree.specs.Grammar.{Spelling, One, IsA, IsAt, IsName, IsNumber, IsNumberAt, identifier_of}
-use Rattle.text_build.specs.Reading.{Parser, Outcome, and_then, ◌>>=◌, ◌>>◌, pure, same_symbol, symbol_at, starts, after, token, place, advance, mark, name, value_of, literal_by, literal, either, optional}
+use Rattle.rtl_tree.specs.Grammar.{IsA, IsAt, IsName, IsNumber, identifier_of}
+use Rattle.text_build.specs.Reading.{Parser, Outcome, and_then, ◌>>=◌, pure, same_symbol, symbol_at, starts, after, token, place, advance, mark, name, value_of, literal_by, literal, either, optional}
 
 same_refl : (a : Symbol) → same_symbol a a ≡ true
 unfolding same_symbol

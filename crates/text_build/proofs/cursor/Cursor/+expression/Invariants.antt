@@ -56,8 +56,8 @@ decreases-read l = 16 * l.depth + 7
 abbrev pub decreases-parens : goal.decreases-parens
 decreases-parens l = 16 * l.depth + 2
 
-abbrev pub decreases-conversion : goal.decreases-conversion
-decreases-conversion l = 16 * l.depth + 2
+abbrev pub decreases-application : goal.decreases-application
+decreases-application l = 16 * l.depth + 2
 
 abbrev pub decreases-operation : goal.decreases-operation
 decreases-operation l = 16 * l.depth + 2
@@ -93,5 +93,5 @@ invariant-chain-loop-turn l =
 
 abbrev pub invariant-expressions_after-loop-turn : goal.invariant-expressions_after-loop-turn
 invariant-expressions_after-loop-turn l =
-    generic.links (l._turn-end - l._turn) (generic.starts symbol.Comma) (generic.after symbol.Comma) (generic.add (reading.climb l.depth 11)) (map formula l.all.items) (map terminal l.self.rest.now)
-    ≡ generic.commas (generic.add (reading.climb l.depth 11)) (map formula l.fn.before.items) (map terminal l.initial.self.rest.now)
+    generic.links (l._turn-end - l._turn) (generic.starts symbol.Comma) (generic.after symbol.Comma) (generic.add (reading.climb l.depth 12)) (map formula l.all.items) (map terminal l.self.rest.now)
+    ≡ generic.commas (generic.add (reading.climb l.depth 12)) (map formula l.fn.before.items) (map terminal l.initial.self.rest.now)

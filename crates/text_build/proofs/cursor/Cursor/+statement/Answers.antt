@@ -1,4 +1,4 @@
-use Rattle.std.proofs.Common.{◌∙◌, Vec, Global, sym, ap, map, refl, arith}
+use Rattle.std.proofs.Common.{◌∙◌, Vec, Global, sym, ap, map, arith}
 use Rattle.std.proofs.lemmas.List.{map-append, length-map}
 use Rattle.std.proofs.lemmas.Result.{err_from_is_err_and}
 use Rattle.rtl_tree.specs.declared.tree.stmt.Stmt.{Stmt}

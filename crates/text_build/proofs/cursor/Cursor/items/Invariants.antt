@@ -1,6 +1,6 @@
 use Rattle.std.proofs.Common.{◌≡◌, ◌-◌, map}
 use Rattle.rtl_tree.specs.Symbols.{terminal}
-use Rattle.rtl_tree.specs.TreeItem.{module_item}
+use Rattle.rtl_tree.specs.TreeGate.{written_item}
 use Rattle.rtl_tree.specs.declared.symbol.Symbol.TheVariants as symbol
 use Rattle.rtl_tree.specs.declared.tree.nesting.TheConstants.{MAX_NESTING}
 use Rattle.text_build.specs.Reading as generic
@@ -9,5 +9,5 @@ use Rattle.text_build.proofs.cursor.Cursor.items.Given as goal
 
 abbrev pub invariant-loop-turn : goal.invariant-loop-turn
 invariant-loop-turn l =
-    generic.until_in (l._turn-end - l._turn) symbol.Endmodule (reading.item MAX_NESTING) (map module_item l.all.items) (map terminal l.self.rest.now)
+    generic.until_in (l._turn-end - l._turn) symbol.Endmodule (reading.item MAX_NESTING) (map written_item l.all.items) (map terminal l.self.rest.now)
     ≡ generic.until symbol.Endmodule (reading.item MAX_NESTING) (map terminal l.initial.self.rest.now)

@@ -1,0 +1,13 @@
+use Rattle.std.proofs.Common.{◌≡◌, ◌-◌, map}
+use Rattle.rtl_tree.specs.Symbols.{terminal}
+use Rattle.rtl_tree.specs.TreeGate.{gate}
+use Rattle.rtl_tree.specs.declared.symbol.Symbol.TheVariants as symbol
+use Rattle.rtl_tree.specs.declared.tree.nesting.TheConstants.{MAX_NESTING}
+use Rattle.text_build.specs.Reading as generic
+use Rattle.text_build.specs.ReadingGate as reading
+use Rattle.text_build.proofs.cursor.Cursor.listed_gates.Given as goal
+
+abbrev pub invariant-loop-turn : goal.invariant-loop-turn
+invariant-loop-turn l =
+    generic.links (l._turn-end - l._turn) (generic.starts symbol.Comma) (generic.after symbol.Comma) (generic.add (reading.gate MAX_NESTING)) (map gate l.all.items) (map terminal l.self.rest.now)
+    ≡ generic.listed (reading.gate MAX_NESTING) (map terminal l.initial.self.rest.now)
