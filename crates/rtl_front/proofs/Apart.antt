@@ -6,7 +6,6 @@ use Rattle.rtl_tree.specs.declared.token.Token.{Token}
 use Rattle.rtl_tree.specs.Prepared.{Ready}
 use Rattle.rtl_tree.specs.Symbols.{terminals}
 use Rattle.rtl_tree.specs.TreeModule.{Circuit}
-use Rattle.rtl_tree.specs.GrammarModule.{Spells}
 use Rattle.rtl_tree.specs.Deeper.{too_deep}
 use Rattle.rtl_text.specs.declared.fault.LexFault.{LexFault}
 use Rattle.rtl_text.specs.declared.fault.LexFault.TheVariants as lexing
@@ -19,7 +18,7 @@ use Rattle.rtl_prep.specs.Prepares.{prepared}
 use Rattle.text_build.proofs.Laws.Modules.{spelled_once}
 use Rattle.rtl_parse.specs.declared.fault.ParseFault.{ParseFault}
 use Rattle.rtl_parse.specs.declared.fault.ParseFault.TheVariants as parsing
-use Rattle.rtl_parse.specs.Parses.{IsCause, first_outside, tokens}
+use Rattle.rtl_parse.specs.Parses.{IsCause, IsParsed, first_outside, tokens}
 use Rattle.rtl_front.specs.declared.fault.FileFault.{FileFault}
 use Rattle.rtl_front.specs.declared.fault.FileFault.TheVariants.{Lex, Prepare, Parse}
 use Rattle.rtl_front.specs.Fronts.{AreRead, IsFaulty, IsFirst, IsPrepared, IsRead, is_memory}
@@ -71,17 +70,17 @@ nothing_there places place none there =
     let empty : length places ≡ 0 = ap length none in
     omega arith
 
-spelled_uncaused : (ready : Ready) (circuits : List Circuit) (fault : ParseFault) → is_memory (Parse fault) ≡ false
-    → first_outside ready ≡ None → Spells ready circuits → too_deep circuits ≡ [] → IsCause ready fault → ⊥
-spelled_uncaused ready circuits (parsing.Refused name place) known inside spelled shallow cause =
+parsed_uncaused : (ready : Ready) (circuits : List Circuit) (fault : ParseFault) → is_memory (Parse fault) ≡ false
+    → first_outside ready ≡ None → IsParsed ready circuits → IsCause ready fault → ⊥
+parsed_uncaused ready circuits (parsing.Refused name place) known inside parsed cause =
     let both : ◌≡◌ {A = Option ℕ} (Some cause.0) None = sym cause.1 ∙ inside in
     cc
-spelled_uncaused ready circuits (parsing.Syntax name place) known inside spelled shallow cause =
-    cause.2.dead (tokens ready) refl refl ready.dropped circuits spelled
-spelled_uncaused ready circuits (parsing.TooDeep place) known inside spelled shallow cause =
-    let same : cause.0 ≡ circuits = spelled_once ready.dropped (terminals ready.text ready.tokens) cause.0 circuits cause.2 spelled in
-    nothing_there (too_deep cause.0) place (ap too_deep same ∙ shallow) cause.3.there
-spelled_uncaused ready circuits parsing.Memory known inside spelled shallow cause = cc
+parsed_uncaused ready circuits (parsing.Syntax name place) known inside parsed cause =
+    cause.2.dead (tokens ready) refl refl ready.dropped parsed.written parsed.spelled
+parsed_uncaused ready circuits (parsing.TooDeep place) known inside parsed cause =
+    let same : cause.0 ≡ parsed.written = spelled_once ready.dropped (terminals ready.text ready.tokens) cause.0 parsed.written cause.2 parsed.spelled in
+    nothing_there (too_deep cause.0) place (ap too_deep same ∙ parsed.shallow) cause.3.there
+parsed_uncaused ready circuits parsing.Memory known inside parsed cause = cc
 
 -- ---- texts
 
@@ -89,7 +88,7 @@ pub read_or_faulty : (text : List ℕ) (circuits : List Circuit) (fault : FileFa
 read_or_faulty text circuits (Lex fault) known reads faulty = split_unrefused text reads.is_prepared.tokens fault known reads.is_prepared.split faulty
 read_or_faulty text circuits (Prepare fault) known reads faulty = prepared_untold text reads.ready faulty.0 fault known reads.is_prepared faulty.1 faulty.2
 read_or_faulty text circuits (Parse fault) known reads faulty =
-    spelled_uncaused reads.ready circuits fault known reads.inside reads.spelled reads.shallow
+    parsed_uncaused reads.ready circuits fault known reads.inside reads.parsed
     (subst (λ (ready : Ready). IsCause ready fault) (one_ready text reads.ready faulty.0 reads.is_prepared faulty.1) faulty.2)
 
 pub never_both : (texts : List (List ℕ)) (circuits : List (List Circuit)) (number : ℕ) (fault : FileFault) → is_memory fault ≡ false

@@ -3,14 +3,12 @@ use Rattle.std.specs.Prelude.{ℕ, List, Result, Ok}
 use Rattle.std.proofs.Common.{◌≡◌, ◌∙◌, ap, sym, subst}
 use Rattle.rtl_tree.specs.declared.token.Token.{Token}
 use Rattle.rtl_tree.specs.Prepared.{Ready}
-use Rattle.rtl_tree.specs.Symbols.{terminals}
 use Rattle.rtl_tree.specs.TreeModule.{Circuit}
-use Rattle.rtl_tree.specs.GrammarModule.{Spells}
 use Rattle.rtl_text.specs.declared.fault.LexFault.{LexFault}
 use Rattle.rtl_text.specs.Faults.{Answers}
 use Rattle.rtl_prep.specs.Stops.{Stop}
 use Rattle.rtl_prep.specs.Prepares.{prepared}
-use Rattle.text_build.specs.Built.{SpelledOnce}
+use Rattle.rtl_parse.specs.Parses.{IsParsed}
 use Rattle.rtl_front.specs.Fronts.{IsPrepared, IsRead}
 
 -- what is prepared of the tokens that the lexer finds
@@ -21,12 +19,10 @@ prepared_once text tokens ready other only is prepares =
     let both : ◌≡◌ {A = Result Ready Stop} (Ok other) (Ok ready) = sym prepares.prepares ∙ ap (prepared text) (sym same) ∙ is in
     cc
 
-pub text_once : SpelledOnce → (text : List ℕ) (ready : Ready) (circuits others : List Circuit) → ((other : Ready) → IsPrepared text other → other ≡ ready) → Spells ready circuits → IsRead text others → others ≡ circuits
-text_once spelled text ready circuits others only spells reads =
-    spelled
-    ready.dropped
-    (terminals ready.text ready.tokens)
-    others
-    circuits
-    (subst (λ (other : Ready). Spells other others) (only reads.ready reads.is_prepared) reads.spelled)
-    spells
+-- a text is read as one list of modules
+abbrev pub OneList : Type 0
+OneList = (ready : Ready) (a b : List Circuit) → IsParsed ready a → IsParsed ready b → a ≡ b
+
+pub text_once : OneList → (text : List ℕ) (ready : Ready) (circuits others : List Circuit) → ((other : Ready) → IsPrepared text other → other ≡ ready) → IsParsed ready circuits → IsRead text others → others ≡ circuits
+text_once one_list text ready circuits others only parsed reads =
+    one_list ready others circuits (subst (λ (other : Ready). IsParsed other others) (only reads.ready reads.is_prepared) reads.parsed) parsed

@@ -6,8 +6,6 @@ use Rattle.rtl_tree.specs.declared.token.Token.{Token}
 use Rattle.rtl_tree.specs.declared.tree.modules.Module.{Module}
 use Rattle.rtl_tree.specs.Prepared.{Ready}
 use Rattle.rtl_tree.specs.TreeModule.{Circuit, circuit}
-use Rattle.rtl_tree.specs.GrammarModule.{Spells}
-use Rattle.rtl_tree.specs.Deeper.{too_deep}
 use Rattle.rtl_text.specs.declared.fault.LexFault.TheVariants as lexing
 use Rattle.rtl_text.specs.Faults.{Answers, Refuses}
 use Rattle.rtl_prep.specs.declared.fault.PrepFault.TheVariants as preparing
@@ -15,7 +13,7 @@ use Rattle.rtl_prep.specs.Conditions.{FileConditions, asked}
 use Rattle.rtl_prep.specs.Prepares.{prepared}
 use Rattle.rtl_prep.specs.Stops.{Tells}
 use Rattle.rtl_parse.specs.declared.fault.ParseFault.TheVariants as parsing
-use Rattle.rtl_parse.specs.Parses.{IsCause, first_outside}
+use Rattle.rtl_parse.specs.Parses.{IsCause, IsParsed, first_outside}
 use Rattle.rtl_front.specs.declared.fault.FileFault.{FileFault}
 use Rattle.rtl_front.specs.declared.fault.FileFault.TheVariants.{Lex, Prepare, Parse}
 use Rattle.rtl_front.specs.declared.fault.SourceFault.{SourceFault}
@@ -32,8 +30,7 @@ pub record IsRead (text : List ℕ) (circuits : List Circuit) : Type 0 where
   pub ready : Ready
   pub is_prepared : IsPrepared text ready
   pub inside : first_outside ready ≡ None
-  pub spelled : Spells ready circuits
-  pub shallow : too_deep circuits ≡ []
+  pub parsed : IsParsed ready circuits
 
 -- why a file's text has no modules
 abbrev pub IsFaulty : List ℕ → FileFault → Type 0

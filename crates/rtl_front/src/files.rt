@@ -7,6 +7,7 @@ ghost use Rattle.source_file.specs.SourceFiles.{AreShort, texts_in};
 ghost use Rattle.rtl_front.specs.Fronts.{AreAsked, AreRead, IsAsked, IsFaulty, IsFirstFaulty, IsPrepared, IsRead, circuits_of, is_memory, told};
 
 use crate::fault::{FileFault, SourceFault};
+use rtl_parse::law::one_list;
 use rtl_parse::{ParseFault, parse};
 use rtl_prep::{Conditions, PrepFault, Preparation, prepare};
 use rtl_text::{LexFault, lex};
@@ -15,7 +16,6 @@ use source_file::SourceFile;
 use std::alloc::Global;
 use std::sync::ledger::Ledger;
 use steps::Steps;
-use text_build::spelled_once;
 use text_ground::memory::Memory;
 
 /// The modules of a file, and what its conditions ask.
@@ -79,7 +79,7 @@ fn read_file<L: Ledger>(
 {
     let made = prepared(alloc, text)?;
     // The law says that no other modules are read.
-    spelled_once();
+    one_list();
     match parse(alloc, &made.prepared, steps) {
         Ok(modules) => Ok(FileRead {
             modules,

@@ -1,18 +1,21 @@
 -- What follows from the answers of the survey and the builder.
 use Rattle.std.proofs.Common.{◌≡◌, ℕ, ◌+◌, ◌≤◌, cond, not, nat_lt, List, [], ◌∷◌, length, map, position, Option, Some, None, Result, Ok, Vec, Global, refl, sym, ap, subst, ◌∙◌}
 use Rattle.std.specs.List.{All, slice_get, position_or_len}
+use Rattle.std.specs.Option.{IfSome}
 use Rattle.std.proofs.lemmas.List.{length-map}
 use Rattle.rtl_tree.specs.declared.symbol.Terminal as code
 use Rattle.rtl_tree.specs.declared.tree.modules.Module.{Module}
+use Rattle.rtl_tree.specs.declared.tree.modules.WrittenModule.{WrittenModule}
 use Rattle.rtl_tree.specs.Symbols.{terminal, terminals}
 use Rattle.rtl_tree.specs.Prepared.{Ready}
-use Rattle.rtl_tree.specs.TreeModule.{Circuit, circuit}
-use Rattle.rtl_tree.specs.GrammarModule.{AreSpelled, Spells}
+use Rattle.rtl_tree.specs.TreeModule.{WrittenCircuit, circuit, written_circuit}
+use Rattle.rtl_tree.specs.GrammarModule.{AreSpelled}
 use Rattle.rtl_tree.specs.Deeper.{too_deep}
 use Rattle.rtl_tree.specs.Depth.{depth}
 use Rattle.text_ground.specs.declared.dropped.Dropped.{Dropped}
 use Rattle.rtl_tree.specs.declared.token.Token.{Token}
 use Rattle.rtl_tree.specs.declared.tree.nesting.TheConstants.{MAX_NESTING}
+use Rattle.rtl_unroll.specs.Plain.{plain_circuit}
 use Rattle.text_survey.specs.Terminals.{is_refused}
 use Rattle.text_survey.specs.Surveys.{AreNumbered, AreClosed, IsSurvey}
 use Rattle.text_survey.specs.declared.machine.Surveyed.{Surveyed}
@@ -22,7 +25,7 @@ use Rattle.text_survey.proofs.Least.{goes_on}
 use Rattle.text_build.specs.declared.fault.BuildFault.{BuildFault}
 use Rattle.text_build.specs.Built.{IsBuilt}
 use Rattle.rtl_parse.specs.declared.fault.ParseFault.TheVariants.{Refused, Syntax, TooDeep}
-use Rattle.rtl_parse.specs.Parses.{tokens, is_outside, first_outside, IsThere, IsCause}
+use Rattle.rtl_parse.specs.Parses.{tokens, is_outside, first_outside, IsThere, IsParsed, IsCause}
 use Rattle.rtl_parse.proofs.Shallow.{shallow}
 
 -- the first token that is outside, by number
@@ -86,13 +89,28 @@ depth_cause ready xs s at read inside survey deep =
     (v.0, inside, subst (λ ts. AreSpelled ready.dropped ts v.0) read.same v.1, v.2)
 
 -- what is spelled and nowhere too deep is built
-pub built : (ready : Ready) (xs : List code.Terminal) (s : Surveyed) (regions : List Dropped) (result : Result (Vec Module Global) BuildFault)
-    (modules : Vec Module Global) → AreRead ready xs → IsSurvey (map terminal xs) s → s ≡ surveyed.Spelled → regions ≡ ready.dropped
-    → ((cs : List Circuit) → AreSpelled regions (map terminal xs) cs → All (λ c. depth c ≤ MAX_NESTING) cs → IsBuilt cs result) → result ≡ Ok modules
-    → Spells ready (map circuit modules.items) × (too_deep (map circuit modules.items) ≡ [])
-built ready xs s regions result modules read survey spelled e each ok =
+pub built : (ready : Ready) (xs : List code.Terminal) (s : Surveyed) (regions : List Dropped) (result : Result (Vec WrittenModule Global) BuildFault)
+    (written : Vec WrittenModule Global) (modules : Vec Module Global) → AreRead ready xs → IsSurvey (map terminal xs) s → s ≡ surveyed.Spelled → regions ≡ ready.dropped
+    → ((cs : List WrittenCircuit) → AreSpelled regions (map terminal xs) cs → All (λ c. depth c ≤ MAX_NESTING) cs → IsBuilt cs result) → result ≡ Ok written
+    → map circuit modules.items ≡ map plain_circuit (map written_circuit written.items) → IsParsed ready (map circuit modules.items)
+built ready xs s regions result written modules read survey spelled e each ok plain =
     let some : IsSurvey (map terminal xs) surveyed.Spelled = subst (λ x. IsSurvey (map terminal xs) x) spelled survey in
     let v = some read.numbered regions in
-    let same : map circuit modules.items ≡ v.0 = subst (λ r. IsBuilt v.0 r) ok (each v.0 v.1 (shallow v.0 v.2)) in
+    let same : map written_circuit written.items ≡ v.0 = subst (λ r. IsBuilt v.0 r) ok (each v.0 v.1 (shallow v.0 v.2)) in
     let here = subst (λ ds. AreSpelled ds (map terminal xs) v.0) e v.1 in
-    (subst (λ cs. Spells ready cs) (sym same) (subst (λ ts. AreSpelled ready.dropped ts v.0) read.same here), ap too_deep same ∙ v.2)
+    record { written = v.0; spelled = subst (λ ts. AreSpelled ready.dropped ts v.0) read.same here; shallow = v.2; plain = plain ∙ ap (map plain_circuit) same }
+
+-- what an ordinary text spells for certain
+pub certain : (ready : Ready) (xs : List code.Terminal) (regions : List Dropped) (found : Option (Vec WrittenModule Global)) (written : Vec WrittenModule Global) (modules : Vec Module Global) → AreRead ready xs
+    → regions ≡ ready.dropped → IfSome found (λ (w : Vec WrittenModule Global). AreSpelled regions (map terminal xs) (map written_circuit w.items)) → IfSome found (λ (w : Vec WrittenModule Global). too_deep (map written_circuit w.items) ≡ [])
+    → found ≡ Some written → map circuit modules.items ≡ map plain_circuit (map written_circuit written.items) → IsParsed ready (map circuit modules.items)
+certain ready xs regions found written modules read e spelled shallow some plain =
+    let cs = map written_circuit written.items in
+    let here = subst (λ o. IfSome o (λ (w : Vec WrittenModule Global). AreSpelled regions (map terminal xs) (map written_circuit w.items))) some spelled in
+    let there' = subst (λ ds. AreSpelled ds (map terminal xs) cs) e here in
+    record {
+      written = cs;
+      spelled = subst (λ ts. AreSpelled ready.dropped ts cs) read.same there';
+      shallow = subst (λ o. IfSome o (λ (w : Vec WrittenModule Global). too_deep (map written_circuit w.items) ≡ [])) some shallow;
+      plain = plain;
+    }

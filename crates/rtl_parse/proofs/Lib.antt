@@ -1,3 +1,4 @@
 mod Shallow
 mod Answers
 pub mod OneCause
+mod OneList

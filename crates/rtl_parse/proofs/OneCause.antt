@@ -4,7 +4,7 @@ use Rattle.std.proofs.lemmas.List.Elements.{All-contains}
 use Rattle.std.specs.List.{slice_get}
 use Rattle.rtl_tree.specs.Prepared.{Ready}
 use Rattle.rtl_tree.specs.Symbols.{Terminal}
-use Rattle.rtl_tree.specs.TreeModule.{Circuit}
+use Rattle.rtl_tree.specs.TreeModule.{WrittenCircuit}
 use Rattle.rtl_tree.specs.GrammarModule.{Spells}
 use Rattle.rtl_tree.specs.Deeper.{too_deep, IsLeastPlace}
 use Rattle.text_survey.specs.Least.{IsLeast}
@@ -37,7 +37,7 @@ one_least_place places i j a b =
     omega (arith, below, above)
 
 -- what is spelled stops nowhere
-spelled_on : (ready : Ready) (n : ℕ) (circuits : List Circuit) → IsLeast (tokens ready) n → Spells ready circuits → ⊥
+spelled_on : (ready : Ready) (n : ℕ) (circuits : List WrittenCircuit) → IsLeast (tokens ready) n → Spells ready circuits → ⊥
 spelled_on ready n circuits least spells = least.dead (tokens ready) refl refl ready.dropped circuits spells
 
 pub one_cause : (ready : Ready) (a b : ParseFault) → IsOfText a → IsOfText b → IsCause ready a → IsCause ready b → reason a ≡ reason b

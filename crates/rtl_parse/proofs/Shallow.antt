@@ -1,14 +1,15 @@
 -- Where no place is deeper than a number, nothing is.
 use Rattle.std.proofs.Common.{◌≡◌, ℕ, zero, suc, ◌-◌, ◌≤◌, List, [], ◌∷◌, ◌++◌, Option, Some, None, refl, arith}
 use Rattle.std.specs.List.{All, flat_map}
-use Rattle.rtl_tree.specs.TreeExpr.{Formula, Number, Read, ReadBit, ReadPart, Parens, Convert, Concat, Repeat, Unary, Binary, Choose, Formulas, no_formulas, more_formulas, Bounds}
+use Rattle.rtl_tree.specs.TreeExpr.{Formula, Number, Read, ReadBit, ReadPart, Parens, Apply, Concat, Repeat, Unary, Binary, Choose, Formulas, no_formulas, more_formulas, Bounds}
 use Rattle.rtl_tree.specs.TreeStmt.{Target, Whole, Bit, Part, Joined, Targets, no_targets, more_targets, Span, Fixed, Named, Valued, Pause, Action, Null, Delayed, Assign, If, IfElse, Case, For, Block, Actions, no_actions, more_actions, Branch, Labelled, Default, Branches, no_branches, more_branches, target_place}
-use Rattle.rtl_tree.specs.TreeItem.{Head, Drive, Happening, Edge, Change, ChangeBit, ChangePart, Sensitivity, Star, StarInParens, Listed, Association, ByPosition, ByName, ModuleItem, Ports, Nets, Variables, Integers, Parameters, Drives, Always, Instances}
-use Rattle.rtl_tree.specs.TreeModule.{Circuit, HeaderParameter, HeaderPort, Header, Absent, Empty, Declared}
+use Rattle.rtl_tree.specs.TreeItem.{Head, Drive, Happening, Edge, Change, ChangeBit, ChangePart, Sensitivity, Star, StarInParens, Listed, Association, ByPosition, ByName, ModuleItem, Ports, Nets, Variables, Integers, Parameters, Drives, GateDrive, Gates, Always, Instances}
+use Rattle.rtl_tree.specs.TreeGate.{GateSpan, One, Two, GatePause, Gate, WrittenItem, Plain, Primitives}
+use Rattle.rtl_tree.specs.TreeModule.{WrittenCircuit, HeaderParameter, HeaderPort, Header, Absent, Empty, Declared}
 use Rattle.rtl_tree.specs.TreeModule as modules
-use Rattle.rtl_tree.specs.Deeper.{of_any, here, formula_deeper, formulas_deeper, bounds_deeper, target_deeper, targets_deeper, span_deeper, pause_deeper, action_deeper, actions_deeper, branch_deeper, branches_deeper, head_deeper, net_deeper, valuation_deeper, drive_deeper, happening_deeper, sensitivity_deeper, positional_deeper, associated_deeper, association_deeper, instantiation_deeper, item_deeper, header_parameter_deeper, header_port_deeper, header_deeper, deeper, too_deep}
+use Rattle.rtl_tree.specs.Deeper.{of_any, here, formula_deeper, formulas_deeper, bounds_deeper, target_deeper, targets_deeper, span_deeper, pause_deeper, action_deeper, actions_deeper, branch_deeper, branches_deeper, head_deeper, net_deeper, valuation_deeper, drive_deeper, happening_deeper, sensitivity_deeper, positional_deeper, associated_deeper, association_deeper, instantiation_deeper, gate_drive_deeper, item_deeper, gate_span_deeper, gate_pause_deeper, gate_deeper, written_deeper, header_parameter_deeper, header_port_deeper, header_deeper, deeper, too_deep}
 use Rattle.rtl_tree.specs.declared.tree.nesting.TheConstants.{MAX_NESTING}
-use Rattle.rtl_tree.specs.Depth.{greatest, if_any, formula_depth, formulas_depth, bounds_depth, target_depth, targets_depth, span_depth, pause_depth, action_depth, actions_depth, branch_depth, branches_depth, head_depth, net_depth, valuation_depth, drive_depth, happening_depth, sensitivity_depth, positional_depth, associated_depth, association_depth, instantiation_depth, item_depth, header_parameter_depth, header_port_depth, header_depth, depth}
+use Rattle.rtl_tree.specs.Depth.{greatest, if_any, formula_depth, formulas_depth, bounds_depth, target_depth, targets_depth, span_depth, pause_depth, action_depth, actions_depth, branch_depth, branches_depth, head_depth, net_depth, valuation_depth, drive_depth, happening_depth, sensitivity_depth, positional_depth, associated_depth, association_depth, instantiation_depth, gate_drive_depth, item_depth, gate_span_depth, gate_pause_depth, gate_depth, written_depth, header_parameter_depth, header_port_depth, header_depth, depth}
 
 left : (xs ys : List ℕ) → xs ++ ys ≡ [] → xs ≡ []
 left [] ys e = refl
@@ -50,13 +51,13 @@ mutual
   formula (ReadBit name i) k e =
       let v = both (here k name.at) (formula_deeper (k - 1) i) e in
       omega (arith, some k name.at v.0, formula i (k - 1) v.1)
-  formula (ReadPart name a b) k e =
+  formula (ReadPart name kind a b) k e =
       let v = three (here k name.at) (formula_deeper (k - 1) a) (formula_deeper (k - 1) b) e in
       omega (arith, some k name.at v.0, formula a (k - 1) v.1, formula b (k - 1) v.2)
   formula (Parens at i) k e =
       let v = both (here k at) (formula_deeper (k - 1) i) e in
       omega (arith, some k at v.0, formula i (k - 1) v.1)
-  formula (Convert s at i) k e =
+  formula (Apply s at i) k e =
       let v = both (here k at) (formula_deeper (k - 1) i) e in
       omega (arith, some k at v.0, formula i (k - 1) v.1)
   formula (Concat at fs) k e =
@@ -92,7 +93,7 @@ mutual
   target (Bit name i) k e =
       let v = both (here k name.at) (formula_deeper (k - 1) i) e in
       omega (arith, some k name.at v.0, formula i (k - 1) v.1)
-  target (Part name a b) k e =
+  target (Part name kind a b) k e =
       let v = three (here k name.at) (formula_deeper (k - 1) a) (formula_deeper (k - 1) b) e in
       omega (arith, some k name.at v.0, formula a (k - 1) v.1, formula b (k - 1) v.2)
   target (Joined at ts) k e =
@@ -165,6 +166,11 @@ drive d k e =
     let v = both (target_deeper k d.target) (formula_deeper k d.value) e in
     omega (arith, target d.target k v.0, formula d.value k v.1)
 
+gate_drive : (d : GateDrive) (k : ℕ) → gate_drive_deeper k d ≡ [] → gate_drive_depth d ≤ k
+gate_drive d k e =
+    let v = both (flat_map (target_deeper k) d.outputs) (formula_deeper k d.value) e in
+    omega (arith, of_list (target_deeper k) target_depth k (λ t h. target t k h) d.outputs v.0, formula d.value k v.1)
+
 happening : (h : Happening) (k : ℕ) → happening_deeper k h ≡ [] → happening_depth h ≤ k
 happening (Edge edge at name) k e = omega arith
 happening (Change name) k e = omega arith
@@ -201,12 +207,35 @@ item (Parameters at kind b values) k e =
 item (Drives at p drives) k e =
     let v = both (of_any (pause_deeper k) p) (flat_map (drive_deeper k) drives) e in
     omega (arith, of_option (pause_deeper k) pause_depth k (λ x h. pause x k h) p v.0, of_list (drive_deeper k) drive_depth k (λ d h. drive d k h) drives v.1)
+item (Gates at names p drives) k e =
+    let v = both (of_any (pause_deeper k) p) (flat_map (gate_drive_deeper k) drives) e in
+    omega (arith, of_option (pause_deeper k) pause_depth k (λ x h. pause x k h) p v.0, of_list (gate_drive_deeper k) gate_drive_depth k (λ d h. gate_drive d k h) drives v.1)
 item (Always at s body) k e =
     let v = both (sensitivity_deeper k s) (action_deeper k body) e in
     omega (arith, sensitivity s k v.0, action body k v.1)
 item (Instances child parameters instantiations) k e =
     let v = both (association_deeper k parameters) (flat_map (instantiation_deeper k) instantiations) e in
     omega (arith, association parameters k v.0, of_list (instantiation_deeper k) instantiation_depth k (λ p h. association p.connections k h) instantiations v.1)
+
+gate_span : (s : GateSpan) (k : ℕ) → gate_span_deeper k s ≡ [] → gate_span_depth s ≤ k
+gate_span (One s) k e = span s k e
+gate_span (Two rise fall) k e =
+    let v = both (formula_deeper k rise) (formula_deeper k fall) e in
+    omega (arith, formula rise k v.0, formula fall k v.1)
+
+gate_pause : (p : GatePause) (k : ℕ) → gate_pause_deeper k p ≡ [] → gate_pause_depth p ≤ k
+gate_pause p k e = gate_span p.span k e
+
+gate : (g : Gate) (k : ℕ) → gate_deeper k g ≡ [] → gate_depth g ≤ k
+gate g k e =
+    let v = both (target_deeper k g.output) (flat_map (formula_deeper k) g.terminals) e in
+    omega (arith, target g.output k v.0, of_list (formula_deeper k) formula_depth k (λ f h. formula f k h) g.terminals v.1)
+
+written : (i : WrittenItem) (k : ℕ) → written_deeper k i ≡ [] → written_depth i ≤ k
+written (Plain i) k e = item i k e
+written (Primitives at kind p gates) k e =
+    let v = both (of_any (gate_pause_deeper k) p) (flat_map (gate_deeper k) gates) e in
+    omega (arith, of_option (gate_pause_deeper k) gate_pause_depth k (λ x h. gate_pause x k h) p v.0, of_list (gate_deeper k) gate_depth k (λ g h. gate g k h) gates v.1)
 
 parameter : (p : HeaderParameter) (k : ℕ) → header_parameter_deeper k p ≡ [] → header_parameter_depth p ≤ k
 parameter p k e =
@@ -219,13 +248,13 @@ header Empty k e = omega arith
 header (Declared ports) k e = of_list (header_port_deeper k) header_port_depth k (λ p h. of_option (head_deeper k) head_depth k (λ x y. head x k y) p.head h) ports e
 header (modules.Named names) k e = omega arith
 
-circuit : (c : Circuit) (k : ℕ) → deeper k c ≡ [] → depth c ≤ k
+circuit : (c : WrittenCircuit) (k : ℕ) → deeper k c ≡ [] → depth c ≤ k
 circuit c k e =
-    let v = three (flat_map (header_parameter_deeper k) c.parameters) (header_deeper k c.header) (flat_map (item_deeper k) c.items) e in
-    omega (arith, of_list (header_parameter_deeper k) header_parameter_depth k (λ p h. parameter p k h) c.parameters v.0, header c.header k v.1, of_list (item_deeper k) item_depth k (λ i h. item i k h) c.items v.2)
+    let v = three (flat_map (header_parameter_deeper k) c.parameters) (header_deeper k c.header) (flat_map (written_deeper k) c.items) e in
+    omega (arith, of_list (header_parameter_deeper k) header_parameter_depth k (λ p h. parameter p k h) c.parameters v.0, header c.header k v.1, of_list (written_deeper k) written_depth k (λ i h. written i k h) c.items v.2)
 
 -- modules without a place that is too deep
-pub shallow : (cs : List Circuit) → too_deep cs ≡ [] → All (λ c. depth c ≤ MAX_NESTING) cs
+pub shallow : (cs : List WrittenCircuit) → too_deep cs ≡ [] → All (λ c. depth c ≤ MAX_NESTING) cs
 shallow [] e k d l = absurd (omega (arith, l))
 shallow (c ∷ cs) e zero d l = circuit c MAX_NESTING (left (deeper MAX_NESTING c) (too_deep cs) e)
 shallow (c ∷ cs) e (suc k) d l = shallow cs (right (deeper MAX_NESTING c) (too_deep cs) e) k d (omega (arith, l))

@@ -1,12 +1,13 @@
 -- What parsing answers of a prepared text.
 -- Worked examples: crates/tests_layers/stdin.
-use Rattle.std.specs.Prelude.{◌≡◌, ℕ, min, List, [], length, position, Bool, Option, Some, None}
+use Rattle.std.specs.Prelude.{◌≡◌, ℕ, min, List, [], length, map, position, Bool, Option, Some, None}
 use Rattle.std.specs.List.{slice_get}
 use Rattle.rtl_tree.specs.Prepared.{Ready}
 use Rattle.rtl_tree.specs.Symbols.{Terminal, terminals}
-use Rattle.rtl_tree.specs.TreeModule.{Circuit}
+use Rattle.rtl_tree.specs.TreeModule.{Circuit, WrittenCircuit}
 use Rattle.rtl_tree.specs.GrammarModule.{Spells}
 use Rattle.rtl_tree.specs.Deeper.{too_deep, IsLeastPlace}
+use Rattle.rtl_unroll.specs.Plain.{plain_circuit}
 use Rattle.text_survey.specs.Terminals.{is_refused}
 use Rattle.text_survey.specs.Surveys.{AreClosed}
 use Rattle.text_survey.specs.Least.{IsLeast}
@@ -29,6 +30,13 @@ abbrev pub IsThere : List ℕ → Option Terminal → List ℕ → ℕ → Type 
 IsThere all (Some t) text at = (t.text ≡ text) × (t.at ≡ at)
 IsThere all None text at = (text ≡ []) × (at ≡ min (length all) 4294967295)
 
+-- the modules of a prepared text: those that it spells, where nothing is nested too deep, with assignments in place of gates
+pub record IsParsed (ready : Ready) (circuits : List Circuit) : Type 0 where
+  pub written : List WrittenCircuit
+  pub spelled : Spells ready written
+  pub shallow : too_deep written ≡ []
+  pub plain : circuits ≡ map plain_circuit written
+
 -- why a prepared text isn't parsed: its first token that is outside this language; else the first token that no modules can have
 -- there, while the modules before it are spelled; else the least place that is nested too deep in what is spelled
 abbrev pub IsCause : Ready → ParseFault → Type 0
@@ -37,7 +45,7 @@ IsCause ready (Refused text at) =
 IsCause ready (Syntax text at) =
     (n : ℕ) × (first_outside ready ≡ None) × IsLeast (tokens ready) n × AreClosed (tokens ready) n × IsThere ready.text (slice_get (tokens ready) n) text.items at
 IsCause ready (TooDeep at) =
-    (circuits : List Circuit) × (first_outside ready ≡ None) × Spells ready circuits × IsLeastPlace (too_deep circuits) at
+    (circuits : List WrittenCircuit) × (first_outside ready ≡ None) × Spells ready circuits × IsLeastPlace (too_deep circuits) at
 IsCause ready Memory = Unit {0}
 
 -- a fault by what it tells

@@ -3,6 +3,7 @@
 
 mod fault;
 pub mod law;
+mod plain;
 mod whole;
 
 pub use fault::ParseFault;

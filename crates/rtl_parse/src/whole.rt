@@ -3,15 +3,16 @@
 ghost use Rattle.std.specs.Prelude.{◌≡◌, ◌+◌, [], None, map, position, IfOk, IfErr, IfSome};
 ghost use Rattle.std.specs.List.{slice_get};
 ghost use Rattle.rtl_tree.specs.Symbols.{terminal};
-ghost use Rattle.rtl_tree.specs.TreeModule.{circuit};
-ghost use Rattle.rtl_tree.specs.GrammarModule.{AreSpelled, Spells};
+ghost use Rattle.rtl_tree.specs.TreeModule.{circuit, written_circuit};
+ghost use Rattle.rtl_tree.specs.GrammarModule.{AreSpelled};
 ghost use Rattle.rtl_tree.specs.Deeper.{too_deep};
-ghost use Rattle.rtl_parse.specs.Parses.{IsCause, IsThere, first_outside};
+ghost use Rattle.rtl_parse.specs.Parses.{IsCause, IsParsed, IsThere, first_outside};
 
 use crate::fault::ParseFault;
+use crate::plain::all_plain;
 use rtl_tree::prepared::Prepared;
 use rtl_tree::symbol::Terminal;
-use rtl_tree::tree::modules::Module;
+use rtl_tree::tree::modules::{Module, WrittenModule};
 use std::alloc::Global;
 use std::sync::ledger::Ledger;
 use steps::Steps;
@@ -44,11 +45,11 @@ fn certain(
     alloc: Global,
     tokens: &[Terminal],
     regions: &[Dropped],
-) -> Result<Option<Vec<Module>>, Memory>
+) -> Result<Option<Vec<WrittenModule>>, Memory>
     ensures spelled { IfOk result (λ found. IfSome found (λ modules.
-        AreSpelled regions.now (map terminal tokens.now) (map circuit modules.items))) }
+        AreSpelled regions.now (map terminal tokens.now) (map written_circuit modules.items))) }
     ensures shallow { IfOk result (λ found. IfSome found (λ modules.
-        too_deep (map circuit modules.items) ≡ [])) }
+        too_deep (map written_circuit modules.items) ≡ [])) }
 {
     if !is_ordinary(tokens) {
         return Ok(None);
@@ -65,9 +66,10 @@ fn certain(
     }
 }
 
-/// The modules that a prepared text spells. It is searched for a word outside this language first. Then an ordinary text is built at
-/// once, and any other, and one whose trees aren't spelled by it for certain, is surveyed without recursion, which tells where it stops
-/// being spelled and how deep it is nested, and only then built. Each call is one step.
+/// The modules that a prepared text spells, with assignments in place of gates. It is searched for a word outside this language
+/// first. Then an ordinary text is built at once, and any other, and one whose trees aren't spelled by it for certain, is surveyed
+/// without recursion, which tells where it stops being spelled and how deep it is nested, and only then built. Each call is one
+/// step.
 ///
 /// # Errors
 ///
@@ -80,8 +82,7 @@ pub fn parse<L: Ledger>(
 ) -> Result<Vec<Module>, ParseFault>
     ensures counted { steps.new ≡ steps.old + 1 }
     ensures inside { IfOk result (λ _. first_outside text.now ≡ None) }
-    ensures spelled { IfOk result (λ modules. Spells text.now (map circuit modules.items)) }
-    ensures shallow { IfOk result (λ modules. too_deep (map circuit modules.items) ≡ []) }
+    ensures parsed { IfOk result (λ modules. IsParsed text.now (map circuit modules.items)) }
     ensures cause { IfErr result (λ fault. IsCause text.now fault) }
 {
     steps.tick();
@@ -92,8 +93,8 @@ pub fn parse<L: Ledger>(
         return Err(ParseFault::Refused(word, at));
     }
     let regions = text.dropped();
-    if let Some(modules) = certain(alloc, tokens, regions)? {
-        return Ok(modules);
+    if let Some(written) = certain(alloc, tokens, regions)? {
+        return Ok(all_plain(alloc, written)?);
     }
     match survey(alloc, tokens)? {
         Surveyed::Stopped(number) => {
@@ -102,7 +103,7 @@ pub fn parse<L: Ledger>(
         }
         Surveyed::TooDeep(at) => Err(ParseFault::TooDeep(at)),
         Surveyed::Spelled => match build(alloc, tokens, regions) {
-            Ok(modules) => Ok(modules),
+            Ok(written) => Ok(all_plain(alloc, written)?),
             // What is spelled and not too deep is built, unless memory runs out.
             Err(_) => Err(ParseFault::Memory),
         },

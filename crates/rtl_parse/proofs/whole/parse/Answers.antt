@@ -1,5 +1,5 @@
 -- Each answer is told from what the survey and the builder say.
-use Rattle.rtl_parse.proofs.Answers.{are_read, outside_cause, all_inside, stop_cause, depth_cause, built}
+use Rattle.rtl_parse.proofs.Answers.{are_read, outside_cause, all_inside, stop_cause, depth_cause, built, certain}
 use Rattle.rtl_parse.proofs.whole.parse.Goals as goal
 
 pub returns-in-Some-clause-cause : goal.returns-in-Some-clause-cause
@@ -24,17 +24,17 @@ returns-in-Ok-clause-inside g c =
     let read = are_read c.args.text.now _ _ _ c.as_slice-tokens.result.now c.text.ensures c.tokens.ensures c.in_ok-terminals.ensures.found c.in_ok-terminals.ensures.numbered c.as_slice-tokens.ensures.value in
     all_inside c.args.text.now c.as_slice-tokens.result.now c.refused.result read c.refused.ensures c.in_default.is
 
-pub returns-in-Ok-clause-spelled : goal.returns-in-Ok-clause-spelled
-returns-in-Ok-clause-spelled g c =
+pub returns-in-Ok-clause-parsed : goal.returns-in-Ok-clause-parsed
+returns-in-Ok-clause-parsed g c =
     let read = are_read c.args.text.now _ _ _ c.as_slice-tokens.result.now c.text.ensures c.tokens.ensures c.in_ok-terminals.ensures.found c.in_ok-terminals.ensures.numbered c.as_slice-tokens.ensures.value in
-    (built c.args.text.now c.as_slice-tokens.result.now c.in_ok-number.field-0 _ c.build.result c.in-Ok.modules read c.in_ok-number.ensures c.in-Spelled.is c.dropped-regions.ensures c.build.ensures.built c.in-Ok.is).0
-
-pub returns-in-Ok-clause-shallow : goal.returns-in-Ok-clause-shallow
-returns-in-Ok-clause-shallow g c =
-    let read = are_read c.args.text.now _ _ _ c.as_slice-tokens.result.now c.text.ensures c.tokens.ensures c.in_ok-terminals.ensures.found c.in_ok-terminals.ensures.numbered c.as_slice-tokens.ensures.value in
-    (built c.args.text.now c.as_slice-tokens.result.now c.in_ok-number.field-0 _ c.build.result c.in-Ok.modules read c.in_ok-number.ensures c.in-Spelled.is c.dropped-regions.ensures c.build.ensures.built c.in-Ok.is).1
+    built c.args.text.now c.as_slice-tokens.result.now c.in_ok-number.field-0 _ c.build.result c.in-Ok.written c.in_ok-all_plain-in-Ok.field-0 read c.in_ok-number.ensures c.in-Spelled.is c.dropped-regions.ensures c.build.ensures.built c.in-Ok.is c.in_ok-all_plain-in-Ok.ensures
 
 pub returns-in-Some-2-clause-inside : goal.returns-in-Some-2-clause-inside
 returns-in-Some-2-clause-inside g c =
     let read = are_read c.args.text.now _ _ _ c.as_slice-tokens.result.now c.text.ensures c.tokens.ensures c.in_ok-terminals.ensures.found c.in_ok-terminals.ensures.numbered c.as_slice-tokens.ensures.value in
     all_inside c.args.text.now c.as_slice-tokens.result.now c.refused.result read c.refused.ensures c.in_default.is
+
+pub returns-in-Some-2-clause-parsed : goal.returns-in-Some-2-clause-parsed
+returns-in-Some-2-clause-parsed g c =
+    let read = are_read c.args.text.now _ _ _ c.as_slice-tokens.result.now c.text.ensures c.tokens.ensures c.in_ok-terminals.ensures.found c.in_ok-terminals.ensures.numbered c.as_slice-tokens.ensures.value in
+    certain c.args.text.now c.as_slice-tokens.result.now _ c.in_ok-written.field-0 c.in-Some-2.written c.in_ok-all_plain.field-0 read c.dropped-regions.ensures c.in_ok-written.ensures.spelled c.in_ok-written.ensures.shallow c.in-Some-2.is c.in_ok-all_plain.ensures
