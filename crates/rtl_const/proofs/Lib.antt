@@ -1,1 +1,4 @@
+pub mod Example
+pub mod Powers
+pub mod Ranges
 pub mod Shifts

@@ -12,11 +12,11 @@ use Rattle.rtl_const.specs.Constant.{literal, ranged, shifted_left}
 use Rattle.rtl_const.specs.declared.fault.ConstFault.TheVariants.{Overflow}
 
 -- a number above the range
-above : (at m : ℕ) → 4294967295 < m → ranged at (pos m) ≡ Err (Overflow at)
+pub above : (at m : ℕ) → 4294967295 < m → ranged at (pos m) ≡ Err (Overflow at)
 above at m large = grind (arith, nat_tests)
 
 -- a number below the range
-below : (at m : ℕ) → 2147483648 < m → ranged at (neg_ℤ (pos m)) ≡ Err (Overflow at)
+pub below : (at m : ℕ) → 2147483648 < m → ranged at (neg_ℤ (pos m)) ≡ Err (Overflow at)
 below at zero large = absurd (omega arith)
 below at (suc m) large = grind (arith, nat_tests)
 

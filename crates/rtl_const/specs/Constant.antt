@@ -1,14 +1,16 @@
 -- What a constant expression is worth: a whole number without a width (IEEE 1364-2001 section 4.1), or why it has none.
--- Worked examples: crates/elab_items/proofs/Examples.antt, crates/tests_layers/stdin.
+-- Worked examples: proofs/Example.antt, crates/elab_items/proofs/Examples.antt, crates/tests_layers/stdin.
 use Rattle.std.specs.Prelude.{ℕ, zero, ◌-◌, ◌^◌, nat_le, ◌==◌, ℤ, pos, negsuc, neg_ℤ, ◌+ℤ◌, ◌-ℤ◌, ◌*ℤ◌, int_lt, int_le, int_div, int_rem, Bool, true, false, not, ◌&&◌, ◌||◌, if◌then◌else◌, Option, None, Some, Result, Ok, Err}
-use Rattle.std.specs.Int.{int_div_euclid}
+use Rattle.std.specs.Int.{int_div_euclid, int_pow}
+use Rattle.std.specs.List.{position_or_len, range_with_len}
 use Rattle.std.specs.Ordering.{int_eq}
 use Rattle.rtl_tree.specs.declared.literal.Literal.{Literal}
 use Rattle.rtl_tree.specs.declared.tree.operators.UnaryOperator.{UnaryOperator}
 use Rattle.rtl_tree.specs.declared.tree.operators.UnaryOperator.TheVariants.{Plus, Minus, LogicalNot}
 use Rattle.rtl_tree.specs.declared.tree.operators.BinaryOperator.{BinaryOperator}
-use Rattle.rtl_tree.specs.declared.tree.operators.BinaryOperator.TheVariants.{Multiply, Divide, Modulus, Add, Subtract, ShiftLeft, ShiftRight, ArithmeticShiftLeft, ArithmeticShiftRight, Less, LessOrEqual, Greater, GreaterOrEqual, Equal, NotEqual, CaseEqual, CaseNotEqual, BitwiseAnd, BitwiseXor, BitwiseXnor, BitwiseOr, LogicalAnd, LogicalOr}
-use Rattle.rtl_tree.specs.TreeExpr.{Formula, Number, Read, Parens, Unary, Binary, Choose, formula_place}
+use Rattle.rtl_tree.specs.declared.tree.operators.BinaryOperator.TheVariants.{Power, Multiply, Divide, Modulus, Add, Subtract, ShiftLeft, ShiftRight, ArithmeticShiftLeft, ArithmeticShiftRight, Less, LessOrEqual, Greater, GreaterOrEqual, Equal, NotEqual, CaseEqual, CaseNotEqual, BitwiseAnd, BitwiseXor, BitwiseXnor, BitwiseOr, LogicalAnd, LogicalOr}
+use Rattle.rtl_tree.specs.declared.tree.operators.SystemFunction.TheVariants.{Clog2}
+use Rattle.rtl_tree.specs.TreeExpr.{Formula, Number, Read, Parens, Apply, Unary, Binary, Choose, formula_place}
 use Rattle.rtl_const.specs.Numbers.{Numbers}
 use Rattle.rtl_const.specs.declared.fault.ConstFault.{ConstFault}
 use Rattle.rtl_const.specs.declared.fault.ConstFault.TheVariants.{NotConstant, Overflow, DivideByZero}
@@ -67,6 +69,20 @@ abbrev pub shifted_right : ℕ → ℤ → ℤ → Outcome
 shifted_right at a (pos n) = ranged at (int_div_euclid a (pos (2 ^ n)))
 shifted_right at a (negsuc n) = Err (Overflow at)
 
+-- a to the n, where n isn't negative; 0 to the 0 is 1
+abbrev pub raised : ℕ → ℤ → ℤ → Outcome
+raised at a (pos n) = ranged at (int_pow a n)
+raised at a (negsuc n) = Err (Overflow at)
+
+-- the least k for which 2 to the k is n or more, where n has no more than 128 bits
+unfoldable pub clog2 : ℕ → ℕ
+clog2 n = position_or_len (λ k. nat_le n (2 ^ k)) (range_with_len 0 129)
+
+-- the logarithm of n to the base 2, rounded up, where n isn't negative; 0 of 0
+abbrev pub logarithm : ℕ → ℤ → Outcome
+logarithm at (pos n) = Ok (pos (clog2 n))
+logarithm at (negsuc n) = Err (Overflow at)
+
 -- the operators of constant expressions between two operands
 abbrev pub is_constant_operator : BinaryOperator → Bool
 is_constant_operator CaseEqual = false
@@ -86,6 +102,7 @@ applied _ at a = Err (NotConstant at)
 
 -- what an operator gives of its operands' numbers: `/` goes towards zero, and `%` has the sign of its left operand
 abbrev pub combined : BinaryOperator → ℕ → ℤ → ℤ → Outcome
+combined Power at a b = raised at a b
 combined Multiply at a b = ranged at (a *ℤ b)
 combined Divide at a b = divided at int_div a b
 combined Modulus at a b = divided at int_rem a b
@@ -118,6 +135,7 @@ abbrev pub constant : Numbers → Formula → Outcome
 constant numbers (Number value at) = literal at value
 constant numbers (Read name) = named name.at (numbers name.text)
 constant numbers (Parens at inner) = constant numbers inner
+constant numbers (Apply Clog2 at inner) = then_with (constant numbers inner) (logarithm at)
 constant numbers (Unary operator at operand) =
     if is_constant_prefix operator
     then then_with (constant numbers operand) (applied operator at)

@@ -6,10 +6,11 @@ ghost use Rattle.rtl_const.specs.Constant.{constant, named};
 
 use crate::fault::ConstFault;
 use crate::number::{
-    applied, combined, is_constant_operator, is_constant_prefix, is_true, literal, named,
+    applied, combined, is_constant_operator, is_constant_prefix, is_true, literal, logarithm, named,
 };
 use crate::params::Lookup;
 use rtl_tree::tree::expr::Expr;
+use rtl_tree::tree::operators::SystemFunction;
 
 /// The number of a constant expression; the first operand or operator, left to right, that isn't constant, leaves the
 /// range or divides by 0 refuses it at its place. It takes no memory.
@@ -20,6 +21,7 @@ pub fn constant<L: Lookup>(e: &Expr, params: &L) -> Result<i64, ConstFault>
         Expr::Number(value, at) => literal(*at, value),
         Expr::Read(name) => named(name.at, params.get(&name.text)),
         Expr::Parens(_, inner) => constant(inner, params),
+        Expr::Apply(SystemFunction::Clog2, at, inner) => logarithm(*at, constant(inner, params)?),
         Expr::Unary(operator, at, operand) => {
             if !is_constant_prefix(*operator) {
                 return Err(ConstFault::NotConstant(*at));

@@ -3,5 +3,6 @@
 
 pub mod evaluate;
 pub mod fault;
+pub mod logarithm;
 mod number;
 pub mod params;

@@ -1,10 +1,11 @@
 // The arithmetic of constant expressions.
 
 ghost use Rattle.std.specs.Prelude.{◌≡◌, ℤ, pos, neg_ℤ, ◌+ℤ◌, ◌-ℤ◌, ◌*ℤ◌, int_div, int_rem, ◌-◌, ◌≤◌, ◌<◌, ◌^◌, ◌≤ℤ◌, unsigned_abs};
-ghost use Rattle.std.specs.Int.{int_div_euclid};
-ghost use Rattle.rtl_const.specs.Constant.{applied, combined, divided, is_constant_operator, is_constant_prefix, is_true, literal, named, ranged, shifted_left, shifted_right, truth};
+ghost use Rattle.std.specs.Int.{int_div_euclid, int_pow};
+ghost use Rattle.rtl_const.specs.Constant.{applied, combined, divided, is_constant_operator, is_constant_prefix, is_true, literal, logarithm, named, raised, ranged, shifted_left, shifted_right, truth};
 
 use crate::fault::ConstFault;
+use crate::logarithm::clog2;
 use rtl_tree::literal::Literal;
 use rtl_tree::tree::operators::{BinaryOperator, UnaryOperator};
 
@@ -148,6 +149,45 @@ fn without_places(left: i64, n: i64) -> i64
     if left < 0 { -1 } else { 0 }
 }
 
+/// The left number to the power of the right one.
+fn raised(at: u32, left: i64, right: i64) -> Result<i64, ConstFault>
+    ensures { result ≡ raised at left right }
+{
+    if right < 0 {
+        return Err(ConstFault::Overflow(at));
+    }
+    raised_natural(at, left, right.unsigned_abs())
+}
+
+fn raised_natural(at: u32, left: i64, right: u64) -> Result<i64, ConstFault>
+    ensures { result ≡ ranged at (int_pow left right) }
+{
+    if right < 64 {
+        return raised_short(at, left, right as u32);
+    }
+    // All but 0, 1 and -1 leave the range, and of those it counts whether the exponent is even.
+    raised_short(at, left, 64 + (right % 2) as u32)
+}
+
+fn raised_short(at: u32, left: i64, right: u32) -> Result<i64, ConstFault>
+    ensures { result ≡ ranged at (int_pow left right) }
+{
+    match left.checked_pow(right) {
+        Some(n) => ranged(at, n),
+        None => Err(ConstFault::Overflow(at)),
+    }
+}
+
+/// The logarithm to the base 2, rounded up.
+pub(crate) fn logarithm(at: u32, n: i64) -> Result<i64, ConstFault>
+    ensures { result ≡ logarithm at n }
+{
+    if n < 0 {
+        return Err(ConstFault::Overflow(at));
+    }
+    Ok(i64::from(clog2(u128::from(n.unsigned_abs()))))
+}
+
 /// The number of a literal without x and z bits.
 pub(crate) fn literal(at: u32, l: &Literal) -> Result<i64, ConstFault>
     ensures { result ≡ literal at l.now }
@@ -249,6 +289,7 @@ pub(crate) fn combined(operator: BinaryOperator, at: u32, a: i64, b: i64) -> Res
     ensures { result ≡ combined operator at a b }
 {
     match operator {
+        BinaryOperator::Power => raised(at, a, b),
         BinaryOperator::Multiply => product(at, a, b),
         BinaryOperator::Divide => quotient(at, a, b),
         BinaryOperator::Modulus => remainder(at, a, b),
