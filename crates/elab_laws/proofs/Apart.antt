@@ -24,12 +24,14 @@ use Rattle.elab_body.specs.elab_scope.declared.rules.Writer.TheVariants.{Continu
 use Rattle.elab_body.specs.elab_scope.declared.widths.Field.{Field}
 use Rattle.elab_body.specs.elab_scope.Expressions.{faults, constant_faults}
 use Rattle.elab_body.specs.elab_scope.Names.{Meanings, numbers_in}
-use Rattle.elab_body.specs.elab_scope.Rules.{missing, number_faults, part_faults, range_faults, write_faults, index_faults}
+use Rattle.elab_body.specs.elab_scope.Rules.{missing, number_faults, run_faults, part_faults, range_faults, write_faults, index_faults}
+use Rattle.elab_body.specs.elab_scope.Selects.{msb_in, lsb_in}
 use Rattle.elab_body.specs.elab_scope.Sources.{Describes, IsDescribed}
 use Rattle.elab_body.specs.elab_scope.Targets.{part_target_faults, joined_faults, bit_selection, part_selection, pieces_of, all_pieces_of, whole_cover, bit_in, bit_cover, part_cover, overlap, cover_faults, with_cover, covered, all_covered, twice_faults, all_twice_faults}
 use Rattle.elab_body.specs.elab_scope.Trees.{field_in, low_of, own_context, signal_of, spot_in, tree_of}
 use Rattle.elab_body.specs.elab_scope.Widths.{field}
 use Rattle.elab_body.proofs.elab_scope_proofs.Fitting.{no_cons}
+use Rattle.elab_body.proofs.elab_scope_proofs.Leaves as leaf
 use Rattle.elab_body.proofs.elab_scope_proofs.Sound.{nil_left, nil_right}
 use Rattle.elab_laws.proofs.Targets.{piece_at}
 
@@ -55,8 +57,8 @@ mutual
   target_fixed file base scope (Bit name index) h =
       let first = write_faults Continuous name (scope name.text) ++ range_faults name (scope name.text) ++ faults scope index in
       one_fixed _ (fixed_bit name (low_of (scope name.text)) (constant (numbers_in scope) index) (tree_of file base scope index (own_context scope index)) (nil_right first _ h))
-  target_fixed file base scope (Part name msb lsb) h =
-      one_fixed _ (fixed_part (field_in (scope name.text) (constant (numbers_in scope) msb) (constant (numbers_in scope) lsb)))
+  target_fixed file base scope (Part name kind first second) h =
+      one_fixed _ (fixed_part (field_in (scope name.text) (msb_in scope kind first second) (lsb_in scope kind first second)))
   target_fixed file base scope (Joined at parts) h =
       row_fixed file base scope parts (nil_left (joined_faults Continuous scope parts) _ h)
 
@@ -212,19 +214,22 @@ mutual
       let o = constant (numbers_in scope) index in
       let tree = tree_of file base scope index (own_context scope index) in
       one_more base ss name before cs (piece_at (spot_in file name.at) (signal_of base (scope name.text)) (bit_selection (low_of (scope name.text)) o tree)) (bit_cover (scope name.text) o) kept twice (λ j s. bit_inside base ss name (scope name.text) o tree j (d name.text) (is_signal name (scope name.text) (nil_left first second two)) (nil_right front _ h) s)
-  target_kept file base scope ss d (Part name msb lsb) before cs h twice kept =
+  target_kept file base scope ss d (Part name kind start end) before cs h twice kept =
       let first = write_faults Continuous name (scope name.text) in
       let second = range_faults name (scope name.text) in
-      let third = constant_faults scope msb in
-      let fourth = constant_faults scope lsb in
-      let m = constant (numbers_in scope) msb in
-      let l = constant (numbers_in scope) lsb in
+      let third = constant_faults scope start in
+      let fourth = constant_faults scope end in
+      let fifth = run_faults name.at kind (constant (numbers_in scope) end) in
+      let m = msb_in scope kind start end in
+      let l = lsb_in scope kind start end in
       let last = part_faults name.at (scope name.text) m l in
-      let four : first ++ second ++ third ++ fourth ≡ [] = nil_left (first ++ second ++ third ++ fourth) last h in
+      let five : first ++ second ++ third ++ fourth ++ fifth ≡ [] = nil_left (first ++ second ++ third ++ fourth ++ fifth) last h in
+      let four : first ++ second ++ third ++ fourth ≡ [] = nil_left (first ++ second ++ third ++ fourth) fifth five in
       let three : first ++ second ++ third ≡ [] = nil_left (first ++ second ++ third) fourth four in
       let two : first ++ second ≡ [] = nil_left (first ++ second) third three in
+      let ends = leaf.ends kind (constant (numbers_in scope) start) (constant (numbers_in scope) end) (nil_right (faults scope start) _ (nil_right (first ++ second) third three)) (nil_right (faults scope end) _ (nil_right (first ++ second ++ third) fourth four)) in
       let f = field_in (scope name.text) m l in
-      one_more base ss name before cs (piece_at (spot_in file name.at) (signal_of base (scope name.text)) (part_selection f)) (part_cover (scope name.text) f) kept twice (λ j s. part_inside base ss name.at (scope name.text) m l j (d name.text) (is_signal name (scope name.text) (nil_left first second two)) (nil_right (faults scope msb) _ (nil_right (first ++ second) third three)) (nil_right (faults scope lsb) _ (nil_right (first ++ second ++ third) fourth four)) (nil_right (first ++ second ++ third ++ fourth) last h) s)
+      one_more base ss name before cs (piece_at (spot_in file name.at) (signal_of base (scope name.text)) (part_selection f)) (part_cover (scope name.text) f) kept twice (λ j s. part_inside base ss name.at (scope name.text) m l j (d name.text) (is_signal name (scope name.text) (nil_left first second two)) ends.0 ends.1 (nil_right (first ++ second ++ third ++ fourth ++ fifth) last h) s)
   target_kept file base scope ss d (Joined at parts) before cs h twice kept =
       row_kept file base scope ss d parts before cs (nil_left (joined_faults Continuous scope parts) _ h) twice kept
 

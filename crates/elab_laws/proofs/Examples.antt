@@ -4,6 +4,7 @@ use Rattle.std.specs.Str.{bytes_eq}
 use Rattle.std.proofs.Common.{refl, arith}
 use Rattle.rtl_tree.specs.declared.tree.operators.BinaryOperator.TheVariants.{Add, Less}
 use Rattle.rtl_tree.specs.declared.tree.stmt.AssignmentKind.TheVariants.{Blocking}
+use Rattle.rtl_tree.specs.declared.tree.operators.PartKind.TheVariants.{Between}
 use Rattle.rtl_tree.specs.TreeExpr.{Identifier, Formula, Number, Read, Binary}
 use Rattle.rtl_tree.specs.TreeStmt.{Action, Assign, Bit, For, Joined, Part, Target, more_targets, no_targets}
 use Rattle.rtl_flat.specs.declared.signal.Kind.{Kind}
@@ -81,7 +82,7 @@ whole n at = Number (record { width = 32; val = n; unk = 0; signed = true; sized
 -- {y[0], y[1:1]}
 abbrev halves : Target
 halves =
-    Joined 7 (more_targets (Bit (y 8) (whole 0 10)) (more_targets (Part (y 14) (whole 1 16) (whole 1 18)) no_targets))
+    Joined 7 (more_targets (Bit (y 8) (whole 0 10)) (more_targets (Part (y 14) Between (whole 1 16) (whole 1 18)) no_targets))
 
 -- assign {y[0], y[1:1]} = d;
 driven : IsProcess signals (Assigning (pieces_of 0 1 scope halves) (tree_of 0 1 scope (Read (d 24)) (assigned_context scope (Read (d 24)) halves)))

@@ -11,7 +11,7 @@ use Rattle.rtl_flat.specs.WellFormed.{IsBody, statements_of}
 use Rattle.elab_body.specs.elab_scope.Faults.{Refusal}
 use Rattle.elab_body.specs.Acts.{branch_acts, acts_if, acts_with}
 use Rattle.elab_body.specs.Bodies.{branch_steps, counted, where_true, with_number}
-use Rattle.elab_body.specs.Steps.{Step, Statement, Turn, faulty, has_statement}
+use Rattle.elab_body.specs.Steps.{Step, Turn, faulty, has_statement}
 use Rattle.elab_body.specs.Faultless.{AreFaultless, statement_count}
 use Rattle.elab_laws.proofs.Steps.{count_append, count_faulty, faultless_left, faultless_right, no_faults}
 

@@ -1,22 +1,25 @@
 -- The nodes that are counted are those of the trees in the design.
-use Rattle.std.specs.Prelude.{ℕ, suc, ◌+◌, Bool, List, [], ◌∷◌, ◌++◌, length, Option, None, Some, Ok, Err}
-use Rattle.std.proofs.Common.{◌≡◌, ◌∙◌, ap, arith, length-append, refl}
+use Rattle.std.specs.Prelude.{ℕ, suc, ◌+◌, Bool, ◌++◌, length, Option, None, Some, Ok, Err}
+use Rattle.std.proofs.Common.{◌≡◌, ◌∙◌, arith, length-append, refl}
 use Rattle.rtl_const.specs.Constant.{Outcome, constant}
-use Rattle.rtl_tree.specs.TreeExpr.{Formula, Number, Read, ReadBit, ReadPart, Parens, Convert, Concat, Repeat, Unary, Binary, Choose, Formulas, no_formulas, more_formulas}
+use Rattle.rtl_tree.specs.declared.tree.operators.SystemFunction.{SystemFunction}
+use Rattle.rtl_tree.specs.declared.tree.operators.SystemFunction.TheVariants.{Signed, Unsigned, Clog2}
+use Rattle.rtl_tree.specs.TreeExpr.{Formula, Number, Read, ReadBit, ReadPart, Parens, Apply, Concat, Repeat, Unary, Binary, Choose, Formulas, no_formulas, more_formulas}
 use Rattle.rtl_flat.specs.Expression.{Tree, nodes}
 use Rattle.elab_body.specs.elab_scope.declared.context.Context.{Context}
 use Rattle.elab_body.specs.elab_scope.declared.known.Known.{Known}
 use Rattle.elab_body.specs.elab_scope.declared.known.Known.TheVariants as known
 use Rattle.elab_body.specs.elab_scope.declared.operators.Operation.{Operation}
-use Rattle.elab_body.specs.elab_scope.declared.operators.Operation.TheVariants.{Join, Compare, Link, Shift}
+use Rattle.elab_body.specs.elab_scope.declared.operators.Operation.TheVariants.{Join, Compare, Link, Shift, Power}
 use Rattle.elab_body.specs.elab_scope.declared.operators.Prefix.{Prefix}
 use Rattle.elab_body.specs.elab_scope.declared.operators.Prefix.TheVariants.{Turn, Fold}
 use Rattle.elab_body.specs.elab_scope.declared.widths.Field.{Field}
 use Rattle.elab_body.specs.elab_scope.Names.{Meanings, numbers_in}
 use Rattle.elab_body.specs.elab_scope.Operators.{operation, prefix}
 use Rattle.elab_body.specs.elab_scope.Own.{sign}
-use Rattle.elab_body.specs.elab_scope.Trees.{bit_form, field_in, left_context, low_of, named_form, operand_context, operation_form, own_context, part_form, prefix_form, right_context, row_tree, signal_of, tree_of}
-use Rattle.elab_body.specs.elab_nodes.Nodes.{index_count, node_count, row_count}
+use Rattle.elab_body.specs.elab_scope.Selects.{msb_in, lsb_in}
+use Rattle.elab_body.specs.elab_scope.Trees.{bit_form, field_in, function_form, left_context, low_of, named_form, operand_context, operation_form, own_context, part_form, prefix_form, right_context, row_tree, signal_of, tree_of}
+use Rattle.elab_body.specs.elab_nodes.Nodes.{argument_count, index_count, node_count, operands_count, row_count}
 use Rattle.elab_laws.specs.Laws.{NodesLaw}
 
 named_nodes : (base : ℕ) (found : Option Known) (width : ℕ) (signed : Bool) → length (nodes (named_form base found width signed)) ≡ 0
@@ -37,11 +40,17 @@ prefix_nodes : (p : Prefix) (a : Tree) → length (nodes (prefix_form p a)) ≡ 
 prefix_nodes (Turn operator) a = refl
 prefix_nodes (Fold operator) a = refl
 
-operation_nodes : (o : Operation) (signed : Bool) (a b : Tree) → length (nodes (operation_form o signed a b)) ≡ length (nodes a) + length (nodes b)
-operation_nodes (Join operator) signed a b = length-append (nodes a) (nodes b)
-operation_nodes (Compare operator) signed a b = length-append (nodes a) (nodes b)
-operation_nodes (Link operator) signed a b = length-append (nodes a) (nodes b)
-operation_nodes (Shift operator) signed a b = length-append (nodes a) (nodes b)
+function_nodes : (f : SystemFunction) (number : _) (a : Tree) (n : ℕ) → length (nodes a) ≡ n → length (nodes (function_form f number a)) ≡ argument_count f n
+function_nodes Signed number a n is = is
+function_nodes Unsigned number a n is = is
+function_nodes Clog2 number a n is = refl
+
+operation_nodes : (o : Operation) (signed : Bool) (number : _) (a b : Tree) (n : ℕ) → length (nodes a) + length (nodes b) ≡ n → length (nodes (operation_form o signed number a b)) ≡ operands_count o n
+operation_nodes (Join operator) signed number a b n is = length-append (nodes a) (nodes b) ∙ is
+operation_nodes (Compare operator) signed number a b n is = length-append (nodes a) (nodes b) ∙ is
+operation_nodes (Link operator) signed number a b n is = length-append (nodes a) (nodes b) ∙ is
+operation_nodes (Shift operator) signed number a b n is = length-append (nodes a) (nodes b) ∙ is
+operation_nodes Power signed number a b n is = refl
 
 joined : (a b m n : ℕ) → a ≡ m → b ≡ n → a + b ≡ m + n
 joined a b m n p q = omega arith
@@ -62,11 +71,11 @@ mutual
       one_more _ 0 (named_nodes base (scope name.text) c.width c.signed)
   tree_nodes file base scope (ReadBit name index) c =
       one_more _ _ (bit_nodes (signal_of base (scope name.text)) (low_of (scope name.text)) (constant (numbers_in scope) index) (sign scope index) (tree_of file base scope index (own_context scope index)) (node_count scope index) (tree_nodes file base scope index (own_context scope index)))
-  tree_nodes file base scope (ReadPart name msb lsb) c =
-      one_more _ 0 (part_nodes (signal_of base (scope name.text)) (field_in (scope name.text) (constant (numbers_in scope) msb) (constant (numbers_in scope) lsb)))
+  tree_nodes file base scope (ReadPart name kind first second) c =
+      one_more _ 0 (part_nodes (signal_of base (scope name.text)) (field_in (scope name.text) (msb_in scope kind first second) (lsb_in scope kind first second)))
   tree_nodes file base scope (Parens at inner) c = tree_nodes file base scope inner c
-  tree_nodes file base scope (Convert signedness at inner) c =
-      one_more _ _ (tree_nodes file base scope inner (own_context scope inner))
+  tree_nodes file base scope (Apply function at inner) c =
+      one_more _ _ (function_nodes function _ (tree_of file base scope inner (own_context scope inner)) (node_count scope inner) (tree_nodes file base scope inner (own_context scope inner)))
   tree_nodes file base scope (Concat at parts) c = one_more _ _ (row_nodes file base scope parts)
   tree_nodes file base scope (Repeat at times parts) c =
       two_more (length (nodes (row_tree file base scope parts))) (row_count scope parts) (row_nodes file base scope parts)
@@ -80,7 +89,7 @@ mutual
       let right : Context = right_context scope o a b c in
       let one : Tree = tree_of file base scope a left in
       let other : Tree = tree_of file base scope b right in
-      one_more _ _ (operation_nodes o left.signed one other ∙ joined (length (nodes one)) (length (nodes other)) (node_count scope a) (node_count scope b) (tree_nodes file base scope a left) (tree_nodes file base scope b right))
+      one_more _ _ (operation_nodes o left.signed _ one other (node_count scope a + node_count scope b) (joined (length (nodes one)) (length (nodes other)) (node_count scope a) (node_count scope b) (tree_nodes file base scope a left) (tree_nodes file base scope b right)))
   tree_nodes file base scope (Choose at condition taken otherwise) c =
       let test : Tree = tree_of file base scope condition (own_context scope condition) in
       let one : Tree = tree_of file base scope taken c in

@@ -30,7 +30,8 @@ use Rattle.elab_body.specs.elab_scope.declared.widths.Field.{Field}
 use Rattle.elab_body.specs.elab_scope.Expressions.{faults, constant_faults}
 use Rattle.elab_body.specs.elab_scope.Names.{Meanings, numbers_in}
 use Rattle.elab_body.specs.elab_scope.Own.{name_breadth, part_breadth, field_breadth}
-use Rattle.elab_body.specs.elab_scope.Rules.{width_faults, number_faults, part_faults, missing, range_faults, write_faults, index_faults}
+use Rattle.elab_body.specs.elab_scope.Rules.{width_faults, number_faults, run_faults, part_faults, missing, range_faults, write_faults, index_faults}
+use Rattle.elab_body.specs.elab_scope.Selects.{msb_in, lsb_in}
 use Rattle.elab_body.specs.elab_scope.Sources.{IsDescribed, part_source}
 use Rattle.elab_body.specs.elab_scope.Targets.{target_breadth, targets_breadth, part_target_faults, joined_faults, bit_selection, part_selection, pieces_of, all_pieces_of}
 use Rattle.elab_body.specs.elab_scope.Trees.{field_in, low_of, own_context, signal_of, spot_in, tree_of}
@@ -189,15 +190,18 @@ mutual
       let last = index_faults by name (constant (numbers_in scope) index) in
       let front : first ++ second ++ faults scope index ≡ [] = nil_left (first ++ second ++ faults scope index) last h in
       bit by base ss (spot_in file name.at) name (scope name.text) (constant (numbers_in scope) index) (tree_of file base scope index (own_context scope index)) (d.described name.text) (d.kinds name.text) (nil_left first second (nil_left (first ++ second) _ front)) (own_expression file base scope ss d index (nil_right (first ++ second) _ front))
-  target_sound file base scope ss d by (Part name msb lsb) h =
+  target_sound file base scope ss d by (Part name kind start end) h =
       let first = write_faults by name (scope name.text) in
       let second = range_faults name (scope name.text) in
-      let third = constant_faults scope msb in
-      let fourth = constant_faults scope lsb in
-      let last = part_faults name.at (scope name.text) (constant (numbers_in scope) msb) (constant (numbers_in scope) lsb) in
-      let four : first ++ second ++ third ++ fourth ≡ [] = nil_left (first ++ second ++ third ++ fourth) last h in
+      let third = constant_faults scope start in
+      let fourth = constant_faults scope end in
+      let fifth = run_faults name.at kind (constant (numbers_in scope) end) in
+      let last = part_faults name.at (scope name.text) (msb_in scope kind start end) (lsb_in scope kind start end) in
+      let five : first ++ second ++ third ++ fourth ++ fifth ≡ [] = nil_left (first ++ second ++ third ++ fourth ++ fifth) last h in
+      let four : first ++ second ++ third ++ fourth ≡ [] = nil_left (first ++ second ++ third ++ fourth) fifth five in
       let three : first ++ second ++ third ≡ [] = nil_left (first ++ second ++ third) fourth four in
-      part by base ss (spot_in file name.at) name.at name (scope name.text) (constant (numbers_in scope) msb) (constant (numbers_in scope) lsb) (d.described name.text) (d.kinds name.text) (nil_left first second (nil_left (first ++ second) third three)) (nil_right (faults scope msb) _ (nil_right (first ++ second) third three)) (nil_right (faults scope lsb) _ (nil_right (first ++ second ++ third) fourth four)) (nil_right (first ++ second ++ third ++ fourth) last h)
+      let ends = leaf.ends kind (constant (numbers_in scope) start) (constant (numbers_in scope) end) (nil_right (faults scope start) _ (nil_right (first ++ second) third three)) (nil_right (faults scope end) _ (nil_right (first ++ second ++ third) fourth four)) in
+      part by base ss (spot_in file name.at) name.at name (scope name.text) (msb_in scope kind start end) (lsb_in scope kind start end) (d.described name.text) (d.kinds name.text) (nil_left first second (nil_left (first ++ second) third three)) ends.0 ends.1 (nil_right (first ++ second ++ third ++ fourth ++ fifth) last h)
   target_sound file base scope ss d by (Joined at parts) h =
       joined ss (written_kind by) at (targets_breadth scope parts) (all_pieces_of file base scope parts) (row_sound file base scope ss d by parts (nil_left (joined_faults by scope parts) _ h)) (nil_right (joined_faults by scope parts) _ h)
 

@@ -1,7 +1,7 @@
 -- Expressions without faults in the contexts that statements and targets give them.
 use Rattle.std.specs.Prelude.{ℕ, ◌≤◌, max, min, List, []}
 use Rattle.std.proofs.Common.{◌≡◌, ◌∙◌, ap, refl, arith}
-use Rattle.rtl_tree.specs.TreeExpr.{Formula, Number, Read, ReadBit, ReadPart, Parens, Convert, Concat, Repeat, Unary, Binary, Choose}
+use Rattle.rtl_tree.specs.TreeExpr.{Formula, Number, Read, ReadBit, ReadPart, Parens, Apply, Concat, Repeat, Unary, Binary, Choose}
 use Rattle.rtl_flat.specs.declared.signal.Signal.{Signal}
 use Rattle.rtl_flat.specs.Expression.{Tree}
 use Rattle.rtl_flat.specs.Signs.{IsExpression, sign_of, width_in}
@@ -24,9 +24,9 @@ pub tree_width : (file base : ℕ) (scope : Meanings) (ws : ℕ → ℕ) (e : Fo
 tree_width file base scope ws (Number value at) c = refl
 tree_width file base scope ws (Read name) c = refl
 tree_width file base scope ws (ReadBit name index) c = refl
-tree_width file base scope ws (ReadPart name msb lsb) c = refl
+tree_width file base scope ws (ReadPart name kind first second) c = refl
 tree_width file base scope ws (Parens at inner) c = tree_width file base scope ws inner c
-tree_width file base scope ws (Convert signedness at inner) c = refl
+tree_width file base scope ws (Apply function at inner) c = refl
 tree_width file base scope ws (Concat at parts) c = refl
 tree_width file base scope ws (Repeat at times parts) c = refl
 tree_width file base scope ws (Unary operator at a) c = refl
@@ -37,9 +37,9 @@ pub tree_sign : (file base : ℕ) (scope : Meanings) (e : Formula) (c : Context)
 tree_sign file base scope (Number value at) c = refl
 tree_sign file base scope (Read name) c = refl
 tree_sign file base scope (ReadBit name index) c = refl
-tree_sign file base scope (ReadPart name msb lsb) c = refl
+tree_sign file base scope (ReadPart name kind first second) c = refl
 tree_sign file base scope (Parens at inner) c = tree_sign file base scope inner c
-tree_sign file base scope (Convert signedness at inner) c = refl
+tree_sign file base scope (Apply function at inner) c = refl
 tree_sign file base scope (Concat at parts) c = refl
 tree_sign file base scope (Repeat at times parts) c = refl
 tree_sign file base scope (Unary operator at a) c = refl

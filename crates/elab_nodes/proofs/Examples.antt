@@ -1,9 +1,11 @@
 -- Nodes at work.
-use Rattle.std.specs.Prelude.{ℕ, false, true, if◌then◌else◌, [], ◌∷◌, None, Some}
+use Rattle.std.specs.Prelude.{false, true, if◌then◌else◌, [], ◌∷◌, None, Some}
 use Rattle.std.specs.Str.{bytes_eq}
 use Rattle.std.proofs.Common.{◌≡◌, refl}
-use Rattle.rtl_tree.specs.declared.tree.operators.BinaryOperator.TheVariants.{Add}
-use Rattle.rtl_tree.specs.TreeExpr.{Identifier, Formula, Number, Read, ReadBit, ReadPart, Parens, Repeat, Binary, Choose, no_formulas, more_formulas}
+use Rattle.rtl_tree.specs.declared.tree.operators.BinaryOperator.TheVariants.{Add, Power}
+use Rattle.rtl_tree.specs.declared.tree.operators.PartKind.TheVariants.{Between}
+use Rattle.rtl_tree.specs.declared.tree.operators.SystemFunction.TheVariants.{Signed, Clog2}
+use Rattle.rtl_tree.specs.TreeExpr.{Identifier, Formula, Number, Read, ReadBit, ReadPart, Parens, Apply, Repeat, Binary, Choose, no_formulas, more_formulas}
 use Rattle.rtl_tree.specs.TreeStmt.{Bit, Whole, Joined, Labelled, Default, Null, no_branches, more_branches, no_targets, more_targets}
 use Rattle.rtl_tree.specs.TreeItem.{Change, ChangeBit, Listed, Star}
 use Rattle.elab_scope.specs.declared.known.Known.TheVariants.{Signal}
@@ -35,8 +37,18 @@ constant_bit = refl
 computed_bit : node_count scope (ReadBit a (Read a)) ≡ 2
 computed_bit = refl
 
-part : node_count scope (ReadPart a three three) ≡ 1
+part : node_count scope (ReadPart a Between three three) ≡ 1
 part = refl
+
+-- 3 ** 3 and $clog2(3) are one each, and $signed(a) is two
+power : node_count scope (Binary Power 4 three three) ≡ 1
+power = refl
+
+logarithm : node_count scope (Apply Clog2 0 three) ≡ 1
+logarithm = refl
+
+conversion : node_count scope (Apply Signed 0 (Read a)) ≡ 2
+conversion = refl
 
 -- {3{a, a}}: itself, what it repeats, and the parts; the number of times isn't in the design
 repeated : node_count scope (Repeat 0 three (more_formulas (Read a) (more_formulas (Read a) no_formulas))) ≡ 4

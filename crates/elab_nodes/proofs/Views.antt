@@ -1,7 +1,7 @@
 -- The nodes of trees that hold vectors.
-use Rattle.std.specs.Prelude.{ℕ, suc, ◌+◌, map, Vec, Box}
+use Rattle.std.specs.Prelude.{ℕ, ◌+◌, map, Vec, Box}
 use Rattle.std.specs.declared.alloc.Global.{Global}
-use Rattle.std.proofs.Common.{◌≡◌, ◌∙◌, ap, refl}
+use Rattle.std.proofs.Common.{◌≡◌, ◌∙◌, ap}
 use Rattle.rtl_tree.specs.declared.tree.expr.Expr.{Expr}
 use Rattle.rtl_tree.specs.declared.tree.expr.Expr.TheVariants as expr
 use Rattle.rtl_tree.specs.declared.tree.stmt.Lvalue.{Lvalue}

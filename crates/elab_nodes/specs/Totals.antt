@@ -14,7 +14,7 @@ abbrev mutual
   target_count scope (Whole name) = 0
   target_count scope (Bit name index) =
       index_count (constant (numbers_in scope) index) (node_count scope index)
-  target_count scope (Part name msb lsb) = 0
+  target_count scope (Part name kind first second) = 0
   target_count scope (Joined at parts) = targets_count scope parts
 
   pub targets_count : Meanings → Targets → ℕ

@@ -20,7 +20,7 @@ fn spend_target(written: &Lvalue, names: &Names, left: u32) -> Option<u32>
     ensures { result ≡ spared left (target_count (meanings names.now) (target written.now)) }
 {
     match written {
-        Lvalue::Whole(_) | Lvalue::Part(_, _, _) => Some(left),
+        Lvalue::Whole(_) | Lvalue::Part(_, _, _, _) => Some(left),
         Lvalue::Bit(_, index) => spend_index(index, names, left),
         Lvalue::Concat(_, parts) => spend_targets(parts, names, left),
     }

@@ -1,5 +1,8 @@
 -- Breadths that give no fault.
-use Rattle.std.specs.Prelude.{ℕ, ◌+◌, ◌≤◌, nat_le, ◌&&◌, if◌then◌else◌, List, [], ◌∷◌}
+use Rattle.std.specs.Prelude.{ℕ, ◌+◌, ◌^◌, ◌≤◌, nat_le, ℤ, pos, negsuc, int_lt, true, FitsSigned, ◌&&◌, if◌then◌else◌, List, [], ◌∷◌}
+use Rattle.std.specs.Int.{w64}
+use Rattle.std.proofs.Math.Pow.{pow_mono}
+use Rattle.std.proofs.lemmas.Int.{ints}
 use Rattle.std.proofs.Common.{◌≡◌, refl, arith, inl, inr}
 use Rattle.std.proofs.lemmas.Bool.{cases_Bool}
 use Rattle.std.proofs.lemmas.Bool.Decides.{nat_tests}
@@ -8,6 +11,12 @@ use Rattle.elab_scope.specs.declared.widths.Breadth.TheVariants.{Bits, Unfit}
 use Rattle.elab_scope.specs.Faults.{Refusal}
 use Rattle.elab_scope.specs.Rules.{width_faults}
 use Rattle.elab_scope.specs.Widths.{fitted, fit, beside}
+
+-- a number of 64 bits lies in 63 of them, and in more
+pub below_places : (n : ℤ) (k : ℕ) → FitsSigned w64 n → 63 ≤ k → true ≡ int_lt n (pos (2 ^ k))
+below_places (pos m) k fits far =
+    let large : 2 ^ 63 ≤ 2 ^ k = pow_mono {i = 63} {j = k} far in grind (arith, ints, nat_tests)
+below_places (negsuc m) k fits far = refl
 
 pub no_cons : (x : Refusal) (xs : List Refusal) → x ∷ xs ≡ [] → ⊥
 no_cons x xs h = cc

@@ -5,7 +5,7 @@ use Rattle.std.proofs.lemmas.Bool.{cases_Bool}
 use Rattle.std.proofs.lemmas.Bool.Decides.{nat_tests}
 use Rattle.rtl_const.specs.Constant.{Outcome, constant}
 use Rattle.text_ground.specs.declared.text.Spot.{Spot}
-use Rattle.rtl_tree.specs.TreeExpr.{Formula, Number, Read, ReadBit, ReadPart, Parens, Convert, Concat, Repeat, Unary, Binary, Choose, Formulas, no_formulas, more_formulas}
+use Rattle.rtl_tree.specs.TreeExpr.{Formula, Number, Read, ReadBit, ReadPart, Parens, Apply, Concat, Repeat, Unary, Binary, Choose, Formulas, no_formulas, more_formulas}
 use Rattle.rtl_flat.specs.declared.signal.Signal.{Signal}
 use Rattle.rtl_flat.specs.Expression.{Tree, Sized}
 use Rattle.rtl_flat.specs.Expression as tree
@@ -20,13 +20,14 @@ use Rattle.elab_scope.specs.Expressions.{faults, row_faults}
 use Rattle.elab_scope.specs.Names.{Meanings, numbers_in}
 use Rattle.elab_scope.specs.Operators.{operation, prefix}
 use Rattle.elab_scope.specs.Own.{breadth, row_breadth, sign}
-use Rattle.elab_scope.specs.Rules.{width_faults, number_faults, times_faults, select_faults, part_faults}
+use Rattle.elab_scope.specs.Rules.{width_faults, number_faults, times_faults, select_faults, run_faults, part_faults}
+use Rattle.elab_scope.specs.Selects.{msb_in, lsb_in}
 use Rattle.elab_scope.specs.Sources.{Describes, source, row_source}
 use Rattle.elab_scope.specs.Trees.{tree_of, row_tree, own_context, spot_in, copies_of}
 use Rattle.elab_scope.specs.Widths.{bits, beside, fit, fitted, copied, repeated}
 use Rattle.elab_scope.proofs.Fitting.{no_cons, fits, fitted_is, summed, beside_summed, fit_summed, fit_is}
 use Rattle.elab_scope.proofs.Leaves as leaf
-use Rattle.elab_scope.proofs.Sound.{nil_left, nil_right, Sound, IsSound, own_tree, unary, binary, choice}
+use Rattle.elab_scope.proofs.Sound.{nil_left, nil_right, Sound, IsSound, own_tree, applied, unary, binary, choice}
 
 -- a row of parts has this breadth and this tree, and is lawful
 record SoundRow (ss : List Signal) (b : Breadth) (t : Tree) (e : Source) : Type 0 where
@@ -139,27 +140,23 @@ mutual
       leaf.name base ss (spot_in file name.at) name (scope name.text) (d name.text) h
   sound file base scope ss d (ReadBit name index) h =
       leaf.bit file base scope ss (spot_in file name.at) name (scope name.text) (constant (numbers_in scope) index) index (d name.text) (nil_left (select_faults name (scope name.text)) _ h) (sound file base scope ss d index (nil_right (select_faults name (scope name.text)) _ h))
-  sound file base scope ss d (ReadPart name msb lsb) h =
+  sound file base scope ss d (ReadPart name kind start end) h =
       let first = select_faults name (scope name.text) in
-      let second = faults scope msb ++ number_faults (constant (numbers_in scope) msb) in
-      let third = faults scope lsb ++ number_faults (constant (numbers_in scope) lsb) in
-      let fourth = part_faults name.at (scope name.text) (constant (numbers_in scope) msb) (constant (numbers_in scope) lsb) in
-      let most : first ++ second ++ third ≡ [] = nil_left (first ++ second ++ third) fourth h in
-      let two : first ++ second ≡ [] = nil_left (first ++ second) third most in
-      leaf.part base ss (spot_in file name.at) name.at name (scope name.text) (constant (numbers_in scope) msb) (constant (numbers_in scope) lsb) (d name.text) (nil_left first second two) (nil_right (faults scope msb) _ (nil_right first second two)) (nil_right (faults scope lsb) _ (nil_right (first ++ second) third most)) (nil_right (first ++ second ++ third) fourth h)
+      let second = faults scope start ++ number_faults (constant (numbers_in scope) start) in
+      let third = faults scope end ++ number_faults (constant (numbers_in scope) end) in
+      let fourth = run_faults name.at kind (constant (numbers_in scope) end) in
+      let fifth = part_faults name.at (scope name.text) (msb_in scope kind start end) (lsb_in scope kind start end) in
+      let most : first ++ second ++ third ++ fourth ≡ [] = nil_left (first ++ second ++ third ++ fourth) fifth h in
+      let three : first ++ second ++ third ≡ [] = nil_left (first ++ second ++ third) fourth most in
+      let two : first ++ second ≡ [] = nil_left (first ++ second) third three in
+      let ends = leaf.ends kind (constant (numbers_in scope) start) (constant (numbers_in scope) end) (nil_right (faults scope start) _ (nil_right first second two)) (nil_right (faults scope end) _ (nil_right (first ++ second) third three)) in
+      leaf.part base ss (spot_in file name.at) name.at name (scope name.text) (msb_in scope kind start end) (lsb_in scope kind start end) (d name.text) (nil_left first second two) ends.0 ends.1 (nil_right (first ++ second ++ third ++ fourth) fifth h)
   sound file base scope ss d (Parens at inner) h =
       let i = sound file base scope ss d inner (nil_left (faults scope inner) _ h) in
       record { lawful = i.lawful; width = i.width; some = i.some; small = i.small; sign = i.sign; tree = i.tree }
-  sound file base scope ss d (Convert signedness at inner) h =
-      let i = sound file base scope ss d inner (nil_left (faults scope inner) _ h) in
-      record {
-        lawful = (i.lawful, i.small);
-        width = i.width;
-        some = i.some;
-        small = i.small;
-        sign = refl;
-        tree = λ c. ap (λ t. Sized c.width c.signed (spot_in file at) (tree.Recast t)) (own_tree file base scope ss inner i);
-      }
+  sound file base scope ss d (Apply function at inner) h =
+      let front : faults scope inner ++ width_faults at (breadth scope (Apply function at inner)) ≡ [] = nil_left (faults scope inner ++ width_faults at (breadth scope (Apply function at inner))) _ h in
+      applied file base scope ss (spot_in file at) function inner (constant (numbers_in scope) (Apply function at inner)) (sound file base scope ss d inner (nil_left (faults scope inner) _ front))
   sound file base scope ss d (Concat at parts) h =
       joined ss (spot_in file at) at (row_breadth scope parts) (row_tree file base scope parts) (row_source file base scope parts) (sound_row file base scope ss d parts (nil_left (row_faults scope parts) _ h)) (nil_right (row_faults scope parts) _ h)
   sound file base scope ss d (Repeat at times parts) h =
@@ -170,8 +167,10 @@ mutual
   sound file base scope ss d (Unary operator at a) h =
       unary file base scope ss (spot_in file at) (prefix operator) a (sound file base scope ss d a (nil_left (faults scope a) _ h))
   sound file base scope ss d (Binary operator at a b) h =
-      let front : faults scope a ++ faults scope b ≡ [] = nil_left (faults scope a ++ faults scope b) _ h in
-      binary file base scope ss (spot_in file at) (operation operator) a b (sound file base scope ss d a (nil_left (faults scope a) _ front)) (sound file base scope ss d b (nil_right (faults scope a) _ front))
+      let own = width_faults at (breadth scope (Binary operator at a b)) in
+      let most : faults scope a ++ faults scope b ++ own ≡ [] = nil_left (faults scope a ++ faults scope b ++ own) _ h in
+      let front : faults scope a ++ faults scope b ≡ [] = nil_left (faults scope a ++ faults scope b) own most in
+      binary file base scope ss (spot_in file at) (operation operator) (constant (numbers_in scope) (Binary operator at a b)) a b (sound file base scope ss d a (nil_left (faults scope a) _ front)) (sound file base scope ss d b (nil_right (faults scope a) _ front))
   sound file base scope ss d (Choose at k a b) h =
       let three : faults scope k ++ faults scope a ++ faults scope b ≡ [] = nil_left (faults scope k ++ faults scope a ++ faults scope b) _ h in
       let two : faults scope k ++ faults scope a ≡ [] = nil_left (faults scope k ++ faults scope a) _ three in

@@ -9,6 +9,8 @@ use Rattle.rtl_bits.specs.Inside.{length-tabulate}
 use Rattle.rtl_const.specs.Constant.{Outcome}
 use Rattle.rtl_tree.specs.declared.literal.Literal.{Literal}
 use Rattle.text_ground.specs.declared.text.Spot.{Spot}
+use Rattle.rtl_tree.specs.declared.tree.operators.PartKind.{PartKind}
+use Rattle.rtl_tree.specs.declared.tree.operators.PartKind.TheVariants.{Between, Up, Down}
 use Rattle.rtl_tree.specs.TreeExpr.{Formula, Identifier}
 use Rattle.rtl_flat.specs.declared.signal.Signal.{Signal}
 use Rattle.rtl_flat.specs.Expression.{Sized}
@@ -23,6 +25,7 @@ use Rattle.elab_scope.specs.declared.widths.Field.{Field}
 use Rattle.elab_scope.specs.Names.{Meanings}
 use Rattle.elab_scope.specs.Own.{sign, name_breadth, name_sign, part_breadth, field_breadth}
 use Rattle.elab_scope.specs.Rules.{width_faults, read_faults, select_faults, number_faults, part_faults, missing}
+use Rattle.elab_scope.specs.Selects.{msb_of, lsb_of}
 use Rattle.elab_scope.specs.Sources.{IsDescribed, source, name_source, bit_source, part_source}
 use Rattle.elab_scope.specs.Trees.{tree_of, own_context, literal_bits, named_form, pattern, signal_of, low_of, field_in, bit_form, part_form}
 use Rattle.elab_scope.specs.Widths.{fitted, bits, field}
@@ -163,6 +166,14 @@ part_there base ss spot at n shape (Some f) there is small in' h =
       sign = refl;
       tree = λ c. refl;
     }
+
+-- what stands in the brackets of a select has numbers, and so have its ends
+pub ends : (kind : PartKind) (first second : Outcome) → number_faults first ≡ [] → number_faults second ≡ [] → (number_faults (msb_of kind first second) ≡ []) × (number_faults (lsb_of kind first second) ≡ [])
+ends kind (Err fault) second p q = absurd (no_cons _ _ p)
+ends kind (Ok a) (Err fault) p q = absurd (no_cons _ _ q)
+ends Between (Ok a) (Ok b) p q = (refl, refl)
+ends Up (Ok a) (Ok b) p q = (refl, refl)
+ends Down (Ok a) (Ok b) p q = (refl, refl)
 
 pub part : (base : ℕ) (ss : List Signal) (spot : Spot) (at : ℕ) (id : Identifier) (k : Option Known) (m l : Outcome) → IsDescribed base ss k → select_faults id k ≡ [] → number_faults m ≡ [] → number_faults l ≡ [] → part_faults at k m l ≡ [] → Sound ss (part_breadth k m l) false (λ c. Sized c.width c.signed spot (part_form (signal_of base k) (field_in k m l))) (part_source spot (signal_of base k) (field_in k m l))
 part base ss spot at id None m l d h p q r = absurd (no_cons _ _ h)

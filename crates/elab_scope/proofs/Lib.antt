@@ -1,3 +1,4 @@
+pub mod Example
 pub mod Fitting
 pub mod Law
 pub mod Leaves

@@ -1,6 +1,11 @@
 -- What an expression without faults has, form by form.
-use Rattle.std.specs.Prelude.{ℕ, ◌≤◌, max, min, Bool, ◌&&◌, List, [], ◌∷◌, ◌++◌}
-use Rattle.std.proofs.Common.{◌≡◌, ◌∙◌, ap, refl, arith}
+use Rattle.std.specs.Prelude.{ℕ, ◌≤◌, max, min, Bool, true, false, ◌&&◌, List, [], ◌∷◌, ◌++◌, length}
+use Rattle.std.proofs.Common.{◌≡◌, ◌∙◌, ap, sym, refl, arith}
+use Rattle.rtl_bits.specs.Bits.{extended}
+use Rattle.rtl_bits.specs.Inside.{length-tabulate}
+use Rattle.rtl_const.specs.Constant.{Outcome}
+use Rattle.rtl_tree.specs.declared.tree.operators.SystemFunction.{SystemFunction}
+use Rattle.rtl_tree.specs.declared.tree.operators.SystemFunction.TheVariants.{Signed, Unsigned, Clog2}
 use Rattle.text_ground.specs.declared.text.Spot.{Spot}
 use Rattle.rtl_tree.specs.TreeExpr.{Formula}
 use Rattle.rtl_flat.specs.declared.signal.Signal.{Signal}
@@ -12,14 +17,14 @@ use Rattle.elab_scope.specs.declared.context.Context.{Context}
 use Rattle.elab_scope.specs.declared.operators.Prefix.{Prefix}
 use Rattle.elab_scope.specs.declared.operators.Prefix.TheVariants.{Turn, Fold}
 use Rattle.elab_scope.specs.declared.operators.Operation.{Operation}
-use Rattle.elab_scope.specs.declared.operators.Operation.TheVariants.{Join, Compare, Link, Shift}
+use Rattle.elab_scope.specs.declared.operators.Operation.TheVariants.{Join, Compare, Link, Shift, Power}
 use Rattle.elab_scope.specs.declared.widths.Breadth.{Breadth}
 use Rattle.elab_scope.specs.declared.widths.Breadth.TheVariants.{Bits}
 use Rattle.elab_scope.specs.Faults.{Refusal}
 use Rattle.elab_scope.specs.Names.{Meanings}
-use Rattle.elab_scope.specs.Own.{breadth, sign, prefix_breadth, prefix_sign, operation_breadth, operation_sign}
-use Rattle.elab_scope.specs.Sources.{source, prefix_source, operation_source}
-use Rattle.elab_scope.specs.Trees.{tree_of, own_context, shared_context, operand_context, left_context, right_context, prefix_form, operation_form}
+use Rattle.elab_scope.specs.Own.{breadth, sign, function_breadth, is_signed, prefix_breadth, prefix_sign, operation_breadth, operation_sign}
+use Rattle.elab_scope.specs.Sources.{source, function_source, prefix_source, operation_source}
+use Rattle.elab_scope.specs.Trees.{tree_of, own_context, shared_context, operand_context, left_context, right_context, number_bits, function_form, prefix_form, operation_form}
 use Rattle.elab_scope.specs.Widths.{bits, wider}
 
 pub nil_left : (xs ys : List Refusal) → xs ++ ys ≡ [] → xs ≡ []
@@ -96,8 +101,37 @@ unary file base scope ss spot (Fold o) e h =
 widened : (a b : Breadth) (m n : ℕ) → a ≡ Bits m → b ≡ Bits n → wider a b ≡ Bits (max m n)
 widened a b m n p q = ap (λ w. wider w b) p ∙ ap (wider (Bits m)) q
 
-pub binary : (file base : ℕ) (scope : Meanings) (ss : List Signal) (spot : Spot) (o : Operation) (a b : Formula) → IsSound file base scope ss a → IsSound file base scope ss b → Sound ss (operation_breadth o (breadth scope a) (breadth scope b)) (operation_sign o (sign scope a) (sign scope b)) (λ c. Sized c.width c.signed spot (operation_form o (left_context scope o a b c).signed (tree_of file base scope a (left_context scope o a b c)) (tree_of file base scope b (right_context scope o a b c)))) (operation_source spot o (source file base scope a) (source file base scope b))
-binary file base scope ss spot (Join o) a b ha hb =
+recast : (file base : ℕ) (scope : Meanings) (ss : List Signal) (spot : Spot) (s : Bool) (e : Formula) → IsSound file base scope ss e → Sound ss (breadth scope e) s (λ c. Sized c.width c.signed spot (tree.Recast (tree_of file base scope e (own_context scope e)))) (sizing.Recast spot s (source file base scope e))
+recast file base scope ss spot s e h =
+    record {
+      lawful = (h.lawful, h.small);
+      width = h.width;
+      some = h.some;
+      small = h.small;
+      sign = refl;
+      tree = λ c. ap (λ t. Sized c.width c.signed spot (tree.Recast t)) (own_tree file base scope ss e h);
+    }
+
+length-number : (width : ℕ) (n : Outcome) → 1 ≤ width → width ≤ 128 → length (number_bits (Bits width) n) ≡ width
+length-number width n low high = length-tabulate (bits (Bits width)) _ ∙ clamped width low high
+
+-- what a function of the system gives
+pub applied : (file base : ℕ) (scope : Meanings) (ss : List Signal) (spot : Spot) (f : SystemFunction) (e : Formula) (n : Outcome) → IsSound file base scope ss e → Sound ss (function_breadth f (breadth scope e)) (is_signed f) (λ c. Sized c.width c.signed spot (function_form f (extended c.width c.signed (number_bits (Bits 32) n)) (tree_of file base scope e (own_context scope e)))) (function_source spot f (number_bits (Bits 32) n) (source file base scope e))
+applied file base scope ss spot Signed e n h = recast file base scope ss spot true e h
+applied file base scope ss spot Unsigned e n h = recast file base scope ss spot false e h
+applied file base scope ss spot Clog2 e n h =
+    let long : length (number_bits (Bits 32) n) ≡ 32 = length-number 32 n (omega arith) (omega arith) in
+    record {
+      lawful = omega (arith, long);
+      width = ap Bits (sym long);
+      some = omega (arith, long);
+      small = omega (arith, long);
+      sign = refl;
+      tree = λ c. refl;
+    }
+
+pub binary : (file base : ℕ) (scope : Meanings) (ss : List Signal) (spot : Spot) (o : Operation) (n : Outcome) (a b : Formula) → IsSound file base scope ss a → IsSound file base scope ss b → Sound ss (operation_breadth o (breadth scope a) (breadth scope b)) (operation_sign o (sign scope a) (sign scope b)) (λ c. Sized c.width c.signed spot (operation_form o (left_context scope o a b c).signed (extended c.width c.signed (number_bits (breadth scope a) n)) (tree_of file base scope a (left_context scope o a b c)) (tree_of file base scope b (right_context scope o a b c)))) (operation_source spot o (number_bits (breadth scope a) n) (sign scope a) (source file base scope a) (source file base scope b))
+binary file base scope ss spot (Join o) n a b ha hb =
     record {
       lawful = (ha.lawful, hb.lawful);
       width = widened (breadth scope a) (breadth scope b) _ _ ha.width hb.width;
@@ -108,9 +142,9 @@ binary file base scope ss spot (Join o) a b ha hb =
           ap (λ t. Sized c.width c.signed spot (tree.Joined o c.signed t (tree_of file base scope b c))) (ha.tree c)
           ∙ ap (λ t. Sized c.width c.signed spot (tree.Joined o c.signed (sized ss c.width c.signed (source file base scope a)) t)) (hb.tree c);
     }
-binary file base scope ss spot (Compare o) a b ha hb =
-    let m = own_width ss (source file base scope a) in
-    let n = own_width ss (source file base scope b) in
+binary file base scope ss spot (Compare o) n a b ha hb =
+    let k = own_width ss (source file base scope a) in
+    let m = own_width ss (source file base scope b) in
     let s = own_sign ss (source file base scope a) && own_sign ss (source file base scope b) in
     record {
       lawful = (ha.lawful, hb.lawful, omega (arith, ha.small, hb.small));
@@ -120,10 +154,10 @@ binary file base scope ss spot (Compare o) a b ha hb =
       sign = refl;
       tree = λ c.
           ap (λ d. Sized c.width c.signed spot (tree.Compared o d.signed (tree_of file base scope a d) (tree_of file base scope b d))) (shared_is file base scope ss a b ha hb)
-          ∙ ap (λ t. Sized c.width c.signed spot (tree.Compared o s t (tree_of file base scope b (context (max m n) s)))) (ha.tree (context (max m n) s))
-          ∙ ap (λ t. Sized c.width c.signed spot (tree.Compared o s (sized ss (max m n) s (source file base scope a)) t)) (hb.tree (context (max m n) s));
+          ∙ ap (λ t. Sized c.width c.signed spot (tree.Compared o s t (tree_of file base scope b (context (max k m) s)))) (ha.tree (context (max k m) s))
+          ∙ ap (λ t. Sized c.width c.signed spot (tree.Compared o s (sized ss (max k m) s (source file base scope a)) t)) (hb.tree (context (max k m) s));
     }
-binary file base scope ss spot (Link o) a b ha hb =
+binary file base scope ss spot (Link o) n a b ha hb =
     record {
       lawful = (ha.lawful, hb.lawful, ha.small, hb.small);
       width = refl;
@@ -134,7 +168,7 @@ binary file base scope ss spot (Link o) a b ha hb =
           ap (λ t. Sized c.width c.signed spot (tree.Linked o t (tree_of file base scope b (own_context scope b)))) (own_tree file base scope ss a ha)
           ∙ ap (λ t. Sized c.width c.signed spot (tree.Linked o (sized ss (own_width ss (source file base scope a)) (own_sign ss (source file base scope a)) (source file base scope a)) t)) (own_tree file base scope ss b hb);
     }
-binary file base scope ss spot (Shift o) a b ha hb =
+binary file base scope ss spot (Shift o) n a b ha hb =
     record {
       lawful = (ha.lawful, hb.lawful, hb.small);
       width = ha.width;
@@ -144,6 +178,17 @@ binary file base scope ss spot (Shift o) a b ha hb =
       tree = λ c.
           ap (λ t. Sized c.width c.signed spot (tree.Shifted o c.signed t (tree_of file base scope b (own_context scope b)))) (ha.tree c)
           ∙ ap (λ t. Sized c.width c.signed spot (tree.Shifted o c.signed (sized ss c.width c.signed (source file base scope a)) t)) (own_tree file base scope ss b hb);
+    }
+binary file base scope ss spot Power n a b ha hb =
+    let width = own_width ss (source file base scope a) in
+    let long : length (number_bits (breadth scope a) n) ≡ width = ap (λ b. length (number_bits b n)) ha.width ∙ length-number width n ha.some ha.small in
+    record {
+      lawful = omega (arith, long, ha.some);
+      width = ha.width ∙ ap Bits (sym long);
+      some = omega (arith, long, ha.some);
+      small = omega (arith, long, ha.small);
+      sign = refl;
+      tree = λ c. refl;
     }
 
 pub choice : (file base : ℕ) (scope : Meanings) (ss : List Signal) (spot : Spot) (k a b : Formula) → IsSound file base scope ss k → IsSound file base scope ss a → IsSound file base scope ss b → Sound ss (wider (breadth scope a) (breadth scope b)) (sign scope a && sign scope b) (λ c. Sized c.width c.signed spot (tree.Chosen (tree_of file base scope k (own_context scope k)) (tree_of file base scope a c) (tree_of file base scope b c))) (sizing.Chosen spot (source file base scope k) (source file base scope a) (source file base scope b))

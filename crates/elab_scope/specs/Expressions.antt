@@ -3,11 +3,14 @@
 -- Worked examples: crates/elab_body/proofs/Examples.antt.
 use Rattle.std.specs.Prelude.{List, [], ◌++◌}
 use Rattle.rtl_const.specs.Constant.{constant}
-use Rattle.rtl_tree.specs.TreeExpr.{Formula, Number, Read, ReadBit, ReadPart, Parens, Convert, Concat, Repeat, Unary, Binary, Choose, Formulas, no_formulas, more_formulas}
+use Rattle.rtl_tree.specs.TreeExpr.{Formula, Number, Read, ReadBit, ReadPart, Parens, Apply, Concat, Repeat, Unary, Binary, Choose, Formulas, no_formulas, more_formulas}
 use Rattle.elab_scope.specs.Faults.{Refusal}
 use Rattle.elab_scope.specs.Names.{Meanings, numbers_in}
+use Rattle.elab_scope.specs.Operators.{operation}
 use Rattle.elab_scope.specs.Own.{breadth}
-use Rattle.elab_scope.specs.Rules.{read_faults, select_faults, number_faults, times_faults, part_faults, width_faults}
+use Rattle.elab_scope.specs.Powers.{operation_faults, power_faults}
+use Rattle.elab_scope.specs.Rules.{read_faults, select_faults, number_faults, function_faults, times_faults, run_faults, part_faults, width_faults}
+use Rattle.elab_scope.specs.Selects.{msb_in, lsb_in}
 
 abbrev mutual
   -- the faults of an expression: each name is declared and may be read, each part that has to be constant has a
@@ -16,13 +19,17 @@ abbrev mutual
   faults scope (Number value at) = width_faults at (breadth scope (Number value at))
   faults scope (Read name) = read_faults name (scope name.text)
   faults scope (ReadBit name index) = select_faults name (scope name.text) ++ faults scope index
-  faults scope (ReadPart name msb lsb) =
+  faults scope (ReadPart name kind first second) =
       select_faults name (scope name.text)
-      ++ (faults scope msb ++ number_faults (constant (numbers_in scope) msb))
-      ++ (faults scope lsb ++ number_faults (constant (numbers_in scope) lsb))
-      ++ part_faults name.at (scope name.text) (constant (numbers_in scope) msb) (constant (numbers_in scope) lsb)
+      ++ (faults scope first ++ number_faults (constant (numbers_in scope) first))
+      ++ (faults scope second ++ number_faults (constant (numbers_in scope) second))
+      ++ run_faults name.at kind (constant (numbers_in scope) second)
+      ++ part_faults name.at (scope name.text) (msb_in scope kind first second) (lsb_in scope kind first second)
   faults scope (Parens at inner) = faults scope inner ++ width_faults at (breadth scope inner)
-  faults scope (Convert signedness at inner) = faults scope inner ++ width_faults at (breadth scope inner)
+  faults scope (Apply function at inner) =
+      faults scope inner
+      ++ width_faults at (breadth scope (Apply function at inner))
+      ++ function_faults function (constant (numbers_in scope) (Apply function at inner))
   faults scope (Concat at parts) =
       row_faults scope parts ++ width_faults at (breadth scope (Concat at parts))
   faults scope (Repeat at times parts) =
@@ -32,7 +39,10 @@ abbrev mutual
   faults scope (Unary operator at operand) =
       faults scope operand ++ width_faults at (breadth scope (Unary operator at operand))
   faults scope (Binary operator at left right) =
-      faults scope left ++ faults scope right ++ width_faults at (breadth scope (Binary operator at left right))
+      faults scope left
+      ++ faults scope right
+      ++ width_faults at (breadth scope (Binary operator at left right))
+      ++ operation_faults (operation operator) (power_faults scope at left (Binary operator at left right))
   faults scope (Choose at condition taken otherwise) =
       faults scope condition
       ++ faults scope taken

@@ -3,7 +3,9 @@ pub mod Faults
 pub mod Names
 pub mod Operators
 pub mod Own
+pub mod Powers
 pub mod Rules
+pub mod Selects
 pub mod Sources
 pub mod Targets
 pub mod Trees

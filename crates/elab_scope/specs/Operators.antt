@@ -3,7 +3,7 @@
 use Rattle.rtl_tree.specs.declared.tree.operators.UnaryOperator.{UnaryOperator}
 use Rattle.rtl_tree.specs.declared.tree.operators.UnaryOperator.TheVariants.{Plus, Minus, LogicalNot, BitwiseNot, ReduceAnd, ReduceNand, ReduceOr, ReduceNor, ReduceXor, ReduceXnor}
 use Rattle.rtl_tree.specs.declared.tree.operators.BinaryOperator.{BinaryOperator}
-use Rattle.rtl_tree.specs.declared.tree.operators.BinaryOperator.TheVariants.{Multiply, Divide, Modulus, Add, Subtract, ShiftLeft, ShiftRight, ArithmeticShiftLeft, ArithmeticShiftRight, Less, LessOrEqual, Greater, GreaterOrEqual, Equal, NotEqual, CaseEqual, CaseNotEqual, BitwiseAnd, BitwiseXor, BitwiseXnor, BitwiseOr, LogicalAnd, LogicalOr}
+use Rattle.rtl_tree.specs.declared.tree.operators.BinaryOperator.TheVariants.{Power, Multiply, Divide, Modulus, Add, Subtract, ShiftLeft, ShiftRight, ArithmeticShiftLeft, ArithmeticShiftRight, Less, LessOrEqual, Greater, GreaterOrEqual, Equal, NotEqual, CaseEqual, CaseNotEqual, BitwiseAnd, BitwiseXor, BitwiseXnor, BitwiseOr, LogicalAnd, LogicalOr}
 use Rattle.rtl_flat.specs.declared.expr.Turn.TheVariants as turn
 use Rattle.rtl_flat.specs.declared.expr.Join.TheVariants as join
 use Rattle.rtl_flat.specs.declared.expr.Compare.TheVariants as compare
@@ -13,6 +13,7 @@ use Rattle.rtl_flat.specs.declared.expr.Shift.TheVariants as shift
 use Rattle.elab_scope.specs.declared.operators.Prefix.{Prefix}
 use Rattle.elab_scope.specs.declared.operators.Prefix.TheVariants.{Turn, Fold}
 use Rattle.elab_scope.specs.declared.operators.Operation.{Operation}
+use Rattle.elab_scope.specs.declared.operators.Operation.TheVariants as operation'
 use Rattle.elab_scope.specs.declared.operators.Operation.TheVariants.{Join, Compare, Link, Shift}
 
 abbrev pub prefix : UnaryOperator → Prefix
@@ -29,6 +30,7 @@ prefix ReduceXnor = Fold fold.Xnor
 
 -- `<<<` is `<<`
 abbrev pub operation : BinaryOperator → Operation
+operation Power = operation'.Power
 operation Multiply = Join join.Multiply
 operation Divide = Join join.Divide
 operation Modulus = Join join.Remainder

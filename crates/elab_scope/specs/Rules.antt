@@ -4,6 +4,10 @@ use Rattle.std.specs.Prelude.{ℕ, pos, int_le, ◌&&◌, if◌then◌else◌, L
 use Rattle.rtl_const.specs.Constant.{Outcome}
 use Rattle.rtl_const.specs.declared.fault.ConstFault.{ConstFault}
 use Rattle.rtl_const.specs.declared.fault.ConstFault.TheVariants as constant
+use Rattle.rtl_tree.specs.declared.tree.operators.PartKind.{PartKind}
+use Rattle.rtl_tree.specs.declared.tree.operators.PartKind.TheVariants.{Between, Up, Down}
+use Rattle.rtl_tree.specs.declared.tree.operators.SystemFunction.{SystemFunction}
+use Rattle.rtl_tree.specs.declared.tree.operators.SystemFunction.TheVariants.{Signed, Unsigned, Clog2}
 use Rattle.rtl_tree.specs.TreeExpr.{Identifier}
 use Rattle.elab_scope.specs.declared.known.Known.{Known}
 use Rattle.elab_scope.specs.declared.known.Known.TheVariants as known
@@ -48,10 +52,27 @@ abbrev pub number_faults : Outcome → List Refusal
 number_faults (Ok number) = []
 number_faults (Err cause) = fault (const_place cause) (Const cause) ∷ []
 
+-- `$clog2` is worked out where the design is made, and so has a number
+abbrev pub function_faults : SystemFunction → Outcome → List Refusal
+function_faults Signed number = []
+function_faults Unsigned number = []
+function_faults Clog2 number = number_faults number
+
 -- how often a repetition is made is constant, and at least once (IEEE 1364-2001 section 4.1.14)
 abbrev pub times_faults : ℕ → Outcome → List Refusal
 times_faults at (Ok times) = if int_le (pos 1) times then [] else fault at Width ∷ []
 times_faults at (Err cause) = fault (const_place cause) (Const cause) ∷ []
+
+-- a number of bits
+abbrev pub count_faults : ℕ → Outcome → List Refusal
+count_faults at (Ok count) = if int_le (pos 1) count && int_le count (pos 128) then [] else fault at Width ∷ []
+count_faults at (Err cause) = []
+
+-- a run, `[base +: width]` or `[base -: width]`, has from 1 to 128 bits
+abbrev pub run_faults : ℕ → PartKind → Outcome → List Refusal
+run_faults at Between lsb = []
+run_faults at Up width = count_faults at width
+run_faults at Down width = count_faults at width
 
 -- a part that isn't there
 abbrev pub missing : ℕ → Option Field → List Refusal

@@ -1,9 +1,12 @@
 -- It serves inner contracts and proofs; no answer of the program is stated by it.
 -- An expression as the sizing of flat designs takes it: its names are signals and numbers, its parentheses are gone.
-use Rattle.std.specs.Prelude.{ℕ, ◌+◌, ◌<◌, ◌≤◌, ◌≡◌, true, List, length, Option, None, Some, Ok, Err}
+use Rattle.std.specs.Prelude.{ℕ, ◌+◌, ◌<◌, ◌≤◌, ◌≡◌, true, Bool, List, length, Option, None, Some, Ok, Err}
 use Rattle.rtl_const.specs.Constant.{Outcome, constant}
+use Rattle.rtl_bits.specs.declared.Bit.{Bit}
 use Rattle.text_ground.specs.declared.text.Spot.{Spot}
-use Rattle.rtl_tree.specs.TreeExpr.{Formula, Number, Read, ReadBit, ReadPart, Parens, Convert, Concat, Repeat, Unary, Binary, Choose, Formulas, no_formulas, more_formulas}
+use Rattle.rtl_tree.specs.declared.tree.operators.SystemFunction.{SystemFunction}
+use Rattle.rtl_tree.specs.declared.tree.operators.SystemFunction.TheVariants.{Signed, Unsigned, Clog2}
+use Rattle.rtl_tree.specs.TreeExpr.{Formula, Number, Read, ReadBit, ReadPart, Parens, Apply, Concat, Repeat, Unary, Binary, Choose, Formulas, no_formulas, more_formulas}
 use Rattle.rtl_flat.specs.declared.signal.Signal.{Signal}
 use Rattle.rtl_flat.specs.Signs.{width_in}
 use Rattle.rtl_flat.specs.Sizing.{Source, signed_in, low_in}
@@ -13,12 +16,14 @@ use Rattle.elab_scope.specs.declared.known.Known.TheVariants as known
 use Rattle.elab_scope.specs.declared.operators.Prefix.{Prefix}
 use Rattle.elab_scope.specs.declared.operators.Prefix.TheVariants.{Turn, Fold}
 use Rattle.elab_scope.specs.declared.operators.Operation.{Operation}
-use Rattle.elab_scope.specs.declared.operators.Operation.TheVariants.{Join, Compare, Link, Shift}
+use Rattle.elab_scope.specs.declared.operators.Operation.TheVariants.{Join, Compare, Link, Shift, Power}
+use Rattle.elab_scope.specs.declared.widths.Breadth.TheVariants.{Bits}
 use Rattle.elab_scope.specs.declared.widths.Field.{Field}
 use Rattle.elab_scope.specs.Names.{Meanings, numbers_in}
 use Rattle.elab_scope.specs.Operators.{operation, prefix}
-use Rattle.elab_scope.specs.Own.{is_signed, name_sign}
-use Rattle.elab_scope.specs.Trees.{copies_of, field_in, literal_bits, named_bits, signal_of, spot_in}
+use Rattle.elab_scope.specs.Own.{breadth, is_signed, name_sign, sign}
+use Rattle.elab_scope.specs.Selects.{msb_in, lsb_in}
+use Rattle.elab_scope.specs.Trees.{copies_of, field_in, literal_bits, named_bits, number_bits, signal_of, spot_in}
 
 -- a name that is read whole: a signal, or a literal
 abbrev pub name_source : Spot → ℕ → Option Known → Source
@@ -37,11 +42,18 @@ abbrev pub prefix_source : Spot → Prefix → Source → Source
 prefix_source spot (Turn operator) a = sizing.Turned spot operator a
 prefix_source spot (Fold operator) a = sizing.Folded spot operator a
 
-abbrev pub operation_source : Spot → Operation → Source → Source → Source
-operation_source spot (Join operator) a b = sizing.Joined spot operator a b
-operation_source spot (Compare operator) a b = sizing.Compared spot operator a b
-operation_source spot (Link operator) a b = sizing.Linked spot operator a b
-operation_source spot (Shift operator) a b = sizing.Shifted spot operator a b
+abbrev pub function_source : Spot → SystemFunction → List Bit → Source → Source
+function_source spot Signed number a = sizing.Recast spot (is_signed Signed) a
+function_source spot Unsigned number a = sizing.Recast spot (is_signed Unsigned) a
+function_source spot Clog2 number a = sizing.Number spot number (is_signed Clog2) true
+
+-- a power is a literal with these bits and this sign
+abbrev pub operation_source : Spot → Operation → List Bit → Bool → Source → Source → Source
+operation_source spot (Join operator) number signed a b = sizing.Joined spot operator a b
+operation_source spot (Compare operator) number signed a b = sizing.Compared spot operator a b
+operation_source spot (Link operator) number signed a b = sizing.Linked spot operator a b
+operation_source spot (Shift operator) number signed a b = sizing.Shifted spot operator a b
+operation_source spot Power number signed a b = sizing.Number spot number signed true
 
 abbrev mutual
   -- an expression of a file, where signals of the module are numbered from a base on
@@ -52,11 +64,11 @@ abbrev mutual
       name_source (spot_in file name.at) base (scope name.text)
   source file base scope (ReadBit name index) =
       bit_source (spot_in file name.at) (signal_of base (scope name.text)) (constant (numbers_in scope) index) (source file base scope index)
-  source file base scope (ReadPart name msb lsb) =
-      part_source (spot_in file name.at) (signal_of base (scope name.text)) (field_in (scope name.text) (constant (numbers_in scope) msb) (constant (numbers_in scope) lsb))
+  source file base scope (ReadPart name kind first second) =
+      part_source (spot_in file name.at) (signal_of base (scope name.text)) (field_in (scope name.text) (msb_in scope kind first second) (lsb_in scope kind first second))
   source file base scope (Parens at inner) = source file base scope inner
-  source file base scope (Convert signedness at inner) =
-      sizing.Recast (spot_in file at) (is_signed signedness) (source file base scope inner)
+  source file base scope (Apply function at inner) =
+      function_source (spot_in file at) function (number_bits (Bits 32) (constant (numbers_in scope) (Apply function at inner))) (source file base scope inner)
   source file base scope (Concat at parts) =
       sizing.Concat (spot_in file at) (row_source file base scope parts)
   source file base scope (Repeat at times parts) =
@@ -64,7 +76,7 @@ abbrev mutual
   source file base scope (Unary operator at a) =
       prefix_source (spot_in file at) (prefix operator) (source file base scope a)
   source file base scope (Binary operator at a b) =
-      operation_source (spot_in file at) (operation operator) (source file base scope a) (source file base scope b)
+      operation_source (spot_in file at) (operation operator) (number_bits (breadth scope a) (constant (numbers_in scope) (Binary operator at a b))) (sign scope a) (source file base scope a) (source file base scope b)
   source file base scope (Choose at condition taken otherwise) =
       sizing.Chosen (spot_in file at) (source file base scope condition) (source file base scope taken) (source file base scope otherwise)
 

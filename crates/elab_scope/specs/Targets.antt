@@ -22,7 +22,8 @@ use Rattle.elab_scope.specs.Expressions.{faults, constant_faults}
 use Rattle.elab_scope.specs.Faults.{NotAssignable, Refusal}
 use Rattle.elab_scope.specs.Names.{Meanings, numbers_in}
 use Rattle.elab_scope.specs.Own.{breadth, sign, name_breadth, part_breadth}
-use Rattle.elab_scope.specs.Rules.{fault, index_faults, part_faults, range_faults, width_faults, write_faults}
+use Rattle.elab_scope.specs.Rules.{fault, index_faults, part_faults, range_faults, run_faults, width_faults, write_faults}
+use Rattle.elab_scope.specs.Selects.{msb_in, lsb_in}
 use Rattle.elab_scope.specs.Trees.{field_in, low_of, own_context, signal_of, spot_in, tree_of}
 use Rattle.elab_scope.specs.Widths.{beside, bits, fit, wider}
 
@@ -31,8 +32,8 @@ abbrev mutual
   pub target_breadth : Meanings → Target → Breadth
   target_breadth scope (Whole name) = name_breadth (scope name.text)
   target_breadth scope (Bit name index) = Bits 1
-  target_breadth scope (Part name msb lsb) =
-      part_breadth (scope name.text) (constant (numbers_in scope) msb) (constant (numbers_in scope) lsb)
+  target_breadth scope (Part name kind first second) =
+      part_breadth (scope name.text) (msb_in scope kind first second) (lsb_in scope kind first second)
   target_breadth scope (Joined at parts) = fit (targets_breadth scope parts)
 
   pub targets_breadth : Meanings → Targets → Breadth
@@ -55,12 +56,13 @@ abbrev mutual
       ++ range_faults name (scope name.text)
       ++ faults scope index
       ++ index_faults by name (constant (numbers_in scope) index)
-  part_target_faults by scope (Part name msb lsb) =
+  part_target_faults by scope (Part name kind first second) =
       write_faults by name (scope name.text)
       ++ range_faults name (scope name.text)
-      ++ constant_faults scope msb
-      ++ constant_faults scope lsb
-      ++ part_faults name.at (scope name.text) (constant (numbers_in scope) msb) (constant (numbers_in scope) lsb)
+      ++ constant_faults scope first
+      ++ constant_faults scope second
+      ++ run_faults name.at kind (constant (numbers_in scope) second)
+      ++ part_faults name.at (scope name.text) (msb_in scope kind first second) (lsb_in scope kind first second)
   part_target_faults by scope (Joined at parts) =
       joined_faults by scope parts ++ width_faults at (target_breadth scope (Joined at parts))
 
@@ -111,8 +113,8 @@ abbrev mutual
   covered scope earlier (Whole name) = with_cover earlier (whole_cover (scope name.text))
   covered scope earlier (Bit name index) =
       with_cover earlier (bit_cover (scope name.text) (constant (numbers_in scope) index))
-  covered scope earlier (Part name msb lsb) =
-      with_cover earlier (part_cover (scope name.text) (field_in (scope name.text) (constant (numbers_in scope) msb) (constant (numbers_in scope) lsb)))
+  covered scope earlier (Part name kind first second) =
+      with_cover earlier (part_cover (scope name.text) (field_in (scope name.text) (msb_in scope kind first second) (lsb_in scope kind first second)))
   covered scope earlier (Joined at parts) = all_covered scope earlier parts
 
   pub all_covered : Meanings → List Cover → Targets → List Cover
@@ -127,8 +129,8 @@ abbrev mutual
       cover_faults name earlier (whole_cover (scope name.text))
   twice_faults scope earlier (Bit name index) =
       cover_faults name earlier (bit_cover (scope name.text) (constant (numbers_in scope) index))
-  twice_faults scope earlier (Part name msb lsb) =
-      cover_faults name earlier (part_cover (scope name.text) (field_in (scope name.text) (constant (numbers_in scope) msb) (constant (numbers_in scope) lsb)))
+  twice_faults scope earlier (Part name kind first second) =
+      cover_faults name earlier (part_cover (scope name.text) (field_in (scope name.text) (msb_in scope kind first second) (lsb_in scope kind first second)))
   twice_faults scope earlier (Joined at parts) = all_twice_faults scope earlier parts
 
   pub all_twice_faults : Meanings → List Cover → Targets → List Refusal
@@ -162,8 +164,8 @@ abbrev mutual
       record { signal = signal_of base (scope name.text); selection = piece.Whole; spot = spot_in file name.at } ∷ []
   pieces_of file base scope (Bit name index) =
       record { signal = signal_of base (scope name.text); selection = bit_selection (low_of (scope name.text)) (constant (numbers_in scope) index) (tree_of file base scope index (own_context scope index)); spot = spot_in file name.at } ∷ []
-  pieces_of file base scope (Part name msb lsb) =
-      record { signal = signal_of base (scope name.text); selection = part_selection (field_in (scope name.text) (constant (numbers_in scope) msb) (constant (numbers_in scope) lsb)); spot = spot_in file name.at } ∷ []
+  pieces_of file base scope (Part name kind first second) =
+      record { signal = signal_of base (scope name.text); selection = part_selection (field_in (scope name.text) (msb_in scope kind first second) (lsb_in scope kind first second)); spot = spot_in file name.at } ∷ []
   pieces_of file base scope (Joined at parts) = all_pieces_of file base scope parts
 
   pub all_pieces_of : ℕ → ℕ → Meanings → Targets → List Piece

@@ -77,7 +77,7 @@ pub(crate) fn left_context(
     ensures at_most { result.width ≤ 128 }
 {
     match operator {
-        Operation::Join(_) | Operation::Shift(_) => context,
+        Operation::Join(_) | Operation::Shift(_) | Operation::Power => context,
         Operation::Compare(_) => shared_context(a, b, names),
         Operation::Link(_) => own_context(a, names),
     }
@@ -101,6 +101,6 @@ pub(crate) fn right_context(
     match operator {
         Operation::Join(_) => context,
         Operation::Compare(_) => shared_context(a, b, names),
-        Operation::Link(_) | Operation::Shift(_) => own_context(b, names),
+        Operation::Link(_) | Operation::Shift(_) | Operation::Power => own_context(b, names),
     }
 }

@@ -14,6 +14,7 @@ use crate::judge::Judged;
 use crate::known::Known;
 use crate::names::Names;
 use crate::rules::Writer;
+use crate::selects::ends_of;
 use crate::size::field_in;
 use crate::targets::judge_parts;
 use crate::widths::{Breadth, Field};
@@ -186,9 +187,10 @@ fn cover_target<'a>(
             let bits = bit_cover(names.find(&name.text), constant(index, names));
             add_part(name, bits, so_far)
         }
-        Lvalue::Part(name, msb, lsb) => {
+        Lvalue::Part(name, kind, first, second) => {
             let known = names.find(&name.text);
-            let field = field_in(known, constant(msb, names), constant(lsb, names));
+            let ends = ends_of(*kind, first, second, names);
+            let field = field_in(known, ends.msb, ends.lsb);
             add_part(name, part_cover(known, field), so_far)
         }
         Lvalue::Concat(_, parts) => cover_all(parts, names, so_far),

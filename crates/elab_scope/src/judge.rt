@@ -7,21 +7,24 @@ ghost use Rattle.rtl_tree.specs.TreeExpr.{Concat, Parens, Read, ReadBit, ReadPar
 ghost use Rattle.elab_scope.specs.Expressions.{constant_faults, faults, row_faults};
 ghost use Rattle.elab_scope.specs.Faults.{after, refusal};
 ghost use Rattle.elab_scope.specs.Names.{meanings, numbers_in};
-ghost use Rattle.elab_scope.specs.Own.{breadth, operation_breadth, prefix_breadth, row_breadth};
-ghost use Rattle.elab_scope.specs.Rules.{part_faults, width_faults};
+ghost use Rattle.elab_scope.specs.Own.{breadth, function_breadth, operation_breadth, prefix_breadth, row_breadth};
+ghost use Rattle.elab_scope.specs.Powers.{operation_faults, power_faults};
+ghost use Rattle.elab_scope.specs.Rules.{function_faults, part_faults, run_faults, width_faults};
+ghost use Rattle.elab_scope.specs.Selects.{lsb_in, msb_in};
 ghost use Rattle.elab_scope.specs.Widths.{fit, repeated};
 
 use crate::fault::Fault;
 use crate::names::Names;
 use crate::operators::{Operation, Prefix, binary, unary};
-use crate::own::{name_breadth, part_breadth};
-use crate::rules;
+use crate::own::{function_breadth, name_breadth, part_breadth};
+use crate::selects::ends_of;
 use crate::widths::{Breadth, breadth_of};
+use crate::{powers, rules};
 use rtl_const::evaluate::constant;
 use rtl_const::fault::ConstFault;
 use rtl_tree::tree::expr::Expr;
 use rtl_tree::tree::names::Name;
-use rtl_tree::tree::operators::UnaryOperator;
+use rtl_tree::tree::operators::{PartKind, SystemFunction, UnaryOperator};
 
 /// What is found of an expression.
 #[derive(Clone, Copy)]
@@ -56,14 +59,16 @@ pub fn judge<'a>(e: &'a Expr, names: &Names, best: Option<Fault<'a>>) -> Judged<
         Expr::Number(value, at) => whole(*at, breadth_of(u32::from(value.width)), best),
         Expr::Read(name) => judge_name(name, names, best),
         Expr::ReadBit(name, index) => judge_bit(name, index, names, best),
-        Expr::ReadPart(name, msb, lsb) => {
+        Expr::ReadPart(name, kind, first, second) => {
             let best = rules::select(name, names.find(&name.text), best);
-            let best = judge_constant(msb, names, best);
-            let best = judge_constant(lsb, names, best);
-            judge_part(name, msb, lsb, names, best)
+            let best = judge_constant(first, names, best);
+            let best = judge_constant(second, names, best);
+            judge_part(name, *kind, first, second, names, best)
         }
-        Expr::Parens(at, inner) | Expr::Convert(_, at, inner) => {
-            judge_inner(*at, inner, names, best)
+        Expr::Parens(at, inner) => judge_inner(*at, inner, names, best),
+        Expr::Apply(function, at, inner) => {
+            let inner = judge(inner, names, best);
+            applied(*function, *at, e, names, inner)
         }
         Expr::Concat(at, parts) => judge_concat(*at, parts, names, best),
         Expr::Repeat(at, times, parts) => {
@@ -73,10 +78,12 @@ pub fn judge<'a>(e: &'a Expr, names: &Names, best: Option<Fault<'a>>) -> Judged<
         }
         Expr::Unary(operator, at, operand) => judge_unary(*operator, *at, operand, names, best),
         Expr::Binary(operator, at, left, right) => {
-            let left = judge(left, names, best);
-            let right = judge(right, names, left.best);
-            let breadth = combined(binary(*operator), left.breadth, right.breadth);
-            whole(*at, breadth, right.best)
+            let operation = binary(*operator);
+            let first = judge(left, names, best);
+            let second = judge(right, names, first.best);
+            let breadth = combined(operation, first.breadth, second.breadth);
+            let judged = whole(*at, breadth, second.best);
+            operated(operation, *at, left, e, names, judged)
         }
         Expr::Choose(at, condition, taken, otherwise) => {
             let condition = judge(condition, names, best);
@@ -122,26 +129,78 @@ fn judge_bit<'a>(
 }
 
 /// A part that is selected, where the name and the ends by themselves are judged before.
-fn judge_part<'a>(
+#[tactic(auto, using(crate::proofs::Least::after_append))]
+pub(crate) fn judge_part<'a>(
     name: &'a Name,
-    msb: &Expr,
-    lsb: &Expr,
+    kind: PartKind,
+    first: &Expr,
+    second: &Expr,
     names: &Names,
     best: Option<Fault<'a>>,
 ) -> Judged<'a>
     ensures breadth { result.breadth ≡ breadth (meanings names.now)
-        (ReadPart (identifier name.now) (formula msb.now) (formula lsb.now)) }
-    ensures best { let numbers = numbers_in (meanings names.now) in
+        (ReadPart (identifier name.now) kind (formula first.now) (formula second.now)) }
+    ensures best { let scope = meanings names.now in
         option_map refusal result.best ≡ after (option_map refusal best.entry)
-        (part_faults name.now.at (meanings names.now name.now.text)
-        (constant numbers (formula msb.now)) (constant numbers (formula lsb.now))) }
+        (run_faults name.now.at kind (constant (numbers_in scope) (formula second.now))
+        ++ part_faults name.now.at (scope name.now.text)
+        (msb_in scope kind (formula first.now) (formula second.now))
+        (lsb_in scope kind (formula first.now) (formula second.now))) }
 {
     let known = names.find(&name.text);
-    let msb = constant(msb, names);
-    let lsb = constant(lsb, names);
+    let ends = ends_of(kind, first, second, names);
+    let best = rules::run(name.at, kind, constant(second, names), best);
     Judged {
-        breadth: part_breadth(known, msb, lsb),
-        best: rules::part(name.at, known, msb, lsb, best),
+        breadth: part_breadth(known, ends.msb, ends.lsb),
+        best: rules::part(name.at, known, ends.msb, ends.lsb, best),
+    }
+}
+
+/// A function of the system, where its argument is judged before.
+#[tactic(auto, using(crate::proofs::Least::after_append))]
+fn applied<'a>(
+    function: SystemFunction,
+    at: u32,
+    e: &Expr,
+    names: &Names,
+    argument: Judged<'a>,
+) -> Judged<'a>
+    ensures breadth { result.breadth ≡ function_breadth function argument.entry.breadth }
+    ensures best { option_map refusal result.best ≡ after (option_map refusal argument.entry.best)
+        (width_faults at (function_breadth function argument.entry.breadth)
+        ++ function_faults function (constant (numbers_in (meanings names.now)) (formula e.now))) }
+{
+    let judged = whole(
+        at,
+        function_breadth(function, argument.breadth),
+        argument.best,
+    );
+    Judged {
+        breadth: judged.breadth,
+        best: rules::function(function, constant(e, names), judged.best),
+    }
+}
+
+/// An operator between operands, where all but the faults of a power is judged before.
+fn operated<'a>(
+    operation: Operation,
+    at: u32,
+    left: &Expr,
+    e: &Expr,
+    names: &Names,
+    judged: Judged<'a>,
+) -> Judged<'a>
+    ensures breadth { result.breadth ≡ judged.entry.breadth }
+    ensures best { option_map refusal result.best ≡ after (option_map refusal judged.entry.best)
+        (operation_faults operation (power_faults (meanings names.now) at (formula left.now)
+        (formula e.now))) }
+{
+    match operation {
+        Operation::Power => Judged {
+            breadth: judged.breadth,
+            best: powers::power(at, left, e, names, judged.best),
+        },
+        _ => judged,
     }
 }
 
@@ -232,7 +291,7 @@ fn combined(operation: Operation, left: Breadth, right: Breadth) -> Breadth
     match operation {
         Operation::Join(_) => left.wider(right),
         Operation::Compare(_) | Operation::Link(_) => Breadth::Bits(1),
-        Operation::Shift(_) => left,
+        Operation::Shift(_) | Operation::Power => left,
     }
 }
 

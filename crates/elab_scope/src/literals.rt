@@ -3,11 +3,12 @@
 ghost use Rattle.std.specs.Prelude.{◌≡◌, ◌≤◌, length};
 ghost use Rattle.rtl_bits.specs.Bits.{extended};
 ghost use Rattle.rtl_flat.specs.Sizing.{literal_at};
-ghost use Rattle.elab_scope.specs.Trees.{literal_bits, named_bits, pattern};
+ghost use Rattle.elab_scope.specs.Trees.{literal_bits, named_bits, number_bits, pattern};
 
 use crate::known::Known;
-use crate::widths::breadth_of;
+use crate::widths::{Breadth, breadth_of};
 use rtl_bits::{Bit, Vec4};
+use rtl_const::fault::ConstFault;
 use rtl_tree::literal::Literal;
 
 /// A literal at a width: one without a written width is extended with its highest bit where that is x or z, and else a
@@ -35,6 +36,15 @@ fn pattern(number: Option<i64>) -> u128
         Some(n) if n >= 0 => n as u128,
         Some(n) => u128::MAX - (-(n + 1)) as u128,
     }
+}
+
+/// A number that has a width by itself, at a width.
+pub(crate) fn number(number: Result<i64, ConstFault>, own: Breadth, width: u8, signed: bool) -> Vec4
+    requires not_empty { 1 ≤ width }
+    requires at_most { width ≤ 128 }
+    ensures { result ≡ extended width signed (number_bits own number) }
+{
+    Vec4::of_number(own.bits(), pattern(number.ok())).extend(width, signed)
 }
 
 /// A name that stands for a number, at a width.

@@ -20,6 +20,8 @@ pub enum Operation {
     Compare(Compare),
     Link(Link),
     Shift(Shift),
+    /// What it makes is a literal.
+    Power,
 }
 
 pub fn unary(operator: UnaryOperator) -> Prefix
@@ -43,6 +45,7 @@ pub fn binary(operator: BinaryOperator) -> Operation
     ensures { result ≡ operation operator }
 {
     match operator {
+        BinaryOperator::Power => Operation::Power,
         BinaryOperator::Multiply => Operation::Join(Join::Multiply),
         BinaryOperator::Divide => Operation::Join(Join::Divide),
         BinaryOperator::Modulus => Operation::Join(Join::Remainder),

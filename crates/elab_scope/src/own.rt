@@ -3,16 +3,17 @@
 ghost use Rattle.std.specs.Prelude.{◌≡◌, map};
 ghost use Rattle.rtl_tree.specs.TreeExpr.{formula, formula_row};
 ghost use Rattle.elab_scope.specs.Names.{meanings};
-ghost use Rattle.elab_scope.specs.Own.{breadth, is_signed, name_breadth, name_sign, part_breadth, row_breadth, sign};
+ghost use Rattle.elab_scope.specs.Own.{breadth, function_breadth, is_signed, name_breadth, name_sign, part_breadth, row_breadth, sign};
 
 use crate::known::Known;
 use crate::names::Names;
 use crate::operators::{Operation, Prefix, binary, unary};
+use crate::selects::ends_of;
 use crate::widths::{Breadth, breadth_of, field_of};
 use rtl_const::evaluate::constant;
 use rtl_const::fault::ConstFault;
 use rtl_tree::tree::expr::Expr;
-use rtl_tree::tree::operators::Signedness;
+use rtl_tree::tree::operators::SystemFunction;
 
 pub fn name_breadth(known: Option<Known>) -> Breadth
     ensures { result ≡ name_breadth known }
@@ -57,6 +58,16 @@ pub fn part_breadth(
     }
 }
 
+/// How many bits a function of the system gives.
+pub fn function_breadth(function: SystemFunction, argument: Breadth) -> Breadth
+    ensures { result ≡ function_breadth function argument }
+{
+    match function {
+        SystemFunction::Signed | SystemFunction::Unsigned => argument,
+        SystemFunction::Clog2 => Breadth::Bits(32),
+    }
+}
+
 /// How many bits the expression has by itself.
 #[cycle(own_breadth)]
 #[tactic(auto, using(crate::proofs::Views::concat_breadth, crate::proofs::Views::repeat_breadth))]
@@ -67,12 +78,12 @@ pub fn breadth(e: &Expr, names: &Names) -> Breadth
         Expr::Number(value, _) => breadth_of(u32::from(value.width)),
         Expr::Read(name) => name_breadth(names.find(&name.text)),
         Expr::ReadBit(_, _) => Breadth::Bits(1),
-        Expr::ReadPart(name, msb, lsb) => part_breadth(
-            names.find(&name.text),
-            constant(msb, names),
-            constant(lsb, names),
-        ),
-        Expr::Parens(_, inner) | Expr::Convert(_, _, inner) => breadth(inner, names),
+        Expr::ReadPart(name, kind, first, second) => {
+            let ends = ends_of(*kind, first, second, names);
+            part_breadth(names.find(&name.text), ends.msb, ends.lsb)
+        }
+        Expr::Parens(_, inner) => breadth(inner, names),
+        Expr::Apply(function, _, inner) => function_breadth(*function, breadth(inner, names)),
         Expr::Concat(_, parts) => row_breadth(parts, names).fit(),
         Expr::Repeat(_, times, parts) => {
             row_breadth(parts, names)
@@ -86,7 +97,7 @@ pub fn breadth(e: &Expr, names: &Names) -> Breadth
         Expr::Binary(operator, _, left, right) => match binary(*operator) {
             Operation::Join(_) => breadth(left, names).wider(breadth(right, names)),
             Operation::Compare(_) | Operation::Link(_) => Breadth::Bits(1),
-            Operation::Shift(_) => breadth(left, names),
+            Operation::Shift(_) | Operation::Power => breadth(left, names),
         },
         Expr::Choose(_, _, taken, otherwise) => {
             breadth(taken, names).wider(breadth(otherwise, names))
@@ -123,12 +134,13 @@ pub fn name_sign(known: Option<Known>) -> bool
     }
 }
 
-pub fn is_signed(signedness: Signedness) -> bool
-    ensures { result ≡ is_signed signedness }
+/// Whether what it gives is signed.
+pub fn is_signed(function: SystemFunction) -> bool
+    ensures { result ≡ is_signed function }
 {
-    match signedness {
-        Signedness::Signed => true,
-        Signedness::Unsigned => false,
+    match function {
+        SystemFunction::Signed | SystemFunction::Clog2 => true,
+        SystemFunction::Unsigned => false,
     }
 }
 
@@ -140,7 +152,7 @@ pub fn sign(e: &Expr, names: &Names) -> bool
         Expr::Number(value, _) => value.signed,
         Expr::Read(name) => name_sign(names.find(&name.text)),
         Expr::Parens(_, inner) => sign(inner, names),
-        Expr::Convert(signedness, _, _) => is_signed(*signedness),
+        Expr::Apply(function, _, _) => is_signed(*function),
         Expr::Unary(operator, _, operand) => match unary(*operator) {
             Prefix::Turn(_) => sign(operand, names),
             Prefix::Fold(_) => false,
@@ -148,11 +160,11 @@ pub fn sign(e: &Expr, names: &Names) -> bool
         Expr::Binary(operator, _, left, right) => match binary(*operator) {
             Operation::Join(_) => sign(left, names) && sign(right, names),
             Operation::Compare(_) | Operation::Link(_) => false,
-            Operation::Shift(_) => sign(left, names),
+            Operation::Shift(_) | Operation::Power => sign(left, names),
         },
         Expr::Choose(_, _, taken, otherwise) => sign(taken, names) && sign(otherwise, names),
         Expr::ReadBit(_, _)
-        | Expr::ReadPart(_, _, _)
+        | Expr::ReadPart(_, _, _, _)
         | Expr::Concat(_, _)
         | Expr::Repeat(_, _, _) => false,
     }

@@ -12,6 +12,7 @@ ghost use Rattle.elab_scope.specs.Trees.{low_of, own_context, signal_of, spot_in
 use crate::context::own_context;
 use crate::known::Known;
 use crate::names::Names;
+use crate::selects::ends_of;
 use crate::size::{Site, boxed, field_in, low_of, signal_of};
 use crate::widths::Field;
 use rtl_const::evaluate::constant;
@@ -98,9 +99,10 @@ fn push_parts(
             let select = bit(index, known, names, site)?;
             made.push(part_of(name, known, select, site))?;
         }
-        Lvalue::Part(name, msb, lsb) => {
+        Lvalue::Part(name, kind, first, second) => {
             let known = names.find(&name.text);
-            let field = field_in(known, constant(msb, names), constant(lsb, names));
+            let ends = ends_of(*kind, first, second, names);
+            let field = field_in(known, ends.msb, ends.lsb);
             made.push(part_of(name, known, part(field), site))?;
         }
         Lvalue::Concat(_, parts) => push_all(parts, names, site, made)?,

@@ -5,13 +5,14 @@ ghost use Rattle.std.specs.Prelude.{◌≡◌};
 ghost use Rattle.std.specs.Option.{option_map};
 ghost use Rattle.rtl_tree.specs.TreeExpr.{identifier};
 ghost use Rattle.elab_scope.specs.Faults.{after, keep, refusal};
-ghost use Rattle.elab_scope.specs.Rules.{const_place, index_faults, may_write, number_faults, part_faults, range_faults, read_faults, select_faults, times_faults, width_faults, write_faults};
+ghost use Rattle.elab_scope.specs.Rules.{const_place, count_faults, function_faults, index_faults, may_write, number_faults, part_faults, range_faults, read_faults, run_faults, select_faults, times_faults, width_faults, write_faults};
 
 use crate::fault::{Cause, Fault};
 use crate::known::{Known, Role};
 use crate::widths::{Breadth, field_of};
 use rtl_const::fault::ConstFault;
 use rtl_tree::tree::names::Name;
+use rtl_tree::tree::operators::{PartKind, SystemFunction};
 
 /// The kind of an assignment.
 #[derive(Clone, Copy, PartialEq, Eq, Debug)]
@@ -85,6 +86,21 @@ pub fn number<'a>(number: Result<i64, ConstFault>, best: Option<Fault<'a>>) -> O
     }
 }
 
+/// `$clog2` has a number.
+pub fn function<'a>(
+    function: SystemFunction,
+    number: Result<i64, ConstFault>,
+    best: Option<Fault<'a>>,
+) -> Option<Fault<'a>>
+    ensures { option_map refusal result
+        ≡ after (option_map refusal best.entry) (function_faults function number) }
+{
+    match function {
+        SystemFunction::Signed | SystemFunction::Unsigned => best,
+        SystemFunction::Clog2 => self::number(number, best),
+    }
+}
+
 /// A repetition at a place is made a constant number of times, and at least once.
 pub fn times<'a>(
     place: u32,
@@ -98,6 +114,37 @@ pub fn times<'a>(
         Ok(times) if times < 1 => at(best, place, Cause::Width),
         Ok(_) => best,
         Err(cause) => at(best, const_place(cause), Cause::Const(cause)),
+    }
+}
+
+/// A run has from 1 to 128 bits.
+pub fn run<'a>(
+    place: u32,
+    kind: PartKind,
+    width: Result<i64, ConstFault>,
+    best: Option<Fault<'a>>,
+) -> Option<Fault<'a>>
+    ensures { option_map refusal result
+        ≡ after (option_map refusal best.entry) (run_faults place kind width) }
+{
+    match kind {
+        PartKind::Between => best,
+        PartKind::Up | PartKind::Down => count(place, width, best),
+    }
+}
+
+/// A number of bits is from 1 to 128.
+fn count<'a>(
+    place: u32,
+    count: Result<i64, ConstFault>,
+    best: Option<Fault<'a>>,
+) -> Option<Fault<'a>>
+    ensures { option_map refusal result
+        ≡ after (option_map refusal best.entry) (count_faults place count) }
+{
+    match count {
+        Ok(count) if count < 1 || count > 128 => at(best, place, Cause::Width),
+        _ => best,
     }
 }
 

@@ -1,12 +1,14 @@
 //! Sized trees of expressions, in one walk from the root downwards.
 
-ghost use Rattle.std.specs.Prelude.{◌≡◌, ◌≤◌, IfOk, false, map};
+ghost use Rattle.std.specs.Prelude.{◌≡◌, ◌≢◌, ◌≤◌, IfOk, List, false, map};
+ghost use Rattle.rtl_bits.specs.declared.Bit.{Bit};
+ghost use Rattle.rtl_bits.specs.Bits.{extended};
 ghost use Rattle.rtl_const.specs.Constant.{constant};
-ghost use Rattle.rtl_flat.specs.Expression.{Recast, Repeated, Sized, bit, form, tree};
-ghost use Rattle.rtl_tree.specs.TreeExpr.{Read, ReadBit, ReadPart, Unary, formula, formula_row, identifier};
+ghost use Rattle.rtl_flat.specs.Expression.{Literal, Repeated, Sized, bit, form, tree};
+ghost use Rattle.rtl_tree.specs.TreeExpr.{Read, ReadBit, Unary, formula, formula_row, identifier};
 ghost use Rattle.elab_scope.specs.Names.{meanings, numbers_in};
 ghost use Rattle.elab_scope.specs.Own.{row_breadth, sign};
-ghost use Rattle.elab_scope.specs.Trees.{bit_form, copies_of, field_in, low_of, named_form, operation_form, own_context, part_form, prefix_form, row_tree, signal_of, spot_in, tree_of};
+ghost use Rattle.elab_scope.specs.Trees.{bit_form, copies_of, field_in, function_form, low_of, named_form, number_bits, operation_form, own_context, part_form, prefix_form, row_tree, signal_of, spot_in, tree_of};
 ghost use Rattle.elab_scope.specs.Widths.{bits, fit};
 
 use crate::context::{Context, left_context, operand_context, own_context, right_context};
@@ -14,14 +16,15 @@ use crate::known::Known;
 use crate::literals;
 use crate::names::Names;
 use crate::operators::{Operation, Prefix, binary, unary};
-use crate::own::row_breadth;
-use crate::widths::{Field, field_of};
+use crate::own::{breadth, row_breadth};
+use crate::selects::{Ends, ends_of};
+use crate::widths::{Breadth, Field, field_of};
 use rtl_const::evaluate::constant;
 use rtl_const::fault::ConstFault;
 use rtl_flat::expr::{Index, Node, Select, SigId, SizedExpr};
 use rtl_tree::tree::expr::Expr;
 use rtl_tree::tree::names::Name;
-use rtl_tree::tree::operators::UnaryOperator;
+use rtl_tree::tree::operators::{SystemFunction, UnaryOperator};
 use std::alloc::Global;
 use text_ground::memory::Memory;
 use text_ground::text::Spot;
@@ -126,16 +129,30 @@ fn prefixed(operator: Prefix, a: Box<SizedExpr>) -> Node
     }
 }
 
-/// An operator between its operands.
-fn combined(operator: Operation, a: Box<SizedExpr>, b: Box<SizedExpr>) -> Node
-    ensures { form result ≡ operation_form operator a.value.signed (tree a.value) (tree b.value) }
+/// An operator between its operands that isn't a power.
+fn combined(operation: Operation, a: Box<SizedExpr>, b: Box<SizedExpr>) -> Node
+    requires { operation ≢ Operation.Power }
+    ensures { (number : List Bit) → form result
+        ≡ operation_form operation a.value.signed number (tree a.value) (tree b.value) }
 {
-    match operator {
+    match operation {
         Operation::Join(operator) => Node::Joined(operator, a, b),
         Operation::Compare(operator) => Node::Compared(operator, a, b),
         Operation::Link(operator) => Node::Linked(operator, a, b),
         Operation::Shift(operator) => Node::Shifted(operator, a, b),
+        Operation::Power => unreachable!(),
     }
+}
+
+/// A number that is worked out where the design is made.
+fn number(e: &Expr, own: Breadth, context: Context, names: &Names) -> Node
+    requires not_empty { 1 ≤ context.width }
+    requires at_most { context.width ≤ 128 }
+    ensures { form result ≡ Literal (extended context.width context.signed
+        (number_bits own (constant (numbers_in (meanings names.now)) (formula e.now)))) }
+{
+    let number = constant(e, names);
+    Node::Literal(literals::number(number, own, context.width, context.signed))
 }
 
 /// An expression of this form.
@@ -168,20 +185,14 @@ fn sized_name(name: &Name, context: Context, names: &Names, site: Site) -> Sized
 }
 
 /// A part that is selected.
-fn sized_part(
-    name: &Name,
-    msb: &Expr,
-    lsb: &Expr,
-    context: Context,
-    names: &Names,
-    site: Site,
-) -> SizedExpr
-    ensures tree { tree result ≡ tree_of site.file site.base (meanings names.now)
-        (ReadPart (identifier name.now) (formula msb.now) (formula lsb.now)) context }
+fn sized_part(name: &Name, ends: Ends, context: Context, names: &Names, site: Site) -> SizedExpr
+    ensures tree { let known = meanings names.now name.now.text in
+        tree result ≡ Sized context.width context.signed (spot_in site.file name.now.at)
+        (part_form (signal_of site.base known) (field_in known ends.msb ends.lsb)) }
     ensures signed { result.signed ≡ context.signed }
 {
     let known = names.find(&name.text);
-    let field = field_in(known, constant(msb, names), constant(lsb, names));
+    let field = field_in(known, ends.msb, ends.lsb);
     sized(site, name.at, context, part(known, field, site.base))
 }
 
@@ -202,29 +213,48 @@ pub fn size(e: &Expr, context: Context, names: &Names, site: Site) -> Result<Siz
         }
         Expr::Read(name) => Ok(sized_name(name, context, names, site)),
         Expr::ReadBit(name, index) => sized_bit(name, index, context, names, site),
-        Expr::ReadPart(name, msb, lsb) => Ok(sized_part(name, msb, lsb, context, names, site)),
+        Expr::ReadPart(name, kind, first, second) => {
+            Ok(sized_part(
+                name,
+                ends_of(*kind, first, second, names),
+                context,
+                names,
+                site,
+            ))
+        }
         Expr::Parens(_, inner) => size(inner, context, names, site),
-        Expr::Convert(_, at, inner) => Ok(sized(site, *at, context, recast(inner, names, site)?)),
+        Expr::Apply(function, at, inner) => {
+            let node = applied(*function, inner, e, context, names, site)?;
+            Ok(sized(site, *at, context, node))
+        }
         Expr::Concat(at, parts) => Ok(sized(site, *at, context, row(parts, names, site)?)),
         Expr::Repeat(at, times, parts) => {
             let copies = copies_of(constant(times, names));
             repeated(copies, *at, parts, context, names, site)
         }
-        Expr::Unary(operator, at, a) => applied(*operator, *at, a, context, names, site),
+        Expr::Unary(operator, at, a) => sized_prefix(*operator, *at, a, context, names, site),
         Expr::Binary(operator, at, a, b) => {
-            let operator = binary(*operator);
-            let left = left_context(operator, a, b, context, names);
-            let right = right_context(operator, a, b, context, names);
+            let operation = binary(*operator);
+            if let Operation::Power = operation {
+                let node = number(e, breadth(a, names), context, names);
+                return Ok(sized(site, *at, context, node));
+            }
+            let left = left_context(operation, a, b, context, names);
+            let right = right_context(operation, a, b, context, names);
             let left = boxed(a, left, names, site)?;
-            let node = combined(operator, left, boxed(b, right, names, site)?);
+            let node = combined(operation, left, boxed(b, right, names, site)?);
             Ok(sized(site, *at, context, node))
         }
         Expr::Choose(at, condition, taken, otherwise) => {
             let condition = boxed(condition, own_context(condition, names), names, site)?;
             let taken = boxed(taken, context, names, site)?;
             let otherwise = boxed(otherwise, context, names, site)?;
-            let node = Node::Chosen(condition, taken, otherwise);
-            Ok(sized(site, *at, context, node))
+            Ok(sized(
+                site,
+                *at,
+                context,
+                Node::Chosen(condition, taken, otherwise),
+            ))
         }
     }
 }
@@ -246,15 +276,32 @@ fn sized_bit(
     Ok(sized(site, name.at, context, node))
 }
 
-/// An expression that is sized by itself, where its sign is converted.
+/// A function of the system: an argument that is sized by itself, or a number.
 #[cycle(size)]
-fn recast(inner: &Expr, names: &Names, site: Site) -> Result<Node, Memory>
-    ensures { IfOk result (λ made. form made
-        ≡ Recast (tree_of site.file site.base (meanings names.now) (formula inner.now)
-        (own_context (meanings names.now) (formula inner.now)))) }
+fn applied(
+    function: SystemFunction,
+    inner: &Expr,
+    e: &Expr,
+    context: Context,
+    names: &Names,
+    site: Site,
+) -> Result<Node, Memory>
+    requires not_empty { 1 ≤ context.width }
+    requires at_most { context.width ≤ 128 }
+    ensures { let scope = meanings names.now in
+        IfOk result (λ made. form made ≡ function_form function
+        (extended context.width context.signed
+        (number_bits (Breadth.Bits 32) (constant (numbers_in scope) (formula e.now))))
+        (tree_of site.file site.base scope (formula inner.now)
+        (own_context scope (formula inner.now)))) }
 {
-    let inner = boxed(inner, own_context(inner, names), names, site)?;
-    Ok(Node::Recast(inner))
+    match function {
+        SystemFunction::Signed | SystemFunction::Unsigned => {
+            let inner = boxed(inner, own_context(inner, names), names, site)?;
+            Ok(Node::Recast(inner))
+        }
+        SystemFunction::Clog2 => Ok(number(e, Breadth::Bits(32), context, names)),
+    }
 }
 
 /// Copies of parts beside one another.
@@ -286,7 +333,7 @@ fn repeated(
 
 /// An operator before its operand.
 #[cycle(size)]
-fn applied(
+fn sized_prefix(
     operator: UnaryOperator,
     at: u32,
     a: &Expr,

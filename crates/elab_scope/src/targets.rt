@@ -10,10 +10,11 @@ ghost use Rattle.elab_scope.specs.Targets.{assigned_context, joined_faults, part
 
 use crate::context::Context;
 use crate::fault::Fault;
-use crate::judge::{Judged, judge, judge_constant};
+use crate::judge::{Judged, judge, judge_constant, judge_part};
 use crate::names::Names;
 use crate::own::{breadth, name_breadth, part_breadth, sign};
 use crate::rules::{self, Writer};
+use crate::selects::ends_of;
 use crate::widths::Breadth;
 use rtl_const::evaluate::constant;
 use rtl_tree::tree::expr::Expr;
@@ -51,18 +52,13 @@ pub fn judge_parts<'a>(
                 best: rules::index(by, name, constant(index, names), best),
             }
         }
-        Lvalue::Part(name, msb, lsb) => {
+        Lvalue::Part(name, kind, first, second) => {
             let known = names.find(&name.text);
             let best = rules::write(by, name, known, best);
             let best = rules::range(name, known, best);
-            let best = judge_constant(msb, names, best);
-            let best = judge_constant(lsb, names, best);
-            let msb = constant(msb, names);
-            let lsb = constant(lsb, names);
-            Judged {
-                breadth: part_breadth(known, msb, lsb),
-                best: rules::part(name.at, known, msb, lsb, best),
-            }
+            let best = judge_constant(first, names, best);
+            let best = judge_constant(second, names, best);
+            judge_part(name, *kind, first, second, names, best)
         }
         Lvalue::Concat(at, parts) => {
             let parts = judge_joined(by, parts, names, best);
@@ -103,17 +99,16 @@ fn judge_joined<'a>(
 /// How many bits a target has.
 #[cycle(target_breadth)]
 #[tactic(auto, using(crate::proofs::TargetViews::joined_breadth))]
-pub(crate) fn breadth_of_target(written: &Lvalue, names: &Names) -> Breadth
+pub fn breadth_of_target(written: &Lvalue, names: &Names) -> Breadth
     ensures { result ≡ target_breadth (meanings names.now) (target written.now) }
 {
     match written {
         Lvalue::Whole(name) => name_breadth(names.find(&name.text)),
         Lvalue::Bit(_, _) => Breadth::Bits(1),
-        Lvalue::Part(name, msb, lsb) => part_breadth(
-            names.find(&name.text),
-            constant(msb, names),
-            constant(lsb, names),
-        ),
+        Lvalue::Part(name, kind, first, second) => {
+            let ends = ends_of(*kind, first, second, names);
+            part_breadth(names.find(&name.text), ends.msb, ends.lsb)
+        }
         Lvalue::Concat(_, parts) => breadth_of_row(parts, names).fit(),
     }
 }
