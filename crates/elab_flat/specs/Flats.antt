@@ -2,10 +2,6 @@
 -- Worked examples: proofs/Examples.antt.
 use Rattle.std.specs.Prelude.{List, [], map}
 use Rattle.std.specs.List.{flat_map}
-use Rattle.rtl_flat.specs.declared.instance.Delay.{Delay}
-use Rattle.rtl_flat.specs.declared.instance.DroppedRegion.{DroppedRegion}
-use Rattle.rtl_flat.specs.declared.instance.Instance.{Instance}
-use Rattle.rtl_flat.specs.declared.signal.Signal.{Signal}
 use Rattle.rtl_flat.specs.Flats.{DesignParts}
 use Rattle.elab_walk.specs.Placements.{Placement, instance_of, regions_at, signals_at}
 use Rattle.elab_walk.specs.Visits.{Library}

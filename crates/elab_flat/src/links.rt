@@ -21,8 +21,8 @@ use elab_walk::elab_scope::known::Known;
 use elab_walk::elab_scope::names::Names;
 use elab_walk::elab_scope::own::{breadth, name_breadth, name_sign, sign};
 use elab_walk::elab_scope::pieces::{bit, part};
+use elab_walk::elab_scope::selects::ends_of;
 use elab_walk::elab_scope::size::{Site, field_in, signal_of, size};
-use rtl_const::evaluate::constant;
 use rtl_flat::act::{Does, Process, Target, TargetPart};
 use rtl_flat::expr::{Node, Select, SizedExpr};
 use rtl_tree::tree::expr::Expr;
@@ -89,16 +89,17 @@ fn push_pieces(
             made.push(part_of(name, known, select, site))?;
             Ok(made)
         }
-        Expr::ReadPart(name, msb, lsb) => {
+        Expr::ReadPart(name, kind, first, second) => {
             let known = names.find(&name.text);
-            let field = field_in(known, constant(msb, names), constant(lsb, names));
+            let ends = ends_of(*kind, first, second, names);
+            let field = field_in(known, ends.msb, ends.lsb);
             made.push(part_of(name, known, part(field), site))?;
             Ok(made)
         }
         Expr::Concat(_, parts) => push_all_pieces(parts, names, site, made),
         Expr::Number(_, _)
         | Expr::Parens(_, _)
-        | Expr::Convert(_, _, _)
+        | Expr::Apply(_, _, _)
         | Expr::Repeat(_, _, _)
         | Expr::Unary(_, _, _)
         | Expr::Binary(_, _, _, _)

@@ -97,6 +97,7 @@ fn push_item(item: &Item, made: &mut Vec<Dropped>) -> Result<(), Memory>
         | Item::Integers(_, _)
         | Item::Parameters { .. }
         | Item::Assigns(_, _, _)
+        | Item::Gates { .. }
         | Item::Always(_, _, _)
         | Item::Instances { .. } => {}
     }

@@ -5,7 +5,7 @@ use Rattle.rtl_tree.specs.declared.tree.item.Direction.TheVariants.{Input, Outpu
 use Rattle.rtl_tree.specs.declared.tree.item.ParameterKind.TheVariants.{Parameter}
 use Rattle.rtl_tree.specs.declared.tree.operators.BinaryOperator.TheVariants.{Subtract}
 use Rattle.rtl_tree.specs.TreeExpr.{Bounds, Formula, Identifier, Number, Read, Binary}
-use Rattle.rtl_tree.specs.TreeItem.{ModuleItem, Ports, Variables, Parameters}
+use Rattle.rtl_tree.specs.TreeItem.{ModuleItem, Ports, Variables, Parameters, Gates}
 use Rattle.rtl_tree.specs.TreeModule.{Circuit, Named}
 use Rattle.elab_scope.specs.declared.known.Known.TheVariants as known
 use Rattle.elab_scope.specs.declared.known.Role.TheVariants as role
@@ -79,6 +79,13 @@ one_too_many = refl
 -- two declarations of a port with unequal ranges
 unequal : declaration_faults no_settings 0 (with_items (wide_y ∷ [])) ≡ fault 72 (DeclaredTwice (121 ∷ [])) ∷ []
 unequal = refl
+
+-- the name of a gate is a name of the module, which stands for nothing
+gate_again : declaration_faults no_settings 0 (with_items (reg_y ∷ Gates 70 (y 74 ∷ []) None [] ∷ [])) ≡ fault 74 (DeclaredTwice (121 ∷ [])) ∷ []
+gate_again = refl
+
+gate_alone : scope_of no_settings (with_items (Gates 70 (record { text = 103 ∷ []; at = 74 } ∷ []) None [] ∷ [])) (103 ∷ []) ≡ None
+gate_alone = refl
 
 -- an instance sets the parameter, and with it the width
 set_to_9 : scope_of (with_setting no_settings (87 ∷ []) (record { number = Some (pos 9); literal = None })) (with_items []) (97 ∷ []) ≡ Some (known.Signal 1 role.Input (Some (record { width = 9; signed = false; low = 0 })))

@@ -73,6 +73,10 @@ declared_parameter kind valuation = Parameter kind valuation.name valuation.valu
 abbrev pub declared_instance : Instantiation → Declaration
 declared_instance instantiation = Instance instantiation.name
 
+-- the name of a gate is one of the module, and stands for nothing else either
+abbrev pub declared_gate : Identifier → Declaration
+declared_gate name = Instance name
+
 abbrev pub item_declarations : ModuleItem → List Declaration
 item_declarations (item.Ports head names) =
     SignalRange head.bounds ∷ map (Signal (form.Item head.direction head.kind) head.signed) names
@@ -83,6 +87,7 @@ item_declarations (item.Integers at names) = map Integer names
 item_declarations (item.Parameters at kind bounds values) =
     ParameterRange bounds ∷ map (declared_parameter kind) values
 item_declarations (item.Drives at pause drives) = []
+item_declarations (item.Gates at names pause drives) = map declared_gate names
 item_declarations (item.Always at sensitivity body) = []
 item_declarations (item.Instances child parameters instantiations) = map declared_instance instantiations
 

@@ -6,7 +6,7 @@ ghost use Rattle.rtl_tree.specs.TreeExpr.{identifier};
 ghost use Rattle.rtl_tree.specs.TreeItem.{head, module_item, net, instantiation, valuation, variable};
 ghost use Rattle.rtl_tree.specs.TreeModule.{circuit, header, header_parameter, header_port};
 ghost use Rattle.elab_items.specs.declared.entries.Form.TheVariants as form;
-ghost use Rattle.elab_items.specs.Declarations.{headed, Integer, Listed, Signal, declaration, declarations, declared_instance, declared_net, declared_parameter, declared_variable, head_parameters, head_ports, header_declarations, item_declarations, items_declarations};
+ghost use Rattle.elab_items.specs.Declarations.{headed, Integer, Listed, Signal, declaration, declarations, declared_gate, declared_instance, declared_net, declared_parameter, declared_variable, head_parameters, head_ports, header_declarations, item_declarations, items_declarations};
 
 use rtl_tree::tree::expr::{Expr, Range};
 use rtl_tree::tree::item::{
@@ -206,6 +206,17 @@ fn push_instances<'a>(instances: &'a [Instance], entries: &mut Vec<Entry<'a>>) -
     Ok(())
 }
 
+/// The names of gates, which stand for nothing that may be read or written.
+fn push_gates<'a>(names: &'a [Name], entries: &mut Vec<Entry<'a>>) -> Result<(), Memory>
+    ensures { OnOk result (map declaration entries.new.items
+        ≡ map declaration entries.old.items ++ map declared_gate (map identifier names.now)) }
+{
+    for name in names {
+        entries.push(Entry::Instance(name))?;
+    }
+    Ok(())
+}
+
 fn push_item<'a>(item: &'a Item, entries: &mut Vec<Entry<'a>>) -> Result<(), Memory>
     ensures { OnOk result (map declaration entries.new.items
         ≡ map declaration entries.old.items ++ item_declarations (module_item item.now)) }
@@ -243,6 +254,7 @@ fn push_item<'a>(item: &'a Item, entries: &mut Vec<Entry<'a>>) -> Result<(), Mem
             entries.push(Entry::ParameterRange(range.as_ref()))?;
             push_settings(*kind, settings, entries)?;
         }
+        Item::Gates { names, .. } => push_gates(names, entries)?,
         Item::Assigns(_, _, _) | Item::Always(_, _, _) => {}
         Item::Instances { instances, .. } => push_instances(instances, entries)?,
     }

@@ -5,7 +5,7 @@ use Rattle.std.proofs.Common.{◌≡◌, ◌∙◌, ap, refl, sym, subst, arith,
 use Rattle.std.proofs.lemmas.Bool.{and_parts, or_from, or_parts}
 use Rattle.std.proofs.lemmas.Bool.Decides.{nat_tests}
 use Rattle.rtl_const.specs.Constant.{Outcome, constant}
-use Rattle.rtl_tree.specs.TreeExpr.{Identifier, Formula, Number, Read, ReadBit, ReadPart, Parens, Convert, Concat, Repeat, Unary, Binary, Choose, Formulas, no_formulas, more_formulas}
+use Rattle.rtl_tree.specs.TreeExpr.{Identifier, Formula, Number, Read, ReadBit, ReadPart, Parens, Apply, Concat, Repeat, Unary, Binary, Choose, Formulas, no_formulas, more_formulas}
 use Rattle.rtl_tree.specs.TreeStmt.{Target, Whole, Bit, Part, Joined, Targets, no_targets, more_targets}
 use Rattle.elab_laws.specs.elab_scope.declared.covers.Cover.{Cover}
 use Rattle.elab_laws.specs.elab_scope.declared.known.Known.{Known}
@@ -16,7 +16,8 @@ use Rattle.elab_laws.specs.elab_scope.Expressions.{constant_faults, faults, row_
 use Rattle.elab_laws.specs.elab_scope.Faults.{Refusal}
 use Rattle.elab_laws.specs.elab_scope.Names.{Meanings, numbers_in}
 use Rattle.elab_laws.specs.elab_scope.Own.{breadth, row_breadth}
-use Rattle.elab_laws.specs.elab_scope.Rules.{index_faults, part_faults, range_faults, read_faults, select_faults, width_faults, write_faults}
+use Rattle.elab_laws.specs.elab_scope.Rules.{index_faults, part_faults, range_faults, read_faults, run_faults, select_faults, width_faults, write_faults}
+use Rattle.elab_laws.specs.elab_scope.Selects.{lsb_in, msb_in}
 use Rattle.elab_laws.specs.elab_scope.Targets.{all_covered, all_twice_faults, bit_cover, cover_faults, covered, joined_faults, overlap, part_cover, part_target_faults, target_breadth, target_faults, targets_breadth, twice_faults, where_known, whole_cover, with_cover}
 use Rattle.elab_laws.specs.elab_scope.Trees.{field_in}
 use Rattle.elab_laws.specs.elab_scope.Widths.{beside, fit}
@@ -40,13 +41,14 @@ mutual
   target_of : (scope : Meanings) (e : Formula) → has_nets scope e ≡ true → IsTarget e
   target_of scope (Read name) h = record { target = Whole name; is = refl }
   target_of scope (ReadBit name index) h = record { target = Bit name index; is = refl }
-  target_of scope (ReadPart name msb lsb) h = record { target = Part name msb lsb; is = refl }
+  target_of scope (ReadPart name kind first second) h =
+      record { target = Part name kind first second; is = refl }
   target_of scope (Concat at parts) h =
       let all : AreTargets parts = targets_of scope parts h in
       record { target = Joined at all.targets; is = ap (Concat at) all.are }
   target_of scope (Number value at) h = absurd cc
   target_of scope (Parens at inner) h = absurd cc
-  target_of scope (Convert signedness at inner) h = absurd cc
+  target_of scope (Apply function at inner) h = absurd cc
   target_of scope (Repeat at times parts) h = absurd cc
   target_of scope (Unary operator at operand) h = absurd cc
   target_of scope (Binary operator at left right) h = absurd cc
@@ -69,7 +71,7 @@ mutual
   pub breadth_is : (scope : Meanings) (t : Target) → breadth scope (as_argument t) ≡ target_breadth scope t
   breadth_is scope (Whole name) = refl
   breadth_is scope (Bit name index) = refl
-  breadth_is scope (Part name msb lsb) = refl
+  breadth_is scope (Part name kind first second) = refl
   breadth_is scope (Joined at parts) = ap fit (breadths_are scope parts)
 
   breadths_are : (scope : Meanings) (ts : Targets) → row_breadth scope (as_arguments ts) ≡ targets_breadth scope ts
@@ -106,15 +108,20 @@ mutual
       let inner : faults scope index ≡ [] =
       nil_right (select_faults name (scope name.text)) (faults scope index) g in
       both_nil (own ++ faults scope index) (index_faults Continuous name (constant (numbers_in scope) index)) (both_nil own (faults scope index) (selected name (scope name.text) both.0 select) inner) (indexed name (constant (numbers_in scope) index) both.1)
-  parts_faultless scope (Part name msb lsb) h g =
+  parts_faultless scope (Part name kind first second) h g =
       let select = select_faults name (scope name.text) in
       let own = write_faults Continuous name (scope name.text) ++ range_faults name (scope name.text) in
-      let high = constant_faults scope msb in
-      let low = constant_faults scope lsb in
-      let part = part_faults name.at (scope name.text) (constant (numbers_in scope) msb) (constant (numbers_in scope) lsb) in
-      let three : (select ++ high) ++ low ≡ [] = nil_left ((select ++ high) ++ low) part g in
-      let two : select ++ high ≡ [] = nil_left (select ++ high) low three in
-      both_nil ((own ++ high) ++ low) part (both_nil (own ++ high) low (both_nil own high (selected name (scope name.text) h (nil_left select high two)) (nil_right select high two)) (nil_right (select ++ high) low three)) (nil_right ((select ++ high) ++ low) part g)
+      let start = constant_faults scope first in
+      let end = constant_faults scope second in
+      let run = run_faults name.at kind (constant (numbers_in scope) second) in
+      let part = part_faults name.at (scope name.text) (msb_in scope kind first second) (lsb_in scope kind first second) in
+      let four : ((select ++ start) ++ end) ++ run ≡ [] =
+      nil_left (((select ++ start) ++ end) ++ run) part g in
+      let three : (select ++ start) ++ end ≡ [] = nil_left ((select ++ start) ++ end) run four in
+      let two : select ++ start ≡ [] = nil_left (select ++ start) end three in
+      let ends : (own ++ start) ++ end ≡ [] =
+      both_nil (own ++ start) end (both_nil own start (selected name (scope name.text) h (nil_left select start two)) (nil_right select start two)) (nil_right (select ++ start) end three) in
+      both_nil (((own ++ start) ++ end) ++ run) part (both_nil ((own ++ start) ++ end) run ends (nil_right ((select ++ start) ++ end) run four)) (nil_right (((select ++ start) ++ end) ++ run) part g)
   parts_faultless scope (Joined at parts) h g =
       let row = row_faults scope (as_arguments parts) in
       let width = width_faults at (breadth scope (as_argument (Joined at parts))) in
@@ -171,8 +178,8 @@ mutual
   covered_is scope earlier (Whole name) = covered_on earlier (whole_cover (scope name.text))
   covered_is scope earlier (Bit name index) =
       covered_on earlier (bit_cover (scope name.text) (constant (numbers_in scope) index))
-  covered_is scope earlier (Part name msb lsb) =
-      covered_on earlier (part_cover (scope name.text) (field_in (scope name.text) (constant (numbers_in scope) msb) (constant (numbers_in scope) lsb)))
+  covered_is scope earlier (Part name kind first second) =
+      covered_on earlier (part_cover (scope name.text) (field_in (scope name.text) (msb_in scope kind first second) (lsb_in scope kind first second)))
   covered_is scope earlier (Joined at parts) = all_covered_are scope earlier parts
 
   all_covered_are : (scope : Meanings) (earlier : List Cover) (ts : Targets) → all_covered scope earlier ts ≡ earlier ++ all_covers_of scope (as_arguments ts)
@@ -187,8 +194,8 @@ mutual
   none_twice scope earlier (Whole name) h = no_cover_faults name earlier (whole_cover (scope name.text)) h
   none_twice scope earlier (Bit name index) h =
       no_cover_faults name earlier (bit_cover (scope name.text) (constant (numbers_in scope) index)) h
-  none_twice scope earlier (Part name msb lsb) h =
-      no_cover_faults name earlier (part_cover (scope name.text) (field_in (scope name.text) (constant (numbers_in scope) msb) (constant (numbers_in scope) lsb))) h
+  none_twice scope earlier (Part name kind first second) h =
+      no_cover_faults name earlier (part_cover (scope name.text) (field_in (scope name.text) (msb_in scope kind first second) (lsb_in scope kind first second))) h
   none_twice scope earlier (Joined at parts) h = all_none_twice scope earlier parts h
 
   all_none_twice : (scope : Meanings) (earlier : List Cover) (ts : Targets) → meet (earlier ++ all_covers_of scope (as_arguments ts)) ≡ false → all_twice_faults scope earlier ts ≡ []

@@ -6,7 +6,7 @@ use Rattle.std.proofs.Math.Seq.{drop-append_seam}
 use Rattle.std.proofs.lemmas.Bool.{cases_Bool}
 use Rattle.std.proofs.lemmas.Bool.Decides.{nat_tests}
 use Rattle.rtl_tree.specs.TreeExpr.{Identifier}
-use Rattle.rtl_tree.specs.TreeItem.{Association, ModuleItem, Ports, Nets, Variables, Integers, Parameters, Drives, Always, Instances, Instantiation}
+use Rattle.rtl_tree.specs.TreeItem.{Association, ModuleItem, Ports, Nets, Variables, Integers, Parameters, Drives, Gates, Always, Instances, Instantiation}
 use Rattle.rtl_tree.specs.TreeModule.{Circuit}
 use Rattle.rtl_flat.specs.declared.signal.Signal.{Signal}
 use Rattle.elab_laws.specs.elab_scope.Faults.{Refusal, TooLarge}
@@ -132,6 +132,8 @@ group_lawful library placement signals count kids rest (Integers at names) all a
 group_lawful library placement signals count kids rest (Parameters at kind bounds values) all are h =
     no_tasks signals count 0 0
 group_lawful library placement signals count kids rest (Drives at pause drives) all are h = no_tasks signals count 0 0
+group_lawful library placement signals count kids rest (Gates at names pause drives) all are h =
+    no_tasks signals count 0 0
 group_lawful library placement signals count kids rest (Always at sensitivity body) all are h =
     no_tasks signals count 0 0
 group_lawful library placement signals count kids rest (Instances child parameters instantiations) all are h =
@@ -185,6 +187,7 @@ item_placed library placement (Variables at signed bounds variables) = refl
 item_placed library placement (Integers at names) = refl
 item_placed library placement (Parameters at kind bounds values) = refl
 item_placed library placement (Drives at pause drives) = refl
+item_placed library placement (Gates at names pause drives) = refl
 item_placed library placement (Always at sensitivity body) = refl
 item_placed library placement (Instances child parameters instantiations) =
     found_placed (holder_of placement.visit) child.at library.files (scope_in placement.visit) (library.lookups child.text) parameters instantiations

@@ -5,7 +5,7 @@ use Rattle.std.proofs.Common.{◌≡◌, refl, sym, subst, arith, length-append}
 use Rattle.std.proofs.lemmas.List.Elements.{All-cons, All-nil, All-weaker}
 use Rattle.rtl_tree.specs.TreeExpr.{Identifier, Formula}
 use Rattle.rtl_tree.specs.TreeStmt.{Action, Pause, Target, Whole}
-use Rattle.rtl_tree.specs.TreeItem.{Drive, Happening, ModuleItem, Net, Ports, Nets, Variables, Integers, Parameters, Drives, Always, Instances, Sensitivity, Star, StarInParens, Listed}
+use Rattle.rtl_tree.specs.TreeItem.{Drive, Happening, ModuleItem, Net, Ports, Nets, Variables, Integers, Parameters, Drives, Gates, Always, Instances, Sensitivity, Star, StarInParens, Listed}
 use Rattle.rtl_flat.specs.declared.instance.Delay.{Delay}
 use Rattle.rtl_flat.specs.declared.signal.Signal.{Signal}
 use Rattle.rtl_flat.specs.Process.{Actions, Watched, body_of}
@@ -24,7 +24,8 @@ use Rattle.elab_laws.proofs.Always.{comb, count, edge}
 use Rattle.elab_laws.proofs.Assignments.{continuous}
 use Rattle.elab_laws.proofs.Steps.{count_append, count_faulty, faultless_left, faultless_right, no_faults}
 use Rattle.elab_flat.specs.elab_parts.Delays.{delay_in, item_delays, repeated}
-use Rattle.elab_flat.specs.elab_parts.Items.{always_steps, assignment_steps, drive_places, drive_steps, item_places, item_steps, net_places, net_steps, value_places, value_steps}
+use Rattle.elab_flat.specs.elab_parts.Gates.{assignments_of, terminal_faults}
+use Rattle.elab_flat.specs.elab_parts.Items.{always_steps, assignment_steps, drive_places, drive_steps, gate_steps, item_places, item_steps, net_places, net_steps, value_places, value_steps}
 use Rattle.elab_flat.specs.elab_parts.Tasks.{always_task, assigned_task, drive_tasks, item_tasks, net_tasks, value_tasks, waited}
 use Rattle.elab_lawful.proofs.Tasks.{AreTasks, more_tasks, no_tasks, one_task, tasks_weaker}
 
@@ -109,6 +110,12 @@ item_lawful file base instance scope signals many (Parameters at kind bounds val
 item_lawful file base instance scope signals many (Drives at pause drives) d inside h =
     let p : ℕ = length (drive_places drives) in
     tasks_weaker signals many p 0 p (statement_count (drive_steps scope pause drives)) (drive_tasks file base instance scope drives) (omega arith) (omega arith) (drives_lawful file base instance scope signals many pause drives d inside h)
+item_lawful file base instance scope signals many (Gates at names pause drives) d inside h =
+    let all : List Drive = assignments_of drives in
+    let own : AreFaultless (drive_steps scope pause all) =
+    faultless_right (faulty (terminal_faults scope drives)) (drive_steps scope pause all) h in
+    let p : ℕ = length (drive_places all) in
+    tasks_weaker signals many p 0 p (statement_count (gate_steps scope pause drives)) (drive_tasks file base instance scope all) (omega arith) (omega arith) (drives_lawful file base instance scope signals many pause all d inside own)
 item_lawful file base instance scope signals many (Always at sensitivity body) d inside h =
     always_lawful file base instance scope signals many at sensitivity body d inside h
 item_lawful file base instance scope signals many (Instances child parameters instantiations) d inside h =
@@ -157,6 +164,11 @@ delays_inside file base instance process scope (Drives at None drives) =
     All-nil (IsBefore (process + length (drive_tasks file base instance scope drives)))
 delays_inside file base instance process scope (Drives at (Some pause) drives) =
     subst (λ n. All (IsBefore (process + n)) (repeated file process pause.at (length drives))) (sym (drive_count file base instance scope drives)) (repeated_before file process pause.at (length drives))
+delays_inside file base instance process scope (Gates at names None drives) =
+    All-nil (IsBefore (process + length (drive_tasks file base instance scope (assignments_of drives))))
+delays_inside file base instance process scope (Gates at names (Some pause) drives) =
+    let all : List Drive = assignments_of drives in
+    subst (λ n. All (IsBefore (process + n)) (repeated file process pause.at (length all))) (sym (drive_count file base instance scope all)) (repeated_before file process pause.at (length all))
 delays_inside file base instance process scope (Always at sensitivity body) =
     mapped_before file process (delays_of (steps body scope))
 delays_inside file base instance process scope (Instances child parameters instantiations) =

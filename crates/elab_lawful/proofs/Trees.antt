@@ -5,7 +5,7 @@ use Rattle.std.proofs.Common.{◌≡◌, ◌∙◌, ap, refl, sym, subst, arith,
 use Rattle.std.proofs.lemmas.Bool.{cases_Bool}
 use Rattle.std.proofs.lemmas.Bool.Decides.{nat_tests}
 use Rattle.std.proofs.lemmas.List.{map-append}
-use Rattle.rtl_tree.specs.TreeItem.{Association, ModuleItem, Ports, Nets, Variables, Integers, Parameters, Drives, Always, Instances, Instantiation}
+use Rattle.rtl_tree.specs.TreeItem.{Association, ModuleItem, Ports, Nets, Variables, Integers, Parameters, Drives, Gates, Always, Instances, Instantiation}
 use Rattle.rtl_tree.specs.TreeModule.{Circuit}
 use Rattle.rtl_flat.specs.WellFormed.{IsHierarchy, IsUnder}
 use Rattle.elab_laws.specs.elab_scope.Names.{Meanings}
@@ -56,6 +56,7 @@ item_at library holder (Variables at signed bounds variables) = tt
 item_at library holder (Integers at names) = tt
 item_at library holder (Parameters at kind bounds values) = tt
 item_at library holder (Drives at pause drives) = tt
+item_at library holder (Gates at names pause drives) = tt
 item_at library holder (Always at sensitivity body) = tt
 item_at library holder (Instances child parameters instantiations) =
     placed_at holder child.at (group_of library.lookups library.files holder.scope (Instances child parameters instantiations)) instantiations
@@ -245,6 +246,7 @@ item_scopes library holder (Variables at signed bounds variables) = refl
 item_scopes library holder (Integers at names) = refl
 item_scopes library holder (Parameters at kind bounds values) = refl
 item_scopes library holder (Drives at pause drives) = refl
+item_scopes library holder (Gates at names pause drives) = refl
 item_scopes library holder (Always at sensitivity body) = refl
 item_scopes library holder (Instances child parameters instantiations) =
     found_scopes holder child.at library.files holder.scope (library.lookups child.text) parameters instantiations

@@ -20,7 +20,7 @@ abbrev mutual
   pub as_argument : Target → Formula
   as_argument (Whole name) = Read name
   as_argument (Bit name index) = ReadBit name index
-  as_argument (Part name msb lsb) = ReadPart name msb lsb
+  as_argument (Part name kind first second) = ReadPart name kind first second
   as_argument (Joined at parts) = Concat at (as_arguments parts)
 
   pub as_arguments : Targets → Formulas
@@ -32,7 +32,7 @@ mutual
   pub pieces_agree : (file base : ℕ) (scope : Meanings) (t : Target) → link_pieces file base scope (as_argument t) ≡ pieces_of file base scope t
   pieces_agree file base scope (Whole name) = refl
   pieces_agree file base scope (Bit name index) = refl
-  pieces_agree file base scope (Part name msb lsb) = refl
+  pieces_agree file base scope (Part name kind first second) = refl
   pieces_agree file base scope (Joined at parts) = all_pieces_agree file base scope parts
 
   pub all_pieces_agree : (file base : ℕ) (scope : Meanings) (ts : Targets) → all_link_pieces file base scope (as_arguments ts) ≡ all_pieces_of file base scope ts

@@ -14,6 +14,7 @@ use Rattle.elab_items.specs.elab_scope.declared.widths.Breadth.TheVariants.{Bits
 use Rattle.elab_items.specs.elab_scope.Names.{Meanings, numbers_in}
 use Rattle.elab_items.specs.elab_scope.Own.{breadth}
 use Rattle.elab_items.specs.elab_scope.Rules.{may_drive}
+use Rattle.elab_items.specs.elab_scope.Selects.{lsb_in, msb_in}
 use Rattle.elab_items.specs.elab_scope.Targets.{bit_cover, bit_selection, overlap, part_cover, part_selection, whole_cover}
 use Rattle.elab_items.specs.elab_scope.Trees.{field_in, low_of, own_context, signal_of, spot_in, tree_of}
 
@@ -32,7 +33,7 @@ abbrev mutual
   pub has_nets : Meanings → Formula → Bool
   has_nets scope (Read name) = may_link (scope name.text)
   has_nets scope (ReadBit name index) = may_link (scope name.text) && is_number (constant (numbers_in scope) index)
-  has_nets scope (ReadPart name msb lsb) = may_link (scope name.text)
+  has_nets scope (ReadPart name kind first second) = may_link (scope name.text)
   has_nets scope (Concat at parts) = all_have_nets scope parts
   has_nets scope _ = false
 
@@ -50,8 +51,8 @@ abbrev mutual
   covers_of scope (Read name) = cover_list (whole_cover (scope name.text))
   covers_of scope (ReadBit name index) =
       cover_list (bit_cover (scope name.text) (constant (numbers_in scope) index))
-  covers_of scope (ReadPart name msb lsb) =
-      cover_list (part_cover (scope name.text) (field_in (scope name.text) (constant (numbers_in scope) msb) (constant (numbers_in scope) lsb)))
+  covers_of scope (ReadPart name kind first second) =
+      cover_list (part_cover (scope name.text) (field_in (scope name.text) (msb_in scope kind first second) (lsb_in scope kind first second)))
   covers_of scope (Concat at parts) = all_covers_of scope parts
   covers_of scope _ = []
 
@@ -81,8 +82,8 @@ abbrev mutual
       record { signal = signal_of base (scope name.text); selection = piece.Whole; spot = spot_in file name.at } ∷ []
   link_pieces file base scope (ReadBit name index) =
       record { signal = signal_of base (scope name.text); selection = bit_selection (low_of (scope name.text)) (constant (numbers_in scope) index) (tree_of file base scope index (own_context scope index)); spot = spot_in file name.at } ∷ []
-  link_pieces file base scope (ReadPart name msb lsb) =
-      record { signal = signal_of base (scope name.text); selection = part_selection (field_in (scope name.text) (constant (numbers_in scope) msb) (constant (numbers_in scope) lsb)); spot = spot_in file name.at } ∷ []
+  link_pieces file base scope (ReadPart name kind first second) =
+      record { signal = signal_of base (scope name.text); selection = part_selection (field_in (scope name.text) (msb_in scope kind first second) (lsb_in scope kind first second)); spot = spot_in file name.at } ∷ []
   link_pieces file base scope (Concat at parts) = all_link_pieces file base scope parts
   link_pieces file base scope _ = []
 

@@ -1,7 +1,7 @@
 -- The instances that an item places, with what they set their parameters to.
 -- Worked examples: crates/elab_flat/proofs/Examples.antt, crates/tests_layers/stdin.
 use Rattle.std.specs.Prelude.{List, Option, None, Some, map}
-use Rattle.rtl_tree.specs.TreeItem.{ModuleItem, Ports, Nets, Variables, Integers, Parameters, Drives, Always, Instances, Association, Instantiation, instantiation}
+use Rattle.rtl_tree.specs.TreeItem.{ModuleItem, Ports, Nets, Variables, Integers, Parameters, Drives, Gates, Always, Instances, Association, Instantiation, instantiation}
 use Rattle.rtl_tree.specs.TreeModule.{Circuit, circuit}
 use Rattle.elab_items.specs.elab_scope.Names.{Meanings}
 use Rattle.elab_items.specs.Declarations.{declarations}
@@ -51,4 +51,5 @@ group_of lookups files scope (Variables at signed bounds variables) = None
 group_of lookups files scope (Integers at names) = None
 group_of lookups files scope (Parameters at kind bounds values) = None
 group_of lookups files scope (Drives at pause drives) = None
+group_of lookups files scope (Gates at names pause drives) = None
 group_of lookups files scope (Always at sensitivity body) = None

@@ -4,7 +4,7 @@ use Rattle.std.specs.Prelude.{ℕ, nat_lt, if◌then◌else◌, List, [], ◌∷
 use Rattle.std.specs.List.{list_any}
 use Rattle.std.specs.Str.{bytes_eq}
 use Rattle.rtl_tree.specs.TreeExpr.{Identifier}
-use Rattle.rtl_tree.specs.TreeItem.{ModuleItem, Ports, Nets, Variables, Integers, Parameters, Drives, Always, Instances, Association, Instantiation}
+use Rattle.rtl_tree.specs.TreeItem.{ModuleItem, Ports, Nets, Variables, Integers, Parameters, Drives, Gates, Always, Instances, Association, Instantiation}
 use Rattle.rtl_tree.specs.TreeModule.{Circuit}
 use Rattle.elab_items.specs.elab_scope.Faults.{InstanceLoop, ModuleTwice, NoSuchModule, Refusal, TooLarge}
 use Rattle.elab_items.specs.elab_scope.Names.{Meanings}
@@ -59,4 +59,5 @@ link_faults lookups files way scope (Variables at signed bounds variables) = []
 link_faults lookups files way scope (Integers at names) = []
 link_faults lookups files way scope (Parameters at kind bounds values) = []
 link_faults lookups files way scope (Drives at pause drives) = []
+link_faults lookups files way scope (Gates at names pause drives) = []
 link_faults lookups files way scope (Always at sensitivity body) = []

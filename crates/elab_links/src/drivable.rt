@@ -9,6 +9,7 @@ ghost use Rattle.elab_links.specs.Drivable.{all_covers_of, all_have_nets, cover_
 use elab_items::elab_scope::covers::{Cover, bit_cover, is_covered, part_cover, whole_cover};
 use elab_items::elab_scope::known::{Known, Role};
 use elab_items::elab_scope::names::Names;
+use elab_items::elab_scope::selects::ends_of;
 use elab_items::elab_scope::size::field_in;
 use elab_items::elab_scope::widths::Breadth;
 use rtl_const::evaluate::constant;
@@ -42,11 +43,11 @@ fn has_nets(e: &Expr, names: &Names) -> bool
         Expr::ReadBit(name, index) => {
             may_link(names.find(&name.text)) && constant(index, names).is_ok()
         }
-        Expr::ReadPart(name, _, _) => may_link(names.find(&name.text)),
+        Expr::ReadPart(name, _, _, _) => may_link(names.find(&name.text)),
         Expr::Concat(_, parts) => all_have_nets(parts, names),
         Expr::Number(_, _)
         | Expr::Parens(_, _)
-        | Expr::Convert(_, _, _)
+        | Expr::Apply(_, _, _)
         | Expr::Repeat(_, _, _)
         | Expr::Unary(_, _, _)
         | Expr::Binary(_, _, _, _)
@@ -88,15 +89,16 @@ fn push_covers(e: &Expr, names: &Names, covers: &mut Vec<Cover>) -> Result<(), M
             let cover = bit_cover(names.find(&name.text), constant(index, names));
             push_cover(cover, covers)?;
         }
-        Expr::ReadPart(name, msb, lsb) => {
+        Expr::ReadPart(name, kind, first, second) => {
             let known = names.find(&name.text);
-            let field = field_in(known, constant(msb, names), constant(lsb, names));
+            let ends = ends_of(*kind, first, second, names);
+            let field = field_in(known, ends.msb, ends.lsb);
             push_cover(part_cover(known, field), covers)?;
         }
         Expr::Concat(_, parts) => push_all_covers(parts, names, covers)?,
         Expr::Number(_, _)
         | Expr::Parens(_, _)
-        | Expr::Convert(_, _, _)
+        | Expr::Apply(_, _, _)
         | Expr::Repeat(_, _, _)
         | Expr::Unary(_, _, _)
         | Expr::Binary(_, _, _, _)

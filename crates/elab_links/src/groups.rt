@@ -84,6 +84,7 @@ pub fn group_of<'a>(
         | Item::Integers(_, _)
         | Item::Parameters { .. }
         | Item::Assigns(_, _, _)
+        | Item::Gates { .. }
         | Item::Always(_, _, _) => Ok(None),
     }
 }

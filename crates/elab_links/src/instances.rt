@@ -192,6 +192,7 @@ pub fn judge_instances<'a>(
         | Item::Integers(_, _)
         | Item::Parameters { .. }
         | Item::Assigns(_, _, _)
+        | Item::Gates { .. }
         | Item::Always(_, _, _) => Ok(best),
     }
 }

@@ -5,7 +5,7 @@ use Rattle.std.proofs.lemmas.List.{map-append}
 use Rattle.text_ground.specs.declared.text.Spot.{Spot}
 use Rattle.rtl_tree.specs.TreeExpr.{Identifier, Formula}
 use Rattle.rtl_tree.specs.TreeStmt.{Target, Pause, Whole}
-use Rattle.rtl_tree.specs.TreeItem.{Net, Drive, ModuleItem, Ports, Nets, Variables, Integers, Parameters, Drives, Always, Instances}
+use Rattle.rtl_tree.specs.TreeItem.{Net, Drive, ModuleItem, Ports, Nets, Variables, Integers, Parameters, Drives, Gates, Always, Instances}
 use Rattle.rtl_flat.specs.declared.instance.Delay.{Delay}
 use Rattle.rtl_flat.specs.Process.{Task}
 use Rattle.elab_body.specs.elab_scope.declared.rules.Writer.TheVariants as writer
@@ -17,6 +17,7 @@ use Rattle.elab_body.specs.Bodies.{steps}
 use Rattle.elab_body.specs.Events.{sensitivity_faults}
 use Rattle.elab_body.specs.Steps.{Step, delays_of, faulty}
 use Rattle.elab_parts.specs.Delays.{delay_in, item_delays, repeated}
+use Rattle.elab_parts.specs.Gates.{assignments_of, terminal_faults}
 use Rattle.elab_parts.specs.Items.{assignment_steps, drive_places, drive_steps, item_places, item_steps, net_places, net_steps, value_places, value_steps}
 use Rattle.elab_parts.specs.Tasks.{drive_tasks, item_tasks, net_tasks, value_tasks}
 use Rattle.elab_parts.proofs.Pausing.{behind_faults, no_pauses, pauses_append}
@@ -54,6 +55,8 @@ task_spots file base instance scope (Integers at names) = refl
 task_spots file base instance scope (Parameters at kind bounds values) = refl
 task_spots file base instance scope (Drives at pause drives) =
     drive_spots file base instance scope drives
+task_spots file base instance scope (Gates at names pause drives) =
+    drive_spots file base instance scope (assignments_of drives)
 task_spots file base instance scope (Always at sensitivity body) = refl
 task_spots file base instance scope (Instances child parameters instantiations) = refl
 
@@ -101,6 +104,13 @@ delay_places file process scope (Parameters at kind bounds values) = refl
 delay_places file process scope (Drives at None drives) = sym (quiet_drives scope drives)
 delay_places file process scope (Drives at (Some pause) drives) =
     drives_paused file process scope pause drives
+delay_places file process scope (Gates at names None drives) =
+    sym
+    (behind_faults (terminal_faults scope drives) (drive_steps scope None (assignments_of drives))
+    ∙ quiet_drives scope (assignments_of drives))
+delay_places file process scope (Gates at names (Some pause) drives) =
+    drives_paused file process scope pause (assignments_of drives)
+    ∙ sym (behind_faults (terminal_faults scope drives) (drive_steps scope (Some pause) (assignments_of drives)))
 delay_places file process scope (Always at sensitivity body) =
     places_of file process (delays_of (steps body scope))
     ∙ sym (behind_faults (sensitivity_faults scope sensitivity) (steps body scope))

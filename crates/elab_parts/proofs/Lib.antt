@@ -1,4 +1,6 @@
+mod Borrowed
 mod Examples
+pub mod Gates
 pub mod Law
 pub mod Listing
 pub mod Pausing

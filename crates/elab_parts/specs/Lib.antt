@@ -1,4 +1,5 @@
 pub mod Delays
+pub mod Gates
 pub mod Items
 pub mod Tasks
 -- passed on to the crates above

@@ -3,13 +3,14 @@
 use Rattle.std.specs.Prelude.{ℕ, Bool, true, false, List, [], ◌∷◌, ◌++◌, Option, None, Some}
 use Rattle.rtl_tree.specs.TreeExpr.{Identifier, Formula}
 use Rattle.rtl_tree.specs.TreeStmt.{Target, Whole, Action, target_place}
-use Rattle.rtl_tree.specs.TreeItem.{Net, Drive, Sensitivity, ModuleItem, Ports, Nets, Variables, Integers, Parameters, Drives, Always, Instances}
+use Rattle.rtl_tree.specs.TreeItem.{Net, Drive, Sensitivity, ModuleItem, Ports, Nets, Variables, Integers, Parameters, Drives, Gates, Always, Instances}
 use Rattle.rtl_flat.specs.Process.{Actions, Doing, Assign, Comb, Edge', Task, Watched, body_of}
 use Rattle.elab_body.specs.elab_scope.Names.{Meanings}
 use Rattle.elab_body.specs.elab_scope.Targets.{assigned_context, pieces_of}
 use Rattle.elab_body.specs.elab_scope.Trees.{spot_in, tree_of}
 use Rattle.elab_body.specs.Acts.{acts}
 use Rattle.elab_body.specs.Events.{is_clocked_by, listing_of}
+use Rattle.elab_parts.specs.Gates.{assignments_of}
 
 -- a continuous assignment in an instance
 abbrev pub assigned_task : ℕ → ℕ → ℕ → Meanings → Target → Formula → Task
@@ -51,6 +52,8 @@ item_tasks file base instance scope (Integers at names) = []
 item_tasks file base instance scope (Parameters at kind bounds values) = []
 item_tasks file base instance scope (Drives at pause drives) =
     drive_tasks file base instance scope drives
+item_tasks file base instance scope (Gates at names pause drives) =
+    drive_tasks file base instance scope (assignments_of drives)
 item_tasks file base instance scope (Always at sensitivity body) =
     always_task file base instance scope at sensitivity body ∷ []
 item_tasks file base instance scope (Instances child parameters instantiations) = []

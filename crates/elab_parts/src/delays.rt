@@ -10,6 +10,7 @@ ghost use Rattle.elab_parts.specs.Delays.{delay_in, item_delays, repeated};
 ghost use Rattle.elab_parts.specs.Items.{item_places};
 
 use crate::pauses::pauses_of;
+use crate::places::count_of;
 use elab_body::elab_scope::names::Names;
 use elab_body::elab_scope::size::Site;
 use rtl_flat::act::ProcId;
@@ -89,15 +90,20 @@ pub fn push_delays(
     ensures same { meanings names.new ≡ meanings names.old }
 {
     match item {
-        Item::Assigns(_, Some(delay), assignments) => {
+        Item::Assigns(_, Some(delay), _)
+        | Item::Gates {
+            delay: Some(delay),
+            ..
+        } => {
             let spot = Spot {
                 file: site.file,
                 at: delay.at,
             };
-            push_repeated(first, assignments.len(), spot, delays)?
+            push_repeated(first, count_of(item), spot, delays)?
         }
         Item::Always(_, _, body) => push_body(body, names, site, first as u32, delays)?,
         Item::Assigns(_, None, _)
+        | Item::Gates { delay: None, .. }
         | Item::Ports(_, _)
         | Item::Wires { .. }
         | Item::Regs { .. }

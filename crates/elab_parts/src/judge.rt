@@ -3,7 +3,7 @@
 ghost use Rattle.std.specs.Prelude.{◌≡◌, IfOk, map};
 ghost use Rattle.std.specs.Option.{option_map};
 ghost use Rattle.rtl_tree.specs.TreeExpr.{formula, identifier};
-ghost use Rattle.rtl_tree.specs.TreeItem.{drive, module_item, net, sensitivity};
+ghost use Rattle.rtl_tree.specs.TreeItem.{drive, gate_drive, module_item, net, sensitivity};
 ghost use Rattle.rtl_tree.specs.TreeStmt.{Whole, action, pause, target};
 ghost use Rattle.elab_body.specs.elab_scope.Names.{meanings};
 ghost use Rattle.elab_body.specs.elab_scope.Targets.{target_faults};
@@ -13,8 +13,10 @@ ghost use Rattle.elab_body.specs.Bodies.{pause_steps};
 ghost use Rattle.elab_body.specs.Courses.{course};
 ghost use Rattle.elab_body.specs.Events.{sensitivity_faults};
 ghost use Rattle.elab_body.specs.Steps.{Nodes, faulty, passed, stepped};
-ghost use Rattle.elab_parts.specs.Items.{always_steps, assignment_steps, drive_steps, item_steps, items_steps, net_steps, value_steps};
+ghost use Rattle.elab_parts.specs.Gates.{assignments_of, output_drives, terminal_faults};
+ghost use Rattle.elab_parts.specs.Items.{always_steps, assignment_steps, drive_steps, gate_steps, item_steps, items_steps, net_steps, value_steps};
 
+use crate::terminals::judge_terminals;
 use elab_body::body::judge_body;
 use elab_body::elab_scope::covers::judge_target;
 use elab_body::elab_scope::names::Names;
@@ -22,7 +24,7 @@ use elab_body::elab_scope::rules::{self, Writer};
 use elab_body::events::judge_control;
 use elab_body::progress::Progress;
 use rtl_tree::tree::expr::Expr;
-use rtl_tree::tree::item::{Assignment, EventControl, Item, Wire};
+use rtl_tree::tree::item::{Assignment, EventControl, GateDrive, Item, Wire};
 use rtl_tree::tree::names::Name;
 use rtl_tree::tree::stmt::{Delay, Lvalue, Stmt};
 use std::alloc::Global;
@@ -128,18 +130,18 @@ fn judge_written<'a>(
 #[tactic(auto, using(elab_body::proofs::Passing::passed_append))]
 fn judge_assignment<'a>(
     alloc: Global,
-    assignment: &'a Assignment,
+    written: &'a Lvalue,
+    value: &'a Expr,
     names: &Names,
     so_far: Progress<'a>,
 ) -> Result<Progress<'a>, Memory>
     ensures { IfOk result (λ judged. course judged
         ≡ passed (course so_far.entry)
-        (assignment_steps (meanings names.now) (target assignment.now.target)
-        (formula assignment.now.value))) }
+        (assignment_steps (meanings names.now) (target written.now) (formula value.now))) }
 {
-    let so_far = so_far.spend_assignment(&assignment.target, &assignment.value, names);
-    let so_far = judge_written(alloc, &assignment.target, names, so_far)?;
-    Ok(so_far.judge(&assignment.value, names))
+    let so_far = so_far.spend_assignment(written, value, names);
+    let so_far = judge_written(alloc, written, names, so_far)?;
+    Ok(so_far.judge(value, names))
 }
 
 #[tactic(auto, using(elab_body::proofs::Passing::passed_append))]
@@ -157,9 +159,96 @@ fn judge_drives<'a>(
 {
     let mut so_far = so_far;
     for assignment in assignments {
-        so_far = judge_assignment(alloc, assignment, names, paused(delay, so_far))?;
+        so_far = judge_assignment(
+            alloc,
+            &assignment.target,
+            &assignment.value,
+            names,
+            paused(delay, so_far),
+        )?;
     }
     Ok(so_far)
+}
+
+/// The assignments of a value to outputs.
+#[tactic(auto, using(elab_body::proofs::Passing::passed_append))]
+fn judge_outputs<'a>(
+    alloc: Global,
+    delay: &Option<Delay>,
+    value: &'a Expr,
+    outputs: &'a [Lvalue],
+    names: &Names,
+    so_far: Progress<'a>,
+) -> Result<Progress<'a>, Memory>
+    ensures { IfOk result (λ judged. course judged
+        ≡ passed (course so_far.entry)
+        (drive_steps (meanings names.now) (option_map pause delay.now)
+        (output_drives (formula value.now) (map target outputs.now)))) }
+{
+    let mut so_far = so_far;
+    for output in outputs {
+        so_far = judge_assignment(alloc, output, value, names, paused(delay, so_far))?;
+    }
+    Ok(so_far)
+}
+
+/// Gates as assignments, whatever their terminals have.
+#[tactic(auto, using(elab_body::proofs::Passing::passed_append))]
+fn judge_all_outputs<'a>(
+    alloc: Global,
+    delay: &Option<Delay>,
+    drives: &'a [GateDrive],
+    names: &Names,
+    so_far: Progress<'a>,
+) -> Result<Progress<'a>, Memory>
+    ensures { IfOk result (λ judged. course judged
+        ≡ passed (course so_far.entry)
+        (drive_steps (meanings names.now) (option_map pause delay.now)
+        (assignments_of (map gate_drive drives.now)))) }
+{
+    let mut so_far = so_far;
+    for drive in drives {
+        so_far = judge_outputs(alloc, delay, &drive.value, &drive.outputs, names, so_far)?;
+    }
+    Ok(so_far)
+}
+
+/// The terminals of gates have one bit each.
+#[tactic(auto, using(elab_body::proofs::Passing::passed_faulty, elab_body::proofs::Passing::passed_cut))]
+fn judge_bits<'a>(drives: &'a [GateDrive], names: &Names, so_far: Progress<'a>) -> Progress<'a>
+    ensures { course result ≡ passed (course so_far.entry)
+        (faulty (terminal_faults (meanings names.now) (map gate_drive drives.now))) }
+{
+    match so_far.left {
+        None => so_far,
+        Some(_) => Progress {
+            best: judge_terminals(drives, names, so_far.best),
+            left: so_far.left,
+            filled: so_far.filled,
+        },
+    }
+}
+
+#[tactic(auto, using(elab_body::proofs::Passing::passed_append))]
+fn judge_gates<'a>(
+    alloc: Global,
+    delay: &Option<Delay>,
+    drives: &'a [GateDrive],
+    names: &Names,
+    so_far: Progress<'a>,
+) -> Result<Progress<'a>, Memory>
+    ensures { IfOk result (λ judged. course judged
+        ≡ passed (course so_far.entry)
+        (gate_steps (meanings names.now) (option_map pause delay.now)
+        (map gate_drive drives.now))) }
+{
+    judge_all_outputs(
+        alloc,
+        delay,
+        drives,
+        names,
+        judge_bits(drives, names, so_far),
+    )
 }
 
 /// The faults of a sensitivity list.
@@ -210,6 +299,10 @@ pub fn judge_item<'a>(
         Item::Wires { wires, .. } => Ok(judge_nets(wires, names, so_far)),
         Item::Assigns(_, delay, assignments) => {
             let judged = judge_drives(alloc, delay, assignments, names, so_far)?;
+            Ok(judged)
+        }
+        Item::Gates { delay, drives, .. } => {
+            let judged = judge_gates(alloc, delay, drives, names, so_far)?;
             Ok(judged)
         }
         Item::Always(at, control, body) => Ok(judge_always(*at, control, body, names, so_far)),

@@ -6,6 +6,7 @@ pub mod judge;
 pub mod pauses;
 pub mod places;
 pub mod tasks;
+mod terminals;
 
 // Passed on to the crates above.
 pub use elab_body;

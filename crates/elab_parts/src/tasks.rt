@@ -5,11 +5,12 @@ ghost use Rattle.std.specs.Option.{option_map};
 ghost use Rattle.rtl_flat.specs.Process.{body_of, doing, listing, piece, task};
 ghost use Rattle.rtl_flat.specs.Process.{action as made_action};
 ghost use Rattle.rtl_tree.specs.TreeExpr.{formula, identifier};
-ghost use Rattle.rtl_tree.specs.TreeItem.{drive, module_item, net, sensitivity};
+ghost use Rattle.rtl_tree.specs.TreeItem.{drive, gate_drive, module_item, net, sensitivity};
 ghost use Rattle.rtl_tree.specs.TreeStmt.{Whole, action, target};
 ghost use Rattle.elab_body.specs.elab_scope.Names.{meanings};
 ghost use Rattle.elab_body.specs.elab_scope.Targets.{assigned_context, pieces_of};
 ghost use Rattle.elab_body.specs.elab_scope.Trees.{spot_in};
+ghost use Rattle.elab_parts.specs.Gates.{assignments_of, output_drives};
 ghost use Rattle.elab_parts.specs.Tasks.{always_task, assigned_task, drive_tasks, item_tasks, net_tasks, value_tasks, waited};
 
 use elab_body::acts::acts_of;
@@ -23,9 +24,9 @@ use elab_body::events::{is_clocked, listed};
 use rtl_flat::act::{Act, Does, Listed, Process, Target, TargetPart};
 use rtl_flat::expr::Select;
 use rtl_tree::tree::expr::Expr;
-use rtl_tree::tree::item::{Assignment, EventControl, Item, Wire};
+use rtl_tree::tree::item::{Assignment, EventControl, GateDrive, Item, Wire};
 use rtl_tree::tree::names::Name;
-use rtl_tree::tree::stmt::Stmt;
+use rtl_tree::tree::stmt::{Lvalue, Stmt};
 use text_ground::memory::Memory;
 use text_ground::text::Spot;
 
@@ -92,17 +93,16 @@ fn net_process(
 
 /// A continuous assignment.
 fn drive_process(
-    assignment: &Assignment,
+    written: &Lvalue,
+    value: &Expr,
     names: &Names,
     site: Site,
     instance: u32,
 ) -> Result<Process, Memory>
     ensures { IfOk result (λ made. task made
-        ≡ assigned_task site.file site.base instance (meanings names.now)
-        (target assignment.now.target) (formula assignment.now.value)) }
+        ≡ assigned_task site.file site.base instance (meanings names.now) (target written.now)
+        (formula value.now)) }
 {
-    let written = &assignment.target;
-    let value = &assignment.value;
     let does = Does::Assign {
         target: target_of(written, names, site)?,
         value: size(value, assigned_context(value, written, names), names, site)?,
@@ -194,7 +194,58 @@ fn push_drives(
         (map drive assignments.now)) }
 {
     for assignment in assignments {
-        processes.push(drive_process(assignment, names, site, instance)?)?;
+        processes.push(drive_process(
+            &assignment.target,
+            &assignment.value,
+            names,
+            site,
+            instance,
+        )?)?;
+    }
+    Ok(())
+}
+
+/// The assignments of a value to outputs.
+fn push_outputs(
+    value: &Expr,
+    outputs: &[Lvalue],
+    names: &Names,
+    site: Site,
+    instance: u32,
+    processes: &mut Vec<Process>,
+) -> Result<(), Memory>
+    ensures { OnOk result (map task processes.new.items
+        ≡ map task processes.old.items
+        ++ drive_tasks site.file site.base instance (meanings names.now)
+        (output_drives (formula value.now) (map target outputs.now))) }
+{
+    for output in outputs {
+        processes.push(drive_process(output, value, names, site, instance)?)?;
+    }
+    Ok(())
+}
+
+fn push_gates(
+    drives: &[GateDrive],
+    names: &Names,
+    site: Site,
+    instance: u32,
+    processes: &mut Vec<Process>,
+) -> Result<(), Memory>
+    ensures { OnOk result (map task processes.new.items
+        ≡ map task processes.old.items
+        ++ drive_tasks site.file site.base instance (meanings names.now)
+        (assignments_of (map gate_drive drives.now))) }
+{
+    for drive in drives {
+        push_outputs(
+            &drive.value,
+            &drive.outputs,
+            names,
+            site,
+            instance,
+            processes,
+        )?;
     }
     Ok(())
 }
@@ -218,6 +269,7 @@ pub fn push_processes(
         Item::Assigns(_, _, assignments) => {
             push_drives(assignments, names, site, instance, processes)?
         }
+        Item::Gates { drives, .. } => push_gates(drives, names, site, instance, processes)?,
         Item::Always(at, control, body) => processes.push(always_process(
             *at, control, body, names, site, instance,
         )?)?,

@@ -6,7 +6,7 @@ use Rattle.std.specs.List.{filter}
 use Rattle.text_ground.specs.declared.dropped.DropKind.{DropKind}
 use Rattle.text_ground.specs.declared.dropped.DropKind.TheVariants.{Comment, Initial, TranslateOff}
 use Rattle.text_ground.specs.declared.dropped.Dropped.{Dropped}
-use Rattle.rtl_tree.specs.TreeItem.{Variable, ModuleItem, Ports, Nets, Variables, Integers, Parameters, Drives, Always, Instances}
+use Rattle.rtl_tree.specs.TreeItem.{Variable, ModuleItem, Ports, Nets, Variables, Integers, Parameters, Drives, Gates, Always, Instances}
 use Rattle.rtl_tree.specs.TreeModule.{Circuit}
 
 -- ---- the initial values of variables: each is dropped as an `initial` construct at its name would be (IEEE 1364-2001
@@ -26,6 +26,7 @@ item_initials (Nets at signed bounds nets) = []
 item_initials (Integers at names) = []
 item_initials (Parameters at kind bounds values) = []
 item_initials (Drives at pause drives) = []
+item_initials (Gates at names pause drives) = []
 item_initials (Always at sensitivity body) = []
 item_initials (Instances child parameters instantiations) = []
 

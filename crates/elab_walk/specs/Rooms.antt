@@ -3,7 +3,7 @@
 use Rattle.std.specs.Prelude.{ℕ, zero, suc, ◌+◌, ◌-◌, nat_le, nat_lt, Bool, ◌&&◌, if◌then◌else◌, List, [], ◌∷◌, ◌++◌, length, Option, None, Some}
 use Rattle.std.specs.List.{slice_get}
 use Rattle.rtl_tree.specs.TreeExpr.{Formula}
-use Rattle.rtl_tree.specs.TreeItem.{ModuleItem, Ports, Nets, Variables, Integers, Parameters, Drives, Always, Instances, Association, ByPosition, ByName, Associated, Positional, Instantiation}
+use Rattle.rtl_tree.specs.TreeItem.{ModuleItem, Ports, Nets, Variables, Integers, Parameters, Drives, Gates, Always, Instances, Association, ByPosition, ByName, Associated, Positional, Instantiation}
 use Rattle.rtl_tree.specs.TreeModule.{Circuit}
 use Rattle.elab_links.specs.elab_scope.Faults.{Refusal, TooLarge}
 use Rattle.elab_links.specs.elab_scope.Names.{Meanings}
@@ -51,6 +51,7 @@ link_places (Variables at signed bounds variables) = []
 link_places (Integers at names) = []
 link_places (Parameters at kind bounds values) = []
 link_places (Drives at pause drives) = []
+link_places (Gates at names pause drives) = []
 link_places (Always at sensitivity body) = []
 
 -- the places of the processes of items, in order
@@ -87,6 +88,7 @@ item_extras (Nets at signed bounds nets) = 0
 item_extras (Variables at signed bounds variables) = 0
 item_extras (Integers at names) = length names
 item_extras (Drives at pause drives) = 0
+item_extras (Gates at names pause drives) = 0
 item_extras (Always at sensitivity body) = 0
 item_extras (Instances child parameters instantiations) = 0
 

@@ -4,7 +4,7 @@
 use Rattle.std.specs.Prelude.{ℕ, zero, suc, List, [], ◌∷◌, ◌++◌, map, Option, None, Some}
 use Rattle.std.specs.List.{flat_map}
 use Rattle.text_ground.specs.declared.text.Spot.{Spot}
-use Rattle.rtl_tree.specs.TreeItem.{ModuleItem, Ports, Nets, Variables, Integers, Parameters, Drives, Always, Instances, Instantiation}
+use Rattle.rtl_tree.specs.TreeItem.{ModuleItem, Ports, Nets, Variables, Integers, Parameters, Drives, Gates, Always, Instances, Instantiation}
 use Rattle.rtl_tree.specs.TreeModule.{Circuit, circuit}
 use Rattle.elab_links.specs.elab_scope.Names.{Meanings, meanings}
 use Rattle.elab_links.specs.elab_items.Scopes.{scope_of}
@@ -115,6 +115,7 @@ item_children library holder (Variables at signed bounds variables) = []
 item_children library holder (Integers at names) = []
 item_children library holder (Parameters at kind bounds values) = []
 item_children library holder (Drives at pause drives) = []
+item_children library holder (Gates at names pause drives) = []
 item_children library holder (Always at sensitivity body) = []
 
 -- those that items hold, in order

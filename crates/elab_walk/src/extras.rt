@@ -21,6 +21,7 @@ fn count_in(item: &Item) -> usize
         | Item::Wires { .. }
         | Item::Regs { .. }
         | Item::Assigns(_, _, _)
+        | Item::Gates { .. }
         | Item::Always(_, _, _)
         | Item::Instances { .. } => 0,
     }

@@ -108,6 +108,7 @@ fn seek_links(item: &Item, seek: Seek) -> Seek
         | Item::Integers(_, _)
         | Item::Parameters { .. }
         | Item::Assigns(_, _, _)
+        | Item::Gates { .. }
         | Item::Always(_, _, _) => seek,
     }
 }

@@ -201,6 +201,7 @@ fn visit_item<'a>(
         | Item::Integers(_, _)
         | Item::Parameters { .. }
         | Item::Assigns(_, _, _)
+        | Item::Gates { .. }
         | Item::Always(_, _, _) => Ok(()),
     }
 }
