@@ -3,7 +3,7 @@
 use Rattle.std.specs.Prelude.{ℕ, ◌≡◌, ◌↔◌, List, [], ◌∷◌, ◌++◌, map}
 use Rattle.std.specs.List.{All, Contains, flat_map}
 use Rattle.std.specs.List.Sorted.{IsStrictlyIncreasing}
-use Rattle.rtl_tree.specs.TreeItem.{ModuleItem, Ports, Nets, Variables, Integers, Parameters, Drives, Always, Instances}
+use Rattle.rtl_tree.specs.TreeItem.{ModuleItem, Ports, Nets, Variables, Integers, Parameters, Drives, Gates, Always, Instances}
 use Rattle.rtl_elab.specs.elab_links.declared.module_set.Lookup.TheVariants.{Found}
 use Rattle.rtl_elab.specs.elab_walk.Visits.{Library, Visit}
 use Rattle.rtl_elab.specs.Elaborated.{visited}
@@ -18,6 +18,7 @@ name_in_item (Variables at signed bounds variables) = []
 name_in_item (Integers at names) = []
 name_in_item (Parameters at kind bounds values) = []
 name_in_item (Drives at pause drives) = []
+name_in_item (Gates at names pause drives) = []
 name_in_item (Always at sensitivity body) = []
 
 abbrev pub names_in : List ModuleItem → List (List ℕ)

@@ -64,6 +64,7 @@ impl Asked {
             | Item::Integers(_, _)
             | Item::Parameters { .. }
             | Item::Assigns(_, _, _)
+            | Item::Gates { .. }
             | Item::Always(_, _, _) => Ok(()),
         }
     }

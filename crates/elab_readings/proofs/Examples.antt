@@ -4,10 +4,11 @@ use Rattle.std.proofs.Common.{◌≡◌, refl}
 use Rattle.name_map.specs.Values.{Values, no_values, with_value}
 use Rattle.rtl_tree.specs.declared.tree.item.Direction.TheVariants.{Output}
 use Rattle.rtl_tree.specs.declared.tree.operators.BinaryOperator.{BinaryOperator}
-use Rattle.rtl_tree.specs.declared.tree.operators.BinaryOperator.TheVariants.{Add, BitwiseAnd, Equal, ShiftLeft, ShiftRight}
+use Rattle.rtl_tree.specs.declared.tree.operators.BinaryOperator.TheVariants.{Power, Add, BitwiseAnd, Equal, ShiftLeft, ShiftRight}
 use Rattle.rtl_tree.specs.declared.tree.operators.UnaryOperator.TheVariants.{BitwiseNot, Plus}
-use Rattle.rtl_tree.specs.declared.tree.operators.Signedness.TheVariants as signedness
-use Rattle.rtl_tree.specs.TreeExpr.{Formula, Identifier, Number, Read, ReadBit, ReadPart, Parens, Convert, Concat, Repeat, Unary, Binary, Choose, no_formulas, more_formulas}
+use Rattle.rtl_tree.specs.declared.tree.operators.SystemFunction.TheVariants as function
+use Rattle.rtl_tree.specs.declared.tree.operators.PartKind.TheVariants.{Between}
+use Rattle.rtl_tree.specs.TreeExpr.{Formula, Identifier, Number, Read, ReadBit, ReadPart, Parens, Apply, Concat, Repeat, Unary, Binary, Choose, no_formulas, more_formulas}
 use Rattle.elab_uses.specs.elab_items.declared.entries.Form.TheVariants as form
 use Rattle.elab_uses.specs.elab_items.declared.reach.Reach.TheVariants.{Bits}
 use Rattle.elab_uses.specs.elab_items.Declarations.{Declaration, Listed, Signal, SignalRange}
@@ -58,7 +59,7 @@ by operator left right = Binary operator 0 left right
 
 abbrev moved : List Formula
 moved =
-    by Add a b ∷ Unary BitwiseNot 0 a ∷ Convert signedness.Signed 0 a ∷ by BitwiseAnd s t ∷ ReadPart (named 115 0) (whole 3) (whole 0) ∷ by ShiftLeft a (whole 1) ∷ []
+    by Add a b ∷ Unary BitwiseNot 0 a ∷ Apply function.Signed 0 a ∷ by BitwiseAnd s t ∷ ReadPart (named 115 0) Between (whole 3) (whole 0) ∷ by ShiftLeft a (whole 1) ∷ []
 
 moved_all : map (hangs_on port scope) moved ≡ true ∷ true ∷ true ∷ true ∷ true ∷ true ∷ []
 moved_all = refl
@@ -67,10 +68,19 @@ moved_all = refl
 
 abbrev stay : List Formula
 stay =
-    a ∷ s ∷ ReadPart (named 115 0) (whole 2) (whole 0) ∷ Concat 0 (more_formulas a (more_formulas b no_formulas)) ∷ by BitwiseAnd a b ∷ Choose 0 a a b ∷ by Equal a b ∷ by ShiftRight a (whole 1) ∷ Concat 0 (more_formulas (by Add a b) no_formulas) ∷ Unary Plus 0 (Parens 0 s) ∷ Convert signedness.Signed 0 s ∷ []
+    a ∷ s ∷ ReadPart (named 115 0) Between (whole 2) (whole 0) ∷ Concat 0 (more_formulas a (more_formulas b no_formulas)) ∷ by BitwiseAnd a b ∷ Choose 0 a a b ∷ by Equal a b ∷ by ShiftRight a (whole 1) ∷ Concat 0 (more_formulas (by Add a b) no_formulas) ∷ Unary Plus 0 (Parens 0 s) ∷ Apply function.Signed 0 s ∷ []
 
 none_stays : map (hangs_on port scope) stay ≡ false ∷ false ∷ false ∷ false ∷ false ∷ false ∷ false ∷ false ∷ false ∷ false ∷ false ∷ []
 none_stays = refl
+
+-- ---- nor of what is worked out before the design: 2'd2 ** 1 and $clog2(3)
+
+abbrev worked_out : List Formula
+worked_out =
+    by Power (Number (record { width = 2; val = 2; unk = 0; signed = false; sized = true; radix = 10 }) 0) (whole 1) ∷ Apply function.Clog2 0 (whole 3) ∷ []
+
+worked_out_stays : map (hangs_on port scope) worked_out ≡ false ∷ false ∷ []
+worked_out_stays = refl
 
 -- ---- a connection at 10 that names a parameter K, which is declared at 20: K, a & K, a[K] where K is a constant, and at 30
 
@@ -83,7 +93,7 @@ places = with_value no_values (75 ∷ []) 20
 abbrev k : Formula
 k = Read (named 75 0)
 
-late : map (names_late with_k places 10) (k ∷ by BitwiseAnd a k ∷ ReadBit (named 97 0) k ∷ ReadPart (named 97 0) k (whole 0) ∷ []) ≡ true ∷ true ∷ false ∷ false ∷ []
+late : map (names_late with_k places 10) (k ∷ by BitwiseAnd a k ∷ ReadBit (named 97 0) k ∷ ReadPart (named 97 0) Between k (whole 0) ∷ []) ≡ true ∷ true ∷ false ∷ false ∷ []
 late = refl
 
 not_late : names_late with_k places 30 k ≡ false

@@ -4,7 +4,7 @@ use Rattle.std.specs.Prelude.{ℕ, ◌+◌, Bool, true, false, ◌&&◌, ◌||�
 use Rattle.std.specs.List.{flat_map, slice_get}
 use Rattle.name_map.specs.Values.{Values}
 use Rattle.rtl_const.specs.Constant.{constant}
-use Rattle.rtl_tree.specs.TreeExpr.{Formula, Number, Read, ReadBit, ReadPart, Parens, Convert, Concat, Repeat, Unary, Binary, Choose, Formulas, no_formulas, more_formulas, Identifier}
+use Rattle.rtl_tree.specs.TreeExpr.{Formula, Number, Read, ReadBit, ReadPart, Parens, Apply, Concat, Repeat, Unary, Binary, Choose, Formulas, no_formulas, more_formulas, Identifier}
 use Rattle.rtl_tree.specs.TreeItem.{Association, ByPosition, ByName, Associated, Positional}
 use Rattle.rtl_flat.specs.declared.note.Note.{Note}
 use Rattle.rtl_flat.specs.declared.note.Reading.TheVariants.{LateParameter, PortContext}
@@ -68,9 +68,9 @@ abbrev mutual
   names_late scope places at (Read name) = is_behind at (places name.text)
   names_late scope places at (ReadBit name index) =
       not (is_number (constant (numbers_in scope) index)) && names_late scope places at index
-  names_late scope places at (ReadPart name msb lsb) = false
+  names_late scope places at (ReadPart name kind first second) = false
   names_late scope places at (Parens place inner) = names_late scope places at inner
-  names_late scope places at (Convert signedness place inner) = names_late scope places at inner
+  names_late scope places at (Apply function place inner) = names_late scope places at inner
   names_late scope places at (Concat place parts) = row_names_late scope places at parts
   names_late scope places at (Repeat place times parts) =
       names_late scope places at times || row_names_late scope places at parts
@@ -102,7 +102,7 @@ abbrev mutual
   -- the indices and the ends of parts of what an output drives, from left to right
   pub driven_numbers : Formula → List Use
   driven_numbers (ReadBit name index) = uses.Number index ∷ []
-  driven_numbers (ReadPart name msb lsb) = uses.Number msb ∷ uses.Number lsb ∷ []
+  driven_numbers (ReadPart name kind first second) = uses.Number first ∷ uses.Number second ∷ []
   driven_numbers (Concat place parts) = row_driven_numbers parts
   driven_numbers _ = []
 

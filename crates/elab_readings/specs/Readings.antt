@@ -4,7 +4,7 @@
 use Rattle.std.specs.Prelude.{ℕ, ◌+◌, List, [], ◌∷◌, ◌++◌, drop, map, Option, None, Some}
 use Rattle.std.specs.List.{flat_map}
 use Rattle.name_map.specs.Values.{Values, entered, no_values}
-use Rattle.rtl_tree.specs.TreeItem.{ModuleItem, Ports, Nets, Variables, Integers, Parameters, Drives, Always, Instances, Association, Instantiation}
+use Rattle.rtl_tree.specs.TreeItem.{ModuleItem, Ports, Nets, Variables, Integers, Parameters, Drives, Gates, Always, Instances, Association, Instantiation}
 use Rattle.rtl_tree.specs.TreeModule.{Circuit}
 use Rattle.rtl_flat.specs.declared.note.Note.{Note}
 use Rattle.elab_uses.specs.elab_items.Declarations.{Declaration, ParameterRange, Parameter, SignalRange, Listed, Signal, Integer, Instance, declarations}
@@ -42,6 +42,7 @@ item_below (Variables at signed bounds variables) = []
 item_below (Integers at names) = []
 item_below (Parameters at kind bounds values) = []
 item_below (Drives at pause drives) = []
+item_below (Gates at names pause drives) = []
 item_below (Always at sensitivity body) = []
 
 -- the same, and the instance that holds it

@@ -2,7 +2,9 @@
 -- argument (IEEE 1364-2001 sections 12.3.9 and 4.4.1), but some tools size the argument by itself and extend it then.
 -- Worked examples: proofs/Examples.antt.
 use Rattle.std.specs.Prelude.{◌==◌, Bool, true, false, ◌&&◌, not, if◌then◌else◌, Option, Some}
-use Rattle.rtl_tree.specs.TreeExpr.{Formula, Number, Read, ReadBit, ReadPart, Parens, Convert, Concat, Repeat, Unary, Binary, Choose}
+use Rattle.rtl_tree.specs.declared.tree.operators.SystemFunction.{SystemFunction}
+use Rattle.rtl_tree.specs.declared.tree.operators.SystemFunction.TheVariants.{Signed, Unsigned, Clog2}
+use Rattle.rtl_tree.specs.TreeExpr.{Formula, Number, Read, ReadBit, ReadPart, Parens, Apply, Concat, Repeat, Unary, Binary, Choose}
 use Rattle.rtl_flat.specs.declared.expr.Join.{Join as Joining}
 use Rattle.rtl_flat.specs.declared.expr.Join.TheVariants as join
 use Rattle.rtl_flat.specs.declared.expr.Shift.{Shift as Shifting}
@@ -12,7 +14,7 @@ use Rattle.rtl_flat.specs.declared.expr.Turn.TheVariants as turn
 use Rattle.elab_uses.specs.elab_scope.declared.known.Known.{Known}
 use Rattle.elab_uses.specs.elab_scope.declared.known.Known.TheVariants as known
 use Rattle.elab_uses.specs.elab_scope.declared.operators.Operation.{Operation}
-use Rattle.elab_uses.specs.elab_scope.declared.operators.Operation.TheVariants.{Join, Compare, Link, Shift}
+use Rattle.elab_uses.specs.elab_scope.declared.operators.Operation.TheVariants.{Join, Compare, Link, Shift, Power}
 use Rattle.elab_uses.specs.elab_scope.declared.operators.Prefix.{Prefix}
 use Rattle.elab_uses.specs.elab_scope.declared.operators.Prefix.TheVariants.{Turn, Fold}
 use Rattle.elab_uses.specs.elab_scope.declared.widths.Breadth.{Breadth}
@@ -46,15 +48,16 @@ operation_within (Join operator) a b = keeps_width operator && (a && b)
 operation_within (Compare operator) a b = true
 operation_within (Link operator) a b = true
 operation_within (Shift operator) a b = goes_right operator && a
+operation_within Power a b = true
 
 -- whether an operand has, beside what is sized by itself, these operators alone
 abbrev pub within : Formula → Bool
 within (Number value at) = true
 within (Read name) = true
 within (ReadBit name index) = true
-within (ReadPart name msb lsb) = true
+within (ReadPart name kind first second) = true
 within (Parens at inner) = within inner
-within (Convert signedness at inner) = true
+within (Apply function at inner) = true
 within (Concat at parts) = true
 within (Repeat at times parts) = true
 within (Unary operator at operand) = prefix_within (prefix operator)
@@ -79,19 +82,30 @@ abbrev pub prefix_steady : Prefix → Bool → Bool
 prefix_steady (Turn operator) a = turn_steady operator a
 prefix_steady (Fold operator) a = true
 
+-- `$clog2` and a power are literals
+abbrev pub function_steady : SystemFunction → Bool → Bool
+function_steady Signed argument = argument
+function_steady Unsigned argument = argument
+function_steady Clog2 argument = true
+
+abbrev pub operation_steady : Operation → Bool → Bool
+operation_steady Power operands = true
+operation_steady _ operands = operands
+
 -- whether an argument has the same value in the context of a wider port as by itself, extended by its own sign
 abbrev pub steady : Meanings → Formula → Bool
 steady scope (Number value at) = true
 steady scope (Read name) = true
 steady scope (ReadBit name index) = true
-steady scope (ReadPart name msb lsb) =
-    not (is_signed_whole (scope name.text) (breadth scope (ReadPart name msb lsb)))
+steady scope (ReadPart name kind first second) =
+    not (is_signed_whole (scope name.text) (breadth scope (ReadPart name kind first second)))
 steady scope (Parens at inner) = steady scope inner
-steady scope (Convert signedness at inner) = same_sign (is_signed signedness) (sign scope inner) && steady scope inner
+steady scope (Apply function at inner) =
+    function_steady function (same_sign (is_signed function) (sign scope inner) && steady scope inner)
 steady scope (Concat at parts) = true
 steady scope (Repeat at times parts) = true
 steady scope (Unary operator at operand) = prefix_steady (prefix operator) (steady scope operand)
 steady scope (Binary operator at left right) =
-    within (Binary operator at left right) && not (sign scope (Binary operator at left right))
+    operation_steady (operation operator) (within (Binary operator at left right) && not (sign scope (Binary operator at left right)))
 steady scope (Choose at condition taken otherwise) =
     within (Choose at condition taken otherwise) && not (sign scope (Choose at condition taken otherwise))

@@ -75,6 +75,7 @@ fn push_item<'a>(item: &'a Item, made: &mut Vec<Below<'a>>) -> Result<(), Memory
         | Item::Integers(_, _)
         | Item::Parameters { .. }
         | Item::Assigns(_, _, _)
+        | Item::Gates { .. }
         | Item::Always(_, _, _) => Ok(()),
     }
 }

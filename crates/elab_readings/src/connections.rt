@@ -115,15 +115,15 @@ fn push_output(within: &Holder, e: &Expr, made: &mut Vec<Note>) -> Result<(), Me
 {
     match e {
         Expr::ReadBit(_, index) => push_number(within, index, made),
-        Expr::ReadPart(_, msb, lsb) => {
-            push_number(within, msb, made)?;
-            push_number(within, lsb, made)
+        Expr::ReadPart(_, _, first, second) => {
+            push_number(within, first, made)?;
+            push_number(within, second, made)
         }
         Expr::Concat(_, parts) => push_outputs(within, parts, made),
         Expr::Number(_, _)
         | Expr::Read(_)
         | Expr::Parens(_, _)
-        | Expr::Convert(_, _, _)
+        | Expr::Apply(_, _, _)
         | Expr::Repeat(_, _, _)
         | Expr::Unary(_, _, _)
         | Expr::Binary(_, _, _, _)

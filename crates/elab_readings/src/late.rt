@@ -28,12 +28,12 @@ pub(crate) fn names_late(e: &Expr, names: &Names, places: &NameMap<u32>, at: u32
     ensures { result ≡ names_late (meanings names.now) (values_of places.now) at (formula e.now) }
 {
     match e {
-        Expr::Number(_, _) | Expr::ReadPart(_, _, _) => false,
+        Expr::Number(_, _) | Expr::ReadPart(_, _, _, _) => false,
         Expr::Read(name) => is_behind(at, places.find(&name.text)),
         Expr::ReadBit(_, index) => {
             constant(index, names).is_err() && names_late(index, names, places, at)
         }
-        Expr::Parens(_, inner) | Expr::Convert(_, _, inner) => {
+        Expr::Parens(_, inner) | Expr::Apply(_, _, inner) => {
             names_late(inner, names, places, at)
         }
         Expr::Concat(_, parts) => any_names_late(parts, names, places, at),

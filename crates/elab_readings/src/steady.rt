@@ -12,6 +12,7 @@ use elab_uses::elab_scope::own::{breadth, is_signed, sign};
 use elab_uses::elab_scope::widths::Breadth;
 use rtl_flat::expr::{Join, Shift, Turn};
 use rtl_tree::tree::expr::Expr;
+use rtl_tree::tree::operators::SystemFunction;
 
 fn keeps_width(operator: Join) -> bool
     ensures { result ≡ keeps_width operator }
@@ -39,8 +40,8 @@ fn within(e: &Expr) -> bool
         Expr::Number(_, _)
         | Expr::Read(_)
         | Expr::ReadBit(_, _)
-        | Expr::ReadPart(_, _, _)
-        | Expr::Convert(_, _, _)
+        | Expr::ReadPart(_, _, _, _)
+        | Expr::Apply(_, _, _)
         | Expr::Concat(_, _)
         | Expr::Repeat(_, _, _) => true,
         Expr::Parens(_, inner) => within(inner),
@@ -50,7 +51,7 @@ fn within(e: &Expr) -> bool
         },
         Expr::Binary(operator, _, left, right) => match binary(*operator) {
             Operation::Join(operator) => keeps_width(operator) && within(left) && within(right),
-            Operation::Compare(_) | Operation::Link(_) => true,
+            Operation::Compare(_) | Operation::Link(_) | Operation::Power => true,
             Operation::Shift(operator) => goes_right(operator) && within(left),
         },
         Expr::Choose(_, _, taken, otherwise) => within(taken) && within(otherwise),
@@ -91,18 +92,25 @@ pub fn steady(e: &Expr, names: &Names) -> bool
         | Expr::ReadBit(_, _)
         | Expr::Concat(_, _)
         | Expr::Repeat(_, _, _) => true,
-        Expr::ReadPart(name, _, _) => {
+        Expr::ReadPart(name, _, _, _) => {
             !is_signed_whole(names.find(&name.text), breadth(e, names))
         }
         Expr::Parens(_, inner) => steady(inner, names),
-        Expr::Convert(signedness, _, inner) => {
-            same_sign(is_signed(*signedness), sign(inner, names)) && steady(inner, names)
-        }
+        Expr::Apply(function, _, inner) => match function {
+            SystemFunction::Signed | SystemFunction::Unsigned => {
+                same_sign(is_signed(*function), sign(inner, names)) && steady(inner, names)
+            }
+            SystemFunction::Clog2 => true,
+        },
         Expr::Unary(operator, _, operand) => match unary(*operator) {
             Prefix::Turn(Turn::Plus) => steady(operand, names),
             Prefix::Turn(_) => false,
             Prefix::Fold(_) => true,
         },
-        Expr::Binary(_, _, _, _) | Expr::Choose(_, _, _, _) => within(e) && !sign(e, names),
+        Expr::Binary(operator, _, _, _) => match binary(*operator) {
+            Operation::Power => true,
+            _ => within(e) && !sign(e, names),
+        },
+        Expr::Choose(_, _, _, _) => within(e) && !sign(e, names),
     }
 }

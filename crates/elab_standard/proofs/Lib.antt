@@ -3,6 +3,7 @@ pub mod Breadths
 mod Examples
 pub mod Lists
 pub mod Places
+pub mod Raising
 pub mod Readers
 pub mod Views
 -- passed on to the crates above

@@ -11,7 +11,9 @@ use Rattle.rtl_bits.specs.declared.Bit.TheVariants.{Zero, One, X, Z}
 use Rattle.rtl_bits.specs.Bits.{all_with, all_x, bits_of, extended, same_bit}
 use Rattle.rtl_tree.specs.declared.tree.expr.Expr.{Expr}
 use Rattle.rtl_tree.specs.declared.tree.expr.Expr.TheVariants as expr
-use Rattle.rtl_tree.specs.TreeExpr.{Formula, Number, Read, ReadBit, ReadPart, Parens, Convert, Concat, Repeat, Unary, Binary, Choose, Formulas, no_formulas, more_formulas, formula, formula_row}
+use Rattle.rtl_tree.specs.declared.tree.operators.SystemFunction.{SystemFunction}
+use Rattle.rtl_tree.specs.declared.tree.operators.SystemFunction.TheVariants.{Signed, Unsigned, Clog2}
+use Rattle.rtl_tree.specs.TreeExpr.{Formula, Number, Read, ReadBit, ReadPart, Parens, Apply, Concat, Repeat, Unary, Binary, Choose, Formulas, no_formulas, more_formulas, formula, formula_row}
 use Rattle.rtl_tree.specs.TreeStmt.{Branches, no_branches, more_branches, Labelled, Default}
 use Rattle.rtl_tree.proofs.TreeViews.{concat_is, repeat_is}
 use Rattle.rtl_const.specs.Constant.{Outcome, constant}
@@ -22,13 +24,14 @@ use Rattle.elab_walk.specs.elab_scope.declared.context.Context.{Context}
 use Rattle.elab_walk.specs.elab_scope.declared.known.Known.{Known}
 use Rattle.elab_walk.specs.elab_scope.declared.known.Known.TheVariants as known
 use Rattle.elab_walk.specs.elab_scope.declared.operators.Operation.{Operation}
-use Rattle.elab_walk.specs.elab_scope.declared.operators.Operation.TheVariants.{Join, Compare, Link, Shift}
+use Rattle.elab_walk.specs.elab_scope.declared.operators.Operation.TheVariants.{Join, Compare, Link, Shift, Power}
 use Rattle.elab_walk.specs.elab_scope.declared.operators.Prefix.{Prefix}
 use Rattle.elab_walk.specs.elab_scope.declared.operators.Prefix.TheVariants.{Turn, Fold}
 use Rattle.elab_walk.specs.elab_scope.declared.widths.Breadth.{Breadth}
 use Rattle.elab_walk.specs.elab_scope.Names.{numbers_in}
 use Rattle.elab_walk.specs.elab_scope.Operators.{operation, prefix}
-use Rattle.elab_walk.specs.elab_scope.Own.{breadth, operation_breadth, operation_sign, part_breadth, prefix_breadth, prefix_sign, row_breadth, sign, name_breadth, name_sign}
+use Rattle.elab_walk.specs.elab_scope.Own.{breadth, function_breadth, operation_breadth, operation_sign, part_breadth, prefix_breadth, prefix_sign, row_breadth, sign, name_breadth, name_sign}
+use Rattle.elab_walk.specs.elab_scope.Selects.{lsb_in, lsb_of, msb_in, msb_of}
 use Rattle.elab_walk.specs.elab_scope.Trees.{left_context, named_bits, operand_context, own_context, right_context}
 use Rattle.elab_walk.specs.elab_scope.Widths.{beside, bits, fit, fitted, repeated, wider}
 use Rattle.elab_standard.specs.declared.scopes.By.TheVariants as by
@@ -36,7 +39,7 @@ use Rattle.elab_standard.specs.declared.standard.Standard.{Standard}
 use Rattle.elab_standard.specs.declared.uses.Home.{Home}
 use Rattle.elab_standard.specs.Alike.{case_alike, is_alike, reads_alike, row_alike}
 use Rattle.elab_standard.specs.Cases.{case_labels}
-use Rattle.elab_standard.specs.Differing.{context_differs, differs, literal_differs, row_differs, same_sign}
+use Rattle.elab_standard.specs.Differing.{argument_differs, context_differs, differs, literal_differs, operands_differ, row_differs, same_sign}
 use Rattle.elab_standard.specs.Nested.{format_notes}
 use Rattle.elab_standard.specs.Notes.{note_if, root_place}
 use Rattle.elab_standard.specs.Scopes.{Scopes, bits_given, read_bits, restated, restated_name, standard_bits}
@@ -147,11 +150,11 @@ mutual
   same_breadth s (Number value at) is = refl
   same_breadth s (Read name) is = ap name_breadth (same_name (s.scope name.text) (s.standards name.text) is)
   same_breadth s (ReadBit name index) is = refl
-  same_breadth s (ReadPart name msb lsb) is =
-      ap (λ numbers. part_breadth (restated s name.text) (constant numbers msb) (constant numbers lsb)) (same_numbers by.Standard s)
-      ∙ part_alike (s.scope name.text) (s.standards name.text) (constant (numbers_in s.scope) msb) (constant (numbers_in s.scope) lsb)
+  same_breadth s (ReadPart name kind first second) is =
+      ap (λ numbers. part_breadth (restated s name.text) (msb_of kind (constant numbers first) (constant numbers second)) (lsb_of kind (constant numbers first) (constant numbers second))) (same_numbers by.Standard s)
+      ∙ part_alike (s.scope name.text) (s.standards name.text) (msb_in s.scope kind first second) (lsb_in s.scope kind first second)
   same_breadth s (Parens at inner) is = same_breadth s inner is
-  same_breadth s (Convert signedness at inner) is = same_breadth s inner is
+  same_breadth s (Apply function at inner) is = ap (function_breadth function) (same_breadth s inner is)
   same_breadth s (Concat at parts) is = ap fit (same_row s parts is)
   same_breadth s (Repeat at times parts) is =
       ap (λ all. repeated (constant (numbers_in (restated s)) times) (fit all)) (same_row s parts is)
@@ -178,9 +181,9 @@ same_own_sign : (s : Scopes) (e : Formula) → reads_alike s e ≡ true → sign
 same_own_sign s (Number value at) is = refl
 same_own_sign s (Read name) is = ap name_sign (same_name (s.scope name.text) (s.standards name.text) is)
 same_own_sign s (ReadBit name index) is = refl
-same_own_sign s (ReadPart name msb lsb) is = refl
+same_own_sign s (ReadPart name kind first second) is = refl
 same_own_sign s (Parens at inner) is = same_own_sign s inner is
-same_own_sign s (Convert signedness at inner) is = refl
+same_own_sign s (Apply function at inner) is = refl
 same_own_sign s (Concat at parts) is = refl
 same_own_sign s (Repeat at times parts) is = refl
 same_own_sign s (Unary operator at a) is = ap (prefix_sign (prefix operator)) (same_own_sign s a is)
@@ -210,12 +213,14 @@ same_left s (Compare operator) a b c one other =
     cc
 same_left s (Link operator) a b c one other = same_own s a one
 same_left s (Shift operator) a b c one other = refl
+same_left s Power a b c one other = refl
 
 same_right : (s : Scopes) (operator : Operation) (a b : Formula) (c : Context) → reads_alike s a ≡ true → reads_alike s b ≡ true → right_context (restated s) operator a b c ≡ right_context s.scope operator a b c
 same_right s (Join operator) a b c one other = refl
 same_right s (Compare operator) a b c one other = same_left s (Compare operator) a b c one other
 same_right s (Link operator) a b c one other = same_own s b other
 same_right s (Shift operator) a b c one other = same_own s b other
+same_right s Power a b c one other = same_own s b other
 
 same_operand : (s : Scopes) (operator : Prefix) (a : Formula) (c : Context) → reads_alike s a ≡ true → operand_context (restated s) operator a c ≡ operand_context s.scope operator a c
 same_operand s (Turn operator) a c is = refl
@@ -233,16 +238,28 @@ same_literal c known standard is =
     ap (λ bits. not (all_with same_bit own (extended c.width c.signed bits))) (same_read known standard is)
     ∙ ap not (all_itself own)
 
+argument_agrees : (f : SystemFunction) (a : Bool) → a ≡ false → argument_differs f a ≡ false
+argument_agrees Signed a h = h
+argument_agrees Unsigned a h = h
+argument_agrees Clog2 a h = refl
+
+operands_agree : (o : Operation) (a : Bool) → a ≡ false → operands_differ o a ≡ false
+operands_agree (Join operator) a h = h
+operands_agree (Compare operator) a h = h
+operands_agree (Link operator) a h = h
+operands_agree (Shift operator) a h = h
+operands_agree Power a h = refl
+
 mutual
   pub never_differs : (s : Scopes) (e : Formula) (c : Context) → reads_alike s e ≡ true → differs s e c c ≡ false
   never_differs s (Number value at) c is = none_apart c
   never_differs s (Read name) c is =
       neither _ _ (none_apart c) (same_literal c (s.scope name.text) (s.standards name.text) is)
   never_differs s (ReadBit name index) c is = none_apart c
-  never_differs s (ReadPart name msb lsb) c is = none_apart c
+  never_differs s (ReadPart name kind first second) c is = none_apart c
   never_differs s (Parens at inner) c is = never_differs s inner c is
-  never_differs s (Convert signedness at inner) c is =
-      neither _ _ (none_apart c) (ap (differs s inner (own_context s.scope inner)) (same_own s inner is) ∙ never_differs s inner (own_context s.scope inner) is)
+  never_differs s (Apply function at inner) c is =
+      neither _ _ (none_apart c) (argument_agrees function _ (ap (differs s inner (own_context s.scope inner)) (same_own s inner is) ∙ never_differs s inner (own_context s.scope inner) is))
   never_differs s (Concat at parts) c is = neither _ _ (none_apart c) (row_never s parts is)
   never_differs s (Repeat at times parts) c is = neither _ _ (none_apart c) (row_never s parts is)
   never_differs s (Unary operator at a) c is =
@@ -253,10 +270,11 @@ mutual
       let both = and_parts (reads_alike s a) (reads_alike s b) is in
       let left = left_context s.scope (operation operator) a b c in
       let right = right_context s.scope (operation operator) a b c in
-      neither _ _
-      (neither _ _ (none_apart c)
-      (ap (differs s a left) (same_left s (operation operator) a b c both.0 both.1) ∙ never_differs s a left both.0))
-      (ap (differs s b right) (same_right s (operation operator) a b c both.0 both.1) ∙ never_differs s b right both.1)
+      neither _ _ (none_apart c)
+      (operands_agree (operation operator) _
+      (neither _ _
+      (ap (differs s a left) (same_left s (operation operator) a b c both.0 both.1) ∙ never_differs s a left both.0)
+      (ap (differs s b right) (same_right s (operation operator) a b c both.0 both.1) ∙ never_differs s b right both.1)))
   never_differs s (Choose at condition taken otherwise) c is =
       let both = and_parts (reads_alike s condition) _ is in
       let arms = and_parts (reads_alike s taken) (reads_alike s otherwise) both.1 in

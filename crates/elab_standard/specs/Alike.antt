@@ -3,7 +3,7 @@
 use Rattle.std.specs.Prelude.{◌==◌, Bool, true, ◌&&◌, List, ◌∷◌, Option, None, Some}
 use Rattle.std.specs.List.{list_all}
 use Rattle.rtl_bits.specs.Bits.{all_with, same_bit}
-use Rattle.rtl_tree.specs.TreeExpr.{Formula, Number, Read, ReadBit, ReadPart, Parens, Convert, Concat, Repeat, Unary, Binary, Choose, Formulas, no_formulas, more_formulas}
+use Rattle.rtl_tree.specs.TreeExpr.{Formula, Number, Read, ReadBit, ReadPart, Parens, Apply, Concat, Repeat, Unary, Binary, Choose, Formulas, no_formulas, more_formulas}
 use Rattle.rtl_tree.specs.TreeStmt.{Branches}
 use Rattle.elab_walk.specs.elab_scope.declared.known.Known.{Known}
 use Rattle.elab_walk.specs.elab_scope.declared.known.Known.TheVariants as known
@@ -27,9 +27,9 @@ abbrev mutual
   reads_alike s (Number value at) = true
   reads_alike s (Read name) = is_alike (s.scope name.text) (s.standards name.text)
   reads_alike s (ReadBit name index) = true
-  reads_alike s (ReadPart name msb lsb) = true
+  reads_alike s (ReadPart name kind first second) = true
   reads_alike s (Parens at inner) = reads_alike s inner
-  reads_alike s (Convert signedness at inner) = reads_alike s inner
+  reads_alike s (Apply function at inner) = reads_alike s inner
   reads_alike s (Concat at parts) = row_alike s parts
   reads_alike s (Repeat at times parts) = row_alike s parts
   reads_alike s (Unary operator at a) = reads_alike s a

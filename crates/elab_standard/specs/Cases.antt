@@ -4,7 +4,9 @@ use Rattle.std.specs.Prelude.{ℕ, Bool, true, false, not, ◌&&◌, ◌||◌, n
 use Rattle.std.specs.List.{list_all, list_any}
 use Rattle.rtl_bits.specs.Bits.{same_bit, top_bit}
 use Rattle.rtl_bits.specs.declared.Bit.TheVariants.{Zero}
-use Rattle.rtl_tree.specs.TreeExpr.{Formula, Number, Read, ReadBit, ReadPart, Parens, Convert, Concat, Repeat, Unary, Binary, Choose}
+use Rattle.rtl_tree.specs.declared.tree.operators.BinaryOperator.TheVariants.{Power}
+use Rattle.rtl_tree.specs.declared.tree.operators.SystemFunction.TheVariants.{Signed, Unsigned, Clog2}
+use Rattle.rtl_tree.specs.TreeExpr.{Formula, Number, Read, ReadBit, ReadPart, Parens, Apply, Concat, Repeat, Unary, Binary, Choose}
 use Rattle.rtl_tree.specs.TreeStmt.{Branch, Labelled, Default, Branches, no_branches, more_branches}
 use Rattle.elab_walk.specs.elab_parts.elab_body.Acts.{case_context}
 use Rattle.elab_walk.specs.elab_scope.declared.context.Context.{Context}
@@ -23,14 +25,20 @@ abbrev pub case_labels : Branches → List Formula
 case_labels no_branches = []
 case_labels (more_branches first others) = branch_labels first ++ case_labels others
 
+-- what is worked out where the design is made: a literal that isn't negative stands for it
+abbrev pub is_worked_out : Formula → Bool
+is_worked_out (Apply Clog2 at inner) = true
+is_worked_out (Binary Power at a b) = true
+is_worked_out _ = false
+
 -- a number whose highest bit is 0, which its own sign extends as no sign does
 abbrev pub is_natural : Formula → Bool
 is_natural (Number value at) = same_bit (top_bit (literal_bits value)) Zero
-is_natural _ = false
+is_natural e = is_worked_out e
 
 abbrev pub is_literal : Formula → Bool
 is_literal (Number value at) = true
-is_literal _ = false
+is_literal e = is_worked_out e
 
 abbrev pub is_labelled_literal : Formula → Bool
 is_labelled_literal label = is_literal (bare label)
@@ -43,7 +51,8 @@ is_extended_otherwise scope widest e =
 -- an expression without its parentheses and conversions
 abbrev pub unconverted : Formula → Formula
 unconverted (Parens at inner) = unconverted inner
-unconverted (Convert signedness at inner) = unconverted inner
+unconverted (Apply Signed at inner) = unconverted inner
+unconverted (Apply Unsigned at inner) = unconverted inner
 unconverted e = e
 
 -- whether a case that isn't signed holds something signed that is extended

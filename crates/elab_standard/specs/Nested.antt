@@ -3,10 +3,15 @@
 -- Worked examples: crates/tests_rows/stdin.
 use Rattle.std.specs.Prelude.{ℕ, Bool, List, [], ◌∷◌, ◌++◌, Ok, Err}
 use Rattle.rtl_const.specs.Constant.{Outcome}
-use Rattle.rtl_tree.specs.TreeExpr.{Formula, Number, Read, ReadBit, ReadPart, Parens, Convert, Concat, Repeat, Unary, Binary, Choose, Formulas, no_formulas, more_formulas}
+use Rattle.rtl_tree.specs.declared.tree.operators.SystemFunction.{SystemFunction}
+use Rattle.rtl_tree.specs.declared.tree.operators.SystemFunction.TheVariants.{Signed, Unsigned, Clog2}
+use Rattle.rtl_tree.specs.TreeExpr.{Formula, Number, Read, ReadBit, ReadPart, Parens, Apply, Concat, Repeat, Unary, Binary, Choose, Formulas, no_formulas, more_formulas}
 use Rattle.rtl_flat.specs.declared.note.Note.{Note}
 use Rattle.rtl_flat.specs.declared.note.Reading.TheVariants.{ParameterFormat}
 use Rattle.elab_walk.specs.elab_scope.declared.context.Context.{Context}
+use Rattle.elab_walk.specs.elab_scope.declared.operators.Operation.{Operation}
+use Rattle.elab_walk.specs.elab_scope.declared.operators.Operation.TheVariants.{Power}
+use Rattle.elab_walk.specs.elab_scope.Operators.{operation}
 use Rattle.elab_walk.specs.elab_scope.Trees.{own_context}
 use Rattle.elab_standard.specs.declared.uses.Home.{Home}
 use Rattle.elab_standard.specs.Differing.{differs}
@@ -25,6 +30,16 @@ abbrev pub index_notes : Outcome → List Note → List Note → List Note
 index_notes (Ok n) constant computed = constant
 index_notes (Err fault) constant computed = computed
 
+-- the argument of `$clog2` is a constant, and so is a power
+abbrev pub argument_notes : SystemFunction → List Note → List Note → List Note
+argument_notes Signed constant computed = computed
+argument_notes Unsigned constant computed = computed
+argument_notes Clog2 constant computed = constant
+
+abbrev pub operation_notes : Operation → List Note → List Note → List Note
+operation_notes Power constant computed = constant
+operation_notes _ constant computed = computed
+
 abbrev mutual
   -- the constants and the computed indices in an expression
   pub nested_notes : Home → Scopes → Formula → List Note
@@ -32,13 +47,15 @@ abbrev mutual
   nested_notes home s (Read name) = []
   nested_notes home s (ReadBit name index) =
       index_notes (desk_number s index) (number_notes home s index) (format_notes home s index 0 ++ nested_notes home s index)
-  nested_notes home s (ReadPart name msb lsb) = number_notes home s msb ++ number_notes home s lsb
+  nested_notes home s (ReadPart name kind first second) = number_notes home s first ++ number_notes home s second
   nested_notes home s (Parens at inner) = nested_notes home s inner
-  nested_notes home s (Convert signedness at inner) = nested_notes home s inner
+  nested_notes home s (Apply function at inner) =
+      argument_notes function (number_notes home s inner) (nested_notes home s inner)
   nested_notes home s (Concat at parts) = row_notes home s parts
   nested_notes home s (Repeat at times parts) = number_notes home s times ++ row_notes home s parts
   nested_notes home s (Unary operator at a) = nested_notes home s a
-  nested_notes home s (Binary operator at a b) = nested_notes home s a ++ nested_notes home s b
+  nested_notes home s (Binary operator at a b) =
+      operation_notes (operation operator) (number_notes home s (Binary operator at a b)) (nested_notes home s a ++ nested_notes home s b)
   nested_notes home s (Choose at condition taken otherwise) =
       nested_notes home s condition ++ nested_notes home s taken ++ nested_notes home s otherwise
 

@@ -1,7 +1,7 @@
 -- The notes of expressions: they stand at the roots, parentheses off.
 -- Worked examples: crates/tests_rows/stdin.
 use Rattle.std.specs.Prelude.{ℕ, Bool, if◌then◌else◌, List, [], ◌∷◌, None}
-use Rattle.rtl_tree.specs.TreeExpr.{Formula, Number, Read, ReadBit, ReadPart, Parens, Convert, Concat, Repeat, Unary, Binary, Choose, formula_place}
+use Rattle.rtl_tree.specs.TreeExpr.{Formula, Number, Read, ReadBit, ReadPart, Parens, Apply, Concat, Repeat, Unary, Binary, Choose, formula_place}
 use Rattle.rtl_flat.specs.declared.note.Note.{Note}
 use Rattle.rtl_flat.specs.declared.note.Reading.{Reading}
 use Rattle.elab_walk.specs.elab_scope.Trees.{spot_in}

@@ -3,13 +3,15 @@
 use Rattle.std.specs.Prelude.{ℕ, ◌==◌, Bool, true, false, not, ◌&&◌, ◌||◌, if◌then◌else◌, List, [], ◌∷◌, ◌++◌, Option, None, Some}
 use Rattle.rtl_bits.specs.Bits.{is_one_at}
 use Rattle.rtl_tree.specs.declared.literal.Literal.{Literal}
-use Rattle.rtl_tree.specs.TreeExpr.{Formula, Number, Read, ReadBit, ReadPart, Parens, Convert, Concat, Repeat, Unary, Binary, Choose, Formulas, no_formulas, more_formulas}
+use Rattle.rtl_tree.specs.declared.tree.operators.SystemFunction.{SystemFunction}
+use Rattle.rtl_tree.specs.declared.tree.operators.SystemFunction.TheVariants.{Signed, Unsigned, Clog2}
+use Rattle.rtl_tree.specs.TreeExpr.{Formula, Number, Read, ReadBit, ReadPart, Parens, Apply, Concat, Repeat, Unary, Binary, Choose, Formulas, no_formulas, more_formulas}
 use Rattle.rtl_flat.specs.declared.note.Note.{Note}
 use Rattle.rtl_flat.specs.declared.note.Reading.TheVariants.{UnsizedNumber}
 use Rattle.elab_walk.specs.elab_scope.declared.operators.Prefix.{Prefix}
 use Rattle.elab_walk.specs.elab_scope.declared.operators.Prefix.TheVariants.{Turn, Fold}
 use Rattle.elab_walk.specs.elab_scope.declared.operators.Operation.{Operation}
-use Rattle.elab_walk.specs.elab_scope.declared.operators.Operation.TheVariants.{Join, Compare, Link, Shift}
+use Rattle.elab_walk.specs.elab_scope.declared.operators.Operation.TheVariants.{Join, Compare, Link, Shift, Power}
 use Rattle.elab_walk.specs.elab_scope.Operators.{operation, prefix}
 use Rattle.elab_standard.specs.declared.standard.Standard.{Standard}
 use Rattle.elab_standard.specs.declared.uses.Home.{Home}
@@ -30,13 +32,20 @@ is_operation_unsized (Join operator) a b = a || b
 is_operation_unsized (Compare operator) a b = false
 is_operation_unsized (Link operator) a b = false
 is_operation_unsized (Shift operator) a b = a
+is_operation_unsized Power a b = a
+
+-- `$clog2` has 32 bits, as if they were written
+abbrev pub is_function_unsized : SystemFunction → Bool → Bool
+is_function_unsized Signed a = a
+is_function_unsized Unsigned a = a
+is_function_unsized Clog2 a = false
 
 -- whether the width of an expression is that of a number without one
 abbrev pub is_unsized : Scopes → Formula → Bool
 is_unsized s (Number value at) = not value.sized
 is_unsized s (Read name) = is_standard_unsized (s.standards name.text)
 is_unsized s (Parens at inner) = is_unsized s inner
-is_unsized s (Convert signedness at inner) = is_unsized s inner
+is_unsized s (Apply function at inner) = is_function_unsized function (is_unsized s inner)
 is_unsized s (Unary operator at a) = is_prefix_unsized (prefix operator) (is_unsized s a)
 is_unsized s (Binary operator at a b) =
     is_operation_unsized (operation operator) (is_unsized s a) (is_unsized s b)
@@ -56,9 +65,10 @@ abbrev mutual
   unsized_notes home s (Number value at) = note_if (is_misread value) home UnsizedNumber at
   unsized_notes home s (Read name) = []
   unsized_notes home s (ReadBit name index) = unsized_notes home s index
-  unsized_notes home s (ReadPart name msb lsb) = unsized_notes home s msb ++ unsized_notes home s lsb
+  unsized_notes home s (ReadPart name kind first second) =
+      unsized_notes home s first ++ unsized_notes home s second
   unsized_notes home s (Parens at inner) = unsized_notes home s inner
-  unsized_notes home s (Convert signedness at inner) = unsized_notes home s inner
+  unsized_notes home s (Apply function at inner) = unsized_notes home s inner
   unsized_notes home s (Concat at parts) = operand_notes home s parts
   unsized_notes home s (Repeat at times parts) = unsized_notes home s times ++ operand_notes home s parts
   unsized_notes home s (Unary operator at a) = unsized_notes home s a

@@ -65,9 +65,9 @@ pub(crate) fn reads_alike(e: &Expr, kept: &Scopes) -> bool
     ensures { result ≡ reads_alike (scopes kept.now) (formula e.now) }
 {
     match e {
-        Expr::Number(_, _) | Expr::ReadBit(_, _) | Expr::ReadPart(_, _, _) => true,
+        Expr::Number(_, _) | Expr::ReadBit(_, _) | Expr::ReadPart(_, _, _, _) => true,
         Expr::Read(name) => name_alike(name, kept),
-        Expr::Parens(_, inner) | Expr::Convert(_, _, inner) | Expr::Unary(_, _, inner) => {
+        Expr::Parens(_, inner) | Expr::Apply(_, _, inner) | Expr::Unary(_, _, inner) => {
             reads_alike(inner, kept)
         }
         Expr::Concat(_, parts) | Expr::Repeat(_, _, parts) => row_alike(parts, kept),

@@ -4,7 +4,7 @@ ghost use Rattle.std.specs.Prelude.{◌≡◌, map};
 ghost use Rattle.std.specs.List.{list_all, list_any};
 ghost use Rattle.rtl_tree.specs.TreeExpr.{formula};
 ghost use Rattle.rtl_tree.specs.TreeStmt.{branch, branch_row};
-ghost use Rattle.elab_standard.specs.Cases.{case_labels, is_case_misread, is_extended_otherwise, is_labelled_literal, is_mixed, is_natural, is_recast, unconverted};
+ghost use Rattle.elab_standard.specs.Cases.{case_labels, is_case_misread, is_extended_otherwise, is_labelled_literal, is_literal, is_mixed, is_natural, is_recast, is_worked_out, unconverted};
 ghost use Rattle.elab_standard.specs.Scopes.{scopes};
 
 use crate::contexts::{case_context, own_context, sign};
@@ -15,7 +15,19 @@ use crate::scopes::{By, Scopes};
 use elab_walk::elab_scope::context::Context;
 use rtl_bits::Bit;
 use rtl_tree::tree::expr::Expr;
+use rtl_tree::tree::operators::{BinaryOperator, SystemFunction};
 use rtl_tree::tree::stmt::CaseItem;
+
+/// Whether it is worked out where the design is made.
+fn is_worked_out(e: &Expr) -> bool
+    ensures { result ≡ is_worked_out (formula e.now) }
+{
+    match e {
+        Expr::Apply(SystemFunction::Clog2, _, _) => true,
+        Expr::Binary(BinaryOperator::Power, _, _, _) => true,
+        _ => false,
+    }
+}
 
 /// Whether this is a number whose highest bit is 0.
 fn is_natural(e: &Expr) -> bool
@@ -26,7 +38,16 @@ fn is_natural(e: &Expr) -> bool
             let bits = literal_bits(value);
             matches!(bits.bit(bits.width() - 1), Bit::Zero)
         }
-        _ => false,
+        _ => is_worked_out(e),
+    }
+}
+
+fn is_literal(e: &Expr) -> bool
+    ensures { result ≡ is_literal (formula e.now) }
+{
+    match e {
+        Expr::Number(_, _) => true,
+        _ => is_worked_out(e),
     }
 }
 
@@ -34,7 +55,7 @@ fn is_natural(e: &Expr) -> bool
 fn is_labelled_literal(e: &Expr) -> bool
     ensures { result ≡ is_labelled_literal (formula e.now) }
 {
-    matches!(bare(e), Expr::Number(_, _))
+    is_literal(bare(e))
 }
 
 /// Whether its own sign extends a selector or a label otherwise than a case of so many bits does, which isn't signed.
@@ -49,7 +70,9 @@ fn unconverted(e: &Expr) -> &Expr
     ensures { formula result.now ≡ unconverted (formula e.now) }
 {
     match e {
-        Expr::Parens(_, inner) | Expr::Convert(_, _, inner) => unconverted(inner),
+        Expr::Parens(_, inner) => unconverted(inner),
+        Expr::Apply(SystemFunction::Signed, _, inner) => unconverted(inner),
+        Expr::Apply(SystemFunction::Unsigned, _, inner) => unconverted(inner),
         _ => e,
     }
 }

@@ -12,7 +12,9 @@ ghost use Rattle.elab_standard.specs.Scopes.{scopes};
 use crate::scopes::{By, Scopes};
 use elab_walk::elab_scope::context::Context;
 use elab_walk::elab_scope::operators::{Operation, Prefix, binary, unary};
-use elab_walk::elab_scope::own::{is_signed, name_breadth, name_sign, part_breadth};
+use elab_walk::elab_scope::own::{
+    function_breadth, is_signed, name_breadth, name_sign, part_breadth,
+};
 use elab_walk::elab_scope::widths::{Breadth, breadth_of};
 use rtl_tree::tree::expr::Expr;
 use rtl_tree::tree::stmt::CaseItem;
@@ -27,12 +29,12 @@ pub(crate) fn breadth(e: &Expr, kept: &Scopes, by: By) -> Breadth
         Expr::Number(value, _) => breadth_of(u32::from(value.width)),
         Expr::Read(name) => name_breadth(kept.find(by, &name.text)),
         Expr::ReadBit(_, _) => Breadth::Bits(1),
-        Expr::ReadPart(name, msb, lsb) => part_breadth(
-            kept.find(by, &name.text),
-            kept.number(by, msb),
-            kept.number(by, lsb),
-        ),
-        Expr::Parens(_, inner) | Expr::Convert(_, _, inner) => breadth(inner, kept, by),
+        Expr::ReadPart(name, kind, first, second) => {
+            let ends = kept.ends(by, *kind, first, second);
+            part_breadth(kept.find(by, &name.text), ends.msb, ends.lsb)
+        }
+        Expr::Parens(_, inner) => breadth(inner, kept, by),
+        Expr::Apply(function, _, inner) => function_breadth(*function, breadth(inner, kept, by)),
         Expr::Concat(_, parts) => row_breadth(parts, kept, by).fit(),
         Expr::Repeat(_, times, parts) => {
             row_breadth(parts, kept, by)
@@ -46,7 +48,7 @@ pub(crate) fn breadth(e: &Expr, kept: &Scopes, by: By) -> Breadth
         Expr::Binary(operator, _, left, right) => match binary(*operator) {
             Operation::Join(_) => breadth(left, kept, by).wider(breadth(right, kept, by)),
             Operation::Compare(_) | Operation::Link(_) => Breadth::Bits(1),
-            Operation::Shift(_) => breadth(left, kept, by),
+            Operation::Shift(_) | Operation::Power => breadth(left, kept, by),
         },
         Expr::Choose(_, _, taken, otherwise) => {
             breadth(taken, kept, by).wider(breadth(otherwise, kept, by))
@@ -76,7 +78,7 @@ pub(crate) fn sign(e: &Expr, kept: &Scopes, by: By) -> bool
         Expr::Number(value, _) => value.signed,
         Expr::Read(name) => name_sign(kept.find(by, &name.text)),
         Expr::Parens(_, inner) => sign(inner, kept, by),
-        Expr::Convert(signedness, _, _) => is_signed(*signedness),
+        Expr::Apply(function, _, _) => is_signed(*function),
         Expr::Unary(operator, _, operand) => match unary(*operator) {
             Prefix::Turn(_) => sign(operand, kept, by),
             Prefix::Fold(_) => false,
@@ -84,13 +86,13 @@ pub(crate) fn sign(e: &Expr, kept: &Scopes, by: By) -> bool
         Expr::Binary(operator, _, left, right) => match binary(*operator) {
             Operation::Join(_) => sign(left, kept, by) && sign(right, kept, by),
             Operation::Compare(_) | Operation::Link(_) => false,
-            Operation::Shift(_) => sign(left, kept, by),
+            Operation::Shift(_) | Operation::Power => sign(left, kept, by),
         },
         Expr::Choose(_, _, taken, otherwise) => {
             sign(taken, kept, by) && sign(otherwise, kept, by)
         }
         Expr::ReadBit(_, _)
-        | Expr::ReadPart(_, _, _)
+        | Expr::ReadPart(_, _, _, _)
         | Expr::Concat(_, _)
         | Expr::Repeat(_, _, _) => false,
     }
@@ -159,7 +161,7 @@ pub(crate) fn left_context(
     ensures at_most { result.width ≤ 128 }
 {
     match operator {
-        Operation::Join(_) | Operation::Shift(_) => context,
+        Operation::Join(_) | Operation::Shift(_) | Operation::Power => context,
         Operation::Compare(_) => shared_context(a, b, kept, by),
         Operation::Link(_) => own_context(a, kept, by),
     }
@@ -184,7 +186,7 @@ pub(crate) fn right_context(
     match operator {
         Operation::Join(_) => context,
         Operation::Compare(_) => shared_context(a, b, kept, by),
-        Operation::Link(_) | Operation::Shift(_) => own_context(b, kept, by),
+        Operation::Link(_) | Operation::Shift(_) | Operation::Power => own_context(b, kept, by),
     }
 }
 

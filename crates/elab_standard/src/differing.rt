@@ -4,7 +4,7 @@ ghost use Rattle.std.specs.Prelude.{◌≡◌, ◌≤◌, map};
 ghost use Rattle.rtl_tree.specs.TreeExpr.{formula, formula_row};
 ghost use Rattle.elab_walk.specs.elab_scope.Operators.{prefix};
 ghost use Rattle.elab_walk.specs.elab_scope.Trees.{left_context, operand_context, own_context, right_context};
-ghost use Rattle.elab_standard.specs.Differing.{context_differs, differs, literal_differs, row_differs, same_sign};
+ghost use Rattle.elab_standard.specs.Differing.{argument_differs, context_differs, differs, literal_differs, row_differs, same_sign};
 ghost use Rattle.elab_standard.specs.Scopes.{restated, scopes};
 
 use crate::contexts::{left_context, operand_context, own_context, right_context};
@@ -16,7 +16,7 @@ use elab_walk::elab_scope::known::Known;
 use elab_walk::elab_scope::operators::{Operation, binary, unary};
 use rtl_tree::tree::expr::Expr;
 use rtl_tree::tree::names::Name;
-use rtl_tree::tree::operators::UnaryOperator;
+use rtl_tree::tree::operators::{SystemFunction, UnaryOperator};
 
 pub(crate) fn same_sign(a: bool, b: bool) -> bool
     ensures { result ≡ same_sign a b }
@@ -121,14 +121,17 @@ pub(crate) fn differs(e: &Expr, desk: Context, standard: Context, kept: &Scopes)
         return true;
     }
     match e {
-        Expr::Number(_, _) | Expr::ReadBit(_, _) | Expr::ReadPart(_, _, _) => false,
+        Expr::Number(_, _) | Expr::ReadBit(_, _) | Expr::ReadPart(_, _, _, _) => false,
         Expr::Read(name) => name_differs(name, desk, kept),
         Expr::Parens(_, inner) => differs(inner, desk, standard, kept),
-        Expr::Convert(_, _, inner) => differs_alone(inner, kept),
+        Expr::Apply(function, _, inner) => argument_differs(*function, inner, kept),
         Expr::Concat(_, parts) | Expr::Repeat(_, _, parts) => row_differs(parts, kept),
         Expr::Unary(operator, _, a) => operand_differs(*operator, a, desk, standard, kept),
         Expr::Binary(operator, _, a, b) => {
             let operator = binary(*operator);
+            if let Operation::Power = operator {
+                return false;
+            }
             let left = left_contexts(operator, a, b, desk, standard, kept);
             let right = right_contexts(operator, a, b, desk, standard, kept);
             differs(a, left.desk, left.standard, kept)
@@ -162,6 +165,19 @@ fn differs_alone(e: &Expr, kept: &Scopes) -> bool
 {
     let desk = own_context(e, kept, By::Desk);
     differs(e, desk, own_context(e, kept, By::Standard), kept)
+}
+
+/// Of the argument of a function: that of `$clog2` is a constant.
+#[cycle(differing)]
+fn argument_differs(function: SystemFunction, e: &Expr, kept: &Scopes) -> bool
+    ensures { let s = scopes kept.now in
+        result ≡ argument_differs function (differs s (formula e.now)
+        (own_context s.scope (formula e.now)) (own_context (restated s) (formula e.now))) }
+{
+    match function {
+        SystemFunction::Signed | SystemFunction::Unsigned => differs_alone(e, kept),
+        SystemFunction::Clog2 => false,
+    }
 }
 
 /// Of the operand behind an operator.

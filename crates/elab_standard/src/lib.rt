@@ -10,6 +10,7 @@ pub mod literals;
 pub mod nested;
 pub mod notes;
 pub mod numbers;
+mod powers;
 pub mod scopes;
 pub mod standard;
 pub mod standards;

@@ -2,7 +2,7 @@
 
 ghost use Rattle.std.specs.Prelude.{◌≡◌, ◌++◌, map, OnOk};
 ghost use Rattle.rtl_tree.specs.TreeExpr.{formula, formula_row};
-ghost use Rattle.elab_standard.specs.Nested.{format_notes, index_notes, nested_notes, row_notes};
+ghost use Rattle.elab_standard.specs.Nested.{argument_notes, format_notes, index_notes, nested_notes, row_notes};
 ghost use Rattle.elab_standard.specs.Numbers.{desk_number, number_notes};
 ghost use Rattle.elab_standard.specs.Scopes.{scopes};
 
@@ -14,9 +14,11 @@ use crate::numbers::push_number;
 use crate::scopes::{By, Scopes};
 use crate::uses::Home;
 use crate::worth::taken_context;
+use elab_walk::elab_scope::operators::{Operation, binary};
 use rtl_const::evaluate::constant;
 use rtl_flat::note::{Note, Reading};
 use rtl_tree::tree::expr::Expr;
+use rtl_tree::tree::operators::SystemFunction;
 use text_ground::memory::Memory;
 
 /// Adds what is told of the sizes of an expression in at least so many bits. Where its parameters are alike, it isn't sized.
@@ -54,16 +56,18 @@ pub(crate) fn push_nested(
     match e {
         Expr::Number(_, _) | Expr::Read(_) => Ok(()),
         Expr::ReadBit(_, index) => push_index(home, kept, index, made),
-        Expr::ReadPart(_, msb, lsb) => {
-            push_number(home, kept, msb, made)?;
-            push_number(home, kept, lsb, made)
+        Expr::ReadPart(_, _, first, second) => {
+            push_number(home, kept, first, made)?;
+            push_number(home, kept, second, made)
         }
-        Expr::Parens(_, inner) | Expr::Convert(_, _, inner) | Expr::Unary(_, _, inner) => {
-            push_nested(home, kept, inner, made)
-        }
+        Expr::Parens(_, inner) | Expr::Unary(_, _, inner) => push_nested(home, kept, inner, made),
+        Expr::Apply(function, _, inner) => push_argument(home, kept, *function, inner, made),
         Expr::Concat(_, parts) => push_row(home, kept, parts, made),
         Expr::Repeat(_, times, parts) => push_copies(home, kept, parts, times, made),
-        Expr::Binary(_, _, a, b) => {
+        Expr::Binary(operator, _, a, b) => {
+            if let Operation::Power = binary(*operator) {
+                return push_number(home, kept, e, made);
+            }
             push_nested(home, kept, a, made)?;
             push_nested(home, kept, b, made)
         }
@@ -89,6 +93,28 @@ fn push_index(home: Home, kept: &Scopes, index: &Expr, made: &mut Vec<Note>) -> 
             push_format(home, kept, index, 0, made)?;
             push_nested(home, kept, index, made)
         }
+    }
+}
+
+/// Of the argument of a function: that of `$clog2` is a constant.
+#[cycle(nested)]
+fn push_argument(
+    home: Home,
+    kept: &Scopes,
+    function: SystemFunction,
+    argument: &Expr,
+    made: &mut Vec<Note>,
+) -> Result<(), Memory>
+    ensures { let s = scopes kept.now in
+        OnOk result (made.new.items ≡ made.old.items
+        ++ argument_notes function (number_notes home s (formula argument.now))
+        (nested_notes home s (formula argument.now))) }
+{
+    match function {
+        SystemFunction::Signed | SystemFunction::Unsigned => push_nested(
+            home, kept, argument, made,
+        ),
+        SystemFunction::Clog2 => push_number(home, kept, argument, made),
     }
 }
 

@@ -22,7 +22,7 @@ use rtl_tree::tree::expr::Expr;
 use text_ground::memory::Memory;
 
 /// Whether known bits, read in two's complement, are below 0.
-fn is_negative(bits: Vec4) -> bool
+pub(crate) fn is_negative(bits: Vec4) -> bool
     requires { has_unknown bits ≡ false }
     ensures { result ≡ not (nat_lt (2 * number bits) (2 ^ length bits)) }
 {

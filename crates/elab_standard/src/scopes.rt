@@ -5,16 +5,19 @@ ghost use Rattle.name_map.specs.Values.{values_of};
 ghost use Rattle.rtl_const.specs.Constant.{constant};
 ghost use Rattle.rtl_tree.specs.TreeExpr.{formula};
 ghost use Rattle.elab_walk.specs.elab_scope.Names.{numbers_in};
+ghost use Rattle.elab_walk.specs.elab_scope.Selects.{lsb_in, msb_in};
 ghost use Rattle.elab_standard.specs.Reads.{read_by};
 ghost use Rattle.elab_standard.specs.Scopes.{restated_name, scopes, turned};
 
 use crate::standard::Standard;
 use elab_walk::elab_scope::known::Known;
 use elab_walk::elab_scope::names::Names;
+use elab_walk::elab_scope::selects::{Ends, ends_of};
 use name_map::NameMap;
 use rtl_const::evaluate::constant;
 use rtl_const::fault::ConstFault;
 use rtl_tree::tree::expr::Expr;
+use rtl_tree::tree::operators::PartKind;
 use text_ground::text::Text;
 
 /// What the names of a module stand for in an instance, and what its parameters are by the standard.
@@ -72,5 +75,15 @@ impl Scopes {
         ensures { result ≡ constant (numbers_in (read_by _by (scopes self.now))) (formula e.now) }
     {
         constant(e, &self.names)
+    }
+
+    /// The ends of a select by the desk, whoever reads its names.
+    pub(crate) fn ends(&self, _by: By, kind: PartKind, first: &Expr, second: &Expr) -> Ends
+        ensures msb { result.msb ≡ msb_in (read_by _by (scopes self.now)) kind
+            (formula first.now) (formula second.now) }
+        ensures lsb { result.lsb ≡ lsb_in (read_by _by (scopes self.now)) kind
+            (formula first.now) (formula second.now) }
+    {
+        ends_of(kind, first, second, &self.names)
     }
 }

@@ -5,7 +5,7 @@ ghost use Rattle.rtl_tree.specs.TreeExpr.{formula, formula_row};
 ghost use Rattle.rtl_flat.specs.declared.note.Reading.TheVariants.{UnsizedNumber};
 ghost use Rattle.elab_standard.specs.Notes.{note_if, root_place};
 ghost use Rattle.elab_standard.specs.Scopes.{scopes};
-ghost use Rattle.elab_standard.specs.Unsized.{is_misread, is_standard_unsized, is_unsized, operand_notes, unsized_notes};
+ghost use Rattle.elab_standard.specs.Unsized.{is_function_unsized, is_misread, is_standard_unsized, is_unsized, operand_notes, unsized_notes};
 
 use crate::notes::{push_if, root_place};
 use crate::scopes::Scopes;
@@ -15,6 +15,7 @@ use elab_walk::elab_scope::operators::{Operation, Prefix, binary, unary};
 use rtl_flat::note::{Note, Reading};
 use rtl_tree::literal::Literal;
 use rtl_tree::tree::expr::Expr;
+use rtl_tree::tree::operators::SystemFunction;
 use text_ground::memory::Memory;
 
 /// Whether the width of a parameter is that of a number without one.
@@ -27,6 +28,16 @@ fn is_standard_unsized(standard: Option<Standard>) -> bool
     }
 }
 
+/// The same of what a function of the system gives.
+fn is_function_unsized(function: SystemFunction, argument: bool) -> bool
+    ensures { result ≡ is_function_unsized function argument }
+{
+    match function {
+        SystemFunction::Signed | SystemFunction::Unsigned => argument,
+        SystemFunction::Clog2 => false,
+    }
+}
+
 /// Whether the width of an expression is that of a number without one.
 pub(crate) fn is_unsized(e: &Expr, kept: &Scopes) -> bool
     ensures { result ≡ is_unsized (scopes kept.now) (formula e.now) }
@@ -34,7 +45,8 @@ pub(crate) fn is_unsized(e: &Expr, kept: &Scopes) -> bool
     match e {
         Expr::Number(value, _) => !value.sized,
         Expr::Read(name) => is_standard_unsized(kept.standards.find(&name.text)),
-        Expr::Parens(_, inner) | Expr::Convert(_, _, inner) => is_unsized(inner, kept),
+        Expr::Parens(_, inner) => is_unsized(inner, kept),
+        Expr::Apply(function, _, inner) => is_function_unsized(*function, is_unsized(inner, kept)),
         Expr::Unary(operator, _, a) => match unary(*operator) {
             Prefix::Turn(_) => is_unsized(a, kept),
             Prefix::Fold(_) => false,
@@ -42,13 +54,13 @@ pub(crate) fn is_unsized(e: &Expr, kept: &Scopes) -> bool
         Expr::Binary(operator, _, a, b) => match binary(*operator) {
             Operation::Join(_) => is_unsized(a, kept) || is_unsized(b, kept),
             Operation::Compare(_) | Operation::Link(_) => false,
-            Operation::Shift(_) => is_unsized(a, kept),
+            Operation::Shift(_) | Operation::Power => is_unsized(a, kept),
         },
         Expr::Choose(_, _, taken, otherwise) => {
             is_unsized(taken, kept) || is_unsized(otherwise, kept)
         }
         Expr::ReadBit(_, _)
-        | Expr::ReadPart(_, _, _)
+        | Expr::ReadPart(_, _, _, _)
         | Expr::Concat(_, _)
         | Expr::Repeat(_, _, _) => false,
     }
@@ -84,9 +96,9 @@ pub(crate) fn push_unsized(
         Expr::Read(_) => Ok(()),
         Expr::ReadBit(_, inner)
         | Expr::Parens(_, inner)
-        | Expr::Convert(_, _, inner)
+        | Expr::Apply(_, _, inner)
         | Expr::Unary(_, _, inner) => push_unsized(home, kept, inner, made),
-        Expr::ReadPart(_, a, b) | Expr::Binary(_, _, a, b) => {
+        Expr::ReadPart(_, _, a, b) | Expr::Binary(_, _, a, b) => {
             push_unsized(home, kept, a, made)?;
             push_unsized(home, kept, b, made)
         }

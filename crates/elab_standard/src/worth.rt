@@ -7,6 +7,7 @@ ghost use Rattle.elab_standard.specs.Worth.{own_worth, taken_context, taken_wort
 
 use crate::contexts::{left_context, operand_context, own_context, right_context};
 use crate::literals::{literal, read_bits};
+use crate::powers::{logarithm, raise};
 use crate::scopes::{By, Scopes};
 use elab_walk::elab_scope::context::Context;
 use elab_walk::elab_scope::operators::{Operation, Prefix, binary, unary};
@@ -14,7 +15,7 @@ use rtl_bits::{Bit, Vec4};
 use rtl_expr::operators::{choose, compare, fold, join, link, shift, turn};
 use rtl_tree::tree::expr::Expr;
 use rtl_tree::tree::names::Name;
-use rtl_tree::tree::operators::UnaryOperator;
+use rtl_tree::tree::operators::{SystemFunction, UnaryOperator};
 
 /// The bits of a constant expression in a context; x where it has no value. It takes no memory.
 #[cycle(worth)]
@@ -28,6 +29,11 @@ pub(crate) fn worth(e: &Expr, context: Context, kept: &Scopes) -> Vec4
         Expr::Number(value, _) => literal(value, context),
         Expr::Read(name) => named(name, kept).extend(context.width, context.signed),
         Expr::Parens(_, inner) => worth(inner, context, kept),
+        Expr::Apply(SystemFunction::Clog2, _, inner) => {
+            let own = own_context(inner, kept, By::Standard);
+            let bits = logarithm(worth(inner, own, kept), own.signed);
+            bits.extend(context.width, context.signed)
+        }
         Expr::Unary(operator, _, a) => applied(*operator, a, context, kept),
         Expr::Binary(operator, _, a, b) => {
             let operator = binary(*operator);
@@ -44,6 +50,7 @@ pub(crate) fn worth(e: &Expr, context: Context, kept: &Scopes) -> Vec4
                     link(operator, a, b).extend(context.width, context.signed)
                 }
                 Operation::Shift(operator) => shift(operator, context.signed, a, b),
+                Operation::Power => raise(a, b, right.signed),
             }
         }
         Expr::Choose(_, condition, taken, otherwise) => {

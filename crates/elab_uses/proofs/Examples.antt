@@ -4,11 +4,13 @@ use Rattle.std.specs.Str.{bytes_eq}
 use Rattle.std.proofs.Common.{◌≡◌, refl}
 use Rattle.rtl_tree.specs.declared.tree.item.EventEdge.TheVariants.{Posedge}
 use Rattle.rtl_tree.specs.declared.tree.operators.BinaryOperator.TheVariants.{Add, Less}
+use Rattle.rtl_tree.specs.declared.tree.operators.UnaryOperator.TheVariants.{BitwiseNot}
 use Rattle.rtl_tree.specs.declared.tree.stmt.AssignmentKind.TheVariants.{Blocking}
 use Rattle.rtl_tree.specs.declared.tree.stmt.CaseKind.TheVariants.{Plain}
-use Rattle.rtl_tree.specs.TreeExpr.{Identifier, Formula, Read, Binary}
+use Rattle.rtl_tree.specs.declared.tree.operators.PartKind.TheVariants.{Between, Up}
+use Rattle.rtl_tree.specs.TreeExpr.{Identifier, Formula, Read, Parens, Unary, Binary}
 use Rattle.rtl_tree.specs.TreeExpr as formula
-use Rattle.rtl_tree.specs.TreeItem.{Drives, Always, Nets, Edge, Change, ChangeBit, ChangePart, Listed}
+use Rattle.rtl_tree.specs.TreeItem.{Drives, Gates, Always, Nets, Edge, Change, ChangeBit, ChangePart, Listed}
 use Rattle.rtl_tree.specs.TreeStmt.{Bit, Part, Whole, Joined, no_targets, more_targets, Action, Null, Assign, If, IfElse, For, Case, Branches, Labelled, Default, no_branches, more_branches}
 use Rattle.elab_body.specs.elab_scope.declared.known.Known.TheVariants.{Signal, Integer}
 use Rattle.elab_body.specs.elab_scope.declared.known.Role.TheVariants.{Net, Variable}
@@ -96,9 +98,19 @@ labels_with_selector : seen (body_uses (Case 10 Plain false false (Read (d 16)) 
 labels_with_selector = refl
 
 -- assign {w, d[1:0]} = d;
-joined : seen (item_uses s (Drives 1 None (record { target = Joined 8 (more_targets (Whole (w 9)) (more_targets (Part (d 12) (whole 1 14) (whole 0 16)) no_targets)); value = Read (d 22) } ∷ []))) ≡ (None, Number (whole 1 14)) ∷ (None, Number (whole 0 16)) ∷ (None, Value (Read (d 22)) 3) ∷ []
+joined : seen (item_uses s (Drives 1 None (record { target = Joined 8 (more_targets (Whole (w 9)) (more_targets (Part (d 12) Between (whole 1 14) (whole 0 16)) no_targets)); value = Read (d 22) } ∷ []))) ≡ (None, Number (whole 1 14)) ∷ (None, Number (whole 0 16)) ∷ (None, Value (Read (d 22)) 3) ∷ []
 unfolding item_uses
 joined = refl
+
+-- not (w, d[1], d[0]); has the input once for both outputs
+two_outputs : seen (item_uses s (Gates 1 [] None (record { outputs = Whole (w 5) ∷ Bit (d 8) (whole 1 10) ∷ []; value = Unary BitwiseNot 5 (Parens 14 (formula.ReadBit (d 14) (whole 0 16))) } ∷ []))) ≡ (None, Number (whole 1 10)) ∷ (None, Value (Unary BitwiseNot 5 (Parens 14 (formula.ReadBit (d 14) (whole 0 16)))) 1) ∷ []
+unfolding item_uses
+two_outputs = refl
+
+-- assign d[0 +: 2] = d;
+run_driven : seen (item_uses s (Drives 1 None (record { target = Part (d 12) Up (whole 0 14) (whole 2 19); value = Read (d 22) } ∷ []))) ≡ (None, Number (whole 0 14)) ∷ (None, Number (whole 2 19)) ∷ (None, Value (Read (d 22)) 2) ∷ []
+unfolding item_uses
+run_driven = refl
 
 -- wire w = d; drives w whole
 net_driven : seen (item_uses s (Nets 1 false None (record { name = w 6; value = Some (Read (d 10)) } ∷ []))) ≡ (None, Value (Read (d 10)) 1) ∷ []

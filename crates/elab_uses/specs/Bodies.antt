@@ -38,7 +38,7 @@ abbrev mutual
   pub target_uses : Scopes → Target → Uses
   target_uses s (Whole name) = []
   target_uses s (Bit name index) = (s, index_use (number_in s index) index) ∷ []
-  target_uses s (Part name msb lsb) = (s, Number msb) ∷ (s, Number lsb) ∷ []
+  target_uses s (Part name kind first second) = (s, Number first) ∷ (s, Number second) ∷ []
   target_uses s (Joined at parts) = parts_uses s parts
 
   pub parts_uses : Scopes → Targets → Uses

@@ -3,22 +3,22 @@
 ghost use Rattle.std.specs.Prelude.{◌≡◌, ◌++◌, OnOk, map};
 ghost use Rattle.std.specs.Option.{option_map};
 ghost use Rattle.rtl_tree.specs.TreeExpr.{formula, identifier};
-ghost use Rattle.rtl_tree.specs.TreeItem.{drive, happening, module_item, net, sensitivity};
-ghost use Rattle.rtl_tree.specs.TreeStmt.{action};
+ghost use Rattle.rtl_tree.specs.TreeItem.{drive, gate_drive, happening, module_item, net, sensitivity};
+ghost use Rattle.rtl_tree.specs.TreeStmt.{action, target};
 ghost use Rattle.elab_standard.specs.Scopes.{scopes as scopes_of};
 ghost use Rattle.elab_uses.specs.Bodies.{body_uses, notes_in};
-ghost use Rattle.elab_uses.specs.Items.{drive_uses, happening_uses, item_uses, list_uses, net_uses, sensitivity_uses, value_uses};
+ghost use Rattle.elab_uses.specs.Items.{drive_uses, gate_use, gate_uses, happening_uses, item_uses, list_uses, net_uses, output_uses, sensitivity_uses, value_uses};
 
 use crate::bodies::push_body;
-use crate::targets::{push_assignment, push_ends, push_index, push_value};
+use crate::targets::{push_assignment, push_ends, push_index, push_target, push_value};
 use elab_body::elab_scope::own::name_breadth;
 use elab_standard::scopes::Scopes;
 use elab_standard::uses::Home;
 use rtl_flat::note::Note;
 use rtl_tree::tree::expr::Expr;
-use rtl_tree::tree::item::{Assignment, Event, EventControl, Item, Wire};
+use rtl_tree::tree::item::{Assignment, Event, EventControl, GateDrive, Item, Wire};
 use rtl_tree::tree::names::Name;
-use rtl_tree::tree::stmt::Stmt;
+use rtl_tree::tree::stmt::{Lvalue, Stmt};
 use text_ground::memory::Memory;
 
 /// The notes of a net that is declared.
@@ -68,6 +68,50 @@ fn push_drives(
 {
     for assignment in assignments {
         push_assignment(&assignment.target, &assignment.value, home, scopes, made)?;
+    }
+    Ok(())
+}
+
+fn push_outputs(
+    outputs: &[Lvalue],
+    home: Home,
+    scopes: &Scopes,
+    made: &mut Vec<Note>,
+) -> Result<(), Memory>
+    ensures { OnOk result (made.new.items ≡ made.old.items
+        ++ notes_in home (output_uses (scopes_of scopes.now) (map target outputs.now))) }
+{
+    for output in outputs {
+        push_target(output, home, scopes, made)?;
+    }
+    Ok(())
+}
+
+/// The notes of what a gate drives.
+fn push_gate(
+    drive: &GateDrive,
+    home: Home,
+    scopes: &Scopes,
+    made: &mut Vec<Note>,
+) -> Result<(), Memory>
+    ensures { OnOk result (made.new.items ≡ made.old.items
+        ++ notes_in home (gate_use (scopes_of scopes.now) (gate_drive drive.now))) }
+{
+    push_outputs(&drive.outputs, home, scopes, made)?;
+    push_value(&drive.value, 1, home, scopes, made)
+}
+
+fn push_gates(
+    drives: &[GateDrive],
+    home: Home,
+    scopes: &Scopes,
+    made: &mut Vec<Note>,
+) -> Result<(), Memory>
+    ensures { OnOk result (made.new.items ≡ made.old.items
+        ++ notes_in home (gate_uses (scopes_of scopes.now) (map gate_drive drives.now))) }
+{
+    for drive in drives {
+        push_gate(drive, home, scopes, made)?;
     }
     Ok(())
 }
@@ -156,6 +200,7 @@ pub fn push_item(
     match item {
         Item::Wires { wires, .. } => push_nets(wires, home, scopes, made),
         Item::Assigns(_, _, assignments) => push_drives(assignments, home, scopes, made),
+        Item::Gates { drives, .. } => push_gates(drives, home, scopes, made),
         Item::Always(_, control, body) => push_always(control, body, home, scopes, made),
         Item::Ports(_, _)
         | Item::Regs { .. }

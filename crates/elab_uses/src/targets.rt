@@ -59,26 +59,26 @@ pub(crate) fn push_index(
     push_use(home, scopes, index_use(index, &scopes.names), made)
 }
 
-/// The notes of the ends of a part.
+/// The notes of what stands in the brackets of a part.
 pub(crate) fn push_ends(
-    msb: &Expr,
-    lsb: &Expr,
+    first: &Expr,
+    second: &Expr,
     home: Home,
     scopes: &Scopes,
     made: &mut Vec<Note>,
 ) -> Result<(), Memory>
     ensures { let s = scopes_of scopes.now in
         OnOk result (made.new.items ≡ made.old.items
-        ++ notes_in home ((s, Number (formula msb.now)) ∷ (s, Number (formula lsb.now)) ∷ [])) }
+        ++ notes_in home ((s, Number (formula first.now)) ∷ (s, Number (formula second.now)) ∷ [])) }
 {
-    push_use(home, scopes, Use::Number(msb), made)?;
-    push_use(home, scopes, Use::Number(lsb), made)
+    push_use(home, scopes, Use::Number(first), made)?;
+    push_use(home, scopes, Use::Number(second), made)
 }
 
 /// The notes of a target.
 #[cycle(push_target)]
 #[tactic(auto, using(crate::proofs::Views::joined_uses))]
-fn push_target(
+pub(crate) fn push_target(
     written: &Lvalue,
     home: Home,
     scopes: &Scopes,
@@ -90,7 +90,7 @@ fn push_target(
     match written {
         Lvalue::Whole(_) => Ok(()),
         Lvalue::Bit(_, index) => push_index(index, home, scopes, made),
-        Lvalue::Part(_, msb, lsb) => push_ends(msb, lsb, home, scopes, made),
+        Lvalue::Part(_, _, first, second) => push_ends(first, second, home, scopes, made),
         Lvalue::Concat(_, parts) => push_parts(parts, home, scopes, made),
     }
 }
