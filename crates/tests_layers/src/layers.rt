@@ -11,7 +11,7 @@ use rtl_text::lex;
 use rtl_tree::prepared::Prepared;
 use rtl_tree::token::Tokens;
 use rtl_tree::tree::item::Item;
-use rtl_tree::tree::modules::Module;
+use rtl_tree::tree::modules::{Module, WrittenModule};
 use rtl_tree::tree::nesting::depth;
 use std::alloc::Global;
 use std::marker::Brand;
@@ -43,7 +43,7 @@ fn parsed(alloc: Global, text: &Prepared) -> Result<Vec<Module>, Stop> {
 }
 
 /// The greatest depth of some modules.
-fn deepest(modules: &[Module]) -> u32 {
+fn deepest(modules: &[WrittenModule]) -> u32 {
     let mut most = 0;
     for module in modules {
         most = depth(module).max(most);
