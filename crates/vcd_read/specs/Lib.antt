@@ -1,0 +1,11 @@
+pub mod Changes
+pub mod Codes
+pub mod Cuts
+pub mod Declarations
+pub mod Filling
+pub mod Frames
+pub mod Keywords
+pub mod Numbers
+pub mod Reading
+pub mod Told
+pub mod Words
