@@ -8,6 +8,10 @@
 set -eu
 top=$(CDPATH='' cd -- "$(dirname -- "$0")/.." && pwd)
 program=${DESK_PROGRAM:-$top/crates/desk/out/desk}
+# Where none was built here, it is the release.
+if [ -z "${DESK_PROGRAM:-}" ] && [ ! -x "$program" ] && (cd "$top" && sha256sum -c --status dist/desk.sha256) 2>/dev/null; then
+  program=$top/dist/desk
+fi
 port=${1:-8765}
 if [ ! -x "$program" ]; then
   printf 'server.sh: there is no program %s: ./desk builds it, or DESK_PROGRAM names another\n' "$program" >&2
