@@ -1,5 +1,5 @@
 -- What a design without a finding of either grade is.
--- Worked examples: crates/sign_unknown/proofs/Example.antt.
+-- Worked examples: crates/tests_rows/stdin.
 use Rattle.std.specs.Prelude.{ℕ, []}
 use Rattle.rtl_flat.specs.Flats.{Flat, Parts}
 use Rattle.net_model.specs.declared.fill.Fill.{Fill}
