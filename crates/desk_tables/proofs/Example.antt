@@ -1,14 +1,18 @@
 -- Names, days and changes, on small cases.
-use Rattle.std.proofs.Common.{◌≡◌, true, false, List, ℕ, [], ◌∷◌, None, Some, refl, codes}
+use Rattle.std.proofs.Common.{◌≡◌, true, false, List, ℕ, [], ◌∷◌, Option, None, Some, refl, codes}
 use Rattle.std.specs.Prelude.{pos, negsuc}
 use Rattle.desk_tables.specs.Changes.{with_file, without_file}
 use Rattle.desk_tables.specs.Days.{day_of}
+use Rattle.desk_tables.specs.Editions.{is_edition}
 use Rattle.desk_tables.specs.Grades.{grade_word, is_grade_word}
+use Rattle.desk_tables.specs.Migrations.{current}
 use Rattle.desk_tables.specs.Names.{is_name}
 use Rattle.desk_tables.specs.Rules.{broken_meta, has_reply, is_file_name}
+use Rattle.desk_tables.specs.Tables.{Kept, new_tables}
 use Rattle.desk_tables.specs.declared.rows.FileRow.{FileRow}
 use Rattle.desk_tables.specs.declared.rows.Grade.TheVariants.{Waived}
 use Rattle.desk_tables.specs.declared.rows.ReplyRow.{ReplyRow}
+use Rattle.desk_tables.specs.declared.rows.SignOffRow.{SignOffRow}
 
 a_name : is_name (codes "jo_2-b") ≡ true
 a_name = refl
@@ -55,15 +59,51 @@ no_version_breaks_at_the_first_row = refl
 two_versions_break_at_the_second : broken_meta (record { version = 1 } ∷ record { version = 1 } ∷ []) ≡ Some 2
 two_versions_break_at_the_second = refl
 
+abbrev reply : List ℕ → List ℕ → ReplyRow
+reply its_user its_request =
+    record { user = its_user; request = its_request; digest = []; status = 200; body = [] }
+
+no_third_version : broken_meta (record { version = 3 } ∷ []) ≡ Some 1
+no_third_version = refl
+
+no_edition_under_version_1 : is_edition 1 (Some 1) ≡ false
+no_edition_under_version_1 = refl
+
+version_2_has_editions : is_edition 2 None ≡ false
+version_2_has_editions = refl
+
+no_third_edition : is_edition 2 (Some 3) ≡ false
+no_third_edition = refl
+
+abbrev signed : Option ℕ → SignOffRow
+signed its_edition = record {
+  id = 1;
+  top = codes "top";
+  who = codes "jo";
+  day = pos 5;
+  grade = codes "clean";
+  reach = [];
+  edition = its_edition;
+}
+
+abbrev tables_of : ℕ → Option ℕ → Kept
+tables_of its_version its_edition = record new_tables {
+  meta = record { version = its_version } ∷ [];
+  signoffs = signed its_edition ∷ [];
+  replies = reply (codes "jo") (codes "b1") ∷ [];
+}
+
+a_sign_off_of_version_1_gets_edition_1 : current (tables_of 1 None) ≡ tables_of 2 (Some 1)
+a_sign_off_of_version_1_gets_edition_1 = refl
+
+tables_of_version_2_stay : current (tables_of 2 (Some 2)) ≡ tables_of 2 (Some 2)
+tables_of_version_2_stay = refl
+
 a_grade_has_its_word : grade_word Waived ≡ codes "waived"
 a_grade_has_its_word = refl
 
 no_other_letters : is_grade_word (codes "Clean") ≡ false
 no_other_letters = refl
-
-abbrev reply : List ℕ → List ℕ → ReplyRow
-reply its_user its_request =
-    record { user = its_user; request = its_request; digest = []; status = 200; body = [] }
 
 -- the same letters, parted elsewhere, are another request
 another_pair : has_reply (codes "jo") (codes "b1") (reply (codes "job") (codes "1") ∷ []) ≡ false

@@ -1,4 +1,5 @@
 pub mod Broken
 mod Example
 pub mod Looked
+pub mod Mapped
 pub mod Texts

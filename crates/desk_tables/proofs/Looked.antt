@@ -85,13 +85,13 @@ bad_waiver_is rows place row result inside answer =
     answer ∙ ap (bad_waiver row) (sym (length-take-le place rows (omega arith)))
 
 -- what the loop's test says of a row
-abbrev pub bad_signoff : SignOffRow → ℕ → Bool
-bad_signoff row place =
-    not (is_sound_signoff row) || nat_le MAX_SIGN_OFFS place || not (row.id == place + 1)
+abbrev pub bad_signoff : ℕ → SignOffRow → ℕ → Bool
+bad_signoff version row place =
+    not (is_sound_signoff version row) || nat_le MAX_SIGN_OFFS place || not (row.id == place + 1)
 
-pub bad_signoff_is : (rows : List SignOffRow) (place : ℕ) (row : SignOffRow) (result : Bool) → place < length rows → result ≡ bad_signoff row place → result ≡ signoff_breaks (take place rows) row
-bad_signoff_is rows place row result inside answer =
-    answer ∙ ap (bad_signoff row) (sym (length-take-le place rows (omega arith)))
+pub bad_signoff_is : (version : ℕ) (rows : List SignOffRow) (place : ℕ) (row : SignOffRow) (result : Bool) → place < length rows → result ≡ bad_signoff version row place → result ≡ signoff_breaks version (take place rows) row
+bad_signoff_is version rows place row result inside answer =
+    answer ∙ ap (bad_signoff version row) (sym (length-take-le place rows (omega arith)))
 
 -- ---- replies
 

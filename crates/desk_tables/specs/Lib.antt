@@ -4,6 +4,8 @@ pub mod Names
 pub mod Grades
 pub mod Tables
 pub mod Changes
+pub mod Editions
 pub mod Rules
+pub mod Migrations
 pub mod Seen
 pub mod MemoryKeeper

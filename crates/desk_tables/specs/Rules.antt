@@ -6,6 +6,7 @@ use Rattle.std.specs.Char.{is_ascii_alphanumeric}
 use Rattle.std.specs.Str.{byte, is_utf8}
 use Rattle.sha2.specs.Sha256.{sha256}
 use Rattle.rtl_rule.specs.Rows.{rule_with}
+use Rattle.desk_tables.specs.Editions.{is_edition, is_version, version_of}
 use Rattle.desk_tables.specs.Grades.{is_grade_word}
 use Rattle.desk_tables.specs.Limits.{MAX_BYTES, MAX_ALL_BYTES, MAX_FILES, MAX_FILE_NAME_BYTES, MAX_REPLIES, MAX_SIGN_OFFS, MAX_WAIVERS}
 use Rattle.desk_tables.specs.Tables.{Kept}
@@ -60,13 +61,14 @@ waiver_breaks before row =
 
 -- ---- sign-offs
 
--- the row keeps the rules of a sign-off that look at no other row
-abbrev pub is_sound_signoff : SignOffRow → Bool
-is_sound_signoff row = is_utf8 row.top && is_grade_word row.grade
+-- in tables of this version the row keeps the rules of a sign-off that look at no other row
+abbrev pub is_sound_signoff : ℕ → SignOffRow → Bool
+is_sound_signoff version row =
+    is_utf8 row.top && is_grade_word row.grade && is_edition version row.edition
 
-abbrev pub signoff_breaks : List SignOffRow → SignOffRow → Bool
-signoff_breaks before row =
-    not (is_sound_signoff row) || nat_le MAX_SIGN_OFFS (length before) || not (row.id == length before + 1)
+abbrev pub signoff_breaks : ℕ → List SignOffRow → SignOffRow → Bool
+signoff_breaks version before row =
+    not (is_sound_signoff version row) || nat_le MAX_SIGN_OFFS (length before) || not (row.id == length before + 1)
 
 -- ---- replies
 
@@ -91,9 +93,9 @@ first_broken breaks before [] = None
 first_broken breaks before (row ∷ rows) =
     if breaks before row then Some (length before + 1) else first_broken breaks (before ++ row ∷ []) rows
 
--- one row of version 1
+-- one row, of version 1 or 2
 abbrev pub meta_breaks : List MetaRow → MetaRow → Bool
-meta_breaks before row = not (row.version == 1) || nat_le 1 (length before)
+meta_breaks before row = not (is_version row.version) || nat_le 1 (length before)
 
 abbrev pub broken_meta : List MetaRow → Option ℕ
 broken_meta [] = Some 1
@@ -112,5 +114,5 @@ broken_row kept =
     or_else (in_table Meta (broken_meta kept.meta))
     (or_else (in_table Files (first_broken file_breaks [] kept.files))
     (or_else (in_table Waivers (first_broken waiver_breaks [] kept.waivers))
-    (or_else (in_table SignOffs (first_broken signoff_breaks [] kept.signoffs))
+    (or_else (in_table SignOffs (first_broken (signoff_breaks (version_of kept.meta)) [] kept.signoffs))
     (in_table Replies (first_broken reply_breaks [] kept.replies)))))

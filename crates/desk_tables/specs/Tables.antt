@@ -25,10 +25,10 @@ kept_of tables = record {
   replies = tables.replies.items;
 }
 
--- the tables of a new desk: of version 1, and with no other row
+-- the tables of a new desk: of version 2, and with no other row
 abbrev pub new_tables : Kept
 new_tables = record {
-  meta = record { version = 1 } ∷ [];
+  meta = record { version = 2 } ∷ [];
   files = [];
   waivers = [];
   signoffs = [];

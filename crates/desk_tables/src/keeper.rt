@@ -2,6 +2,7 @@
 ghost use Rattle.std.specs.Prelude.{◌≡◌, ◌≤◌, ℕ, Option, option_map, IfOk, IfSome, OnOk, OnErr, IsErrOf};
 ghost use Rattle.desk_io.specs.Causes.{Rose};
 ghost use Rattle.desk_tables.specs.Changes.{changed};
+ghost use Rattle.desk_tables.specs.Migrations.{migrated};
 ghost use Rattle.desk_tables.specs.Tables.{Kept, kept_of};
 ghost use Rattle.desk_tables.specs.declared.keeper.KeeperFault.TheVariants.{Memory};
 
@@ -58,6 +59,18 @@ pub trait Keeper {
     fn commit(&mut self, change: &Change) -> Result<(), KeeperFault>
         ensures done { OnOk result (tables self.new
             ≡ option_map (changed change.now) (tables self.old)) }
+        ensures same { OnErr result (tables self.new ≡ tables self.old) }
+
+        // A call that fails is counted, and nothing else is.
+        ensures later { count self.old ≤ count self.new }
+        ensures failed { IsErrOf result KeeperFault.Failed
+            → Rose (count self.old) (count self.new) }
+        ensures no_memory { IsErrOf result KeeperFault.Memory → count self.new ≡ count self.old }
+        ensures calm { OnOk result (count self.new ≡ count self.old) };
+
+    /// Makes tables of version 1 those of version 2, whole, or leaves them.
+    fn migrate(&mut self) -> Result<(), KeeperFault>
+        ensures done { OnOk result (tables self.new ≡ option_map migrated (tables self.old)) }
         ensures same { OnErr result (tables self.new ≡ tables self.old) }
 
         // A call that fails is counted, and nothing else is.

@@ -7,6 +7,7 @@ mod keeper;
 mod name;
 mod rows;
 mod rules;
+mod versions;
 
 pub use change::Change;
 pub use day::{Day, FIRST_DAY};
@@ -18,3 +19,4 @@ pub use rows::{
 pub use rules::{
     MAX_ALL_BYTES, MAX_FILE_NAME_BYTES, MAX_FILES, MAX_REPLIES, MAX_SIGN_OFFS, MAX_WAIVERS, bad_row,
 };
+pub use versions::EDITION;

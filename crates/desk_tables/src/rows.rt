@@ -5,6 +5,7 @@ ghost use Rattle.desk_tables.specs.Tables.{kept_of, new_tables};
 
 mod copies;
 
+use crate::versions::VERSION;
 use crate::{Day, Name};
 pub(crate) use copies::{Row, copied_rows};
 use std::alloc::Global;
@@ -101,6 +102,8 @@ pub struct SignOffRow {
     pub grade: Text,
     /// The digest of the files that the module reaches.
     pub reach: Digest,
+    /// The edition of the desk under which it was made; None in tables of version 1.
+    pub edition: Option<u8>,
 }
 
 /// The reply to a request that was accepted.
@@ -127,12 +130,12 @@ pub struct Tables {
 }
 
 impl Tables {
-    /// The tables of a new desk: of version 1, and with no other row.
+    /// The tables of a new desk: of version 2, and with no other row.
     pub fn new(alloc: Global) -> Result<Tables, Memory>
         ensures { IfOk result (λ tables. kept_of tables ≡ new_tables) }
     {
         let mut meta = Vec::new(alloc);
-        meta.push(MetaRow { version: 1 })?;
+        meta.push(MetaRow { version: VERSION })?;
         Ok(Tables {
             meta,
             files: Vec::new(alloc),

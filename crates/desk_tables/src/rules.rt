@@ -6,6 +6,7 @@ ghost use Rattle.desk_tables.specs.Tables.{kept_of};
 mod seen;
 mod sound;
 
+use crate::versions::is_version;
 use crate::{FileRow, MetaRow, ReplyRow, SignOffRow, Table, Tables, WaiverRow};
 use seen::{Seen, reply_key};
 use sound::{is_sound_file, is_sound_reply, is_sound_signoff, is_sound_waiver};
@@ -36,7 +37,7 @@ fn broken_meta(rows: &[MetaRow]) -> Option<usize>
     match rows {
         [] => Some(1),
         [first, rest @ ..] => {
-            if first.version != 1 {
+            if !is_version(first.version) {
                 Some(1)
             } else if !rest.is_empty() {
                 Some(2)
@@ -94,19 +95,19 @@ fn broken_waiver(rows: &[WaiverRow]) -> Option<usize>
     None
 }
 
-// Whether a row breaks a rule, behind so many sign-offs.
-fn is_bad_signoff(place: usize, row: &SignOffRow) -> bool
-    ensures { result ≡ (not (is_sound_signoff row.now) || nat_le MAX_SIGN_OFFS place
+// Whether a row of tables of this version breaks a rule, behind so many sign-offs.
+fn is_bad_signoff(version: u32, place: usize, row: &SignOffRow) -> bool
+    ensures { result ≡ (not (is_sound_signoff version row.now) || nat_le MAX_SIGN_OFFS place
         || not (row.now.id == place + 1)) }
 {
-    !is_sound_signoff(row) || place >= MAX_SIGN_OFFS || row.id as usize != place + 1
+    !is_sound_signoff(version, row) || place >= MAX_SIGN_OFFS || row.id as usize != place + 1
 }
 
-fn broken_signoff(rows: &[SignOffRow]) -> Option<usize>
-    ensures { result ≡ first_broken signoff_breaks [] rows.now }
+fn broken_signoff(version: u32, rows: &[SignOffRow]) -> Option<usize>
+    ensures { result ≡ first_broken (signoff_breaks version) [] rows.now }
 {
     for (index, row) in rows.iter().enumerate() {
-        if is_bad_signoff(index, row) {
+        if is_bad_signoff(version, index, row) {
             return Some(index + 1);
         }
     }
@@ -148,7 +149,7 @@ pub fn bad_row(alloc: Global, tables: &Tables) -> Result<Option<(Table, usize)>,
     if let Some(row) = broken_waiver(&tables.waivers) {
         return Ok(Some((Table::Waivers, row)));
     }
-    if let Some(row) = broken_signoff(&tables.signoffs) {
+    if let Some(row) = broken_signoff(tables.version(), &tables.signoffs) {
         return Ok(Some((Table::SignOffs, row)));
     }
     if let Some(row) = broken_reply(alloc, &tables.replies)? {

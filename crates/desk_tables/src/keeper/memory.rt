@@ -4,6 +4,7 @@ ghost use Rattle.desk_io.specs.Calls.{after_call, next_fails};
 ghost use Rattle.desk_io.specs.Causes.{Rose};
 ghost use Rattle.desk_tables.specs.Changes.{changed};
 ghost use Rattle.desk_tables.specs.MemoryKeeper.{fault_count, held, schedule};
+ghost use Rattle.desk_tables.specs.Migrations.{migrated};
 ghost use Rattle.desk_tables.specs.Tables.{kept_of};
 
 use super::{Keeper, KeeperFault};
@@ -109,5 +110,28 @@ impl Keeper for MemoryKeeper {
             return Err(KeeperFault::Failed);
         }
         Ok(self.tables.make(self.alloc, change)?)
+    }
+
+    fn migrate(&mut self) -> Result<(), KeeperFault>
+        ensures done { OnOk result (held self.new ≡ migrated (held self.old)) }
+        ensures same { OnErr result (held self.new ≡ held self.old) }
+        ensures fails { IsErrOf result KeeperFault.Failed
+            ↔ IsTrue (next_fails (schedule self.old)) }
+        ensures calls { schedule self.new ≡ after_call (schedule self.old) }
+        ensures counted { fault_count self.new ≡ (if next_fails (schedule self.old)
+            then min (fault_count self.old + 1) (2 ^ 64 - 1) else fault_count self.old) }
+        ensures later { fault_count self.old ≤ fault_count self.new }
+        ensures failed { IsErrOf result KeeperFault.Failed
+            → Rose (fault_count self.old) (fault_count self.new) }
+        ensures no_memory { IsErrOf result KeeperFault.Memory
+            → fault_count self.new ≡ fault_count self.old }
+        ensures calm { OnOk result (fault_count self.new ≡ fault_count self.old) }
+    {
+        if self.calls.next_fails() {
+            self.faults = self.faults.saturating_add(1);
+            return Err(KeeperFault::Failed);
+        }
+        self.tables.migrate();
+        Ok(())
     }
 }

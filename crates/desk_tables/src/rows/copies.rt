@@ -64,6 +64,7 @@ impl Row for SignOffRow {
             day: self.day,
             grade: copied_text(alloc, &self.grade)?,
             reach: self.reach,
+            edition: self.edition,
         })
     }
 }

@@ -7,6 +7,7 @@ ghost use Rattle.desk_tables.specs.Grades.{is_grade_word};
 ghost use Rattle.desk_tables.specs.Rules.{is_file_letter, is_file_name, is_sound_file, is_sound_reply, is_sound_signoff, is_sound_waiver};
 
 use super::MAX_FILE_NAME_BYTES;
+use crate::versions::is_edition;
 use crate::{FileRow, Grade, ReplyRow, SignOffRow, WaiverRow};
 use rtl_rule::rule::rule_of;
 use sha2::{Digest, Sha256};
@@ -72,10 +73,10 @@ fn is_grade_word(word: &[u8]) -> bool
     word == Grade::Clean.word() || word == Grade::Waived.word()
 }
 
-pub(crate) fn is_sound_signoff(row: &SignOffRow) -> bool
-    ensures { result ≡ is_sound_signoff row.now }
+pub(crate) fn is_sound_signoff(version: u32, row: &SignOffRow) -> bool
+    ensures { result ≡ is_sound_signoff version row.now }
 {
-    is_utf8(&row.top) && is_grade_word(row.grade.as_bytes())
+    is_utf8(&row.top) && is_grade_word(row.grade.as_bytes()) && is_edition(version, row.edition)
 }
 
 pub(crate) fn is_sound_reply(row: &ReplyRow) -> bool

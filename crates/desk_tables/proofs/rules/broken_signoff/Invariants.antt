@@ -3,4 +3,4 @@ use Rattle.desk_tables.proofs.Broken.{Passed}
 use Rattle.desk_tables.proofs.rules.broken_signoff.Given as goal
 
 abbrev pub invariant-loop-index : goal.invariant-loop-index
-invariant-loop-index l = Passed signoff_breaks l.rows l.index
+invariant-loop-index l = Passed (signoff_breaks l.version) l.rows l.index
