@@ -19,6 +19,11 @@ abbrev pub end_day : Option ℤ → Value
 end_day None = Null
 end_day (Some day) = Int day
 
+-- a number, or NULL
+abbrev pub number_or_null : Option ℕ → Value
+number_or_null None = Null
+number_or_null (Some n) = number n
+
 -- ---- the columns of a row, in their order
 
 abbrev pub meta_columns : MetaRow → List Value
@@ -33,7 +38,7 @@ waiver_columns row =
 
 abbrev pub signoff_columns : SignOffRow → List Value
 signoff_columns row =
-    number row.id ∷ Text row.top ∷ Text row.who ∷ Int row.day ∷ Text row.grade ∷ Blob row.reach ∷ []
+    number row.id ∷ Text row.top ∷ Text row.who ∷ Int row.day ∷ Text row.grade ∷ Blob row.reach ∷ number_or_null row.edition ∷ []
 
 abbrev pub reply_columns : ReplyRow → List Value
 reply_columns row =

@@ -1,7 +1,8 @@
 // What a change does to the database.
 
 use crate::values::{
-    blob_value, day_value, digest_value, end_value, name_value, number_value, text_value,
+    blob_value, day_value, digest_value, edition_value, end_value, name_value, number_value,
+    text_value,
 };
 use desk_tables::{Change, Day, FileRow, ReplyRow, SignOffRow, WaiverId, WaiverRow};
 use sqlite::{Alter, Connection, Error, ErrorCode, Transaction};
@@ -60,7 +61,8 @@ fn end_waiver<S: Alter>(tx: &mut Transaction<'_, S>, id: WaiverId, day: Day) -> 
 
 fn add_signoff<S: Alter>(tx: &mut Transaction<'_, S>, signoff: &SignOffRow) -> Result<(), Error> {
     tx.execute(
-        "INSERT INTO signoffs (id, top, who, day, grade, reach) VALUES (?1, ?2, ?3, ?4, ?5, ?6)",
+        "INSERT INTO signoffs (id, top, who, day, grade, reach, edition) \
+         VALUES (?1, ?2, ?3, ?4, ?5, ?6, ?7)",
         &[
             number_value(signoff.id),
             text_value(&signoff.top),
@@ -68,6 +70,7 @@ fn add_signoff<S: Alter>(tx: &mut Transaction<'_, S>, signoff: &SignOffRow) -> R
             day_value(signoff.day),
             text_value(&signoff.grade),
             digest_value(&signoff.reach),
+            edition_value(signoff.edition),
         ],
     )?;
     Ok(())

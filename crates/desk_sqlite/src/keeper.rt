@@ -4,7 +4,7 @@ ghost use Rattle.desk_io.specs.Causes.{Rose};
 
 use crate::change::change_tables;
 use crate::rows::read_tables;
-use crate::schema::prepare;
+use crate::schema::{migrate_tables, prepare};
 use crate::source::Source;
 use desk_tables::{Change, Keeper, KeeperFault, Tables};
 use sqlite::{Connection, Error, ErrorCode};
@@ -96,6 +96,25 @@ impl<O: Source + Drop> Keeper for SqlKeeper<O> {
             None => Err(Error::SqliteFailure(ErrorCode::CannotOpen)),
         };
         match changed {
+            Ok(()) => Ok(()),
+            Err(error) => Err(counted(&mut self.faults, error)),
+        }
+    }
+
+    /// Makes tables of version 1 those of version 2 in one transaction, or leaves them. Before any
+    /// `load` it is a fault.
+    fn migrate(&mut self) -> Result<(), KeeperFault>
+        ensures unopened { self.old.connection ≡ None → IsErrOf result KeeperFault.Failed }
+        ensures later { self.old.faults ≤ self.new.faults }
+        ensures failed { IsErrOf result KeeperFault.Failed → Rose self.old.faults self.new.faults }
+        ensures no_memory { IsErrOf result KeeperFault.Memory → self.new.faults ≡ self.old.faults }
+        ensures calm { OnOk result (self.new.faults ≡ self.old.faults) }
+    {
+        let migrated = match &mut self.connection {
+            Some(conn) => migrate_tables(conn),
+            None => Err(Error::SqliteFailure(ErrorCode::CannotOpen)),
+        };
+        match migrated {
             Ok(()) => Ok(()),
             Err(error) => Err(counted(&mut self.faults, error)),
         }

@@ -3,7 +3,9 @@ ghost use Rattle.std.specs.Prelude.{List, IfOk};
 ghost use Rattle.sqlite_value.specs.declared.value.Value.{Value};
 ghost use Rattle.desk_sqlite.specs.Columns.{Holds, HoldAll, file_columns, meta_columns, reply_columns, signoff_columns, waiver_columns};
 
-use crate::values::{blob_at, day_at, digest_at, end_at, name_at, number_at, status_at, text_at};
+use crate::values::{
+    blob_at, day_at, digest_at, edition_at, end_at, name_at, number_at, status_at, text_at,
+};
 use desk_tables::{FileRow, MetaRow, ReplyRow, SignOffRow, Tables, WaiverId, WaiverRow};
 use sqlite::{Alter, Connection, Error, Row};
 use std::alloc::Global;
@@ -17,7 +19,12 @@ const WAIVERS: &str =
     "SELECT id, top, rule, target, file, at, digest, owner, asker, reason, last_day, ended \
      FROM waivers ORDER BY rowid";
 
-const SIGNOFFS: &str = "SELECT id, top, who, day, grade, reach FROM signoffs ORDER BY rowid";
+const SIGNOFFS: &str =
+    "SELECT id, top, who, day, grade, reach, edition FROM signoffs ORDER BY rowid";
+
+// The same of a table that has no column for editions.
+const SIGNOFFS_1: &str =
+    "SELECT id, top, who, day, grade, reach, NULL FROM signoffs ORDER BY rowid";
 
 const REPLIES: &str = "SELECT user, request, digest, status, body FROM replies ORDER BY rowid";
 
@@ -86,6 +93,7 @@ impl Stored for SignOffRow {
             day: day_at(row, 3)?,
             grade: text_at(alloc, row, 4)?,
             reach: digest_at(row, 5)?,
+            edition: edition_at(row, 6)?,
         })
     }
 }
@@ -126,6 +134,28 @@ fn table_rows<S: Alter, R: Stored>(
     read_all(alloc, &answer)
 }
 
+// Whether the sign-offs have a column for their editions.
+fn has_editions<S: Alter>(conn: &mut Connection<S>) -> Result<bool, Error> {
+    match conn.prepare("SELECT edition FROM signoffs") {
+        Ok(_) => Ok(true),
+        Err(Error::SqlInputError(_)) => Ok(false),
+        Err(error) => Err(error),
+    }
+}
+
+// The sign-offs. The column for their editions is read wherever it is there, also under a version
+// that has none: tables with both break a rule.
+fn read_signoffs<S: Alter>(
+    alloc: Global,
+    conn: &mut Connection<S>,
+) -> Result<Vec<SignOffRow>, Error> {
+    if has_editions(conn)? {
+        table_rows(alloc, conn, SIGNOFFS)
+    } else {
+        table_rows(alloc, conn, SIGNOFFS_1)
+    }
+}
+
 // All tables.
 pub(crate) fn read_tables<S: Alter>(
     alloc: Global,
@@ -135,7 +165,7 @@ pub(crate) fn read_tables<S: Alter>(
         meta: table_rows(alloc, conn, META)?,
         files: table_rows(alloc, conn, FILES)?,
         waivers: table_rows(alloc, conn, WAIVERS)?,
-        signoffs: table_rows(alloc, conn, SIGNOFFS)?,
+        signoffs: read_signoffs(alloc, conn)?,
         replies: table_rows(alloc, conn, REPLIES)?,
     })
 }

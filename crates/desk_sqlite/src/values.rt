@@ -3,7 +3,7 @@ ghost use Rattle.std.specs.Prelude.{◌≡◌, pos, IfOk};
 ghost use Rattle.sqlite_value.specs.Order.{column};
 ghost use Rattle.sqlite_value.specs.Value.{owned};
 ghost use Rattle.sqlite_value.specs.declared.value.Value.TheVariants.{Int, Text as TextValue, Blob as BlobValue};
-ghost use Rattle.desk_sqlite.specs.Columns.{end_day, number};
+ghost use Rattle.desk_sqlite.specs.Columns.{end_day, number, number_or_null};
 
 use desk_tables::{Day, Digest, Name};
 use sqlite::types::{Type, ValueRef};
@@ -110,6 +110,27 @@ pub(crate) fn end_at(row: &Row, at: usize) -> Result<Option<Day>, Error>
     }
 }
 
+// The number, which fits into a byte.
+fn small(number: u32, at: usize) -> Result<u8, Error>
+    ensures { IfOk result (λ n. n ≡ number) }
+{
+    match u8::try_from(number) {
+        Ok(number) => Ok(number),
+        Err(_) => Err(Error::IntegralValueOutOfRange(at)),
+    }
+}
+
+// The edition of a sign-off, or none where there is NULL.
+pub(crate) fn edition_at(row: &Row, at: usize) -> Result<Option<u8>, Error>
+    ensures { IfOk result (λ edition. column row.now at ≡ number_or_null edition) }
+{
+    let number: Option<u32> = row.get(at)?;
+    match number {
+        Some(number) => Ok(Some(small(number, at)?)),
+        None => Ok(None),
+    }
+}
+
 // ---- written
 
 pub(crate) fn text_value(text: &Text) -> ValueRef<'_>
@@ -153,6 +174,15 @@ pub(crate) fn end_value<'v>(ended: Option<Day>) -> ValueRef<'v>
 {
     match ended {
         Some(day) => day_value(day),
+        None => ValueRef::Null,
+    }
+}
+
+pub(crate) fn edition_value<'v>(edition: Option<u8>) -> ValueRef<'v>
+    ensures { owned result ≡ number_or_null edition }
+{
+    match edition {
+        Some(edition) => number_value(u32::from(edition)),
         None => ValueRef::Null,
     }
 }
