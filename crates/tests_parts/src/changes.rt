@@ -1,9 +1,11 @@
 //! Changes of the tables, as lines have them. Each digest is told from others by its first byte: 1
 //! for a file, 2 for the file of a waiver, 3 for what a sign-off reaches, and 9 for a request. All
-//! requests are those of `jo`.
+//! requests are those of `jo`, and sign-offs are of the desk's edition.
 
 use crate::stop::Stop;
-use desk_tables::{Change, Day, Digest, FileRow, Name, ReplyRow, SignOffRow, WaiverId, WaiverRow};
+use desk_tables::{
+    Change, Day, Digest, EDITION, FileRow, Name, ReplyRow, SignOffRow, WaiverId, WaiverRow,
+};
 use std::alloc::Global;
 use tests_reader::unescaped;
 use text_ground::text::Text;
@@ -104,6 +106,7 @@ fn signoff(alloc: Global, words: &[String]) -> Result<SignOffRow, Stop> {
         day: day(on)?,
         grade: text(alloc, word)?,
         reach: digest(3),
+        edition: Some(EDITION),
     })
 }
 

@@ -50,6 +50,13 @@ fn put_fault(alloc: Global, fault: KeeperFault, out: &mut Vec<u8>) -> Result<(),
     say(out, &format!(in alloc; "{fault:?}")?)
 }
 
+fn put_done(alloc: Global, done: Result<(), KeeperFault>, out: &mut Vec<u8>) -> Result<(), Stop> {
+    match done {
+        Ok(()) => say(out, "made"),
+        Err(fault) => put_fault(alloc, fault, out),
+    }
+}
+
 fn put_committed<K: Keeper>(
     alloc: Global,
     keeper: &mut K,
@@ -58,10 +65,7 @@ fn put_committed<K: Keeper>(
 ) -> Result<(), Stop> {
     let words = words_of(alloc, line)?;
     let change = change(alloc, &words)?;
-    match keeper.commit(&change) {
-        Ok(()) => say(out, "made"),
-        Err(fault) => put_fault(alloc, fault, out),
-    }
+    put_done(alloc, keeper.commit(&change), out)
 }
 
 /// A call, what it is answered, and how many calls have failed.
@@ -75,6 +79,7 @@ fn put_call<K: Keeper>(
     match line {
         "load" => put_loaded(alloc, keeper, false, out)?,
         "rows" => put_loaded(alloc, keeper, true, out)?,
+        "migrate" => put_done(alloc, keeper.migrate(), out)?,
         _ => put_committed(alloc, keeper, line, out)?,
     }
     say(out, &format!(in alloc; ", faults {}\n", keeper.faults())?)

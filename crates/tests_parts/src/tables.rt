@@ -44,6 +44,13 @@ fn put_end(alloc: Global, ended: Option<Day>, out: &mut Vec<u8>) -> Result<(), S
     }
 }
 
+fn put_edition(alloc: Global, edition: Option<u8>, out: &mut Vec<u8>) -> Result<(), Stop> {
+    match edition {
+        Some(edition) => say(out, &format!(in alloc; " edition {edition}")?),
+        None => Ok(()),
+    }
+}
+
 fn put_file(alloc: Global, row: &FileRow, out: &mut Vec<u8>) -> Result<(), Stop> {
     say(out, "\nfile")?;
     put_text(alloc, &row.name, out)?;
@@ -73,7 +80,8 @@ fn put_signoff(alloc: Global, row: &SignOffRow, out: &mut Vec<u8>) -> Result<(),
     put_name(&row.who, out)?;
     say(out, &format!(in alloc; " {}", row.day.number())?)?;
     put_text(alloc, &row.grade, out)?;
-    put_digest(alloc, &row.reach, out)
+    put_digest(alloc, &row.reach, out)?;
+    put_edition(alloc, row.edition, out)
 }
 
 fn put_reply(alloc: Global, row: &ReplyRow, out: &mut Vec<u8>) -> Result<(), Stop> {
