@@ -1,7 +1,7 @@
 #!/bin/sh
 # Opens a database of version 1, examples/stored/version_1.db, as a desk of the first edition made it: the server migrates it, requests
 # that were accepted before get the replies that were kept, a module is signed off under the second edition, and the database is read. What
-# it writes is in examples/stored/migration.out, where TODAY stands for the date.
+# it writes is in examples/stored/migration.out, where TODAY stands for the date of its last sign-off.
 #
 # Usage: examples/migration.sh [PORT]
 set -eu
@@ -22,7 +22,6 @@ for tool in curl sqlite3; do
     exit 70
   fi
 done
-today=$(date -u +%F)
 room=$(mktemp -d)
 trap 'rm -rf "$room"' EXIT
 cd "$room"
@@ -78,4 +77,4 @@ read_rows >before
   # A second start finds version 2.
   "$program" report top
 } >told
-sed "s/$today/TODAY/g" told
+sed 's/{"day":"[0-9-]*","edition":2/{"day":"TODAY","edition":2/' told

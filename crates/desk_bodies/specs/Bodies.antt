@@ -18,6 +18,11 @@ with_text lead text = lead ++ quoted text
 unfoldable pub with_number : List ℕ → ℕ → List ℕ
 with_number lead number = lead ++ decimal number
 
+-- the same, where there may be no number
+unfoldable pub with_number_or_null : List ℕ → Option ℕ → List ℕ
+with_number_or_null lead None = lead ++ codes "null"
+with_number_or_null lead (Some number) = with_number lead number
+
 -- what leads to a digest, and the digest in hexadecimal
 unfoldable pub with_digest : List ℕ → List ℕ → List ℕ
 with_digest lead digest = lead ++ codes "\"" ++ encode_lower digest ++ codes "\""
@@ -76,8 +81,9 @@ granted_text grade id =
 -- the members from `day` to `id`
 unfoldable pub signoff_front : SignOffRow → List ℕ
 signoff_front row =
-    with_day (codes "{\"day\":") row.day ++ with_text (codes ",\"grade\":") row.grade
-    ++ with_number (codes ",\"id\":") row.id
+    with_day (codes "{\"day\":") row.day
+    ++ with_number_or_null (codes ",\"edition\":") row.edition
+    ++ with_text (codes ",\"grade\":") row.grade ++ with_number (codes ",\"id\":") row.id
 
 -- the members from `reach` to `who`
 unfoldable pub signoff_end : SignOffRow → List ℕ

@@ -1,5 +1,7 @@
 -- Where the desk starts, and where it doesn't.
-use Rattle.std.proofs.Common.{◌≡◌, ◌<◌, ℕ, Option, Ok, Err, arith, refl, subst}
+use Rattle.std.proofs.Common.{◌≡◌, ◌∙◌, ◌<◌, ℕ, Option, None, Some, Ok, Err, ap, arith, refl, subst, sym}
+use Rattle.std.specs.Prelude.{IfSome, option_map}
+use Rattle.desk_tables.specs.Migrations.{current}
 use Rattle.desk_tables.specs.Tables.{Kept}
 use Rattle.desk_tables.specs.declared.rows.Table.{Table}
 use Rattle.desk_core.specs.Machine.{Machine}
@@ -18,6 +20,12 @@ over_tables told desk P start holds =
       sound = start.over.1;
       holds = subst P start.over.0 holds;
     }
+
+-- the keeper holds what the started desk keeps
+pub held_after : (told told' : Option Kept) (desk : Machine) → IsStart told (Ok desk) → told' ≡ option_map current told → IfSome told' (λ held. held ≡ desk.kept)
+held_after None told' desk start moved = subst (λ (it : Option Kept). IfSome it (λ held. held ≡ desk.kept)) (sym moved) tt
+held_after (Some tables) told' desk start moved =
+    subst (λ (it : Option Kept). IfSome it (λ held. held ≡ desk.kept)) (sym moved) (ap current start.are_told ∙ sym start.over.0)
 
 -- the line on a row that breaks a rule is written
 pub on_bad_tables : (told : Option Kept) (faults faults' : ℕ) (table : Table) (row status : ℕ) (taken : Taken) → IsStart told (Err (fault.BadTables table row)) → faults' ≡ faults → Writes (bad_tables table row) status taken → IsUnstarted told faults faults' status taken

@@ -1,9 +1,10 @@
 -- What commands over the tables answer.
 -- Worked examples: examples/server.sh.
-use Rattle.std.specs.Prelude.{◌≡◌, ℕ, ℤ, List, [], ◌++◌, ◌==◌, codes, decimal, Option, None, Some, Result, Ok, Err, IfSome, if◌then◌else◌}
+use Rattle.std.specs.Prelude.{◌≡◌, ℕ, ℤ, List, [], ◌++◌, ◌==◌, codes, decimal, Option, None, Some, option_map, Result, Ok, Err, IfSome, if◌then◌else◌}
 use Rattle.std.specs.Io.KnownBytes.{Appends}
 use Rattle.desk_io.specs.Causes.{Rose}
 use Rattle.desk_io.specs.declared.failed.Failed.{Failed}
+use Rattle.desk_tables.specs.Migrations.{current}
 use Rattle.desk_tables.specs.Rules.{broken_row}
 use Rattle.desk_tables.specs.Tables.{Kept}
 use Rattle.desk_tables.specs.declared.rows.Table.{Table}
@@ -46,14 +47,15 @@ report_outcome told = record {
   bytes = told.bytes;
 }
 
--- what is done over sound tables, those that the keeper tells, where it tells them
+-- what is done over sound tables, those that the keeper tells, where it tells them: those of version 1
+-- are migrated first
 pub record OverTables (told : Option Kept) (P : Kept → Type 0) : Type 0 where
   pub held : Kept
   pub are_told : IfSome told (λ tables. tables ≡ held)
   pub sound : broken_row held ≡ None
-  pub holds : P held
+  pub holds : P (current held)
 
--- the tables couldn't be read, there was no memory, or a row breaks a rule
+-- the tables couldn't be read or migrated, there was no memory, or a row breaks a rule
 pub data IsUnstarted (told : Option Kept) (faults faults' : ℕ) (status : ℕ) (taken : Taken) : Type 0 where
   Unkept : status ≡ UNKEPT → Rose faults faults' → Keeps taken → IsUnstarted told faults faults' status taken
   NoMemory : status ≡ NO_MEMORY → faults' ≡ faults → Keeps taken → IsUnstarted told faults faults' status taken
@@ -83,14 +85,15 @@ pub data IsReport (top : List ℕ) (kept : Kept) (before after : Around) (status
 abbrev pub IsUnasked : Around → Around → Type 0
 IsUnasked before after = (after.days ≡ before.days) × (after.clock ≡ before.clock)
 
--- what `report` answers: the desk didn't start, or what it answers over the tables
-pub data IsReported (top : List ℕ) (told : Option Kept) (before after : Around) (status : ℕ) (taken : Taken) : Type 0 where
+-- what `report` answers: the desk didn't start and the tables stay, or what it answers over the
+-- tables, which are migrated where they are of version 1
+pub data IsReported (top : List ℕ) (told told' : Option Kept) (before after : Around) (status : ℕ) (taken : Taken) : Type 0 where
   Unstarted :
       IsUnstarted told before.keeper after.keeper status taken → IsUnasked before after →
-      IsReported top told before after status taken
+      told' ≡ told → IsReported top told told' before after status taken
   Started :
-      OverTables told (λ held. IsReport top held before after status taken) →
-      IsReported top told before after status taken
+      OverTables told (λ kept. IsReport top kept before after status taken) →
+      told' ≡ option_map current told → IsReported top told told' before after status taken
 
 -- all links were served, or the door failed
 abbrev pub IsEnded : Result Unit Failed → ℕ → ℕ → ℕ → Type 0
@@ -116,7 +119,8 @@ pub record IsServing (port count : ℕ) (told' : Option Kept) (visits visits' : 
   pub linked : IsLinked port count visits visits' door door' before after status held kept
   pub silent : Keeps taken
 
--- what `serve` does: the desk didn't start and nothing changes, or what it does over the tables
+-- what `serve` does: the desk didn't start and nothing changes, or what it does over the tables,
+-- which are migrated first
 pub data IsServed (port count : ℕ) (told told' : Option Kept) (visits visits' : Option Visits) (door door' : ℕ) (before after : Around) (status : ℕ) (taken : Taken) : Type 0 where
   Unopened :
       IsUnstarted told before.keeper after.keeper status taken → IsUnasked before after →
@@ -137,7 +141,6 @@ abbrev pub IsCommanded : Option Order → Option Kept → Option Kept → Option
 IsCommanded None told told' visits visits' door door' before after status taken =
     IsLeft told told' visits visits' door door' before after
 IsCommanded (Some (Report top)) told told' visits visits' door door' before after status taken =
-    IsReported top told before after status taken
-    × (told' ≡ told) × (visits' ≡ visits) × (door' ≡ door)
+    IsReported top told told' before after status taken × (visits' ≡ visits) × (door' ≡ door)
 IsCommanded (Some (Serve port count)) told told' visits visits' door door' before after status taken =
     IsServed port count told told' visits visits' door door' before after status taken

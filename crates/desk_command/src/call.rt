@@ -22,8 +22,8 @@ use std::alloc::Global;
 /// its statuses, and it answers words that are no command. `report TOP` answers 0 where each
 /// finding of the first grade has a waiver that stands on the clock's day, 1 where one hasn't, 2
 /// where the module has no design, and 7 where the clock failed. `serve PORT COUNT` answers 0 where
-/// so many connections were served, and 8 where the door failed. Both answer 6 where the keeper
-/// failed, 14 where a row of its tables breaks a rule, and 20 where memory ran out; 5 is answered
+/// so many connections were served, and 8 where the door failed. Both migrate tables of version 1
+/// before all else. They answer 6 where the keeper failed to load or to migrate them, 14 where a row of its tables breaks a rule, and 20 where memory ran out; 5 is answered
 /// where a write failed.
 pub fn desk<F: Shelf, K: Keeper, C: Clock, D: Door, S: Sink>(
     alloc: Global,
@@ -52,12 +52,10 @@ pub fn desk<F: Shelf, K: Keeper, C: Clock, D: Door, S: Sink>(
 
     // The commands over the tables. A served reply that signs a module clean has the headline too.
     ensures report { (top : List ℕ) → order (texts words.now) ≡ Some (Report top)
-        → IsReported top (K.tables keeper.old)
+        → IsReported top (K.tables keeper.old) (K.tables keeper.new)
         (around (C.days clock.old) (C.faults clock.old) (K.count keeper.old))
         (around (C.days clock.new) (C.faults clock.new) (K.count keeper.new))
         result (taken_between (S.taken out.old) (S.taken out.new)) }
-    ensures unchanged { (top : List ℕ) → order (texts words.now) ≡ Some (Report top)
-        → K.tables keeper.new ≡ K.tables keeper.old }
     ensures no_visits { (top : List ℕ) → order (texts words.now) ≡ Some (Report top)
         → D.visits door.new ≡ D.visits door.old }
     ensures no_door { (top : List ℕ) → order (texts words.now) ≡ Some (Report top)

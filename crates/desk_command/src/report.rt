@@ -80,7 +80,7 @@ fn report_over<C: Clock, S: Sink>(
 }
 
 /// Tells what the rules say of a module of the keeper's files, with the waivers that stand on the
-/// clock's day.
+/// clock's day. Tables of version 1 are migrated before the clock is asked.
 pub(crate) fn report<K: Keeper, C: Clock, S: Sink>(
     alloc: Global,
     top: &str,
@@ -88,11 +88,10 @@ pub(crate) fn report<K: Keeper, C: Clock, S: Sink>(
     clock: &mut C,
     out: &mut S,
 ) -> u8
-    ensures reported { IsReported top.now (K.tables keeper.old)
+    ensures reported { IsReported top.now (K.tables keeper.old) (K.tables keeper.new)
         (around (C.days clock.old) (C.faults clock.old) (K.count keeper.old))
         (around (C.days clock.new) (C.faults clock.new) (K.count keeper.new))
         result (taken_between (S.taken out.old) (S.taken out.new)) }
-    ensures tables { K.tables keeper.new ≡ K.tables keeper.old }
     ensures load_failed { K.count keeper.old < K.count keeper.new → result ≡ UNKEPT }
     ensures day_failed { C.faults clock.old < C.faults clock.new → result ≡ NO_DAY }
     ensures later_keeper { K.count keeper.old ≤ K.count keeper.new }

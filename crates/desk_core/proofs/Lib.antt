@@ -10,5 +10,6 @@ pub mod Rules
 pub mod Same
 pub mod Settled
 pub mod Started
+pub mod Migrated
 pub mod Statuses
 pub mod Told

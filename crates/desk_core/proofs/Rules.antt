@@ -1,7 +1,7 @@
--- Tables that break no rule break none after a request is served.
-use Rattle.std.proofs.Common.{◌≡◌, ◌∙◌, ℕ, List, None, refl, sym, ap}
+-- Tables of version 2 that break no rule are such tables after a request is served.
+use Rattle.std.proofs.Common.{◌≡◌, ◌∙◌, ℕ, List, refl, sym, ap}
 use Rattle.std.specs.Prelude.{ℤ}
-use Rattle.desk_tables.specs.Rules.{broken_row}
+use Rattle.desk_tables.specs.Migrations.{AreReady}
 use Rattle.desk_tables.specs.Tables.{Kept}
 use Rattle.desk_tables.specs.declared.change.Change.{Change}
 use Rattle.source_file.specs.declared.SourceFile.{SourceFile}
@@ -60,14 +60,14 @@ pub accepted_from : (request : Request) (today : ℤ) (kept : Kept) (change : Ch
 accepted_from request today kept change is =
     settled_from request today kept change (request_outcome request today kept) refl is
 
-served_keeps : (request : Request) (today : ℤ) (kept kept' : Kept) (answer : Said) → IsLawful request → broken_row kept ≡ None → IsServed request today kept kept' answer → broken_row kept' ≡ None
-served_keeps request today kept kept' answer lawful none (Answered told is) = none
-served_keeps request today kept kept' answer lawful none (Accepted change is) =
-    rules_kept request today kept change lawful none (accepted_from request today kept change is)
+served_keeps : (request : Request) (today : ℤ) (kept kept' : Kept) (answer : Said) → IsLawful request → AreReady kept → IsServed request today kept kept' answer → AreReady kept'
+served_keeps request today kept kept' answer lawful ready (Answered told is) = ready
+served_keeps request today kept kept' answer lawful ready (Accepted change is) =
+    rules_kept request today kept change lawful ready (accepted_from request today kept change is)
 
--- whatever a request comes to, tables that break no rule break none after it
-pub serves_keeps : (request : Request) (today : ℤ) (faults faults' : ℕ) (kept kept' : Kept) (answer : Said) → IsLawful request → broken_row kept ≡ None → Serves request today faults faults' kept kept' answer → broken_row kept' ≡ None
-serves_keeps request today faults faults' kept kept' answer lawful none (Served kept'' said served calm) =
-    served_keeps request today kept kept'' said lawful none served
-serves_keeps request today faults faults' kept kept' answer lawful none (Unavailable rose) = none
-serves_keeps request today faults faults' kept kept' answer lawful none (OutOfMemory calm) = none
+-- so it is whatever a request comes to
+pub serves_keeps : (request : Request) (today : ℤ) (faults faults' : ℕ) (kept kept' : Kept) (answer : Said) → IsLawful request → AreReady kept → Serves request today faults faults' kept kept' answer → AreReady kept'
+serves_keeps request today faults faults' kept kept' answer lawful ready (Served kept'' said served calm) =
+    served_keeps request today kept kept'' said lawful ready served
+serves_keeps request today faults faults' kept kept' answer lawful ready (Unavailable rose) = ready
+serves_keeps request today faults faults' kept kept' answer lawful ready (OutOfMemory calm) = ready

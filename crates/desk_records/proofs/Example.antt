@@ -16,7 +16,7 @@ abbrev row : ReplyRow
 row = record { user = codes "jo"; request = codes "drop-1"; digest = 1 ∷ []; status = 200; body = codes "{}" }
 
 abbrev kept : Kept
-kept = record { meta = record { version = 1 } ∷ []; files = []; waivers = []; signoffs = []; replies = row ∷ [] }
+kept = record { meta = record { version = 2 } ∷ []; files = []; waivers = []; signoffs = []; replies = row ∷ [] }
 
 abbrev drop_of : List ℕ → List ℕ → Request
 drop_of label its_digest =

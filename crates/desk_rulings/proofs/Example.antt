@@ -48,7 +48,7 @@ waiver day = record {
 
 abbrev kept_with : List ℕ → List WaiverRow → Kept
 kept_with its_digest rows = record {
-  meta = record { version = 1 } ∷ [];
+  meta = record { version = 2 } ∷ [];
   files = file its_digest ∷ [];
   waivers = rows;
   signoffs = [];

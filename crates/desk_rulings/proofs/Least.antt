@@ -12,6 +12,7 @@ use Rattle.std.proofs.lemmas.Slice.Eq.{bytes_eq-Decides}
 use Rattle.rtl_rule.specs.Rows.{row_of, rule_at, rule_number, rule_with, rules}
 use Rattle.rtl_rule.specs.declared.rule.Rule.{Rule}
 use Rattle.rtl_rule.proofs.Rules.{coded, number_tells}
+use Rattle.desk_tables.specs.Editions.{version_of}
 use Rattle.desk_tables.specs.Rules.{broken_row, broken_meta, first_broken, in_table, is_sound_waiver, or_else, reply_breaks, signoff_breaks, waiver_breaks}
 use Rattle.desk_tables.specs.Tables.{Kept}
 use Rattle.desk_tables.specs.declared.rows.Table.{Table}
@@ -143,7 +144,7 @@ id_from_none place = ap (λ (m : ℕ). record { 0 = m }) (omega arith)
 
 pub least_number : (kept : Kept) (site : Site) (today : ℤ) → broken_row kept ≡ None → number (standing_in today kept.waivers site) ≡ standing site.key site.digest today (book_of kept.waivers)
 least_number kept site today sound =
-    let behind : or_else (in_table Waivers (first_broken waiver_breaks [] kept.waivers)) (or_else (in_table SignOffs (first_broken signoff_breaks [] kept.signoffs)) (in_table Replies (first_broken reply_breaks [] kept.replies))) ≡ None = (either _ _ (either (in_table Meta (broken_meta kept.meta)) _ sound).1).1 in
+    let behind : or_else (in_table Waivers (first_broken waiver_breaks [] kept.waivers)) (or_else (in_table SignOffs (first_broken (signoff_breaks (version_of kept.meta)) [] kept.signoffs)) (in_table Replies (first_broken reply_breaks [] kept.replies))) ≡ None = (either _ _ (either (in_table Meta (broken_meta kept.meta)) _ sound).1).1 in
     least_from today site [] kept.waivers (unfound Waivers (first_broken waiver_breaks [] kept.waivers) (either _ _ behind).0)
     ∙ mapped_same (λ place. id_at (0 + place)) id_at (position (book_covers site.key site.digest today) (book_of kept.waivers)) id_from_none
 

@@ -8,6 +8,7 @@ use Rattle.rtl_rule.specs.Rows.{has_first_grade}
 use Rattle.rtl_rule.specs.declared.finding.Finding.{Finding}
 use Rattle.desk_rows.specs.declared.Row.{Row}
 use Rattle.desk_tables.specs.Changes.{has_name}
+use Rattle.desk_tables.specs.Editions.{EDITION}
 use Rattle.desk_tables.specs.Grades.{grade_word}
 use Rattle.desk_tables.specs.Tables.{Kept}
 use Rattle.desk_tables.specs.declared.change.Change.TheVariants as change
@@ -46,7 +47,7 @@ findings_of rows = map (λ one. one.finding) rows
 abbrev pub grade_of : List Row → Grade
 grade_of rows = if has_first_grade (findings_of rows) then Waived else Clean
 
--- the next row of the sign-offs
+-- the next row of the sign-offs, of the desk's edition
 abbrev pub signoff_row : List ℕ → Request → ℤ → Kept → Verdict → SignOffRow
 signoff_row top request today kept verdict = record {
   id = length kept.signoffs + 1;
@@ -55,6 +56,7 @@ signoff_row top request today kept verdict = record {
   day = today;
   grade = grade_word (grade_of verdict.rows);
   reach = reach_of (rows_of kept.files verdict.reached);
+  edition = Some EDITION;
 }
 
 abbrev pub accepted : SignOffRow → Request → Outcome

@@ -17,7 +17,7 @@ use desk_json::{push_bytes, push_hex};
 use desk_records::{Decision, kept_row};
 use desk_requests::Request;
 use desk_rows::Row;
-use desk_tables::{Change, Day, Digest, FileRow, Grade, Name, SignOffRow, Tables};
+use desk_tables::{Change, Day, Digest, EDITION, FileRow, Grade, Name, SignOffRow, Tables};
 use itoa::Buffer;
 use rtl_rule::rule::first_grade;
 use sha2::{Digest as _, Sha256};
@@ -130,6 +130,7 @@ fn signoff_row(
         day: today,
         grade: Text::from_bytes(alloc, grade_of(ruled.rows).word())?,
         reach: reach_of(alloc, &tables.files, ruled.reached)?,
+        edition: Some(EDITION),
     })
 }
 

@@ -17,6 +17,7 @@ use Rattle.waiver_book.specs.declared.fault.WaiveFault.{WaiveFault}
 use Rattle.waiver_book.specs.declared.fault.RevokeFault.{RevokeFault}
 use Rattle.waiver_book.specs.declared.fault.RevokeFault.TheVariants.{NoSuchWaiver, NotOwner, Ended}
 use Rattle.desk_tables.specs.Changes.{has_id, has_name, reply_of, without_file}
+use Rattle.desk_tables.specs.Editions.{EDITION, VERSION, is_edition, version_of}
 use Rattle.desk_tables.specs.Grades.{grade_word, is_grade_word}
 use Rattle.desk_tables.specs.Rules.{all_bytes, is_sound_waiver}
 use Rattle.desk_tables.specs.Tables.{Kept}
@@ -212,11 +213,15 @@ worded : (grade : Grade) → is_grade_word (grade_word grade) ≡ true
 worded Clean = refl
 worded Waived = refl
 
-signed_holds : (top : List ℕ) (request : Request) (today : ℤ) (kept : Kept) (verdict : Verdict) (edited : Option FileRow) → AreSound kept → is_utf8 top ≡ true → length kept.signoffs < MAX_SIGN_OFFS → Holds kept request (unless_edited edited (accepted (signoff_row top request today kept verdict) request))
-signed_holds top request today kept verdict (Some row) sound utf8 room = tt
-signed_holds top request today kept verdict None sound utf8 room = (
-  signoff_more kept.signoffs (signoff_row top request today kept verdict)
-      (and_from _ _ utf8 (worded (grade_of verdict.rows))) room refl sound.signoffs,
+-- the desk's edition is one that a sign-off of version 2 may say
+own_edition : (version : ℕ) → version ≡ VERSION → is_edition version (Some EDITION) ≡ true
+own_edition version is = ap (λ it. is_edition it (Some EDITION)) is
+
+signed_holds : (top : List ℕ) (request : Request) (today : ℤ) (kept : Kept) (verdict : Verdict) → version_of kept.meta ≡ VERSION → (edited : Option FileRow) → AreSound kept → is_utf8 top ≡ true → length kept.signoffs < MAX_SIGN_OFFS → Holds kept request (unless_edited edited (accepted (signoff_row top request today kept verdict) request))
+signed_holds top request today kept verdict version (Some row) sound utf8 room = tt
+signed_holds top request today kept verdict version None sound utf8 room = (
+  signoff_more (version_of kept.meta) kept.signoffs (signoff_row top request today kept verdict)
+      (and_from _ _ (and_from _ _ utf8 (worded (grade_of verdict.rows))) (own_edition (version_of kept.meta) version)) room refl sound.signoffs,
   reply_201 request _,
 )
 
@@ -224,8 +229,8 @@ left_or_signed : (left : ℕ) (stand : Bool) (kept : Kept) (request : Request) (
 left_or_signed left true kept request it holds = tt
 left_or_signed left false kept request it holds = holds
 
-pub signoff_holds : (top : List ℕ) (request : Request) (today : ℤ) (kept : Kept) (verdict : Verdict) → AreSound kept → is_utf8 top ≡ true → length kept.signoffs < MAX_SIGN_OFFS → Holds kept request (signoff_outcome top request today kept verdict)
-signoff_holds top request today kept verdict sound utf8 room =
+pub signoff_holds : (top : List ℕ) (request : Request) (today : ℤ) (kept : Kept) (verdict : Verdict) → version_of kept.meta ≡ VERSION → AreSound kept → is_utf8 top ≡ true → length kept.signoffs < MAX_SIGN_OFFS → Holds kept request (signoff_outcome top request today kept verdict)
+signoff_holds top request today kept verdict version sound utf8 room =
     let left : ℕ = left_of (standing_of today kept verdict) in
     left_or_signed left (nat_lt 0 left) kept request _
-    (signed_holds top request today kept verdict (edited_by request.user (rows_of kept.files verdict.reached)) sound utf8 room)
+    (signed_holds top request today kept verdict version (edited_by request.user (rows_of kept.files verdict.reached)) sound utf8 room)

@@ -27,9 +27,9 @@ waiver_more rows row sound room numbered none =
     (or_from _ _ (or_from _ _ (not_from_true _ sound) (lt-leb MAX_WAIVERS (length rows) room))
     (ap (λ n. not (n == length rows + 1)) numbered ∙ next_number (length rows)))
 
-pub signoff_more : (rows : List SignOffRow) (row : SignOffRow) → is_sound_signoff row ≡ true → length rows < MAX_SIGN_OFFS → row.id ≡ length rows + 1 → first_broken signoff_breaks [] rows ≡ None → first_broken signoff_breaks [] (rows ++ row ∷ []) ≡ None
-signoff_more rows row sound room numbered none =
-    unbroken_more signoff_breaks [] rows row none
+pub signoff_more : (version : ℕ) (rows : List SignOffRow) (row : SignOffRow) → is_sound_signoff version row ≡ true → length rows < MAX_SIGN_OFFS → row.id ≡ length rows + 1 → first_broken (signoff_breaks version) [] rows ≡ None → first_broken (signoff_breaks version) [] (rows ++ row ∷ []) ≡ None
+signoff_more version rows row sound room numbered none =
+    unbroken_more (signoff_breaks version) [] rows row none
     (or_from _ _ (or_from _ _ (not_from_true _ sound) (lt-leb MAX_SIGN_OFFS (length rows) room))
     (ap (λ n. not (n == length rows + 1)) numbered ∙ next_number (length rows)))
 

@@ -1,12 +1,15 @@
 -- Tables that break no rule break none after what is accepted.
-use Rattle.std.proofs.Common.{◌≡◌, ◌∙◌, ℕ, ◌<◌, true, false, List, [], ◌∷◌, ◌++◌, length, Option, Some, None, sym, ap, subst, inl, inr}
+use Rattle.std.proofs.Common.{◌≡◌, ◌∙◌, ℕ, ◌<◌, true, false, List, [], ◌∷◌, ◌++◌, length, Option, Some, None, refl, sym, ap, subst, inl, inr}
 use Rattle.std.specs.Prelude.{⊤, ℤ, find}
 use Rattle.std.specs.Str.{is_utf8}
 use Rattle.std.proofs.lemmas.Bool.{and_from, cases_Bool, cond-false, leb-false}
 use Rattle.desk_tables.specs.Changes.{changed, has_name, reply_of}
+use Rattle.desk_tables.specs.Editions.{VERSION, version_of}
+use Rattle.desk_tables.specs.Migrations.{AreReady}
 use Rattle.desk_tables.specs.Rules.{broken_row, first_broken, reply_breaks}
 use Rattle.desk_tables.specs.Tables.{Kept}
 use Rattle.desk_tables.specs.declared.change.Change.{Change}
+use Rattle.desk_tables.specs.declared.change.Change.TheVariants.{PutFile, DropFile, Grant, Revoke, SignOff}
 use Rattle.desk_tables.specs.declared.rows.FileRow.{FileRow}
 use Rattle.desk_tables.specs.declared.rows.ReplyRow.{ReplyRow}
 use Rattle.desk_tables.specs.Limits.{MAX_SIGN_OFFS, MAX_WAIVERS}
@@ -83,19 +86,33 @@ waived_kept request today kept change it verdict lawful sound asks is granted =
     (subst (Holds kept request) granted
     (waive_holds it request today kept verdict sound (subst IsLawfulAsk asks lawful.asks) room))
 
-signed_kept : (request : Request) (today : ℤ) (kept : Kept) (change : Change) (top : List ℕ) (verdict : Verdict) → IsLawful request → AreSound kept → request.ask ≡ ask.SignOff top → request_outcome request today kept ≡ Open → signoff_outcome top request today kept verdict ≡ Done change → broken_row (changed change kept) ≡ None
-signed_kept request today kept change top verdict lawful sound asks is signed =
+signed_kept : (request : Request) (today : ℤ) (kept : Kept) (change : Change) (top : List ℕ) (verdict : Verdict) → IsLawful request → version_of kept.meta ≡ VERSION → AreSound kept → request.ask ≡ ask.SignOff top → request_outcome request today kept ≡ Open → signoff_outcome top request today kept verdict ≡ Done change → broken_row (changed change kept) ≡ None
+signed_kept request today kept change top verdict lawful version sound asks is signed =
     let new : IsNew request today kept Open = new_from request today kept Open tt (ap changes asks) is in
     let room : length kept.signoffs < MAX_SIGN_OFFS =
     leb-false MAX_SIGN_OFFS (length kept.signoffs) (ap (λ its. fills_signoffs its (length kept.signoffs)) (sym asks) ∙ new.room.signoffs) in
     kept_by request today kept Open change lawful sound new
     (subst (Holds kept request) signed
-    (signoff_holds top request today kept verdict sound (subst IsLawfulAsk asks lawful.asks) room))
+    (signoff_holds top request today kept verdict version sound (subst IsLawfulAsk asks lawful.asks) room))
 
-pub rules_kept : (request : Request) (today : ℤ) (kept : Kept) (change : Change) → IsLawful request → broken_row kept ≡ None → IsAccepted request today kept change → broken_row (changed change kept) ≡ None
-rules_kept request today kept change lawful none (ByTables is) =
-    by_tables_kept request today kept change lawful (sound_from kept none) is
-rules_kept request today kept change lawful none (Waived it verdict asks is granted) =
-    waived_kept request today kept change it verdict lawful (sound_from kept none) asks is granted
-rules_kept request today kept change lawful none (SignedOff top verdict asks is signed) =
-    signed_kept request today kept change top verdict lawful (sound_from kept none) asks is signed
+unbroken : (request : Request) (today : ℤ) (kept : Kept) (change : Change) → IsLawful request → AreReady kept → IsAccepted request today kept change → broken_row (changed change kept) ≡ None
+unbroken request today kept change lawful ready (ByTables is) =
+    by_tables_kept request today kept change lawful (sound_from kept ready.sound) is
+unbroken request today kept change lawful ready (Waived it verdict asks is granted) =
+    waived_kept request today kept change it verdict lawful (sound_from kept ready.sound) asks is granted
+unbroken request today kept change lawful ready (SignedOff top verdict asks is signed) =
+    signed_kept request today kept change top verdict lawful ready.version (sound_from kept ready.sound) asks is signed
+
+-- the version stays
+same_version : (change : Change) (kept : Kept) → version_of (changed change kept).meta ≡ version_of kept.meta
+same_version (PutFile row reply) kept = refl
+same_version (DropFile name reply) kept = refl
+same_version (Grant row reply) kept = refl
+same_version (Revoke id day reply) kept = refl
+same_version (SignOff row reply) kept = refl
+
+pub rules_kept : (request : Request) (today : ℤ) (kept : Kept) (change : Change) → IsLawful request → AreReady kept → IsAccepted request today kept change → AreReady (changed change kept)
+rules_kept request today kept change lawful ready is = record {
+  version = same_version change kept ∙ ready.version;
+  sound = unbroken request today kept change lawful ready is;
+}

@@ -2,6 +2,7 @@
 use Rattle.std.proofs.Common.{◌≡◌, ℕ, [], ◌∷◌, ◌++◌, Option, Some, None, refl}
 use Rattle.std.specs.Prelude.{⊤}
 use Rattle.desk_tables.specs.Changes.{changed, reply_of, with_file}
+use Rattle.desk_tables.specs.Editions.{version_of}
 use Rattle.desk_tables.specs.Rules.{broken_meta, broken_row, file_breaks, first_broken, in_table, or_else, reply_breaks, signoff_breaks, waiver_breaks}
 use Rattle.desk_tables.specs.Tables.{Kept}
 use Rattle.desk_tables.specs.declared.change.Change.{Change}
@@ -16,7 +17,7 @@ pub record AreSound (kept : Kept) : Type 0 where
   pub meta : broken_meta kept.meta ≡ None
   pub files : first_broken file_breaks [] kept.files ≡ None
   pub waivers : first_broken waiver_breaks [] kept.waivers ≡ None
-  pub signoffs : first_broken signoff_breaks [] kept.signoffs ≡ None
+  pub signoffs : first_broken (signoff_breaks (version_of kept.meta)) [] kept.signoffs ≡ None
   pub replies : first_broken reply_breaks [] kept.replies ≡ None
 
 pub or_else_none : {A : Type 0} (one other : Option A) → or_else one other ≡ None → (one ≡ None) × (other ≡ None)
@@ -47,7 +48,7 @@ none_of meta files waivers signoffs replies a b c d e = simp (a, b, c, d, e)
 
 pub sound_to : (kept : Kept) → AreSound kept → broken_row kept ≡ None
 sound_to kept sound =
-    none_of (broken_meta kept.meta) (first_broken file_breaks [] kept.files) (first_broken waiver_breaks [] kept.waivers) (first_broken signoff_breaks [] kept.signoffs) (first_broken reply_breaks [] kept.replies)
+    none_of (broken_meta kept.meta) (first_broken file_breaks [] kept.files) (first_broken waiver_breaks [] kept.waivers) (first_broken (signoff_breaks (version_of kept.meta)) [] kept.signoffs) (first_broken reply_breaks [] kept.replies)
     sound.meta sound.files sound.waivers sound.signoffs sound.replies
 
 -- the rows of a change break no rule in their table
@@ -56,7 +57,7 @@ RowsHold (PutFile row reply) kept = first_broken file_breaks [] (with_file row k
 RowsHold (DropFile name reply) kept = ⊤
 RowsHold (Grant row reply) kept = first_broken waiver_breaks [] (kept.waivers ++ row ∷ []) ≡ None
 RowsHold (Revoke id day reply) kept = ⊤
-RowsHold (SignOff row reply) kept = first_broken signoff_breaks [] (kept.signoffs ++ row ∷ []) ≡ None
+RowsHold (SignOff row reply) kept = first_broken (signoff_breaks (version_of kept.meta)) [] (kept.signoffs ++ row ∷ []) ≡ None
 
 pub sound_after : (change : Change) (kept : Kept) → AreSound kept → RowsHold change kept → first_broken reply_breaks [] (kept.replies ++ reply_of change ∷ []) ≡ None → AreSound (changed change kept)
 sound_after (PutFile row reply) kept sound rows replies = record {

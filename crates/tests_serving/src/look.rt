@@ -1,7 +1,7 @@
 //! What a row looks at.
 
 use crate::stop::Stop;
-use crate::{calls, edits, failing, fronts, starts};
+use crate::{calls, edits, failing, fronts, starts, versions};
 use std::io;
 use tests_reader::Row;
 
@@ -20,6 +20,7 @@ fn told(rt: &(impl Print + AllocGlobal), row: &Row) -> Result<(), Stop> {
         "again" => failing::again(rt, row, words),
         "edits" => edits::told(rt, row, words),
         "orders" => edits::orders(rt, row, words),
+        "old" => versions::told(rt, row, words),
         "start" => starts::started(rt, row, words),
         "crowded" => starts::crowded(rt, words),
         _ => Err(Stop::NoLook),

@@ -24,6 +24,9 @@
 //!   calls fails, beside what they are answered where none does.
 //! - `edits TOP..`: rulings of the tops behind each request, beside those of a desk that begins
 //!   with the same tables. `orders TOP..`: the same where four requests come in every order.
+//! - `old VERSION EDITION WORD..`: the command over the tables that the requests left, with this
+//!   version, and this edition in each sign-off, or none where it is `-`; `serve` gets the requests
+//!   again. `! old keeper N` has the Nth call of its keeper fail.
 //! - `start WORD..`: the program's start with these words of its command line; `! line unread` has
 //!   the line not be read, and `! line memory` has no memory for it. `crowded WORD..`: a command
 //!   over a shelf that has no memory.
@@ -38,6 +41,7 @@ mod outside;
 mod requests;
 mod starts;
 mod stop;
+mod versions;
 
 use std::io;
 use std::io::BufRead;

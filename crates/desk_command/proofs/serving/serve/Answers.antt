@@ -1,7 +1,12 @@
 use Rattle.std.proofs.Common.{refl}
 use Rattle.desk_command.specs.Commands.{Unopened}
 use Rattle.desk_command.proofs.Served.{opened, same_visits}
+use Rattle.desk_command.proofs.Started.{held_after}
 use Rattle.desk_command.proofs.serving.serve.Goals as goal
+
+pub open-requires : goal.open-requires
+open-requires g c =
+    held_after (g.K.Keeper.tables c.args.keeper.now) (g.K.Keeper.tables c.start.new.keeper) c.in-Ok.desk c.in-Ok.ensures.started c.in-Ok.ensures.migrated
 
 pub returns-in-Err-clause-served : goal.returns-in-Err-clause-served
 returns-in-Err-clause-served g c =

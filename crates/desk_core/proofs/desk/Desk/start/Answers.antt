@@ -6,7 +6,7 @@ use Rattle.desk_core.proofs.desk.Desk.start.Goals as goal
 
 pub returns-in-Ok-clause-started : goal.returns-in-Ok-clause-started
 returns-in-Ok-clause-started g c =
-    starts_over (g.K.Keeper.tables c.args.keeper.now) (kept_of c.in-Ok.tables) c.desk_over.result c.in-Ok.ensures.told c.desk_over.ensures.over
+    starts_over (g.K.Keeper.tables c.args.keeper.now) (kept_of c.in-Ok.tables) c.start_over.result c.in-Ok.ensures.told c.start_over.ensures.over
 
 pub returns-in-Err-Failed-clause-started : goal.returns-in-Err-Failed-clause-started
 returns-in-Err-Failed-clause-started g c =
