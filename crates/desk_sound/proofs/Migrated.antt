@@ -1,5 +1,5 @@
 -- Tables that break no rule break none once they are migrated, and those of version 2 stay.
-use Rattle.std.proofs.Common.{◌≡◌, ◌∙◌, ℕ, ◌+◌, true, false, not, ◌||◌, List, [], ◌∷◌, ◌++◌, length, map, Some, None, refl, sym, ap, subst, inl, inr, eqb-true, arith}
+use Rattle.std.proofs.Common.{◌≡◌, ◌∙◌, ℕ, ◌+◌, true, false, not, ◌||◌, List, [], ◌∷◌, ◌++◌, length, map, None, refl, sym, ap, subst, inl, inr, eqb-true, true≢false, arith}
 use Rattle.std.specs.Prelude.{nat_le}
 use Rattle.std.specs.Bool.{◌==◌}
 use Rattle.std.proofs.lemmas.Bool.{and_from, and_parts, cases_Bool, cond-false, cond-true, not-false, not_from_true, or_from, or_parts}
@@ -31,7 +31,7 @@ one_row (row ∷ []) none = record {
 }
 one_row (row ∷ more ∷ rows) none =
     let second : meta_breaks (row ∷ []) more ≡ false = first_sound meta_breaks (row ∷ []) more rows (rest_sound meta_breaks [] row (more ∷ rows) none) in
-    let no : true ≡ false = (or_parts _ _ second).1 in absurd (cc)
+    absurd (true≢false (or_parts _ _ second).1)
 
 meta_migrated : (meta : List MetaRow) → IsOneRow meta → broken_meta (map with_version meta) ≡ None
 meta_migrated meta one = ap (λ it. broken_meta (map with_version it)) one.is

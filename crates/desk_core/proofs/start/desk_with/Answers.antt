@@ -1,5 +1,4 @@
 use Rattle.std.proofs.Common.{◌≡◌, ◌∙◌, ap, sym, subst}
-use Rattle.source_file.specs.declared.SourceFile.{SourceFile}
 use Rattle.desk_tables.specs.Migrations.{current}
 use Rattle.desk_tables.specs.Tables.{Kept, kept_of}
 use Rattle.desk_core.specs.Files.{AreFilesOf}
