@@ -2,6 +2,8 @@
 use Rattle.std.proofs.Common.{◌≡◌, [], ◌∷◌, codes, refl, true, false, None, Some, Err}
 use Rattle.serde_json.specs.Data.{member, no_members, number, object, string, unsigned}
 use Rattle.desk_http.specs.Aims.{waiver_named}
+use Rattle.desk_http.specs.Expects.{waits}
+use Rattle.desk_http.specs.Hosts.{is_local_host, is_local_origin, served_length}
 use Rattle.desk_http.specs.Labels.{is_label, is_word}
 use Rattle.desk_http.specs.Lines.{stated_length}
 use Rattle.desk_http.specs.Places.{is_place}
@@ -9,7 +11,7 @@ use Rattle.desk_http.specs.Refusals.{refusal_line}
 use Rattle.desk_http.specs.Routes.{before, behind, route}
 use Rattle.desk_http.specs.Waivers.{member_count, text_at}
 use Rattle.desk_http.specs.declared.fault.BadRequest.TheVariants.{Memory, NotFound}
-use Rattle.desk_http.specs.declared.route.Action.TheVariants.{Ruling, PutFile}
+use Rattle.desk_http.specs.declared.route.Action.TheVariants.{FileText, PutFile, Reach, Ruling}
 
 nothing_there : refusal_line NotFound ≡ codes "Not Found\n"
 nothing_there = refl
@@ -22,6 +24,18 @@ no_memory = refl
 a_ruling : route (codes "GET") (codes "/modules/top/ruling") ≡ Some (Ruling, codes "top")
 unfolding before behind
 a_ruling = refl
+
+a_text : route (codes "GET") (codes "/files/tx.v/text") ≡ Some (FileText, codes "tx.v")
+unfolding before behind
+a_text = refl
+
+a_reach : route (codes "GET") (codes "/modules/top/reach") ≡ Some (Reach, codes "top")
+unfolding before behind
+a_reach = refl
+
+a_text_is_not_put : route (codes "PUT") (codes "/files/tx.v/text") ≡ Some (PutFile, codes "tx.v/text")
+unfolding before behind
+a_text_is_not_put = refl
 
 an_escape_stays : route (codes "PUT") (codes "/files/a%2Ev") ≡ Some (PutFile, codes "a%2Ev")
 unfolding before behind
@@ -50,6 +64,48 @@ two_lengths = refl
 
 a_signed_length : stated_length ((codes "Content-Length", codes "+2") ∷ []) ≡ None
 a_signed_length = refl
+
+-- ---- hosts
+
+a_port : is_local_host (codes "LocalHost:8765") ≡ true
+a_port = refl
+
+no_port : is_local_host (codes "127.0.0.1") ≡ true
+no_port = refl
+
+a_bracketed_address : is_local_host (codes "[::1]:80") ≡ true
+a_bracketed_address = refl
+
+another_host : is_local_host (codes "127.0.0.1.example.org:8765") ≡ false
+another_host = refl
+
+an_origin : is_local_origin (codes "http://127.0.0.1:8765") ≡ true
+unfolding behind
+an_origin = refl
+
+no_origin : is_local_origin (codes "null") ≡ false
+unfolding behind
+no_origin = refl
+
+no_host_is_asked_for : served_length ((codes "Desk-User", codes "ann") ∷ []) ≡ Some 0
+no_host_is_asked_for = refl
+
+one_of_two_hosts : served_length ((codes "Host", codes "localhost") ∷ (codes "host", codes "desk") ∷ []) ≡ None
+one_of_two_hosts = refl
+
+-- ---- bodies that are waited for
+
+it_waits : waits (record { method = codes "PUT"; target = codes "/files/a"; minor = 1; lines = (codes "Expect", codes "100-Continue") ∷ [] }) 3 ≡ true
+it_waits = refl
+
+no_body_to_come : waits (record { method = codes "PUT"; target = codes "/files/a"; minor = 1; lines = (codes "Expect", codes "100-continue") ∷ [] }) 0 ≡ false
+no_body_to_come = refl
+
+an_older_version : waits (record { method = codes "PUT"; target = codes "/files/a"; minor = 0; lines = (codes "Expect", codes "100-continue") ∷ [] }) 3 ≡ false
+an_older_version = refl
+
+something_else_is_expected : waits (record { method = codes "PUT"; target = codes "/files/a"; minor = 1; lines = (codes "Expect", codes "x") ∷ [] }) 3 ≡ false
+something_else_is_expected = refl
 
 -- ---- places
 
@@ -84,8 +140,8 @@ leading_zeros = refl
 
 -- ---- members
 
-a_text : text_at (codes "top") (object (member (codes "top") (string (codes "uart")) no_members)) ≡ Some (codes "uart")
-a_text = refl
+a_member : text_at (codes "top") (object (member (codes "top") (string (codes "uart")) no_members)) ≡ Some (codes "uart")
+a_member = refl
 
 no_text : text_at (codes "top") (object (member (codes "top") (number (unsigned 7)) no_members)) ≡ None
 no_text = refl

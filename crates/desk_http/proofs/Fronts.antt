@@ -8,7 +8,8 @@ use Rattle.httparse.specs.Spans.{AreFieldsAt, IsRequestAt, RequestOverflows, hea
 use Rattle.httparse.specs.declared.spans.HeaderSpan.{HeaderSpan}
 use Rattle.httparse.proofs.GrammarLemmas.{ReadsRequest-append}
 use Rattle.desk_http.specs.Heads.{BeginsWith, HasNoHead, IsFramed, IsStateOf, Shows, heard}
-use Rattle.desk_http.specs.Lines.{capped, stated_length}
+use Rattle.desk_http.specs.Hosts.{served_length}
+use Rattle.desk_http.specs.Lines.{capped}
 use Rattle.desk_http.specs.declared.head.Head.{Head}
 use Rattle.desk_http.specs.declared.head.HeadState.{HeadState}
 use Rattle.desk_http.specs.declared.head.HeadState.TheVariants.{More, Bad, Ready}
@@ -89,7 +90,7 @@ shows bytes head written front room it = record {
   begins = begins bytes written (drop head.found.len head.bytes.now)
       (subst (λ bs. ReadsRequest bs written (drop head.found.len head.bytes.now)) front it.reads)
       (few_fields head.bytes.now head.lines head.found.headers written.fields it.fields room);
-  same = λ i. record { method = it.method i; target = it.path i; lines = it.fields i };
+  same = λ i. record { method = it.method i; target = it.path i; minor = it.version i; lines = it.fields i };
   used = it.len;
 }
 
@@ -100,12 +101,12 @@ state_of_head bytes head More it framed = absurd framed
 state_of_head bytes head Bad it refused = inl (record {
   written = it.written;
   begins = it.begins;
-  refused = ap (λ what. stated_length what.lines) (sym it.same) ∙ refused;
+  refused = ap (λ what. served_length what.lines) (sym it.same) ∙ refused;
 })
 state_of_head bytes head (Ready same used body) it framed = record {
   written = it.written;
   begins = it.begins;
   same = ap heard framed.0 ∙ it.same;
   ends = framed.1 ∙ it.used;
-  stated = ap (λ what. option_map capped (stated_length what.lines)) (sym it.same) ∙ framed.2;
+  stated = ap (λ what. option_map capped (served_length what.lines)) (sym it.same) ∙ framed.2;
 }

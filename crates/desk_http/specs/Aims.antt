@@ -42,8 +42,11 @@ waiver_at part = waiver_named (percent_decode part)
 abbrev pub aim_of : Action → List ℕ → Result Aim BadRequest
 aim_of Actions.PutFile part = with_value Aims.PutFile (file_at part)
 aim_of Actions.GetFile part = with_value (λ name. Aims.Other (Asks.GetFile name)) (file_at part)
+aim_of Actions.FileText part = with_value (λ name. Aims.Other (Asks.FileText name)) (file_at part)
+aim_of Actions.Files part = Ok (Aims.Other Asks.Files)
 aim_of Actions.DropFile part = with_value (λ name. Aims.Other (Asks.DropFile name)) (file_at part)
 aim_of Actions.Ruling part = with_value (λ top. Aims.Other (Asks.Ruling top)) (top_at part)
+aim_of Actions.Reach part = with_value (λ top. Aims.Other (Asks.Reach top)) (top_at part)
 aim_of Actions.SignOff part = with_value (λ top. Aims.Other (Asks.SignOff top)) (top_at part)
 aim_of Actions.SignOffs part = Ok (Aims.Other Asks.SignOffs)
 aim_of Actions.Waive part = Ok Aims.Waive

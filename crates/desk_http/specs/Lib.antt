@@ -1,7 +1,9 @@
 pub mod Limits
 pub mod Aims
+pub mod Expects
 pub mod Gives
 pub mod Heads
+pub mod Hosts
 pub mod Labels
 pub mod Lines
 pub mod Places

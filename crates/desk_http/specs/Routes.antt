@@ -4,7 +4,7 @@ use Rattle.std.specs.Prelude.{ℕ, ◌-◌, bytes_eq, List, [], length, take, dr
 use Rattle.std.specs.Borrow.{Bor}
 use Rattle.std.specs.Option.{option_or}
 use Rattle.desk_http.specs.declared.route.Action.{Action}
-use Rattle.desk_http.specs.declared.route.Action.TheVariants.{PutFile, GetFile, DropFile, Ruling, SignOff, SignOffs, Waive, Waivers, Revoke}
+use Rattle.desk_http.specs.declared.route.Action.TheVariants.{PutFile, GetFile, FileText, Files, DropFile, Ruling, Reach, SignOff, SignOffs, Waive, Waivers, Revoke}
 
 -- what is behind the front of a text, where it has this front
 unfoldable pub behind : List ℕ → List ℕ → Option (List ℕ)
@@ -36,12 +36,24 @@ plain_route found = option_map (λ it. (it.0, it.1.now)) found
 abbrev pub part_route : Action → Option (List ℕ) → Option Route
 part_route action part = option_map (λ it. (action, it)) part
 
+-- what is told of a file
+abbrev pub file_route : List ℕ → Option Route
+file_route target =
+    option_or (part_route FileText (between (codes "/files/") (codes "/text") target))
+    (part_route GetFile (behind (codes "/files/") target))
+
+-- what is told of a module
+abbrev pub module_route : List ℕ → Option Route
+module_route target =
+    option_or (part_route Ruling (between (codes "/modules/") (codes "/ruling") target))
+    (part_route Reach (between (codes "/modules/") (codes "/reach") target))
+
 abbrev pub get_route : List ℕ → Option Route
 get_route target =
+    if bytes_eq target (codes "/files") then Some (Files, []) else
     if bytes_eq target (codes "/signoffs") then Some (SignOffs, []) else
     if bytes_eq target (codes "/waivers") then Some (Waivers, []) else
-    option_or (part_route GetFile (behind (codes "/files/") target))
-    (part_route Ruling (between (codes "/modules/") (codes "/ruling") target))
+    option_or (file_route target) (module_route target)
 
 abbrev pub put_route : List ℕ → Option Route
 put_route target = part_route PutFile (behind (codes "/files/") target)

@@ -1,10 +1,13 @@
 // Heads of requests.
 ghost use Rattle.std.specs.Prelude.{◌≡◌, ◌≤◌, ◌++◌, ℕ, List, length, option_map, take};
+ghost use Rattle.desk_http.specs.Expects.{waits};
 ghost use Rattle.desk_http.specs.Heads.{HasNoHead, IsFramed, IsStateOf, Shows, heard, spans_of};
 ghost use Rattle.desk_http.specs.Limits.{MAX_HEAD_BYTES};
 ghost use Rattle.desk_http.specs.Lines.{first_named};
 
-use crate::lines::{covered, first_named, stated_length};
+use crate::expect::are_waiting;
+use crate::host::served_length;
+use crate::lines::{covered, first_named};
 use httparse::spans::{EMPTY_HEADER_SPAN, HeaderSpan, RequestSpans, parse_request};
 use httparse::{Error, Status};
 
@@ -64,14 +67,21 @@ impl<'a> Head<'a> {
     {
         first_named(name, self.bytes, self.spans())
     }
+
+    /// Whether it waits to be told to go on before it sends its body of this length.
+    pub fn waits(&self, body: u64) -> bool
+        ensures { result ≡ waits (heard self.now) body }
+    {
+        self.found.version == 1 && body != 0 && are_waiting(self.bytes, self.spans())
+    }
 }
 
-// A head is served where its lines say how long the body is.
+// A head is served where its lines name no other host, and say how long the body is.
 fn framed<'a>(head: Head<'a>) -> HeadState<'a>
     ensures { IsFramed head.entry result }
 {
     let used = head.found.len;
-    match stated_length(head.bytes, head.spans()) {
+    match served_length(head.bytes, head.spans()) {
         Some(body) => HeadState::Ready { head, used, body },
         None => HeadState::Bad,
     }

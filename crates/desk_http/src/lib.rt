@@ -3,8 +3,10 @@
 
 mod aim;
 mod checks;
+mod expect;
 mod fault;
 mod head;
+mod host;
 mod label;
 mod lines;
 mod place;
@@ -13,6 +15,7 @@ mod route;
 mod waiver;
 
 pub use checks::request;
+pub use expect::CONTINUE;
 pub use fault::BadRequest;
 pub use head::{Head, HeadState, MAX_HEAD_BYTES, read_head};
 pub use lines::MAX_BODY_BYTES;

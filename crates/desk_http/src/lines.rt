@@ -21,7 +21,7 @@ pub(crate) fn covered<'a>(bytes: &'a [u8], span: Span) -> &'a [u8]
 }
 
 // Whether two names are the same but for the case of their letters.
-fn is_same_name(name: &[u8], other: &[u8]) -> bool
+pub(crate) fn is_same_name(name: &[u8], other: &[u8]) -> bool
     ensures { result ≡ str_eq_ignore_ascii_case name.now other.now }
 {
     name.eq_ignore_ascii_case(other)

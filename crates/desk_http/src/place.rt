@@ -19,7 +19,7 @@ fn last_colon(text: &[u8]) -> Option<usize>
 }
 
 // What is before the last colon, and what is behind it.
-fn parted(text: &[u8]) -> Option<(&[u8], &[u8])>
+pub(crate) fn parted(text: &[u8]) -> Option<(&[u8], &[u8])>
     ensures { plain_parts result ≡ parted text.now }
 {
     match last_colon(text) {

@@ -1,14 +1,17 @@
 // Which action a method and a target name.
 ghost use Rattle.std.specs.Prelude.{◌≡◌};
-ghost use Rattle.desk_http.specs.Routes.{before, behind, between, change_route, delete_route, get_route, plain, plain_route, post_route, put_route, route};
+ghost use Rattle.desk_http.specs.Routes.{before, behind, between, change_route, delete_route, file_route, get_route, module_route, plain, plain_route, post_route, put_route, route};
 
 // What is done at a target.
 #[derive(Clone, Copy, PartialEq, Eq, Debug)]
 pub(crate) enum Action {
     PutFile,
     GetFile,
+    FileText,
+    Files,
     DropFile,
     Ruling,
+    Reach,
     SignOff,
     SignOffs,
     Waive,
@@ -20,7 +23,7 @@ pub(crate) enum Action {
 pub(crate) type Route<'a> = (Action, &'a [u8]);
 
 // What is behind the front of a text, where it has this front.
-fn behind<'a>(front: &[u8], text: &'a [u8]) -> Option<&'a [u8]>
+pub(crate) fn behind<'a>(front: &[u8], text: &'a [u8]) -> Option<&'a [u8]>
     ensures { plain result ≡ behind front.now text.now }
 {
     text.strip_prefix(front)
@@ -43,21 +46,47 @@ fn between<'a>(front: &[u8], end: &[u8], text: &'a [u8]) -> Option<&'a [u8]>
     }
 }
 
+// What is told of a file.
+fn file_route(target: &[u8]) -> Option<Route<'_>>
+    ensures { plain_route result ≡ file_route target.now }
+{
+    match between(b"/files/", b"/text", target) {
+        Some(name) => Some((Action::FileText, name)),
+        None => match behind(b"/files/", target) {
+            Some(name) => Some((Action::GetFile, name)),
+            None => None,
+        },
+    }
+}
+
+// What is told of a module.
+fn module_route(target: &[u8]) -> Option<Route<'_>>
+    ensures { plain_route result ≡ module_route target.now }
+{
+    match between(b"/modules/", b"/ruling", target) {
+        Some(top) => Some((Action::Ruling, top)),
+        None => match between(b"/modules/", b"/reach", target) {
+            Some(top) => Some((Action::Reach, top)),
+            None => None,
+        },
+    }
+}
+
 fn get_route(target: &[u8]) -> Option<Route<'_>>
     ensures { plain_route result ≡ get_route target.now }
 {
+    if target == b"/files".as_slice() {
+        return Some((Action::Files, b""));
+    }
     if target == b"/signoffs".as_slice() {
         return Some((Action::SignOffs, b""));
     }
     if target == b"/waivers".as_slice() {
         return Some((Action::Waivers, b""));
     }
-    match behind(b"/files/", target) {
-        Some(name) => Some((Action::GetFile, name)),
-        None => match between(b"/modules/", b"/ruling", target) {
-            Some(top) => Some((Action::Ruling, top)),
-            None => None,
-        },
+    match file_route(target) {
+        Some(found) => Some(found),
+        None => module_route(target),
     }
 }
 

@@ -26,9 +26,15 @@ pub enum Ask {
     /// The file of this name gets this text.
     PutFile(Text, Text),
     GetFile(Text),
+    /// The text of a file.
+    FileText(Text),
+    /// All files.
+    Files,
     DropFile(Text),
     /// What the rules say of a module.
     Ruling(Text),
+    /// Whether that is known of a module, and which files it rests on.
+    Reach(Text),
     /// A sign-off of a module.
     SignOff(Text),
     /// All sign-offs.
@@ -61,7 +67,13 @@ impl Ask {
             | Ask::SignOff(_)
             | Ask::Waive(_)
             | Ask::Revoke(_) => true,
-            Ask::GetFile(_) | Ask::Ruling(_) | Ask::SignOffs | Ask::Waivers => false,
+            Ask::GetFile(_)
+            | Ask::FileText(_)
+            | Ask::Files
+            | Ask::Ruling(_)
+            | Ask::Reach(_)
+            | Ask::SignOffs
+            | Ask::Waivers => false,
         }
     }
 }
