@@ -1,9 +1,10 @@
 -- The bodies of replies in JSON (RFC 8259), without spaces, the keys in the order of their bytes.
 -- Worked examples: crates/desk_bodies/proofs/Example.antt.
-use Rattle.std.specs.Prelude.{ℕ, ℤ, List, [], ◌∷◌, ◌++◌, length, flat_map, decimal, codes, Option, Some, None}
+use Rattle.std.specs.Prelude.{ℕ, ℤ, List, [], ◌∷◌, ◌++◌, length, flat_map, decimal, codes, Bool, true, false, Option, Some, None}
 use Rattle.hex.specs.Hex.{encode_lower}
 use Rattle.json.specs.Print.{quoted}
 use Rattle.desk_dates.specs.Dates.{date_text}
+use Rattle.desk_bodies.specs.Orders.{by_name}
 use Rattle.desk_tables.specs.declared.rows.FileRow.{FileRow}
 use Rattle.desk_tables.specs.declared.rows.SignOffRow.{SignOffRow}
 use Rattle.desk_tables.specs.declared.rows.WaiverRow.{WaiverRow}
@@ -36,6 +37,16 @@ unfoldable pub with_day_or_null : List ℕ → Option ℤ → List ℕ
 with_day_or_null lead None = lead ++ codes "null"
 with_day_or_null lead (Some day) = with_day lead day
 
+-- what leads to a digest, and the digest or `null`
+unfoldable pub with_digest_or_null : List ℕ → Option (List ℕ) → List ℕ
+with_digest_or_null lead None = lead ++ codes "null"
+with_digest_or_null lead (Some digest) = with_digest lead digest
+
+-- what leads to a number, and the number or `null`
+unfoldable pub with_number_or_null : List ℕ → Option ℕ → List ℕ
+with_number_or_null lead None = lead ++ codes "null"
+with_number_or_null lead (Some number) = with_number lead number
+
 -- what the text of each of these is, with commas between
 unfoldable pub listed : {Row : Type 0} → (Row → List ℕ) → List Row → List ℕ
 listed text [] = []
@@ -62,9 +73,35 @@ edited_text row =
     ++ with_text (codes ",\"editor\":") row.editor
     ++ with_text (codes ",\"name\":") row.name ++ codes "}"
 
+-- a file in a list, its digest under the name of the hash
+unfoldable pub listed_file_text : FileRow → List ℕ
+listed_file_text row =
+    with_number (codes "{\"bytes\":") (length row.text)
+    ++ with_text (codes ",\"editor\":") row.editor
+    ++ with_text (codes ",\"file\":") row.name
+    ++ with_digest (codes ",\"sha256\":") row.digest ++ codes "}"
+
+-- all files, in the order of their names
+abbrev pub files_text : List FileRow → List ℕ
+files_text rows = array listed_file_text (by_name rows)
+
 -- a name alone
 unfoldable pub name_text : List ℕ → List ℕ
 name_text name = with_text (codes "{\"name\":") name ++ codes "}"
+
+-- ---- modules
+
+unfoldable pub truth_text : Bool → List ℕ
+truth_text true = codes "true"
+truth_text false = codes "false"
+
+-- whether it is known what the rules say of a module as its files are; the digest of these files; and the number of the last
+-- sign-off of just these
+unfoldable pub reach_text : Bool → Option (List ℕ) → Option ℕ → List ℕ
+reach_text current reach signoff =
+    codes "{\"current\":" ++ truth_text current
+    ++ with_digest_or_null (codes ",\"reach\":") reach
+    ++ with_number_or_null (codes ",\"signoff\":") signoff ++ codes "}"
 
 -- ---- sign-offs
 
