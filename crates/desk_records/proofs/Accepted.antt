@@ -14,7 +14,7 @@ use Rattle.desk_requests.specs.Requests.{changes, label_of}
 use Rattle.desk_requests.specs.declared.ask.Ask.{Ask}
 use Rattle.desk_requests.specs.declared.ask.Ask.TheVariants as ask
 use Rattle.desk_requests.specs.declared.ask.Request.{Request}
-use Rattle.desk_records.specs.Machine.{by_tables, change_outcome, drop_outcome, file_answer, full_table, is_to, request_outcome, revocation, revoke_outcome, revoke_refusal, unless_full, unless_kept}
+use Rattle.desk_records.specs.Machine.{by_tables, change_outcome, drop_outcome, file_answer, full_table, is_to, request_outcome, revocation, revoke_outcome, revoke_refusal, text_answer, unless_full, unless_kept}
 use Rattle.desk_records.specs.Outcomes.{Outcome, Told, Done, Open, kept_said}
 use Rattle.desk_records.specs.Repeats.{IsReplyTo, after}
 use Rattle.desk_records.proofs.Repeats.{repeats}
@@ -39,6 +39,10 @@ got_told : (found : Option FileRow) → IsTold (file_answer found)
 got_told None = tt
 got_told (Some row) = tt
 
+text_told : (found : Option FileRow) → IsTold (text_answer found)
+text_told None = tt
+text_told (Some row) = tt
+
 dropped_makes : (P : Type 0) (request : Request) (found : Option FileRow) (name : List ℕ) → P → Makes P request (drop_outcome found name request)
 dropped_makes P request None name is = tt
 dropped_makes P request (Some row) name is =
@@ -59,9 +63,14 @@ by_tables_makes P (ask.PutFile name text) request today kept is =
 by_tables_makes P (ask.GetFile name) request today kept is =
     makes_none P request (file_answer (find (has_name name) kept.files))
     (got_told (find (has_name name) kept.files))
+by_tables_makes P (ask.FileText name) request today kept is =
+    makes_none P request (text_answer (find (has_name name) kept.files))
+    (text_told (find (has_name name) kept.files))
+by_tables_makes P ask.Files request today kept is = tt
 by_tables_makes P (ask.DropFile name) request today kept is =
     dropped_makes P request (find (has_name name) kept.files) name is
 by_tables_makes P (ask.Ruling top) request today kept is = tt
+by_tables_makes P (ask.Reach top) request today kept is = tt
 by_tables_makes P (ask.SignOff top) request today kept is = tt
 by_tables_makes P ask.SignOffs request today kept is = tt
 by_tables_makes P (ask.Waive it) request today kept is = tt
@@ -73,8 +82,11 @@ by_tables_makes P (ask.Revoke id) request today kept is =
 unchanged_told : (it : Ask) (request : Request) (today : ℤ) (kept : Kept) → changes it ≡ false → IsTold (by_tables it request today kept)
 unchanged_told (ask.PutFile name text) request today kept isnt = absurd (cc)
 unchanged_told (ask.GetFile name) request today kept isnt = got_told (find (has_name name) kept.files)
+unchanged_told (ask.FileText name) request today kept isnt = text_told (find (has_name name) kept.files)
+unchanged_told ask.Files request today kept isnt = tt
 unchanged_told (ask.DropFile name) request today kept isnt = absurd (cc)
 unchanged_told (ask.Ruling top) request today kept isnt = tt
+unchanged_told (ask.Reach top) request today kept isnt = tt
 unchanged_told (ask.SignOff top) request today kept isnt = absurd (cc)
 unchanged_told ask.SignOffs request today kept isnt = tt
 unchanged_told (ask.Waive it) request today kept isnt = absurd (cc)

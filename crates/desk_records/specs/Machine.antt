@@ -21,8 +21,8 @@ use Rattle.desk_requests.specs.Requests.{changes, label_of}
 use Rattle.desk_requests.specs.declared.ask.Ask.{Ask}
 use Rattle.desk_requests.specs.declared.ask.Ask.TheVariants as ask
 use Rattle.desk_requests.specs.declared.ask.Request.{Request}
-use Rattle.desk_requests.specs.declared.reply.BodyKind.TheVariants.{Json}
-use Rattle.desk_bodies.specs.Bodies.{array, edited_text, file_text, id_text, name_text, signoff_text, waiver_text}
+use Rattle.desk_requests.specs.declared.reply.BodyKind.TheVariants.{Json, Plain}
+use Rattle.desk_bodies.specs.Bodies.{array, edited_text, file_text, files_text, id_text, name_text, signoff_text, waiver_text}
 use Rattle.desk_bodies.specs.Refusals.{conflict_with, not_found, value_line, word_line}
 use Rattle.desk_records.specs.Outcomes.{Outcome, Told, Done, Open, kept_said}
 
@@ -98,6 +98,11 @@ abbrev pub file_answer : Option FileRow → Outcome
 file_answer None = Told not_found
 file_answer (Some row) = json_answer (edited_text row)
 
+-- the text of a file, as it is
+abbrev pub text_answer : Option FileRow → Outcome
+text_answer None = Told not_found
+text_answer (Some row) = Told (record { status = 200; kind = Plain; body = row.text })
+
 abbrev pub drop_outcome : Option FileRow → List ℕ → Request → Outcome
 drop_outcome None name request = Told not_found
 drop_outcome (Some row) name request =
@@ -130,6 +135,8 @@ revoke_outcome (Some fault) id request today = revoke_refusal fault
 abbrev pub by_tables : Ask → Request → ℤ → Kept → Outcome
 by_tables (ask.PutFile name text) request today kept = put_outcome (file_row name text request.user) request
 by_tables (ask.GetFile name) request today kept = file_answer (find (has_name name) kept.files)
+by_tables (ask.FileText name) request today kept = text_answer (find (has_name name) kept.files)
+by_tables ask.Files request today kept = json_answer (files_text kept.files)
 by_tables (ask.DropFile name) request today kept =
     drop_outcome (find (has_name name) kept.files) name request
 by_tables ask.SignOffs request today kept = json_answer (array signoff_text kept.signoffs)

@@ -2,14 +2,14 @@
 ghost use Rattle.std.specs.Prelude.{◌≡◌, bytes_eq, find, option_copied, IfOk};
 ghost use Rattle.desk_tables.specs.Changes.{has_name};
 ghost use Rattle.desk_tables.specs.Tables.{kept_of};
-ghost use Rattle.desk_records.specs.Machine.{by_tables, drop_outcome, file_answer, file_row, is_to, json_answer, kept_row, put_outcome, repeat_outcome};
+ghost use Rattle.desk_records.specs.Machine.{by_tables, drop_outcome, file_answer, file_row, is_to, json_answer, kept_row, put_outcome, repeat_outcome, text_answer};
 ghost use Rattle.desk_records.specs.Outcomes.{outcome};
 
 use crate::Decision;
 use crate::revoke::revoke_outcome;
 use crate::settle::reply_in;
 use desk_bodies::{
-    conflict, edited_body, file_body, name_body, not_found, signoffs_body, waivers_body,
+    conflict, edited_body, file_body, files_body, name_body, not_found, signoffs_body, waivers_body,
 };
 use desk_requests::{Ask, BodyKind, Reply, Request};
 use desk_tables::{Change, Day, FileRow, ReplyRow, Tables};
@@ -112,7 +112,8 @@ fn put_outcome(
     Ok(Decision::Makes(Change::PutFile(row, reply)))
 }
 
-fn json_answer(body: Vec<u8>) -> Decision
+/// It is answered with these bytes of JSON.
+pub fn json_answer(body: Vec<u8>) -> Decision
     ensures { outcome result ≡ json_answer body.items }
 {
     Decision::Tells(Reply {
@@ -129,6 +130,21 @@ fn file_answer(alloc: Global, files: &[FileRow], name: &Text) -> Result<Decision
     match file_of(files, name) {
         None => Ok(Decision::Tells(not_found(alloc)?)),
         Some(row) => Ok(json_answer(edited_body(alloc, row)?)),
+    }
+}
+
+// The text of a file, as it is.
+fn text_answer(alloc: Global, files: &[FileRow], name: &Text) -> Result<Decision, Memory>
+    ensures { IfOk result (λ made.
+        outcome made ≡ text_answer (find (has_name name.now) files.now)) }
+{
+    match file_of(files, name) {
+        None => Ok(Decision::Tells(not_found(alloc)?)),
+        Some(row) => Ok(Decision::Tells(Reply {
+            status: 200,
+            kind: BodyKind::Plain,
+            body: Vec::from_slice(alloc, row.text.as_bytes())?,
+        })),
     }
 }
 
@@ -165,10 +181,12 @@ pub(crate) fn by_tables(
     match &request.ask {
         Ask::PutFile(name, text) => put_outcome(alloc, name, text, request),
         Ask::GetFile(name) => file_answer(alloc, &tables.files, name),
+        Ask::FileText(name) => text_answer(alloc, &tables.files, name),
+        Ask::Files => Ok(json_answer(files_body(alloc, &tables.files)?)),
         Ask::DropFile(name) => drop_outcome(alloc, &tables.files, name, request),
         Ask::SignOffs => Ok(json_answer(signoffs_body(alloc, &tables.signoffs)?)),
         Ask::Waivers => Ok(json_answer(waivers_body(alloc, &tables.waivers)?)),
         Ask::Revoke(id) => revoke_outcome(alloc, *id, request, today, &tables.waivers),
-        Ask::Ruling(_) | Ask::SignOff(_) | Ask::Waive(_) => Ok(Decision::Open),
+        Ask::Ruling(_) | Ask::Reach(_) | Ask::SignOff(_) | Ask::Waive(_) => Ok(Decision::Open),
     }
 }

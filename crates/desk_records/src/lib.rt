@@ -11,6 +11,6 @@ mod revoke;
 mod settle;
 
 pub use decision::Decision;
-pub use files::kept_row;
+pub use files::{json_answer, kept_row};
 pub use limits::{full_refusal, full_table};
 pub use records::{Records, Stop};
