@@ -1,16 +1,17 @@
 -- What is asked by bytes that were heard, with what is left.
-use Rattle.std.proofs.Common.{◌≡◌, ◌≤◌, ◌<◌, ◌+◌, ℕ, ◌⊎◌, inl, inr, List, [], ◌++◌, length, take, drop, Option, None, Some, Result, Ok, Err, Vec, ◌∙◌, ap, sym, subst, refl, arith, append-nil, length-append}
+use Rattle.std.proofs.Common.{◌≡◌, ◌≤◌, ◌<◌, ◌+◌, ℕ, ◌⊎◌, inl, inr, List, ◌++◌, length, take, drop, Option, None, Some, Result, Ok, Err, Vec, ◌∙◌, ap, sym, subst, refl, arith, append-nil, length-append}
 use Rattle.std.specs.declared.alloc.Global.{Global}
 use Rattle.std.specs.Prelude.{option_map}
 use Rattle.std.proofs.lemmas.Bool.Decides.{nat_tests}
 use Rattle.std.proofs.lemmas.List.{drop_at}
 use Rattle.httparse.specs.Grammar.{RequestHead, print_request}
 use Rattle.httparse.proofs.GrammarLemmas.{ReadsRequest-append}
-use Rattle.desk_links.specs.Links.{GoesOn, IsAtEnd, Talk}
+use Rattle.desk_links.specs.Links.{IsAtEnd, Talk}
 use Rattle.desk_requests.specs.declared.ask.Request.{Request}
 use Rattle.desk_http.specs.Gives.{Gives}
 use Rattle.desk_http.specs.Heads.{BeginsWith, HasNoHead, Heard, IsReady, IsStateOf, IsUnframed, heard, said}
-use Rattle.desk_http.specs.Lines.{capped, stated_length}
+use Rattle.desk_http.specs.Hosts.{served_length}
+use Rattle.desk_http.specs.Lines.{capped}
 use Rattle.desk_http.specs.Requests.{request_of}
 use Rattle.desk_http.specs.declared.fault.BadRequest.{BadRequest}
 use Rattle.desk_http.specs.declared.fault.BadRequest.TheVariants.{Malformed, Memory, NotFound}
@@ -20,10 +21,10 @@ use Rattle.desk_server.specs.Exchanges.{Asked, Headed, Headless, IsAsked, Refuse
 use Rattle.desk_server.specs.Hearing.{HeardAs, HearsInput, IsBody, IsHeard, IsSettled, left_of}
 use Rattle.desk_server.specs.declared.hear.Unheard.{Unheard}
 use Rattle.desk_server.specs.declared.hear.Unheard.TheVariants as unheard
-use Rattle.desk_server.proofs.Talks.{hears_none, hears_so, hears_then, left-at_end}
+use Rattle.desk_server.proofs.Talks.{hears_so, left-at_end}
 
 -- the head of a front is the head of all
-abbrev begins_more : (bytes more : List ℕ) (written : RequestHead) → BeginsWith bytes written
+abbrev pub begins_more : (bytes more : List ℕ) (written : RequestHead) → BeginsWith bytes written
     → BeginsWith (bytes ++ more) written
 begins_more bytes more written it = record {
   rest = it.rest ++ more;
@@ -47,17 +48,16 @@ none_settled bytes more none (inl it) = absurd (none it.0 it.1)
 none_settled bytes more none (inr never) = never more
 
 -- no head was heard, and none comes
-pub more_asked : (bytes : List ℕ) (talk : Option Talk) → HasNoHead bytes
-    → IsSettled bytes ⊎ IsAtEnd talk → IsAsked (bytes ++ left_of talk) (Refuses 400)
-more_asked bytes talk none (inl settled) =
-    Headless (none_settled bytes (left_of talk) none settled) refl
-more_asked bytes talk none (inr ended) =
+pub none_comes : (bytes : List ℕ) (talk : Option Talk) → HasNoHead bytes
+    → IsSettled bytes ⊎ IsAtEnd talk → HasNoHead (bytes ++ left_of talk)
+none_comes bytes talk none (inl settled) = none_settled bytes (left_of talk) none settled
+none_comes bytes talk none (inr ended) =
     let same : bytes ≡ bytes ++ left_of talk =
     sym (append-nil bytes) ∙ ap (λ l. bytes ++ l) (sym (left-at_end talk ended)) in
-    Headless (subst HasNoHead same none) refl
+    subst HasNoHead same none
 
 -- the length that is stated, and how it is told
-stated_as : (stated : Option ℕ) (body : ℕ) → option_map capped stated ≡ Some body
+pub stated_as : (stated : Option ℕ) (body : ℕ) → option_map capped stated ≡ Some body
     → (count : ℕ) × (stated ≡ Some count) × (body ≡ capped count)
 stated_as None body same = absurd (cc)
 stated_as (Some count) body same = (count, refl, cc)
@@ -92,7 +92,7 @@ framed_whole head rest count fits whole = grind (arith, nat_tests)
 pub long_asked : (bytes more : List ℕ) (head : Head) (used body : ℕ)
     → IsReady bytes head used body → 1048576 < body → IsAsked (bytes ++ more) (Refuses 413)
 long_asked bytes more head used body it long =
-    let stated = stated_as (stated_length (said it.written).lines) body it.stated in
+    let stated = stated_as (served_length (said it.written).lines) body it.stated in
     let exceeds : 1048576 < stated.0 = omega (arith, stated.2) in
     Headed it.written (begins_more bytes more it.written it.begins)
     (sym (ap (framed (said it.written) (it.begins.rest ++ more)) stated.1 ∙ framed_long (said it.written) (it.begins.rest ++ more) stated.0 exceeds))
@@ -108,16 +108,16 @@ heard_by (Err unheard.TooLong) input asked is same = subst (IsAsked input) same 
 heard_by (Err unheard.Failed) input asked is same = tt
 
 -- a request with this head is heard
-as_heard : (result : Result Request Unheard) (bytes more : List ℕ) (head : Head) (used body : ℕ)
+pub as_heard : (result : Result Request Unheard) (bytes more : List ℕ) (head : Head) (used body : ℕ)
     → IsReady bytes head used body → body ≤ 1048576
     → HeardAs result (framed (heard head) (drop used bytes ++ more) (Some body))
     → IsHeard result (bytes ++ more)
 as_heard result bytes more head used body it fits made =
-    let stated = stated_as (stated_length (said it.written).lines) body it.stated in
+    let stated = stated_as (served_length (said it.written).lines) body it.stated in
     let same : stated.0 ≡ body = omega (arith, stated.2) in
     let begins = begins_more bytes more it.written it.begins in
     let is : framed (heard head) (drop used bytes ++ more) (Some body)
-    ≡ framed (said it.written) (it.begins.rest ++ more) (stated_length (said it.written).lines) =
+    ≡ framed (said it.written) (it.begins.rest ++ more) (served_length (said it.written).lines) =
     ap (λ h. framed h (drop used bytes ++ more) (Some body)) it.same
     ∙ ap (λ l. framed (said it.written) (l ++ more) (Some body)) (behind_head bytes head used body it)
     ∙ ap (λ n. framed (said it.written) (it.begins.rest ++ more) (Some n)) (sym same)
@@ -169,38 +169,3 @@ cut_heard a b head front count why fits it =
     hears_so a b (λ more. IsBody count (Err why) (front ++ more))
     (λ more. HeardAs (Err why) (framed head (front ++ more) (Some count)))
     (λ more is. cut_body head (front ++ more) count why fits is) it
-
--- the heads that bytes may begin with
-pub more_heard : (talk : Option Talk) (bytes : List ℕ) → HasNoHead bytes → IsSettled bytes ⊎ IsAtEnd talk
-    → HearsInput talk talk (λ more. IsHeard (Err (unheard.Refused Malformed)) (bytes ++ more))
-more_heard talk bytes none known =
-    hears_none talk (λ more. IsHeard (Err (unheard.Refused Malformed)) (bytes ++ more)) (more_asked bytes talk none known)
-
-pub bad_heard : (talk : Option Talk) (bytes : List ℕ) → IsStateOf bytes Bad
-    → HearsInput talk talk (λ more. IsHeard (Err (unheard.Refused Malformed)) (bytes ++ more))
-bad_heard talk bytes bad =
-    hears_none talk (λ more. IsHeard (Err (unheard.Refused Malformed)) (bytes ++ more)) (bad_asked bytes (left_of talk) bad)
-
-pub long_heard : (talk : Option Talk) (bytes : List ℕ) (head : Head) (used body : ℕ)
-    → IsReady bytes head used body → 1048576 < body
-    → HearsInput talk talk (λ more. IsHeard (Err unheard.TooLong) (bytes ++ more))
-long_heard talk bytes head used body it long =
-    hears_none talk (λ more. IsHeard (Err unheard.TooLong) (bytes ++ more)) (long_asked bytes (left_of talk) head used body it long)
-
-pub rest_heard : (a b : Option Talk) (result : Result Request Unheard) (bytes front : List ℕ) (head : Head) (used body : ℕ)
-    → IsReady bytes head used body → body ≤ 1048576
-    → HearsInput a b (λ more. HeardAs result (framed (heard head) (front ++ more) (Some body)))
-    → front ≡ drop used bytes
-    → HearsInput a b (λ more. IsHeard result (bytes ++ more))
-rest_heard a b result bytes front head used body it fits hears same =
-    hears_so a b (λ more. HeardAs result (framed (heard head) (front ++ more) (Some body)))
-    (λ more. IsHeard result (bytes ++ more))
-    (λ more made. as_heard result bytes more head used body it fits
-    (subst (λ l. HeardAs result (framed (heard head) (l ++ more) (Some body))) same made)) hears
-
-pub front_heard : (a b c : Option Talk) (result : Result Request Unheard) (front bytes : List ℕ)
-    → GoesOn a b front [] → HearsInput b c (λ more. IsHeard result (bytes ++ more)) → bytes ≡ front
-    → HearsInput a c (IsHeard result)
-front_heard a b c result front bytes goes hears same =
-    hears_then a b c front (IsHeard result) goes
-    (subst (λ l. HearsInput b c (λ more. IsHeard result (l ++ more))) same hears)

@@ -4,6 +4,7 @@ mod Bodies
 mod Buffers
 mod Connecting
 mod Inputs
+mod Inviting
 mod Replies
 mod Running
 mod Saying

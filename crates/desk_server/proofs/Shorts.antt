@@ -1,23 +1,21 @@
 -- The file of a request is no longer than its body.
-use Rattle.std.proofs.Common.{◌≡◌, ◌≤◌, ℕ, Bool, inl, inr, List, ◌++◌, codes, length, take, Option, None, Some, Result, Ok, Err, IfOk, true, false, ◌∙◌, ap, sym, subst, refl, arith}
+use Rattle.std.proofs.Common.{◌≡◌, ◌≤◌, ℕ, Bool, inl, inr, List, codes, length, take, Option, None, Some, Result, Ok, Err, true, false, ◌∙◌, ap, sym, subst, refl, arith}
 use Rattle.std.specs.Prelude.{bytes_eq}
 use Rattle.std.proofs.lemmas.Bool.{cases_lt}
 use Rattle.std.proofs.lemmas.List.{length-take}
-use Rattle.desk_links.specs.Links.{Talk}
 use Rattle.desk_requests.specs.declared.ask.Ask.{Ask}
 use Rattle.desk_requests.specs.declared.ask.Request.{Request}
 use Rattle.desk_http.specs.Aims.{aim_at, file_at, top_at, waiver_at}
 use Rattle.desk_http.specs.Gives.{◌>>=◌}
 use Rattle.desk_http.specs.Heads.{Heard, said}
-use Rattle.desk_http.specs.Lines.{first_named, stated_length}
+use Rattle.desk_http.specs.Hosts.{served_length}
+use Rattle.desk_http.specs.Lines.{first_named}
 use Rattle.desk_http.specs.Requests.{ask_of, digest_of, label_of, request_of, user_of}
 use Rattle.desk_http.specs.Routes.{Route, before, behind, change_route, delete_route, get_route, post_route, put_route, route}
 use Rattle.desk_http.specs.Waivers.{waiver_of}
 use Rattle.desk_http.specs.declared.fault.BadRequest.{BadRequest}
 use Rattle.desk_service.specs.Service.{IsShort}
 use Rattle.desk_server.specs.Exchanges.{Asks, Headed, Headless, IsAsked, Refuses, asked_of, framed}
-use Rattle.desk_server.specs.Hearing.{HearsInput, IsHeard}
-use Rattle.desk_server.specs.declared.hear.Unheard.{Unheard}
 use Rattle.desk_server.proofs.Inputs.{framed_cut, framed_long, framed_whole}
 
 -- what is asked for is short
@@ -74,21 +72,31 @@ fit_none body ask same = absurd (cc)
 
 fit_get : (body target : List ℕ) → IsFit (asked_at body (get_route target))
 fit_get body target =
-    split (bytes_eq target (codes "/signoffs")) _
+    split (bytes_eq target (codes "/files")) _
     (λ e. rw e (fit_ok _ tt))
-    (λ e. split (bytes_eq target (codes "/waivers")) _
+    (λ e. split (bytes_eq target (codes "/signoffs")) _
     (λ e'. rw (e, e') (fit_ok _ tt))
-    (λ e'. parts (behind (codes "/files/") target) _
+    (λ e'. split (bytes_eq target (codes "/waivers")) _
+    (λ e''. rw (e, e', e'') (fit_ok _ tt))
+    (λ e''. parts (behind (codes "/files/") target) _
     (λ none. parts (behind (codes "/modules/") target) _
-    (λ none'. rw (e, e', none, none') (fit_none body))
+    (λ none'. rw (e, e', e'', none, none') (fit_none body))
     (λ rest some. parts (before (codes "/ruling") rest) _
-    (λ none'. rw (e, e', none, some, none') (fit_none body))
+    (λ none'. parts (before (codes "/reach") rest) _
+    (λ none''. rw (e, e', e'', none, some, none', none'') (fit_none body))
     (λ part some'. outcome (top_at part) _
-    (λ it ok. rw (e, e', none, some, some', ok) (fit_ok _ tt))
-    (λ fault bad. rw (e, e', none, some, some', bad) (fit_err fault)))))
-    (λ part some. outcome (file_at part) _
-    (λ it ok. rw (e, e', some, ok) (fit_ok _ tt))
-    (λ fault bad. rw (e, e', some, bad) (fit_err fault)))))
+    (λ it ok. rw (e, e', e'', none, some, none', some', ok) (fit_ok _ tt))
+    (λ fault bad. rw (e, e', e'', none, some, none', some', bad) (fit_err fault))))
+    (λ part some'. outcome (top_at part) _
+    (λ it ok. rw (e, e', e'', none, some, some', ok) (fit_ok _ tt))
+    (λ fault bad. rw (e, e', e'', none, some, some', bad) (fit_err fault)))))
+    (λ rest some. parts (before (codes "/text") rest) _
+    (λ none. outcome (file_at rest) _
+    (λ it ok. rw (e, e', e'', some, none, ok) (fit_ok _ tt))
+    (λ fault bad. rw (e, e', e'', some, none, bad) (fit_err fault)))
+    (λ part some'. outcome (file_at part) _
+    (λ it ok. rw (e, e', e'', some, some', ok) (fit_ok _ tt))
+    (λ fault bad. rw (e, e', e'', some, some', bad) (fit_err fault)))))))
 
 fit_put : (body target : List ℕ) → length body ≤ 1048576 → IsFit (asked_at body (put_route target))
 fit_put body target fits =
@@ -181,11 +189,5 @@ short_framed head rest (Some count) request same =
 pub asked_short : (input : List ℕ) (request : Request) → IsAsked input (Asks request)
     → IsShort request.ask
 asked_short input request (Headed written begins is) =
-    short_framed (said written) begins.rest (stated_length (said written).lines) request is
+    short_framed (said written) begins.rest (served_length (said written).lines) request is
 asked_short input request (Headless none is) = absurd (asks_none 400 request (sym is))
-
--- a request that is heard is short
-pub short_heard : (a b : Option Talk) (result : Result Request Unheard) (front : List ℕ)
-    → HearsInput a b (λ more. IsHeard result (front ++ more)) → IfOk result (λ request. IsShort request.ask)
-short_heard a b (Ok request) front it = asked_short _ request it.holds
-short_heard a b (Err why) front it = tt

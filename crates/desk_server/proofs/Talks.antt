@@ -61,16 +61,25 @@ hears_so a b P Q holds it = record {
   holds = holds (it.heard ++ left_of b) it.holds;
 }
 
--- all that comes on a link is heard or left, and the rest is said
-pub is_talk : (a b c : Option Talk) (heard said : List ℕ)
-    → GoesOn a b heard [] → GoesOn b c [] said → IsTalk a c (heard ++ left_of b) said
-is_talk None b c heard said hears says = tt
-is_talk (Some a) None c heard said hears says = absurd hears
-is_talk (Some a) (Some b) None heard said hears says = absurd says
-is_talk (Some a) (Some b) (Some c) heard said hears says =
-    let read : c.read ≡ a.read ++ heard = says.read ∙ append-nil b.read ∙ hears.read in
-    let written : b.written ≡ a.written = hears.written ∙ append-nil a.written in (
+-- all that comes on a link is heard or left, and what is said then is said behind what was
+pub is_talk : (a b c : Option Talk) (heard first said : List ℕ)
+    → GoesOn a b heard first → GoesOn b c [] said → IsTalk a c (heard ++ left_of b) (first ++ said)
+is_talk None b c heard first said hears says = tt
+is_talk (Some a) None c heard first said hears says = absurd hears
+is_talk (Some a) (Some b) None heard first said hears says = absurd says
+is_talk (Some a) (Some b) (Some c) heard first said hears says =
+    let read : c.read ≡ a.read ++ heard = says.read ∙ append-nil b.read ∙ hears.read in (
       hears.left,
       ap (λ l. c.read ++ l) (sym says.left) ∙ ap (λ l. l ++ b.left) read ∙ append_assoc a.read heard b.left ∙ ap (λ l. a.read ++ l) (sym hears.left),
-      says.written ∙ ap (λ l. l ++ said) written,
+      says.written ∙ ap (λ l. l ++ said) hears.written ∙ append_assoc a.written first said,
     )
+
+-- the same where nothing is said then
+pub is_talk-heard : (a b : Option Talk) (heard said : List ℕ) → GoesOn a b heard said → IsTalk a b (heard ++ left_of b) said
+is_talk-heard None b heard said hears = tt
+is_talk-heard (Some a) None heard said hears = absurd hears
+is_talk-heard (Some a) (Some b) heard said hears = (
+  hears.left,
+  ap (λ l. l ++ b.left) hears.read ∙ append_assoc a.read heard b.left ∙ ap (λ l. a.read ++ l) (sym hears.left),
+  hears.written,
+)

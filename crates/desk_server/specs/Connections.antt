@@ -6,7 +6,7 @@ use Rattle.desk_tables.specs.Tables.{Kept}
 use Rattle.desk_requests.specs.Replies.{Said}
 use Rattle.desk_links.specs.Links.{Talk}
 use Rattle.desk_service.specs.Service.{Serving}
-use Rattle.desk_server.specs.Exchanges.{Around, IsReply, reply_bytes}
+use Rattle.desk_server.specs.Exchanges.{Around, IsInvited, IsReply, reply_bytes}
 use Rattle.desk_server.specs.declared.exchange.Served.{Served}
 use Rattle.desk_server.specs.declared.exchange.Served.TheVariants.{Replied, Dropped}
 
@@ -23,16 +23,21 @@ IsDelivered (Replied status) faults faults' answer written =
 IsDelivered Dropped faults faults' answer written =
     IsCut faults faults' (reply_bytes answer) written
 
--- a connection with this input, to which this is written: a reply, or nothing where a call of the
--- link failed before all was heard
+-- a connection with this input, to which this is written: what its head waits for and a reply; or where a call
+-- of the link failed before all was heard, nothing or a front of what its head waits for
 pub data IsConnected (serves : Serving) (input written : List ℕ) (faults faults' : ℕ) (before after : Around) (kept : Kept) : Kept → Served → Type 0 where
   Answered :
-      (kept' : Kept) (answer : Said) (served : Served) →
+      (first rest : List ℕ) (kept' : Kept) (answer : Said) (served : Served) →
+      IsInvited input first → written ≡ first ++ rest →
       IsReply serves input before after kept kept' answer →
-      IsDelivered served faults faults' answer written →
+      IsDelivered served faults faults' answer rest →
       IsConnected serves input written faults faults' before after kept kept' served
   Unheard :
       written ≡ [] → after ≡ before → Rose faults faults' →
+      IsConnected serves input written faults faults' before after kept kept Dropped
+  HalfHeard :
+      (first lost : List ℕ) → IsInvited input first → first ≡ written ++ lost →
+      after ≡ before → Rose faults faults' →
       IsConnected serves input written faults faults' before after kept kept Dropped
 
 -- the talk of a link went on to the end of a connection: what was left is the input, and what was

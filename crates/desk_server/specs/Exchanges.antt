@@ -1,13 +1,14 @@
 -- What is asked on a connection by the whole of its input, and what is answered (RFC 9112).
 -- Worked examples: crates/tests_serving/stdin.
-use Rattle.std.specs.Prelude.{◌≡◌, ℕ, ℤ, List, ◌∷◌, ◌++◌, length, take, codes, nat_lt, ◌==◌, Option, None, Some, Result, Ok, Err, ⊤, if◌then◌else◌}
+use Rattle.std.specs.Prelude.{◌≡◌, ℕ, ℤ, List, [], ◌∷◌, ◌++◌, length, take, codes, nat_lt, ◌==◌, Option, None, Some, Result, Ok, Err, ⊤, if◌then◌else◌}
 use Rattle.httparse.specs.Grammar.{RequestHead}
 use Rattle.desk_io.specs.Causes.{Rose}
 use Rattle.desk_tables.specs.Tables.{Kept}
 use Rattle.desk_requests.specs.Replies.{Said}
 use Rattle.desk_requests.specs.declared.ask.Request.{Request}
+use Rattle.desk_http.specs.Expects.{continue_reply, waits}
 use Rattle.desk_http.specs.Heads.{BeginsWith, HasNoHead, Heard, said}
-use Rattle.desk_http.specs.Lines.{stated_length}
+use Rattle.desk_http.specs.Hosts.{served_length}
 use Rattle.desk_http.specs.Refusals.{refusal_status}
 use Rattle.desk_http.specs.Replies.{or_nothing, phrase, reply_head}
 use Rattle.desk_http.specs.Requests.{request_of}
@@ -25,7 +26,7 @@ asked_of (Ok request) = Asks request
 asked_of (Err fault) = Refuses (refusal_status fault)
 
 -- what is asked by a head and all that comes behind it, where so long a body is stated: none where
--- that isn't said, where it is too long, and where it isn't whole
+-- that isn't said or another host is named, where it is too long, and where it isn't whole
 abbrev pub framed : Heard → List ℕ → Option ℕ → Asked
 framed head rest None = Refuses 400
 framed head rest (Some count) =
@@ -37,9 +38,26 @@ framed head rest (Some count) =
 pub data IsAsked (input : List ℕ) (asked : Asked) : Type 0 where
   Headed :
       (written : RequestHead) (begins : BeginsWith input written) →
-      asked ≡ framed (said written) begins.rest (stated_length (said written).lines) →
+      asked ≡ framed (said written) begins.rest (served_length (said written).lines) →
       IsAsked input asked
   Headless : HasNoHead input → asked ≡ Refuses 400 → IsAsked input asked
+
+-- what is said before a body of this length is read: that it may come, where its head waits for that
+abbrev pub invitation : Heard → ℕ → List ℕ
+invitation head count = if waits head count then continue_reply else []
+
+-- the same where the length is stated; a body that is too long isn't read
+abbrev pub invited : Heard → Option ℕ → List ℕ
+invited head None = []
+invited head (Some count) = if nat_lt MAX_BODY_BYTES count then [] else invitation head count
+
+-- what is said to the head that an input begins with before its body is read; nothing where it begins with none
+pub data IsInvited (input first : List ℕ) : Type 0 where
+  AtHead :
+      (written : RequestHead) (begins : BeginsWith input written) →
+      first ≡ invited (said written) (served_length (said written).lines) →
+      IsInvited input first
+  AtNone : HasNoHead input → first ≡ [] → IsInvited input first
 
 -- the phrase of a status and a line feed
 abbrev pub phrase_line : ℕ → List ℕ

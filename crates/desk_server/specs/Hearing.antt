@@ -8,7 +8,7 @@ use Rattle.desk_links.specs.Links.{GoesOn, IsAtEnd, Talk}
 use Rattle.desk_requests.specs.declared.ask.Request.{Request}
 use Rattle.desk_http.specs.Heads.{BeginsWith, HasNoHead}
 use Rattle.desk_http.specs.declared.fault.BadRequest.TheVariants.{Malformed, Memory, NotFound}
-use Rattle.desk_server.specs.Exchanges.{Asked, Asks, IsAsked, Refuses}
+use Rattle.desk_server.specs.Exchanges.{Asked, Asks, IsAsked, IsInvited, Refuses}
 use Rattle.desk_server.specs.declared.hear.Unheard.{Unheard}
 use Rattle.desk_server.specs.declared.hear.Unheard.TheVariants as unheard
 
@@ -26,6 +26,13 @@ pub record Hears (talk talk' : Option Talk) (P : List ℕ → Type 0) : Type 0 w
 -- it holds of what was heard with what is left
 abbrev pub HearsInput : Option Talk → Option Talk → (List ℕ → Type 0) → Type 0
 HearsInput talk talk' P = Hears talk talk' (λ heard. P (heard ++ left_of talk'))
+
+-- bytes were heard and bytes were said, and this holds of all that comes and of what was said
+pub record HearsOver (talk talk' : Option Talk) (P : List ℕ → List ℕ → Type 0) : Type 0 where
+  pub heard : List ℕ
+  pub said : List ℕ
+  pub goes : GoesOn talk talk' heard said
+  pub holds : P (heard ++ left_of talk') said
 
 -- what comes behind these bytes doesn't settle which head is at their front
 abbrev pub IsSettled : List ℕ → Type 0
@@ -79,6 +86,26 @@ IsHeard (Err (unheard.Refused NotFound)) input = IsAsked input (Refuses 404)
 IsHeard (Err (unheard.Refused Memory)) input = ⊤
 IsHeard (Err unheard.TooLong) input = IsAsked input (Refuses 413)
 IsHeard (Err unheard.Failed) input = ⊤
+
+-- the bytes are a front of these
+pub record IsFront (front whole : List ℕ) : Type 0 where
+  pub lost : List ℕ
+  pub parts : whole ≡ front ++ lost
+
+-- this was heard behind what was to be said first, where that is asked
+abbrev pub HeardBehind : Result Request Unheard → Asked → List ℕ → List ℕ → Type 0
+HeardBehind (Err unheard.Failed) asked first said = IsFront said first
+HeardBehind result asked first said = HeardAs result asked × (said ≡ first)
+
+-- nothing was said before a call of the link failed, or a front of what was to be said first
+pub data IsUnheard (input said : List ℕ) : Type 0 where
+  Silent : said ≡ [] → IsUnheard input said
+  Inviting : (first : List ℕ) → IsInvited input first → IsFront said first → IsUnheard input said
+
+-- this was heard where the input is that, and this was said first
+abbrev pub IsHeardOver : Result Request Unheard → List ℕ → List ℕ → Type 0
+IsHeardOver (Err unheard.Failed) input said = IsUnheard input said
+IsHeardOver result input said = IsHeard result input × IsInvited input said
 
 -- a front of the bytes was said, and all of them where the call is done
 pub record SaysFront (talk talk' : Option Talk) (bytes : List ℕ) (result : Result Unit Failed) : Type 0 where

@@ -75,6 +75,7 @@ fn refusal_of<S: Service>(alloc: Global, unheard: Unheard) -> Option<Reply>
         → IsHeard (Err unheard) input → IsReply S.serves input around around kept kept
         (said reply)) }
     ensures status { IfSome result (λ reply. IsStatus reply.status) }
+    ensures some { IfSome result (λ _. ¬ (unheard ≡ Unheard.Failed)) }
     ensures none { IfNone result (unheard ≡ Unheard.Failed) }
 {
     match unheard {
@@ -110,8 +111,8 @@ fn serve_today<S: Service, K: Keeper, C: Clock>(
     }
 }
 
-/// Hears one request on a link, and says the reply. A request that isn't served gets a refusal of
-/// status 400, 404 or 413; where the clock fails the reply is a 503, and where memory is wanting a
+/// Hears one request on a link, and says the reply; before that it tells a request that waits to go
+/// on with its body. A request that isn't served gets a refusal of status 400, 404 or 413; where the clock fails the reply is a 503, and where memory is wanting a
 /// 507. Where a call of the link fails the connection is dropped, and what the request changed stays.
 pub fn connection<S: Service, L: Link, K: Keeper, C: Clock>(
     alloc: Global,

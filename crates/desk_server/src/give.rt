@@ -17,7 +17,7 @@ use desk_requests::Reply;
 const MEMORY_STATUS: u16 = 507;
 
 // Says all of these bytes.
-fn say<L: Link>(link: &mut L, bytes: &[u8]) -> Result<(), Failed>
+pub(crate) fn say<L: Link>(link: &mut L, bytes: &[u8]) -> Result<(), Failed>
     ensures front { SaysFront (L.talk link.old) (L.talk link.new) bytes.now result }
     ensures cause { HasCause (L.faults link.old) (L.faults link.new) result }
 {

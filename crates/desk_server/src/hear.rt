@@ -6,10 +6,13 @@ ghost use Rattle.desk_http.specs.Heads.{HasNoHead, heard};
 ghost use Rattle.desk_http.specs.Requests.{request_of};
 ghost use Rattle.desk_http.specs.Limits.{MAX_HEAD_BYTES, MAX_BODY_BYTES};
 ghost use Rattle.desk_service.specs.Service.{IsShort};
-ghost use Rattle.desk_server.specs.Exchanges.{asked_of, framed};
-ghost use Rattle.desk_server.specs.Hearing.{Grows, HeardAs, Hears, HearsFront, HearsInput, IsBody, IsHeard, IsSettled, IsStop};
+ghost use Rattle.desk_server.specs.Exchanges.{asked_of, framed, invitation};
+ghost use Rattle.desk_server.specs.Hearing.{Grows, HeardAs, HeardBehind, Hears, HearsFront, HearsInput, HearsOver, IsBody, IsHeardOver, IsSettled, IsStop, SaysFront};
 
-use desk_http::{BadRequest, Head, HeadState, MAX_BODY_BYTES, MAX_HEAD_BYTES, read_head, request};
+use crate::give::say;
+use desk_http::{
+    BadRequest, CONTINUE, Head, HeadState, MAX_BODY_BYTES, MAX_HEAD_BYTES, read_head, request,
+};
 use desk_io::Failed;
 use desk_links::Link;
 use desk_requests::Request;
@@ -139,11 +142,45 @@ fn hear_asked<L: Link>(
     }
 }
 
+// Tells a request that waits with its body of this length to go on.
+fn invite<L: Link>(link: &mut L, head: &Head<'_>, body: u64) -> Result<(), Failed>
+    ensures front { SaysFront (L.talk link.old) (L.talk link.new)
+        (invitation (heard head.now) body) result }
+    ensures cause { HasCause (L.faults link.old) (L.faults link.new) result }
+{
+    if head.waits(body) {
+        say(link, CONTINUE)
+    } else {
+        Ok(())
+    }
+}
+
+// Hears the body of a request that has this head, once it was told to go on where it waits for that.
+fn hear_invited<L: Link>(
+    alloc: Global,
+    link: &mut L,
+    head: Head<'_>,
+    front: &[u8],
+    body: u64,
+) -> Result<Request, Unheard>
+    requires { body ≤ MAX_BODY_BYTES }
+    ensures asked { HearsOver (L.talk link.old) (L.talk link.new) (λ more said.
+        HeardBehind result (framed (heard head.entry) (front.now ++ more) (Some body))
+        (invitation (heard head.entry) body) said) }
+    ensures later { L.faults link.old ≤ L.faults link.new }
+    ensures failed { IsErrOf result Unheard.Failed → Rose (L.faults link.old) (L.faults link.new) }
+{
+    match invite(link, &head, body) {
+        Ok(()) => hear_asked(alloc, link, head, front, body as usize),
+        Err(Failed) => Err(Unheard::Failed),
+    }
+}
+
 // Hears the rest of a request, where these bytes were read until its head is settled.
 fn hear_rest<L: Link>(alloc: Global, link: &mut L, bytes: &[u8]) -> Result<Request, Unheard>
     requires { IsSettled bytes.now ⊎ IsAtEnd (L.talk link.old) }
-    ensures heard { HearsInput (L.talk link.old) (L.talk link.new)
-        (λ more. IsHeard result (bytes.now ++ more)) }
+    ensures heard { HearsOver (L.talk link.old) (L.talk link.new)
+        (λ more said. IsHeardOver result (bytes.now ++ more) said) }
     ensures later { L.faults link.old ≤ L.faults link.new }
     ensures failed { IsErrOf result Unheard.Failed → Rose (L.faults link.old) (L.faults link.new) }
 {
@@ -152,7 +189,7 @@ fn hear_rest<L: Link>(alloc: Global, link: &mut L, bytes: &[u8]) -> Result<Reque
             if body > MAX_BODY_BYTES {
                 Err(Unheard::TooLong)
             } else {
-                hear_asked(alloc, link, head, &bytes[used..], body as usize)
+                hear_invited(alloc, link, head, &bytes[used..], body)
             }
         }
         HeadState::More => Err(Unheard::Refused(BadRequest::Malformed)),
@@ -160,9 +197,10 @@ fn hear_rest<L: Link>(alloc: Global, link: &mut L, bytes: &[u8]) -> Result<Reque
     }
 }
 
-// Hears a request, and no byte behind it. No body is read that is too long.
+// Hears a request, and no byte behind it, and says before its body that this may come, where the
+// head waits for that. No body is read that is too long.
 pub(crate) fn hear_request<L: Link>(alloc: Global, link: &mut L) -> Result<Request, Unheard>
-    ensures heard { HearsInput (L.talk link.old) (L.talk link.new) (IsHeard result) }
+    ensures heard { HearsOver (L.talk link.old) (L.talk link.new) (IsHeardOver result) }
     ensures short { IfOk result (λ request. IsShort request.ask) }
     ensures later { L.faults link.old ≤ L.faults link.new }
     ensures failed { IsErrOf result Unheard.Failed → Rose (L.faults link.old) (L.faults link.new) }
