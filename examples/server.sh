@@ -1,7 +1,7 @@
 #!/bin/sh
 # Signs a module off through the desk's server: two people put a file each, one asks for the ruling,
 # a finding is waived, the module is signed off, a request comes again and gets the reply that was
-# kept, the database is read, and a row of it is made a bad one. What it writes is in examples/stored/server.out, where TODAY and
+# kept, what was signed is seen to be what is there, the database is read, and a row of it is made a bad one. What it writes is in examples/stored/server.out, where TODAY and
 # LATER stand for the dates.
 #
 # Usage: examples/server.sh [PORT]
@@ -56,7 +56,7 @@ ask() {
 }
 
 serve_and_ask() {
-  "$program" serve "$port" 9 &
+  "$program" serve "$port" 10 &
   server=$!
   ask ann 1 --data-binary @adder.v PUT /files/adder.v
   ask bob 1 --data-binary @pair.v PUT /files/pair.v
@@ -67,6 +67,7 @@ serve_and_ask() {
   ask eve 1 --data-binary '' POST /modules/pair/signoffs
   ask eve 1 --data-binary '' POST /modules/pair/signoffs
   ask ann 5 --data-binary '' GET /signoffs
+  ask ann 6 --data-binary '' GET /modules/pair/reach
   wait "$server"
   echo "served: $?"
 }

@@ -39,8 +39,11 @@ fn push_ask(alloc: Global, out: &mut Vec<u8>, ask: &Ask) -> Result<(), Stop> {
             push_word(out, text.as_bytes())
         }
         Ask::GetFile(name) => push_named(out, b"get", name),
+        Ask::FileText(name) => push_named(out, b"text", name),
+        Ask::Files => push_word(out, b"files"),
         Ask::DropFile(name) => push_named(out, b"drop", name),
         Ask::Ruling(top) => push_named(out, b"ruling", top),
+        Ask::Reach(top) => push_named(out, b"reach", top),
         Ask::SignOff(top) => push_named(out, b"sign", top),
         Ask::SignOffs => push_word(out, b"signoffs"),
         Ask::Waive(waiver) => push_waiver(alloc, out, waiver),
