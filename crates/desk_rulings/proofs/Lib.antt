@@ -5,5 +5,6 @@ mod Keys
 pub mod Kept
 pub mod Least
 pub mod Loops
+mod ReachExample
 pub mod Room
 pub mod Subjects

@@ -1,5 +1,5 @@
 -- Steps of loops over lists.
-use Rattle.std.proofs.Common.{◌≡◌, ◌∙◌, Bor, ℕ, suc, ◌<◌, ◌+◌, Bool, true, false, List, [], ◌∷◌, ◌++◌, length, map, take, drop, get_or, ap, sym, refl}
+use Rattle.std.proofs.Common.{◌≡◌, ◌∙◌, Bor, ℕ, ◌<◌, ◌+◌, List, [], ◌∷◌, ◌++◌, length, map, take, drop, get_or, ap, sym, refl}
 use Rattle.std.specs.Prelude.{ℤ, Option, count_by, cond}
 use Rattle.std.specs.Option.{option_and_then}
 use Rattle.std.proofs.lemmas.List.{append_assoc, at_drop_more, map-append, take_more}

@@ -76,7 +76,7 @@ fn push_file(out: &mut Vec<u8>, files: &[FileRow], name: &Text) -> Result<(), Me
 }
 
 // The digest of the files of these names.
-fn reach_of(alloc: Global, files: &[FileRow], reached: &[Text]) -> Result<Digest, Memory>
+pub(crate) fn reach_of(alloc: Global, files: &[FileRow], reached: &[Text]) -> Result<Digest, Memory>
     ensures { IfOk result (λ reach. reach ≡ reach_of (rows_of files.now reached.now)) }
 {
     let mut lines = Vec::new(alloc);

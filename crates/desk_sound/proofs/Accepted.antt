@@ -34,7 +34,7 @@ use Rattle.desk_requests.specs.declared.ask.Ask.TheVariants as ask
 use Rattle.desk_requests.specs.declared.ask.Request.{Request}
 use Rattle.desk_requests.specs.declared.ask.WaiverAsk.{WaiverAsk}
 use Rattle.desk_bodies.specs.Bodies.{file_text}
-use Rattle.desk_records.specs.Machine.{by_tables, change_outcome, drop_outcome, file_answer, file_row, fills_files, fills_signoffs, fills_waivers, full_table, is_to, kept_row, request_outcome, revocation, revoke_outcome, revoke_refusal, unless_full, unless_kept}
+use Rattle.desk_records.specs.Machine.{by_tables, change_outcome, drop_outcome, file_answer, file_row, fills_files, fills_signoffs, fills_waivers, full_table, is_to, kept_row, request_outcome, revocation, revoke_outcome, revoke_refusal, text_answer, unless_full, unless_kept}
 use Rattle.desk_records.specs.Outcomes.{Outcome, Told, Done, Open}
 use Rattle.desk_rulings.specs.Rulings.{Site, Verdict, left_of, standing_in, standing_of}
 use Rattle.desk_rulings.specs.Grants.{asked_site, grant_unless, refused_at, waive_at, waive_outcome, waiver_of, waiver_row}
@@ -120,6 +120,10 @@ got_holds : (kept : Kept) (request : Request) (found : Option FileRow) → Holds
 got_holds kept request None = tt
 got_holds kept request (Some row) = tt
 
+text_holds : (kept : Kept) (request : Request) (found : Option FileRow) → Holds kept request (text_answer found)
+text_holds kept request None = tt
+text_holds kept request (Some row) = tt
+
 dropped_holds : (kept : Kept) (request : Request) (found : Option FileRow) (name : List ℕ) → Holds kept request (drop_outcome found name request)
 dropped_holds kept request None name = tt
 dropped_holds kept request (Some row) name = (tt, reply_200 request _)
@@ -147,9 +151,13 @@ tables_hold (ask.PutFile name text) request today kept sound lawful room =
     (put_holds name text kept request sound lawful room, reply_200 request _)
 tables_hold (ask.GetFile name) request today kept sound lawful room =
     got_holds kept request (find (has_name name) kept.files)
+tables_hold (ask.FileText name) request today kept sound lawful room =
+    text_holds kept request (find (has_name name) kept.files)
+tables_hold ask.Files request today kept sound lawful room = tt
 tables_hold (ask.DropFile name) request today kept sound lawful room =
     dropped_holds kept request (find (has_name name) kept.files) name
 tables_hold (ask.Ruling top) request today kept sound lawful room = tt
+tables_hold (ask.Reach top) request today kept sound lawful room = tt
 tables_hold (ask.SignOff top) request today kept sound lawful room = tt
 tables_hold ask.SignOffs request today kept sound lawful room = tt
 tables_hold (ask.Waive it) request today kept sound lawful room = tt

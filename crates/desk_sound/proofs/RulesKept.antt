@@ -18,7 +18,7 @@ use Rattle.desk_requests.specs.declared.ask.Ask.{Ask}
 use Rattle.desk_requests.specs.declared.ask.Ask.TheVariants as ask
 use Rattle.desk_requests.specs.declared.ask.Request.{Request}
 use Rattle.desk_requests.specs.declared.ask.WaiverAsk.{WaiverAsk}
-use Rattle.desk_records.specs.Machine.{by_tables, file_answer, fills_signoffs, fills_waivers, kept_row, request_outcome}
+use Rattle.desk_records.specs.Machine.{by_tables, file_answer, fills_signoffs, fills_waivers, kept_row, request_outcome, text_answer}
 use Rattle.desk_records.specs.Outcomes.{Outcome, Told, Done, Open}
 use Rattle.desk_rulings.specs.Rulings.{Verdict}
 use Rattle.desk_rulings.specs.Grants.{waive_outcome}
@@ -50,11 +50,18 @@ got_no_change : (found : Option FileRow) → IsNoChange (file_answer found)
 got_no_change None = tt
 got_no_change (Some row) = tt
 
+text_no_change : (found : Option FileRow) → IsNoChange (text_answer found)
+text_no_change None = tt
+text_no_change (Some row) = tt
+
 no_change : (it : Ask) (request : Request) (today : ℤ) (kept : Kept) → changes it ≡ false → IsNoChange (by_tables it request today kept)
 no_change (ask.PutFile name text) request today kept isnt = absurd (cc)
 no_change (ask.GetFile name) request today kept isnt = got_no_change (find (has_name name) kept.files)
+no_change (ask.FileText name) request today kept isnt = text_no_change (find (has_name name) kept.files)
+no_change ask.Files request today kept isnt = tt
 no_change (ask.DropFile name) request today kept isnt = absurd (cc)
 no_change (ask.Ruling top) request today kept isnt = tt
+no_change (ask.Reach top) request today kept isnt = tt
 no_change (ask.SignOff top) request today kept isnt = absurd (cc)
 no_change ask.SignOffs request today kept isnt = tt
 no_change (ask.Waive it) request today kept isnt = absurd (cc)
