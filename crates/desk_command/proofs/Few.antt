@@ -7,7 +7,7 @@ use Rattle.desk_links.specs.Doors.{Ended}
 use Rattle.desk_requests.specs.Replies.{Said}
 use Rattle.desk_core.specs.Machine.{AreAccepted}
 use Rattle.desk_core.proofs.Accepted.{first_accepted}
-use Rattle.desk_server.specs.Connections.{Answered, IsConnected, IsDelivered, Unheard}
+use Rattle.desk_server.specs.Connections.{Answered, HalfHeard, IsConnected, IsDelivered, Unheard}
 use Rattle.desk_server.specs.Exchanges.{Around, IsReply, NoDay, OutOfMemory, Refused, Refuses, Served}
 use Rattle.desk_core.specs.Serving.{ServesRightly}
 use Rattle.desk_server.specs.Servings.{AreLater, Done, Next, Run, served_of}
@@ -44,16 +44,19 @@ given_status (Replied status) faults faults' answer written given is =
 given_status Dropped faults faults' answer written given is = absurd (true≢false (sym is))
 
 link_cause : (input written : List ℕ) (faults faults' : ℕ) (before after : Around) (kept kept' : Kept) (served : Ending) → AreAccepted kept.replies → IsConnected ServesRightly input written faults faults' before after kept kept' served → is_unavailable served ≡ true → RoseAround before after
-link_cause input written faults faults' before after kept kept' served all (Answered kept'' answer ending reply given) is =
+link_cause input written faults faults' before after kept kept' served all (Answered first rest kept'' answer ending invited parts reply given) is =
     reply_cause input before after kept kept'' answer all reply
-    (given_status ending faults faults' answer written given is)
+    (given_status ending faults faults' answer rest given is)
 link_cause input written faults faults' before after kept kept' served all (Unheard nothing same rose) is =
+    absurd (true≢false (sym is))
+link_cause input written faults faults' before after kept kept' served all (HalfHeard first lost invited front same rose) is =
     absurd (true≢false (sym is))
 
 link_accepted : (input written : List ℕ) (faults faults' : ℕ) (before after : Around) (kept kept' : Kept) (served : Ending) → AreAccepted kept.replies → IsConnected ServesRightly input written faults faults' before after kept kept' served → AreAccepted kept'.replies
-link_accepted input written faults faults' before after kept kept' served all (Answered kept'' answer ending reply given) =
+link_accepted input written faults faults' before after kept kept' served all (Answered first rest kept'' answer ending invited parts reply given) =
     reply_accepted input before after kept kept'' answer all reply
 link_accepted input written faults faults' before after kept kept' served all (Unheard nothing same rose) = all
+link_accepted input written faults faults' before after kept kept' served all (HalfHeard first lost invited front same rose) = all
 
 -- ---- counts
 

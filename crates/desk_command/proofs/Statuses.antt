@@ -3,7 +3,7 @@ use Rattle.std.proofs.Common.{◌≡◌, ℕ, Bool, true, false, List, Option, S
 use Rattle.std.specs.Prelude.{⊤, ◌==◌, if◌then◌else◌}
 use Rattle.desk_requests.specs.declared.ask.Request.{Request}
 use Rattle.desk_http.specs.Heads.{Heard, said}
-use Rattle.desk_http.specs.Lines.{stated_length}
+use Rattle.desk_http.specs.Hosts.{served_length}
 use Rattle.desk_http.specs.Requests.{request_of}
 use Rattle.desk_http.specs.declared.fault.BadRequest.{BadRequest}
 use Rattle.desk_http.specs.declared.fault.BadRequest.TheVariants.{Malformed, Memory, NotFound}
@@ -34,5 +34,5 @@ framed_plain head rest (Some count) =
 
 pub refused_plain : (input : List ℕ) (asked : Asked) → IsAsked input asked → IsPlain asked
 refused_plain input asked (Headed written begins is) =
-    subst IsPlain (sym is) (framed_plain (said written) begins.rest (stated_length (said written).lines))
+    subst IsPlain (sym is) (framed_plain (said written) begins.rest (served_length (said written).lines))
 refused_plain input asked (Headless none is) = subst IsPlain (sym is) refl

@@ -34,6 +34,7 @@ use Rattle.desk_tables.specs.declared.rows.SignOffRow.{SignOffRow}
 use Rattle.desk_tables.specs.declared.rows.Table.{Table}
 use Rattle.desk_requests.specs.Replies.{Said}
 use Rattle.desk_requests.specs.Requests.{changes}
+use Rattle.desk_requests.specs.declared.ask.Ask.{Ask}
 use Rattle.desk_requests.specs.declared.ask.Ask.TheVariants as ask
 use Rattle.desk_requests.specs.declared.ask.Request.{Request}
 use Rattle.desk_bodies.specs.Bodies.{granted_text, with_number, with_text}
@@ -47,7 +48,8 @@ use Rattle.design_db.specs.desk_memo.declared.answer.Answer.TheVariants.{Ruled, 
 use Rattle.design_db.specs.Answers.{Answer, IsOfDesign, IsOfFront}
 use Rattle.desk_core.specs.Files.{AreFilesOf}
 use Rattle.desk_core.specs.Headline.{IsNewSignOff, IsSignedClean, SaysClean}
-use Rattle.desk_core.specs.Outcomes.{IsJudged, IsJudgedFor, IsOutcome, IsSettled, judged_with, top_of, with_answer}
+use Rattle.desk_core.specs.Outcomes.{IsJudged, IsOpened, IsOutcome, IsSettled, judged_with, top_of, with_answer}
+use Rattle.desk_core.specs.Reaches.{reach_asked}
 use Rattle.desk_core.specs.Reports.{verdict_in}
 use Rattle.desk_core.specs.Serving.{IsServed, Answered, Accepted, Serves, Served, Unavailable, OutOfMemory}
 
@@ -153,7 +155,7 @@ judged_clean request today kept top outcome asks is says =
 with_room : (full : Option Table) (request : Request) (today : ℤ) (kept : Kept) (top : List ℕ) (outcome : Outcome) → request.ask ≡ ask.SignOff top → IsSettled request today kept (unless_full full Open) outcome → SaysCleanIn outcome → IsSignedClean kept top
 with_room None request today kept top outcome asks is says =
     judged_clean request today kept top outcome asks
-    (subst (λ (found : Option (List ℕ)). IsJudgedFor request today kept found outcome) (ap top_of asks) is) says
+    (subst (λ (it : Ask). IsOpened request today kept (reach_asked it) (top_of it) outcome) asks is) says
 with_room (Some table) request today kept top outcome asks is says =
     let told : SaysCleanIn (full_refusal table) = subst SaysCleanIn is says in
     absurd (let no : 409 ≡ 201 = told.accepted in omega (arith, no))

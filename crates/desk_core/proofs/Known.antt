@@ -14,7 +14,8 @@ use Rattle.desk_records.specs.Outcomes.{Outcome, Told, Done, Open}
 use Rattle.design_db.specs.Answers.{Answer}
 use Rattle.design_db.specs.Stores.{Store, answer_of}
 use Rattle.desk_core.specs.Machine.{IsKnown}
-use Rattle.desk_core.specs.Outcomes.{IsJudgedFor, IsOutcome, IsSettled, top_of, with_answer}
+use Rattle.desk_core.specs.Outcomes.{IsJudgedFor, IsOpened, IsOutcome, IsSettled, top_of, with_answer}
+use Rattle.desk_core.specs.Reaches.{reach_asked}
 
 -- an answer that is found is there
 pub is_there : (answer : Answer) (found : Option Answer) → Some answer ≡ found → IsSome found
@@ -31,7 +32,10 @@ known_by (ask.Ruling other) top store is some =
     let same : top ≡ other = cc in subst (λ (name : List ℕ). IsSome (answer_of store name)) same some
 known_by (ask.PutFile name text) top store is some = tt
 known_by (ask.GetFile name) top store is some = tt
+known_by (ask.FileText name) top store is some = tt
+known_by ask.Files top store is some = tt
 known_by (ask.DropFile name) top store is some = tt
+known_by (ask.Reach name) top store is some = tt
 known_by (ask.SignOff name) top store is some = tt
 known_by ask.SignOffs top store is some = tt
 known_by (ask.Waive it) top store is some = tt
@@ -47,7 +51,10 @@ settled_known : (request : Request) (today : ℤ) (kept : Kept) (it : Ask) (stor
 settled_known request today kept (ask.Ruling top) store asks never = absurd (never (open_ruling request today kept top asks))
 settled_known request today kept (ask.PutFile name text) store asks never = tt
 settled_known request today kept (ask.GetFile name) store asks never = tt
+settled_known request today kept (ask.FileText name) store asks never = tt
+settled_known request today kept ask.Files store asks never = tt
 settled_known request today kept (ask.DropFile name) store asks never = tt
+settled_known request today kept (ask.Reach name) store asks never = tt
 settled_known request today kept (ask.SignOff name) store asks never = tt
 settled_known request today kept ask.SignOffs store asks never = tt
 settled_known request today kept (ask.Waive other) store asks never = tt
@@ -68,7 +75,7 @@ ruling_told request today kept change top asks is =
     let unsettled : IsSettled request today kept Open (Done change) =
     subst (λ (it : Outcome). IsSettled request today kept it (Done change)) (open_ruling request today kept top asks) is in
     let judged : IsJudgedFor request today kept (Some top) (Done change) =
-    subst (λ (it : Option (List ℕ)). IsJudgedFor request today kept it (Done change)) (ap top_of asks) unsettled in
+    subst (λ (it : Ask). IsOpened request today kept (reach_asked it) (top_of it) (Done change)) asks unsettled in
     let no : Done change ≡ with_answer (ask.Ruling top) request today kept judged.files judged.answer =
     judged.is ∙ ap (λ (it : Ask). with_answer it request today kept judged.files judged.answer) asks in
     absurd (cc)
@@ -77,7 +84,10 @@ pub made_known : (request : Request) (today : ℤ) (kept : Kept) (change : Chang
 made_known request today kept change (ask.Ruling top) store asks is = absurd (ruling_told request today kept change top asks is)
 made_known request today kept change (ask.PutFile name text) store asks is = tt
 made_known request today kept change (ask.GetFile name) store asks is = tt
+made_known request today kept change (ask.FileText name) store asks is = tt
+made_known request today kept change ask.Files store asks is = tt
 made_known request today kept change (ask.DropFile name) store asks is = tt
+made_known request today kept change (ask.Reach name) store asks is = tt
 made_known request today kept change (ask.SignOff name) store asks is = tt
 made_known request today kept change ask.SignOffs store asks is = tt
 made_known request today kept change (ask.Waive other) store asks is = tt

@@ -6,6 +6,7 @@ mod Known
 pub mod Made
 pub mod Named
 pub mod Places
+pub mod Reached
 pub mod Rules
 pub mod Same
 pub mod Settled

@@ -1,5 +1,5 @@
 -- Tables of version 2 that break no rule are such tables after a request is served.
-use Rattle.std.proofs.Common.{◌≡◌, ◌∙◌, ℕ, List, refl, sym, ap}
+use Rattle.std.proofs.Common.{◌≡◌, ◌∙◌, ℕ, List, Option, None, Some, refl, sym, ap}
 use Rattle.std.specs.Prelude.{ℤ}
 use Rattle.desk_tables.specs.Migrations.{AreReady}
 use Rattle.desk_tables.specs.Tables.{Kept}
@@ -17,7 +17,9 @@ use Rattle.desk_sound.proofs.RulesKept.{rules_kept}
 use Rattle.design_db.specs.desk_memo.declared.answer.Answer.TheVariants.{Ruled, Refused}
 use Rattle.design_db.specs.Answers.{Answer}
 use Rattle.desk_core.specs.Reports.{verdict_in}
-use Rattle.desk_core.specs.Outcomes.{IsJudged, IsJudgedFor, IsOutcome, IsSettled, top_of, with_answer}
+use Rattle.desk_core.specs.Outcomes.{IsJudged, IsJudgedFor, IsOpened, IsOutcome, IsSettled, top_of, with_answer}
+use Rattle.desk_core.specs.Reaches.{reach_asked}
+use Rattle.desk_core.proofs.Reached.{reached_none}
 use Rattle.desk_core.specs.Serving.{Accepted, Answered, IsServed, OutOfMemory, Served, Serves, Unavailable}
 
 module _ (request : Request) (today : ℤ) (kept : Kept) (change : Change) (is_open : request_outcome request today kept ≡ Open) where
@@ -39,9 +41,12 @@ module _ (request : Request) (today : ℤ) (kept : Kept) (change : Change) (is_o
   judged_from : (it : Ask) → request.ask ≡ it → IsJudgedFor request today kept (top_of it) (Done change) → IsAccepted request today kept change
   judged_from (ask.PutFile name text) asks judged = absurd judged
   judged_from (ask.GetFile name) asks judged = absurd judged
+  judged_from (ask.FileText name) asks judged = absurd judged
+  judged_from ask.Files asks judged = absurd judged
   judged_from (ask.DropFile name) asks judged = absurd judged
   judged_from (ask.Ruling top) asks judged =
       let told = answered (ask.Ruling top) top judged asks in absurd (cc)
+  judged_from (ask.Reach top) asks judged = absurd judged
   judged_from (ask.SignOff top) asks judged =
       signed_from top judged.files judged.answer asks (answered (ask.SignOff top) top judged asks)
   judged_from ask.SignOffs asks judged = absurd judged
@@ -50,11 +55,16 @@ module _ (request : Request) (today : ℤ) (kept : Kept) (change : Change) (is_o
   judged_from ask.Waivers asks judged = absurd judged
   judged_from (ask.Revoke id) asks judged = absurd judged
 
+opened_from : (request : Request) (today : ℤ) (kept : Kept) (change : Change) (asked : Option (List ℕ)) → request_outcome request today kept ≡ Open → IsOpened request today kept asked (top_of request.ask) (Done change) → IsAccepted request today kept change
+opened_from request today kept change None comes is = judged_from request today kept change comes request.ask refl is
+opened_from request today kept change (Some top) comes is =
+    absurd (reached_none change top kept is.answer is.is)
+
 settled_from : (request : Request) (today : ℤ) (kept : Kept) (change : Change) (outcome : Outcome) → request_outcome request today kept ≡ outcome → IsSettled request today kept outcome (Done change) → IsAccepted request today kept change
 settled_from request today kept change (Told answer) comes settled = absurd (cc)
 settled_from request today kept change (Done other) comes settled = ByTables (comes ∙ sym settled)
 settled_from request today kept change Open comes settled =
-    judged_from request today kept change comes request.ask refl settled
+    opened_from request today kept change (reach_asked request.ask) comes settled
 
 pub accepted_from : (request : Request) (today : ℤ) (kept : Kept) (change : Change) → IsOutcome request today kept (Done change) → IsAccepted request today kept change
 accepted_from request today kept change is =

@@ -21,7 +21,7 @@ use Rattle.desk_requests.specs.declared.ask.Ask.TheVariants as ask
 use Rattle.desk_requests.specs.declared.ask.Request.{Request}
 use Rattle.desk_requests.specs.declared.ask.WaiverAsk.{WaiverAsk}
 use Rattle.desk_service.specs.Service.{is_accepted, is_answered, IsShort}
-use Rattle.desk_records.specs.Machine.{by_tables, change_outcome, drop_outcome, file_answer, full_table, is_to, request_outcome, revocation, revoke_outcome, revoke_refusal, unless_full, unless_kept}
+use Rattle.desk_records.specs.Machine.{by_tables, change_outcome, drop_outcome, file_answer, full_table, is_to, request_outcome, revocation, revoke_outcome, revoke_refusal, text_answer, unless_full, unless_kept}
 use Rattle.desk_bodies.specs.Refusals.{conflict_with, word_line}
 use Rattle.desk_records.specs.Outcomes.{Outcome, Told, Done, Open, kept_said}
 use Rattle.desk_rulings.specs.Grants.{asked_site, grant_unless, refused_at, waive_at, waive_outcome, waiver_row}
@@ -29,7 +29,8 @@ use Rattle.desk_rulings.specs.Rulings.{Site, Verdict, left_of, standing_of}
 use Rattle.desk_rulings.specs.SignOffs.{accepted, edited_by, findings_stand, rows_of, signoff_outcome, signoff_row, unless_edited}
 use Rattle.design_db.specs.desk_memo.declared.answer.Answer.TheVariants.{Ruled, Refused}
 use Rattle.design_db.specs.Answers.{Answer}
-use Rattle.desk_core.specs.Outcomes.{IsJudgedFor, IsOutcome, IsSettled, top_of, with_answer}
+use Rattle.desk_core.specs.Outcomes.{IsJudgedFor, IsOpened, IsOutcome, IsSettled, top_of, with_answer}
+use Rattle.desk_core.specs.Reaches.{reach_asked, reach_with}
 use Rattle.desk_core.specs.Machine.{AreAccepted}
 use Rattle.desk_core.specs.Reports.{telling, verdict_in}
 use Rattle.desk_core.proofs.Accepted.{accepted_answered, found_accepted}
@@ -52,6 +53,10 @@ got_sound : (found : Option FileRow) → Sound (file_answer found)
 got_sound None = refl
 got_sound (Some row) = refl
 
+text_sound : (found : Option FileRow) → Sound (text_answer found)
+text_sound None = refl
+text_sound (Some row) = refl
+
 dropped_sound : (found : Option FileRow) (name : List ℕ) (request : Request) → Sound (drop_outcome found name request)
 dropped_sound None name request = refl
 dropped_sound (Some row) name request = record { short = tt; accepted = refl }
@@ -69,9 +74,12 @@ tables_sound : (it : Ask) (request : Request) (today : ℤ) (kept : Kept) → Is
 tables_sound (ask.PutFile name text) request today kept short =
     record { short = short; accepted = refl }
 tables_sound (ask.GetFile name) request today kept short = got_sound (find (has_name name) kept.files)
+tables_sound (ask.FileText name) request today kept short = text_sound (find (has_name name) kept.files)
+tables_sound ask.Files request today kept short = refl
 tables_sound (ask.DropFile name) request today kept short =
     dropped_sound (find (has_name name) kept.files) name request
 tables_sound (ask.Ruling top) request today kept short = tt
+tables_sound (ask.Reach top) request today kept short = tt
 tables_sound (ask.SignOff top) request today kept short = tt
 tables_sound ask.SignOffs request today kept short = refl
 tables_sound (ask.Waive it) request today kept short = tt
@@ -147,9 +155,12 @@ ruled false = refl
 answered : (it : Ask) (top : List ℕ) (request : Request) (today : ℤ) (kept : Kept) (files : List SourceFile) (answer : Answer) → top_of it ≡ Some top → Settles (with_answer it request today kept files answer)
 answered (ask.PutFile name text) top request today kept files answer looks = absurd (cc)
 answered (ask.GetFile name) top request today kept files answer looks = absurd (cc)
+answered (ask.FileText name) top request today kept files answer looks = absurd (cc)
+answered ask.Files top request today kept files answer looks = absurd (cc)
 answered (ask.DropFile name) top request today kept files answer looks = absurd (cc)
 answered (ask.Ruling it) top request today kept files answer looks =
     ruled (telling it today kept files answer).refused
+answered (ask.Reach it) top request today kept files answer looks = absurd (cc)
 answered (ask.SignOff it) top request today kept files (Ruled made reached) looks =
     signed it request today kept (verdict_in files made reached.items)
 answered (ask.SignOff it) top request today kept files (Refused line) looks = refl
@@ -160,12 +171,22 @@ answered (ask.Waive it) top request today kept files (Refused line) looks = refl
 answered ask.Waivers top request today kept files answer looks = absurd (cc)
 answered (ask.Revoke id) top request today kept files answer looks = absurd (cc)
 
+reached : (top : List ℕ) (kept : Kept) (answer : Option Answer) → Settles (reach_with top kept answer)
+reached top kept None = refl
+reached top kept (Some (Ruled made names)) = refl
+reached top kept (Some (Refused line)) = refl
+
 -- ---- either
 
 judged : (request : Request) (today : ℤ) (kept : Kept) (found : Option (List ℕ)) (outcome : Outcome) → top_of request.ask ≡ found → IsJudgedFor request today kept found outcome → Settles outcome
 judged request today kept None outcome looks is = absurd is
 judged request today kept (Some top) outcome looks is =
     subst Settles (sym is.is) (answered request.ask top request today kept is.files is.answer looks)
+
+opened : (request : Request) (today : ℤ) (kept : Kept) (asked looks : Option (List ℕ)) (outcome : Outcome) → top_of request.ask ≡ looks → IsOpened request today kept asked looks outcome → Settles outcome
+opened request today kept None looks outcome same is = judged request today kept looks outcome same is
+opened request today kept (Some top) looks outcome same is =
+    subst Settles (sym is.is) (reached top kept is.answer)
 
 told_settles : (answer : Said) (outcome : Outcome) → is_answered answer.status ≡ true → outcome ≡ Told answer → Settles outcome
 told_settles answer outcome sound is = subst Settles (sym is) sound
@@ -177,7 +198,7 @@ by : (request : Request) (today : ℤ) (kept : Kept) (settled outcome : Outcome)
 by request today kept (Told answer) outcome sound is = told_settles answer outcome sound is
 by request today kept (Done change) outcome sound is = done_settles change outcome sound is
 by request today kept Open outcome sound is =
-    judged request today kept (top_of request.ask) outcome refl is
+    opened request today kept (reach_asked request.ask) (top_of request.ask) outcome refl is
 
 settles : (request : Request) (today : ℤ) (kept : Kept) (outcome : Outcome) → AreAccepted kept.replies → IsShort request.ask → IsOutcome request today kept outcome → Settles outcome
 settles request today kept outcome all short is =

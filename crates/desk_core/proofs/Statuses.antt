@@ -23,7 +23,7 @@ use Rattle.desk_requests.specs.declared.ask.Request.{Request}
 use Rattle.desk_requests.specs.declared.ask.WaiverAsk.{WaiverAsk}
 use Rattle.desk_service.specs.Service.{is_accepted}
 use Rattle.desk_bodies.specs.Refusals.{conflict_with, word_line}
-use Rattle.desk_records.specs.Machine.{by_tables, change_outcome, drop_outcome, file_answer, full_table, is_to, request_outcome, revocation, revoke_outcome, revoke_refusal, unless_full, unless_kept}
+use Rattle.desk_records.specs.Machine.{by_tables, change_outcome, drop_outcome, file_answer, full_table, is_to, request_outcome, revocation, revoke_outcome, revoke_refusal, text_answer, unless_full, unless_kept}
 use Rattle.desk_records.specs.Outcomes.{Outcome, Told, Done, Open, kept_said}
 use Rattle.desk_rulings.specs.Grants.{asked_site, grant_unless, refused_at, waive_at, waive_outcome, waiver_row}
 use Rattle.desk_rulings.specs.Rulings.{Site, Verdict, left_of, standing_of}
@@ -31,7 +31,8 @@ use Rattle.desk_rulings.specs.SignOffs.{accepted, edited_by, findings_stand, row
 use Rattle.design_db.specs.desk_memo.declared.answer.Answer.TheVariants.{Ruled, Refused}
 use Rattle.design_db.specs.Answers.{Answer}
 use Rattle.desk_core.specs.Machine.{AreAccepted}
-use Rattle.desk_core.specs.Outcomes.{IsJudgedFor, IsOutcome, IsSettled, top_of, with_answer}
+use Rattle.desk_core.specs.Outcomes.{IsJudgedFor, IsOpened, IsOutcome, IsSettled, top_of, with_answer}
+use Rattle.desk_core.specs.Reaches.{reach_asked, reach_with}
 use Rattle.desk_core.specs.Reports.{telling, verdict_in}
 use Rattle.desk_core.proofs.Accepted.{found_accepted}
 
@@ -55,6 +56,10 @@ got_sound : (found : Option FileRow) → Sound (file_answer found)
 got_sound None = refl
 got_sound (Some row) = refl
 
+text_sound : (found : Option FileRow) → Sound (text_answer found)
+text_sound None = refl
+text_sound (Some row) = refl
+
 dropped_sound : (found : Option FileRow) (name : List ℕ) (request : Request) → Sound (drop_outcome found name request)
 dropped_sound None name request = refl
 dropped_sound (Some row) name request = refl
@@ -71,9 +76,12 @@ revoked_sound (Some fault) id request today = fault_sound fault
 tables_sound : (it : Ask) (request : Request) (today : ℤ) (kept : Kept) → Sound (by_tables it request today kept)
 tables_sound (ask.PutFile name text) request today kept = refl
 tables_sound (ask.GetFile name) request today kept = got_sound (find (has_name name) kept.files)
+tables_sound (ask.FileText name) request today kept = text_sound (find (has_name name) kept.files)
+tables_sound ask.Files request today kept = refl
 tables_sound (ask.DropFile name) request today kept =
     dropped_sound (find (has_name name) kept.files) name request
 tables_sound (ask.Ruling top) request today kept = tt
+tables_sound (ask.Reach top) request today kept = tt
 tables_sound (ask.SignOff top) request today kept = tt
 tables_sound ask.SignOffs request today kept = refl
 tables_sound (ask.Waive it) request today kept = tt
@@ -145,10 +153,16 @@ answered (ask.PutFile name text) request today kept files (Ruled made reached) =
 answered (ask.PutFile name text) request today kept files (Refused line) = refl
 answered (ask.GetFile name) request today kept files (Ruled made reached) = tt
 answered (ask.GetFile name) request today kept files (Refused line) = refl
+answered (ask.FileText name) request today kept files (Ruled made reached) = tt
+answered (ask.FileText name) request today kept files (Refused line) = refl
+answered ask.Files request today kept files (Ruled made reached) = tt
+answered ask.Files request today kept files (Refused line) = refl
 answered (ask.DropFile name) request today kept files (Ruled made reached) = tt
 answered (ask.DropFile name) request today kept files (Refused line) = refl
 answered (ask.Ruling it) request today kept files answer =
     ruled (telling it today kept files answer).refused
+answered (ask.Reach it) request today kept files (Ruled made reached) = tt
+answered (ask.Reach it) request today kept files (Refused line) = refl
 answered (ask.SignOff it) request today kept files (Ruled made reached) =
     signed it request today kept (verdict_in files made reached.items)
 answered (ask.SignOff it) request today kept files (Refused line) = refl
@@ -162,6 +176,11 @@ answered ask.Waivers request today kept files (Refused line) = refl
 answered (ask.Revoke id) request today kept files (Ruled made reached) = tt
 answered (ask.Revoke id) request today kept files (Refused line) = refl
 
+reached : (top : List ℕ) (kept : Kept) (answer : Option Answer) → Sound (reach_with top kept answer)
+reached top kept None = refl
+reached top kept (Some (Ruled made names)) = refl
+reached top kept (Some (Refused line)) = refl
+
 -- ---- either
 
 judged : (request : Request) (today : ℤ) (kept : Kept) (found : Option (List ℕ)) (outcome : Outcome) → IsJudgedFor request today kept found outcome → Sound outcome
@@ -169,10 +188,16 @@ judged request today kept None outcome is = absurd is
 judged request today kept (Some top) outcome is =
     subst Sound (sym is.is) (answered request.ask request today kept is.files is.answer)
 
+opened : (request : Request) (today : ℤ) (kept : Kept) (asked looks : Option (List ℕ)) (outcome : Outcome) → IsOpened request today kept asked looks outcome → Sound outcome
+opened request today kept None looks outcome is = judged request today kept looks outcome is
+opened request today kept (Some top) looks outcome is =
+    subst Sound (sym is.is) (reached top kept is.answer)
+
 by : (request : Request) (today : ℤ) (kept : Kept) (settled outcome : Outcome) → Sound settled → IsSettled request today kept settled outcome → Sound outcome
 by request today kept (Told answer) outcome sound is = subst Sound (sym is) sound
 by request today kept (Done change) outcome sound is = subst Sound (sym is) sound
-by request today kept Open outcome sound is = judged request today kept (top_of request.ask) outcome is
+by request today kept Open outcome sound is =
+    opened request today kept (reach_asked request.ask) (top_of request.ask) outcome is
 
 sound : (request : Request) (today : ℤ) (kept : Kept) (outcome : Outcome) → AreAccepted kept.replies → IsOutcome request today kept outcome → Sound outcome
 sound request today kept outcome all is =

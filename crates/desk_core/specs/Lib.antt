@@ -1,6 +1,7 @@
 pub mod Files
 pub mod Machine
 pub mod Reports
+pub mod Reaches
 pub mod Outcomes
 pub mod Serving
 pub mod Starting

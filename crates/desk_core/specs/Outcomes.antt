@@ -15,6 +15,7 @@ use Rattle.desk_rulings.specs.SignOffs.{signoff_outcome}
 use Rattle.design_db.specs.desk_memo.declared.answer.Answer.TheVariants.{Ruled, Refused}
 use Rattle.design_db.specs.Answers.{Answer, IsFresh}
 use Rattle.desk_core.specs.Files.{AreFilesOf}
+use Rattle.desk_core.specs.Reaches.{IsReached, reach_asked}
 use Rattle.desk_core.specs.Reports.{Telling, telling, verdict_in}
 
 -- the module has no design, and this line says why
@@ -63,9 +64,14 @@ abbrev pub IsJudgedFor : Request → ℤ → Kept → Option (List ℕ) → Outc
 IsJudgedFor request today kept None outcome = ⊥
 IsJudgedFor request today kept (Some top) outcome = IsJudged request today kept top outcome
 
+-- it comes to this where the tables alone don't settle it: by a module's reach, or by its ruling
+abbrev pub IsOpened : Request → ℤ → Kept → Option (List ℕ) → Option (List ℕ) → Outcome → Type 0
+IsOpened request today kept (Some top) looks outcome = IsReached top kept outcome
+IsOpened request today kept None looks outcome = IsJudgedFor request today kept looks outcome
+
 abbrev pub IsSettled : Request → ℤ → Kept → Outcome → Outcome → Type 0
 IsSettled request today kept Open outcome =
-    IsJudgedFor request today kept (top_of request.ask) outcome
+    IsOpened request today kept (reach_asked request.ask) (top_of request.ask) outcome
 IsSettled request today kept (Told answer) outcome = outcome ≡ Told answer
 IsSettled request today kept (Done change) outcome = outcome ≡ Done change
 

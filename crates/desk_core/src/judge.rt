@@ -1,5 +1,5 @@
 // What a request comes to, with what the files say of its module where the tables don't settle it.
-ghost use Rattle.std.specs.Prelude.{◌≡◌, ◌<◌, length, option_copied, IfOk, IsSome, OnErr, OnOk};
+ghost use Rattle.std.specs.Prelude.{◌≡◌, ◌<◌, length, option_copied, None, IfOk, IsSome, OnErr, OnOk};
 ghost use Rattle.desk_tables.specs.Tables.{kept_of};
 ghost use Rattle.desk_records.specs.Machine.{request_outcome};
 ghost use Rattle.desk_records.specs.Outcomes.{Open, outcome};
@@ -10,8 +10,10 @@ ghost use Rattle.design_db.specs.Stores.{answer_of};
 ghost use Rattle.desk_core.specs.Files.{AreFilesOf};
 ghost use Rattle.desk_core.specs.Machine.{IsKnown, KeepsAnswers, KeepsOthers};
 ghost use Rattle.desk_core.specs.Outcomes.{IsJudgedFor, IsOutcome, judged_with, refusal, ruling_outcome, top_of, with_answer, with_ruling};
+ghost use Rattle.desk_core.specs.Reaches.{IsReachOf, OnlyLooks, reach_asked};
 ghost use Rattle.desk_core.specs.Reports.{told_in};
 
+use crate::reach::{reach, reach_asked};
 use crate::replies::plainly;
 use crate::report::{TopReport, files_named, report_of, ruled_of};
 use design_db::{Answer, Db};
@@ -145,7 +147,7 @@ fn with_answer(
     }
 }
 
-// What a request comes to that the tables alone don't settle.
+// What a request comes to that the tables alone don't settle, and that looks at a ruling.
 fn judge(
     alloc: Global,
     records: &Records,
@@ -154,6 +156,7 @@ fn judge(
     today: Day,
 ) -> Result<Decision, Memory>
     requires open { request_outcome request.now today records.now ≡ Open }
+    requires ruled { reach_asked request.now.ask ≡ None }
     requires files { AreFilesOf records.now.files db.old.files }
     ensures is { IfOk result (λ made.
         IsJudgedFor request.now today records.now (top_of request.now.ask) (outcome made)) }
@@ -176,6 +179,30 @@ fn judge(
     }
 }
 
+// What a request comes to on a day that asks for no reach.
+fn settle(
+    alloc: Global,
+    records: &Records,
+    db: &mut Db,
+    request: &Request,
+    today: Day,
+) -> Result<Decision, Memory>
+    requires ruled { reach_asked request.now.ask ≡ None }
+    requires files { AreFilesOf records.now.files db.old.files }
+    ensures is { IfOk result (λ made. IsOutcome request.now today records.now (outcome made)) }
+    ensures known { OnOk result (IsKnown request.now.ask db.new) }
+    ensures files { db.new.files ≡ db.old.files }
+    ensures lasting { KeepsAnswers db.old db.new }
+    ensures others { KeepsOthers (top_of request.now.ask) db.old db.new }
+{
+    match records.decide(request, today) {
+        Ok(Decision::Open) => judge(alloc, records, db, request, today),
+        Ok(Decision::Tells(reply)) => Ok(Decision::Tells(reply)),
+        Ok(Decision::Makes(change)) => Ok(Decision::Makes(change)),
+        Err(Memory) => Err(Memory),
+    }
+}
+
 // What a request comes to on a day.
 pub(crate) fn decide(
     alloc: Global,
@@ -190,11 +217,12 @@ pub(crate) fn decide(
     ensures files { db.new.files ≡ db.old.files }
     ensures lasting { KeepsAnswers db.old db.new }
     ensures others { KeepsOthers (top_of request.now.ask) db.old db.new }
+    ensures reach { IfOk result (λ made.
+        IsReachOf (reach_asked request.now.ask) records.now db.old (outcome made)) }
+    ensures looks { OnlyLooks (reach_asked request.now.ask) db.old db.new }
 {
-    match records.decide(request, today) {
-        Ok(Decision::Open) => judge(alloc, records, db, request, today),
-        Ok(Decision::Tells(reply)) => Ok(Decision::Tells(reply)),
-        Ok(Decision::Makes(change)) => Ok(Decision::Makes(change)),
-        Err(Memory) => Err(Memory),
+    match reach_asked(&request.ask) {
+        Some(top) => reach(alloc, records, db, top),
+        None => settle(alloc, records, db, request, today),
     }
 }

@@ -6,6 +6,7 @@ mod desk;
 mod judge;
 pub mod law;
 mod next;
+mod reach;
 mod replies;
 mod report;
 mod serve;

@@ -9,6 +9,7 @@ ghost use Rattle.desk_core.specs.Files.{AreFilesOf, files_changed};
 ghost use Rattle.desk_core.specs.Headline.{IsNewSignOff, IsSignedClean, SaysClean};
 ghost use Rattle.desk_core.specs.Machine.{AreAccepted, IsKnown, KeepsAnswers, KeepsOthers};
 ghost use Rattle.desk_core.specs.Outcomes.{top_of};
+ghost use Rattle.desk_core.specs.Reaches.{OnlyLooks, SaysReach, reach_asked};
 ghost use Rattle.desk_core.specs.Reports.{IsTold, told_in};
 ghost use Rattle.desk_core.specs.Serving.{Leaves, Serves};
 ghost use Rattle.desk_core.specs.Steps.{CanFollow, IsMade, IsSameStore, IsShortChange, files_next};
@@ -136,6 +137,11 @@ impl Desk {
         ensures others { KeepsOthers (top_of request.now.ask) self.old.store self.new.store }
         ensures known { ((said result).status ≡ 200) ⊎ ((said result).status ≡ 422)
             → IsKnown request.now.ask self.new.store }
+
+        // Of a module's reach just that is told which was known before, and nothing changes.
+        ensures reach { SaysReach (reach_asked request.now.ask) self.old.kept self.old.store
+            (said result) }
+        ensures looks { OnlyLooks (reach_asked request.now.ask) self.old.store self.new.store }
 
         // What is signed clean shows in every simulation what its hardware shows.
         ensures headline { (top : List ℕ) → IsNewSignOff request.now self.old.kept top

@@ -1,12 +1,14 @@
-use Rattle.std.proofs.Common.{◌∙◌, ap, refl, subst}
+use Rattle.std.proofs.Common.{◌∙◌, ap, inl, inr, refl, subst}
 use Rattle.desk_requests.specs.Replies.{said}
-use Rattle.desk_records.specs.Outcomes.{outcome}
+use Rattle.desk_records.specs.Outcomes.{Told, outcome}
 use Rattle.desk_records.specs.declared.decision.Decision.{Decision}
 use Rattle.desk_core.specs.Machine.{KeepsAnswers, KeepsOthers, Machine}
 use Rattle.desk_core.specs.Outcomes.{IsOutcome, top_of}
+use Rattle.desk_core.specs.Reaches.{IsReachOf, OnlyLooks, reach_asked}
 use Rattle.desk_core.proofs.Headlines.{headline}
 use Rattle.desk_core.proofs.Known.{made_known, never_ruled}
 use Rattle.desk_core.proofs.Made.{made_status, serves_made, serves_none, serves_told}
+use Rattle.desk_core.proofs.Reached.{made_looks, made_says}
 use Rattle.desk_core.proofs.Same.{keeps_then, others_then}
 use Rattle.desk_core.proofs.Settled.{never_open, sound_change, told_status}
 use Rattle.desk_core.proofs.desk.Desk.serve.Goals as goal
@@ -104,3 +106,34 @@ returns-in-Ok-Makes-clause-known g c =
 pub returns-in-Err-clause-known : goal.returns-in-Err-clause-known
 returns-in-Err-clause-known g c =
     λ status. absurd (never_ruled (said c.no_memory.result) c.no_memory.ensures status)
+
+-- ---- a module's reach
+
+pub returns-in-Ok-Tells-clause-reach : goal.returns-in-Ok-Tells-clause-reach
+returns-in-Ok-Tells-clause-reach g c =
+    let asked = reach_asked c.args.request.now.ask in
+    let is = subst (λ (made : Decision). IsReachOf asked c.self.inside.records c.self.inside.db (outcome made)) c.in-Ok-Tells.field-0-is c.in-Ok-Tells.ensures.reach in
+    inl (subst (λ (machine : Machine). IsReachOf asked machine.kept machine.store (Told (said c.in-Ok-Tells.reply))) c.self.view_is is)
+
+pub returns-in-Ok-Makes-clause-reach : goal.returns-in-Ok-Makes-clause-reach
+returns-in-Ok-Makes-clause-reach g c =
+    let asked = reach_asked c.args.request.now.ask in
+    made_says asked c.self.inside.records c.args.self.now.kept c.self.inside.db c.args.self.now.store c.in-Ok-Makes.change (said c.make.result)
+    (subst (λ (made : Decision). IsReachOf asked c.self.inside.records c.self.inside.db (outcome made)) c.in-Ok-Makes.field-0-is c.in-Ok-Makes.ensures.reach)
+
+pub returns-in-Err-clause-reach : goal.returns-in-Err-clause-reach
+returns-in-Err-clause-reach g c = inr c.no_memory.ensures
+
+pub returns-in-Ok-Tells-clause-looks : goal.returns-in-Ok-Tells-clause-looks
+returns-in-Ok-Tells-clause-looks g c =
+    subst (λ (machine : Machine). OnlyLooks (reach_asked c.args.request.now.ask) machine.store c.decide.new.db) c.self.view_is c.decide.ensures.looks
+
+pub returns-in-Ok-Makes-clause-looks : goal.returns-in-Ok-Makes-clause-looks
+returns-in-Ok-Makes-clause-looks g c =
+    let asked = reach_asked c.args.request.now.ask in
+    made_looks asked c.self.inside.records c.self.inside.db c.args.self.now.store c.make.new.self.store c.in-Ok-Makes.change
+    (subst (λ (made : Decision). IsReachOf asked c.self.inside.records c.self.inside.db (outcome made)) c.in-Ok-Makes.field-0-is c.in-Ok-Makes.ensures.reach)
+
+pub returns-in-Err-clause-looks : goal.returns-in-Err-clause-looks
+returns-in-Err-clause-looks g c =
+    subst (λ (machine : Machine). OnlyLooks (reach_asked c.args.request.now.ask) machine.store c.decide.new.db) c.self.view_is c.decide.ensures.looks
