@@ -112,8 +112,9 @@ fn serve_today<S: Service, K: Keeper, C: Clock>(
 }
 
 /// Hears one request on a link, and says the reply; before that it tells a request that waits to go
-/// on with its body. A request that isn't served gets a refusal of status 400, 404 or 413; where the clock fails the reply is a 503, and where memory is wanting a
-/// 507. Where a call of the link fails the connection is dropped, and what the request changed stays.
+/// on with its body. A request that isn't served gets a refusal of status 400, 404 or 413; where the
+/// clock fails the reply is a 503, and where memory is wanting a 507. Where a call of the link fails
+/// the connection is dropped, and what the request changed stays.
 pub fn connection<S: Service, L: Link, K: Keeper, C: Clock>(
     alloc: Global,
     service: &mut S,
