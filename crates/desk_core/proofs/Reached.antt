@@ -1,5 +1,5 @@
 -- What a request for a module's reach comes to.
-use Rattle.std.proofs.Common.{◌≡◌, ◌∙◌, ◌⊎◌, inl, inr, ℕ, List, Option, Some, None, ap, refl, subst, sym}
+use Rattle.std.proofs.Common.{◌≡◌, ◌∙◌, inl, ℕ, List, Option, Some, None, ap, refl, subst, sym}
 use Rattle.std.specs.Prelude.{ℤ, IfOk, IfSome, OnOk, Result, Ok, Err, if◌then◌else◌}
 use Rattle.text_ground.specs.declared.memory.Memory.{Memory}
 use Rattle.source_file.specs.declared.SourceFile.{SourceFile}
@@ -11,7 +11,7 @@ use Rattle.desk_requests.specs.declared.ask.Ask.{Ask}
 use Rattle.desk_requests.specs.declared.ask.Ask.TheVariants as ask
 use Rattle.desk_requests.specs.declared.ask.Request.{Request}
 use Rattle.desk_records.specs.Machine.{by_tables, change_outcome, request_outcome}
-use Rattle.desk_records.specs.Outcomes.{Outcome, Told, Done, Open, outcome}
+use Rattle.desk_records.specs.Outcomes.{Outcome, Done, Open, outcome}
 use Rattle.desk_records.specs.declared.decision.Decision.{Decision}
 use Rattle.design_db.specs.desk_memo.declared.answer.Answer.TheVariants.{Ruled, Refused}
 use Rattle.design_db.specs.Answers.{Answer, IsFresh}
