@@ -42,11 +42,6 @@ unfoldable pub with_digest_or_null : List ℕ → Option (List ℕ) → List ℕ
 with_digest_or_null lead None = lead ++ codes "null"
 with_digest_or_null lead (Some digest) = with_digest lead digest
 
--- what leads to a number, and the number or `null`
-unfoldable pub with_number_or_null : List ℕ → Option ℕ → List ℕ
-with_number_or_null lead None = lead ++ codes "null"
-with_number_or_null lead (Some number) = with_number lead number
-
 -- what the text of each of these is, with commas between
 unfoldable pub listed : {Row : Type 0} → (Row → List ℕ) → List Row → List ℕ
 listed text [] = []

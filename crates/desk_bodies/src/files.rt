@@ -1,6 +1,6 @@
 // The bodies of replies on files.
 ghost use Rattle.std.specs.Prelude.{◌≡◌, ◌++◌, codes, IfOk, OnOk};
-ghost use Rattle.desk_bodies.specs.Bodies.{edited_text, file_text, name_text, with_digest, with_number, with_text};
+ghost use Rattle.desk_bodies.specs.Bodies.{edited_text, file_text, name_text, with_digest, with_number, with_number_or_null, with_text};
 
 use desk_json::{push_bytes, push_hex, push_number, push_quoted};
 use desk_tables::{Digest, FileRow};
@@ -24,6 +24,25 @@ pub(crate) fn push_count(out: &mut Vec<u8>, lead: &[u8], number: u64) -> Result<
 {
     push_bytes(out, lead)?;
     push_number(out, number)
+}
+
+// Writes what leads to a number, and the number or `null`.
+#[tactic(auto, unfolding(crate::specs::Bodies::with_number_or_null))]
+pub(crate) fn push_count_or_null(
+    out: &mut Vec<u8>,
+    lead: &[u8],
+    number: Option<u32>,
+) -> Result<(), Memory>
+    ensures { OnOk result (out.new.items ≡ out.old.items
+        ++ with_number_or_null lead.now number) }
+{
+    match number {
+        Some(number) => push_count(out, lead, u64::from(number)),
+        None => {
+            push_bytes(out, lead)?;
+            push_bytes(out, b"null")
+        }
+    }
 }
 
 // Writes what leads to a digest, and the digest.

@@ -1,8 +1,8 @@
 // The body of the reply on a module's reach.
 ghost use Rattle.std.specs.Prelude.{◌≡◌, ◌++◌, option_map, IfOk, OnOk};
-ghost use Rattle.desk_bodies.specs.Bodies.{reach_text, truth_text, with_digest_or_null, with_number_or_null};
+ghost use Rattle.desk_bodies.specs.Bodies.{reach_text, truth_text, with_digest_or_null};
 
-use crate::files::{push_count, push_digest};
+use crate::files::{push_count_or_null, push_digest};
 use desk_json::push_bytes;
 use desk_tables::Digest;
 use std::alloc::Global;
@@ -27,21 +27,6 @@ fn push_digest_or_null(
 {
     match digest {
         Some(digest) => push_digest(out, lead, digest),
-        None => {
-            push_bytes(out, lead)?;
-            push_bytes(out, b"null")
-        }
-    }
-}
-
-// Writes what leads to a number, and the number or `null`.
-#[tactic(auto, unfolding(crate::specs::Bodies::with_number_or_null))]
-fn push_count_or_null(out: &mut Vec<u8>, lead: &[u8], number: Option<u32>) -> Result<(), Memory>
-    ensures { OnOk result (out.new.items ≡ out.old.items
-        ++ with_number_or_null lead.now number) }
-{
-    match number {
-        Some(number) => push_count(out, lead, u64::from(number)),
         None => {
             push_bytes(out, lead)?;
             push_bytes(out, b"null")

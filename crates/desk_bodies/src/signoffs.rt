@@ -1,8 +1,8 @@
 // The bodies of replies on sign-offs.
 ghost use Rattle.std.specs.Prelude.{◌≡◌, ◌++◌, codes, flat_map, IfOk, OnOk};
-ghost use Rattle.desk_bodies.specs.Bodies.{array, granted_text, id_text, listed, signoff_end, signoff_front, signoff_text, with_day, with_number_or_null};
+ghost use Rattle.desk_bodies.specs.Bodies.{array, granted_text, id_text, listed, signoff_end, signoff_front, signoff_text, with_day};
 
-use crate::files::{push_count, push_digest, push_text};
+use crate::files::{push_count, push_count_or_null, push_digest, push_text};
 use desk_dates::date_digits;
 use desk_json::push_bytes;
 use desk_tables::{Day, SignOffRow};
@@ -44,26 +44,12 @@ pub fn granted_body(alloc: Global, grade: &Text, id: u32) -> Result<Vec<u8>, Mem
     Ok(out)
 }
 
-// Writes what leads to a number, and the number or `null`.
-#[tactic(auto, unfolding(crate::specs::Bodies::with_number_or_null))]
-fn push_count_or_null(out: &mut Vec<u8>, lead: &[u8], number: Option<u8>) -> Result<(), Memory>
-    ensures { OnOk result (out.new.items ≡ out.old.items ++ with_number_or_null lead.now number) }
-{
-    match number {
-        Some(number) => push_count(out, lead, u64::from(number)),
-        None => {
-            push_bytes(out, lead)?;
-            push_bytes(out, b"null")
-        }
-    }
-}
-
 #[tactic(auto, unfolding(crate::specs::Bodies::signoff_front))]
 fn push_front(out: &mut Vec<u8>, row: &SignOffRow) -> Result<(), Memory>
     ensures { OnOk result (out.new.items ≡ out.old.items ++ signoff_front row.now) }
 {
     push_day(out, b"{\"day\":", row.day)?;
-    push_count_or_null(out, b",\"edition\":", row.edition)?;
+    push_count_or_null(out, b",\"edition\":", row.edition.map(u32::from))?;
     push_text(out, b",\"grade\":", row.grade.as_bytes())?;
     push_count(out, b",\"id\":", u64::from(row.id))
 }

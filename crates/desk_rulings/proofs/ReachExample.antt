@@ -6,7 +6,7 @@ use Rattle.desk_rulings.specs.Reaches.{last_signed}
 
 abbrev signoff : ℕ → List ℕ → List ℕ → SignOffRow
 signoff id top reach =
-    record { id = id; top = top; who = codes "ann"; day = pos 3; grade = codes "clean"; reach = reach }
+    record { id = id; top = top; who = codes "ann"; day = pos 3; grade = codes "clean"; reach = reach; edition = Some 2 }
 
 abbrev signoffs : List SignOffRow
 signoffs =
