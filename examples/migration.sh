@@ -1,5 +1,5 @@
 #!/bin/sh
-# Opens a database of version 1, examples/stored/version_1.db, as a desk of the first edition made it: the server migrates it, requests
+# Opens a database of version 1, examples/version_1.db, as a desk of the first edition made it: the server migrates it, requests
 # that were accepted before get the replies that were kept, a module is signed off under the second edition, and the database is read. What
 # it writes is in examples/stored/migration.out, where TODAY stands for the date of its last sign-off.
 #
@@ -25,7 +25,7 @@ done
 room=$(mktemp -d)
 trap 'rm -rf "$room"' EXIT
 cd "$room"
-cp "$top/examples/stored/version_1.db" desk.db
+cp "$top/examples/version_1.db" desk.db
 chmod u+w desk.db
 
 waiver='{"last_day":"2026-12-31","owner":"bob","place":"adder.v:2:1","reason":"b is stable","rule":"S1","target":"pair.low.b","top":"pair"}'
