@@ -27,7 +27,13 @@ returns-in-Ok-words_of-clause-commands g c =
     (around (g.C.Clock.days c.desk.new.clock) (g.C.Clock.faults c.desk.new.clock) (g.K.Keeper.count c.desk.new.keeper))
     c.desk.result (taken_between (g.S.Sink.taken c.args.out.now) (g.S.Sink.taken c.desk.new.out)) in
     let same : c.deref.result.now ≡ drop 1 (into_iter_items c.in-Ok.all) = c.deref.ensures.value ∙ c.in-Ok-words_of.ensures in
-    let done : P c.deref.result.now = commanded (order (texts c.deref.result.now)) _ _ _ _ _ _ _ _ _ _ c.desk.ensures.report c.desk.ensures.no_visits c.desk.ensures.no_door c.desk.ensures.served
+    let done : P c.deref.result.now = commanded (order (texts c.deref.result.now))
+    (g.K.Keeper.tables c.args.keeper.now) (g.K.Keeper.tables c.desk.new.keeper)
+    (g.D.Door.visits c.args.door.now) (g.D.Door.visits c.desk.new.door) (g.D.Door.faults c.args.door.now) (g.D.Door.faults c.desk.new.door)
+    (around (g.C.Clock.days c.args.clock.now) (g.C.Clock.faults c.args.clock.now) (g.K.Keeper.count c.args.keeper.now))
+    (around (g.C.Clock.days c.desk.new.clock) (g.C.Clock.faults c.desk.new.clock) (g.K.Keeper.count c.desk.new.keeper))
+    c.desk.result (taken_between (g.S.Sink.taken c.args.out.now) (g.S.Sink.taken c.desk.new.out))
+    c.desk.ensures.report c.desk.ensures.no_visits c.desk.ensures.no_door c.desk.ensures.served
     (λ none. (c.desk.ensures.still none, c.desk.ensures.unvisited none, c.desk.ensures.unopened none, c.desk.ensures.unasked none)) in
     let told : P (drop 1 (into_iter_items c.in-Ok.all)) = subst P same done in
     rw c.in-Ok.is told
