@@ -1,0 +1,5 @@
+pub mod Behind
+pub mod Paths
+pub mod Recorded
+pub mod Setting
+pub mod Tables
