@@ -1,6 +1,6 @@
 -- Values behind changes.
-use Rattle.std.proofs.Common.{◌≡◌, ◌∙◌, ◌+◌, ◌-◌, ◌≤◌, ◌==◌, ℕ, zero, suc, Bool, true, false, nat_lt, if◌then◌else◌, List, [], ◌∷◌, ◌++◌, length, map, min, replicate, take, drop, refl, sym, ap, subst, arith}
-use Rattle.std.specs.Prelude.{None, Some}
+use Rattle.std.proofs.Common.{◌≡◌, ◌∙◌, ◌+◌, ◌-◌, ◌≤◌, ◌==◌, ℕ, zero, suc, Bool, true, false, nat_lt, if◌then◌else◌, List, [], ◌∷◌, ◌++◌, length, get_or, map, min, replicate, take, drop, refl, sym, ap, subst, arith, ◌<◌}
+use Rattle.std.specs.Prelude.{Option, None, Some}
 use Rattle.std.specs.List.{slice_get}
 use Rattle.std.proofs.lemmas.List.{take_all, length-append, length-replicate}
 use Rattle.rtl_bits.specs.declared.Bit.{Bit}
@@ -120,3 +120,41 @@ sight_at d scope variables changes frames k sight count n is all at =
     ap (λ c. take c changes) at ∙ take_within (until n (drop (suc k) frames)) n changes all
     ∙ ap (λ m. take (until m (drop (suc k) frames)) changes) (sym all) in
     (time, same ∙ ap (λ l. sight_of d scope variables (record { time = time; values = map (value l) variables })) (sym within))
+
+-- ---- times
+
+pub times_all : (d : Flat) (scope : List ℕ) (variables all : List Variable) (changes : List Written) (frames : List Frame) → length (map (sight_of d scope variables) (values_at all changes frames)) ≡ length frames
+times_all d scope variables all changes [] = refl
+times_all d scope variables all changes (frame ∷ frames) = ap suc (times_all d scope variables all changes frames)
+
+pub time_at : (d : Flat) (scope : List ℕ) (variables all : List Variable) (changes : List Written) (frames : List Frame) (k : ℕ) (frame : Frame) (sight : Sight) → k < length frames → slice_get (map (sight_of d scope variables) (values_at all changes frames)) k ≡ Some sight → (get_or frames k frame).time ≡ sight.time
+time_at d scope variables all changes [] k frame sight inside is = absurd (omega arith)
+time_at d scope variables all changes (one ∷ frames) zero frame sight inside is = by is
+  where
+    by : Some (sight_of d scope variables (record { time = one.time; values = map (value (take (until (length changes) frames) changes)) all })) ≡ Some sight → one.time ≡ sight.time
+    by e = let same : sight_of d scope variables (record { time = one.time; values = map (value (take (until (length changes) frames) changes)) all }) ≡ sight = cc in ap (λ (s : Sight). s.time) same
+time_at d scope variables all changes (one ∷ frames) (suc k) frame sight inside is =
+    time_at d scope variables all changes frames k frame sight (omega arith) is
+
+-- ---- widths
+
+over_length : (width : ℕ) (v : List Bit) (bits : List Bit) → length v ≡ width → length (written_over v (filled width bits)) ≡ width
+over_length width v bits wide = by (filled width bits) refl
+  where
+    by : (o : Option (List Bit)) → filled width bits ≡ o → length (written_over v o) ≡ width
+    by None is = wide
+    by (Some made) is = filled_length width bits made is
+
+behind_length : (variable : Variable) (v : List Bit) (changes : List Written) → length v ≡ variable.width → length (value_behind variable v changes) ≡ variable.width
+behind_length variable v [] wide = wide
+behind_length variable v (change ∷ changes) wide =
+    behind_length variable (if change.code == variable.code then written_over v (filled variable.width change.bits) else v) changes
+    (either (change.code == variable.code))
+  where
+    either : (t : Bool) → length (if t then written_over v (filled variable.width change.bits) else v) ≡ variable.width
+    either true = over_length variable.width v change.bits wide
+    either false = wide
+
+pub value_length : (changes : List Written) (variable : Variable) → length (value changes variable) ≡ variable.width
+value_length changes variable =
+    behind_length variable (replicate variable.width X) changes (length-replicate variable.width X)

@@ -1,6 +1,6 @@
 -- What is kept behind changes, and at a time.
 use Rattle.std.proofs.Common.{◌≡◌, ◌∙◌, ◌+◌, ◌<◌, ◌≤◌, ◌==◌, ℕ, zero, suc, Bool, true, if◌then◌else◌, List, [], ◌∷◌, ◌++◌, length, map, min, take, drop, replicate, refl, sym, ap, subst, arith}
-use Rattle.std.specs.Prelude.{Option, None, Some, Vec}
+use Rattle.std.specs.Prelude.{IfSome, Option, None, Some, Vec}
 use Rattle.std.specs.List.{slice_get}
 use Rattle.std.specs.Option.{is_some, option_flatten, option_map}
 use Rattle.std.specs.declared.alloc.Global.{Global}
@@ -26,7 +26,7 @@ use Rattle.vcd_signals.specs.declared.recorder.Recorder.{Recorder}
 use Rattle.vcd_signals.specs.Keys.{first_code, signal_key}
 use Rattle.vcd_signals.specs.Recording.{IsAt, IsRecorder, IsSame, changes_of, has, kept, kept_with, row, sights_of, text_of, value_after, variable_with}
 use Rattle.vcd_signals.specs.Signals.{Sight, is_recorded, is_recorded_as, sights, value_as}
-use Rattle.vcd_signals.proofs.Behind.{next_drop, next_take, sight_at, value_push, written_all}
+use Rattle.vcd_signals.proofs.Behind.{next_drop, next_take, sight_at, value_length, value_push, written_all}
 use Rattle.vcd_signals.proofs.Paths.{any_first, value_first, value_of_code}
 use Rattle.vcd_signals.proofs.Setting.{unknown_at, width_there}
 
@@ -159,3 +159,32 @@ recorded_is r i is =
     ap (λ (l : List (Option ℕ)). is_some (option_flatten (slice_get l i))) is.codes_are
     ∙ ap (λ (o : Option (Option ℕ)). is_some (option_flatten o)) (slice_map (λ (signal : Signal). first_code (signal_key r.scope.now signal) (variables (text_of r))) r.design.now.signals.items i)
     ∙ recorded_as r.scope.now (variables (text_of r)) (slice_get r.design.now.signals.items i)
+
+-- ---- what is shown
+
+kept_some : (own : Option (Option ℕ)) (bits : List Bit) → is_some (kept_with own bits) ≡ is_some (option_flatten own)
+kept_some None bits = refl
+kept_some (Some None) bits = refl
+kept_some (Some (Some code)) bits = refl
+
+pub kept_recorded : (r : Recorder) (i : ℕ) → IsRecorder r → is_some (kept r i) ≡ is_recorded (flat r.design.now) r.scope.now (text_of r) i
+kept_recorded r i is =
+    kept_some (slice_get r.codes.items i) (store r.values.items i) ∙ recorded_is r i is
+
+wide_with : (own : Option (Option ℕ)) (bits value : List Bit) (width : ℕ) → ((code : ℕ) → own ≡ Some (Some code) → length bits ≡ width) → kept_with own bits ≡ Some value → length value ≡ width
+wide_with None bits value width wide is = absurd (cc)
+wide_with (Some None) bits value width wide is = absurd (cc)
+wide_with (Some (Some code)) bits value width wide is = by is
+  where
+    by : Some bits ≡ Some value → length value ≡ width
+    by e = let same : bits ≡ value = cc in subst (λ (l : List Bit). length l ≡ width) same (wide code refl)
+
+pub kept_wide : (r : Recorder) (i : ℕ) (value : List Bit) → IsRecorder r → kept r i ≡ Some value → length value ≡ width_in r.design.now.signals.items i
+kept_wide r i value is there =
+    wide_with (slice_get r.codes.items i) (store r.values.items i) value (width_in r.design.now.signals.items i)
+    (λ code own. ap length (is.values_are i code own) ∙ value_length (take r.applied (changes_of r)) (variable_with (width_in r.design.now.signals.items i) code))
+    there
+
+pub if_wide : (r : Recorder) (i : ℕ) (o : Option (List Bit)) → IsRecorder r → o ≡ kept r i → IfSome o (λ value. length value ≡ width_in r.design.now.signals.items i)
+if_wide r i None is same = tt
+if_wide r i (Some value) is same = kept_wide r i value is (sym same)

@@ -189,9 +189,10 @@ fn apply(
 }
 
 impl<'d> Recorder<'d> {
-    ghost use Rattle.std.specs.Prelude.{◌≡◌, ◌<◌, ◌+◌, IfOk, Some, drop, length, min};
+    ghost use Rattle.std.specs.Prelude.{◌≡◌, ◌<◌, ◌+◌, IfOk, IfSome, Some, drop, length, min};
     ghost use Rattle.std.specs.List.{slice_get};
-    ghost use Rattle.std.specs.Option.{option_flatten};
+    ghost use Rattle.std.specs.Option.{is_some, option_flatten};
+    ghost use Rattle.rtl_flat.specs.Flats.{widths};
     ghost use Rattle.vcd_read.specs.Frames.{until};
     ghost use Rattle.vcd_signals.specs.Recording.{IsAt, IsRecorder, IsSame, flat_of, kept, sights_of, text_of};
     ghost use Rattle.vcd_signals.specs.Signals.{Sight, is_recorded};
@@ -239,13 +240,39 @@ impl<'d> Recorder<'d> {
         self.code(signal).is_some()
     }
 
-    /// The value of a signal, if it is recorded.
-    pub fn value(&self, signal: SigId) -> Option<Vec4>
+    fn kept(&self, signal: SigId) -> Option<Vec4>
         requires { IsRecorder self.now }
         ensures { result ≡ kept self.now signal.0 }
     {
         let _code = self.code(signal)?;
         self.values.get(signal.0 as usize).copied()
+    }
+
+    /// The value of a signal, if it is recorded.
+    pub fn value(&self, signal: SigId) -> Option<Vec4>
+        requires { IsRecorder self.now }
+        ensures value { result ≡ kept self.now signal.0 }
+        ensures wide { IfSome result (λ value. length value ≡ widths (flat_of self.now) signal.0) }
+        ensures known { is_some result ≡ is_recorded (flat_of self.now) self.now.scope.now
+            (text_of self.now) signal.0 }
+    {
+        self.kept(signal)
+    }
+
+    /// How many times there are.
+    pub fn count(&self) -> usize
+        ensures { result ≡ length (sights_of self.now) }
+    {
+        self.dump.frames.len()
+    }
+
+    /// A time.
+    pub fn time(&self, frame: usize) -> u64
+        requires { frame < length (sights_of self.now) }
+        ensures { (sight : Sight) → slice_get (sights_of self.now) frame ≡ Some sight
+            → result ≡ sight.time }
+    {
+        self.dump.frames[frame].time
     }
 
     /// All changes are still to come.
@@ -298,7 +325,7 @@ impl<'d> Recorder<'d> {
     /// Goes to a time, to what the changes up to the next one make of the values.
     pub fn go_to(&mut self, frame: usize)
         requires recorder { IsRecorder self.old }
-        requires there { frame < length self.old.dump.now.frames.items }
+        requires there { frame < length (sights_of self.old) }
         ensures at { (sight : Sight) → slice_get (sights_of self.old) frame ≡ Some sight
             → IsAt self.new sight }
         ensures same { IsSame self.old self.new }
