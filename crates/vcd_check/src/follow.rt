@@ -114,7 +114,12 @@ fn take_steps(net: &mut NetSim, controls: &[Setting], settings: &[Setting]) -> b
 }
 
 /// Takes the steps up to what is recorded now; false where there are none.
-pub(crate) fn follow(alloc: Global, basis: &Basis, recorder: &Recorder, net: &mut NetSim) -> Result<bool, Memory>
+pub(crate) fn follow(
+    alloc: Global,
+    basis: &Basis,
+    recorder: &Recorder,
+    net: &mut NetSim,
+) -> Result<bool, Memory>
     requires zero { (netlist_of net.old).fill ≡ ZeroFill }
     requires basis { IsBasisOf (flat_of net.old) basis.now }
     requires recorder { IsRecorder recorder.now }

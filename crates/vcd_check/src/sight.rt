@@ -165,7 +165,9 @@ pub(crate) fn departure(
 {
     for number in 0..design.signals.len() {
         let signal = SigId(number as u32);
-        if is_compared(design, stored, signal) && differs(recorder.value(signal), net.value(signal)) {
+        if is_compared(design, stored, signal)
+            && differs(recorder.value(signal), net.value(signal))
+        {
             return Some(signal);
         }
     }

@@ -13,7 +13,9 @@ use thiserror::Error;
 #[derive(Clone, Copy, Debug)]
 pub enum Verdict {
     /// It agrees at all its times from the start on: so many.
-    Agrees { frames: usize },
+    Agrees {
+        frames: usize,
+    },
     /// At a time a signal has another value than its number; up to that time the dump agrees, and so do the signals before this
     /// one.
     Departs {

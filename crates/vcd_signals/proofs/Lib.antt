@@ -1,3 +1,4 @@
+mod Examples
 pub mod Behind
 pub mod Paths
 pub mod Recorded
