@@ -1,0 +1,4 @@
+pub mod Lists
+pub mod Following
+pub mod Going
+pub mod Marking

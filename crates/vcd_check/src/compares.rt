@@ -13,7 +13,7 @@ ghost use Rattle.vcd_signals.specs.Signals.{Sight};
 ghost use Rattle.vcd_signals.specs.vcd_read.Reading.{dump_of};
 ghost use Rattle.vcd_check.specs.Checks.{AreMarks, IsNetlistOf, seen, watched_of};
 ghost use Rattle.vcd_check.specs.declared.verdict.Verdict.TheVariants.{Departs};
-ghost use Rattle.vcd_check.specs.Departure.{AreFirst, from_start, is_known};
+ghost use Rattle.vcd_check.specs.Departure.{AreFirst, from_start, is_known, is_start};
 ghost use Rattle.vcd_check.specs.Telling.{IsChecked, IsTellFault, IsToldFault};
 ghost use Rattle.vcd_check.specs.Verdicts.{HasNetlist, IsCompareFault, IsTold, IsVerdict};
 
@@ -34,6 +34,14 @@ use text_ground::memory::Memory;
 use vcd_signals::Recorder;
 use vcd_signals::vcd_read::Dump;
 
+/// Whether all that a simulator of the netlist begins with is known.
+fn is_start(basis: &Basis, recorder: &Recorder) -> bool
+    requires { IsRecorder recorder.now }
+    ensures { result ≡ is_start (watched_of basis.now) (seen recorder.now) }
+{
+    all_known(recorder, &basis.tops) && all_known(recorder, &basis.holders)
+}
+
 /// The first time at which all that a simulator of the netlist begins with is known.
 fn start(basis: &Basis, recorder: &mut Recorder) -> Option<usize>
     requires { IsRecorder recorder.old }
@@ -47,7 +55,7 @@ fn start(basis: &Basis, recorder: &mut Recorder) -> Option<usize>
 {
     for frame in 0..recorder.count() {
         recorder.go_to(frame);
-        if all_known(recorder, &basis.tops) && all_known(recorder, &basis.holders) {
+        if is_start(basis, recorder) {
             return Some(frame);
         }
     }
