@@ -4,12 +4,14 @@ use Rattle.std.specs.Prelude.{None, Option, Some, IsTrue, ◌↔◌, ◌≢◌, 
 use Rattle.std.specs.List.{list_all, slice_get}
 use Rattle.std.specs.Option.{IsSomeAnd}
 use Rattle.std.proofs.Math.Path.{fun_ext}
+use Rattle.std.proofs.lemmas.List.{length-append}
 use Rattle.std.proofs.lemmas.Bool.{and_parts, cond-true, cond-false, false≢true}
 use Rattle.rtl_bits.specs.declared.Bit.{Bit}
 use Rattle.rtl_bits.specs.declared.Bit.TheVariants.{Zero, One, X, Z}
 use Rattle.rtl_bits.specs.Bits.{same_bit}
 use Rattle.rtl_flat.specs.declared.signal.Signal.{Signal}
-use Rattle.rtl_flat.specs.Flats.{Flat}
+use Rattle.rtl_flat.specs.declared.design.Design.{Design}
+use Rattle.rtl_flat.specs.Flats.{Flat, flat}
 use Rattle.rtl_flat.specs.Signs.{Has}
 use Rattle.event_model.specs.Writes.{Values}
 use Rattle.netlist_eval.specs.net_start.rtl_scan.Arrows.{Among}
@@ -17,8 +19,10 @@ use Rattle.netlist_eval.specs.net_start.Stored.{AreStored, IsStored}
 use Rattle.demo_told.specs.Same.{are_same}
 use Rattle.demo_told.proofs.Same.{differ_is}
 use Rattle.vcd_signals.specs.declared.recorder.Recorder.{Recorder}
-use Rattle.vcd_signals.specs.Recording.{IsAt, kept}
-use Rattle.vcd_signals.specs.Signals.{Sight}
+use Rattle.vcd_signals.specs.Recording.{IsAt, IsSame, kept, sights_of}
+use Rattle.vcd_signals.specs.Signals.{Sight, sights}
+use Rattle.vcd_signals.specs.vcd_read.declared.dump.Dump.{Dump as KeptDump}
+use Rattle.vcd_signals.specs.vcd_read.Reading.{dump_of}
 use Rattle.vcd_check.specs.Checks.{AreMarks, AreNone, IsFirst, differs_from, is_compared, is_marked, is_output, seen}
 use Rattle.vcd_check.specs.Departure.{Agrees, HasNumber, IsCompared, IsDeparture, Watched, from_start, is_start}
 
@@ -157,3 +161,50 @@ module _ (d : Flat) (holders : List ℕ) (stored : List Bool) (are : AreStored d
     other = other;
     first = λ i below. has_number value n time i (λ asked. first.before i below asked);
   }
+
+-- ---- from one time to the next
+
+pub drop_here : {A : Type 0} (xs : List A) (k : ℕ) (x : A) → slice_get xs k ≡ Some x → drop k xs ≡ x ∷ drop (suc k) xs
+drop_here [] k x is = absurd (cc)
+drop_here (y ∷ xs) zero x is = by is
+  where
+    by : Some y ≡ Some x → y ∷ xs ≡ x ∷ xs
+    by e = cc
+drop_here (y ∷ xs) (suc k) x is = drop_here xs k x is
+
+pub drop_past : {A : Type 0} (xs : List A) (k : ℕ) → length xs ≤ k → drop k xs ≡ []
+drop_past [] zero past = refl
+drop_past [] (suc k) past = refl
+drop_past (x ∷ xs) zero past = absurd (omega arith)
+drop_past (x ∷ xs) (suc k) past = drop_past xs k (omega arith)
+
+-- times before one, with it
+pub longer : {A : Type 0} (xs before : List A) (start k : ℕ) (x next : A) → drop start xs ≡ before ++ x ∷ drop (suc k) xs → slice_get xs (suc k) ≡ Some next → drop start xs ≡ (before ++ x ∷ []) ++ next ∷ drop (suc (suc k)) xs
+longer xs before start k x next all there =
+    all
+    ∙ ap (λ l. before ++ x ∷ l) (drop_here xs (suc k) next there)
+    ∙ sym (append_assoc before (x ∷ []) (next ∷ drop (suc (suc k)) xs))
+
+-- ---- another time of the same dump
+
+pub same_sights : (old new : Recorder) → IsSame old new → sights_of new ≡ sights_of old
+same_sights old new same =
+    ap (λ (design : Design). sights (flat design) new.scope.now (dump_of new.dump.now)) same.design
+    ∙ ap (λ (scope : List ℕ). sights (flat old.design.now) scope (dump_of new.dump.now)) same.scope
+    ∙ ap (λ (dump : KeptDump). sights (flat old.design.now) old.scope.now (dump_of dump)) same.text
+
+pub same_on : (old now new : Recorder) → IsSame old now → IsSame now new → IsSame old new
+same_on old now new first second = record {
+  design = second.design ∙ first.design;
+  scope = second.scope ∙ first.scope;
+  text = second.text ∙ first.text;
+}
+
+pub start_seen : (watched : Watched) (r : Recorder) (sight : Sight) → IsAt r sight → is_start watched sight ≡ is_start watched (seen r)
+start_seen watched r sight at =
+    ap (λ (v : ℕ → Option (List Bit)). is_start watched (record { time = 0; value = v })) (sym (same_values r sight at))
+
+pub counted : (before : List Sight) (sight : Sight) (k start : ℕ) → k ≡ length before + start → k + 1 ≡ length (before ++ sight ∷ []) + start
+counted before sight k start is =
+    let more : length (before ++ sight ∷ []) ≡ length before + 1 = length-append before (sight ∷ []) in
+    omega (arith, is, more)

@@ -2,3 +2,4 @@ pub mod Lists
 pub mod Following
 pub mod Going
 pub mod Marking
+pub mod Missing

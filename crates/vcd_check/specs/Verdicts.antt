@@ -1,6 +1,7 @@
 -- What a comparison of a dump with synthesised hardware answers.
 -- Worked examples: crates/tests_rows/stdin.
 use Rattle.std.specs.Prelude.{◌≡◌, ◌+◌, ◌<◌, ℕ, true, false, List, [], ◌∷◌, ◌++◌, length, None}
+use Rattle.rtl_bits.specs.declared.Bit.{Bit}
 use Rattle.rtl_flat.specs.Flats.{Flat}
 use Rattle.rtl_flat.specs.declared.expr.SigId.{SigId}
 use Rattle.event_model.specs.Queue.{is_input}

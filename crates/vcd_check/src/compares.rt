@@ -132,13 +132,14 @@ fn go_on(
     ensures fault { IfErr result (λ fault. IsToldFault (flat design.now) (watched_of basis.now)
         (sights_of recorder.old) fault) }
 {
+    let count = recorder.count();
     let mut frame = start;
     'frames: loop {
         if let Some(signal) = departure(design, stored, recorder, net) {
             return Ok(departs(recorder, net, frame, signal));
         }
         frame += 1;
-        if frame == recorder.count() {
+        if frame == count {
             return Ok(Verdict::Agrees {
                 frames: frame - start,
             });

@@ -10,8 +10,8 @@ use Rattle.vcd_check.specs.Departure.{Reaches}
 use Rattle.vcd_check.specs.Telling.{IsChecked}
 use Rattle.vcd_check.proofs.compares.go_on.Given as goal
 
-abbrev pub invariant-loop-frames : goal.invariant-loop-frames
-invariant-loop-frames l = record {
+abbrev pub invariant-frames : goal.invariant-frames
+invariant-frames l = record {
   checked : IsChecked l.design l.basis l.stored l.recorder l.net;
   same : IsSame l.fn.recorder l.recorder;
   before : List Sight;
@@ -23,5 +23,5 @@ invariant-loop-frames l = record {
   count : l.frame ≡ length before + l.start;
 }
 
-abbrev pub decreases-loop-frames : goal.decreases-loop-frames
-decreases-loop-frames l = length (sights_of l.fn.recorder) - l.frame
+abbrev pub decreases-frames : goal.decreases-frames
+decreases-frames l = length (sights_of l.fn.recorder) - l.frame
