@@ -3,3 +3,4 @@ pub mod Following
 pub mod Going
 pub mod Marking
 pub mod Missing
+pub mod Beginning

@@ -25,14 +25,14 @@ pub record IsChecked (design : Design) (basis : Basis) (stored : List Bool) (rec
   pub stored_are : AreMarks (length design.signals.items) (places basis.holders.items) stored
   pub netlist_is : IsNetlistOf design (netlist_of net)
 
--- why nothing is told from the start on
+-- why nothing is told by a netlist
 abbrev pub IsToldFault : Flat → Watched → List Sight → CompareFault → Type 0
 IsToldFault d watched sights (Unlawful time) = IsUnlawful d watched sights time
 IsToldFault d watched sights Memory = Unit {0}
 IsToldFault d watched sights (MissingInput signal) = ⊥
 IsToldFault d watched sights (MissingRegister signal) = ⊥
 IsToldFault d watched sights NoNetlist = ⊥
-IsToldFault d watched sights NeverKnown = ⊥
+IsToldFault d watched sights NeverKnown = from_start watched sights ≡ []
 
 -- why nothing is told by a design's netlist
 abbrev pub IsTellFault : Flat → Watched → List Sight → CompareFault → Type 0

@@ -49,7 +49,8 @@ fn start(basis: &Basis, recorder: &mut Recorder) -> Option<usize>
         (from_start (watched_of basis.now) sights ≡ [])
         (λ frame. (frame < length sights)
         × (from_start (watched_of basis.now) sights ≡ drop frame sights)
-        × ((sight : Sight) → slice_get sights frame ≡ Some sight → IsAt recorder.new sight)) }
+        × ((sight : Sight) → slice_get sights frame ≡ Some sight → IsAt recorder.new sight)
+        × (is_start (watched_of basis.now) (seen recorder.new) ≡ true)) }
     ensures recorder { IsRecorder recorder.new }
     ensures same { IsSame recorder.old recorder.new }
 {
@@ -151,6 +152,33 @@ fn go_on(
     }
 }
 
+/// What is told of a dump by a netlist.
+fn tell_by(
+    alloc: Global,
+    netlist: &Netlist<'_>,
+    basis: &Basis,
+    stored: &[bool],
+    recorder: &mut Recorder,
+    design: &Design,
+) -> Result<Verdict, CompareFault>
+    requires recorder { IsRecorder recorder.old }
+    requires netlist { IsNetlistOf design.now netlist.now }
+    requires basis { IsBasisOf (flat design.now) basis.now }
+    requires stored { AreMarks (length design.now.signals.items) (places basis.now.holders.items)
+        stored.now }
+    requires design { recorder.old.design.now ≡ design.now }
+    ensures told { IfOk result (λ verdict. IsTold (flat design.now) (watched_of basis.now)
+        (sights_of recorder.old) verdict) }
+    ensures fault { IfErr result (λ fault. IsToldFault (flat design.now) (watched_of basis.now)
+        (sights_of recorder.old) fault) }
+{
+    let Some(start) = start(basis, recorder) else {
+        return Err(CompareFault::NeverKnown);
+    };
+    let mut net = begin(alloc, netlist, basis, recorder)?;
+    go_on(alloc, basis, stored, recorder, &mut net, design, start)
+}
+
 /// What is told of a dump by the netlist of a design.
 fn tell(
     alloc: Global,
@@ -172,11 +200,7 @@ fn tell(
     let Some(netlist) = netlist_of(alloc, design)? else {
         return Err(CompareFault::NoNetlist);
     };
-    let Some(start) = start(basis, recorder) else {
-        return Err(CompareFault::NeverKnown);
-    };
-    let mut net = begin(alloc, &netlist, basis, recorder)?;
-    go_on(alloc, basis, stored, recorder, &mut net, design, start)
+    tell_by(alloc, &netlist, basis, stored, recorder, design)
 }
 
 /// Where a dump of any simulator first departs from what synthesis means by a design, whose top the dump has in a scope: the
