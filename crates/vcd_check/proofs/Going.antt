@@ -97,7 +97,7 @@ has_output : (o : Option Signal) → IsSomeAnd o (λ signal. signal.top_output �
 has_output None h = absurd h
 has_output (Some signal) h = h
 
-has_inside : (signals : List Signal) (P : Signal → Type 0) (i : ℕ) → Has P signals i → i < length signals
+pub has_inside : (signals : List Signal) (P : Signal → Type 0) (i : ℕ) → Has P signals i → i < length signals
 has_inside [] P i h = absurd h
 has_inside (one ∷ signals) P zero h = omega arith
 has_inside (one ∷ signals) P (suc i) h = let below = has_inside signals P i h in omega (arith, below)

@@ -4,3 +4,4 @@ pub mod Going
 pub mod Marking
 pub mod Missing
 pub mod Beginning
+pub mod Comparing

@@ -25,11 +25,11 @@ returns-in-Ok-clause-first c =
     let n = shown c.in-Ok.net in
     let value = λ (i : ℕ). or_none (kept recorder i) in
     let registers : c.deref-3.result.now ≡ map value (places basis.holders.items) =
-        c.deref-3.ensures.value ∙ c.in_ok-registers.ensures.values ∙ ap (λ (l : List SigId). map value (places l)) c.deref.ensures.value in
+    c.deref-3.ensures.value ∙ c.in_ok-registers.ensures.values ∙ ap (λ (l : List SigId). map value (places l)) c.deref.ensures.value in
     let inputs : c.deref-4.result.now ≡ map value (places basis.tops.items) =
-        c.deref-4.ensures.value ∙ c.in_ok-inputs.ensures.values ∙ ap (λ (l : List SigId). map value (places l)) c.deref-2.ensures.value in
+    c.deref-4.ensures.value ∙ c.in_ok-inputs.ensures.values ∙ ap (λ (l : List SigId). map value (places l)) c.deref-2.ensures.value in
     let over = subst (λ (f : Fill). IsBegun (flat design) (chains_of (flat design)) f c.deref-3.result.now c.deref-4.result.now n) c.requires.netlist.fill_is
-        (subst (λ (one : Design). IsBegun (flat one) (chains_of (flat one)) netlist.fill c.deref-3.result.now c.deref-4.result.now n) c.requires.netlist.design_is c.in-Ok.ensures.begun) in
+    (subst (λ (one : Design). IsBegun (flat one) (chains_of (flat one)) netlist.fill c.deref-3.result.now c.deref-4.result.now n) c.requires.netlist.design_is c.in-Ok.ensures.begun) in
     subst (λ (all : List (List Bit)). IsBegun (flat design) (chains_of (flat design)) ZeroFill all (map value (places basis.tops.items)) n) registers
     (subst (λ (all : List (List Bit)). IsBegun (flat design) (chains_of (flat design)) ZeroFill c.deref-3.result.now all n) inputs over)
 

@@ -72,7 +72,7 @@ returns-in-Some-clause-told c =
     let found = differing d holders c.args.stored.now inv.checked.basis_is.holders inv.checked.stored_are (kept now signal.0) (n signal.0) first.fails_is in
     let made = departure d holders c.args.stored.now inv.checked.basis_is.holders inv.checked.stored_are inv.sight.time (λ i. kept now i) n signal.0 found.0 first found.1 found.2 in
     let departed : IsDeparture d inv.sight n signal.0 found.0 =
-        subst (λ (v : ℕ → Option (List Bit)). IsDeparture d (record { time = inv.sight.time; value = v }) n signal.0 found.0) (same_values now inv.sight inv.at) made in
+    subst (λ (v : ℕ → Option (List Bit)). IsDeparture d (record { time = inv.sight.time; value = v }) n signal.0 found.0) (same_values now inv.sight inv.at) made in
     let answer = c.departs.ensures inv.sight found.0 (ap (λ (l : List Sight). slice_get l k) (same_sights old now inv.same) ∙ inv.there) found.1 in
     subst (IsTold d w every) (sym answer)
     (record {
@@ -288,6 +288,6 @@ frames-preserved c =
       at = at;
       reaches = Followed inv.before inv.sight next n (shown c.follow.new.net) read.0 inv.reaches agreed read.1 read.2;
       all = longer every inv.before c.args.start k inv.sight next inv.all (ap (λ (m : ℕ). slice_get every m) (sym (add-one k)) ∙ there)
-        ∙ ap (λ (m : ℕ). (inv.before ++ inv.sight ∷ []) ++ next ∷ drop (suc m) every) (sym (add-one k));
+          ∙ ap (λ (m : ℕ). (inv.before ++ inv.sight ∷ []) ++ next ∷ drop (suc m) every) (sym (add-one k));
       count = counted inv.before inv.sight k c.args.start inv.count;
     }

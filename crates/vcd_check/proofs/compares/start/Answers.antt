@@ -49,11 +49,12 @@ returns-then-is_start-clause-start c =
     let there = found.1 in
     let at : IsAt after sight = c.go_to.ensures.at sight (ap (λ (l : List Sight). slice_get l k) (same_sights old now inv.same) ∙ there) in
     let watched = watched_of c.args.basis.now in
-    let starts = start_seen watched after sight at ∙ sym c.is_start.ensures ∙ c.if-is_start.true in
-    (inside,
-    inv.from ∙ from_yes watched (sights_of old) k sight there starts,
-    λ one is. c.go_to.ensures.at one (ap (λ (l : List Sight). slice_get l k) (same_sights old now inv.same) ∙ is),
-    sym c.is_start.ensures ∙ c.if-is_start.true)
+    let starts = start_seen watched after sight at ∙ sym c.is_start.ensures ∙ c.if-is_start.true in (
+      inside,
+      inv.from ∙ from_yes watched (sights_of old) k sight there starts,
+      λ one is. c.go_to.ensures.at one (ap (λ (l : List Sight). slice_get l k) (same_sights old now inv.same) ∙ is),
+      sym c.is_start.ensures ∙ c.if-is_start.true,
+    )
 
 pub loop-frame-preserved : goal.loop-frame-preserved
 loop-frame-preserved c =

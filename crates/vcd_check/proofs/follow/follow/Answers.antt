@@ -33,16 +33,16 @@ take_steps-requires-clause-controls c =
     let sight = seen c.args.recorder.now in
     let ch = changed n sight (places basis.tops.items) in
     let set : map setting_view c.in_ok-settings.settings.items ≡ ch =
-        c.in_ok-settings.ensures ∙ ap (λ (l : List SigId). changed n sight (places l)) c.deref.ensures.value in
+    c.in_ok-settings.ensures ∙ ap (λ (l : List SigId). changed n sight (places l)) c.deref.ensures.value in
     let known : list_all (λ (one : cycle.Setting). not (has_unknown one.number)) ch ≡ true =
-        ap (λ (l : List cycle.Setting). list_all (λ (one : cycle.Setting). not (has_unknown one.number)) l) (sym (ap (λ (l : List Setting). map setting_view l) c.deref-2.ensures.value ∙ set))
-        ∙ sym c.are_known.ensures ∙ c.if-not-are_known.false in
+    ap (λ (l : List cycle.Setting). list_all (λ (one : cycle.Setting). not (has_unknown one.number)) l) (sym (ap (λ (l : List Setting). map setting_view l) c.deref-2.ensures.value ∙ set))
+    ∙ sym c.are_known.ensures ∙ c.if-not-are_known.false in
     let wide = λ (i : ℕ) (bits : List Bit) (is : kept c.args.recorder.now i ≡ Some bits). kept_wide c.args.recorder.now i bits c.requires.recorder is ∙ ap (λ (one : Flat). widths one i) c.requires.design in
     let are = fine d n sight wide (places basis.tops.items) (λ i among. (c.requires.basis.tops.each i).0 among) known in
     let turned : map setting_view c.deref-7.result.now ≡ filter (λ (one : cycle.Setting). is_marked basis.controls.items one.input) ch =
-        ap (λ (l : List Setting). map setting_view l) c.deref-7.ensures.value ∙ c.in_ok-controls.ensures
-        ∙ ap (λ (m : List Bool). filter (λ (one : cycle.Setting). is_marked m one.input) (map setting_view c.deref-4.result.now)) c.deref-3.ensures.value
-        ∙ ap (λ (l : List cycle.Setting). filter (λ (one : cycle.Setting). is_marked basis.controls.items one.input) l) (ap (λ (l : List Setting). map setting_view l) c.deref-4.ensures.value ∙ set) in
+    ap (λ (l : List Setting). map setting_view l) c.deref-7.ensures.value ∙ c.in_ok-controls.ensures
+    ∙ ap (λ (m : List Bool). filter (λ (one : cycle.Setting). is_marked m one.input) (map setting_view c.deref-4.result.now)) c.deref-3.ensures.value
+    ∙ ap (λ (l : List cycle.Setting). filter (λ (one : cycle.Setting). is_marked basis.controls.items one.input) l) (ap (λ (l : List Setting). map setting_view l) c.deref-4.ensures.value ∙ set) in
     subst (All (TurnsControl d n)) (sym turned) (turns d n (is_marked basis.controls.items) c.requires.basis.controls ch are)
 
 pub take_steps-requires-clause-data : goal.take_steps-requires-clause-data
@@ -54,16 +54,16 @@ take_steps-requires-clause-data c =
     let sight = seen c.args.recorder.now in
     let ch = changed n sight (places basis.tops.items) in
     let set : map setting_view c.in_ok-settings.settings.items ≡ ch =
-        c.in_ok-settings.ensures ∙ ap (λ (l : List SigId). changed n sight (places l)) c.deref.ensures.value in
+    c.in_ok-settings.ensures ∙ ap (λ (l : List SigId). changed n sight (places l)) c.deref.ensures.value in
     let known : list_all (λ (one : cycle.Setting). not (has_unknown one.number)) ch ≡ true =
-        ap (λ (l : List cycle.Setting). list_all (λ (one : cycle.Setting). not (has_unknown one.number)) l) (sym (ap (λ (l : List Setting). map setting_view l) c.deref-2.ensures.value ∙ set))
-        ∙ sym c.are_known.ensures ∙ c.if-not-are_known.false in
+    ap (λ (l : List cycle.Setting). list_all (λ (one : cycle.Setting). not (has_unknown one.number)) l) (sym (ap (λ (l : List Setting). map setting_view l) c.deref-2.ensures.value ∙ set))
+    ∙ sym c.are_known.ensures ∙ c.if-not-are_known.false in
     let wide = λ (i : ℕ) (bits : List Bit) (is : kept c.args.recorder.now i ≡ Some bits). kept_wide c.args.recorder.now i bits c.requires.recorder is ∙ ap (λ (one : Flat). widths one i) c.requires.design in
     let are = fine d n sight wide (places basis.tops.items) (λ i among. (c.requires.basis.tops.each i).0 among) known in
     let given : map setting_view c.deref-8.result.now ≡ filter (λ (one : cycle.Setting). not (is_marked basis.controls.items one.input)) ch =
-        ap (λ (l : List Setting). map setting_view l) c.deref-8.ensures.value ∙ c.in_ok-data.ensures
-        ∙ ap (λ (m : List Bool). filter (λ (one : cycle.Setting). not (is_marked m one.input)) (map setting_view c.deref-6.result.now)) c.deref-5.ensures.value
-        ∙ ap (λ (l : List cycle.Setting). filter (λ (one : cycle.Setting). not (is_marked basis.controls.items one.input)) l) (ap (λ (l : List Setting). map setting_view l) c.deref-6.ensures.value ∙ set) in
+    ap (λ (l : List Setting). map setting_view l) c.deref-8.ensures.value ∙ c.in_ok-data.ensures
+    ∙ ap (λ (m : List Bool). filter (λ (one : cycle.Setting). not (is_marked m one.input)) (map setting_view c.deref-6.result.now)) c.deref-5.ensures.value
+    ∙ ap (λ (l : List cycle.Setting). filter (λ (one : cycle.Setting). not (is_marked basis.controls.items one.input)) l) (ap (λ (l : List Setting). map setting_view l) c.deref-6.ensures.value ∙ set) in
     subst (All (SetsData d)) (sym given) (sets d n (is_marked basis.controls.items) c.requires.basis.controls ch are)
 
 pub returns-clause-follows : goal.returns-clause-follows
@@ -75,18 +75,18 @@ returns-clause-follows c =
     let sight = seen c.args.recorder.now in
     let ch = changed n sight (places basis.tops.items) in
     let set : map setting_view c.in_ok-settings.settings.items ≡ ch =
-        c.in_ok-settings.ensures ∙ ap (λ (l : List SigId). changed n sight (places l)) c.deref.ensures.value in
+    c.in_ok-settings.ensures ∙ ap (λ (l : List SigId). changed n sight (places l)) c.deref.ensures.value in
     let known : list_all (λ (one : cycle.Setting). not (has_unknown one.number)) ch ≡ true =
-        ap (λ (l : List cycle.Setting). list_all (λ (one : cycle.Setting). not (has_unknown one.number)) l) (sym (ap (λ (l : List Setting). map setting_view l) c.deref-2.ensures.value ∙ set))
-        ∙ sym c.are_known.ensures ∙ c.if-not-are_known.false in
+    ap (λ (l : List cycle.Setting). list_all (λ (one : cycle.Setting). not (has_unknown one.number)) l) (sym (ap (λ (l : List Setting). map setting_view l) c.deref-2.ensures.value ∙ set))
+    ∙ sym c.are_known.ensures ∙ c.if-not-are_known.false in
     let turned : map setting_view c.deref-7.result.now ≡ filter (λ (one : cycle.Setting). is_marked basis.controls.items one.input) ch =
-        ap (λ (l : List Setting). map setting_view l) c.deref-7.ensures.value ∙ c.in_ok-controls.ensures
-        ∙ ap (λ (m : List Bool). filter (λ (one : cycle.Setting). is_marked m one.input) (map setting_view c.deref-4.result.now)) c.deref-3.ensures.value
-        ∙ ap (λ (l : List cycle.Setting). filter (λ (one : cycle.Setting). is_marked basis.controls.items one.input) l) (ap (λ (l : List Setting). map setting_view l) c.deref-4.ensures.value ∙ set) in
+    ap (λ (l : List Setting). map setting_view l) c.deref-7.ensures.value ∙ c.in_ok-controls.ensures
+    ∙ ap (λ (m : List Bool). filter (λ (one : cycle.Setting). is_marked m one.input) (map setting_view c.deref-4.result.now)) c.deref-3.ensures.value
+    ∙ ap (λ (l : List cycle.Setting). filter (λ (one : cycle.Setting). is_marked basis.controls.items one.input) l) (ap (λ (l : List Setting). map setting_view l) c.deref-4.ensures.value ∙ set) in
     let given : map setting_view c.deref-8.result.now ≡ filter (λ (one : cycle.Setting). not (is_marked basis.controls.items one.input)) ch =
-        ap (λ (l : List Setting). map setting_view l) c.deref-8.ensures.value ∙ c.in_ok-data.ensures
-        ∙ ap (λ (m : List Bool). filter (λ (one : cycle.Setting). not (is_marked m one.input)) (map setting_view c.deref-6.result.now)) c.deref-5.ensures.value
-        ∙ ap (λ (l : List cycle.Setting). filter (λ (one : cycle.Setting). not (is_marked basis.controls.items one.input)) l) (ap (λ (l : List Setting). map setting_view l) c.deref-6.ensures.value ∙ set) in
+    ap (λ (l : List Setting). map setting_view l) c.deref-8.ensures.value ∙ c.in_ok-data.ensures
+    ∙ ap (λ (m : List Bool). filter (λ (one : cycle.Setting). not (is_marked m one.input)) (map setting_view c.deref-6.result.now)) c.deref-5.ensures.value
+    ∙ ap (λ (l : List cycle.Setting). filter (λ (one : cycle.Setting). not (is_marked basis.controls.items one.input)) l) (ap (λ (l : List Setting). map setting_view l) c.deref-6.ensures.value ∙ set) in
     let new = shown c.take_steps.new.net in
     followed d (watched_of basis) n new sight c.take_steps.result known
     (subst (λ (l : List cycle.Setting). Takes d (read_as l (filter (λ (one : cycle.Setting). not (is_marked basis.controls.items one.input)) ch)) n c.take_steps.result new) turned

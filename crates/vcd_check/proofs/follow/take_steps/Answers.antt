@@ -21,7 +21,8 @@ turn-requires-clause-control c =
 pub returns-in-len1-clause-taken : goal.returns-in-len1-clause-taken
 returns-in-len1-clause-taken c =
     let one = single c.args.controls.now c.control-item.result c.in-len1.len_at_least c.in-len1.len_below c.control-item.is in
-    let others = map setting_view c.args.settings.now in
-    (Turn (setting_view c.control-item.result) ∷ data_steps others,
-    ap (λ (l : List Setting). read_as (map setting_view l) others) one ∙ read_turn (setting_view c.control-item.result) others,
-    c.turn.ensures.cycles)
+    let others = map setting_view c.args.settings.now in (
+      Turn (setting_view c.control-item.result) ∷ data_steps others,
+      ap (λ (l : List Setting). read_as (map setting_view l) others) one ∙ read_turn (setting_view c.control-item.result) others,
+      c.turn.ensures.cycles,
+    )

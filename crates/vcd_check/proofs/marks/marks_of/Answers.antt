@@ -17,7 +17,7 @@ returns c =
     let none : old ≡ replicate n false = c.in_ok-marks.ensures.items_if_clones_equal (λ y e. search rules) ∙ ap (λ m. replicate m false) (c.len.ensures ∙ design.signals.ok.0) in
     let size : length old ≡ n = ap length none ∙ length-replicate n false in
     let marked : AreMarkedAlso signals old marks =
-        subst (λ all. AreMarkedAlso all old marks) (c.deref.ensures.value ∙ c.in_ok-places.ensures)
-        (subst (λ l. AreMarkedAlso c.deref.result.now l marks) c.deref_mut.ensures.value c.mark_all.ensures) in
+    subst (λ all. AreMarkedAlso all old marks) (c.deref.ensures.value ∙ c.in_ok-places.ensures)
+    (subst (λ l. AreMarkedAlso c.deref.result.now l marks) c.deref_mut.ensures.value c.mark_all.ensures) in
     subst (λ (l : List Bool). AreMarks n signals l) (sym (written c.in_ok-marks.marks.len marks old c.in_ok-marks.marks.ok.0 marked.size))
     (are_marks n signals old marks none size marked)

@@ -14,7 +14,7 @@ returns-then-is_same c =
     let value = c.in_ok-value.value in
     let old = shown c.args.net.now c.args.input.0 in
     let same : are_same value old ≡ true =
-        ap (λ (n : List Bit). are_same value n) (sym c.value.ensures.number) ∙ sym (same_is c.is_same.result value c.value.result c.is_same.ensures) ∙ c.if-is_same.true in
+    ap (λ (n : List Bit). are_same value n) (sym c.value.ensures.number) ∙ sym (same_is c.is_same.result value c.value.result c.is_same.ensures) ∙ c.if-is_same.true in
     sym (ap (λ (o : Option (List Bit)). change_of old c.args.input.0 o) c.in_ok-value.was ∙ change_none old c.args.input.0 value same)
 
 pub returns : goal.returns
@@ -22,5 +22,5 @@ returns c =
     let value = c.in_ok-value.value in
     let old = shown c.args.net.now c.args.input.0 in
     let same : are_same value old ≡ false =
-        ap (λ (n : List Bit). are_same value n) (sym c.value.ensures.number) ∙ sym (same_is c.is_same.result value c.value.result c.is_same.ensures) ∙ c.if-is_same.false in
+    ap (λ (n : List Bit). are_same value n) (sym c.value.ensures.number) ∙ sym (same_is c.is_same.result value c.value.result c.is_same.ensures) ∙ c.if-is_same.false in
     sym (ap (λ (o : Option (List Bit)). change_of old c.args.input.0 o) c.in_ok-value.was ∙ change_some old c.args.input.0 value same)
