@@ -1,6 +1,6 @@
 -- The numbers of synthesised hardware beside the times of a dump: where they begin, how the inputs are read that change
 -- between two times, and the first signal that is recorded otherwise (IEEE 1364.1-2002 section 5.2).
--- Worked examples: crates/tests_rows/stdin.
+-- Worked examples: crates/tests_departures/stdin.
 use Rattle.std.specs.Prelude.{◌≡◌, ◌≢◌, ◌↔◌, ◌<◌, ◌⊎◌, ℕ, Bool, true, false, not, ◌&&◌, if◌then◌else◌, List, [], ◌∷◌, ◌++◌, map, Option, None, Some}
 use Rattle.std.specs.List.{filter, list_all}
 use Rattle.rtl_bits.specs.declared.Bit.{Bit}

@@ -1,5 +1,5 @@
 -- What a comparison of a dump with synthesised hardware answers.
--- Worked examples: crates/tests_rows/stdin.
+-- Worked examples: crates/tests_departures/stdin.
 use Rattle.std.specs.Prelude.{◌≡◌, ◌+◌, ◌<◌, ℕ, true, false, List, [], ◌∷◌, ◌++◌, length, None}
 use Rattle.rtl_bits.specs.declared.Bit.{Bit}
 use Rattle.rtl_flat.specs.Flats.{Flat}
