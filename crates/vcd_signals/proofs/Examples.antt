@@ -31,10 +31,10 @@ design = record { signals = register (codes "top.q") 1 ∷ register (codes "top.
 abbrev dump : Dump
 dump = record {
   entries =
-    Scope (codes "tb") ∷ Scope (codes "dut")
-    ∷ VariableEntry (record { name = codes "q"; width = 2; code = 2 })
-    ∷ VariableEntry (record { name = codes "q"; width = 1; code = 1 })
-    ∷ Upscope ∷ Upscope ∷ [];
+      Scope (codes "tb") ∷ Scope (codes "dut")
+      ∷ VariableEntry (record { name = codes "q"; width = 2; code = 2 })
+      ∷ VariableEntry (record { name = codes "q"; width = 1; code = 1 })
+      ∷ Upscope ∷ Upscope ∷ [];
   bits = X ∷ One ∷ [];
   changes = record { code = 1; bits = 1 } ∷ record { code = 1; bits = 1 } ∷ [];
   frames = record { time = 0; before = 0 } ∷ record { time = 5; before = 1 } ∷ [];
