@@ -40,6 +40,7 @@ module_of its_name =
       parameters = [];
       header = Absent;
       items = [];
+      constructs = [];
       dropped = [];
     }
 

@@ -45,6 +45,7 @@ with_items items =
           ∷ Parameters 35 Parameter None (record { name = w 45; value = whole 4 49 } ∷ [])
           ∷ Ports (record { at = 52; direction = Output; kind = None; signed = false; bounds = None }) (y 59 ∷ [])
           ∷ items;
+      constructs = [];
       dropped = [];
     }
 

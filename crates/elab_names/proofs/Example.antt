@@ -34,6 +34,7 @@ with_items letter items =
       parameters = [];
       header = Absent;
       items = items;
+      constructs = [];
       dropped = [];
     }
 

@@ -31,6 +31,7 @@ with_items letter at items =
       parameters = [];
       header = Declared (port Input 97 (at + 9) ∷ port Output 121 (at + 12) ∷ []);
       items = items;
+      constructs = [];
       dropped = [];
     }
 

@@ -6,7 +6,7 @@ use Rattle.rtl_tree.specs.declared.token.Token.{Token}
 use Rattle.rtl_tree.specs.Prepared.{Ready}
 use Rattle.rtl_tree.specs.Symbols.{terminals}
 use Rattle.rtl_tree.specs.TreeModule.{Circuit}
-use Rattle.rtl_tree.specs.Deeper.{too_deep}
+use Rattle.text_grammar.specs.Deeper.{too_deep}
 use Rattle.rtl_text.specs.declared.fault.LexFault.{LexFault}
 use Rattle.rtl_text.specs.declared.fault.LexFault.TheVariants as lexing
 use Rattle.rtl_text.specs.Faults.{Answers, Refuses}

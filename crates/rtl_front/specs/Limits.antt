@@ -3,7 +3,7 @@
 use Rattle.std.specs.Prelude.{◌≡◌}
 use Rattle.text_ground.specs.declared.text.TheConstants.{MAX_BYTES}
 use Rattle.rtl_tree.specs.declared.token.TheConstants.{MAX_TOKENS, MAX_WORD}
-use Rattle.rtl_tree.specs.declared.tree.nesting.TheConstants.{MAX_NESTING}
+use Rattle.text_grammar.specs.declared.nesting.TheConstants.{MAX_NESTING}
 use Rattle.rtl_prep.specs.declared.replace.TheConstants.{MAX_REPLACEMENTS}
 
 -- the bytes of a file, its tokens, the bytes of a word, the replacements of macros in a file, and how deep expressions and

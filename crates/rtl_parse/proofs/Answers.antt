@@ -8,13 +8,13 @@ use Rattle.rtl_tree.specs.declared.tree.modules.Module.{Module}
 use Rattle.rtl_tree.specs.declared.tree.modules.WrittenModule.{WrittenModule}
 use Rattle.rtl_tree.specs.Symbols.{terminal, terminals}
 use Rattle.rtl_tree.specs.Prepared.{Ready}
-use Rattle.rtl_tree.specs.TreeModule.{WrittenCircuit, circuit, written_circuit}
-use Rattle.rtl_tree.specs.GrammarModule.{AreSpelled}
-use Rattle.rtl_tree.specs.Deeper.{too_deep}
-use Rattle.rtl_tree.specs.Depth.{depth}
+use Rattle.rtl_tree.specs.TreeModule.{circuit, WrittenCircuit, written_circuit}
+use Rattle.text_grammar.specs.GrammarModule.{AreSpelled}
+use Rattle.text_grammar.specs.Deeper.{too_deep}
+use Rattle.text_grammar.specs.Depth.{depth}
 use Rattle.text_ground.specs.declared.dropped.Dropped.{Dropped}
 use Rattle.rtl_tree.specs.declared.token.Token.{Token}
-use Rattle.rtl_tree.specs.declared.tree.nesting.TheConstants.{MAX_NESTING}
+use Rattle.text_grammar.specs.declared.nesting.TheConstants.{MAX_NESTING}
 use Rattle.rtl_unroll.specs.Plain.{plain_circuit}
 use Rattle.text_survey.specs.Terminals.{is_refused}
 use Rattle.text_survey.specs.Surveys.{AreNumbered, AreClosed, IsSurvey}

@@ -5,8 +5,8 @@ use Rattle.std.specs.List.{slice_get}
 use Rattle.rtl_tree.specs.Prepared.{Ready}
 use Rattle.rtl_tree.specs.Symbols.{Terminal}
 use Rattle.rtl_tree.specs.TreeModule.{WrittenCircuit}
-use Rattle.rtl_tree.specs.GrammarModule.{Spells}
-use Rattle.rtl_tree.specs.Deeper.{too_deep, IsLeastPlace}
+use Rattle.text_grammar.specs.GrammarModule.{Spells}
+use Rattle.text_grammar.specs.Deeper.{too_deep, IsLeastPlace}
 use Rattle.text_survey.specs.Least.{IsLeast}
 use Rattle.text_survey.proofs.Least.{one_least}
 use Rattle.text_build.proofs.Laws.Modules.{spelled_once}

@@ -4,12 +4,13 @@ use Rattle.std.specs.List.{All, flat_map}
 use Rattle.rtl_tree.specs.TreeExpr.{Formula, Number, Read, ReadBit, ReadPart, Parens, Apply, Concat, Repeat, Unary, Binary, Choose, Formulas, no_formulas, more_formulas, Bounds}
 use Rattle.rtl_tree.specs.TreeStmt.{Target, Whole, Bit, Part, Joined, Targets, no_targets, more_targets, Span, Fixed, Named, Valued, Pause, Action, Null, Delayed, Assign, If, IfElse, Case, For, Block, Actions, no_actions, more_actions, Branch, Labelled, Default, Branches, no_branches, more_branches, target_place}
 use Rattle.rtl_tree.specs.TreeItem.{Head, Drive, Happening, Edge, Change, ChangeBit, ChangePart, Sensitivity, Star, StarInParens, Listed, Association, ByPosition, ByName, ModuleItem, Ports, Nets, Variables, Integers, Parameters, Drives, GateDrive, Gates, Always, Instances}
-use Rattle.rtl_tree.specs.TreeGate.{GateSpan, One, Two, GatePause, Gate, WrittenItem, Plain, Primitives}
-use Rattle.rtl_tree.specs.TreeModule.{WrittenCircuit, HeaderParameter, HeaderPort, Header, Absent, Empty, Declared}
+use Rattle.rtl_tree.specs.TreeGate.{GateSpan, One, Two, GatePause, Gate}
+use Rattle.rtl_tree.specs.TreeWritten.{WrittenItem, Plain, Primitives}
+use Rattle.rtl_tree.specs.TreeModule.{HeaderParameter, HeaderPort, Header, Absent, Empty, Declared, WrittenCircuit}
 use Rattle.rtl_tree.specs.TreeModule as modules
-use Rattle.rtl_tree.specs.Deeper.{of_any, here, formula_deeper, formulas_deeper, bounds_deeper, target_deeper, targets_deeper, span_deeper, pause_deeper, action_deeper, actions_deeper, branch_deeper, branches_deeper, head_deeper, net_deeper, valuation_deeper, drive_deeper, happening_deeper, sensitivity_deeper, positional_deeper, associated_deeper, association_deeper, instantiation_deeper, gate_drive_deeper, item_deeper, gate_span_deeper, gate_pause_deeper, gate_deeper, written_deeper, header_parameter_deeper, header_port_deeper, header_deeper, deeper, too_deep}
-use Rattle.rtl_tree.specs.declared.tree.nesting.TheConstants.{MAX_NESTING}
-use Rattle.rtl_tree.specs.Depth.{greatest, if_any, formula_depth, formulas_depth, bounds_depth, target_depth, targets_depth, span_depth, pause_depth, action_depth, actions_depth, branch_depth, branches_depth, head_depth, net_depth, valuation_depth, drive_depth, happening_depth, sensitivity_depth, positional_depth, associated_depth, association_depth, instantiation_depth, gate_drive_depth, item_depth, gate_span_depth, gate_pause_depth, gate_depth, written_depth, header_parameter_depth, header_port_depth, header_depth, depth}
+use Rattle.text_grammar.specs.Deeper.{of_any, here, formula_deeper, formulas_deeper, bounds_deeper, target_deeper, targets_deeper, span_deeper, pause_deeper, action_deeper, actions_deeper, branch_deeper, branches_deeper, head_deeper, net_deeper, valuation_deeper, drive_deeper, happening_deeper, sensitivity_deeper, positional_deeper, associated_deeper, association_deeper, instantiation_deeper, gate_drive_deeper, item_deeper, gate_span_deeper, gate_pause_deeper, gate_deeper, written_deeper, header_parameter_deeper, header_port_deeper, header_deeper, deeper, too_deep}
+use Rattle.text_grammar.specs.declared.nesting.TheConstants.{MAX_NESTING}
+use Rattle.text_grammar.specs.Depth.{greatest, if_any, formula_depth, formulas_depth, bounds_depth, target_depth, targets_depth, span_depth, pause_depth, action_depth, actions_depth, branch_depth, branches_depth, head_depth, net_depth, valuation_depth, drive_depth, happening_depth, sensitivity_depth, positional_depth, associated_depth, association_depth, instantiation_depth, gate_drive_depth, item_depth, gate_span_depth, gate_pause_depth, gate_depth, written_depth, header_parameter_depth, header_port_depth, header_depth, depth}
 
 left : (xs ys : List ℕ) → xs ++ ys ≡ [] → xs ≡ []
 left [] ys e = refl

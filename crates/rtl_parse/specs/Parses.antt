@@ -5,8 +5,8 @@ use Rattle.std.specs.List.{slice_get}
 use Rattle.rtl_tree.specs.Prepared.{Ready}
 use Rattle.rtl_tree.specs.Symbols.{Terminal, terminals}
 use Rattle.rtl_tree.specs.TreeModule.{Circuit, WrittenCircuit}
-use Rattle.rtl_tree.specs.GrammarModule.{Spells}
-use Rattle.rtl_tree.specs.Deeper.{too_deep, IsLeastPlace}
+use Rattle.text_grammar.specs.GrammarModule.{Spells}
+use Rattle.text_grammar.specs.Deeper.{too_deep, IsLeastPlace}
 use Rattle.rtl_unroll.specs.Plain.{plain_circuit}
 use Rattle.text_survey.specs.Terminals.{is_refused}
 use Rattle.text_survey.specs.Surveys.{AreClosed}

@@ -4,8 +4,8 @@ ghost use Rattle.std.specs.Prelude.{◌≡◌, ◌+◌, [], None, map, position,
 ghost use Rattle.std.specs.List.{slice_get};
 ghost use Rattle.rtl_tree.specs.Symbols.{terminal};
 ghost use Rattle.rtl_tree.specs.TreeModule.{circuit, written_circuit};
-ghost use Rattle.rtl_tree.specs.GrammarModule.{AreSpelled};
-ghost use Rattle.rtl_tree.specs.Deeper.{too_deep};
+ghost use Rattle.text_grammar.specs.GrammarModule.{AreSpelled};
+ghost use Rattle.text_grammar.specs.Deeper.{too_deep};
 ghost use Rattle.rtl_parse.specs.Parses.{IsCause, IsParsed, IsThere, first_outside};
 
 use crate::fault::ParseFault;

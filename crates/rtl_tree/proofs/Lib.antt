@@ -1,2 +1,1 @@
-pub mod TreeDepths
 pub mod TreeViews

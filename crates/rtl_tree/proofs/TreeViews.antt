@@ -15,6 +15,12 @@ use Rattle.rtl_tree.specs.declared.tree.stmt.CaseItem.{CaseItem}
 use Rattle.rtl_tree.specs.declared.tree.stmt.CaseItem.TheBlock.{hidden-the_row-CaseItem-0, hidden-the_row-Stmt-1}
 use Rattle.rtl_tree.specs.declared.tree.stmt.Stmt.{Row_of-CaseItem, end_of-CaseItem, more_of-CaseItem, items-the_row-CaseItem, items_hidden-the_row-CaseItem-0, Stmt, Row_of-Stmt, end_of-Stmt, more_of-Stmt, items-the_row-Stmt, items_hidden-the_row-Stmt-1}
 use Rattle.rtl_tree.specs.declared.tree.stmt.Stmt.TheVariants as stmt
+use Rattle.rtl_tree.specs.declared.tree.written.WrittenItem.TheVariants as item
+use Rattle.rtl_tree.specs.declared.tree.written.WrittenItem.{WrittenItem, Row_of-WrittenItem, end_of-WrittenItem, more_of-WrittenItem, items-the_row-WrittenItem, items_hidden-the_row-WrittenItem-0, Row_of-GenerateChoice, end_of-GenerateChoice, more_of-GenerateChoice, items-the_row-GenerateChoice, items_hidden-the_row-GenerateChoice-1}
+use Rattle.rtl_tree.specs.declared.tree.written.GenerateBlock.TheBlock.{hidden-the_row-WrittenItem-0, hidden-the_row-GenerateChoice-1}
+use Rattle.rtl_tree.specs.declared.tree.written.GenerateBlock.TheVariants as made_of
+use Rattle.rtl_tree.specs.declared.tree.written.GenerateChoice.{GenerateChoice}
+use Rattle.rtl_tree.specs.TreeWritten as tree
 use Rattle.rtl_tree.specs.TreeStmt.{more_targets, Joined, target, targets, target_row, more_actions, more_branches, Case, Block, action, actions, action_row, branch, branches, branch_row}
 use Rattle.rtl_tree.specs.TreeExpr.{identifier, more_formulas, Concat, Repeat, formula, formulas, formula_row}
 
@@ -58,3 +64,26 @@ pub block_is : (at : ℕ) (label : Option Name) (body : Vec Stmt Global) → act
 block_is at label body =
     ap (Block at (option_map identifier label))
     (actions_is _ (hidden-the_row-Stmt-1 body) ∙ ap (λ all. action_row (map action all)) (items_hidden-the_row-Stmt-1 body))
+
+written_items_is : (n : _) (row : Row_of-WrittenItem n) → tree.written_items row ≡ tree.item_row (map tree.written_item (items-the_row-WrittenItem n row))
+written_items_is _ end_of-WrittenItem = refl
+written_items_is _ (more_of-WrittenItem first others) = ap (tree.more_items (tree.written_item first)) (written_items_is _ others)
+
+choices_is : (n : _) (row : Row_of-GenerateChoice n) → tree.choices row ≡ tree.choice_row (map tree.choice (items-the_row-GenerateChoice n row))
+choices_is _ end_of-GenerateChoice = refl
+choices_is _ (more_of-GenerateChoice first others) = ap (tree.more_choices (tree.choice first)) (choices_is _ others)
+
+pub region_is : (at : ℕ) (items : Vec WrittenItem Global) → tree.written_item (item.Region at items) ≡ tree.Region at (tree.item_row (map tree.written_item items.items))
+region_is at items =
+    ap (tree.Region at)
+    (written_items_is _ (hidden-the_row-WrittenItem-0 items) ∙ ap (λ all. tree.item_row (map tree.written_item all)) (items_hidden-the_row-WrittenItem-0 items))
+
+pub generate_case_is : (at : ℕ) (selector : Expr) (choices : Vec GenerateChoice Global) → tree.written_item (item.Case at selector choices) ≡ tree.Case at (formula selector) (tree.choice_row (map tree.choice choices.items))
+generate_case_is at selector choices =
+    ap (tree.Case at (formula selector))
+    (choices_is _ (hidden-the_row-GenerateChoice-1 choices) ∙ ap (λ all. tree.choice_row (map tree.choice all)) (items_hidden-the_row-GenerateChoice-1 choices))
+
+pub generate_block_is : (at : ℕ) (label : Option Name) (items : Vec WrittenItem Global) → tree.made (made_of.Block at label items) ≡ tree.Block at (option_map identifier label) (tree.item_row (map tree.written_item items.items))
+generate_block_is at label items =
+    ap (tree.Block at (option_map identifier label))
+    (written_items_is _ (hidden-the_row-WrittenItem-0 items) ∙ ap (λ all. tree.item_row (map tree.written_item all)) (items_hidden-the_row-WrittenItem-0 items))

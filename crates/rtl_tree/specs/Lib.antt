@@ -1,11 +1,3 @@
-pub mod Depth
-pub mod Deeper
-pub mod Grammar
-pub mod GrammarExpr
-pub mod GrammarStmt
-pub mod GrammarItem
-pub mod GrammarGate
-pub mod GrammarModule
 pub mod Token
 pub mod Lexemes
 pub mod Literal
@@ -17,3 +9,4 @@ pub mod TreeGate
 pub mod TreeItem
 pub mod TreeModule
 pub mod TreeStmt
+pub mod TreeWritten

@@ -8,7 +8,7 @@ use Rattle.rtl_tree.specs.declared.token.Pragma.{Pragma}
 use Rattle.rtl_tree.specs.declared.token.Pragma.TheVariants as pragma
 use Rattle.rtl_tree.specs.declared.token.Token.{Token}
 use Rattle.rtl_tree.specs.declared.symbol.Symbol.{Symbol}
-use Rattle.rtl_tree.specs.declared.symbol.Symbol.TheVariants.{Name, Number, Quoted, Refused, Alien, Always, And, Assign, Begin, Buf, Case, Casex, Casez, Default, Else, End, Endcase, Endmodule, For, If, Input, Integer, Localparam, Module, Nand, Negedge, Nor, Not, Or, Output, Parameter, Posedge, Reg, Signed, Wire, Xnor, Xor, ToSigned, ToUnsigned, Clog2, OpenParen, CloseParen, OpenBracket, CloseBracket, OpenBrace, CloseBrace, OpenAttribute, CloseAttribute, Semicolon, Colon, Comma, Dot, Equals, At, Hash, Question, Plus, Minus, PlusColon, MinusColon, StarStar, Star, Slash, Percent, Bang, Tilde, Ampersand, TildeAmpersand, Bar, TildeBar, Caret, TildeCaret, ShiftLeft, ShiftRight, ArithmeticShiftLeft, ArithmeticShiftRight, Less, LessEquals, Greater, GreaterEquals, EqualEquals, BangEquals, CaseEquals, CaseBangEquals, AndAnd, OrOr}
+use Rattle.rtl_tree.specs.declared.symbol.Symbol.TheVariants.{Name, Number, Quoted, Refused, Alien, Always, And, Assign, Begin, Buf, Case, Casex, Casez, Default, Else, End, Endcase, Endgenerate, Endmodule, For, Generate, Genvar, If, Input, Integer, Localparam, Module, Nand, Negedge, Nor, Not, Or, Output, Parameter, Posedge, Reg, Signed, Wire, Xnor, Xor, ToSigned, ToUnsigned, Clog2, OpenParen, CloseParen, OpenBracket, CloseBracket, OpenBrace, CloseBrace, OpenAttribute, CloseAttribute, Semicolon, Colon, Comma, Dot, Equals, At, Hash, Question, Plus, Minus, PlusColon, MinusColon, StarStar, Star, Slash, Percent, Bang, Tilde, Ampersand, TildeAmpersand, Bar, TildeBar, Caret, TildeCaret, ShiftLeft, ShiftRight, ArithmeticShiftLeft, ArithmeticShiftRight, Less, LessEquals, Greater, GreaterEquals, EqualEquals, BangEquals, CaseEquals, CaseBangEquals, AndAnd, OrOr}
 use Rattle.rtl_tree.specs.declared.symbol.Terminal as code
 
 -- a token as the grammar sees it: its symbol, its kind with a number's value, its place, its text, and what the pragmas directly after
@@ -36,6 +36,7 @@ keywords =
     (codes "$signed", ToSigned) ∷ (codes "$unsigned", ToUnsigned) ∷ (codes "$clog2", Clog2) ∷
     (codes "and", And) ∷ (codes "nand", Nand) ∷ (codes "nor", Nor) ∷ (codes "xor", Xor) ∷ (codes "xnor", Xnor) ∷
     (codes "buf", Buf) ∷ (codes "not", Not) ∷
+    (codes "generate", Generate) ∷ (codes "endgenerate", Endgenerate) ∷ (codes "genvar", Genvar) ∷
     []
 
 -- the keywords of constructs outside this language
@@ -49,8 +50,7 @@ refused_words =
     codes "scalared" ∷ codes "vectored" ∷ codes "bufif0" ∷ codes "bufif1" ∷ codes "notif0" ∷ codes "notif1" ∷ codes "nmos" ∷ codes "pmos" ∷
     codes "cmos" ∷ codes "rnmos" ∷ codes "rpmos" ∷ codes "rcmos" ∷ codes "tran" ∷ codes "tranif0" ∷ codes "tranif1" ∷
     codes "rtran" ∷ codes "rtranif0" ∷ codes "rtranif1" ∷ codes "pullup" ∷ codes "pulldown" ∷ codes "inout" ∷
-    codes "function" ∷ codes "endfunction" ∷ codes "generate" ∷ codes "endgenerate" ∷ codes "genvar" ∷ codes "config" ∷
-    codes "library" ∷
+    codes "function" ∷ codes "endfunction" ∷ codes "config" ∷ codes "library" ∷
     []
 
 -- the marks, that of a construct outside this language among them: `->`

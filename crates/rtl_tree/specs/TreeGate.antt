@@ -1,17 +1,13 @@
--- The plain form of gates, and of the items of a module as they are written.
+-- The plain form of gates.
 -- Worked examples: crates/tests_layers/stdin.
 use Rattle.std.specs.Prelude.{ℕ, List, map, Option}
 use Rattle.std.specs.Option.{option_map}
 use Rattle.rtl_tree.specs.TreeExpr.{Identifier, Formula, identifier, formula}
 use Rattle.rtl_tree.specs.TreeStmt.{Target, Span, target, span}
-use Rattle.rtl_tree.specs.TreeItem.{ModuleItem, module_item}
-use Rattle.rtl_tree.specs.declared.tree.gate.GateKind.{GateKind}
 use Rattle.rtl_tree.specs.declared.tree.gate.GateTicks.{GateTicks}
 use Rattle.rtl_tree.specs.declared.tree.gate.GateTicks.TheVariants as ticking
 use Rattle.rtl_tree.specs.declared.tree.gate.GateDelay.{GateDelay}
 use Rattle.rtl_tree.specs.declared.tree.gate.Gate as code
-use Rattle.rtl_tree.specs.declared.tree.gate.WrittenItem as items
-use Rattle.rtl_tree.specs.declared.tree.gate.WrittenItem.TheVariants as written
 
 -- how long gates are delayed: as an assignment is, or by a pair for rise and fall
 pub data GateSpan : Type 0 where
@@ -29,11 +25,6 @@ pub record Gate : Type 0 where
   pub output : Target
   pub terminals : List Formula
 
--- an item of a module as it is written
-pub data WrittenItem : Type 0 where
-  Plain : (item : ModuleItem) → WrittenItem
-  Primitives : (at : ℕ) (kind : GateKind) (pause : Option GatePause) (gates : List Gate) → WrittenItem
-
 abbrev pub gate_span : GateTicks → GateSpan
 gate_span (ticking.One ticks) = One (span ticks)
 gate_span (ticking.Two rise fall) = Two (formula rise) (formula fall)
@@ -48,8 +39,3 @@ gate written =
       output = target written.output;
       terminals = map formula written.terminals.items;
     }
-
-abbrev pub written_item : items.WrittenItem → WrittenItem
-written_item (written.Plain item) = Plain (module_item item)
-written_item (written.Gates at kind delay gates) =
-    Primitives at kind (option_map gate_pause delay) (map gate gates.items)

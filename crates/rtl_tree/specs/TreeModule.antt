@@ -4,13 +4,14 @@ use Rattle.std.specs.Prelude.{ℕ, List, map, Option}
 use Rattle.std.specs.Option.{option_map}
 use Rattle.rtl_tree.specs.TreeExpr.{Identifier, Formula, Bounds, identifier, formula, bounds}
 use Rattle.rtl_tree.specs.TreeItem.{Head, ModuleItem, head, module_item}
-use Rattle.rtl_tree.specs.TreeGate.{WrittenItem, written_item}
+use Rattle.rtl_tree.specs.TreeWritten.{WrittenItem, written_item}
 use Rattle.text_ground.specs.declared.dropped.Dropped.{Dropped}
 use Rattle.rtl_tree.specs.declared.tree.modules.ParameterHead.{ParameterHead}
 use Rattle.rtl_tree.specs.declared.tree.modules.HeadParameter.{HeadParameter}
 use Rattle.rtl_tree.specs.declared.tree.modules.HeadPort.{HeadPort}
 use Rattle.rtl_tree.specs.declared.tree.modules.PortList.{PortList}
 use Rattle.rtl_tree.specs.declared.tree.modules.PortList.TheVariants as listed
+use Rattle.rtl_tree.specs.declared.tree.modules.Construct as code
 use Rattle.rtl_tree.specs.declared.tree.modules.Module.{Module}
 use Rattle.rtl_tree.specs.declared.tree.modules.WrittenModule.{WrittenModule}
 
@@ -37,13 +38,19 @@ pub data Header : Type 0 where
   Declared : (ports : List HeaderPort) → Header
   Named : (names : List Identifier) → Header
 
--- a module whose gates are assignments
+-- a generate construct, or what tells which names are genvars, and how many items of its module stand before it
+pub record Construct : Type 0 where
+  pub position : ℕ
+  pub written : WrittenItem
+
+-- a module whose gates are assignments: the items that stand in no generate construct, and the constructs
 pub record Circuit : Type 0 where
   pub at : ℕ
   pub name : Identifier
   pub parameters : List HeaderParameter
   pub header : Header
   pub items : List ModuleItem
+  pub constructs : List Construct
   pub dropped : List Dropped
 
 -- a module as it is written
@@ -76,6 +83,9 @@ header listed.Empty = Empty
 header (listed.Declared ports) = Declared (map header_port ports.items)
 header (listed.Named names) = Named (map identifier names.items)
 
+abbrev pub construct : code.Construct → Construct
+construct made = record { position = made.position; written = written_item made.written }
+
 abbrev pub circuit : Module → Circuit
 circuit written =
     record {
@@ -84,6 +94,7 @@ circuit written =
       parameters = map header_parameter written.parameters.items;
       header = header written.ports;
       items = map module_item written.items.items;
+      constructs = map construct written.constructs.items;
       dropped = written.dropped.items;
     }
 

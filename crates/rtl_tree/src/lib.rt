@@ -1,4 +1,4 @@
-// Verilog as it is written: trees, and which text spells which tree.
+// Verilog as it is written: tokens, and modules as trees.
 #![tactic(auto)]
 
 pub mod literal;

@@ -8,6 +8,6 @@ pub mod gate;
 pub mod item;
 pub mod modules;
 pub mod names;
-pub mod nesting;
 pub mod operators;
 pub mod stmt;
+pub mod written;

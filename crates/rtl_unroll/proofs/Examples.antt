@@ -7,7 +7,8 @@ use Rattle.rtl_tree.specs.declared.tree.operators.UnaryOperator.TheVariants.{Bit
 use Rattle.rtl_tree.specs.TreeExpr.{Formula, Identifier, Number, Read, Parens, Unary, Binary}
 use Rattle.rtl_tree.specs.TreeStmt.{Whole, Valued}
 use Rattle.rtl_tree.specs.TreeItem.{Gates}
-use Rattle.rtl_tree.specs.TreeGate.{Gate, Two, Primitives}
+use Rattle.rtl_tree.specs.TreeGate.{Gate, Two}
+use Rattle.rtl_tree.specs.TreeWritten.{Primitives}
 use Rattle.rtl_unroll.specs.Plain.{drives_of, plain_item}
 
 -- the names a, b, c, y, z and g

@@ -11,7 +11,8 @@ use Rattle.rtl_tree.specs.declared.tree.gate.GateKind.TheVariants as kind
 use Rattle.rtl_tree.specs.TreeExpr.{Identifier, Formula, Number, Read, ReadBit, ReadPart, Parens, Apply, Concat, Repeat, Unary, Binary, Choose, formula_place}
 use Rattle.rtl_tree.specs.TreeStmt.{Target, Whole, Bit, Part, Pause, Span, Valued, target_place}
 use Rattle.rtl_tree.specs.TreeItem.{GateDrive, ModuleItem, Gates}
-use Rattle.rtl_tree.specs.TreeGate.{GateSpan, One, Two, GatePause, Gate, WrittenItem, Plain, Primitives}
+use Rattle.rtl_tree.specs.TreeGate.{GateSpan, One, Two, GatePause, Gate}
+use Rattle.rtl_tree.specs.TreeWritten.{WrittenItem, Plain, Primitives}
 use Rattle.rtl_tree.specs.TreeModule.{Circuit, WrittenCircuit}
 
 -- ---- what a gate gives of its inputs (tables 7-3 and 7-4)

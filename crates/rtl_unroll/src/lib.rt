@@ -5,14 +5,16 @@ mod gates;
 mod inputs;
 
 ghost use Rattle.std.specs.Prelude.{◌≡◌, IfOk, map};
-ghost use Rattle.rtl_tree.specs.TreeGate.{gate_pause, written_item};
+ghost use Rattle.rtl_tree.specs.TreeGate.{gate_pause};
+ghost use Rattle.rtl_tree.specs.TreeWritten.{written_item};
 ghost use Rattle.rtl_tree.specs.TreeItem.{module_item};
 ghost use Rattle.rtl_tree.specs.TreeModule.{circuit, written_circuit};
 ghost use Rattle.rtl_tree.specs.TreeStmt.{pause};
 ghost use Rattle.rtl_unroll.specs.Plain.{plain_circuit, plain_item, plain_pause};
 
 use gates::drives_of;
-use rtl_tree::tree::gate::{GateDelay, GateTicks, WrittenItem};
+use rtl_tree::tree::gate::{GateDelay, GateTicks};
+use rtl_tree::tree::written::WrittenItem;
 use rtl_tree::tree::item::Item;
 use rtl_tree::tree::modules::{Module, WrittenModule};
 use rtl_tree::tree::stmt::{Delay, Ticks};

@@ -12,7 +12,7 @@ use rtl_tree::prepared::Prepared;
 use rtl_tree::token::Tokens;
 use rtl_tree::tree::item::Item;
 use rtl_tree::tree::modules::{Module, WrittenModule};
-use rtl_tree::tree::nesting::depth;
+use text_grammar::nesting::depth;
 use std::alloc::Global;
 use std::marker::Brand;
 use std::sync::ledger::{Blank, Ledger};

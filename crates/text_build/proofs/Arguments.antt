@@ -4,9 +4,9 @@ use Rattle.rtl_tree.specs.declared.symbol.Symbol.TheVariants as symbol
 use Rattle.rtl_tree.specs.Symbols.{Terminal}
 use Rattle.rtl_tree.specs.TreeExpr.{Formula}
 use Rattle.rtl_tree.specs.TreeItem.{Positional, Association, ByPosition, ByName}
-use Rattle.rtl_tree.specs.Grammar.{Spelling, ◌⨾◌, IsA, IsOptional, AreMore, AreListed}
-use Rattle.rtl_tree.specs.GrammarExpr.{IsExpression}
-use Rattle.rtl_tree.specs.GrammarItem.{IsPositional, IsAssociated, IsMoreThanEmpty, AreConnections, IsInstantiation, AreOverrides, IsItem}
+use Rattle.text_grammar.specs.Grammar.{Spelling, ◌⨾◌, IsA, IsOptional, AreMore, AreListed}
+use Rattle.text_grammar.specs.GrammarExpr.{IsExpression}
+use Rattle.text_grammar.specs.GrammarItem.{IsPositional, IsAssociated, IsMoreThanEmpty, AreConnections, IsInstantiation, AreOverrides, IsItem}
 use Rattle.text_build.specs.Reading.{starts, place, mark}
 use Rattle.text_build.specs.ReadingItem.{any_expression, ends_argument, argument_value, positional, associated, by_position, by_name, arguments, connections, instantiation, overrides_of, overrides, instances}
 use Rattle.text_build.specs.Sound.{IsPlain}

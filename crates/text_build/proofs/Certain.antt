@@ -5,18 +5,18 @@ use Rattle.std.proofs.lemmas.Bool.{leb-true}
 use denote.Enum.Bare.{sameb}
 use Rattle.rtl_tree.specs.contracts.symbol.Symbol.{the_type}
 use Rattle.rtl_tree.specs.declared.symbol.Symbol.TheVariants as symbol
-use Rattle.rtl_tree.specs.declared.tree.nesting.TheConstants.{MAX_NESTING}
+use Rattle.text_grammar.specs.declared.nesting.TheConstants.{MAX_NESTING}
 use Rattle.rtl_tree.specs.Symbols.{Terminal}
 use Rattle.rtl_tree.specs.TreeExpr.{Formula}
 use Rattle.rtl_tree.specs.TreeStmt.{Action, Null, Delayed, Assign, If, IfElse, Case, For, Block, Actions, no_actions, more_actions, Branch, Labelled, Default, Branches, no_branches, more_branches}
 use Rattle.rtl_tree.specs.TreeItem.{Association, ByPosition, ByName, ModuleItem, Ports, Nets, Variables, Integers, Parameters, Drives, Gates, Always, Instances}
-use Rattle.rtl_tree.specs.TreeGate.{WrittenItem, Plain, Primitives}
+use Rattle.rtl_tree.specs.TreeWritten.{WrittenItem, Plain, Primitives}
 use Rattle.rtl_tree.specs.TreeModule.{HeaderParameter, Heading, WrittenCircuit}
-use Rattle.rtl_tree.specs.Depth.{depth, greatest}
-use Rattle.rtl_tree.specs.GrammarStmt.{defaults}
-use Rattle.rtl_tree.specs.GrammarItem.{IsMoreThanEmpty}
-use Rattle.rtl_tree.specs.GrammarGate.{has_one_input, is_named, AreTerminals}
-use Rattle.rtl_tree.specs.GrammarModule.{IsThere}
+use Rattle.text_grammar.specs.Depth.{depth, greatest}
+use Rattle.text_grammar.specs.GrammarStmt.{defaults}
+use Rattle.text_grammar.specs.GrammarItem.{IsMoreThanEmpty}
+use Rattle.text_grammar.specs.GrammarGate.{has_one_input, is_named, AreTerminals}
+use Rattle.text_grammar.specs.GrammarModule.{IsThere}
 use Rattle.text_build.specs.Reading.{same_symbol}
 use Rattle.text_build.specs.Sound.{IsPlain}
 use Rattle.text_build.specs.Proper.{HasItem, IsProper, AreProper, IsProperBranch, AreProperBranches}

@@ -6,10 +6,10 @@ use Rattle.rtl_tree.specs.declared.tree.gate.GateKind.{GateKind}
 use Rattle.rtl_tree.specs.Symbols.{Terminal}
 use Rattle.rtl_tree.specs.TreeExpr.{Formula}
 use Rattle.rtl_tree.specs.TreeStmt.{Span}
-use Rattle.rtl_tree.specs.Grammar.{IsName}
-use Rattle.rtl_tree.specs.GrammarExpr.{IsExpression}
-use Rattle.rtl_tree.specs.GrammarStmt.{IsSpan}
-use Rattle.rtl_tree.specs.GrammarGate.{gate_symbol, has_one_input, IsGateSpan, IsGatePause, IsGate, IsWritten}
+use Rattle.text_grammar.specs.Grammar.{IsName}
+use Rattle.text_grammar.specs.GrammarExpr.{IsExpression}
+use Rattle.text_grammar.specs.GrammarStmt.{IsSpan}
+use Rattle.text_grammar.specs.GrammarGate.{gate_symbol, has_one_input, IsGateSpan, IsGatePause, IsGate, IsWritten}
 use Rattle.text_build.specs.Reading.{Parser, symbol_at, name, listed}
 use Rattle.text_build.specs.ReadingStmt.{fixed, named, target}
 use Rattle.text_build.specs.ReadingItem.{any_expression}

@@ -2,9 +2,9 @@
 use Rattle.std.proofs.Common.{ℕ, List, [], Some, refl, sym, subst}
 use Rattle.text_ground.specs.declared.dropped.Dropped.{Dropped}
 use Rattle.rtl_tree.specs.declared.symbol.Symbol.TheVariants as symbol
-use Rattle.rtl_tree.specs.Grammar.{AreAll}
-use Rattle.rtl_tree.specs.GrammarGate.{IsMarkedItem}
-use Rattle.rtl_tree.specs.GrammarModule.{IsCircuit, IsMarkedCircuit}
+use Rattle.text_grammar.specs.Grammar.{AreAll}
+use Rattle.text_grammar.specs.GrammarGate.{IsMarkedItem}
+use Rattle.text_grammar.specs.GrammarModule.{IsCircuit, IsMarkedCircuit}
 use Rattle.text_build.specs.Reading.{and_then, until}
 use Rattle.text_build.specs.ReadingModule.{item, circuit_after, circuit, is_more, circuits}
 use Rattle.text_build.specs.Sound.{IsPlain}

@@ -6,7 +6,7 @@ use Rattle.rtl_tree.specs.declared.tree.operators.BinaryOperator.{BinaryOperator
 use Rattle.rtl_tree.specs.declared.tree.operators.UnaryOperator.{UnaryOperator}
 use Rattle.rtl_tree.specs.Symbols.{Terminal}
 use Rattle.rtl_tree.specs.TreeExpr.{Formula, Number, Read, ReadBit, ReadPart, Parens, Apply, Concat, Repeat, Unary, Binary, Choose}
-use Rattle.rtl_tree.specs.GrammarExpr.{unary_symbol, binary_symbol, level, IsFormula}
+use Rattle.text_grammar.specs.GrammarExpr.{unary_symbol, binary_symbol, level, IsFormula}
 use Rattle.text_build.specs.Reading.{symbol_at}
 use Rattle.text_build.specs.ReadingExpr.{binary_of, unary_of, looseness, goes}
 

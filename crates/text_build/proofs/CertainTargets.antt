@@ -5,9 +5,9 @@ use Rattle.rtl_tree.specs.declared.symbol.Symbol.TheVariants as symbol
 use Rattle.rtl_tree.specs.Symbols.{Terminal}
 use Rattle.rtl_tree.specs.TreeExpr.{Formula}
 use Rattle.rtl_tree.specs.TreeStmt.{Target, target_row}
-use Rattle.rtl_tree.specs.Grammar.{AreMore, AreListed}
-use Rattle.rtl_tree.specs.GrammarExpr.{IsExpression}
-use Rattle.rtl_tree.specs.GrammarStmt.{IsTarget, AreTargets, AreMoreTargets, IsSpan, IsPause}
+use Rattle.text_grammar.specs.Grammar.{AreMore, AreListed}
+use Rattle.text_grammar.specs.GrammarExpr.{IsExpression}
+use Rattle.text_grammar.specs.GrammarStmt.{IsTarget, AreTargets, AreMoreTargets, IsSpan, IsPause}
 use Rattle.text_build.specs.Reading.{Parser, symbol_at, starts, repeat}
 use Rattle.text_build.specs.ReadingExpr.{Reference, whole, bit, part, expression}
 use Rattle.text_build.specs.ReadingStmt.{no_marks, marked, attributes, target_of, part_target, joined, target, fixed, named, valued, span_by, span, pause}

@@ -6,10 +6,10 @@ use Rattle.rtl_tree.specs.declared.tree.stmt.CaseKind.{CaseKind}
 use Rattle.rtl_tree.specs.declared.tree.stmt.CaseKind.TheVariants as kind
 use Rattle.rtl_tree.specs.declared.tree.operators.PartKind.{PartKind}
 use Rattle.rtl_tree.specs.Symbols.{Terminal}
-use Rattle.rtl_tree.specs.GrammarExpr.{part_symbol}
+use Rattle.text_grammar.specs.GrammarExpr.{part_symbol}
 use Rattle.rtl_tree.specs.TreeExpr.{Identifier, Formula}
 use Rattle.rtl_tree.specs.TreeStmt.{Target, target_row, Action, action_row, Branch, branch_row}
-use Rattle.rtl_tree.specs.Depth.{greatest, if_any, formula_depth, target_depth, targets_depth, span_depth, pause_depth, action_depth, actions_depth, branch_depth, branches_depth}
+use Rattle.text_grammar.specs.Depth.{greatest, if_any, formula_depth, target_depth, targets_depth, span_depth, pause_depth, action_depth, actions_depth, branch_depth, branches_depth}
 use Rattle.text_build.specs.declared.attributes.Marks.{Marks}
 use Rattle.text_build.specs.Reading.{Parser, and_then, ◌>>=◌, ◌>>◌, pure, symbol_at, starts, after, token, advance, mark, name, literal, optional, add, until_in, until, links, commas, listed}
 use Rattle.text_build.specs.ReadingExpr.{Reference, whole, bit, part, part_by, rest_of_bit, rest_of_part, rest_by, rest_of_selection, selection, selected, reference, expression}

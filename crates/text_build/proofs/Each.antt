@@ -1,7 +1,7 @@
 -- Rows whose elements are spelled if they are proper.
 use Rattle.std.proofs.Common.{List, [], ◌∷◌}
 use Rattle.rtl_tree.specs.Symbols.{Terminal}
-use Rattle.rtl_tree.specs.Grammar.{Spelling, AreAll, AreMore, AreListed}
+use Rattle.text_grammar.specs.Grammar.{Spelling, AreAll, AreMore, AreListed}
 use Rattle.text_build.specs.ProperModule.{Each}
 
 -- spelled so, if it is proper

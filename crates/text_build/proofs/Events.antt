@@ -7,7 +7,7 @@ use Rattle.rtl_tree.specs.declared.tree.item.EventEdge.{EventEdge}
 use Rattle.rtl_tree.specs.declared.tree.item.EventEdge.TheVariants as edge
 use Rattle.rtl_tree.specs.Symbols.{Terminal}
 use Rattle.rtl_tree.specs.TreeItem.{Happening}
-use Rattle.rtl_tree.specs.GrammarItem.{edge_symbol, IsHappening, IsBetweenEvents, AreMoreEvents, AreEvents, IsSensitivity}
+use Rattle.text_grammar.specs.GrammarItem.{edge_symbol, IsHappening, IsBetweenEvents, AreMoreEvents, AreEvents, IsSensitivity}
 use Rattle.text_build.specs.Reading.{symbol_at, starts, after, mark}
 use Rattle.text_build.specs.ReadingExpr.{Reference, whole, bit, part, expression}
 use Rattle.text_build.specs.ReadingItem.{any_expression, edge_of, change_of, change_by, change, event_by, event, joins_events, after_joint, events, star, star_in_parens, listed_events, in_parens, sensitivity}

@@ -8,7 +8,7 @@ use Rattle.rtl_tree.specs.Symbols.{Terminal}
 use Rattle.rtl_tree.specs.declared.tree.operators.BinaryOperator.TheVariants as binary
 use Rattle.rtl_tree.specs.declared.tree.operators.UnaryOperator.TheVariants as unary
 use Rattle.rtl_tree.specs.TreeExpr.{Identifier, Read, Parens, Unary, Binary}
-use Rattle.rtl_tree.specs.Depth.{formula_depth}
+use Rattle.text_grammar.specs.Depth.{formula_depth}
 use Rattle.rtl_tree.specs.TreeStmt.{Whole, Case, no_branches}
 use Rattle.rtl_tree.specs.TreeItem.{ByPosition}
 use Rattle.text_build.specs.Reading.{refuse, same_symbol, starts, optional, turns, after, token, place, advance, mark, name, either, until_in, until, links, commas, listed}

@@ -5,7 +5,7 @@ use Rattle.rtl_tree.specs.declared.symbol.Symbol.TheVariants as symbol
 use Rattle.rtl_tree.specs.declared.tree.operators.BinaryOperator.{BinaryOperator}
 use Rattle.rtl_tree.specs.Symbols.{Terminal}
 use Rattle.rtl_tree.specs.TreeExpr.{Formula}
-use Rattle.rtl_tree.specs.GrammarExpr.{binary_symbol, level, IsFormula, IsExpression}
+use Rattle.text_grammar.specs.GrammarExpr.{binary_symbol, level, IsFormula, IsExpression}
 use Rattle.text_build.specs.Reading.{Parser, and_then, symbol_at, turns}
 use Rattle.text_build.specs.ReadingExpr.{binary_of, looseness, goes, choice, joint, link_of, link_by, link, ended, chain, sequence, climb, expression}
 use Rattle.text_build.proofs.Laws.Follows.{level_is, operator_goes, goes_mono}

@@ -6,7 +6,7 @@ use Rattle.std.proofs.lemmas.Grind.{common_steps}
 use Rattle.std.proofs.lemmas.List.{get_or_default, get_or-take, length-take, take_more}
 use Rattle.std.proofs.lemmas.List.Sorted.{IsNonDecreasingBy-drop, IsNonDecreasingBy-push}
 use Rattle.text_ground.specs.declared.dropped.Dropped.{Dropped}
-use Rattle.rtl_tree.specs.GrammarModule.{is_between}
+use Rattle.text_grammar.specs.GrammarModule.{is_between}
 
 passed_over : {A : Type 0} (p : A → Bool) (x : A) (xs : List A) → p x ≡ false → filter p (x ∷ xs) ≡ filter p xs
 passed_over p x xs e = ap (λ b. cond b (x ∷ filter p xs) (filter p xs)) e

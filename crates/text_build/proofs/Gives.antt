@@ -6,7 +6,7 @@ use Rattle.rtl_tree.specs.declared.literal.Literal.{Literal}
 use Rattle.rtl_tree.specs.declared.token.Tok.{Tok}
 use Rattle.rtl_tree.specs.declared.token.Tok.TheVariants as tok
 use Rattle.rtl_tree.specs.Symbols.{Terminal}
-use Rattle.rtl_tree.specs.Grammar.{Spelling, ◌⨾◌, IsA, IsAt, IsName, IsNumber, IsOptional}
+use Rattle.text_grammar.specs.Grammar.{Spelling, ◌⨾◌, IsA, IsAt, IsName, IsNumber, IsOptional}
 use Rattle.text_build.specs.Reading.{Parser, Outcome, and_then, ◌>>=◌, ◌>>◌, pure, same_symbol, symbol_at, starts, after, token, advance, mark, name, value_of, literal_by, literal, either, optional}
 use Rattle.text_build.proofs.Laws.Tokens.{symbol_same}
 use Rattle.text_build.specs.Sound.{IsPlain}

@@ -3,9 +3,9 @@ use Rattle.std.proofs.Common.{◌≡◌, ℕ, true, false, List, [], ◌∷◌, 
 use Rattle.rtl_tree.specs.declared.symbol.Symbol.TheVariants as symbol
 use Rattle.rtl_tree.specs.Symbols.{Terminal}
 use Rattle.rtl_tree.specs.TreeModule.{HeaderParameter, HeaderPort, Declared}
-use Rattle.rtl_tree.specs.Grammar.{Spelling, ◌⨾◌, IsA, IsOptional, AreMore, AreListed}
-use Rattle.rtl_tree.specs.GrammarItem.{IsHead}
-use Rattle.rtl_tree.specs.GrammarModule.{IsThere, IsHeading, IsParameter, AreParameters, IsPort, IsHeader}
+use Rattle.text_grammar.specs.Grammar.{Spelling, ◌⨾◌, IsA, IsOptional, AreMore, AreListed}
+use Rattle.text_grammar.specs.GrammarItem.{IsHead}
+use Rattle.text_grammar.specs.GrammarModule.{IsThere, IsHeading, IsParameter, AreParameters, IsPort, IsHeader}
 use Rattle.text_build.specs.Reading.{starts, mark, name}
 use Rattle.text_build.specs.ReadingModule.{heading, parameter, parameters_of, parameters, starts_head, own_head, port, declared, named, empty, port_list, header}
 use Rattle.text_build.specs.Sound.{IsPlain}

@@ -4,10 +4,10 @@ use Rattle.rtl_tree.specs.declared.symbol.Symbol.{Symbol}
 use Rattle.rtl_tree.specs.declared.symbol.Symbol.TheVariants as symbol
 use Rattle.rtl_tree.specs.declared.tree.item.ParameterKind.{ParameterKind}
 use Rattle.rtl_tree.specs.Symbols.{Terminal}
-use Rattle.rtl_tree.specs.Grammar.{IsOptional, IsFlag}
-use Rattle.rtl_tree.specs.GrammarExpr.{IsBounds}
-use Rattle.rtl_tree.specs.GrammarStmt.{IsPause}
-use Rattle.rtl_tree.specs.GrammarItem.{direction_symbol, IsKind, IsHead, IsValue, IsNet, IsInitial, IsVariable, parameter_symbol, IsValuation, IsDrive, IsItem}
+use Rattle.text_grammar.specs.Grammar.{IsOptional, IsFlag}
+use Rattle.text_grammar.specs.GrammarExpr.{IsBounds}
+use Rattle.text_grammar.specs.GrammarStmt.{IsPause}
+use Rattle.text_grammar.specs.GrammarItem.{direction_symbol, IsKind, IsHead, IsValue, IsNet, IsInitial, IsVariable, parameter_symbol, IsValuation, IsDrive, IsItem}
 use Rattle.text_build.specs.Reading.{symbol_at, starts, after, name}
 use Rattle.text_build.specs.ReadingExpr.{expression, bounds}
 use Rattle.text_build.specs.ReadingStmt.{role_of, open_after, past_by, past, after_value, pause}

@@ -5,8 +5,8 @@ use Rattle.rtl_tree.specs.declared.symbol.Symbol.TheVariants as symbol
 use Rattle.rtl_tree.specs.declared.tree.item.ParameterKind.TheVariants as parameter
 use Rattle.rtl_tree.specs.declared.tree.gate.GateKind.{GateKind}
 use Rattle.rtl_tree.specs.Symbols.{Terminal}
-use Rattle.rtl_tree.specs.GrammarItem.{IsItem}
-use Rattle.rtl_tree.specs.GrammarGate.{gate_symbol, IsWritten, IsMarkedItem}
+use Rattle.text_grammar.specs.GrammarItem.{IsItem}
+use Rattle.text_grammar.specs.GrammarGate.{gate_symbol, IsWritten, IsMarkedItem}
 use Rattle.text_build.specs.Reading.{and_then, symbol_at}
 use Rattle.text_build.specs.ReadingItem.{sensitivity, always, item_by, item_after}
 use Rattle.text_build.specs.ReadingGate.{gate_of, plain_item, written_by, written_after}

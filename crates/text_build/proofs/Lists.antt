@@ -3,7 +3,7 @@ use Rattle.std.proofs.Common.{◌≡◌, ℕ, zero, suc, Bool, true, false, List
 use Rattle.rtl_tree.specs.declared.symbol.Symbol.{Symbol}
 use Rattle.rtl_tree.specs.declared.symbol.Symbol.TheVariants as symbol
 use Rattle.rtl_tree.specs.Symbols.{Terminal}
-use Rattle.rtl_tree.specs.Grammar.{Spelling, IsA, AreAll, AreMore, AreListed}
+use Rattle.text_grammar.specs.Grammar.{Spelling, IsA, AreAll, AreMore, AreListed}
 use Rattle.text_build.specs.Reading.{Parser, and_then, starts, after, add, turns, repeat, until_in, until, links, commas, listed}
 use Rattle.text_build.proofs.Laws.Tokens.{after_not}
 use Rattle.text_build.specs.Sound.{IsPlain}

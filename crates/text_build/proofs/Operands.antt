@@ -7,8 +7,8 @@ use Rattle.rtl_tree.specs.declared.tree.operators.SystemFunction.{SystemFunction
 use Rattle.rtl_tree.specs.declared.tree.operators.SystemFunction.TheVariants as function
 use Rattle.rtl_tree.specs.Symbols.{Terminal}
 use Rattle.rtl_tree.specs.TreeExpr.{Formula, formula_row}
-use Rattle.rtl_tree.specs.Grammar.{IsA, IsAt, AreMore, AreListed}
-use Rattle.rtl_tree.specs.GrammarExpr.{unary_symbol, function_symbol, IsFormula, AreFormulas, AreMoreFormulas}
+use Rattle.text_grammar.specs.Grammar.{IsA, IsAt, AreMore, AreListed}
+use Rattle.text_grammar.specs.GrammarExpr.{unary_symbol, function_symbol, IsFormula, AreFormulas, AreMoreFormulas}
 use Rattle.text_build.specs.Reading.{Parser, symbol_at, starts, after, place, mark, commas, listed}
 use Rattle.text_build.specs.ReadingExpr.{unary_of, goes, Reference, whole, bit, part, read_of, number, read, parens, application, replication, more_listed, concatenation, braces, operation, prefix_by, operand_by, operand}
 use Rattle.text_build.specs.Sound.{IsPlain}

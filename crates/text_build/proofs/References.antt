@@ -4,8 +4,8 @@ use Rattle.rtl_tree.specs.declared.symbol.Symbol.TheVariants as symbol
 use Rattle.rtl_tree.specs.declared.tree.operators.PartKind.{PartKind}
 use Rattle.rtl_tree.specs.Symbols.{Terminal}
 use Rattle.rtl_tree.specs.TreeExpr.{Identifier, Formula}
-use Rattle.rtl_tree.specs.Grammar.{Spelling, ◌⨾◌, IsA, IsName}
-use Rattle.rtl_tree.specs.GrammarExpr.{part_symbol, IsFormula, IsBounds}
+use Rattle.text_grammar.specs.Grammar.{Spelling, ◌⨾◌, IsA, IsName}
+use Rattle.text_grammar.specs.GrammarExpr.{part_symbol, IsFormula, IsBounds}
 use Rattle.text_build.specs.Reading.{Parser, symbol_at, starts}
 use Rattle.text_build.specs.ReadingExpr.{Reference, whole, bit, part, part_by, rest_of_bit, rest_of_part, rest_by, rest_of_selection, selection, selected, reference, bounds}
 use Rattle.text_build.specs.Sound.{IsPlain}

@@ -10,8 +10,8 @@ use Rattle.rtl_tree.specs.declared.tree.stmt.Stmt.{Stmt}
 use Rattle.rtl_tree.specs.declared.tree.stmt.Stmt.TheVariants as stmt
 use Rattle.rtl_tree.specs.TreeExpr.{formula}
 use Rattle.rtl_tree.specs.TreeStmt.{action, action_row, branch, branch_row}
-use Rattle.rtl_tree.specs.GrammarStmt.{defaults}
-use Rattle.rtl_tree.specs.GrammarGate.{is_named}
+use Rattle.text_grammar.specs.GrammarStmt.{defaults}
+use Rattle.text_grammar.specs.GrammarGate.{is_named}
 use Rattle.rtl_tree.specs.declared.symbol.Terminal as code
 use Rattle.rtl_tree.specs.Symbols.{terminal}
 use Rattle.rtl_tree.proofs.TreeViews.{case_is, block_is}

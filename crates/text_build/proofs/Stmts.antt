@@ -7,9 +7,9 @@ use Rattle.rtl_tree.specs.declared.tree.stmt.CaseKind.TheVariants as kind
 use Rattle.rtl_tree.specs.Symbols.{Terminal}
 use Rattle.rtl_tree.specs.TreeExpr.{Formula, Identifier}
 use Rattle.rtl_tree.specs.TreeStmt.{Target, Action, action_row, Branch, branch_row}
-use Rattle.rtl_tree.specs.Grammar.{Spelling, ◌⨾◌, IsA, IsName, AreAll}
-use Rattle.rtl_tree.specs.GrammarExpr.{IsExpression}
-use Rattle.rtl_tree.specs.GrammarStmt.{IsTarget, IsPause, assignment_symbol, case_symbol, ends_open, IsLabel, IsDefaultEnd, IsAction, AreStatements, IsBranch, AreBranches, AreMoreBranches, IsStatement}
+use Rattle.text_grammar.specs.Grammar.{Spelling, ◌⨾◌, IsA, IsName, AreAll}
+use Rattle.text_grammar.specs.GrammarExpr.{IsExpression}
+use Rattle.text_grammar.specs.GrammarStmt.{IsTarget, IsPause, assignment_symbol, case_symbol, ends_open, IsLabel, IsDefaultEnd, IsAction, AreStatements, IsBranch, AreBranches, AreMoreBranches, IsStatement}
 use Rattle.text_build.specs.Reading.{Parser, and_then, symbol_at, starts, after, name}
 use Rattle.text_build.specs.ReadingExpr.{expression}
 use Rattle.text_build.specs.ReadingStmt.{no_marks, pause, target, null, delayed, kind_by, assignment_kind, assign, alternative, conditional, labelled, no_colon, otherwise, branch, case_of, step_of, loop_of, label, block, action_by, action, statement_within, statement}

@@ -6,7 +6,7 @@ use Rattle.rtl_tree.specs.declared.tree.modules.WrittenModule.{WrittenModule}
 use Rattle.text_ground.specs.declared.dropped.Dropped.{Dropped}
 use Rattle.rtl_tree.specs.Symbols.{Terminal}
 use Rattle.rtl_tree.specs.TreeModule.{WrittenCircuit, written_circuit}
-use Rattle.rtl_tree.specs.GrammarModule.{AreSpelled}
+use Rattle.text_grammar.specs.GrammarModule.{AreSpelled}
 use Rattle.text_build.specs.declared.fault.BuildFault.{BuildFault}
 use Rattle.text_build.specs.declared.fault.BuildFault.TheVariants.{NotSpelled, Memory}
 

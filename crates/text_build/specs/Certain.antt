@@ -3,11 +3,11 @@
 use Rattle.std.specs.Prelude.{◌≡◌, true, List, [], Some}
 use Rattle.std.specs.List.{list_all}
 use Rattle.text_ground.specs.declared.dropped.Dropped.{Dropped}
-use Rattle.rtl_tree.specs.declared.tree.nesting.TheConstants.{MAX_NESTING}
+use Rattle.text_grammar.specs.declared.nesting.TheConstants.{MAX_NESTING}
 use Rattle.rtl_tree.specs.Symbols.{Terminal}
 use Rattle.rtl_tree.specs.TreeModule.{WrittenCircuit}
-use Rattle.rtl_tree.specs.GrammarModule.{AreSpelled}
-use Rattle.rtl_tree.specs.Deeper.{too_deep}
+use Rattle.text_grammar.specs.GrammarModule.{AreSpelled}
+use Rattle.text_grammar.specs.Deeper.{too_deep}
 use Rattle.text_build.specs.ReadingModule.{circuits}
 use Rattle.text_build.specs.Ordinary.{is_ordinary}
 use Rattle.text_build.specs.Tests.{is_proper_circuit}

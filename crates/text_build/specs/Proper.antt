@@ -2,7 +2,7 @@
 -- What the grammar asks of a tree and the builder doesn't test: how many items a case has.
 use Rattle.std.specs.Prelude.{◌≤◌}
 use Rattle.rtl_tree.specs.TreeStmt.{Action, Null, Delayed, Assign, If, IfElse, Case, For, Block, Actions, no_actions, more_actions, Branch, Labelled, Default, Branches, no_branches, more_branches}
-use Rattle.rtl_tree.specs.GrammarStmt.{defaults}
+use Rattle.text_grammar.specs.GrammarStmt.{defaults}
 
 -- there is an item
 abbrev pub HasItem : Branches → Type 0

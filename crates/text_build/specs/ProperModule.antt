@@ -2,11 +2,12 @@
 -- What the grammar asks of a module and the builder doesn't test.
 use Rattle.std.specs.Prelude.{◌≡◌, Bool, false, List, [], ◌∷◌}
 use Rattle.rtl_tree.specs.TreeItem.{Association, ByPosition, ByName, Variable, ModuleItem, Ports, Nets, Variables, Integers, Parameters, Drives, Gates, Always, Instances}
-use Rattle.rtl_tree.specs.TreeGate.{Gate, WrittenItem, Plain, Primitives}
+use Rattle.rtl_tree.specs.TreeGate.{Gate}
+use Rattle.rtl_tree.specs.TreeWritten.{WrittenItem, Plain, Primitives}
 use Rattle.rtl_tree.specs.TreeModule.{HeaderParameter, WrittenCircuit}
-use Rattle.rtl_tree.specs.GrammarItem.{IsMoreThanEmpty}
-use Rattle.rtl_tree.specs.GrammarGate.{has_one_input, AreTerminals}
-use Rattle.rtl_tree.specs.GrammarModule.{IsThere}
+use Rattle.text_grammar.specs.GrammarItem.{IsMoreThanEmpty}
+use Rattle.text_grammar.specs.GrammarGate.{has_one_input, AreTerminals}
+use Rattle.text_grammar.specs.GrammarModule.{IsThere}
 use Rattle.text_build.specs.Proper.{IsProper}
 
 -- this holds of each

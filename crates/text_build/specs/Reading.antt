@@ -9,7 +9,7 @@ use Rattle.rtl_tree.specs.declared.literal.Literal.{Literal}
 use Rattle.rtl_tree.specs.declared.token.Tok.{Tok}
 use Rattle.rtl_tree.specs.declared.token.Tok.TheVariants as tok
 use Rattle.rtl_tree.specs.Symbols.{Terminal}
-use Rattle.rtl_tree.specs.Grammar.{identifier_of}
+use Rattle.text_grammar.specs.Grammar.{identifier_of}
 use Rattle.rtl_tree.specs.TreeExpr.{Identifier}
 use Rattle.text_build.specs.declared.fault.BuildFault.{BuildFault}
 use Rattle.text_build.specs.declared.fault.BuildFault.TheVariants.{NotSpelled, Memory}

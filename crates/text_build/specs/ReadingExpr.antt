@@ -13,7 +13,7 @@ use Rattle.rtl_tree.specs.declared.tree.operators.PartKind.{PartKind}
 use Rattle.rtl_tree.specs.declared.tree.operators.PartKind.TheVariants as selects
 use Rattle.rtl_tree.specs.Symbols.{Terminal}
 use Rattle.rtl_tree.specs.TreeExpr.{Identifier, Formula, Number, Read, ReadBit, ReadPart, Parens, Apply, Concat, Repeat, Unary, Binary, Choose, formula_row, Bounds}
-use Rattle.rtl_tree.specs.GrammarExpr.{level, part_symbol}
+use Rattle.text_grammar.specs.GrammarExpr.{level, part_symbol}
 use Rattle.text_build.specs.Reading.{Parser, ◌>>=◌, ◌>>◌, pure, refuse, symbol_at, starts, place, advance, mark, name, literal, either, turns, commas, add, listed}
 
 -- the operator between operands that is written so

@@ -6,9 +6,9 @@ use Rattle.text_ground.specs.declared.dropped.Dropped.{Dropped}
 use Rattle.rtl_tree.specs.declared.symbol.Symbol.TheVariants as symbol
 use Rattle.rtl_tree.specs.Symbols.{Terminal}
 use Rattle.rtl_tree.specs.TreeItem.{Head}
-use Rattle.rtl_tree.specs.TreeGate.{WrittenItem}
+use Rattle.rtl_tree.specs.TreeWritten.{WrittenItem}
 use Rattle.rtl_tree.specs.TreeModule.{Heading, HeaderParameter, HeaderPort, Header, Absent, Empty, Declared, Named, WrittenCircuit}
-use Rattle.rtl_tree.specs.GrammarModule.{is_between}
+use Rattle.text_grammar.specs.GrammarModule.{is_between}
 use Rattle.text_build.specs.Reading.{Parser, ◌>>=◌, ◌>>◌, pure, starts, advance, mark, name, either, optional, add, repeat, until, listed}
 use Rattle.text_build.specs.ReadingStmt.{attributes}
 use Rattle.text_build.specs.ReadingItem.{range, value, port_head}

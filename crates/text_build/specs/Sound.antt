@@ -4,7 +4,7 @@ use Rattle.std.specs.Prelude.{◌≡◌, ℕ, false, List, [], ◌∷◌, Some}
 use Rattle.rtl_tree.specs.declared.symbol.Symbol.TheVariants as symbol
 use Rattle.rtl_tree.specs.Symbols.{Terminal}
 use Rattle.rtl_tree.specs.TreeExpr.{Formula}
-use Rattle.rtl_tree.specs.GrammarExpr.{IsExpression}
+use Rattle.text_grammar.specs.GrammarExpr.{IsExpression}
 use Rattle.text_build.specs.Reading.{same_symbol}
 use Rattle.text_build.specs.ReadingExpr.{expression}
 

@@ -5,12 +5,13 @@ use Rattle.std.specs.List.{list_all}
 use Rattle.rtl_tree.specs.TreeExpr.{Formula}
 use Rattle.rtl_tree.specs.TreeStmt.{Action, Null, Delayed, Assign, If, IfElse, Case, For, Block, Actions, no_actions, more_actions, Branch, Labelled, Default, Branches, no_branches, more_branches}
 use Rattle.rtl_tree.specs.TreeItem.{Association, ByPosition, ByName, Variable, ModuleItem, Ports, Nets, Variables, Integers, Parameters, Drives, Gates, Always, Instances}
-use Rattle.rtl_tree.specs.TreeGate.{Gate, WrittenItem, Plain, Primitives}
+use Rattle.rtl_tree.specs.TreeGate.{Gate}
+use Rattle.rtl_tree.specs.TreeWritten.{WrittenItem, Plain, Primitives}
 use Rattle.rtl_tree.specs.TreeModule.{HeaderParameter, Heading, WrittenCircuit}
-use Rattle.rtl_tree.specs.GrammarStmt.{defaults}
-use Rattle.rtl_tree.specs.GrammarGate.{has_one_input, is_named}
-use Rattle.rtl_tree.specs.Depth.{depth}
-use Rattle.rtl_tree.specs.declared.tree.nesting.TheConstants.{MAX_NESTING}
+use Rattle.text_grammar.specs.GrammarStmt.{defaults}
+use Rattle.text_grammar.specs.GrammarGate.{has_one_input, is_named}
+use Rattle.text_grammar.specs.Depth.{depth}
+use Rattle.text_grammar.specs.declared.nesting.TheConstants.{MAX_NESTING}
 
 -- there is an item
 abbrev pub has_item : Branches → Bool

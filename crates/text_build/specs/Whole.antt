@@ -4,7 +4,7 @@ use Rattle.std.specs.Prelude.{◌≡◌, ℕ, List, [], Some}
 use Rattle.text_ground.specs.declared.dropped.Dropped.{Dropped}
 use Rattle.rtl_tree.specs.Symbols.{Terminal}
 use Rattle.rtl_tree.specs.TreeModule.{WrittenCircuit}
-use Rattle.rtl_tree.specs.GrammarModule.{AreSpelled}
+use Rattle.text_grammar.specs.GrammarModule.{AreSpelled}
 use Rattle.text_build.specs.ReadingModule.{circuits}
 use Rattle.text_build.specs.Sound.{IsPlain}
 use Rattle.text_build.specs.ProperModule.{Each, IsProperCircuit}

@@ -18,7 +18,7 @@ use rtl_tree::tree::item::{
     Assignment, Direction, Item, ParameterKind, PortHead, PortKind, Reg, Setting, Wire,
 };
 use rtl_tree::tree::names::Name;
-use rtl_tree::tree::nesting::MAX_NESTING;
+use text_grammar::nesting::MAX_NESTING;
 
 impl<'a> Cursor<'a> {
     /// Any expression that stands in an item.

@@ -8,7 +8,7 @@ ghost use Rattle.text_build.specs.Reading.{Reads};
 ghost use Rattle.text_build.specs.ReadingExpr as reading;
 ghost use Rattle.text_build.specs.References.{reference};
 ghost use Rattle.rtl_tree.specs.declared.symbol.Symbol.TheVariants as symbol;
-ghost use Rattle.rtl_tree.specs.GrammarExpr.{level};
+ghost use Rattle.text_grammar.specs.GrammarExpr.{level};
 
 use crate::cursor::Cursor;
 use crate::fault::BuildFault;

@@ -4,7 +4,8 @@ ghost use Rattle.std.specs.Prelude.{◌≡◌, map};
 ghost use Rattle.std.specs.Option.{option_map};
 ghost use Rattle.rtl_tree.specs.Symbols.{terminal};
 ghost use Rattle.rtl_tree.specs.TreeExpr.{formula, identifier};
-ghost use Rattle.rtl_tree.specs.TreeGate.{gate, gate_pause, gate_span, written_item};
+ghost use Rattle.rtl_tree.specs.TreeGate.{gate, gate_pause, gate_span};
+ghost use Rattle.rtl_tree.specs.TreeWritten.{written_item};
 ghost use Rattle.text_build.specs.Reading as generic;
 ghost use Rattle.text_build.specs.Reading.{Reads};
 ghost use Rattle.text_build.specs.ReadingGate as reading;
@@ -16,9 +17,10 @@ use crate::cursor::Cursor;
 use crate::fault::BuildFault;
 use rtl_tree::symbol::Symbol;
 use rtl_tree::tree::expr::Expr;
-use rtl_tree::tree::gate::{Gate, GateDelay, GateKind, GateTicks, WrittenItem};
+use rtl_tree::tree::gate::{Gate, GateDelay, GateKind, GateTicks};
+use rtl_tree::tree::written::WrittenItem;
 use rtl_tree::tree::names::Name;
-use rtl_tree::tree::nesting::MAX_NESTING;
+use text_grammar::nesting::MAX_NESTING;
 use rtl_tree::tree::stmt::Ticks;
 
 /// The kind of gates that is written so.

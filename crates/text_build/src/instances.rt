@@ -5,7 +5,7 @@ ghost use Rattle.std.specs.Option.{option_map};
 ghost use Rattle.rtl_tree.specs.Symbols.{terminal};
 ghost use Rattle.rtl_tree.specs.TreeExpr.{formula};
 ghost use Rattle.rtl_tree.specs.TreeItem.{positional, associated, association, instantiation, module_item};
-ghost use Rattle.rtl_tree.specs.declared.tree.nesting.TheConstants.{MAX_NESTING};
+ghost use Rattle.text_grammar.specs.declared.nesting.TheConstants.{MAX_NESTING};
 ghost use Rattle.text_build.specs.Reading as generic;
 ghost use Rattle.text_build.specs.Reading.{Reads};
 ghost use Rattle.text_build.specs.ReadingItem as reading;

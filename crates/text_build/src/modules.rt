@@ -4,20 +4,20 @@ ghost use Rattle.std.specs.Prelude.{◌≡◌, map};
 ghost use Rattle.std.specs.Option.{option_map};
 ghost use Rattle.rtl_tree.specs.Symbols.{terminal};
 ghost use Rattle.rtl_tree.specs.TreeItem.{head};
-ghost use Rattle.rtl_tree.specs.TreeGate.{written_item};
+ghost use Rattle.rtl_tree.specs.TreeWritten.{written_item};
 ghost use Rattle.rtl_tree.specs.TreeModule.{heading, header_parameter, header_port, header, written_circuit};
 ghost use Rattle.text_build.specs.Reading as generic;
 ghost use Rattle.text_build.specs.Reading.{Reads};
 ghost use Rattle.text_build.specs.ReadingModule as reading;
 ghost use Rattle.text_build.specs.Told.{told};
 ghost use Rattle.rtl_tree.specs.declared.symbol.Symbol.TheVariants as symbol;
-ghost use Rattle.rtl_tree.specs.declared.tree.nesting.TheConstants.{MAX_NESTING};
+ghost use Rattle.text_grammar.specs.declared.nesting.TheConstants.{MAX_NESTING};
 
 use crate::cursor::Cursor;
 use crate::fault::BuildFault;
 use crate::regions::Regions;
 use rtl_tree::symbol::Symbol;
-use rtl_tree::tree::gate::WrittenItem;
+use rtl_tree::tree::written::WrittenItem;
 use rtl_tree::tree::item::PortHead;
 use rtl_tree::tree::modules::{HeadParameter, HeadPort, ParameterHead, PortList, WrittenModule};
 

@@ -1,7 +1,7 @@
 // The operators that tokens write, and how loosely they bind (IEEE 1364-2001 section 4.1.2).
 
 ghost use Rattle.std.specs.Prelude.{◌≡◌};
-ghost use Rattle.rtl_tree.specs.GrammarExpr as grammar;
+ghost use Rattle.text_grammar.specs.GrammarExpr as grammar;
 ghost use Rattle.text_build.specs.ReadingExpr as reading;
 
 use rtl_tree::symbol::Symbol;

@@ -12,7 +12,7 @@ use crate::cursor::Cursor;
 use crate::fault::BuildFault;
 use rtl_tree::symbol::Symbol;
 use rtl_tree::tree::item::{Event, EventControl, EventEdge, Item};
-use rtl_tree::tree::nesting::MAX_NESTING;
+use text_grammar::nesting::MAX_NESTING;
 
 impl<'a> Cursor<'a> {
     #[tactic(auto, unfolding(crate::specs::ReadingItem::edge_of))]

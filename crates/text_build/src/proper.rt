@@ -2,20 +2,22 @@
 
 ghost use Rattle.std.specs.Prelude.{◌≡◌, ◌&&◌, map, nat_le, true};
 ghost use Rattle.std.specs.List.{list_all};
-ghost use Rattle.rtl_tree.specs.GrammarStmt.{defaults};
-ghost use Rattle.rtl_tree.specs.GrammarGate.{has_one_input, is_named};
+ghost use Rattle.text_grammar.specs.GrammarStmt.{defaults};
+ghost use Rattle.text_grammar.specs.GrammarGate.{has_one_input, is_named};
 ghost use Rattle.rtl_tree.specs.TreeExpr.{formula};
-ghost use Rattle.rtl_tree.specs.TreeGate.{gate, written_item};
+ghost use Rattle.rtl_tree.specs.TreeGate.{gate};
+ghost use Rattle.rtl_tree.specs.TreeWritten.{written_item};
 ghost use Rattle.rtl_tree.specs.TreeItem.{association, module_item, variable};
 ghost use Rattle.rtl_tree.specs.TreeModule.{header_parameter, written_circuit};
 ghost use Rattle.rtl_tree.specs.TreeStmt.{action, action_row, branch, branch_row};
 ghost use Rattle.text_build.specs.Tests.{are_proper, are_proper_arguments, are_proper_branches, are_terminals, has_first_heading, has_item, has_no_value, is_proper, is_proper_branch, is_proper_circuit, is_proper_gate, is_proper_item, is_proper_written};
 
 use rtl_tree::tree::expr::Expr;
-use rtl_tree::tree::gate::{Gate, GateKind, WrittenItem};
+use rtl_tree::tree::gate::{Gate, GateKind};
+use rtl_tree::tree::written::WrittenItem;
 use rtl_tree::tree::item::{Arguments, Item, Reg};
 use rtl_tree::tree::modules::{HeadParameter, WrittenModule};
-use rtl_tree::tree::nesting::{MAX_NESTING, depth};
+use text_grammar::nesting::{MAX_NESTING, depth};
 use rtl_tree::tree::stmt::{CaseItem, Stmt};
 
 /// Whether at most one of the items of a `case` is its default.

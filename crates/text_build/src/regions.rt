@@ -2,7 +2,7 @@
 
 ghost use Rattle.std.specs.Prelude.{◌≡◌, []};
 ghost use Rattle.std.specs.List.{filter};
-ghost use Rattle.rtl_tree.specs.GrammarModule.{is_between};
+ghost use Rattle.text_grammar.specs.GrammarModule.{is_between};
 ghost use Rattle.text_build.specs.Reading as generic;
 ghost use Rattle.text_build.specs.Reading.{Reads};
 ghost use Rattle.text_build.specs.Told.{told};

@@ -5,7 +5,7 @@ ghost use Rattle.std.specs.List.{filter};
 ghost use Rattle.std.specs.List.Sorted.{IsNonDecreasingBy};
 ghost use Rattle.std.specs.Result.{OnOk, IsOkUnless};
 ghost use Rattle.text_ground.specs.declared.dropped.Dropped.{Dropped};
-ghost use Rattle.rtl_tree.specs.GrammarModule.{is_between};
+ghost use Rattle.text_grammar.specs.GrammarModule.{is_between};
 ghost use Rattle.text_build.specs.declared.fault.BuildFault.TheVariants.{Memory};
 
 use crate::fault::BuildFault;

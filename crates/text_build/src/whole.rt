@@ -1,11 +1,11 @@
 // Builds the modules of a whole text.
 
 ghost use Rattle.std.specs.Prelude.{◌≡◌, ◌≤◌, [], All, List, Some, map, IfOk};
-ghost use Rattle.rtl_tree.specs.Depth.{depth};
-ghost use Rattle.rtl_tree.specs.GrammarModule.{AreSpelled};
+ghost use Rattle.text_grammar.specs.Depth.{depth};
+ghost use Rattle.text_grammar.specs.GrammarModule.{AreSpelled};
 ghost use Rattle.rtl_tree.specs.Symbols.{terminal};
 ghost use Rattle.rtl_tree.specs.TreeModule.{WrittenCircuit, written_circuit};
-ghost use Rattle.rtl_tree.specs.declared.tree.nesting.TheConstants.{MAX_NESTING};
+ghost use Rattle.text_grammar.specs.declared.nesting.TheConstants.{MAX_NESTING};
 ghost use Rattle.text_build.specs.Built.{IsBuilt, SpelledOnce};
 ghost use Rattle.text_build.specs.ReadingModule.{circuits};
 

@@ -2,7 +2,7 @@
 use Rattle.std.proofs.Common.{◌≡◌, ℕ, zero, suc, ◌+◌, ◌-◌, ◌<◌, ◌≤◌, min, List, [], ◌∷◌, ◌++◌, Vec, Global, length, map, take, drop, get_or, reverse, Option, Some, None, inl, inr, refl, sym, ap, subst, ◌∙◌, arith}
 use Rattle.std.specs.List.{All, Contains}
 use Rattle.std.proofs.Math.Nat.{eq-or-lt_of_le}
-use Rattle.rtl_tree.specs.Deeper.{IsLeastPlace}
+use Rattle.text_grammar.specs.Deeper.{IsLeastPlace}
 use Rattle.text_survey.specs.Depths.{Nest, Nothing, Both, Within, nest_deeper, lesser, least_of, merged, IsProfile, AreProfiles, Depths, depths, none_read, wrapped, joined, behind_place, forgotten, Keeps}
 use Rattle.std.proofs.lemmas.List.{length-append, length-map, length-reverse, reverse-append, reverse-reverse, take-append-le, drop_more}
 use Rattle.text_survey.proofs.Stacks.{popped}

@@ -3,7 +3,7 @@ use Rattle.std.proofs.Common.{◌≡◌, cond, Bool, true, false, List, [], ◌�
 use Rattle.rtl_tree.specs.declared.symbol.Symbol.{Symbol}
 use Rattle.rtl_tree.specs.declared.symbol.Symbol.TheVariants as symbol
 use Rattle.rtl_tree.specs.Symbols.{Terminal}
-use Rattle.rtl_tree.specs.Grammar.{IsA}
+use Rattle.text_grammar.specs.Grammar.{IsA}
 use Rattle.text_survey.specs.declared.task.Level.{Level}
 use Rattle.text_survey.specs.declared.task.Level.TheVariants as level
 use Rattle.text_survey.specs.declared.task.Task.{Task}

@@ -2,7 +2,7 @@
 -- How deep what was read is nested, beside the steps of the survey.
 use Rattle.std.specs.Prelude.{◌≡◌, ℕ, zero, suc, ◌-◌, min, List, [], ◌∷◌, ◌++◌, drop, reverse, Option, Some, None}
 use Rattle.rtl_tree.specs.Symbols.{Terminal}
-use Rattle.rtl_tree.specs.Deeper.{here}
+use Rattle.text_grammar.specs.Deeper.{here}
 use Rattle.std.specs.Prelude.{Vec, map}
 use Rattle.std.specs.declared.alloc.Global.{Global}
 use Rattle.text_survey.specs.declared.depths.Depths as code

@@ -8,8 +8,8 @@ use Rattle.rtl_tree.specs.declared.symbol.Symbol.TheVariants as symbol
 use Rattle.rtl_tree.specs.declared.token.Tok.TheVariants as tok
 use Rattle.rtl_tree.specs.Symbols.{Terminal, terminal}
 use Rattle.rtl_tree.specs.TreeModule.{WrittenCircuit}
-use Rattle.rtl_tree.specs.GrammarModule.{AreSpelled}
-use Rattle.rtl_tree.specs.Deeper.{too_deep, IsLeastPlace}
+use Rattle.text_grammar.specs.GrammarModule.{AreSpelled}
+use Rattle.text_grammar.specs.Deeper.{too_deep, IsLeastPlace}
 use Rattle.text_survey.specs.declared.machine.Machine.{Machine}
 use Rattle.text_survey.specs.declared.machine.Surveyed.{Surveyed}
 use Rattle.text_survey.specs.declared.machine.Surveyed.TheVariants.{Spelled, TooDeep, Stopped}

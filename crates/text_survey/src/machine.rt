@@ -11,7 +11,7 @@ use crate::depths::Depths;
 use crate::table::rule;
 use crate::task::{Taking, Task};
 use rtl_tree::symbol::{Symbol, Terminal};
-use rtl_tree::tree::nesting::MAX_NESTING;
+use text_grammar::nesting::MAX_NESTING;
 use std::alloc::Global;
 use text_ground::memory::Memory;
 

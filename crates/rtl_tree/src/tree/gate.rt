@@ -1,7 +1,6 @@
 // Gates as they are written, among the items of a module.
 
 use crate::tree::expr::Expr;
-use crate::tree::item::Item;
 use crate::tree::names::Name;
 use crate::tree::stmt::{Lvalue, Ticks};
 
@@ -43,18 +42,4 @@ pub struct Gate {
     /// At least one. Each is an input, but for `buf` and `not`, where all but the last are further outputs: a name, which
     /// may have a select.
     pub terminals: Vec<Expr>,
-}
-
-/// An item of a module as it is written.
-#[derive(Drop)]
-pub enum WrittenItem {
-    /// An item that stands for itself.
-    Plain(Item),
-    /// `kind delay gate, gate;`
-    Gates {
-        at: u32,
-        kind: GateKind,
-        delay: Option<GateDelay>,
-        gates: Vec<Gate>,
-    },
 }

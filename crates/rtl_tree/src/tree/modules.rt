@@ -1,9 +1,9 @@
 // Modules.
 
 use crate::tree::expr::{Expr, Range};
-use crate::tree::gate::WrittenItem;
 use crate::tree::item::{Item, PortHead};
 use crate::tree::names::Name;
+use crate::tree::written::WrittenItem;
 use text_ground::dropped::Dropped;
 
 /// `parameter range` before a parameter of a module's head.
@@ -43,6 +43,14 @@ pub enum PortList {
     Named(Vec<Name>),
 }
 
+/// A generate construct of a module, and which names are genvars.
+#[derive(Drop)]
+pub struct Construct {
+    /// How many of the module's items stand before it.
+    pub position: usize,
+    pub written: WrittenItem,
+}
+
 /// A module whose gates are assignments.
 #[derive(Drop)]
 pub struct Module {
@@ -51,7 +59,10 @@ pub struct Module {
     pub name: Name,
     pub parameters: Vec<HeadParameter>,
     pub ports: PortList,
+    /// All that stand in no generate construct.
     pub items: Vec<Item>,
+    /// What makes further items, by the parameters of an instance, in the order of the text.
+    pub constructs: Vec<Construct>,
     /// The regions that were dropped between its first token and its last; the initial values of `reg` are in its items.
     pub dropped: Vec<Dropped>,
 }

@@ -1,6 +1,6 @@
 use Rattle.std.proofs.Common.{◌≡◌, ◌++◌, map}
 use Rattle.std.specs.Vec.Iter.{into_iter_items}
-use Rattle.rtl_tree.specs.TreeGate.{written_item}
+use Rattle.rtl_tree.specs.TreeWritten.{written_item}
 use Rattle.rtl_tree.specs.TreeItem.{module_item}
 use Rattle.rtl_unroll.specs.Plain.{plain_item}
 use Rattle.rtl_unroll.proofs.plain_items.Given as goal

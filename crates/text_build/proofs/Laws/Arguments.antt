@@ -4,10 +4,10 @@ use Rattle.rtl_tree.specs.declared.symbol.Symbol.TheVariants as symbol
 use Rattle.rtl_tree.specs.Symbols.{Terminal}
 use Rattle.rtl_tree.specs.TreeExpr.{Formula}
 use Rattle.rtl_tree.specs.TreeItem.{Positional, Associated, Association, ByPosition, ByName, Instantiation}
-use Rattle.rtl_tree.specs.Depth.{greatest, if_any, formula_depth, positional_depth, associated_depth, association_depth, instantiation_depth}
-use Rattle.rtl_tree.specs.Grammar.{IsA, IsOptional, AreMore, AreListed}
-use Rattle.rtl_tree.specs.GrammarExpr.{IsExpression}
-use Rattle.rtl_tree.specs.GrammarItem.{Begins, IsPositional, IsAssociated, IsMoreThanEmpty, AreArguments, AreConnections, IsInstantiation, AreSet, AreOverrides}
+use Rattle.text_grammar.specs.Depth.{greatest, if_any, formula_depth, positional_depth, associated_depth, association_depth, instantiation_depth}
+use Rattle.text_grammar.specs.Grammar.{IsA, IsOptional, AreMore, AreListed}
+use Rattle.text_grammar.specs.GrammarExpr.{IsExpression}
+use Rattle.text_grammar.specs.GrammarItem.{Begins, IsPositional, IsAssociated, IsMoreThanEmpty, AreArguments, AreConnections, IsInstantiation, AreSet, AreOverrides}
 use Rattle.text_build.specs.Reading.{and_then, ◌>>=◌, ◌>>◌, pure, same_symbol, starts, place, name, mark, listed}
 use Rattle.text_build.specs.ReadingItem.{any_expression, ends_argument, argument_value, positional, associated, by_position, by_name, arguments, connections, instantiation, overrides_of, overrides}
 use Rattle.text_build.proofs.Laws.Tokens.{at_is, mark_at, mark_then, advance_then, place_again, starts_is, starts_not, name_again, bind, either_first, either_second}

@@ -5,9 +5,9 @@ use Rattle.std.specs.Str.{bytes_eq}
 use Rattle.rtl_tree.specs.declared.symbol.Symbol.TheVariants as symbol
 use Rattle.rtl_tree.specs.Symbols.{Terminal}
 use Rattle.rtl_tree.specs.TreeExpr.{Identifier, Formula}
-use Rattle.rtl_tree.specs.Grammar.{IsA, IsName, AreMore, AreListed}
-use Rattle.rtl_tree.specs.GrammarExpr.{IsExpression}
-use Rattle.rtl_tree.specs.GrammarStmt.{IsAttributeValue, IsAttribute, AreMarked, AreAttributes, names}
+use Rattle.text_grammar.specs.Grammar.{IsA, IsName, AreMore, AreListed}
+use Rattle.text_grammar.specs.GrammarExpr.{IsExpression}
+use Rattle.text_grammar.specs.GrammarStmt.{IsAttributeValue, IsAttribute, AreMarked, AreAttributes, names}
 use Rattle.text_build.specs.declared.attributes.Marks.{Marks}
 use Rattle.text_build.specs.Reading.{and_then, ◌>>◌, pure, same_symbol, starts, after, token, turns, repeat, links, commas, mark}
 use Rattle.text_build.specs.ReadingStmt.{no_marks, with_name, past, after_value, attribute, marked, attributes}

@@ -7,10 +7,10 @@ use Rattle.rtl_tree.specs.declared.tree.stmt.CaseKind.TheVariants as kind
 use Rattle.rtl_tree.specs.Symbols.{Terminal}
 use Rattle.rtl_tree.specs.TreeExpr.{Identifier, Formula}
 use Rattle.rtl_tree.specs.TreeStmt.{Target, Whole, Bit, Part, Joined, Action, Null, Delayed, Assign, If, IfElse, Case, For, Block, Actions, no_actions, more_actions, action_row, action_list, Branch, Labelled, Default, Branches, no_branches, more_branches, branch_row, branch_list}
-use Rattle.rtl_tree.specs.Depth.{greatest, formula_depth, target_depth, action_depth, actions_depth, branch_depth, branches_depth}
-use Rattle.rtl_tree.specs.Grammar.{◌⨾◌, IsA, IsAt, IsName, IsOptional, AreListed}
-use Rattle.rtl_tree.specs.GrammarExpr.{IsExpression}
-use Rattle.rtl_tree.specs.GrammarStmt.{names, IsTarget, case_symbol, IsLabel, IsDefaultEnd, IsAction, AreStatements, IsBranch, AreBranches, AreMoreBranches, IsStatement}
+use Rattle.text_grammar.specs.Depth.{greatest, formula_depth, target_depth, action_depth, actions_depth, branch_depth, branches_depth}
+use Rattle.text_grammar.specs.Grammar.{◌⨾◌, IsA, IsAt, IsName, IsOptional, AreListed}
+use Rattle.text_grammar.specs.GrammarExpr.{IsExpression}
+use Rattle.text_grammar.specs.GrammarStmt.{names, IsTarget, case_symbol, IsLabel, IsDefaultEnd, IsAction, AreStatements, IsBranch, AreBranches, AreMoreBranches, IsStatement}
 use Rattle.text_build.specs.declared.attributes.Marks.{Marks}
 use Rattle.text_build.specs.Reading.{Parser, and_then, ◌>>=◌, ◌>>◌, pure, same_symbol, starts, token, name, advance, mark, optional, until, listed}
 use Rattle.text_build.specs.ReadingExpr.{climb}

@@ -5,9 +5,9 @@ use Rattle.rtl_tree.specs.declared.symbol.Symbol.TheVariants as symbol
 use Rattle.rtl_tree.specs.declared.tree.operators.BinaryOperator.{BinaryOperator}
 use Rattle.rtl_tree.specs.Symbols.{Terminal}
 use Rattle.rtl_tree.specs.TreeExpr.{Formula, Number, Read, ReadBit, ReadPart, Parens, Apply, Concat, Repeat, Unary, Binary, Choose, Bounds}
-use Rattle.rtl_tree.specs.Depth.{formula_depth, bounds_depth}
-use Rattle.rtl_tree.specs.Grammar.{◌⨾◌, IsA, IsAt}
-use Rattle.rtl_tree.specs.GrammarExpr.{binary_symbol, level, IsFormula, IsBounds}
+use Rattle.text_grammar.specs.Depth.{formula_depth, bounds_depth}
+use Rattle.text_grammar.specs.Grammar.{◌⨾◌, IsA, IsAt}
+use Rattle.text_grammar.specs.GrammarExpr.{binary_symbol, level, IsFormula, IsBounds}
 use Rattle.text_build.specs.Reading.{Parser, and_then, ◌>>=◌, ◌>>◌, pure, turns, advance, mark}
 use Rattle.text_build.specs.ReadingExpr.{ended, binary_of, goes, choice, joint, link_of, link_by, link, chain, operand, sequence, climb, bounds}
 use Rattle.text_build.proofs.Steps.{turns_go, turns_stop}

@@ -8,9 +8,9 @@ use Rattle.rtl_tree.specs.declared.tree.item.EventEdge.TheVariants as edge
 use Rattle.rtl_tree.specs.Symbols.{Terminal}
 use Rattle.rtl_tree.specs.TreeExpr.{Identifier}
 use Rattle.rtl_tree.specs.TreeItem.{Happening, Edge, Change, ChangeBit, ChangePart, Sensitivity, Star, StarInParens, Listed}
-use Rattle.rtl_tree.specs.Depth.{greatest, happening_depth, sensitivity_depth}
-use Rattle.rtl_tree.specs.Grammar.{◌⨾◌, IsA, IsAt, IsName}
-use Rattle.rtl_tree.specs.GrammarItem.{edge_symbol, IsHappening, IsBetweenEvents, AreMoreEvents, AreEvents, IsSensitivity}
+use Rattle.text_grammar.specs.Depth.{greatest, happening_depth, sensitivity_depth}
+use Rattle.text_grammar.specs.Grammar.{◌⨾◌, IsA, IsAt, IsName}
+use Rattle.text_grammar.specs.GrammarItem.{edge_symbol, IsHappening, IsBetweenEvents, AreMoreEvents, AreEvents, IsSensitivity}
 use Rattle.text_build.specs.Reading.{and_then, ◌>>=◌, ◌>>◌, pure, same_symbol, starts, after, name, advance, mark, either}
 use Rattle.text_build.specs.ReadingExpr.{climb, Reference, whole, bit, part, reference}
 use Rattle.text_build.specs.ReadingItem.{any_expression, edge_of, change_of, change_by, change, event_by, event, joins_events, after_joint, events, star, star_in_parens, listed_events, in_parens, sensitivity}

@@ -10,9 +10,9 @@ use Rattle.rtl_tree.specs.declared.tree.operators.PartKind.{PartKind}
 use Rattle.rtl_tree.specs.declared.literal.Literal.{Literal}
 use Rattle.rtl_tree.specs.Symbols.{Terminal}
 use Rattle.rtl_tree.specs.TreeExpr.{Identifier, Formula, Number, Read, ReadBit, ReadPart, Parens, Apply, Concat, Repeat, Unary, Binary, Choose, Formulas, no_formulas, more_formulas, formula_row, formula_list}
-use Rattle.rtl_tree.specs.Depth.{greatest, formula_depth, formulas_depth}
-use Rattle.rtl_tree.specs.Grammar.{◌⨾◌, IsA, IsAt, IsName, IsNumberAt}
-use Rattle.rtl_tree.specs.GrammarExpr.{unary_symbol, part_symbol, function_symbol, IsFormula, AreFormulas, AreMoreFormulas}
+use Rattle.text_grammar.specs.Depth.{greatest, formula_depth, formulas_depth}
+use Rattle.text_grammar.specs.Grammar.{◌⨾◌, IsA, IsAt, IsName, IsNumberAt}
+use Rattle.text_grammar.specs.GrammarExpr.{unary_symbol, part_symbol, function_symbol, IsFormula, AreFormulas, AreMoreFormulas}
 use Rattle.text_build.specs.Reading.{Parser, and_then, ◌>>=◌, ◌>>◌, pure, same_symbol, starts, add, listed, commas, place, advance, mark, name, literal, either}
 use Rattle.text_build.specs.ReadingExpr.{unary_of, Reference, whole, bit, part, part_of, part_by, rest_of_bit, rest_of_part, rest_by, rest_of_selection, selection, selected, reference, read_of, number, read, parens, application, replication, more_listed, concatenation, braces, operation, prefix_by, operand_by, operand}
 use Rattle.text_build.proofs.Laws.Tokens.{at_is, name_is, advance_at, name_again, literal_again, place_again, symbol_is, starts_is, starts_not, after_not, mark_then, advance_then, bind, either_first, either_second}

@@ -11,8 +11,8 @@ use Rattle.rtl_tree.specs.declared.tree.operators.PartKind.{PartKind}
 use Rattle.rtl_tree.specs.declared.tree.operators.PartKind.TheVariants as selects
 use Rattle.rtl_tree.specs.Symbols.{Terminal}
 use Rattle.rtl_tree.specs.TreeExpr.{Formula, Number, Read, ReadBit, ReadPart, Parens, Apply, Concat, Repeat, Unary, Binary, Choose, Formulas, no_formulas, more_formulas}
-use Rattle.rtl_tree.specs.Grammar.{IsA, IsAt}
-use Rattle.rtl_tree.specs.GrammarExpr.{unary_symbol, binary_symbol, part_symbol, level, IsFormula, AreFormulas, AreMoreFormulas}
+use Rattle.text_grammar.specs.Grammar.{IsA, IsAt}
+use Rattle.text_grammar.specs.GrammarExpr.{unary_symbol, binary_symbol, part_symbol, level, IsFormula, AreFormulas, AreMoreFormulas}
 use Rattle.text_build.specs.Reading.{same_symbol, symbol_at, starts}
 use Rattle.text_build.specs.ReadingExpr.{binary_of, unary_of, part_of, level_or, looseness, goes_by, goes}
 use Rattle.text_build.proofs.Laws.Tokens.{symbol_is, starts_not, differ}

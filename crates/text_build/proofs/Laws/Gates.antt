@@ -7,11 +7,12 @@ use Rattle.rtl_tree.specs.declared.tree.gate.GateKind.TheVariants as kind
 use Rattle.rtl_tree.specs.Symbols.{Terminal}
 use Rattle.rtl_tree.specs.TreeExpr.{Identifier, Formula}
 use Rattle.rtl_tree.specs.TreeStmt.{Fixed, Named, Valued}
-use Rattle.rtl_tree.specs.TreeGate.{GateSpan, One, Two, GatePause, Gate, Primitives}
-use Rattle.rtl_tree.specs.Depth.{greatest, if_any, formula_depth, gate_span_depth, gate_pause_depth, gate_depth, written_depth}
-use Rattle.rtl_tree.specs.Grammar.{IsA, IsName, IsOptional, AreListed}
-use Rattle.rtl_tree.specs.GrammarExpr.{IsExpression}
-use Rattle.rtl_tree.specs.GrammarGate.{gate_symbol, IsGateSpan, IsGatePause, IsGate, IsWritten}
+use Rattle.rtl_tree.specs.TreeGate.{GateSpan, One, Two, GatePause, Gate}
+use Rattle.rtl_tree.specs.TreeWritten.{Primitives}
+use Rattle.text_grammar.specs.Depth.{greatest, if_any, formula_depth, gate_span_depth, gate_pause_depth, gate_depth, written_depth}
+use Rattle.text_grammar.specs.Grammar.{IsA, IsName, IsOptional, AreListed}
+use Rattle.text_grammar.specs.GrammarExpr.{IsExpression}
+use Rattle.text_grammar.specs.GrammarGate.{gate_symbol, IsGateSpan, IsGatePause, IsGate, IsWritten}
 use Rattle.text_build.specs.Reading.{Parser, and_then, ◌>>=◌, ◌>>◌, pure, same_symbol, starts, name, literal, advance, mark, either, optional, listed}
 use Rattle.text_build.specs.ReadingStmt.{fixed, named, target}
 use Rattle.text_build.specs.ReadingItem.{any_expression}

@@ -9,10 +9,10 @@ use Rattle.rtl_tree.specs.declared.tree.item.PortKind.TheVariants as kind
 use Rattle.rtl_tree.specs.Symbols.{Terminal}
 use Rattle.rtl_tree.specs.TreeExpr.{Formula, Identifier, Bounds}
 use Rattle.rtl_tree.specs.TreeItem.{Head}
-use Rattle.rtl_tree.specs.Depth.{formula_depth, bounds_depth, head_depth, if_any}
-use Rattle.rtl_tree.specs.Grammar.{IsAt, IsName, IsOptional, IsFlag}
-use Rattle.rtl_tree.specs.GrammarExpr.{IsBounds}
-use Rattle.rtl_tree.specs.GrammarItem.{direction_symbol, IsKind, IsHead, IsValue}
+use Rattle.text_grammar.specs.Depth.{formula_depth, bounds_depth, head_depth, if_any}
+use Rattle.text_grammar.specs.Grammar.{IsAt, IsName, IsOptional, IsFlag}
+use Rattle.text_grammar.specs.GrammarExpr.{IsBounds}
+use Rattle.text_grammar.specs.GrammarItem.{direction_symbol, IsKind, IsHead, IsValue}
 use Rattle.text_build.specs.Reading.{pure, symbol_at, starts, after, advance}
 use Rattle.text_build.specs.ReadingExpr.{climb, bounds}
 use Rattle.text_build.specs.ReadingItem.{any_expression, range, direction_by, direction_next, kind_by, port_kind, flag, port_head, value}

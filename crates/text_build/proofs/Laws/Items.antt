@@ -10,10 +10,10 @@ use Rattle.rtl_tree.specs.Symbols.{Terminal}
 use Rattle.rtl_tree.specs.TreeExpr.{Identifier, Bounds}
 use Rattle.rtl_tree.specs.TreeStmt.{Pause, Action}
 use Rattle.rtl_tree.specs.TreeItem.{Head, Net, Variable, Valuation, Drive, Sensitivity, Association, Instantiation, ModuleItem, Ports, Nets, Variables, Integers, Parameters, Drives, Gates, Always, Instances}
-use Rattle.rtl_tree.specs.Depth.{item_depth}
-use Rattle.rtl_tree.specs.Grammar.{Spelling, IsA, IsAt, IsName, IsOptional, AreListed}
-use Rattle.rtl_tree.specs.GrammarExpr.{IsBounds}
-use Rattle.rtl_tree.specs.GrammarItem.{direction_symbol, IsKind, IsHead, IsNet, IsVariable, parameter_symbol, IsValuation, IsDrive, IsInstantiation, IsItem}
+use Rattle.text_grammar.specs.Depth.{item_depth}
+use Rattle.text_grammar.specs.Grammar.{Spelling, IsA, IsAt, IsName, IsOptional, AreListed}
+use Rattle.text_grammar.specs.GrammarExpr.{IsBounds}
+use Rattle.text_grammar.specs.GrammarItem.{direction_symbol, IsKind, IsHead, IsNet, IsVariable, parameter_symbol, IsValuation, IsDrive, IsInstantiation, IsItem}
 use Rattle.text_build.specs.Reading.{and_then, ◌>>=◌, ◌>>◌, pure, same_symbol, starts, name, advance, mark, optional, listed}
 use Rattle.text_build.specs.ReadingExpr.{climb}
 use Rattle.text_build.specs.ReadingStmt.{pause, statement}

@@ -5,10 +5,10 @@ use Rattle.rtl_tree.specs.declared.symbol.Symbol.TheVariants as symbol
 use Rattle.rtl_tree.specs.Symbols.{Terminal}
 use Rattle.rtl_tree.specs.TreeExpr.{Identifier, Formula, Bounds}
 use Rattle.rtl_tree.specs.TreeItem.{Net, Variable, Valuation, Drive}
-use Rattle.rtl_tree.specs.Depth.{greatest, if_any, formula_depth, net_depth, valuation_depth, drive_depth}
-use Rattle.rtl_tree.specs.Grammar.{Spelling, IsA, IsName, IsOptional, IsFlag, AreMore, AreListed}
-use Rattle.rtl_tree.specs.GrammarExpr.{IsExpression, IsBounds}
-use Rattle.rtl_tree.specs.GrammarItem.{IsValue, IsNet, IsInitial, IsVariable, IsValuation, IsDrive}
+use Rattle.text_grammar.specs.Depth.{greatest, if_any, formula_depth, net_depth, valuation_depth, drive_depth}
+use Rattle.text_grammar.specs.Grammar.{Spelling, IsA, IsName, IsOptional, IsFlag, AreMore, AreListed}
+use Rattle.text_grammar.specs.GrammarExpr.{IsExpression, IsBounds}
+use Rattle.text_grammar.specs.GrammarItem.{IsValue, IsNet, IsInitial, IsVariable, IsValuation, IsDrive}
 use Rattle.text_build.specs.Reading.{◌>>=◌, pure, same_symbol, starts, name, optional, listed}
 use Rattle.text_build.specs.ReadingStmt.{past, after_value, target}
 use Rattle.text_build.specs.ReadingItem.{any_expression, value, net, initial, variable, valuation, drive}

@@ -9,16 +9,16 @@ use Rattle.rtl_tree.specs.declared.tree.item.Direction.TheVariants as direction
 use Rattle.rtl_tree.specs.Symbols.{Terminal}
 use Rattle.rtl_tree.specs.TreeExpr.{Identifier}
 use Rattle.rtl_tree.specs.TreeItem.{Head}
-use Rattle.rtl_tree.specs.TreeGate.{WrittenItem}
+use Rattle.rtl_tree.specs.TreeWritten.{WrittenItem}
 use Rattle.rtl_tree.specs.declared.tree.modules.WrittenModule.{WrittenModule}
 use Rattle.rtl_tree.specs.TreeModule.{Heading, HeaderParameter, HeaderPort, Header, Absent, Empty, Declared, Named, WrittenCircuit}
 use Rattle.rtl_tree.specs.TreeModule.{written_circuit as view}
-use Rattle.rtl_tree.specs.Depth.{greatest, if_any, bounds_depth, head_depth, written_depth, header_parameter_depth, header_port_depth, header_depth, depth}
-use Rattle.rtl_tree.specs.Grammar.{IsA, IsAt, IsName, IsOptional, AreAll, AreMore, AreListed}
-use Rattle.rtl_tree.specs.GrammarExpr.{IsBounds}
-use Rattle.rtl_tree.specs.GrammarItem.{direction_symbol, IsHead}
-use Rattle.rtl_tree.specs.GrammarGate.{IsMarkedItem}
-use Rattle.rtl_tree.specs.GrammarModule.{IsHeading, IsParameter, AreParameters, IsPort, IsHeader, IsThere, is_between, IsCircuit, IsMarkedCircuit, AreCircuits, AreSpelled}
+use Rattle.text_grammar.specs.Depth.{greatest, if_any, bounds_depth, head_depth, written_depth, header_parameter_depth, header_port_depth, header_depth, depth}
+use Rattle.text_grammar.specs.Grammar.{IsA, IsAt, IsName, IsOptional, AreAll, AreMore, AreListed}
+use Rattle.text_grammar.specs.GrammarExpr.{IsBounds}
+use Rattle.text_grammar.specs.GrammarItem.{direction_symbol, IsHead}
+use Rattle.text_grammar.specs.GrammarGate.{IsMarkedItem}
+use Rattle.text_grammar.specs.GrammarModule.{IsHeading, IsParameter, AreParameters, IsPort, IsHeader, IsThere, is_between, IsCircuit, IsMarkedCircuit, AreCircuits, AreSpelled}
 use Rattle.text_build.specs.declared.fault.BuildFault.{BuildFault}
 use Rattle.text_build.specs.declared.fault.BuildFault.TheVariants as fault
 use Rattle.text_build.specs.Built.{IsBuilt, SpelledOnce}

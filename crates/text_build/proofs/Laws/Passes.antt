@@ -12,8 +12,8 @@ use Rattle.rtl_tree.specs.declared.tree.operators.PartKind.{PartKind}
 use Rattle.rtl_tree.specs.declared.tree.operators.PartKind.TheVariants as selects
 use Rattle.rtl_tree.specs.Symbols.{Terminal}
 use Rattle.rtl_tree.specs.TreeExpr.{Formula, Number, Read, ReadBit, ReadPart, Parens, Apply, Concat, Repeat, Unary, Binary, Choose, Formulas, no_formulas, more_formulas}
-use Rattle.rtl_tree.specs.Grammar.{IsA}
-use Rattle.rtl_tree.specs.GrammarExpr.{unary_symbol, binary_symbol, part_symbol, function_symbol, level, IsFormula, AreFormulas, AreMoreFormulas}
+use Rattle.text_grammar.specs.Grammar.{IsA}
+use Rattle.text_grammar.specs.GrammarExpr.{unary_symbol, binary_symbol, part_symbol, function_symbol, level, IsFormula, AreFormulas, AreMoreFormulas}
 use Rattle.text_build.specs.declared.attributes.Role.{Role}
 use Rattle.text_build.specs.declared.attributes.Role.TheVariants as role
 use Rattle.text_build.specs.ReadingStmt.{role_of, open_after, past_by, past}

@@ -3,8 +3,8 @@ use Rattle.std.proofs.Common.{◌≡◌, ℕ, zero, suc, ◌<◌, ◌≤◌, Boo
 use Rattle.rtl_tree.specs.declared.symbol.Symbol.{Symbol}
 use Rattle.rtl_tree.specs.declared.symbol.Symbol.TheVariants as symbol
 use Rattle.rtl_tree.specs.Symbols.{Terminal}
-use Rattle.rtl_tree.specs.Grammar.{Spelling, ◌⨾◌, IsA, AreMore, AreListed}
-use Rattle.rtl_tree.specs.Depth.{greatest}
+use Rattle.text_grammar.specs.Grammar.{Spelling, ◌⨾◌, IsA, AreMore, AreListed}
+use Rattle.text_grammar.specs.Depth.{greatest}
 use Rattle.text_build.specs.Reading.{Parser, starts, after, add, until_in, until, links, commas, listed}
 use Rattle.text_build.proofs.Steps.{lists_turn, lists_stop, until_turn, until_stop}
 use Rattle.text_build.proofs.Laws.Tokens.{starts_is, after_is}

@@ -7,10 +7,10 @@ use Rattle.rtl_tree.specs.declared.tree.stmt.AssignmentKind.TheVariants as assig
 use Rattle.rtl_tree.specs.Symbols.{Terminal}
 use Rattle.rtl_tree.specs.TreeExpr.{Formula}
 use Rattle.rtl_tree.specs.TreeStmt.{Target, Pause, Action, Null, Delayed, Assign, If, IfElse}
-use Rattle.rtl_tree.specs.Depth.{formula_depth, target_depth, pause_depth, if_any, action_depth}
-use Rattle.rtl_tree.specs.Grammar.{◌⨾◌, IsA, IsAt, IsOptional}
-use Rattle.rtl_tree.specs.GrammarExpr.{IsExpression}
-use Rattle.rtl_tree.specs.GrammarStmt.{IsTarget, IsPause, assignment_symbol, ends_open, IsStatement}
+use Rattle.text_grammar.specs.Depth.{formula_depth, target_depth, pause_depth, if_any, action_depth}
+use Rattle.text_grammar.specs.Grammar.{◌⨾◌, IsA, IsAt, IsOptional}
+use Rattle.text_grammar.specs.GrammarExpr.{IsExpression}
+use Rattle.text_grammar.specs.GrammarStmt.{IsTarget, IsPause, assignment_symbol, ends_open, IsStatement}
 use Rattle.text_build.specs.Reading.{Parser, and_then, ◌>>=◌, ◌>>◌, pure, same_symbol, starts, advance, mark, either, optional}
 use Rattle.text_build.specs.ReadingStmt.{null, delayed, kind_by, assignment_kind, assign, alternative, conditional, pause}
 use Rattle.text_build.proofs.Laws.Tokens.{mark_then, advance_at, advance_then, starts_is, starts_not, symbol_is, bind, either_first, either_second}

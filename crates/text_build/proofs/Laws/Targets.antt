@@ -5,9 +5,9 @@ use Rattle.rtl_tree.specs.declared.symbol.Symbol.TheVariants as symbol
 use Rattle.rtl_tree.specs.Symbols.{Terminal}
 use Rattle.rtl_tree.specs.TreeExpr.{Identifier, Formula}
 use Rattle.rtl_tree.specs.TreeStmt.{Target, Whole, Bit, Part, Joined, Targets, no_targets, more_targets, target_row, target_list, Span, Fixed, Named, Valued, Pause}
-use Rattle.rtl_tree.specs.Depth.{greatest, target_depth, targets_depth, span_depth, pause_depth, if_any}
-use Rattle.rtl_tree.specs.Grammar.{◌⨾◌, IsA, IsAt, IsName, IsOptional}
-use Rattle.rtl_tree.specs.GrammarStmt.{IsTarget, AreTargets, AreMoreTargets, IsSpan, IsPause}
+use Rattle.text_grammar.specs.Depth.{greatest, target_depth, targets_depth, span_depth, pause_depth, if_any}
+use Rattle.text_grammar.specs.Grammar.{◌⨾◌, IsA, IsAt, IsName, IsOptional}
+use Rattle.text_grammar.specs.GrammarStmt.{IsTarget, AreTargets, AreMoreTargets, IsSpan, IsPause}
 use Rattle.text_build.specs.Reading.{Parser, and_then, ◌>>=◌, ◌>>◌, pure, same_symbol, starts, listed, name, literal, advance, mark, either, optional}
 use Rattle.text_build.specs.ReadingExpr.{climb, Reference, whole, bit, part, reference}
 use Rattle.text_build.specs.ReadingStmt.{target_of, part_target, joined, target, fixed, named, valued, span_by, span, pause}

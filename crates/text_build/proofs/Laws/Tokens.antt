@@ -8,7 +8,7 @@ use Rattle.rtl_tree.specs.declared.symbol.Symbol.TheVariants as symbol
 use Rattle.rtl_tree.specs.declared.literal.Literal.{Literal}
 use Rattle.rtl_tree.specs.Symbols.{Terminal}
 use Rattle.rtl_tree.specs.TreeExpr.{Identifier}
-use Rattle.rtl_tree.specs.Grammar.{IsA, IsAt, IsName, IsNumber, identifier_of}
+use Rattle.text_grammar.specs.Grammar.{IsA, IsAt, IsName, IsNumber, identifier_of}
 use Rattle.text_build.specs.Reading.{Parser, Outcome, and_then, ◌>>=◌, pure, same_symbol, symbol_at, starts, after, token, place, advance, mark, name, value_of, literal_by, literal, either, optional}
 
 same_refl : (a : Symbol) → same_symbol a a ≡ true

@@ -6,10 +6,10 @@ use Rattle.rtl_tree.specs.declared.tree.gate.GateKind.{GateKind}
 use Rattle.rtl_tree.specs.declared.tree.gate.GateKind.TheVariants as kind
 use Rattle.rtl_tree.specs.Symbols.{Terminal}
 use Rattle.rtl_tree.specs.TreeExpr.{Identifier}
-use Rattle.rtl_tree.specs.TreeGate.{WrittenItem, Plain, Primitives}
-use Rattle.rtl_tree.specs.Depth.{written_depth}
-use Rattle.rtl_tree.specs.GrammarStmt.{AreAttributes}
-use Rattle.rtl_tree.specs.GrammarGate.{gate_symbol, IsWritten, IsMarkedItem}
+use Rattle.rtl_tree.specs.TreeWritten.{WrittenItem, Plain, Primitives}
+use Rattle.text_grammar.specs.Depth.{written_depth}
+use Rattle.text_grammar.specs.GrammarStmt.{AreAttributes}
+use Rattle.text_grammar.specs.GrammarGate.{gate_symbol, IsWritten, IsMarkedItem}
 use Rattle.text_build.specs.Reading.{pure}
 use Rattle.text_build.specs.ReadingStmt.{attributes}
 use Rattle.text_build.specs.ReadingItem.{item_after}

@@ -9,9 +9,9 @@ use Rattle.rtl_tree.specs.declared.tree.item.EventEdge.TheVariants as edge
 use Rattle.rtl_tree.specs.Symbols.{Terminal}
 use Rattle.rtl_tree.specs.TreeExpr.{Formula, Identifier, Bounds}
 use Rattle.rtl_tree.specs.TreeItem.{Happening, Edge, Change, ChangeBit, ChangePart, Sensitivity, Star, StarInParens, Listed, Positional, Association, ByPosition, ByName}
-use Rattle.rtl_tree.specs.Grammar.{◌⨾◌, IsA, IsName, IsOptional, IsFlag, AreMore}
-use Rattle.rtl_tree.specs.GrammarExpr.{IsExpression, IsBounds}
-use Rattle.rtl_tree.specs.GrammarItem.{kind_symbol, IsKind, IsValue, IsNet, IsInitial, IsVariable, IsValuation, IsDrive, edge_symbol, IsHappening, AreMoreEvents, IsSensitivity, IsPositional, IsAssociated, IsMoreThanEmpty, AreArguments, AreConnections, IsInstantiation, AreOverrides}
+use Rattle.text_grammar.specs.Grammar.{◌⨾◌, IsA, IsName, IsOptional, IsFlag, AreMore}
+use Rattle.text_grammar.specs.GrammarExpr.{IsExpression, IsBounds}
+use Rattle.text_grammar.specs.GrammarItem.{kind_symbol, IsKind, IsValue, IsNet, IsInitial, IsVariable, IsValuation, IsDrive, edge_symbol, IsHappening, AreMoreEvents, IsSensitivity, IsPositional, IsAssociated, IsMoreThanEmpty, AreArguments, AreConnections, IsInstantiation, AreOverrides}
 use Rattle.text_survey.specs.declared.task.Task.TheVariants as task
 use Rattle.text_survey.specs.declared.task.Taking.TheVariants as taking
 use Rattle.text_survey.specs.Table.{go, is_next, same_symbol, looseness}

@@ -13,8 +13,8 @@ use Rattle.rtl_tree.specs.declared.tree.operators.PartKind.{PartKind}
 use Rattle.rtl_tree.specs.declared.tree.operators.PartKind.TheVariants as kind
 use Rattle.rtl_tree.specs.Symbols.{Terminal}
 use Rattle.rtl_tree.specs.TreeExpr.{Identifier, Formula, Number, Read, ReadBit, ReadPart, Parens, Apply, Concat, Repeat, Unary, Binary, Choose, Formulas, no_formulas, more_formulas}
-use Rattle.rtl_tree.specs.Grammar.{◌⨾◌, IsA, IsAt, IsName}
-use Rattle.rtl_tree.specs.GrammarExpr.{IsFormula, AreFormulas, AreMoreFormulas, unary_symbol, binary_symbol, level, function_symbol, part_symbol}
+use Rattle.text_grammar.specs.Grammar.{◌⨾◌, IsA, IsAt, IsName}
+use Rattle.text_grammar.specs.GrammarExpr.{IsFormula, AreFormulas, AreMoreFormulas, unary_symbol, binary_symbol, level, function_symbol, part_symbol}
 use Rattle.text_survey.specs.declared.task.Level.{Level}
 use Rattle.text_survey.specs.declared.task.Level.TheVariants as grade
 use Rattle.text_survey.specs.declared.task.Task.{Task}

@@ -12,10 +12,10 @@ use Rattle.rtl_tree.specs.Symbols.{Terminal}
 use Rattle.rtl_tree.specs.TreeExpr.{Formula, Number, Read, ReadBit, ReadPart, Parens, Apply, Concat, Repeat, Unary, Binary, Choose, Identifier}
 use Rattle.rtl_tree.specs.TreeStmt.{Fixed, Named, Valued}
 use Rattle.rtl_tree.specs.TreeGate.{GateSpan, One, Two, GatePause, Gate}
-use Rattle.rtl_tree.specs.Grammar.{Spelling, ◌⨾◌, IsA, IsAt, IsName, IsOptional, AreListed}
-use Rattle.rtl_tree.specs.GrammarExpr.{IsFormula, IsExpression, function_symbol, unary_symbol}
-use Rattle.rtl_tree.specs.GrammarStmt.{IsTarget}
-use Rattle.rtl_tree.specs.GrammarGate.{gate_symbol, IsGateSpan, IsGatePause, has_one_input, is_named, AreTerminals, IsGate}
+use Rattle.text_grammar.specs.Grammar.{Spelling, ◌⨾◌, IsA, IsAt, IsName, IsOptional, AreListed}
+use Rattle.text_grammar.specs.GrammarExpr.{IsFormula, IsExpression, function_symbol, unary_symbol}
+use Rattle.text_grammar.specs.GrammarStmt.{IsTarget}
+use Rattle.text_grammar.specs.GrammarGate.{gate_symbol, IsGateSpan, IsGatePause, has_one_input, is_named, AreTerminals, IsGate}
 use Rattle.text_survey.specs.declared.task.Task.{Task}
 use Rattle.text_survey.specs.declared.task.Task.TheVariants as task
 use Rattle.text_survey.specs.declared.task.Taking.TheVariants as taking

@@ -13,13 +13,13 @@ use Rattle.rtl_tree.specs.Symbols.{Terminal}
 use Rattle.rtl_tree.specs.TreeExpr.{Formula, Identifier}
 use Rattle.rtl_tree.specs.TreeStmt.{Target, Whole, Bit, Part, Joined}
 use Rattle.rtl_tree.specs.TreeItem.{Head, Drive, ModuleItem, Ports, Nets, Variables, Integers, Parameters, Drives, Gates, Always, Instances}
-use Rattle.rtl_tree.specs.TreeGate.{WrittenItem, Plain, Primitives}
+use Rattle.rtl_tree.specs.TreeWritten.{WrittenItem, Plain, Primitives}
 use Rattle.rtl_tree.specs.TreeModule.{Heading, HeaderParameter, Header, Absent, Empty, Declared, Named, WrittenCircuit}
-use Rattle.rtl_tree.specs.Grammar.{Spelling, ◌⨾◌, IsA, IsName, IsOptional, AreAll, AreMore, AreListed}
-use Rattle.rtl_tree.specs.GrammarStmt.{AreAttributes, IsTarget}
-use Rattle.rtl_tree.specs.GrammarItem.{direction_symbol, IsHead, IsNet, IsVariable, IsValuation, IsDrive, IsValue, IsInstantiation, parameter_symbol, IsItem}
-use Rattle.rtl_tree.specs.GrammarGate.{gate_symbol, IsWritten, IsMarkedItem}
-use Rattle.rtl_tree.specs.GrammarModule.{IsThere, IsHeading, IsParameter, AreParameters, IsPort, IsHeader, IsCircuit, IsMarkedCircuit, AreCircuits}
+use Rattle.text_grammar.specs.Grammar.{Spelling, ◌⨾◌, IsA, IsName, IsOptional, AreAll, AreMore, AreListed}
+use Rattle.text_grammar.specs.GrammarStmt.{AreAttributes, IsTarget}
+use Rattle.text_grammar.specs.GrammarItem.{direction_symbol, IsHead, IsNet, IsVariable, IsValuation, IsDrive, IsValue, IsInstantiation, parameter_symbol, IsItem}
+use Rattle.text_grammar.specs.GrammarGate.{gate_symbol, IsWritten, IsMarkedItem}
+use Rattle.text_grammar.specs.GrammarModule.{IsThere, IsHeading, IsParameter, AreParameters, IsPort, IsHeader, IsCircuit, IsMarkedCircuit, AreCircuits}
 use Rattle.text_survey.specs.declared.task.Task.{Task}
 use Rattle.text_survey.specs.declared.task.Task.TheVariants as task
 use Rattle.text_survey.specs.declared.task.Taking.TheVariants as taking

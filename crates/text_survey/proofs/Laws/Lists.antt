@@ -5,8 +5,8 @@ use Rattle.rtl_tree.specs.declared.symbol.Symbol.TheVariants as symbol
 use Rattle.rtl_tree.specs.Symbols.{Terminal}
 use Rattle.rtl_tree.specs.TreeExpr.{Identifier}
 use Rattle.rtl_tree.specs.TreeStmt.{Target, Whole, Bit, Part, Joined, Targets, no_targets, more_targets, Span, Fixed, Named, Valued, Pause}
-use Rattle.rtl_tree.specs.Grammar.{Spelling, ◌⨾◌, IsA, IsOptional, AreMore, AreListed}
-use Rattle.rtl_tree.specs.GrammarStmt.{IsAttributeValue, IsAttribute, AreAttributes, IsTarget, AreTargets, AreMoreTargets, IsSpan, IsPause}
+use Rattle.text_grammar.specs.Grammar.{Spelling, ◌⨾◌, IsA, IsOptional, AreMore, AreListed}
+use Rattle.text_grammar.specs.GrammarStmt.{IsAttributeValue, IsAttribute, AreAttributes, IsTarget, AreTargets, AreMoreTargets, IsSpan, IsPause}
 use Rattle.text_survey.specs.declared.task.Task.{Task}
 use Rattle.text_survey.specs.declared.task.Task.TheVariants as task
 use Rattle.text_survey.specs.declared.task.Taking.TheVariants as taking

@@ -6,8 +6,8 @@ use Rattle.rtl_tree.specs.Symbols.{Terminal, terminal}
 use Rattle.text_survey.specs.declared.task.Task.{Task}
 use Rattle.text_survey.specs.Rule.{rule}
 use Rattle.text_survey.specs.Machine.{State, at, symbol_at, left, moved, next, Leads, Moves}
-use Rattle.rtl_tree.specs.Deeper.{too_deep, IsLeastPlace}
-use Rattle.rtl_tree.specs.declared.tree.nesting.TheConstants.{MAX_NESTING}
+use Rattle.text_grammar.specs.Deeper.{too_deep, IsLeastPlace}
+use Rattle.text_grammar.specs.declared.nesting.TheConstants.{MAX_NESTING}
 use Rattle.text_survey.specs.Surveys.{start, IsDead, AreClosed, IsReached, SpellSomeThat}
 use Rattle.text_survey.specs.declared.depths.Depths as kept
 use Rattle.text_survey.specs.declared.task.Task.TheVariants as task

@@ -11,12 +11,12 @@ use Rattle.rtl_tree.specs.declared.tree.operators.PartKind.{PartKind}
 use Rattle.rtl_tree.specs.Symbols.{Terminal}
 use Rattle.rtl_tree.specs.TreeExpr.{Formula}
 use Rattle.rtl_tree.specs.TreeModule.{Header, WrittenCircuit}
-use Rattle.rtl_tree.specs.Grammar.{Spelling, ◌⨾◌, Nothing, IsA, IsName, IsOptional, IsFlag, AreAll, AreMore, AreListed}
-use Rattle.rtl_tree.specs.GrammarExpr.{IsFormula, IsExpression, AreFormulas, AreMoreFormulas, IsBounds, part_symbol}
-use Rattle.rtl_tree.specs.GrammarStmt.{IsAttributeValue, IsAttribute, IsTarget, AreMoreTargets, IsSpan, IsPause, assignment_symbol, ends_open, defaults, IsLabel, IsDefaultEnd, IsStatement, AreStatements, AreBranches, AreMoreBranches}
-use Rattle.rtl_tree.specs.GrammarItem.{IsKind, IsValue, IsNet, IsInitial, IsVariable, IsValuation, IsDrive, IsHappening, AreMoreEvents, AreEvents, IsSensitivity, IsPositional, IsAssociated, AreArguments, AreConnections, IsInstantiation, AreOverrides}
-use Rattle.rtl_tree.specs.GrammarGate.{IsGateSpan, IsGatePause, is_named, AreTerminals, IsMarkedItem}
-use Rattle.rtl_tree.specs.GrammarModule.{IsThere, IsParameter, AreParameters, IsPort, IsHeader, IsMarkedCircuit, AreCircuits}
+use Rattle.text_grammar.specs.Grammar.{Spelling, ◌⨾◌, Nothing, IsA, IsName, IsOptional, IsFlag, AreAll, AreMore, AreListed}
+use Rattle.text_grammar.specs.GrammarExpr.{IsFormula, IsExpression, AreFormulas, AreMoreFormulas, IsBounds, part_symbol}
+use Rattle.text_grammar.specs.GrammarStmt.{IsAttributeValue, IsAttribute, IsTarget, AreMoreTargets, IsSpan, IsPause, assignment_symbol, ends_open, defaults, IsLabel, IsDefaultEnd, IsStatement, AreStatements, AreBranches, AreMoreBranches}
+use Rattle.text_grammar.specs.GrammarItem.{IsKind, IsValue, IsNet, IsInitial, IsVariable, IsValuation, IsDrive, IsHappening, AreMoreEvents, AreEvents, IsSensitivity, IsPositional, IsAssociated, AreArguments, AreConnections, IsInstantiation, AreOverrides}
+use Rattle.text_grammar.specs.GrammarGate.{IsGateSpan, IsGatePause, is_named, AreTerminals, IsMarkedItem}
+use Rattle.text_grammar.specs.GrammarModule.{IsThere, IsParameter, AreParameters, IsPort, IsHeader, IsMarkedCircuit, AreCircuits}
 use Rattle.text_survey.specs.declared.task.Task.{Task}
 use Rattle.text_survey.specs.declared.task.Task.TheVariants as task
 use Rattle.text_survey.specs.declared.task.Taking.TheVariants as taking

@@ -3,8 +3,9 @@ use Rattle.std.proofs.Common.{List, [], ◌∷◌, Option, Some, None}
 use Rattle.rtl_tree.specs.TreeExpr.{Formula, Number, Read, ReadBit, ReadPart, Parens, Apply, Concat, Repeat, Unary, Binary, Choose, Formulas, no_formulas, more_formulas, Bounds}
 use Rattle.rtl_tree.specs.TreeStmt.{Target, Whole, Bit, Part, Joined, Targets, no_targets, more_targets, Span, Fixed, Named, Valued, Pause, Action, Null, Delayed, Assign, If, IfElse, Case, For, Block, Actions, no_actions, more_actions, Branch, Labelled, Default, Branches, no_branches, more_branches, target_place}
 use Rattle.rtl_tree.specs.TreeItem.{Head, Net, Valuation, Drive, Happening, Edge, Change, ChangeBit, ChangePart, Sensitivity, Star, StarInParens, Listed, Positional, Associated, Association, ByPosition, ByName, Instantiation, ModuleItem, Ports, Nets, Variables, Integers, Parameters, Drives, GateDrive, Gates, Always, Instances}
-use Rattle.rtl_tree.specs.TreeGate.{GateSpan, One, Two, GatePause, Gate, WrittenItem, Plain, Primitives}
-use Rattle.rtl_tree.specs.TreeModule.{WrittenCircuit, Heading, HeaderParameter, HeaderPort, Header, Absent, Empty, Declared}
+use Rattle.rtl_tree.specs.TreeGate.{GateSpan, One, Two, GatePause, Gate}
+use Rattle.rtl_tree.specs.TreeWritten.{WrittenItem, Plain, Primitives}
+use Rattle.rtl_tree.specs.TreeModule.{Heading, HeaderParameter, HeaderPort, Header, Absent, Empty, Declared, WrittenCircuit}
 use Rattle.rtl_tree.specs.TreeModule as modules
 use Rattle.text_survey.specs.Depths.{Nest, Nothing, Both, Within}
 

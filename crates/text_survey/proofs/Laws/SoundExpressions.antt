@@ -12,9 +12,9 @@ use Rattle.rtl_tree.specs.declared.tree.operators.PartKind.{PartKind}
 use Rattle.rtl_tree.specs.declared.tree.operators.PartKind.TheVariants as kind
 use Rattle.rtl_tree.specs.Symbols.{Terminal}
 use Rattle.rtl_tree.specs.TreeExpr.{Formula, Number, Read, ReadBit, ReadPart, Parens, Apply, Concat, Repeat, Unary, Binary, Choose, more_formulas, formula_row}
-use Rattle.rtl_tree.specs.Grammar.{IsA, AreMore, identifier_of}
-use Rattle.rtl_tree.specs.GrammarExpr.{IsFormula, IsExpression, AreMoreFormulas, unary_symbol, binary_symbol, level, function_symbol, part_symbol}
-use Rattle.rtl_tree.specs.GrammarGate.{is_named}
+use Rattle.text_grammar.specs.Grammar.{IsA, AreMore, identifier_of}
+use Rattle.text_grammar.specs.GrammarExpr.{IsFormula, IsExpression, AreMoreFormulas, unary_symbol, binary_symbol, level, function_symbol, part_symbol}
+use Rattle.text_grammar.specs.GrammarGate.{is_named}
 use Rattle.text_survey.specs.declared.task.Level.{Level}
 use Rattle.text_survey.specs.declared.task.Level.TheVariants as grade
 use Rattle.text_survey.specs.declared.task.Task.{Task}

@@ -5,9 +5,9 @@ use Rattle.rtl_tree.specs.Symbols.{Terminal}
 use Rattle.rtl_tree.specs.TreeExpr.{Formula}
 use Rattle.rtl_tree.specs.TreeStmt.{Fixed, Named, Valued}
 use Rattle.rtl_tree.specs.TreeGate.{One, Two, Gate}
-use Rattle.rtl_tree.specs.Grammar.{IsA, identifier_of}
-use Rattle.rtl_tree.specs.GrammarExpr.{IsFormula, IsExpression}
-use Rattle.rtl_tree.specs.GrammarGate.{IsGateSpan}
+use Rattle.text_grammar.specs.Grammar.{IsA, identifier_of}
+use Rattle.text_grammar.specs.GrammarExpr.{IsFormula, IsExpression}
+use Rattle.text_grammar.specs.GrammarGate.{IsGateSpan}
 use Rattle.text_survey.specs.declared.task.Level.{Level}
 use Rattle.text_survey.specs.declared.task.Level.TheVariants as grade
 use Rattle.text_survey.specs.declared.task.Task.TheVariants as task

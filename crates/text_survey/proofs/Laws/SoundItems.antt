@@ -7,9 +7,9 @@ use Rattle.rtl_tree.specs.declared.tree.item.EventEdge.TheVariants as edge
 use Rattle.rtl_tree.specs.Symbols.{Terminal}
 use Rattle.rtl_tree.specs.TreeExpr.{Formula}
 use Rattle.rtl_tree.specs.TreeItem.{Edge, Change, ChangeBit, ChangePart, Star, StarInParens, Listed}
-use Rattle.rtl_tree.specs.Grammar.{Spelling, IsA, IsName, IsOptional, identifier_of}
-use Rattle.rtl_tree.specs.GrammarExpr.{IsExpression}
-use Rattle.rtl_tree.specs.GrammarItem.{IsValue, IsNet, IsInitial, IsVariable, IsValuation, IsDrive, edge_symbol, IsHappening, AreMoreEvents}
+use Rattle.text_grammar.specs.Grammar.{Spelling, IsA, IsName, IsOptional, identifier_of}
+use Rattle.text_grammar.specs.GrammarExpr.{IsExpression}
+use Rattle.text_grammar.specs.GrammarItem.{IsValue, IsNet, IsInitial, IsVariable, IsValuation, IsDrive, edge_symbol, IsHappening, AreMoreEvents}
 use Rattle.text_survey.specs.declared.task.Task.TheVariants as task
 use Rattle.text_survey.proofs.Laws.Expressions.{Not}
 use Rattle.text_survey.proofs.Laws.Means.{Any, Means, AllMean, to, was_required, was_optional, was_more}

@@ -11,13 +11,13 @@ use Rattle.rtl_tree.specs.declared.tree.gate.GateKind.TheVariants as kind
 use Rattle.rtl_tree.specs.Symbols.{Terminal}
 use Rattle.rtl_tree.specs.TreeExpr.{Formula, Identifier}
 use Rattle.rtl_tree.specs.TreeItem.{Head, Positional, Association, ByPosition, ByName, ModuleItem, Ports, Nets, Variables, Integers, Parameters, Drives, Always, Instances}
-use Rattle.rtl_tree.specs.TreeGate.{Plain, Primitives}
+use Rattle.rtl_tree.specs.TreeWritten.{Plain, Primitives}
 use Rattle.rtl_tree.specs.TreeModule.{HeaderParameter, Absent, Empty, Declared, Named, WrittenCircuit}
-use Rattle.rtl_tree.specs.Grammar.{◌⨾◌, IsA, IsName, IsOptional, AreAll, AreMore, AreListed, identifier_of}
-use Rattle.rtl_tree.specs.GrammarExpr.{IsExpression}
-use Rattle.rtl_tree.specs.GrammarItem.{direction_symbol, IsHead, parameter_symbol, IsPositional, IsAssociated, AreArguments, AreConnections, IsInstantiation, AreOverrides, IsItem}
-use Rattle.rtl_tree.specs.GrammarGate.{gate_symbol, has_one_input, IsMarkedItem}
-use Rattle.rtl_tree.specs.GrammarModule.{IsThere, IsParameter, IsPort, IsHeader, is_between, IsMarkedCircuit, AreCircuits}
+use Rattle.text_grammar.specs.Grammar.{◌⨾◌, IsA, IsName, IsOptional, AreAll, AreMore, AreListed, identifier_of}
+use Rattle.text_grammar.specs.GrammarExpr.{IsExpression}
+use Rattle.text_grammar.specs.GrammarItem.{direction_symbol, IsHead, parameter_symbol, IsPositional, IsAssociated, AreArguments, AreConnections, IsInstantiation, AreOverrides, IsItem}
+use Rattle.text_grammar.specs.GrammarGate.{gate_symbol, has_one_input, IsMarkedItem}
+use Rattle.text_grammar.specs.GrammarModule.{IsThere, IsParameter, IsPort, IsHeader, is_between, IsMarkedCircuit, AreCircuits}
 use Rattle.text_survey.specs.declared.task.Task.TheVariants as task
 use Rattle.text_survey.specs.Table.{is_next}
 use Rattle.text_survey.specs.Machine.{symbol_at}

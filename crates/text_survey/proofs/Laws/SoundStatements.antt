@@ -7,9 +7,9 @@ use Rattle.rtl_tree.specs.declared.tree.stmt.CaseKind.TheVariants as kind
 use Rattle.rtl_tree.specs.Symbols.{Terminal}
 use Rattle.rtl_tree.specs.TreeExpr.{Formula, Identifier}
 use Rattle.rtl_tree.specs.TreeStmt.{Whole, Bit, Part, Joined, no_targets, more_targets, Fixed, Named, Valued, Action, Null, Delayed, Assign, If, IfElse, Case, For, Block, no_actions, more_actions, Labelled, Default, no_branches, more_branches}
-use Rattle.rtl_tree.specs.Grammar.{IsA, IsName, AreMore, identifier_of}
-use Rattle.rtl_tree.specs.GrammarExpr.{IsExpression}
-use Rattle.rtl_tree.specs.GrammarStmt.{IsAttributeValue, IsAttribute, names, IsTarget, AreMoreTargets, IsSpan, case_symbol, ends_open, defaults, IsAction, AreStatements, IsBranch, AreBranches, AreMoreBranches, IsStatement}
+use Rattle.text_grammar.specs.Grammar.{IsA, IsName, AreMore, identifier_of}
+use Rattle.text_grammar.specs.GrammarExpr.{IsExpression}
+use Rattle.text_grammar.specs.GrammarStmt.{IsAttributeValue, IsAttribute, names, IsTarget, AreMoreTargets, IsSpan, case_symbol, ends_open, defaults, IsAction, AreStatements, IsBranch, AreBranches, AreMoreBranches, IsStatement}
 use Rattle.text_survey.specs.declared.task.Task.TheVariants as task
 use Rattle.text_survey.specs.Machine.{symbol_at}
 use Rattle.text_survey.proofs.Laws.Operands.{same_refl}

@@ -8,8 +8,8 @@ use Rattle.rtl_tree.specs.declared.tree.operators.SystemFunction.{SystemFunction
 use Rattle.rtl_tree.specs.declared.tree.operators.SystemFunction.TheVariants as sign
 use Rattle.rtl_tree.specs.Symbols.{Terminal}
 use Rattle.rtl_tree.specs.TreeExpr.{Formula, Number, Read, ReadBit, ReadPart, Parens, Apply, Concat, Repeat, Unary, Binary, Choose}
-use Rattle.rtl_tree.specs.Grammar.{IsA}
-use Rattle.rtl_tree.specs.GrammarExpr.{IsFormula, unary_symbol, function_symbol, level}
+use Rattle.text_grammar.specs.Grammar.{IsA}
+use Rattle.text_grammar.specs.GrammarExpr.{IsFormula, unary_symbol, function_symbol, level}
 use Rattle.text_survey.specs.declared.task.Task.TheVariants as task
 use Rattle.text_survey.specs.declared.task.Taking.TheVariants as taking
 use Rattle.text_survey.specs.Table.{go, same_symbol, is_next, looseness}

@@ -3,7 +3,7 @@ use Rattle.std.proofs.Common.{◌≡◌, ℕ, ◌<◌, ◌≤◌, ◌⊎◌, inl
 use Rattle.rtl_tree.specs.declared.symbol.Symbol.TheVariants as symbol
 use Rattle.rtl_tree.specs.Symbols.{Terminal}
 use Rattle.rtl_tree.specs.TreeExpr.{Formula, Number, Read, ReadBit, ReadPart, Parens, Apply, Concat, Repeat, Unary, Binary, Choose}
-use Rattle.rtl_tree.specs.GrammarExpr.{IsFormula, IsExpression, binary_symbol, level}
+use Rattle.text_grammar.specs.GrammarExpr.{IsFormula, IsExpression, binary_symbol, level}
 use Rattle.text_survey.specs.declared.task.Level.TheVariants as grade
 use Rattle.text_survey.specs.declared.task.Task.{Task}
 use Rattle.text_survey.specs.declared.task.Task.TheVariants as task

@@ -1,6 +1,6 @@
 use Rattle.std.proofs.Common.{◌≡◌, map, drop}
 use Rattle.std.specs.List.{list_all}
-use Rattle.rtl_tree.specs.TreeGate.{written_item}
+use Rattle.rtl_tree.specs.TreeWritten.{written_item}
 use Rattle.text_build.specs.Tests.{is_proper_written}
 use Rattle.text_build.proofs.proper.are_proper_items.Given as goal
 

@@ -1,5 +1,5 @@
 use Rattle.std.proofs.Common.{◌≡◌, ◌+◌, if◌then◌else◌, map, nat_le, drop}
-use Rattle.rtl_tree.specs.GrammarStmt.{defaults}
+use Rattle.text_grammar.specs.GrammarStmt.{defaults}
 use Rattle.rtl_tree.specs.TreeStmt.{branch, branch_row}
 use Rattle.text_build.proofs.proper.has_one_default.Given as goal
 

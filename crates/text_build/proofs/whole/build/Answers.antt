@@ -1,7 +1,7 @@
 use Rattle.std.proofs.Common.{map, sym, subst, ◌∙◌}
 use Rattle.rtl_tree.specs.Symbols.{terminal}
-use Rattle.rtl_tree.specs.GrammarModule.{AreSpelled}
-use Rattle.rtl_tree.specs.declared.tree.nesting.TheConstants.{MAX_NESTING}
+use Rattle.text_grammar.specs.GrammarModule.{AreSpelled}
+use Rattle.text_grammar.specs.declared.nesting.TheConstants.{MAX_NESTING}
 use Rattle.text_build.proofs.Laws.Modules.{circuits_again, all_below, built, none_left}
 use Rattle.text_build.specs.Built.{IsBuilt}
 use Rattle.text_build.specs.ReadingModule.{circuits}

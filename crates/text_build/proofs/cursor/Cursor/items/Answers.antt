@@ -1,9 +1,9 @@
 use Rattle.std.proofs.Common.{◌∙◌, Vec, Global, sym, ap, map, arith}
 use Rattle.std.proofs.lemmas.List.{map-append, length-map}
 use Rattle.std.proofs.lemmas.Result.{err_from_is_err_and}
-use Rattle.rtl_tree.specs.declared.tree.gate.WrittenItem.{WrittenItem}
+use Rattle.rtl_tree.specs.declared.tree.written.WrittenItem.{WrittenItem}
 use Rattle.rtl_tree.specs.Symbols.{terminal}
-use Rattle.rtl_tree.specs.TreeGate.{written_item}
+use Rattle.rtl_tree.specs.TreeWritten.{written_item}
 use Rattle.text_build.proofs.Steps.{reads_err, until_start, until_stop, until_turn, until_fail, until_out}
 use Rattle.text_build.proofs.cursor.Cursor.items.Goals as goal
 

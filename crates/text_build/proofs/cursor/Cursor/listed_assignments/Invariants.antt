@@ -2,7 +2,7 @@ use Rattle.std.proofs.Common.{◌≡◌, ◌-◌, map}
 use Rattle.rtl_tree.specs.Symbols.{terminal}
 use Rattle.rtl_tree.specs.TreeItem.{drive}
 use Rattle.rtl_tree.specs.declared.symbol.Symbol.TheVariants as symbol
-use Rattle.rtl_tree.specs.declared.tree.nesting.TheConstants.{MAX_NESTING}
+use Rattle.text_grammar.specs.declared.nesting.TheConstants.{MAX_NESTING}
 use Rattle.text_build.specs.Reading as generic
 use Rattle.text_build.specs.ReadingItem as reading
 use Rattle.text_build.proofs.cursor.Cursor.listed_assignments.Given as goal

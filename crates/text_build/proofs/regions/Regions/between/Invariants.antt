@@ -1,6 +1,6 @@
 use Rattle.std.proofs.Common.{◌≡◌, ◌++◌, take}
 use Rattle.std.specs.List.{filter}
-use Rattle.rtl_tree.specs.GrammarModule.{is_between}
+use Rattle.text_grammar.specs.GrammarModule.{is_between}
 use Rattle.text_build.proofs.regions.Regions.between.Given as goal
 
 abbrev pub invariant-loop-region : goal.invariant-loop-region

@@ -2,7 +2,7 @@ use Rattle.std.proofs.Common.{◌++◌, ap, ◌∙◌, length, arith}
 use Rattle.std.specs.List.{filter}
 use Rattle.std.proofs.lemmas.List.{take_all}
 use Rattle.std.proofs.lemmas.Slice.{between_to_end}
-use Rattle.rtl_tree.specs.GrammarModule.{is_between}
+use Rattle.text_grammar.specs.GrammarModule.{is_between}
 use Rattle.text_build.proofs.Filtered.{all_passed, rest_behind}
 use Rattle.text_build.proofs.run.Run.add_between.Goals as goal
 

@@ -1,9 +1,0 @@
-use Rattle.std.proofs.Common.{◌≡◌, ◌-◌, ◌^◌, map, max, min, drop}
-use Rattle.rtl_tree.specs.Depth.{target_depth, greatest}
-use Rattle.rtl_tree.specs.TreeStmt.{target}
-use Rattle.rtl_tree.proofs.tree.nesting.stmts.+nested_targets.Given as goal
-
-abbrev pub invariant-targets_depth-loop-lvalue : goal.invariant-targets_depth-loop-lvalue
-invariant-targets_depth-loop-lvalue l =
-    max l.most (min (greatest target_depth (map target (drop l.lvalue-index l.all))) (2 ^ 32 - 1))
-    ≡ min (greatest target_depth (map target l.all)) (2 ^ 32 - 1)

@@ -1,0 +1,9 @@
+pub mod Depth
+pub mod Deeper
+pub mod Grammar
+pub mod GrammarExpr
+pub mod GrammarStmt
+pub mod GrammarItem
+pub mod GrammarGate
+pub mod GrammarModule
+pub mod GrammarWritten
