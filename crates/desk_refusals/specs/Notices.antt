@@ -80,6 +80,8 @@ breach_notice spot (elab.Parameter name) = told (codes "Parameter") (Some name) 
 breach_notice spot (elab.NotAssignable name) = told (codes "NotAssignable") (Some name) spot
 breach_notice spot elab.Range = told (codes "Range") None spot
 breach_notice spot (elab.Const fault) = const_notice spot fault
+breach_notice spot (elab.Genvar name) = told (codes "Genvar") (Some name) spot
+breach_notice spot elab.TooManyTurns = told (codes "TooManyTurns") None spot
 breach_notice spot (elab.InstanceLoop name) = told (codes "InstanceLoop") (Some name) spot
 breach_notice spot elab.TooLarge = told (codes "TooLarge") None spot
 

@@ -45,6 +45,8 @@ fn design_reason(fault: &ElabFault) -> Option<Reason<'_>>
         }
         ElabFault::Range(spot) => alone(b"Range", Some(*spot)),
         ElabFault::Const(fault, spot) => const_reason(*fault, Some(*spot)),
+        ElabFault::Genvar(name, spot) => worded(b"Genvar", name.as_slice(), Some(*spot)),
+        ElabFault::TooManyTurns(spot) => alone(b"TooManyTurns", Some(*spot)),
         ElabFault::InstanceLoop(name, spot) => {
             worded(b"InstanceLoop", name.as_slice(), Some(*spot))
         }

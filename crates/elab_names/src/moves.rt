@@ -105,6 +105,8 @@ pub(crate) fn moved_fault(fault: ElabFault, numbers: &[usize]) -> Result<ElabFau
         }
         ElabFault::Range(spot) => ElabFault::Range(moved_spot(spot, numbers)?),
         ElabFault::Const(fault, spot) => ElabFault::Const(fault, moved_spot(spot, numbers)?),
+        ElabFault::Genvar(name, spot) => ElabFault::Genvar(name, moved_spot(spot, numbers)?),
+        ElabFault::TooManyTurns(spot) => ElabFault::TooManyTurns(moved_spot(spot, numbers)?),
         ElabFault::InstanceLoop(name, spot) => {
             ElabFault::InstanceLoop(name, moved_spot(spot, numbers)?)
         }

@@ -21,6 +21,8 @@ pub data Breach : Type 0 where
   NotAssignable : (name : List ℕ) → Breach
   Range : Breach
   Const : (fault : ConstFault) → Breach
+  Genvar : (name : List ℕ) → Breach
+  TooManyTurns : Breach
   InstanceLoop : (name : List ℕ) → Breach
   TooLarge : Breach
 
@@ -40,6 +42,8 @@ breach (found.Parameter name) = Parameter name.now
 breach (found.NotAssignable name) = NotAssignable name.now
 breach found.Range = Range
 breach (found.Const fault) = Const fault
+breach (found.Genvar name) = Genvar name.now
+breach found.TooManyTurns = TooManyTurns
 breach (found.InstanceLoop name) = InstanceLoop name.now
 breach found.TooLarge = TooLarge
 
@@ -57,9 +61,11 @@ rank (Port name) = 6
 rank (Parameter name) = 7
 rank (NotAssignable name) = 8
 rank Range = 9
-rank (Const fault) = 10
-rank (InstanceLoop name) = 11
-rank TooLarge = 12
+rank (Genvar name) = 10
+rank TooManyTurns = 11
+rank (Const fault) = 12
+rank (InstanceLoop name) = 13
+rank TooLarge = 14
 
 -- whether a fault is told rather than another: the lesser place decides, and then the order of the rules
 abbrev pub comes_before : Refusal → Refusal → Bool
@@ -96,6 +102,8 @@ answer (told.Parameter name spot) = Placed (Parameter name.items) spot
 answer (told.NotAssignable name spot) = Placed (NotAssignable name.items) spot
 answer (told.Range spot) = Placed Range spot
 answer (told.Const fault spot) = Placed (Const fault) spot
+answer (told.Genvar name spot) = Placed (Genvar name.items) spot
+answer (told.TooManyTurns spot) = Placed TooManyTurns spot
 answer (told.InstanceLoop name spot) = Placed (InstanceLoop name.items) spot
 answer (told.TooLarge spot) = Placed TooLarge spot
 answer told.Memory = Memory

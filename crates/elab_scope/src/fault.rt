@@ -43,6 +43,12 @@ pub enum ElabFault {
     /// An expression that has to be constant has no number.
     #[error("not constant")]
     Const(ConstFault, Spot),
+    /// A genvar where none may stand, or another name where a genvar must.
+    #[error("genvar")]
+    Genvar(Vec<u8>, Spot),
+    /// A generate loop has more than 4,096 turns.
+    #[error("too many turns")]
+    TooManyTurns(Spot),
     /// A module holds itself.
     #[error("instance loop")]
     InstanceLoop(Vec<u8>, Spot),
@@ -77,6 +83,8 @@ pub enum Cause<'a> {
     NotAssignable(&'a Text),
     Range,
     Const(ConstFault),
+    Genvar(&'a Text),
+    TooManyTurns,
     InstanceLoop(&'a Text),
     TooLarge,
 }
@@ -96,9 +104,11 @@ impl Cause<'_> {
             Cause::Parameter(_) => 7,
             Cause::NotAssignable(_) => 8,
             Cause::Range => 9,
-            Cause::Const(_) => 10,
-            Cause::InstanceLoop(_) => 11,
-            Cause::TooLarge => 12,
+            Cause::Genvar(_) => 10,
+            Cause::TooManyTurns => 11,
+            Cause::Const(_) => 12,
+            Cause::InstanceLoop(_) => 13,
+            Cause::TooLarge => 14,
         }
     }
 }
@@ -145,6 +155,8 @@ impl<'a> Fault<'a> {
             Cause::NotAssignable(name) => ElabFault::NotAssignable(bytes(alloc, name)?, spot),
             Cause::Range => ElabFault::Range(spot),
             Cause::Const(fault) => ElabFault::Const(fault, spot),
+            Cause::Genvar(name) => ElabFault::Genvar(bytes(alloc, name)?, spot),
+            Cause::TooManyTurns => ElabFault::TooManyTurns(spot),
             Cause::InstanceLoop(name) => ElabFault::InstanceLoop(bytes(alloc, name)?, spot),
             Cause::TooLarge => ElabFault::TooLarge(spot),
         })
