@@ -47,7 +47,8 @@ pub enum Entry<'a> {
     Instance(&'a Name),
 }
 
-fn push_parameters<'a>(
+/// The parameters of the head.
+pub fn push_parameters<'a>(
     parameters: &'a [HeadParameter],
     entries: &mut Vec<Entry<'a>>,
 ) -> Result<(), Memory>
@@ -108,7 +109,8 @@ fn push_listed<'a>(names: &'a [Name], entries: &mut Vec<Entry<'a>>) -> Result<()
     Ok(())
 }
 
-fn push_header<'a>(ports: &'a PortList, entries: &mut Vec<Entry<'a>>) -> Result<(), Memory>
+/// The ports of the head.
+pub fn push_header<'a>(ports: &'a PortList, entries: &mut Vec<Entry<'a>>) -> Result<(), Memory>
     ensures { OnOk result (map declaration entries.new.items
         ≡ map declaration entries.old.items ++ header_declarations (header ports.now)) }
 {
@@ -217,7 +219,8 @@ fn push_gates<'a>(names: &'a [Name], entries: &mut Vec<Entry<'a>>) -> Result<(),
     Ok(())
 }
 
-fn push_item<'a>(item: &'a Item, entries: &mut Vec<Entry<'a>>) -> Result<(), Memory>
+/// The declarations of an item.
+pub fn push_item<'a>(item: &'a Item, entries: &mut Vec<Entry<'a>>) -> Result<(), Memory>
     ensures { OnOk result (map declaration entries.new.items
         ≡ map declaration entries.old.items ++ item_declarations (module_item item.now)) }
 {

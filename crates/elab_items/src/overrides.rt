@@ -2,15 +2,14 @@
 
 ghost use Rattle.std.specs.Prelude.{◌≡◌, ◌≤◌, OnErr, OnOk};
 ghost use Rattle.rtl_tree.specs.TreeExpr.{formula};
-ghost use Rattle.elab_scope.specs.Names.{meanings, numbers_in};
 ghost use Rattle.elab_items.specs.Settings.{format_of, given_to, literal_format, no_settings, parameter_of, settings_of, signed_in_32, unranged, unsigned_in, value_of, with_setting};
 
 use crate::reach::Reach;
 use elab_scope::known::Known;
-use elab_scope::names::Names;
 use elab_scope::widths::breadth_of;
 use name_map::NameMap;
 use rtl_const::evaluate::constant;
+use rtl_const::params::Lookup;
 use rtl_tree::literal::Literal;
 use rtl_tree::tree::expr::Expr;
 use rtl_tree::tree::item::ParameterKind;
@@ -67,7 +66,7 @@ impl Overrides {
     }
 
     /// What a parameter of this kind is set to; a `localparam` keeps its value.
-    pub(crate) fn given_to(&self, kind: ParameterKind, name: &Text) -> Option<Override>
+    pub fn given_to(&self, kind: ParameterKind, name: &Text) -> Option<Override>
         ensures { result ≡ given_to (settings_of self.now) kind name.now }
     {
         match kind {
@@ -100,8 +99,8 @@ fn format_of(value: &Expr) -> Option<Format>
 }
 
 /// What a parameter is set to by an expression, with the names that hold for it.
-pub fn value_of(value: &Expr, names: &Names) -> Override
-    ensures { result ≡ value_of (numbers_in (meanings names.now)) (formula value.now) }
+pub fn value_of<L: Lookup>(value: &Expr, names: &L) -> Override
+    ensures { result ≡ value_of (L.numbers names.now) (formula value.now) }
 {
     Override {
         number: constant(value, names).ok(),
@@ -143,7 +142,7 @@ fn unranged(format: Option<Format>, number: Option<i64>) -> Known
 }
 
 /// The parameter with a value: a range gives it its width, else a sized literal does.
-pub(crate) fn parameter_of(reach: Reach, value: Override) -> Known
+pub fn parameter_of(reach: Reach, value: Override) -> Known
     ensures { result ≡ parameter_of reach value }
 {
     match reach {

@@ -16,6 +16,7 @@ use elab_scope::names::Names;
 use elab_scope::rules;
 use rtl_const::evaluate::constant;
 use rtl_const::fault::ConstFault;
+use rtl_const::params::Lookup;
 use rtl_tree::tree::expr::Range;
 
 /// The bits that a declaration has.
@@ -82,9 +83,9 @@ fn spanned(most: u8, msb: Result<i64, ConstFault>, lsb: Result<i64, ConstFault>)
 }
 
 /// The bits of a range, with the numbers that hold for it.
-pub fn reach_of(most: u8, range: Option<&Range>, names: &Names) -> Reach
+pub fn reach_of<L: Lookup>(most: u8, range: Option<&Range>, names: &L) -> Reach
     requires { most ≤ 128 }
-    ensures { result ≡ reach_of most (numbers_in (meanings names.now))
+    ensures { result ≡ reach_of most (L.numbers names.now)
         (option_map (λ range. bounds range.now) range.entry) }
 {
     match range {
