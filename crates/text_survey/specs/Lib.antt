@@ -2,6 +2,7 @@ pub mod Table
 pub mod Terminals
 pub mod TableStatement
 pub mod TableGate
+pub mod TableGenerate
 pub mod TableItem
 pub mod Rule
 pub mod Machine

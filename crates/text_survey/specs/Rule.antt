@@ -10,7 +10,8 @@ use Rattle.text_survey.specs.declared.task.Level.TheVariants as level
 use Rattle.text_survey.specs.Table.{Step, go, required, optional, unless, leveled, chain, choice, select_end, parts}
 use Rattle.text_survey.specs.TableStatement.{attribute_constant, target, ticks, assigner, one_statement, otherwise, first_branch, branches}
 use Rattle.text_survey.specs.TableGate.{gate_ticks, output_or_input, after_name}
-use Rattle.text_survey.specs.TableItem.{one_item, port_kind, initial, sensitivity, event_list, event, event_select_end, events, arguments, argument, source, one_module, head_parameter, port_list, port}
+use Rattle.text_survey.specs.TableGenerate.{one_item, made, made_else, first_choice, choices}
+use Rattle.text_survey.specs.TableItem.{marked_item, port_kind, initial, sensitivity, event_list, event, event_select_end, events, arguments, argument, source, one_module, head_parameter, port_list, port}
 
 abbrev pub modules : Task → Option Symbol → Option Step
 modules task.Source next = source next
@@ -76,8 +77,20 @@ declared task.Variable next = required symbol.Name next (task.Initial ∷ [])
 declared task.Variables next = optional symbol.Comma next (task.Variable ∷ task.Variables ∷ [])
 declared task next = waiting task next
 
+-- what stands in generate constructs
+abbrev pub generate : Task → Option Symbol → Option Step
+generate task.Item next = one_item next
+generate task.RegionItems next = unless symbol.Endgenerate next (task.Item ∷ task.RegionItems ∷ [])
+generate task.BlockItems next = unless symbol.End next (task.Item ∷ task.BlockItems ∷ [])
+generate task.Made next = made next
+generate task.MadeElse next = made_else next
+generate task.FirstChoice next = first_choice next
+generate task.Choices next = choices next
+generate task.LabelledChoices next = unless symbol.Endcase next (task.Expression ∷ task.Expressions ∷ task.Expect symbol.Colon ∷ task.Made ∷ task.LabelledChoices ∷ [])
+generate task next = declared task next
+
 abbrev pub item : Task → Option Symbol → Option Step
-item task.Item next = one_item next
+item task.MarkedItem next = marked_item next
 item task.Items next = unless symbol.Endmodule next (task.Item ∷ task.Items ∷ [])
 item task.Name next = required symbol.Name next []
 item task.Names next = optional symbol.Comma next (task.Name ∷ task.Names ∷ [])
@@ -85,7 +98,7 @@ item task.Setting next = required symbol.Name next (task.Expect symbol.Equals �
 item task.Settings next = optional symbol.Comma next (task.Setting ∷ task.Settings ∷ [])
 item task.Drive next = go taking.Nothing (task.Target ∷ task.Expect symbol.Equals ∷ task.Expression ∷ [])
 item task.Drives next = optional symbol.Comma next (task.Drive ∷ task.Drives ∷ [])
-item task next = declared task next
+item task next = generate task next
 
 -- the items of a case: the first, further ones before the default, and those after it
 abbrev pub branch : Task → Option Symbol → Option Step

@@ -6,13 +6,13 @@ use Rattle.rtl_tree.specs.declared.symbol.Symbol.TheVariants as symbol
 use Rattle.text_survey.specs.declared.task.Task.TheVariants as task
 use Rattle.text_survey.specs.declared.task.Taking.TheVariants as taking
 use Rattle.text_survey.specs.Table.{Step, go}
-use Rattle.text_survey.specs.TableGate.{gates}
+use Rattle.text_survey.specs.TableGenerate.{region}
 
 abbrev pub plain_declaration : Option Symbol → Option Step
 plain_declaration (Some symbol.Integer) = go taking.Token (task.Name ∷ task.Names ∷ task.Expect symbol.Semicolon ∷ [])
 plain_declaration (Some symbol.Parameter) = go taking.Token (task.Range ∷ task.Setting ∷ task.Settings ∷ task.Expect symbol.Semicolon ∷ [])
 plain_declaration (Some symbol.Localparam) = go taking.Token (task.Range ∷ task.Setting ∷ task.Settings ∷ task.Expect symbol.Semicolon ∷ [])
-plain_declaration next = gates next
+plain_declaration next = region next
 
 abbrev pub declaration : Option Symbol → Option Step
 declaration (Some symbol.Input) = go taking.Token (task.PortKind ∷ task.Sign ∷ task.Range ∷ task.Name ∷ task.Names ∷ task.Expect symbol.Semicolon ∷ [])
@@ -21,13 +21,13 @@ declaration (Some symbol.Wire) = go taking.Token (task.Sign ∷ task.Range ∷ t
 declaration (Some symbol.Reg) = go taking.Token (task.Sign ∷ task.Range ∷ task.Variable ∷ task.Variables ∷ task.Expect symbol.Semicolon ∷ [])
 declaration next = plain_declaration next
 
--- an item; attributes may stand before it
-abbrev pub one_item : Option Symbol → Option Step
-one_item (Some symbol.OpenAttribute) = go taking.Token (task.Attribute ∷ task.Attributes ∷ task.Expect symbol.CloseAttribute ∷ task.Item ∷ [])
-one_item (Some symbol.Assign) = go taking.Token (task.Delay ∷ task.Drive ∷ task.Drives ∷ task.Expect symbol.Semicolon ∷ [])
-one_item (Some symbol.Always) = go taking.Token (task.Expect symbol.At ∷ task.Sensitivity ∷ task.Statement ∷ [])
-one_item (Some symbol.Name) = go taking.Token (task.Overrides ∷ task.Instance ∷ task.Instances ∷ task.Expect symbol.Semicolon ∷ [])
-one_item next = declaration next
+-- an item that attributes may stand before
+abbrev pub marked_item : Option Symbol → Option Step
+marked_item (Some symbol.OpenAttribute) = go taking.Token (task.Attribute ∷ task.Attributes ∷ task.Expect symbol.CloseAttribute ∷ task.MarkedItem ∷ [])
+marked_item (Some symbol.Assign) = go taking.Token (task.Delay ∷ task.Drive ∷ task.Drives ∷ task.Expect symbol.Semicolon ∷ [])
+marked_item (Some symbol.Always) = go taking.Token (task.Expect symbol.At ∷ task.Sensitivity ∷ task.Statement ∷ [])
+marked_item (Some symbol.Name) = go taking.Token (task.Overrides ∷ task.Instance ∷ task.Instances ∷ task.Expect symbol.Semicolon ∷ [])
+marked_item next = declaration next
 
 abbrev pub port_kind : Option Symbol → Option Step
 port_kind (Some symbol.Wire) = go taking.Token []

@@ -11,8 +11,8 @@ use crate::depths::Depths;
 use crate::table::rule;
 use crate::task::{Taking, Task};
 use rtl_tree::symbol::{Symbol, Terminal};
-use text_grammar::nesting::MAX_NESTING;
 use std::alloc::Global;
+use text_grammar::nesting::MAX_NESTING;
 use text_ground::memory::Memory;
 
 /// What tokens are to the grammar.

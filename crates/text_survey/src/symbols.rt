@@ -46,13 +46,13 @@ static WORDS: [&[(&[u8], Symbol)]; 32] = [
         (b"end", Symbol::End),
         (b"else", Symbol::Else),
         (b"endcase", Symbol::Endcase),
+        (b"endgenerate", Symbol::Endgenerate),
         (b"event", Symbol::Refused),
         (b"endtask", Symbol::Refused),
         (b"endspecify", Symbol::Refused),
         (b"endprimitive", Symbol::Refused),
         (b"endtable", Symbol::Refused),
         (b"endfunction", Symbol::Refused),
-        (b"endgenerate", Symbol::Refused),
     ],
     &[
         (b"for", Symbol::For),
@@ -61,7 +61,7 @@ static WORDS: [&[(&[u8], Symbol)]; 32] = [
         (b"forever", Symbol::Refused),
         (b"function", Symbol::Refused),
     ],
-    &[(b"generate", Symbol::Refused), (b"genvar", Symbol::Refused)],
+    &[(b"generate", Symbol::Generate), (b"genvar", Symbol::Genvar)],
     &[],
     &[
         (b"input", Symbol::Input),

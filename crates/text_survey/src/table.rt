@@ -7,6 +7,7 @@ ghost use Rattle.text_survey.specs.Rule as rules;
 
 mod expression;
 mod gate;
+mod generate;
 mod item;
 mod modules;
 mod statement;

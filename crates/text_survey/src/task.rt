@@ -76,6 +76,8 @@ pub enum Task {
     DefaultColon,
     // Items
     Item,
+    /// One that attributes may stand before.
+    MarkedItem,
     Items,
     Name,
     Names,
@@ -101,6 +103,21 @@ pub enum Task {
     /// The bit or the part of a name in an event list.
     EventSelect,
     EventSelectEnd,
+    // Generate constructs
+    /// Items up to `endgenerate`.
+    RegionItems,
+    /// Items up to `end`.
+    BlockItems,
+    /// What a construct makes.
+    Made,
+    /// The rest of an `if` of these.
+    MadeElse,
+    /// The first choice of a case.
+    FirstChoice,
+    /// Further choices, before the default.
+    Choices,
+    /// Further choices, after the default.
+    LabelledChoices,
     // Gates
     /// The delay of gates, which may be left out.
     GateDelay,

@@ -5,7 +5,8 @@ ghost use Rattle.text_survey.specs.Table as spec;
 ghost use Rattle.text_survey.specs.TableItem as items;
 ghost use Rattle.text_survey.specs.Rule as rules;
 
-use super::gate::{gate, gates};
+use super::gate::gate;
+use super::generate::{generate, region};
 use super::{go, modules, optional, required, unless};
 use crate::task::{Move, Taking, Task};
 use rtl_tree::symbol::Symbol;
@@ -66,13 +67,13 @@ fn plain_declaration(next: Option<Symbol>) -> Option<Move>
                 Task::Expect(Symbol::Semicolon),
             ],
         ),
-        _ => gates(next),
+        _ => region(next),
     }
 }
 
-/// An item; attributes may stand before it.
-fn one_item(next: Option<Symbol>) -> Option<Move>
-    ensures { option_map spec.plain result ≡ items.one_item next }
+/// An item that attributes may stand before.
+pub fn marked_item(next: Option<Symbol>) -> Option<Move>
+    ensures { option_map spec.plain result ≡ items.marked_item next }
 {
     match next {
         Some(Symbol::OpenAttribute) => go(
@@ -81,7 +82,7 @@ fn one_item(next: Option<Symbol>) -> Option<Move>
                 Task::Attribute,
                 Task::Attributes,
                 Task::Expect(Symbol::CloseAttribute),
-                Task::Item,
+                Task::MarkedItem,
             ],
         ),
         Some(Symbol::Assign) => go(
@@ -261,7 +262,7 @@ pub fn instance(task: Task, next: Option<Symbol>) -> Option<Move>
 }
 
 /// What stands in declarations.
-fn declared(task: Task, next: Option<Symbol>) -> Option<Move>
+pub fn declared(task: Task, next: Option<Symbol>) -> Option<Move>
     ensures { option_map spec.plain result ≡ rules.declared task next }
 {
     match task {
@@ -291,7 +292,7 @@ pub fn item(task: Task, next: Option<Symbol>) -> Option<Move>
     ensures { option_map spec.plain result ≡ rules.item task next }
 {
     match task {
-        Task::Item => one_item(next),
+        Task::MarkedItem => marked_item(next),
         Task::Items => unless(Symbol::Endmodule, next, &[Task::Item, Task::Items]),
         Task::Name => required(Symbol::Name, next, &[]),
         Task::Names => optional(Symbol::Comma, next, &[Task::Name, Task::Names]),
@@ -306,6 +307,6 @@ pub fn item(task: Task, next: Option<Symbol>) -> Option<Move>
             &[Task::Target, Task::Expect(Symbol::Equals), Task::Expression],
         ),
         Task::Drives => optional(Symbol::Comma, next, &[Task::Drive, Task::Drives]),
-        _ => declared(task, next),
+        _ => generate(task, next),
     }
 }
