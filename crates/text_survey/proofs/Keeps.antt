@@ -148,12 +148,43 @@ keeps_branches (Some other) next h = keeps_first_branch (Some other) next h
 
 -- ---- items and modules
 
-keeps_item : (o next : Option Symbol) → is_next symbol.Endmodule next ≡ true → Keeps (rule task.Item o) next
+keeps_marked_item : (o next : Option Symbol) → ends_statement next ≡ true → Keeps (rule task.MarkedItem o) next
 unfolding same_symbol
-keeps_item None next h = refl
-keeps_item (Some symbol.OpenAttribute) next h = one (is_next symbol.Endmodule next) h
-keeps_item (Some symbol.Always) next h = one (ends_statement next) (of_next ends_statement symbol.Endmodule next refl h)
-keeps_item (Some other) next h = refl
+keeps_marked_item None next h = refl
+keeps_marked_item (Some symbol.OpenAttribute) next h = one (ends_statement next) h
+keeps_marked_item (Some symbol.Always) next h = one (ends_statement next) h
+keeps_marked_item (Some other) next h = refl
+
+keeps_item : (o next : Option Symbol) → ends_statement next ≡ true → Keeps (rule task.Item o) next
+unfolding same_symbol
+keeps_item None next h = one (ends_statement next) h
+keeps_item (Some symbol.If) next h = two (ends_statement next) (ends_statement next) h h
+keeps_item (Some symbol.Case) next h = refl
+keeps_item (Some symbol.For) next h = one (ends_statement next) h
+keeps_item (Some other) next h = one (ends_statement next) h
+
+keeps_made : (o next : Option Symbol) → ends_statement next ≡ true → Keeps (rule task.Made o) next
+unfolding same_symbol
+keeps_made None next h = one (ends_statement next) h
+keeps_made (Some symbol.Semicolon) next h = refl
+keeps_made (Some symbol.Begin) next h = refl
+keeps_made (Some other) next h = one (ends_statement next) h
+
+keeps_made_else : (o next : Option Symbol) → ends_statement next ≡ true → Keeps (rule task.MadeElse o) next
+keeps_made_else None next h = refl
+keeps_made_else (Some symbol.Else) next h = one (ends_statement next) h
+keeps_made_else (Some other) next h = refl
+
+keeps_first_choice : (o next : Option Symbol) → is_next symbol.Endcase next ≡ true → Keeps (rule task.FirstChoice o) next
+unfolding same_symbol
+keeps_first_choice None next h = two (ends_statement next) (is_next symbol.Endcase next) (of_next ends_statement symbol.Endcase next refl h) h
+keeps_first_choice (Some symbol.Default) next h = two (ends_statement next) (is_next symbol.Endcase next) (of_next ends_statement symbol.Endcase next refl h) h
+keeps_first_choice (Some other) next h = two (ends_statement next) (is_next symbol.Endcase next) (of_next ends_statement symbol.Endcase next refl h) h
+
+keeps_choices : (o next : Option Symbol) → is_next symbol.Endcase next ≡ true → Keeps (rule task.Choices o) next
+keeps_choices None next h = keeps_first_choice None next h
+keeps_choices (Some symbol.Endcase) next h = refl
+keeps_choices (Some other) next h = keeps_first_choice (Some other) next h
 
 keeps_port_kind : (o next : Option Symbol) → Keeps (rule task.PortKind o) next
 keeps_port_kind None next = refl
@@ -289,7 +320,17 @@ keeps task.Labelled o next h =
     (two (ends_statement next) (is_next symbol.Endcase next) (of_next ends_statement symbol.Endcase next refl h) h)
 keeps task.DefaultColon o next h = by_optional symbol.Colon o next [] refl
 keeps task.Item o next h = keeps_item o next h
-keeps task.Items o next h = by_unless symbol.Endmodule o next (task.Item ∷ task.Items ∷ []) (two (is_next symbol.Endmodule next) (is_next symbol.Endmodule next) h h)
+keeps task.MarkedItem o next h = keeps_marked_item o next h
+keeps task.Items o next h = by_unless symbol.Endmodule o next (task.Item ∷ task.Items ∷ []) (two (ends_statement next) (is_next symbol.Endmodule next) (of_next ends_statement symbol.Endmodule next refl h) h)
+keeps task.RegionItems o next h = by_unless symbol.Endgenerate o next (task.Item ∷ task.RegionItems ∷ []) (two (ends_statement next) (is_next symbol.Endgenerate next) (of_next ends_statement symbol.Endgenerate next refl h) h)
+keeps task.BlockItems o next h = by_unless symbol.End o next (task.Item ∷ task.BlockItems ∷ []) (two (ends_statement next) (is_next symbol.End next) (of_next ends_statement symbol.End next refl h) h)
+keeps task.Made o next h = keeps_made o next h
+keeps task.MadeElse o next h = keeps_made_else o next h
+keeps task.FirstChoice o next h = keeps_first_choice o next h
+keeps task.Choices o next h = keeps_choices o next h
+keeps task.LabelledChoices o next h =
+    by_unless symbol.Endcase o next (task.Expression ∷ task.Expressions ∷ task.Expect symbol.Colon ∷ task.Made ∷ task.LabelledChoices ∷ [])
+    (two (ends_statement next) (is_next symbol.Endcase next) (of_next ends_statement symbol.Endcase next refl h) h)
 keeps task.Name o next h = by_required symbol.Name o next [] refl
 keeps task.Names o next h = by_optional symbol.Comma o next (task.Name ∷ task.Names ∷ []) (one (ends next) h)
 keeps task.PortKind o next h = keeps_port_kind o next

@@ -9,9 +9,11 @@ pub mod Starts
 pub mod Lists
 pub mod Statements
 pub mod Declarations
-pub mod Items
+pub mod PlainItems
 pub mod Tails
 pub mod Gates
+pub mod Generate
+pub mod Items
 pub mod Weights
 pub mod Stops
 pub mod Loops
@@ -21,6 +23,7 @@ pub mod SoundStatements
 pub mod SoundItems
 pub mod SoundGates
 pub mod SoundModules
+pub mod SoundGenerate
 pub mod Sound
 pub mod Inside
 pub mod Closed

@@ -25,6 +25,7 @@ text_of symbol.Parameter = codes "parameter"
 text_of symbol.Default = codes "default"
 text_of symbol.End = codes "end"
 text_of symbol.Endcase = codes "endcase"
+text_of symbol.Endgenerate = codes "endgenerate"
 text_of symbol.OpenParen = codes "("
 text_of symbol.CloseParen = codes ")"
 text_of symbol.CloseBracket = codes "]"
@@ -48,6 +49,7 @@ kind_of symbol.Parameter = tok.Word
 kind_of symbol.Default = tok.Word
 kind_of symbol.End = tok.Word
 kind_of symbol.Endcase = tok.Word
+kind_of symbol.Endgenerate = tok.Word
 kind_of other = tok.Mark
 
 -- the symbols of the shortest texts
@@ -60,6 +62,7 @@ used symbol.Parameter = true
 used symbol.Default = true
 used symbol.End = true
 used symbol.Endcase = true
+used symbol.Endgenerate = true
 used symbol.OpenParen = true
 used symbol.CloseParen = true
 used symbol.CloseBracket = true
@@ -88,6 +91,7 @@ word_is symbol.Parameter h = refl
 word_is symbol.Default h = refl
 word_is symbol.End h = refl
 word_is symbol.Endcase h = refl
+word_is symbol.Endgenerate h = refl
 word_is symbol.OpenParen h = refl
 word_is symbol.CloseParen h = refl
 word_is symbol.CloseBracket h = refl
@@ -134,6 +138,9 @@ row task.Assigner = symbol.Equals ∷ []
 row task.Statement = symbol.Semicolon ∷ []
 row task.FirstBranch = symbol.Default ∷ symbol.Semicolon ∷ []
 row task.Item = symbol.Integer ∷ symbol.Name ∷ symbol.Semicolon ∷ []
+row task.MarkedItem = symbol.Integer ∷ symbol.Name ∷ symbol.Semicolon ∷ []
+row task.Made = symbol.Semicolon ∷ []
+row task.FirstChoice = symbol.Default ∷ symbol.Semicolon ∷ []
 row task.Name = symbol.Name ∷ []
 row task.Net = symbol.Name ∷ []
 row task.Variable = symbol.Name ∷ []
@@ -179,11 +186,12 @@ abbrev pub ends_part : Option Symbol → Bool
 ends_part (Some symbol.Comma) = true
 ends_part next = ends_name next
 
--- a statement ends here
+-- a statement or an item ends here
 abbrev pub ends_statement : Option Symbol → Bool
 ends_statement (Some symbol.End) = true
 ends_statement (Some symbol.Endcase) = true
 ends_statement (Some symbol.Endmodule) = true
+ends_statement (Some symbol.Endgenerate) = true
 ends_statement next = false
 
 abbrev pub is_end : Option Symbol → Bool
@@ -215,7 +223,15 @@ fits task.FirstBranch next = is_next symbol.Endcase next
 fits task.Branches next = is_next symbol.Endcase next
 fits task.Labelled next = is_next symbol.Endcase next
 fits task.DefaultColon next = is_next symbol.Semicolon next
-fits task.Item next = is_next symbol.Endmodule next
+fits task.Item next = ends_statement next
+fits task.MarkedItem next = ends_statement next
+fits task.RegionItems next = is_next symbol.Endgenerate next
+fits task.BlockItems next = is_next symbol.End next
+fits task.Made next = ends_statement next
+fits task.MadeElse next = ends_statement next
+fits task.FirstChoice next = is_next symbol.Endcase next
+fits task.Choices next = is_next symbol.Endcase next
+fits task.LabelledChoices next = is_next symbol.Endcase next
 fits task.Items next = is_next symbol.Endmodule next
 fits task.Connections next = is_next symbol.CloseParen next
 fits task.Arguments next = is_next symbol.CloseParen next

@@ -199,10 +199,33 @@ first_branch_runs ts h =
 names_runs : (ts : List Terminal) → ends (symbol_at ts) ≡ true → Does task.Names ts ts
 names_runs ts h = left_out ends task.Names symbol.Comma (task.Name ∷ task.Names ∷ []) ts (λ o. refl) refl h
 
-item_runs : (ts : List Terminal) → Does task.Item (made symbol.Integer ∷ made symbol.Name ∷ made symbol.Semicolon ∷ ts) ts
-item_runs ts =
+marked_item_runs : (ts : List Terminal) → Does task.MarkedItem (made symbol.Integer ∷ made symbol.Name ∷ made symbol.Semicolon ∷ ts) ts
+marked_item_runs ts =
     token symbol.Integer refl (it symbol.Integer (made symbol.Name ∷ made symbol.Semicolon ∷ ts))
     (name (made symbol.Semicolon ∷ ts) ▸ names_runs (made symbol.Semicolon ∷ ts) refl ▸ expect symbol.Semicolon ts ▸ nothing ts)
+
+item_runs : (ts : List Terminal) → Does task.Item (made symbol.Integer ∷ made symbol.Name ∷ made symbol.Semicolon ∷ ts) ts
+item_runs ts = stay refl (marked_item_runs ts ▸ nothing ts)
+
+made_runs : (ts : List Terminal) → Does task.Made (made symbol.Semicolon ∷ ts) ts
+made_runs ts = node symbol.Semicolon refl (it symbol.Semicolon ts) (wrap ts ▸ join ts ▸ nothing ts)
+
+no_made_else : (o : Option Symbol) → ends_statement o ≡ true → rule task.MadeElse o ≡ go taking.Nothing (task.Wrap ∷ task.Join ∷ [])
+no_made_else None h = refl
+no_made_else (Some symbol.Else) h = cc
+no_made_else (Some other) h = refl
+
+made_else_runs : (ts : List Terminal) → ends_statement (symbol_at ts) ≡ true → Does task.MadeElse ts ts
+made_else_runs ts h = stay (no_made_else (symbol_at ts) h) (wrap ts ▸ join ts ▸ nothing ts)
+
+choices_end : (ts : List Terminal) → is_next symbol.Endcase (symbol_at ts) ≡ true → Does task.LabelledChoices ts ts
+choices_end ts h =
+    no_more task.LabelledChoices symbol.Endcase (task.Expression ∷ task.Expressions ∷ task.Expect symbol.Colon ∷ task.Made ∷ task.LabelledChoices ∷ []) ts (λ o. refl) h
+
+first_choice_runs : (ts : List Terminal) → is_next symbol.Endcase (symbol_at ts) ≡ true → Does task.FirstChoice (made symbol.Default ∷ made symbol.Semicolon ∷ ts) ts
+unfolding same_symbol
+first_choice_runs ts h =
+    token symbol.Default refl (it symbol.Default (made symbol.Semicolon ∷ ts)) (colon_runs (made symbol.Semicolon ∷ ts) refl ▸ made_runs ts ▸ choices_end ts h ▸ nothing ts)
 
 value_runs : (ts : List Terminal) → ends (symbol_at ts) ≡ true → Does task.Value ts ts
 value_runs ts h = left_out ends task.Value symbol.Equals (task.Expression ∷ []) ts (λ o. refl) refl h
@@ -396,6 +419,14 @@ runs task.Branches ts h = at task.Branches symbol.Endcase ts refl h
 runs task.Labelled ts h = labelled_runs ts h
 runs task.DefaultColon ts h = colon_runs ts h
 runs task.Item ts h = item_runs ts
+runs task.MarkedItem ts h = marked_item_runs ts
+runs task.RegionItems ts h = no_more task.RegionItems symbol.Endgenerate (task.Item ∷ task.RegionItems ∷ []) ts (λ o. refl) h
+runs task.BlockItems ts h = no_more task.BlockItems symbol.End (task.Item ∷ task.BlockItems ∷ []) ts (λ o. refl) h
+runs task.Made ts h = made_runs ts
+runs task.MadeElse ts h = made_else_runs ts h
+runs task.FirstChoice ts h = first_choice_runs ts h
+runs task.Choices ts h = at task.Choices symbol.Endcase ts refl h
+runs task.LabelledChoices ts h = choices_end ts h
 runs task.Items ts h = items_runs ts h
 runs task.Name ts h = name ts
 runs task.Names ts h = names_runs ts h

@@ -249,7 +249,7 @@ gates_delay k (g ∷ gs) ts rest w =
     let u = v.2 in
     name_delay g.name ts v.0 u.0 v.1 u.1
 
-gate_rule : (k : GateKind) → has_one_input k ≡ false → rule task.Item (Some (gate_symbol k)) ≡ go taking.Token (task.GateDelay ∷ task.Gate ∷ task.Gates ∷ task.Expect symbol.Semicolon ∷ [])
+gate_rule : (k : GateKind) → has_one_input k ≡ false → rule task.MarkedItem (Some (gate_symbol k)) ≡ go taking.Token (task.GateDelay ∷ task.Gate ∷ task.Gates ∷ task.Expect symbol.Semicolon ∷ [])
 gate_rule kind.And e = refl
 gate_rule kind.Nand e = refl
 gate_rule kind.Or e = refl
@@ -259,7 +259,7 @@ gate_rule kind.Xnor e = refl
 gate_rule kind.Buf e = cc
 gate_rule kind.Not e = cc
 
-buffer_rule : (k : GateKind) → has_one_input k ≡ true → rule task.Item (Some (gate_symbol k)) ≡ go taking.Token (task.GateDelay ∷ task.Buffer ∷ task.Buffers ∷ task.Expect symbol.Semicolon ∷ [])
+buffer_rule : (k : GateKind) → has_one_input k ≡ true → rule task.MarkedItem (Some (gate_symbol k)) ≡ go taking.Token (task.GateDelay ∷ task.Buffer ∷ task.Buffers ∷ task.Expect symbol.Semicolon ∷ [])
 buffer_rule kind.And e = cc
 buffer_rule kind.Nand e = cc
 buffer_rule kind.Or e = cc
@@ -270,7 +270,7 @@ buffer_rule kind.Buf e = refl
 buffer_rule kind.Not e = refl
 
 gates_by : (at : ℕ) (k : GateKind) (p : Option GatePause) (gs : List Gate) (ts rest : List Terminal) → (IsAt (gate_symbol k) at ⨾ IsOptional IsGatePause p ⨾ AreListed (IsGate k) gs ⨾ IsA symbol.Semicolon) ts rest
-    → (b : Bool) → has_one_input k ≡ b → Does task.Item ts rest (grow (λ before. all_beside gate gs (gate_paused p before)))
+    → (b : Bool) → has_one_input k ≡ b → Does task.MarkedItem ts rest (grow (λ before. all_beside gate gs (gate_paused p before)))
 gates_by at k p gs ts rest w false e =
     let w2 = w.2 in
     let v = w2.2 in
@@ -285,5 +285,5 @@ gates_by at k p gs ts rest w true e =
     ▸ ended (IsGate k) task.Buffer task.Buffers gate ((λ o. refl), (λ d. refl)) (λ g ts' rest' x c. buffer_each g ts' rest' (subst (λ b. IsGateOf b g ts' rest') e x) c) gs w2.0 rest w2.2)
 
 pub gates_run : (at : ℕ) (k : GateKind) (p : Option GatePause) (gs : List Gate) (ts rest : List Terminal) → (IsAt (gate_symbol k) at ⨾ IsOptional IsGatePause p ⨾ AreListed (IsGate k) gs ⨾ IsA symbol.Semicolon) ts rest
-    → Does task.Item ts rest (grow (λ before. all_beside gate gs (gate_paused p before)))
+    → Does task.MarkedItem ts rest (grow (λ before. all_beside gate gs (gate_paused p before)))
 gates_run at k p gs ts rest w = gates_by at k p gs ts rest w (has_one_input k) refl

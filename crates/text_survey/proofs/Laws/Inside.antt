@@ -159,8 +159,38 @@ stays_branches (Some other) = refl
 stays_item : (o : Option Symbol) → Stays o (rule task.Item o)
 unfolding Stays stays_by inner all_inner spares
 stays_item None = refl
-stays_item (Some symbol.Name) = refl
+stays_item (Some symbol.If) = refl
 stays_item (Some other) = refl
+
+stays_marked_item : (o : Option Symbol) → Stays o (rule task.MarkedItem o)
+unfolding Stays stays_by inner all_inner spares
+stays_marked_item None = refl
+stays_marked_item (Some symbol.Name) = refl
+stays_marked_item (Some other) = refl
+
+stays_made : (o : Option Symbol) → Stays o (rule task.Made o)
+unfolding Stays stays_by inner all_inner spares
+stays_made None = refl
+stays_made (Some symbol.Begin) = refl
+stays_made (Some other) = refl
+
+stays_made_else : (o : Option Symbol) → Stays o (rule task.MadeElse o)
+unfolding Stays stays_by inner all_inner spares
+stays_made_else None = refl
+stays_made_else (Some symbol.Else) = refl
+stays_made_else (Some other) = refl
+
+stays_first_choice : (o : Option Symbol) → Stays o (rule task.FirstChoice o)
+unfolding Stays stays_by inner all_inner spares
+stays_first_choice None = refl
+stays_first_choice (Some symbol.Default) = refl
+stays_first_choice (Some other) = refl
+
+stays_choices : (o : Option Symbol) → Stays o (rule task.Choices o)
+unfolding Stays stays_by inner all_inner spares
+stays_choices None = refl
+stays_choices (Some symbol.Default) = refl
+stays_choices (Some other) = refl
 
 stays_port_kind : (o : Option Symbol) → Stays o (rule task.PortKind o)
 unfolding Stays stays_by inner all_inner spares
@@ -337,6 +367,14 @@ inside task.Nets o h = by_optional symbol.Comma o (task.Net ∷ task.Nets ∷ []
 inside task.Variable o h = by_required symbol.Name o (task.Initial ∷ []) refl refl
 inside task.Variables o h = by_optional symbol.Comma o (task.Variable ∷ task.Variables ∷ []) refl refl
 inside task.Item o h = stays_item o
+inside task.MarkedItem o h = stays_marked_item o
+inside task.RegionItems o h = by_unless symbol.Endgenerate o (task.Item ∷ task.RegionItems ∷ []) refl
+inside task.BlockItems o h = by_unless symbol.End o (task.Item ∷ task.BlockItems ∷ []) refl
+inside task.Made o h = stays_made o
+inside task.MadeElse o h = stays_made_else o
+inside task.FirstChoice o h = stays_first_choice o
+inside task.Choices o h = stays_choices o
+inside task.LabelledChoices o h = by_unless symbol.Endcase o (task.Expression ∷ task.Expressions ∷ task.Expect symbol.Colon ∷ task.Made ∷ task.LabelledChoices ∷ []) refl
 inside task.Items o h = by_unless symbol.Endmodule o (task.Item ∷ task.Items ∷ []) refl
 inside task.Name o h = by_required symbol.Name o [] refl refl
 inside task.Names o h = by_optional symbol.Comma o (task.Name ∷ task.Names ∷ []) refl refl

@@ -13,9 +13,11 @@ use Rattle.rtl_tree.specs.TreeExpr.{Formula}
 use Rattle.rtl_tree.specs.TreeModule.{Header, WrittenCircuit}
 use Rattle.text_grammar.specs.Grammar.{Spelling, ◌⨾◌, Nothing, IsA, IsName, IsOptional, IsFlag, AreAll, AreMore, AreListed}
 use Rattle.text_grammar.specs.GrammarExpr.{IsFormula, IsExpression, AreFormulas, AreMoreFormulas, IsBounds, part_symbol}
-use Rattle.text_grammar.specs.GrammarStmt.{IsAttributeValue, IsAttribute, IsTarget, AreMoreTargets, IsSpan, IsPause, assignment_symbol, ends_open, defaults, IsLabel, IsDefaultEnd, IsStatement, AreStatements, AreBranches, AreMoreBranches}
+use Rattle.text_grammar.specs.GrammarStmt.{Marked, IsAttributeValue, IsAttribute, IsTarget, AreMoreTargets, IsSpan, IsPause, assignment_symbol, ends_open, defaults, IsLabel, IsDefaultEnd, IsStatement, AreStatements, AreBranches, AreMoreBranches}
 use Rattle.text_grammar.specs.GrammarItem.{IsKind, IsValue, IsNet, IsInitial, IsVariable, IsValuation, IsDrive, IsHappening, AreMoreEvents, AreEvents, IsSensitivity, IsPositional, IsAssociated, AreArguments, AreConnections, IsInstantiation, AreOverrides}
-use Rattle.text_grammar.specs.GrammarGate.{IsGateSpan, IsGatePause, is_named, AreTerminals, IsMarkedItem}
+use Rattle.text_grammar.specs.GrammarGate.{IsGateSpan, IsGatePause, is_named, AreTerminals}
+use Rattle.text_grammar.specs.GrammarWritten.{block_ends_open, takes_attributes, IsUnmarked, AreWritten, IsMade, AreChoices, AreMoreChoices, IsWritten}
+use Rattle.text_grammar.specs.GrammarWritten as generate
 use Rattle.text_grammar.specs.GrammarModule.{IsThere, IsParameter, AreParameters, IsPort, IsHeader, IsMarkedCircuit, AreCircuits}
 use Rattle.text_survey.specs.declared.task.Task.{Task}
 use Rattle.text_survey.specs.declared.task.Task.TheVariants as task
@@ -76,8 +78,16 @@ Means task.FirstBranch = Any (λ bs ts rest. AreBranches bs ts rest × (defaults
 Means task.Branches = Any (λ bs ts rest. AreMoreBranches bs ts rest × (defaults bs ≤ 1))
 Means task.Labelled = Any (λ bs ts rest. AreMoreBranches bs ts rest × (defaults bs ≤ 0))
 Means task.DefaultColon = IsDefaultEnd
-Means task.Item = Any IsMarkedItem
-Means task.Items = Any (AreAll IsMarkedItem)
+Means task.Item = Any (λ i ts rest. IsWritten i ts rest × (generate.ends_open i ≡ true → Not symbol.Else rest))
+Means task.MarkedItem = Any (λ i ts rest. (takes_attributes i ≡ true) × Marked (λ marks. IsUnmarked i) ts rest × (generate.ends_open i ≡ true → Not symbol.Else rest))
+Means task.Items = Any (AreAll IsWritten)
+Means task.RegionItems = Any AreWritten
+Means task.BlockItems = Any AreWritten
+Means task.Made = Any (λ b ts rest. IsMade b ts rest × (block_ends_open b ≡ true → Not symbol.Else rest))
+Means task.MadeElse = (λ ts rest. Nothing ts rest × Not symbol.Else rest) ⊎⊎ Any (λ b. IsA symbol.Else ⨾ (λ ts rest. IsMade b ts rest × (block_ends_open b ≡ true → Not symbol.Else rest)))
+Means task.FirstChoice = Any (λ cs ts rest. AreChoices cs ts rest × (generate.defaults cs ≤ 1))
+Means task.Choices = Any (λ cs ts rest. AreMoreChoices cs ts rest × (generate.defaults cs ≤ 1))
+Means task.LabelledChoices = Any (λ cs ts rest. AreMoreChoices cs ts rest × (generate.defaults cs ≤ 0))
 Means task.Name = Any IsName
 Means task.Names = Any (AreMore IsName)
 Means task.PortKind = Any (IsOptional IsKind)

@@ -4,7 +4,8 @@ use Rattle.rtl_tree.specs.TreeExpr.{Formula, Number, Read, ReadBit, ReadPart, Pa
 use Rattle.rtl_tree.specs.TreeStmt.{Target, Whole, Bit, Part, Joined, Targets, no_targets, more_targets, Span, Fixed, Named, Valued, Pause, Action, Null, Delayed, Assign, If, IfElse, Case, For, Block, Actions, no_actions, more_actions, Branch, Labelled, Default, Branches, no_branches, more_branches, target_place}
 use Rattle.rtl_tree.specs.TreeItem.{Head, Net, Valuation, Drive, Happening, Edge, Change, ChangeBit, ChangePart, Sensitivity, Star, StarInParens, Listed, Positional, Associated, Association, ByPosition, ByName, Instantiation, ModuleItem, Ports, Nets, Variables, Integers, Parameters, Drives, GateDrive, Gates, Always, Instances}
 use Rattle.rtl_tree.specs.TreeGate.{GateSpan, One, Two, GatePause, Gate}
-use Rattle.rtl_tree.specs.TreeWritten.{WrittenItem, Plain, Primitives}
+use Rattle.rtl_tree.specs.TreeWritten.{WrittenItem, Plain, Primitives, Genvars, Region, WrittenItems, no_items, more_items, GenerateBlock, Single, GenerateChoice, GenerateChoices, no_choices, more_choices}
+use Rattle.rtl_tree.specs.TreeWritten as generate
 use Rattle.rtl_tree.specs.TreeModule.{Heading, HeaderParameter, HeaderPort, Header, Absent, Empty, Declared, WrittenCircuit}
 use Rattle.rtl_tree.specs.TreeModule as modules
 use Rattle.text_survey.specs.Depths.{Nest, Nothing, Both, Within}
@@ -166,9 +167,35 @@ gate_paused (Some p) before = gate_spanned p.span before
 abbrev pub gate : Gate → Nest → Nest
 gate g before = all_beside beside g.terminals (beside_target g.output before)
 
-abbrev pub in_written : WrittenItem → Nest → Nest
-in_written (Plain item) before = in_item item before
-in_written (Primitives at kind pause gates) before = all_beside gate gates (gate_paused pause before)
+-- ---- generate constructs
+
+abbrev mutual
+  pub in_written : WrittenItem → Nest → Nest
+  in_written (Plain item) before = in_item item before
+  in_written (Primitives at kind pause gates) before = all_beside gate gates (gate_paused pause before)
+  in_written (Genvars at names) before = all_beside skip names before
+  in_written (Region at items) before = Both before (Within at (in_items items Nothing))
+  in_written (generate.If at c taken) before = Both before (Within at (in_made taken (beside c Nothing)))
+  in_written (generate.IfElse at c taken otherwise) before = Both before (Within at (in_made otherwise (in_made taken (beside c Nothing))))
+  in_written (generate.Case at selector choices) before = Both before (Within at (in_choices choices (beside selector Nothing)))
+  in_written (generate.For at i start c j step body) before = Both before (Within at (in_made body (beside step (beside c (beside start Nothing)))))
+
+  pub in_items : WrittenItems → Nest → Nest
+  in_items no_items before = before
+  in_items (more_items i others) before = in_items others (in_written i before)
+
+  pub in_made : GenerateBlock → Nest → Nest
+  in_made (generate.Null at) before = Both before (Within at Nothing)
+  in_made (Single item) before = in_written item before
+  in_made (generate.Block at label items) before = Both before (Within at (in_items items Nothing))
+
+  pub in_choice : GenerateChoice → Nest → Nest
+  in_choice (generate.Labelled labels body) before = in_made body (all_beside beside labels before)
+  in_choice (generate.Default at body) before = in_made body before
+
+  pub in_choices : GenerateChoices → Nest → Nest
+  in_choices no_choices before = before
+  in_choices (more_choices c others) before = in_choices others (in_choice c before)
 
 -- ---- modules
 

@@ -5,13 +5,14 @@ use Rattle.rtl_tree.specs.TreeExpr.{Formula, Number, Read, ReadBit, ReadPart, Pa
 use Rattle.rtl_tree.specs.TreeStmt.{Target, Whole, Bit, Part, Joined, Targets, no_targets, more_targets, Span, Fixed, Named, Valued, Pause, Action, Null, Delayed, Assign, If, IfElse, Case, For, Block, Actions, no_actions, more_actions, Branch, Labelled, Default, Branches, no_branches, more_branches, target_place}
 use Rattle.rtl_tree.specs.TreeItem.{Head, Net, Drive, Happening, Edge, Change, ChangeBit, ChangePart, Sensitivity, Star, StarInParens, Listed, Association, ByPosition, ByName, ModuleItem, Ports, Nets, Variables, Integers, Parameters, Drives, GateDrive, Gates, Always, Instances}
 use Rattle.rtl_tree.specs.TreeGate.{GateSpan, One, Two, GatePause, Gate}
-use Rattle.rtl_tree.specs.TreeWritten.{WrittenItem, Plain, Primitives}
+use Rattle.rtl_tree.specs.TreeWritten.{WrittenItem, Plain, Primitives, Genvars, Region, WrittenItems, no_items, more_items, GenerateBlock, Single, GenerateChoice, GenerateChoices, no_choices, more_choices}
+use Rattle.rtl_tree.specs.TreeWritten as generate
 use Rattle.rtl_tree.specs.TreeModule.{Heading, HeaderParameter, HeaderPort, Header, Absent, Empty, Declared, WrittenCircuit}
 use Rattle.rtl_tree.specs.TreeModule as modules
-use Rattle.text_grammar.specs.Deeper.{of_any, here, formula_deeper, formulas_deeper, bounds_deeper, target_deeper, targets_deeper, span_deeper, pause_deeper, action_deeper, actions_deeper, branch_deeper, branches_deeper, head_deeper, net_deeper, valuation_deeper, drive_deeper, happening_deeper, sensitivity_deeper, positional_deeper, associated_deeper, association_deeper, instantiation_deeper, gate_drive_deeper, item_deeper, gate_span_deeper, gate_pause_deeper, gate_deeper, written_deeper, header_parameter_deeper, header_port_deeper, header_deeper, deeper, too_deep}
+use Rattle.text_grammar.specs.Deeper.{of_any, here, formula_deeper, formulas_deeper, bounds_deeper, target_deeper, targets_deeper, span_deeper, pause_deeper, action_deeper, actions_deeper, branch_deeper, branches_deeper, head_deeper, net_deeper, valuation_deeper, drive_deeper, happening_deeper, sensitivity_deeper, positional_deeper, associated_deeper, association_deeper, instantiation_deeper, gate_drive_deeper, item_deeper, gate_span_deeper, gate_pause_deeper, gate_deeper, written_deeper, written_items_deeper, made_deeper, choice_deeper, choices_deeper, header_parameter_deeper, header_port_deeper, header_deeper, deeper, too_deep}
 use Rattle.text_grammar.specs.declared.nesting.TheConstants.{MAX_NESTING}
 use Rattle.text_survey.specs.Depths.{Nest, Nothing, Both, Within, nest_deeper}
-use Rattle.text_survey.proofs.Laws.Nests.{nest, nest_row, beside, skip, all_beside, valued, bounded, spanned, paused, nest_target, nest_targets, nest_action, nest_actions, nest_branch, nest_branches, net, valuation, drive, beside_target, happening, awaited, positional, associated, arguments, placed, gate_drive, in_item, gate_spanned, gate_paused, gate, in_written, headed, heading, head_parameter, head_port, in_header, in_circuit}
+use Rattle.text_survey.proofs.Laws.Nests.{nest, nest_row, beside, skip, all_beside, valued, bounded, spanned, paused, nest_target, nest_targets, nest_action, nest_actions, nest_branch, nest_branches, net, valuation, drive, beside_target, happening, awaited, positional, associated, arguments, placed, gate_drive, in_item, gate_spanned, gate_paused, gate, in_written, in_items, in_made, in_choice, in_choices, headed, heading, head_parameter, head_port, in_header, in_circuit}
 
 -- what comes in front of the same, and what follows the same
 front : (xs ys zs : List ℕ) → ys ≡ zs → xs ++ ys ≡ xs ++ zs
@@ -263,10 +264,64 @@ puts_gate : (g : Gate) (k : ℕ) → Puts (gate g) k (gate_deeper k g)
 puts_gate g k =
     puts_then (beside_target g.output) (all_beside beside g.terminals) k (target_deeper k g.output) (flat_map (formula_deeper k) g.terminals) (puts_target g.output k) (puts_all beside k (formula_deeper k) (λ f. puts_formula f k) g.terminals)
 
-puts_written : (i : WrittenItem) (k : ℕ) → Puts (in_written i) k (written_deeper k i)
-puts_written (Plain item) k = puts_item item k
-puts_written (Primitives at kind pause gates) k =
-    puts_then (gate_paused pause) (all_beside gate gates) k (of_any (gate_pause_deeper k) pause) (flat_map (gate_deeper k) gates) (puts_gate_pause pause k) (puts_all gate k (gate_deeper k) (λ g. puts_gate g k) gates)
+-- ---- generate constructs
+
+-- a node at a place with what stands in it, beside what was read before
+puts_within : (g : Nest → Nest) (k at : ℕ) (places all : List ℕ) → Puts g (k - 1) places → here k at ++ places ≡ all → Puts (λ m. Both m (Within at (g Nothing))) k all
+puts_within g k at places all p e = puts_node (Within at (g Nothing)) k all (within g k at places p ∙ e)
+
+mutual
+  unfolding Puts
+
+  puts_written : (i : WrittenItem) (k : ℕ) → Puts (in_written i) k (written_deeper k i)
+  puts_written (Plain item) k = puts_item item k
+  puts_written (Primitives at kind pause gates) k =
+      puts_then (gate_paused pause) (all_beside gate gates) k (of_any (gate_pause_deeper k) pause) (flat_map (gate_deeper k) gates) (puts_gate_pause pause k) (puts_all gate k (gate_deeper k) (λ g. puts_gate g k) gates)
+  puts_written (Genvars at names) k = puts_skip names k
+  puts_written (Region at items) k =
+      puts_within (in_items items) k at (written_items_deeper (k - 1) items) (written_deeper k (Region at items)) (puts_items items (k - 1)) refl
+  puts_written (generate.If at c taken) k =
+      puts_within (λ m. in_made taken (beside c m)) k at (formula_deeper (k - 1) c ++ made_deeper (k - 1) taken) (written_deeper k (generate.If at c taken))
+      (puts_then (beside c) (in_made taken) (k - 1) (formula_deeper (k - 1) c) (made_deeper (k - 1) taken) (puts_formula c (k - 1)) (puts_made taken (k - 1)))
+      (left2 (here k at) (formula_deeper (k - 1) c) (made_deeper (k - 1) taken))
+  puts_written (generate.IfElse at c taken otherwise) k =
+      puts_within (λ m. in_made otherwise (in_made taken (beside c m))) k at (formula_deeper (k - 1) c ++ (made_deeper (k - 1) taken ++ made_deeper (k - 1) otherwise)) (written_deeper k (generate.IfElse at c taken otherwise))
+      (puts_then (beside c) (λ m. in_made otherwise (in_made taken m)) (k - 1) (formula_deeper (k - 1) c) (made_deeper (k - 1) taken ++ made_deeper (k - 1) otherwise) (puts_formula c (k - 1))
+      (puts_then (in_made taken) (in_made otherwise) (k - 1) (made_deeper (k - 1) taken) (made_deeper (k - 1) otherwise) (puts_made taken (k - 1)) (puts_made otherwise (k - 1))))
+      (left3 (here k at) (formula_deeper (k - 1) c) (made_deeper (k - 1) taken) (made_deeper (k - 1) otherwise))
+  puts_written (generate.Case at selector choices) k =
+      puts_within (λ m. in_choices choices (beside selector m)) k at (formula_deeper (k - 1) selector ++ choices_deeper (k - 1) choices) (written_deeper k (generate.Case at selector choices))
+      (puts_then (beside selector) (in_choices choices) (k - 1) (formula_deeper (k - 1) selector) (choices_deeper (k - 1) choices) (puts_formula selector (k - 1)) (puts_choices choices (k - 1)))
+      (left2 (here k at) (formula_deeper (k - 1) selector) (choices_deeper (k - 1) choices))
+  puts_written (generate.For at i start c j step body) k =
+      puts_within (λ m. in_made body (beside step (beside c (beside start m)))) k at (formula_deeper (k - 1) start ++ (formula_deeper (k - 1) c ++ (formula_deeper (k - 1) step ++ made_deeper (k - 1) body))) (written_deeper k (generate.For at i start c j step body))
+      (puts_then (beside start) (λ m. in_made body (beside step (beside c m))) (k - 1) (formula_deeper (k - 1) start) (formula_deeper (k - 1) c ++ (formula_deeper (k - 1) step ++ made_deeper (k - 1) body)) (puts_formula start (k - 1))
+      (puts_then (beside c) (λ m. in_made body (beside step m)) (k - 1) (formula_deeper (k - 1) c) (formula_deeper (k - 1) step ++ made_deeper (k - 1) body) (puts_formula c (k - 1))
+      (puts_then (beside step) (in_made body) (k - 1) (formula_deeper (k - 1) step) (made_deeper (k - 1) body) (puts_formula step (k - 1)) (puts_made body (k - 1)))))
+      (left4 (here k at) (formula_deeper (k - 1) start) (formula_deeper (k - 1) c) (formula_deeper (k - 1) step) (made_deeper (k - 1) body))
+
+  puts_items : (items : WrittenItems) (k : ℕ) → Puts (in_items items) k (written_items_deeper k items)
+  puts_items no_items k m = sym (nil (nest_deeper k m))
+  puts_items (more_items i others) k m =
+      puts_then (in_written i) (in_items others) k (written_deeper k i) (written_items_deeper k others) (puts_written i k) (puts_items others k) m
+
+  puts_made : (b : GenerateBlock) (k : ℕ) → Puts (in_made b) k (made_deeper k b)
+  puts_made (generate.Null at) k m = front (nest_deeper k m) _ _ (nil (here k at))
+  puts_made (Single item) k m = puts_written item k m
+  puts_made (generate.Block at label items) k m =
+      puts_within (in_items items) k at (written_items_deeper (k - 1) items) (made_deeper k (generate.Block at label items)) (puts_items items (k - 1)) refl m
+
+  puts_choice : (c : GenerateChoice) (k : ℕ) → Puts (in_choice c) k (choice_deeper k c)
+  puts_choice (generate.Labelled labels body) k m =
+      puts_then (all_beside beside labels) (in_made body) k (flat_map (formula_deeper k) labels) (made_deeper k body) (puts_all beside k (formula_deeper k) (λ f. puts_formula f k) labels) (puts_made body k) m
+  puts_choice (generate.Default at body) k m = puts_made body k m
+
+  puts_choices : (choices : GenerateChoices) (k : ℕ) → Puts (in_choices choices) k (choices_deeper k choices)
+  puts_choices no_choices k m = sym (nil (nest_deeper k m))
+  puts_choices (more_choices c others) k m =
+      puts_then (in_choice c) (in_choices others) k (choice_deeper k c) (choices_deeper k others) (puts_choice c k) (puts_choices others k) m
+
+-- ---- modules
 
 puts_heading : (h : Option Heading) (k : ℕ) → Puts (heading h) k (of_any (λ x. of_any (bounds_deeper k) x.bounds) h)
 puts_heading None k = puts_nothing (heading None) k (λ m. refl)

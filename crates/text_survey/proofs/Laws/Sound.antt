@@ -18,6 +18,7 @@ use Rattle.text_survey.proofs.Laws.SoundStatements as statements
 use Rattle.text_survey.proofs.Laws.SoundItems as declarations
 use Rattle.text_survey.proofs.Laws.SoundGates as gates
 use Rattle.text_survey.proofs.Laws.SoundModules as modules
+use Rattle.text_survey.proofs.Laws.SoundGenerate as generate
 
 sound : (t : Task) → Sound t
 sound (task.Expect s) ts rest n w =
@@ -51,8 +52,16 @@ sound task.FirstBranch ts rest n w = statements.sound_first ts rest n w
 sound task.Branches ts rest n w = statements.sound_branches ts rest n w
 sound task.Labelled ts rest n w = statements.sound_labelled ts rest n w
 sound task.DefaultColon ts rest n w = statements.sound_colon ts rest n w
-sound task.Item ts rest n w = modules.sound_item ts rest n w
+sound task.Item ts rest n w = generate.sound_item ts rest n w
+sound task.MarkedItem ts rest n w = modules.sound_marked_item ts rest n w
 sound task.Items ts rest n w = modules.sound_items ts rest n w
+sound task.RegionItems ts rest n w = generate.sound_region_items ts rest n w
+sound task.BlockItems ts rest n w = generate.sound_block_items ts rest n w
+sound task.Made ts rest n w = generate.sound_made ts rest n w
+sound task.MadeElse ts rest n w = generate.sound_else ts rest n w
+sound task.FirstChoice ts rest n w = generate.sound_first ts rest n w
+sound task.Choices ts rest n w = generate.sound_choices ts rest n w
+sound task.LabelledChoices ts rest n w = generate.sound_labelled ts rest n w
 sound task.Name ts rest n w = declarations.sound_name ts rest n w
 sound task.Names ts rest n w = declarations.sound_names ts rest n w
 sound task.PortKind ts rest n w = declarations.sound_kind ts rest n w

@@ -11,12 +11,13 @@ use Rattle.rtl_tree.specs.declared.tree.gate.GateKind.TheVariants as kind
 use Rattle.rtl_tree.specs.Symbols.{Terminal}
 use Rattle.rtl_tree.specs.TreeExpr.{Formula, Identifier}
 use Rattle.rtl_tree.specs.TreeItem.{Head, Positional, Association, ByPosition, ByName, ModuleItem, Ports, Nets, Variables, Integers, Parameters, Drives, Always, Instances}
-use Rattle.rtl_tree.specs.TreeWritten.{Plain, Primitives}
+use Rattle.rtl_tree.specs.TreeWritten.{WrittenItem, Plain, Primitives, Genvars, Region}
 use Rattle.rtl_tree.specs.TreeModule.{HeaderParameter, Absent, Empty, Declared, Named, WrittenCircuit}
 use Rattle.text_grammar.specs.Grammar.{◌⨾◌, IsA, IsName, IsOptional, AreAll, AreMore, AreListed, identifier_of}
 use Rattle.text_grammar.specs.GrammarExpr.{IsExpression}
 use Rattle.text_grammar.specs.GrammarItem.{direction_symbol, IsHead, parameter_symbol, IsPositional, IsAssociated, AreArguments, AreConnections, IsInstantiation, AreOverrides, IsItem}
-use Rattle.text_grammar.specs.GrammarGate.{gate_symbol, has_one_input, IsMarkedItem}
+use Rattle.text_grammar.specs.GrammarGate.{gate_symbol, has_one_input}
+use Rattle.text_grammar.specs.GrammarWritten.{item_ends_open, ends_open, takes_attributes, IsUnmarked, IsWritten}
 use Rattle.text_grammar.specs.GrammarModule.{IsThere, IsParameter, IsPort, IsHeader, is_between, IsMarkedCircuit, AreCircuits}
 use Rattle.text_survey.specs.declared.task.Task.TheVariants as task
 use Rattle.text_survey.specs.Table.{is_next}
@@ -25,7 +26,7 @@ use Rattle.text_survey.proofs.Laws.Expressions.{Not, head}
 use Rattle.text_survey.proofs.Laws.Operands.{same_refl}
 use Rattle.text_survey.proofs.Laws.Gates.{IsGateOf}
 use Rattle.text_survey.proofs.Laws.Starts.{opens, formula_opens}
-use Rattle.text_survey.proofs.Laws.Means.{Any, Means, AllMean, to, was_required, was_optional, was_unless, was_more}
+use Rattle.text_survey.proofs.Laws.Means.{Any, Means, AllMean, to, finished, was_required, was_optional, was_unless, was_more}
 use Rattle.text_survey.proofs.Laws.SoundExpressions.{Sound, SoundAt, sound_by}
 use Rattle.text_survey.proofs.Laws.SoundStatements.{named}
 use Rattle.text_survey.proofs.Laws.SoundItems.{ends_at}
@@ -159,11 +160,15 @@ sound_instances ts rest n w = was_more IsInstantiation task.Instance task.Instan
 
 -- ---- items
 
-unmarked : (i : ModuleItem) (ts rest : List Terminal) → IsItem i ts rest → Any IsMarkedItem ts rest
-unmarked i ts rest w = (Plain i, ([], (ts, refl, w)))
+-- an item that no `else` could belong to
+unmarked : (i : WrittenItem) → takes_attributes i ≡ true → ends_open i ≡ false → (ts rest : List Terminal) → IsUnmarked i ts rest → Means task.MarkedItem ts rest
+unmarked i t e ts rest w = (i, (t, ([], (ts, refl, w)), λ o. absurd (no_true (ends_open i) e o)))
+
+plain : (i : ModuleItem) → item_ends_open i ≡ false → (ts rest : List Terminal) → IsItem i ts rest → Means task.MarkedItem ts rest
+plain i e ts rest w = unmarked (Plain i) refl e ts rest w
 
 ports_by : (d : Direction) (a : Terminal) (ts rest : List Terminal) → a.symbol ≡ direction_symbol d
-    → AllMean (task.PortKind ∷ task.Sign ∷ task.Range ∷ task.Name ∷ task.Names ∷ task.Expect symbol.Semicolon ∷ []) ts rest → Any IsMarkedItem (a ∷ ts) rest
+    → AllMean (task.PortKind ∷ task.Sign ∷ task.Range ∷ task.Name ∷ task.Names ∷ task.Expect symbol.Semicolon ∷ []) ts rest → Means task.MarkedItem (a ∷ ts) rest
 ports_by d a ts rest e w =
     let w2 = w.2 in
     let w3 = w2.2 in
@@ -175,11 +180,11 @@ ports_by d a ts rest e w =
     let b = w3.1 in
     let i = w4.1 in
     let is = w5.1 in
-    unmarked (Ports (record { at = a.at; direction = d; kind = k.0; signed = s.0; bounds = b.0 }) (i.0 ∷ is.0)) (a ∷ ts) rest
+    plain (Ports (record { at = a.at; direction = d; kind = k.0; signed = s.0; bounds = b.0 }) (i.0 ∷ is.0)) refl (a ∷ ts) rest
     (w3.0, (ts, (a, refl, (e, refl)), (w.0, k.1, (w2.0, s.1, b.1))), (w5.0, (w4.0, i.1, is.1), to symbol.Semicolon w5.0 w6.0 rest w6.1 w6.2))
 
 parameters_by : (k : ParameterKind) (a : Terminal) (ts rest : List Terminal) → a.symbol ≡ parameter_symbol k
-    → AllMean (task.Range ∷ task.Setting ∷ task.Settings ∷ task.Expect symbol.Semicolon ∷ []) ts rest → Any IsMarkedItem (a ∷ ts) rest
+    → AllMean (task.Range ∷ task.Setting ∷ task.Settings ∷ task.Expect symbol.Semicolon ∷ []) ts rest → Means task.MarkedItem (a ∷ ts) rest
 parameters_by k a ts rest e w =
     let w2 = w.2 in
     let w3 = w2.2 in
@@ -187,18 +192,18 @@ parameters_by k a ts rest e w =
     let b = w.1 in
     let i = w2.1 in
     let is = w3.1 in
-    unmarked (Parameters a.at k b.0 (i.0 ∷ is.0)) (a ∷ ts) rest
+    plain (Parameters a.at k b.0 (i.0 ∷ is.0)) refl (a ∷ ts) rest
     (ts, (a, refl, (e, refl)), (w.0, b.1, (w3.0, (w2.0, i.1, is.1), to symbol.Semicolon w3.0 w4.0 rest w4.1 w4.2)))
 
 -- gates of a kind, by whether it has one input
 primitives_by : (k : GateKind) (b : Bool) → has_one_input k ≡ b → (a : Terminal) (ts m1 m2 m3 m4 rest : List Terminal) → a.symbol ≡ gate_symbol k → Means task.GateDelay ts m1 → Any (IsGateOf b) m1 m2 → Any (AreMore (IsGateOf b)) m2 m3
-    → IsA symbol.Semicolon m3 m4 → m4 ≡ rest → Any IsMarkedItem (a ∷ ts) rest
+    → IsA symbol.Semicolon m3 m4 → m4 ≡ rest → Means task.MarkedItem (a ∷ ts) rest
 primitives_by k b h a ts m1 m2 m3 m4 rest e p g gs s f =
     let listed = subst (λ x. AreListed (IsGateOf x) (g.0 ∷ gs.0) m1 m3) (sym h) (m2, g.1, gs.1) in
-    (Primitives a.at k p.0 (g.0 ∷ gs.0), ([], (a ∷ ts, refl, (ts, (a, refl, (e, refl)), (m1, p.1, (m3, listed, to symbol.Semicolon m3 m4 rest s f))))))
+    unmarked (Primitives a.at k p.0 (g.0 ∷ gs.0)) refl refl (a ∷ ts) rest (ts, (a, refl, (e, refl)), (m1, p.1, (m3, listed, to symbol.Semicolon m3 m4 rest s f)))
 
 many_by : (k : GateKind) → has_one_input k ≡ false → (a : Terminal) (ts rest : List Terminal) → a.symbol ≡ gate_symbol k → AllMean (task.GateDelay ∷ task.Gate ∷ task.Gates ∷ task.Expect symbol.Semicolon ∷ []) ts rest
-    → Any IsMarkedItem (a ∷ ts) rest
+    → Means task.MarkedItem (a ∷ ts) rest
 many_by k h a ts rest e w =
     let w2 = w.2 in
     let w3 = w2.2 in
@@ -206,27 +211,28 @@ many_by k h a ts rest e w =
     primitives_by k false h a ts w.0 w2.0 w3.0 w4.0 rest e w.1 w2.1 w3.1 w4.1 w4.2
 
 buffers_by : (k : GateKind) → has_one_input k ≡ true → (a : Terminal) (ts rest : List Terminal) → a.symbol ≡ gate_symbol k → AllMean (task.GateDelay ∷ task.Buffer ∷ task.Buffers ∷ task.Expect symbol.Semicolon ∷ []) ts rest
-    → Any IsMarkedItem (a ∷ ts) rest
+    → Means task.MarkedItem (a ∷ ts) rest
 buffers_by k h a ts rest e w =
     let w2 = w.2 in
     let w3 = w2.2 in
     let w4 = w3.2 in
     primitives_by k true h a ts w.0 w2.0 w3.0 w4.0 rest e w.1 w2.1 w3.1 w4.1 w4.2
 
-item_at : SoundAt task.Item
-item_at a ts rest symbol.OpenAttribute e n w =
+marked_item_at : SoundAt task.MarkedItem
+marked_item_at a ts rest symbol.OpenAttribute e n w =
     let v = w.2 in
     let u = v.2 in
     let z = u.2 in
     let x = w.1 in
     let xs = v.1 in
-    let i = ends_at IsMarkedItem u.0 z.0 rest z.1 z.2 in
-    let m = i.1 in
+    let i = subst (λ r. Means task.MarkedItem u.0 r) z.2 z.1 in
+    let g = i.1 in
+    let m = g.1 in
     let y = m.1 in
-    (i.0, ((x.0 ∷ xs.0) ∷ m.0, (y.0, (u.0, (ts, (a, refl, e), (v.0, (w.0, x.1, xs.1), u.1)), y.1), y.2)))
-item_at a ts rest symbol.Input e n w = ports_by direction.Input a ts rest e w
-item_at a ts rest symbol.Output e n w = ports_by direction.Output a ts rest e w
-item_at a ts rest symbol.Wire e n w =
+    (i.0, (g.0, ((x.0 ∷ xs.0) ∷ m.0, (y.0, (u.0, (ts, (a, refl, e), (v.0, (w.0, x.1, xs.1), u.1)), y.1), y.2)), g.2))
+marked_item_at a ts rest symbol.Input e n w = ports_by direction.Input a ts rest e w
+marked_item_at a ts rest symbol.Output e n w = ports_by direction.Output a ts rest e w
+marked_item_at a ts rest symbol.Wire e n w =
     let w2 = w.2 in
     let w3 = w2.2 in
     let w4 = w3.2 in
@@ -235,9 +241,9 @@ item_at a ts rest symbol.Wire e n w =
     let b = w2.1 in
     let i = w3.1 in
     let is = w4.1 in
-    unmarked (Nets a.at s.0 b.0 (i.0 ∷ is.0)) (a ∷ ts) rest
+    plain (Nets a.at s.0 b.0 (i.0 ∷ is.0)) refl (a ∷ ts) rest
     (ts, (a, refl, (e, refl)), (w.0, s.1, (w2.0, b.1, (w4.0, (w3.0, i.1, is.1), to symbol.Semicolon w4.0 w5.0 rest w5.1 w5.2))))
-item_at a ts rest symbol.Reg e n w =
+marked_item_at a ts rest symbol.Reg e n w =
     let w2 = w.2 in
     let w3 = w2.2 in
     let w4 = w3.2 in
@@ -246,52 +252,62 @@ item_at a ts rest symbol.Reg e n w =
     let b = w2.1 in
     let i = w3.1 in
     let is = w4.1 in
-    unmarked (Variables a.at s.0 b.0 (i.0 ∷ is.0)) (a ∷ ts) rest
+    plain (Variables a.at s.0 b.0 (i.0 ∷ is.0)) refl (a ∷ ts) rest
     (ts, (a, refl, (e, refl)), (w.0, s.1, (w2.0, b.1, (w4.0, (w3.0, i.1, is.1), to symbol.Semicolon w4.0 w5.0 rest w5.1 w5.2))))
-item_at a ts rest symbol.Integer e n w =
+marked_item_at a ts rest symbol.Integer e n w =
     let v = w.2 in
     let u = v.2 in
     let i = w.1 in
     let is = v.1 in
-    unmarked (Integers a.at (i.0 ∷ is.0)) (a ∷ ts) rest (ts, (a, refl, (e, refl)), (v.0, (w.0, i.1, is.1), to symbol.Semicolon v.0 u.0 rest u.1 u.2))
-item_at a ts rest symbol.Parameter e n w = parameters_by parameter.Parameter a ts rest e w
-item_at a ts rest symbol.Localparam e n w = parameters_by parameter.Local a ts rest e w
-item_at a ts rest symbol.Assign e n w =
+    plain (Integers a.at (i.0 ∷ is.0)) refl (a ∷ ts) rest (ts, (a, refl, (e, refl)), (v.0, (w.0, i.1, is.1), to symbol.Semicolon v.0 u.0 rest u.1 u.2))
+marked_item_at a ts rest symbol.Parameter e n w = parameters_by parameter.Parameter a ts rest e w
+marked_item_at a ts rest symbol.Localparam e n w = parameters_by parameter.Local a ts rest e w
+marked_item_at a ts rest symbol.Assign e n w =
     let w2 = w.2 in
     let w3 = w2.2 in
     let w4 = w3.2 in
     let p = w.1 in
     let i = w2.1 in
     let is = w3.1 in
-    unmarked (Drives a.at p.0 (i.0 ∷ is.0)) (a ∷ ts) rest (ts, (a, refl, (e, refl)), (w.0, p.1, (w3.0, (w2.0, i.1, is.1), to symbol.Semicolon w3.0 w4.0 rest w4.1 w4.2)))
-item_at a ts rest symbol.Always e n w =
+    plain (Drives a.at p.0 (i.0 ∷ is.0)) refl (a ∷ ts) rest (ts, (a, refl, (e, refl)), (w.0, p.1, (w3.0, (w2.0, i.1, is.1), to symbol.Semicolon w3.0 w4.0 rest w4.1 w4.2)))
+marked_item_at a ts rest symbol.Always e n w =
     let v = w.2 in
     let s = v.1 in
     let u = v.2 in
     let b = subst (λ x. Means task.Statement v.0 x) u.2 u.1 in
     let st = b.1 in
-    unmarked (Always a.at s.0 b.0) (a ∷ ts) rest (ts, (a, refl, (e, refl)), (w.0, w.1, (v.0, s.1, st.0)))
-item_at a ts rest symbol.Name e n w =
+    (Plain (Always a.at s.0 b.0), (refl, ([], (a ∷ ts, refl, (ts, (a, refl, (e, refl)), (w.0, w.1, (v.0, s.1, st.0))))), st.1))
+marked_item_at a ts rest symbol.Name e n w =
     let w2 = w.2 in
     let w3 = w2.2 in
     let w4 = w3.2 in
     let o = w.1 in
     let i = w2.1 in
     let is = w3.1 in
-    unmarked (Instances (identifier_of a) o.0 (i.0 ∷ is.0)) (a ∷ ts) rest
+    plain (Instances (identifier_of a) o.0 (i.0 ∷ is.0)) refl (a ∷ ts) rest
     (ts, (a, refl, (e, refl)), (w.0, o.1, (w3.0, (w2.0, i.1, is.1), to symbol.Semicolon w3.0 w4.0 rest w4.1 w4.2)))
-item_at a ts rest symbol.And e n w = many_by kind.And refl a ts rest e w
-item_at a ts rest symbol.Nand e n w = many_by kind.Nand refl a ts rest e w
-item_at a ts rest symbol.Or e n w = many_by kind.Or refl a ts rest e w
-item_at a ts rest symbol.Nor e n w = many_by kind.Nor refl a ts rest e w
-item_at a ts rest symbol.Xor e n w = many_by kind.Xor refl a ts rest e w
-item_at a ts rest symbol.Xnor e n w = many_by kind.Xnor refl a ts rest e w
-item_at a ts rest symbol.Buf e n w = buffers_by kind.Buf refl a ts rest e w
-item_at a ts rest symbol.Not e n w = buffers_by kind.Not refl a ts rest e w
-item_at a ts rest other e n w = absurd w
+marked_item_at a ts rest symbol.And e n w = many_by kind.And refl a ts rest e w
+marked_item_at a ts rest symbol.Nand e n w = many_by kind.Nand refl a ts rest e w
+marked_item_at a ts rest symbol.Or e n w = many_by kind.Or refl a ts rest e w
+marked_item_at a ts rest symbol.Nor e n w = many_by kind.Nor refl a ts rest e w
+marked_item_at a ts rest symbol.Xor e n w = many_by kind.Xor refl a ts rest e w
+marked_item_at a ts rest symbol.Xnor e n w = many_by kind.Xnor refl a ts rest e w
+marked_item_at a ts rest symbol.Buf e n w = buffers_by kind.Buf refl a ts rest e w
+marked_item_at a ts rest symbol.Not e n w = buffers_by kind.Not refl a ts rest e w
+marked_item_at a ts rest symbol.Genvar e n w =
+    let v = w.2 in
+    let u = v.2 in
+    let i = w.1 in
+    let is = v.1 in
+    unmarked (Genvars a.at (i.0 ∷ is.0)) refl refl (a ∷ ts) rest (ts, (a, refl, (e, refl)), (v.0, (w.0, i.1, is.1), to symbol.Semicolon v.0 u.0 rest u.1 u.2))
+marked_item_at a ts rest symbol.Generate e n w =
+    let v = w.2 in
+    let is = w.1 in
+    unmarked (Region a.at is.0) refl refl (a ∷ ts) rest (ts, (a, refl, (e, refl)), (w.0, is.1, to symbol.Endgenerate w.0 v.0 rest v.1 (finished v.0 rest v.2)))
+marked_item_at a ts rest other e n w = absurd w
 
-pub sound_item : Sound task.Item
-sound_item = sound_by task.Item item_at (λ rest w. absurd w)
+pub sound_marked_item : Sound task.MarkedItem
+sound_marked_item = sound_by task.MarkedItem marked_item_at (λ rest w. absurd w)
 
 pub sound_items : Sound task.Items
 sound_items ts rest n w = by_choice (was_unless symbol.Endmodule (task.Item ∷ task.Items ∷ []) ts rest w)
@@ -301,8 +317,8 @@ sound_items ts rest n w = by_choice (was_unless symbol.Endmodule (task.Item ∷ 
     by_choice (inr v) =
         let i = v.1 in
         let u = v.2 in
-        let is = ends_at (AreAll IsMarkedItem) v.0 u.0 rest u.1 u.2 in
-        (i.0 ∷ is.0, (v.0, i.1, is.1))
+        let is = ends_at (AreAll IsWritten) v.0 u.0 rest u.1 u.2 in
+        (i.0 ∷ is.0, (v.0, i.1.0, is.1))
 
 -- ---- heads of modules
 

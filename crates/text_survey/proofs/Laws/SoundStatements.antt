@@ -180,7 +180,7 @@ assigned ts rest w =
     let a = Assign t.0 k.0 p.0 f.0 in
     (a, (plain a ts rest (w.0, t.1, (v.0, k.1, (u.0, p.1, (z.0, f.1, to symbol.Semicolon z.0 y.0 rest y.1 (finished y.0 rest y.2))))), λ o. absurd (no_true false refl o)))
 
-else_there : (xs ys : List Terminal) → IsA symbol.Else xs ys → Not symbol.Else xs → ⊥
+pub else_there : (xs ys : List Terminal) → IsA symbol.Else xs ys → Not symbol.Else xs → ⊥
 else_there xs ys v n = no_true (is_next symbol.Else (symbol_at xs)) n (ap (λ o. is_next symbol.Else o) (head symbol.Else xs ys v) ∙ same_refl symbol.Else)
 
 closed : (a : Action) (ts rest : List Terminal) → (ends_open a ≡ true → Not symbol.Else ts) → IsA symbol.Else ts rest → ends_open a ≡ false

@@ -71,12 +71,12 @@ Shut a ts = ends_open a ≡ true → Not symbol.Else ts
 shut : (a : Action) (ts : List Terminal) → Not symbol.Else ts → Shut a ts
 shut a ts n e = n
 
-false_true : (b : Bool) → b ≡ false → b ≡ true → ⊥
+pub false_true : (b : Bool) → b ≡ false → b ≡ true → ⊥
 false_true b e f = cc
 
 -- ---- statements by their forms
 
-finished : (ts : List Terminal) → Runs (task.Wrap ∷ task.Join ∷ []) ts ts ended_node
+pub finished : (ts : List Terminal) → Runs (task.Wrap ∷ task.Join ∷ []) ts ts ended_node
 finished ts = wrap ts ▸ join ts ▸ nothing ts
 
 -- the claim of a statement
@@ -158,7 +158,7 @@ good_if_else at c a b g h marks ts rest x s =
     ▸ token symbol.Else refl q.1 (good_marked b h q.0 rest q.2 s ▸ finished rest)
     ▸ nothing rest)
 
-name_run : (n : Identifier) (ts rest : List Terminal) → IsName n ts rest → Does task.Name ts rest same
+pub name_run : (n : Identifier) (ts rest : List Terminal) → IsName n ts rest → Does task.Name ts rest same
 unfolding same_symbol
 name_run n ts rest w = token symbol.Name refl (w.0, w.1, w.2.0) (nothing rest)
 
@@ -205,7 +205,7 @@ row_more a others g h ts mid rest w e =
     stay (begins_statements (symbol_at ts) (statement_begins a ts w.0 w.1)) (
     good_marked a g ts w.0 w.1 (shut a w.0 (row_shut others w.0 mid rest w.2 e)) ▸ h w.0 mid rest w.2 e ▸ nothing mid)
 
-label_run : (l : Option Identifier) (ts rest : List Terminal) → IsOptional IsLabel l ts rest → Not symbol.Colon rest → Does task.Label ts rest same
+pub label_run : (l : Option Identifier) (ts rest : List Terminal) → IsOptional IsLabel l ts rest → Not symbol.Colon rest → Does task.Label ts rest same
 unfolding same_symbol
 label_run None ts rest w n = subst (λ x. Does task.Label x rest same) (sym w) (left_out task.Label symbol.Colon (task.Name ∷ []) rest (λ o. refl) (λ d. refl) n)
 label_run (Some n) ts rest w m = token symbol.Colon refl w.1 (name_run n w.0 rest w.2 ▸ nothing rest)
@@ -251,7 +251,7 @@ no_more =
       first = λ ts mid rest w d e. absurd w;
     }
 
-labels_opens : (fs : List Formula) (ts rest : List Terminal) → AreListed IsExpression fs ts rest → Opens ts
+pub labels_opens : (fs : List Formula) (ts rest : List Terminal) → AreListed IsExpression fs ts rest → Opens ts
 labels_opens [] ts rest w = absurd w
 labels_opens (f ∷ fs) ts rest w = formula_opens f 12 ts w.0 w.1
 
@@ -267,7 +267,7 @@ labelled_part fs body others t g h ts mid rest w e =
     (closes_by symbol.Colon v.0 u.0 refl u.1) (apart symbol.Colon symbol.Comma v.0 u.0 refl u.1)
     ▹ expect symbol.Colon v.0 u.0 u.1 ▸ good_marked body g u.0 w.0 u.2 (shut body w.0 (branch_shut others w.0 mid rest w.2 e)) ▸ h w.0 mid rest w.2 e ▸ nothing mid
 
-colon_run : (ts rest : List Terminal) → IsDefaultEnd ts rest → Not symbol.Colon rest → Does task.DefaultColon ts rest same
+pub colon_run : (ts rest : List Terminal) → IsDefaultEnd ts rest → Not symbol.Colon rest → Does task.DefaultColon ts rest same
 unfolding same_symbol
 colon_run ts rest (inl w) n = subst (λ x. Does task.DefaultColon x rest same) (sym w) (left_out task.DefaultColon symbol.Colon [] rest (λ o. refl) (λ d. refl) n)
 colon_run ts rest (inr w) n = token symbol.Colon refl w (nothing rest)
@@ -349,5 +349,5 @@ mutual
   one_branch (Labelled labels body) others h = more_labelled labels body others (all body) h
   one_branch (Default at body) others h = more_default at body others (all body) h
 
-pub statement_runs : (a : Action) (ts rest : List Terminal) → IsStatement a ts rest → Not symbol.Else rest → Does task.Statement ts rest (grow (beside_action a))
-statement_runs a ts rest w n = good_marked a (all a) ts rest w (shut a rest n)
+pub statement_runs : (a : Action) (ts rest : List Terminal) → IsStatement a ts rest → Shut a rest → Does task.Statement ts rest (grow (beside_action a))
+statement_runs a ts rest w s = good_marked a (all a) ts rest w s

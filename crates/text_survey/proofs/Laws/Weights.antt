@@ -23,6 +23,8 @@ certain task.Statement = true
 certain task.Target = true
 certain task.Drive = true
 certain task.Item = true
+certain task.MarkedItem = true
+certain task.Made = true
 certain task.Module = true
 certain task.OutputOrInput = true
 certain other = false
@@ -38,6 +40,9 @@ weight task.OutputOrInput = 27
 weight task.AfterName = 14
 weight task.Parts = 3
 weight task.Else = 3
+weight task.Item = 2
+weight task.Made = 3
+weight task.MadeElse = 3
 weight task.Connections = 5
 weight task.Arguments = 3
 weight task.HeadParameter = 2
@@ -199,8 +204,38 @@ light_branches (Some other) = refl
 light_item : (o : Option Symbol) → Light task.Item o (rule task.Item o)
 unfolding Light light_by falls is_some certain weight slack sum slacks load token_weight
 light_item None = refl
-light_item (Some symbol.Name) = refl
+light_item (Some symbol.If) = refl
 light_item (Some other) = refl
+
+light_marked_item : (o : Option Symbol) → Light task.MarkedItem o (rule task.MarkedItem o)
+unfolding Light light_by falls is_some certain weight slack sum slacks load token_weight
+light_marked_item None = refl
+light_marked_item (Some symbol.Name) = refl
+light_marked_item (Some other) = refl
+
+light_made : (o : Option Symbol) → Light task.Made o (rule task.Made o)
+unfolding Light light_by falls is_some certain weight slack sum slacks load token_weight
+light_made None = refl
+light_made (Some symbol.Begin) = refl
+light_made (Some other) = refl
+
+light_made_else : (o : Option Symbol) → Light task.MadeElse o (rule task.MadeElse o)
+unfolding Light light_by falls is_some certain weight slack sum slacks load token_weight
+light_made_else None = refl
+light_made_else (Some symbol.Else) = refl
+light_made_else (Some other) = refl
+
+light_first_choice : (o : Option Symbol) → Light task.FirstChoice o (rule task.FirstChoice o)
+unfolding Light light_by falls is_some certain weight slack sum slacks load token_weight
+light_first_choice None = refl
+light_first_choice (Some symbol.Default) = refl
+light_first_choice (Some other) = refl
+
+light_choices : (o : Option Symbol) → Light task.Choices o (rule task.Choices o)
+unfolding Light light_by falls is_some certain weight slack sum slacks load token_weight
+light_choices None = refl
+light_choices (Some symbol.Default) = refl
+light_choices (Some other) = refl
 
 light_port_kind : (o : Option Symbol) → Light task.PortKind o (rule task.PortKind o)
 unfolding Light light_by falls is_some certain weight slack sum slacks load token_weight
@@ -375,6 +410,14 @@ light task.Nets o = light_optional task.Nets symbol.Comma o (task.Net ∷ task.N
 light task.Variable o = light_required task.Variable symbol.Name o (task.Initial ∷ []) refl
 light task.Variables o = light_optional task.Variables symbol.Comma o (task.Variable ∷ task.Variables ∷ []) refl refl
 light task.Item o = light_item o
+light task.MarkedItem o = light_marked_item o
+light task.RegionItems o = light_unless task.RegionItems symbol.Endgenerate o (task.Item ∷ task.RegionItems ∷ []) refl refl
+light task.BlockItems o = light_unless task.BlockItems symbol.End o (task.Item ∷ task.BlockItems ∷ []) refl refl
+light task.Made o = light_made o
+light task.MadeElse o = light_made_else o
+light task.FirstChoice o = light_first_choice o
+light task.Choices o = light_choices o
+light task.LabelledChoices o = light_unless task.LabelledChoices symbol.Endcase o (task.Expression ∷ task.Expressions ∷ task.Expect symbol.Colon ∷ task.Made ∷ task.LabelledChoices ∷ []) refl refl
 light task.Items o = light_unless task.Items symbol.Endmodule o (task.Item ∷ task.Items ∷ []) refl refl
 light task.Name o = light_required task.Name symbol.Name o [] refl
 light task.Names o = light_optional task.Names symbol.Comma o (task.Name ∷ task.Names ∷ []) refl refl
