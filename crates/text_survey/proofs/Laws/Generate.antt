@@ -5,9 +5,9 @@ use Rattle.rtl_tree.specs.declared.symbol.Symbol.TheVariants as symbol
 use Rattle.rtl_tree.specs.Symbols.{Terminal}
 use Rattle.rtl_tree.specs.TreeExpr.{Formula, Identifier}
 use Rattle.rtl_tree.specs.TreeWritten.{WrittenItem, Plain, Primitives, Genvars, Region, If, IfElse, Case, For, WrittenItems, no_items, more_items, GenerateBlock, Null, Single, Block, GenerateChoice, Labelled, Default, GenerateChoices, no_choices, more_choices}
-use Rattle.text_grammar.specs.Grammar.{Spelling, ◌⨾◌, IsA, IsName, AreListed}
+use Rattle.text_grammar.specs.Grammar.{Spelling, ◌⨾◌, IsA, IsName}
 use Rattle.text_grammar.specs.GrammarExpr.{IsExpression}
-use Rattle.text_grammar.specs.GrammarStmt.{Marked, AreAttributes}
+use Rattle.text_grammar.specs.GrammarStmt.{Marked}
 use Rattle.text_grammar.specs.GrammarItem.{IsItem}
 use Rattle.text_grammar.specs.GrammarGate.{gate_symbol}
 use Rattle.text_grammar.specs.GrammarWritten.{ends_open, block_ends_open, defaults, IsUnmarked, AreWritten, IsMade, IsChoice, AreChoices, AreMoreChoices, IsWritten}
