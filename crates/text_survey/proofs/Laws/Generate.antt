@@ -2,8 +2,11 @@
 use Rattle.std.proofs.Common.{◌≡◌, ℕ, ◌≤◌, Bool, true, false, List, [], ◌∷◌, Option, Some, None, refl, sym, ap, subst, ◌∙◌, arith}
 use Rattle.rtl_tree.specs.declared.symbol.Symbol.{Symbol}
 use Rattle.rtl_tree.specs.declared.symbol.Symbol.TheVariants as symbol
+use Rattle.rtl_tree.specs.declared.tree.gate.GateKind.{GateKind}
 use Rattle.rtl_tree.specs.Symbols.{Terminal}
 use Rattle.rtl_tree.specs.TreeExpr.{Formula, Identifier}
+use Rattle.rtl_tree.specs.TreeItem.{ModuleItem}
+use Rattle.rtl_tree.specs.TreeGate.{GatePause, Gate}
 use Rattle.rtl_tree.specs.TreeWritten.{WrittenItem, Plain, Primitives, Genvars, Region, If, IfElse, Case, For, WrittenItems, no_items, more_items, GenerateBlock, Null, Single, Block, GenerateChoice, Labelled, Default, GenerateChoices, no_choices, more_choices}
 use Rattle.text_grammar.specs.Grammar.{Spelling, ◌⨾◌, IsA, IsName}
 use Rattle.text_grammar.specs.GrammarExpr.{IsExpression}
@@ -115,7 +118,7 @@ opened p b ts rest w =
     let v = w.1 in
     marks_begin w.0 ts v.0 v.1 (b v.0 rest v.2)
 
-primitives_open : (at : ℕ) (k : _) (pause : _) (gates : _) → Opening (IsUnmarked (Primitives at k pause gates))
+primitives_open : (at : ℕ) (k : GateKind) (pause : Option GatePause) (gates : List Gate) → Opening (IsUnmarked (Primitives at k pause gates))
 unfolding Opening
 primitives_open at k pause gates ts rest w = begins_by (gate_symbol k) ts w.0 (begin_gate k) (w.1.0, w.1.1, w.1.2.0)
 
@@ -174,11 +177,11 @@ by_marks p g b ts rest w run =
     stay (marked_rule (symbol_at ts) (opened p b ts rest w)) (
     marked_run task.MarkedItem refl w.0 ts v.0 rest v.1 (grow g) (λ d. refl) (run v.0 v.2) ▸ nothing rest)
 
-good_plain : (item : _) → Good (Plain item)
+good_plain : (item : ModuleItem) → Good (Plain item)
 unfolding Good Shut Opening
 good_plain item ts rest w s = by_marks (IsItem item) (in_written (Plain item)) (item_begins item) ts rest w (λ mid v. item_run item mid rest v s)
 
-good_primitives : (at : ℕ) (k : _) (pause : _) (gates : _) → Good (Primitives at k pause gates)
+good_primitives : (at : ℕ) (k : GateKind) (pause : Option GatePause) (gates : List Gate) → Good (Primitives at k pause gates)
 unfolding Good
 good_primitives at k pause gates ts rest w s =
     by_marks (IsUnmarked (Primitives at k pause gates)) (in_written (Primitives at k pause gates)) (primitives_open at k pause gates) ts rest w (λ mid v. gates_run at k pause gates mid rest v)
