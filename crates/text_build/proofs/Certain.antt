@@ -10,7 +10,8 @@ use Rattle.rtl_tree.specs.Symbols.{Terminal}
 use Rattle.rtl_tree.specs.TreeExpr.{Formula}
 use Rattle.rtl_tree.specs.TreeStmt.{Action, Null, Delayed, Assign, If, IfElse, Case, For, Block, Actions, no_actions, more_actions, Branch, Labelled, Default, Branches, no_branches, more_branches}
 use Rattle.rtl_tree.specs.TreeItem.{Association, ByPosition, ByName, ModuleItem, Ports, Nets, Variables, Integers, Parameters, Drives, Gates, Always, Instances}
-use Rattle.rtl_tree.specs.TreeWritten.{WrittenItem, Plain, Primitives}
+use Rattle.rtl_tree.specs.TreeWritten.{WrittenItem, Plain, Primitives, Genvars, Region}
+use Rattle.rtl_tree.specs.TreeWritten as generate
 use Rattle.rtl_tree.specs.TreeModule.{HeaderParameter, Heading, WrittenCircuit}
 use Rattle.text_grammar.specs.Depth.{depth, greatest}
 use Rattle.text_grammar.specs.GrammarStmt.{defaults}
@@ -112,6 +113,12 @@ written : (i : WrittenItem) → is_proper_written i ≡ true → IsProperWritten
 written (Plain i) e = item i e
 written (Primitives at kind pause gates) e =
     each (is_proper_gate (has_one_input kind)) (IsProperGate (has_one_input kind)) (λ g k. terminals (has_one_input kind) g.terminals k) gates e
+written (Genvars at names) e = tt
+written (Region at items) e = absurd (cc)
+written (generate.If at condition taken) e = absurd (cc)
+written (generate.IfElse at condition taken otherwise) e = absurd (cc)
+written (generate.Case at selector choices) e = absurd (cc)
+written (generate.For at index start condition stepped step body) e = absurd (cc)
 
 there : (o : Option Heading) → has_heading o ≡ true → IsThere o
 there None e = absurd (cc)

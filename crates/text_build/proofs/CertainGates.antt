@@ -9,7 +9,8 @@ use Rattle.rtl_tree.specs.TreeStmt.{Span}
 use Rattle.text_grammar.specs.Grammar.{IsName}
 use Rattle.text_grammar.specs.GrammarExpr.{IsExpression}
 use Rattle.text_grammar.specs.GrammarStmt.{IsSpan}
-use Rattle.text_grammar.specs.GrammarGate.{gate_symbol, has_one_input, IsGateSpan, IsGatePause, IsGate, IsWritten}
+use Rattle.text_grammar.specs.GrammarGate.{gate_symbol, has_one_input, IsGateSpan, IsGatePause, IsGate}
+use Rattle.text_grammar.specs.GrammarWritten.{IsUnmarked}
 use Rattle.text_build.specs.Reading.{Parser, symbol_at, name, listed}
 use Rattle.text_build.specs.ReadingStmt.{fixed, named, target}
 use Rattle.text_build.specs.ReadingItem.{any_expression}
@@ -79,7 +80,7 @@ gate_gives d k ts pl =
       given = (λ p. (p, (m, w.0, (v.0.0, v.0.1, (m1, v.0.2, (u.0.0, u.0.1, (m2, u.0.2, z.0)))))), z.1);
     }))))
 
-pub gates_give : (d : ℕ) (k : GateKind) (ts : List Terminal) → IsPlain ts → symbol_at ts ≡ Some (gate_symbol k) → Gives (gates d k ts) (λ i rest. If IsProperWritten IsWritten i ts rest × IsPlain rest)
+pub gates_give : (d : ℕ) (k : GateKind) (ts : List Terminal) → IsPlain ts → symbol_at ts ≡ Some (gate_symbol k) → Gives (gates d k ts) (λ i rest. If IsProperWritten IsUnmarked i ts rest × IsPlain rest)
 unfolding gates
 gates_give d k ts pl h =
     bind (next_gives (gate_symbol k) ts pl h)

@@ -1,21 +1,20 @@
 -- Items, if they are proper.
-use Rattle.std.proofs.Common.{◌≡◌, ℕ, List, [], ◌∷◌, Option, None, Some, refl, sym, ap, subst, ◌∙◌}
+use Rattle.std.proofs.Common.{◌≡◌, ℕ, List, [], ◌∷◌, Option, None, Some, refl, ap, ◌∙◌}
 use Rattle.rtl_tree.specs.declared.symbol.Symbol.{Symbol}
 use Rattle.rtl_tree.specs.declared.symbol.Symbol.TheVariants as symbol
 use Rattle.rtl_tree.specs.declared.tree.item.ParameterKind.TheVariants as parameter
 use Rattle.rtl_tree.specs.declared.tree.gate.GateKind.{GateKind}
 use Rattle.rtl_tree.specs.Symbols.{Terminal}
 use Rattle.text_grammar.specs.GrammarItem.{IsItem}
-use Rattle.text_grammar.specs.GrammarGate.{gate_symbol, IsWritten, IsMarkedItem}
-use Rattle.text_build.specs.Reading.{and_then, symbol_at}
+use Rattle.text_grammar.specs.GrammarGate.{gate_symbol}
+use Rattle.text_grammar.specs.GrammarWritten.{IsUnmarked}
+use Rattle.text_build.specs.Reading.{symbol_at}
 use Rattle.text_build.specs.ReadingItem.{sensitivity, always, item_by, item_after}
 use Rattle.text_build.specs.ReadingGate.{gate_of, plain_item, written_by, written_after}
-use Rattle.text_build.specs.ReadingModule.{item}
 use Rattle.text_build.specs.Sound.{IsPlain}
 use Rattle.text_build.specs.ProperModule.{IsProperItem, IsProperWritten}
 use Rattle.text_build.proofs.Gives.{Gives, Sound, bind, weaken, behind, next_gives}
 use Rattle.text_build.proofs.Each.{If}
-use Rattle.text_build.proofs.CertainTargets.{no_attributes}
 use Rattle.text_build.proofs.Stmts.{statement_gives}
 use Rattle.text_build.proofs.Events.{sensitivity_gives}
 use Rattle.text_build.proofs.Arguments.{instances_give}
@@ -64,23 +63,17 @@ kind_is symbol.Buf = refl
 kind_is symbol.Not = refl
 kind_is s = tt
 
-plain_gives : (d : ℕ) → Sound (plain_item d) (If IsProperWritten IsWritten)
+plain_gives : (d : ℕ) → Sound (plain_item d) (If IsProperWritten IsUnmarked)
 unfolding plain_item
 plain_gives d ts pl = bind (item_after_gives d ts pl) (λ i m w. record { given = w })
 
 written_from : (d : ℕ) (o : Option GateKind) (s : Symbol) → IsOf o s → (ts : List Terminal) → IsPlain ts → symbol_at ts ≡ Some s
-    → Gives (written_by d o ts) (λ i rest. If IsProperWritten IsWritten i ts rest × IsPlain rest)
+    → Gives (written_by d o ts) (λ i rest. If IsProperWritten IsUnmarked i ts rest × IsPlain rest)
 written_from d None s i ts pl h = plain_gives d ts pl
 written_from d (Some k) s i ts pl h = gates_give d k ts pl (h ∙ ap (λ x. Some x) i)
 
-written_gives : (d : ℕ) → Sound (written_after d) (If IsProperWritten IsWritten)
+-- an item that stands for itself or gates, after no attributes
+pub written_gives : (d : ℕ) → Sound (written_after d) (If IsProperWritten IsUnmarked)
 unfolding written_after
 written_gives d [] pl = plain_gives d [] pl
 written_gives d (t ∷ ts) pl = written_from d (gate_of t.symbol) t.symbol (kind_is t.symbol) (t ∷ ts) pl refl
-
--- an item with no attributes before it
-pub item_gives : (d : ℕ) → Sound (item d) (If IsProperWritten IsMarkedItem)
-unfolding item
-item_gives d ts pl =
-    subst (λ o. Gives (and_then o (λ marks. written_after d)) (λ i rest. If IsProperWritten IsMarkedItem i ts rest × IsPlain rest)) (sym (no_attributes ts pl))
-    (weaken (written_gives d ts pl) (λ i rest w. (λ p. ([], (ts, refl, w.0 p)), w.1)))

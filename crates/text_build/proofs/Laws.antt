@@ -17,4 +17,5 @@ pub mod Arguments
 pub mod Items
 pub mod Gates
 pub mod Written
+pub mod Generate
 pub mod Modules

@@ -4,6 +4,7 @@ pub mod Steps
 pub mod ExprSteps
 pub mod StmtSteps
 pub mod ItemSteps
+pub mod GenerateSteps
 pub mod Laws
 mod Gives
 mod Lists
@@ -19,6 +20,7 @@ mod Arguments
 mod Heads
 mod CertainGates
 mod Items
+mod CertainGenerate
 mod Headers
 pub mod CertainModules
 pub mod Shallow

@@ -5,11 +5,12 @@ use Rattle.rtl_tree.specs.TreeExpr.{Formula, Number, Read, ReadBit, ReadPart, Pa
 use Rattle.rtl_tree.specs.TreeStmt.{Target, Whole, Bit, Part, Joined, Targets, no_targets, more_targets, Span, Fixed, Named, Valued, Pause, Action, Null, Delayed, Assign, If, IfElse, Case, For, Block, Actions, no_actions, more_actions, Branch, Labelled, Default, Branches, no_branches, more_branches, target_place}
 use Rattle.rtl_tree.specs.TreeItem.{Head, Drive, GateDrive, Happening, Edge, Change, ChangeBit, ChangePart, Sensitivity, Star, StarInParens, Listed, Association, ByPosition, ByName, ModuleItem, Ports, Nets, Variables, Integers, Parameters, Drives, Gates, Always, Instances}
 use Rattle.rtl_tree.specs.TreeGate.{GateSpan, One, Two, GatePause, Gate}
-use Rattle.rtl_tree.specs.TreeWritten.{WrittenItem, Plain, Primitives}
+use Rattle.rtl_tree.specs.TreeWritten.{WrittenItem, Plain, Primitives, Genvars, Region, WrittenItems, no_items, more_items, GenerateBlock, Single, GenerateChoice, GenerateChoices, no_choices, more_choices}
+use Rattle.rtl_tree.specs.TreeWritten as generate
 use Rattle.rtl_tree.specs.TreeModule.{HeaderParameter, Header, Absent, Empty, Declared, WrittenCircuit}
 use Rattle.rtl_tree.specs.TreeModule as modules
-use Rattle.text_grammar.specs.Deeper.{of_any, here, formula_deeper, formulas_deeper, bounds_deeper, target_deeper, targets_deeper, span_deeper, pause_deeper, action_deeper, actions_deeper, branch_deeper, branches_deeper, head_deeper, net_deeper, valuation_deeper, drive_deeper, gate_drive_deeper, happening_deeper, sensitivity_deeper, positional_deeper, associated_deeper, association_deeper, instantiation_deeper, item_deeper, gate_span_deeper, gate_pause_deeper, gate_deeper, written_deeper, header_parameter_deeper, header_port_deeper, header_deeper, deeper, too_deep}
-use Rattle.text_grammar.specs.Depth.{greatest, if_any, formula_depth, formulas_depth, bounds_depth, target_depth, targets_depth, span_depth, pause_depth, action_depth, actions_depth, branch_depth, branches_depth, head_depth, net_depth, valuation_depth, drive_depth, gate_drive_depth, happening_depth, sensitivity_depth, positional_depth, associated_depth, association_depth, instantiation_depth, item_depth, gate_span_depth, gate_pause_depth, gate_depth, written_depth, header_parameter_depth, header_port_depth, header_depth, depth}
+use Rattle.text_grammar.specs.Deeper.{of_any, here, formula_deeper, formulas_deeper, bounds_deeper, target_deeper, targets_deeper, span_deeper, pause_deeper, action_deeper, actions_deeper, branch_deeper, branches_deeper, head_deeper, net_deeper, valuation_deeper, drive_deeper, gate_drive_deeper, happening_deeper, sensitivity_deeper, positional_deeper, associated_deeper, association_deeper, instantiation_deeper, item_deeper, gate_span_deeper, gate_pause_deeper, gate_deeper, written_deeper, written_items_deeper, made_deeper, choice_deeper, choices_deeper, header_parameter_deeper, header_port_deeper, header_deeper, deeper, too_deep}
+use Rattle.text_grammar.specs.Depth.{greatest, if_any, formula_depth, formulas_depth, bounds_depth, target_depth, targets_depth, span_depth, pause_depth, action_depth, actions_depth, branch_depth, branches_depth, head_depth, net_depth, valuation_depth, drive_depth, gate_drive_depth, happening_depth, sensitivity_depth, positional_depth, associated_depth, association_depth, instantiation_depth, item_depth, gate_span_depth, gate_pause_depth, gate_depth, written_depth, written_items_depth, made_depth, choice_depth, choices_depth, header_parameter_depth, header_port_depth, header_depth, depth}
 use Rattle.text_grammar.specs.declared.nesting.TheConstants.{MAX_NESTING}
 
 -- parts without places make a whole without
@@ -155,9 +156,39 @@ gate_pauses o k e = of_option (gate_pause_deeper k) gate_pause_depth k (λ p h. 
 gate : (g : Gate) (k : ℕ) → gate_depth g ≤ k → gate_deeper k g ≡ []
 gate g k e = join (target g.output k (omega (arith, e))) (of_list (formula_deeper k) formula_depth k (λ f h. formula f k h) g.terminals (omega (arith, e)))
 
-written : (i : WrittenItem) (k : ℕ) → written_depth i ≤ k → written_deeper k i ≡ []
-written (Plain i) k e = item i k e
-written (Primitives at kind p gates) k e = join (gate_pauses p k (omega (arith, e))) (of_list (gate_deeper k) gate_depth k (λ g h. gate g k h) gates (omega (arith, e)))
+mutual
+  written : (i : WrittenItem) (k : ℕ) → written_depth i ≤ k → written_deeper k i ≡ []
+  written (Plain i) k e = item i k e
+  written (Primitives at kind p gates) k e = join (gate_pauses p k (omega (arith, e))) (of_list (gate_deeper k) gate_depth k (λ g h. gate g k h) gates (omega (arith, e)))
+  written (Genvars at names) k e = refl
+  written (Region at items) k e = join (none k at (omega (arith, e))) (written_all items (k - 1) (omega (arith, e)))
+  written (generate.If at c a) k e = join (join (none k at (omega (arith, e))) (formula c (k - 1) (omega (arith, e)))) (made a (k - 1) (omega (arith, e)))
+  written (generate.IfElse at c a b) k e =
+      join (join (join (none k at (omega (arith, e))) (formula c (k - 1) (omega (arith, e)))) (made a (k - 1) (omega (arith, e)))) (made b (k - 1) (omega (arith, e)))
+  written (generate.Case at selector all) k e =
+      join (join (none k at (omega (arith, e))) (formula selector (k - 1) (omega (arith, e)))) (choices all (k - 1) (omega (arith, e)))
+  written (generate.For at i start c j step body) k e =
+      join
+      (join (join (join (none k at (omega (arith, e))) (formula start (k - 1) (omega (arith, e)))) (formula c (k - 1) (omega (arith, e)))) (formula step (k - 1) (omega (arith, e))))
+      (made body (k - 1) (omega (arith, e)))
+
+  written_all : (all : WrittenItems) (k : ℕ) → written_items_depth all ≤ k → written_items_deeper k all ≡ []
+  written_all no_items k e = refl
+  written_all (more_items i others) k e = join (written i k (omega (arith, e))) (written_all others k (omega (arith, e)))
+
+  made : (b : GenerateBlock) (k : ℕ) → made_depth b ≤ k → made_deeper k b ≡ []
+  made (generate.Null at) k e = none k at e
+  made (Single i) k e = written i k e
+  made (generate.Block at l items) k e = join (none k at (omega (arith, e))) (written_all items (k - 1) (omega (arith, e)))
+
+  choice : (c : GenerateChoice) (k : ℕ) → choice_depth c ≤ k → choice_deeper k c ≡ []
+  choice (generate.Labelled labels body) k e =
+      join (of_list (formula_deeper k) formula_depth k (λ f h. formula f k h) labels (omega (arith, e))) (made body k (omega (arith, e)))
+  choice (generate.Default at body) k e = made body k e
+
+  choices : (all : GenerateChoices) (k : ℕ) → choices_depth all ≤ k → choices_deeper k all ≡ []
+  choices no_choices k e = refl
+  choices (more_choices c others) k e = join (choice c k (omega (arith, e))) (choices others k (omega (arith, e)))
 
 parameter : (p : HeaderParameter) (k : ℕ) → header_parameter_depth p ≤ k → header_parameter_deeper k p ≡ []
 parameter p k e =

@@ -63,7 +63,7 @@ unfolding assignment_kind
 kind_gives [] pl = record { given = tt }
 kind_gives (t ∷ ts) pl = kind_from t.symbol (t ∷ ts) pl refl
 
-default_by : (ts : List Terminal) → IsPlain ts → (o : Bool) → starts symbol.Colon ts ≡ o → IsDefaultEnd ts (after symbol.Colon ts) × IsPlain (after symbol.Colon ts)
+pub default_by : (ts : List Terminal) → IsPlain ts → (o : Bool) → starts symbol.Colon ts ≡ o → IsDefaultEnd ts (after symbol.Colon ts) × IsPlain (after symbol.Colon ts)
 default_by ts pl true e = let q = after_found symbol.Colon ts pl e in (inr q.0, q.1)
 default_by ts pl false e = (inl (sym (after_not symbol.Colon ts e)), subst IsPlain (sym (after_not symbol.Colon ts e)) pl)
 

@@ -3,6 +3,7 @@ pub mod ReadingExpr
 pub mod ReadingStmt
 pub mod ReadingItem
 pub mod ReadingGate
+pub mod ReadingGenerate
 pub mod ReadingModule
 pub mod References
 pub mod Built

@@ -3,7 +3,7 @@
 use Rattle.std.specs.Prelude.{◌≡◌, Bool, false, List, [], ◌∷◌}
 use Rattle.rtl_tree.specs.TreeItem.{Association, ByPosition, ByName, Variable, ModuleItem, Ports, Nets, Variables, Integers, Parameters, Drives, Gates, Always, Instances}
 use Rattle.rtl_tree.specs.TreeGate.{Gate}
-use Rattle.rtl_tree.specs.TreeWritten.{WrittenItem, Plain, Primitives}
+use Rattle.rtl_tree.specs.TreeWritten.{WrittenItem, Plain, Primitives, Genvars, Region, If, IfElse, Case, For}
 use Rattle.rtl_tree.specs.TreeModule.{HeaderParameter, WrittenCircuit}
 use Rattle.text_grammar.specs.GrammarItem.{IsMoreThanEmpty}
 use Rattle.text_grammar.specs.GrammarGate.{has_one_input, AreTerminals}
@@ -41,9 +41,16 @@ IsProperItem (Instances child parameters instantiations) = AreProperArguments pa
 abbrev pub IsProperGate : Bool → Gate → Type 0
 IsProperGate one gate = AreTerminals one gate.terminals
 
+-- no construct, as its parts aren't told of
 abbrev pub IsProperWritten : WrittenItem → Type 0
 IsProperWritten (Plain item) = IsProperItem item
 IsProperWritten (Primitives at kind pause gates) = Each (IsProperGate (has_one_input kind)) gates
+IsProperWritten (Genvars at names) = Unit {0}
+IsProperWritten (Region at items) = ⊥
+IsProperWritten (If at condition taken) = ⊥
+IsProperWritten (IfElse at condition taken otherwise) = ⊥
+IsProperWritten (Case at selector choices) = ⊥
+IsProperWritten (For at index start condition stepped step body) = ⊥
 
 -- the first parameter in the head of a module stands after `parameter`
 abbrev pub AreProperParameters : List HeaderParameter → Type 0

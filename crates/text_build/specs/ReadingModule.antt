@@ -12,10 +12,11 @@ use Rattle.text_grammar.specs.GrammarModule.{is_between}
 use Rattle.text_build.specs.Reading.{Parser, ◌>>=◌, ◌>>◌, pure, starts, advance, mark, name, either, optional, add, repeat, until, listed}
 use Rattle.text_build.specs.ReadingStmt.{attributes}
 use Rattle.text_build.specs.ReadingItem.{range, value, port_head}
-use Rattle.text_build.specs.ReadingGate.{written_after}
+use Rattle.text_build.specs.ReadingGenerate as generate
 
-unfoldable pub item : ℕ → Parser WrittenItem
-item d = attributes >> written_after d
+-- an item, in which nothing is nested more than `d` deep
+abbrev pub item : ℕ → Parser WrittenItem
+item d = generate.item d d
 
 unfoldable pub heading : ℕ → Parser Heading
 heading d = advance >>= (λ at. range d >>= (λ b. pure (record { at = at; bounds = b })))

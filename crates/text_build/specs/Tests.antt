@@ -6,7 +6,8 @@ use Rattle.rtl_tree.specs.TreeExpr.{Formula}
 use Rattle.rtl_tree.specs.TreeStmt.{Action, Null, Delayed, Assign, If, IfElse, Case, For, Block, Actions, no_actions, more_actions, Branch, Labelled, Default, Branches, no_branches, more_branches}
 use Rattle.rtl_tree.specs.TreeItem.{Association, ByPosition, ByName, Variable, ModuleItem, Ports, Nets, Variables, Integers, Parameters, Drives, Gates, Always, Instances}
 use Rattle.rtl_tree.specs.TreeGate.{Gate}
-use Rattle.rtl_tree.specs.TreeWritten.{WrittenItem, Plain, Primitives}
+use Rattle.rtl_tree.specs.TreeWritten.{WrittenItem, Plain, Primitives, Genvars, Region}
+use Rattle.rtl_tree.specs.TreeWritten as generate
 use Rattle.rtl_tree.specs.TreeModule.{HeaderParameter, Heading, WrittenCircuit}
 use Rattle.text_grammar.specs.GrammarStmt.{defaults}
 use Rattle.text_grammar.specs.GrammarGate.{has_one_input, is_named}
@@ -79,9 +80,16 @@ are_terminals true (output ∷ next ∷ others) = is_named output && are_termina
 abbrev pub is_proper_gate : Bool → Gate → Bool
 is_proper_gate one gate = are_terminals one gate.terminals
 
+-- no construct, as its parts aren't tested
 abbrev pub is_proper_written : WrittenItem → Bool
 is_proper_written (Plain item) = is_proper_item item
 is_proper_written (Primitives at kind pause gates) = list_all (is_proper_gate (has_one_input kind)) gates
+is_proper_written (Genvars at names) = true
+is_proper_written (Region at items) = false
+is_proper_written (generate.If at condition taken) = false
+is_proper_written (generate.IfElse at condition taken otherwise) = false
+is_proper_written (generate.Case at selector choices) = false
+is_proper_written (generate.For at index start condition stepped step body) = false
 
 abbrev pub has_heading : Option Heading → Bool
 has_heading None = false

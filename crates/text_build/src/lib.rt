@@ -8,6 +8,7 @@ mod declarations;
 mod expression;
 mod fault;
 mod gates;
+mod generate;
 mod instances;
 pub mod law;
 mod modules;

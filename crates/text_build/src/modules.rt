@@ -17,34 +17,18 @@ use crate::cursor::Cursor;
 use crate::fault::BuildFault;
 use crate::regions::Regions;
 use rtl_tree::symbol::Symbol;
-use rtl_tree::tree::written::WrittenItem;
 use rtl_tree::tree::item::PortHead;
 use rtl_tree::tree::modules::{HeadParameter, HeadPort, ParameterHead, PortList, WrittenModule};
+use rtl_tree::tree::written::WrittenItem;
+use text_grammar::nesting::MAX_NESTING;
 
 impl<'a> Cursor<'a> {
-    #[tactic(auto, unfolding(crate::specs::ReadingModule::item))]
-    fn item(&mut self) -> Result<WrittenItem, BuildFault>
-        ensures { Reads written_item (reading.item MAX_NESTING (map terminal self.old.rest.now))
-            result (map terminal self.new.rest.now) }
-    {
-        self.attributes()?;
-        self.written_after()
-    }
-
     fn items(&mut self) -> Result<Vec<WrittenItem>, BuildFault>
         ensures { Reads (λ all. map written_item all.items)
             (generic.until symbol.Endmodule (reading.item MAX_NESTING)
             (map terminal self.old.rest.now)) result (map terminal self.new.rest.now) }
     {
-        let mut all = Vec::new(self.alloc);
-        // Each turn takes a token, so these are enough.
-        for _turn in 0..self.rest.len() {
-            if self.is_next(Symbol::Endmodule) {
-                return Ok(all);
-            }
-            all.push(self.item()?)?;
-        }
-        Ok(all)
+        self.items_before(Symbol::Endmodule, MAX_NESTING)
     }
 
     #[tactic(auto, unfolding(crate::specs::ReadingModule::heading))]

@@ -199,6 +199,13 @@ fn is_proper_written(item: &WrittenItem) -> bool
     match item {
         WrittenItem::Plain(item) => is_proper_item(item),
         WrittenItem::Gates { kind, gates, .. } => are_proper_gates(has_one_input(*kind), gates),
+        WrittenItem::Genvars(_, _) => true,
+        // Whether constructs are spelled so is left to the survey.
+        WrittenItem::Region(_, _)
+        | WrittenItem::If(_, _, _)
+        | WrittenItem::IfElse(_, _, _, _)
+        | WrittenItem::Case(_, _, _)
+        | WrittenItem::For { .. } => false,
     }
 }
 
@@ -233,7 +240,7 @@ fn is_proper_module(written: &WrittenModule) -> bool
 
 /// Whether modules hold nothing that the builder reads and no text may have: an initial value, a `case` without items or with two
 /// defaults, one empty parameter of an instance, a first parameter without `parameter`, a further output of a gate that is no
-/// name, or what is nested more than 200 deep.
+/// name, or what is nested more than 200 deep; nor a generate construct.
 pub fn are_proper(modules: &[WrittenModule]) -> bool
     ensures { result ≡ list_all is_proper_circuit (map written_circuit modules.now) }
 {

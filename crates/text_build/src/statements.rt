@@ -270,7 +270,7 @@ impl<'a> Cursor<'a> {
 
     /// `name = value` in the head of a `for`.
     #[tactic(auto, unfolding(crate::specs::ReadingStmt::step_of))]
-    fn step(&mut self, depth: u32) -> Result<Step, BuildFault>
+    pub(crate) fn step(&mut self, depth: u32) -> Result<Step, BuildFault>
         ensures { Reads step (reading.step_of (expression depth) (map terminal self.old.rest.now))
             result (map terminal self.new.rest.now) }
     {
@@ -316,7 +316,7 @@ impl<'a> Cursor<'a> {
     }
 
     #[tactic(auto, unfolding(crate::specs::Reading::optional, crate::specs::Reading::either))]
-    fn optional_label(&mut self) -> Result<Option<Name>, BuildFault>
+    pub(crate) fn optional_label(&mut self) -> Result<Option<Name>, BuildFault>
         ensures { Reads (λ l. option_map identifier l)
             (generic.optional symbol.Colon reading.label (map terminal self.old.rest.now)) result
             (map terminal self.new.rest.now) }

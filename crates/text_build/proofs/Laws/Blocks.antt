@@ -25,8 +25,26 @@ use Rattle.text_build.proofs.Laws.Targets.{IsWhole, target_again}
 use Rattle.text_build.proofs.Laws.Openings.{is_action, is_statement, is_branch, action_opens, statement_opens, listed_opens, branch_opens, statement_shorter, branch_consumes}
 use Rattle.text_build.proofs.Laws.Statements.{Closed, NoElse, Within, closed, no_else_is, assign_again, null_again, delayed_again, if_again, else_again}
 
-comma_stops : (ts mid : List Terminal) → IsA symbol.Comma ts mid → Stops 12 ts
+pub comma_stops : (ts mid : List Terminal) → IsA symbol.Comma ts mid → Stops 12 ts
 comma_stops ts mid w = stop_stops symbol.Comma ts mid refl w
+
+-- ---- parts that generate constructs have, too
+
+pub label_again : (l : Option Identifier) (ts mid : List Terminal) → IsOptional IsLabel l ts mid → starts symbol.Colon mid ≡ false → optional symbol.Colon label ts ≡ Some (l, mid)
+unfolding label
+label_again None ts mid w h = optional_absent symbol.Colon label ts (ap (starts symbol.Colon) w ∙ h) ∙ ap (λ x. Some (None, x)) w
+label_again (Some n) ts mid w h =
+    optional_there symbol.Colon label n ts mid (starts_is symbol.Colon ts w.0 w.1.0 w.1.1 w.1.2) (advance_then symbol.Colon name ts w.0 w.1 ∙ name_again n w.0 mid w.2)
+
+module _ (d : ℕ) (e : Parser Formula) (c : Entire d e) where
+  pub step_again : (n : Identifier) (f : Formula) (o : Symbol) (ts mid rest : List Terminal) → (IsName n ⨾ IsA symbol.Equals ⨾ IsExpression f) ts mid → IsA o mid rest → is_stop o ≡ true → formula_depth f ≤ d
+      → step_of e ts ≡ Some ((n, f), mid)
+  unfolding step_of
+  step_again n f o ts mid rest w m k h =
+      let a = w.2 in
+      bind (name ts) (λ x. mark symbol.Equals >> e >>= (λ y. pure (x, y))) n w.0 (name_again n ts w.0 w.1)
+      ∙ ap (λ q. and_then q (λ y. pure (n, y))) (mark_then symbol.Equals e w.0 a.0 a.1)
+      ∙ before d e c o (λ y. pure (n, y)) f a.0 mid rest a.2 h k m
 
 module _ (d : ℕ) (e : Parser Formula) (c : Entire d e) (s : Parser Action) (i : Within d s) where
   -- ---- items of a case
@@ -131,15 +149,6 @@ module _ (d : ℕ) (e : Parser Formula) (c : Entire d e) (s : Parser Action) (i 
 
   -- ---- loops
 
-  step_again : (n : Identifier) (f : Formula) (o : Symbol) (ts mid rest : List Terminal) → (IsName n ⨾ IsA symbol.Equals ⨾ IsExpression f) ts mid → IsA o mid rest → is_stop o ≡ true → formula_depth f ≤ d
-      → step_of e ts ≡ Some ((n, f), mid)
-  unfolding step_of
-  step_again n f o ts mid rest w m k h =
-      let a = w.2 in
-      bind (name ts) (λ x. mark symbol.Equals >> e >>= (λ y. pure (x, y))) n w.0 (name_again n ts w.0 w.1)
-      ∙ ap (λ q. and_then q (λ y. pure (n, y))) (mark_then symbol.Equals e w.0 a.0 a.1)
-      ∙ before d e c o (λ y. pure (n, y)) f a.0 mid rest a.2 h k m
-
   for_again : (at : ℕ) (n : Identifier) (x y : Formula) (m : Identifier) (z : Formula) (body : Action) (ts rest : List Terminal)
       → (IsAt symbol.For at ⨾ IsA symbol.OpenParen ⨾ IsName n ⨾ IsA symbol.Equals ⨾ IsExpression x ⨾ IsA symbol.Semicolon ⨾ IsExpression y ⨾ IsA symbol.Semicolon ⨾ IsName m ⨾ IsA symbol.Equals ⨾ IsExpression z ⨾ IsA symbol.CloseParen ⨾ IsStatement body) ts rest
       → formula_depth x ≤ d → formula_depth y ≤ d → formula_depth z ≤ d → action_depth body ≤ d → Closed body rest → loop_of e s ts ≡ Some (For at n x y m z body, rest)
@@ -159,21 +168,15 @@ module _ (d : ℕ) (e : Parser Formula) (c : Entire d e) (s : Parser Action) (i 
       bind (advance ts) (λ at. mark symbol.OpenParen >> step_of e >>= (λ first. mark symbol.Semicolon >> e >>= (λ condition. mark symbol.Semicolon >> step_of e >>= (λ next. mark symbol.CloseParen >> s >>= (λ body. pure (For at first.0 first.1 condition next.0 next.1 body))))))
       at w.0 (advance_at symbol.For at ts w.0 w.1)
       ∙ ap (λ o. and_then o (λ first. mark symbol.Semicolon >> e >>= (λ condition. mark symbol.Semicolon >> step_of e >>= (λ next. mark symbol.CloseParen >> s >>= (λ body. pure (For at first.0 first.1 condition next.0 next.1 body))))))
-      (mark_then symbol.OpenParen (step_of e) w.0 a.0 a.1 ∙ step_again n x symbol.Semicolon a.0 g.0 h.0 (b.0, b.1, (f.0, f.1, g.1)) h.1 refl hx)
+      (mark_then symbol.OpenParen (step_of e) w.0 a.0 a.1 ∙ step_again d e c n x symbol.Semicolon a.0 g.0 h.0 (b.0, b.1, (f.0, f.1, g.1)) h.1 refl hx)
       ∙ ap (λ o. and_then o (λ condition. mark symbol.Semicolon >> step_of e >>= (λ next. mark symbol.CloseParen >> s >>= (λ body. pure (For at n x condition next.0 next.1 body))))) (mark_then symbol.Semicolon e g.0 h.0 h.1)
       ∙ before d e c symbol.Semicolon (λ condition. mark symbol.Semicolon >> step_of e >>= (λ next. mark symbol.CloseParen >> s >>= (λ body. pure (For at n x condition next.0 next.1 body)))) y h.0 j.0 k.0 j.1 hy refl k.1
       ∙ ap (λ o. and_then o (λ next. mark symbol.CloseParen >> s >>= (λ body. pure (For at n x y next.0 next.1 body))))
-      (mark_then symbol.Semicolon (step_of e) j.0 k.0 k.1 ∙ step_again m z symbol.CloseParen k.0 q.0 r.0 (l.0, l.1, (p.0, p.1, q.1)) r.1 refl hz)
+      (mark_then symbol.Semicolon (step_of e) j.0 k.0 k.1 ∙ step_again d e c m z symbol.CloseParen k.0 q.0 r.0 (l.0, l.1, (p.0, p.1, q.1)) r.1 refl hz)
       ∙ ap (λ o. and_then o (λ body. pure (For at n x y m z body))) (mark_then symbol.CloseParen s q.0 r.0 r.1)
       ∙ bind (s r.0) (λ body. pure (For at n x y m z body)) body rest (i body r.0 rest r.2 hb o)
 
   -- ---- blocks
-
-  label_again : (l : Option Identifier) (ts mid : List Terminal) → IsOptional IsLabel l ts mid → starts symbol.Colon mid ≡ false → optional symbol.Colon label ts ≡ Some (l, mid)
-  unfolding label
-  label_again None ts mid w h = optional_absent symbol.Colon label ts (ap (starts symbol.Colon) w ∙ h) ∙ ap (λ x. Some (None, x)) w
-  label_again (Some n) ts mid w h =
-      optional_there symbol.Colon label n ts mid (starts_is symbol.Colon ts w.0 w.1.0 w.1.1 w.1.2) (advance_then symbol.Colon name ts w.0 w.1 ∙ name_again n w.0 mid w.2)
 
   abbrev ActionRow : List Action → List Terminal → List Terminal → Type 0
   ActionRow all = AreStatements (action_row all)

@@ -12,7 +12,8 @@ use Rattle.rtl_tree.specs.TreeWritten.{Primitives}
 use Rattle.text_grammar.specs.Depth.{greatest, if_any, formula_depth, gate_span_depth, gate_pause_depth, gate_depth, written_depth}
 use Rattle.text_grammar.specs.Grammar.{IsA, IsName, IsOptional, AreListed}
 use Rattle.text_grammar.specs.GrammarExpr.{IsExpression}
-use Rattle.text_grammar.specs.GrammarGate.{gate_symbol, IsGateSpan, IsGatePause, IsGate, IsWritten}
+use Rattle.text_grammar.specs.GrammarGate.{gate_symbol, IsGateSpan, IsGatePause, IsGate}
+use Rattle.text_grammar.specs.GrammarWritten.{IsUnmarked}
 use Rattle.text_build.specs.Reading.{Parser, and_then, ◌>>=◌, ◌>>◌, pure, same_symbol, starts, name, literal, advance, mark, either, optional, listed}
 use Rattle.text_build.specs.ReadingStmt.{fixed, named, target}
 use Rattle.text_build.specs.ReadingItem.{any_expression}
@@ -153,7 +154,7 @@ gates_open : (k : GateKind) (xs : List Gate) (ts rest : List Terminal) → AreLi
 gates_open k [] ts rest w = absurd w
 gates_open k (x ∷ xs) ts rest w = let v = w.1.1 in let a = v.2 in name_opens x.name ts v.0 a.0 v.1 a.1
 
-pub gates_again : (d at : ℕ) (k : GateKind) (p : Option GatePause) (xs : List Gate) (ts rest : List Terminal) → IsWritten (Primitives at k p xs) ts rest → written_depth (Primitives at k p xs) ≤ d
+pub gates_again : (d at : ℕ) (k : GateKind) (p : Option GatePause) (xs : List Gate) (ts rest : List Terminal) → IsUnmarked (Primitives at k p xs) ts rest → written_depth (Primitives at k p xs) ≤ d
     → gates d k ts ≡ Some (Primitives at k p xs, rest)
 unfolding gates same_symbol
 gates_again d at k p xs ts rest w h =
@@ -166,7 +167,7 @@ gates_again d at k p xs ts rest w h =
     (listed_again (IsGate k) Anything gate_depth d (gate d) (gate_again d k) (gate_shrinks k) (λ us vs q. tt) xs a.0 c.0 c.1 (omega (arith, h)) (ends_by Anything symbol.Semicolon c.0 rest tt refl c.2))
     ∙ mark_then symbol.Semicolon (pure (Primitives at k p xs)) c.0 rest c.2
 
-pub gates_shorter : (at : ℕ) (k : GateKind) (p : Option GatePause) (xs : List Gate) → Consumes (IsWritten (Primitives at k p xs))
+pub gates_shorter : (at : ℕ) (k : GateKind) (p : Option GatePause) (xs : List Gate) → Consumes (IsUnmarked (Primitives at k p xs))
 gates_shorter at k p xs ts rest w =
     let a = w.2 in let c = a.2 in
     omega (arith, ap length w.1.1, optional_shrinks IsGatePause pause_shrinks p w.0 a.0 a.1, listed_shrinks (IsGate k) (gate_shrinks k) xs a.0 c.0 c.1, ap length c.2.1)

@@ -13,6 +13,7 @@ use Rattle.rtl_tree.specs.TreeItem.{Head, Net, Variable, Valuation, Drive, Sensi
 use Rattle.text_grammar.specs.Depth.{item_depth}
 use Rattle.text_grammar.specs.Grammar.{Spelling, IsA, IsAt, IsName, IsOptional, AreListed}
 use Rattle.text_grammar.specs.GrammarExpr.{IsBounds}
+use Rattle.text_grammar.specs.GrammarWritten.{item_ends_open}
 use Rattle.text_grammar.specs.GrammarItem.{direction_symbol, IsKind, IsHead, IsNet, IsVariable, parameter_symbol, IsValuation, IsDrive, IsInstantiation, IsItem}
 use Rattle.text_build.specs.Reading.{and_then, ◌>>=◌, ◌>>◌, pure, same_symbol, starts, name, advance, mark, optional, listed}
 use Rattle.text_build.specs.ReadingExpr.{climb}
@@ -24,7 +25,7 @@ use Rattle.text_build.proofs.Laws.Follows.{Opens, opens_by, opens_not}
 use Rattle.text_build.proofs.Laws.Chains.{expression_again}
 use Rattle.text_build.proofs.Laws.Targets.{is_target, target_opens, optional_pause, optional_shorter}
 use Rattle.text_build.proofs.Laws.Openings.{statement_shorter}
-use Rattle.text_build.proofs.Laws.Statements.{NoElse, closed}
+use Rattle.text_build.proofs.Laws.Statements.{Closed}
 use Rattle.text_build.proofs.Laws.Blocks.{statement_again}
 use Rattle.text_build.proofs.Laws.Heads.{is_name, is_range_or_name, is_direction, wider, name_opens, range_opens, range_again, flag_again, head_again, head_opens}
 use Rattle.text_build.proofs.Laws.Lists.{names_again, nets_again, nets_shrink, variables_again, variables_shrink, valuations_again, valuations_shrink, drives_again, drives_shrink, listed_shrinks, optional_shrinks, flag_shrinks, name_shrinks, bounds_shrinks}
@@ -124,14 +125,14 @@ drives_item d at p xs ts rest w k =
     ∙ bind (listed (drive d) a.0) (λ all. mark symbol.Semicolon >> pure (Drives at p all)) xs c.0 (drives_again d xs a.0 c.0 rest c.1 (omega (arith, k)) c.2)
     ∙ mark_then symbol.Semicolon (pure (Drives at p xs)) c.0 rest c.2
 
-always_item : (d at : ℕ) (s : Sensitivity) (body : Action) (ts rest : List Terminal) → IsItem (Always at s body) ts rest → item_depth (Always at s body) ≤ d → NoElse rest → always d ts ≡ Some (Always at s body, rest)
+always_item : (d at : ℕ) (s : Sensitivity) (body : Action) (ts rest : List Terminal) → IsItem (Always at s body) ts rest → item_depth (Always at s body) ≤ d → Closed body rest → always d ts ≡ Some (Always at s body, rest)
 unfolding always
 always_item d at s body ts rest w k o =
     let a = w.2 in
     let c = a.2 in
     bind (advance ts) (λ at. mark symbol.At >> sensitivity d >>= (λ w. statement d >>= (λ body. pure (Always at w body)))) at w.0 (advance_at symbol.Always at ts w.0 w.1)
     ∙ ap (λ q. and_then q (λ w. statement d >>= (λ body. pure (Always at w body)))) (mark_then symbol.At (sensitivity d) w.0 a.0 a.1 ∙ sensitivity_again d s a.0 c.0 c.1 (omega (arith, k)))
-    ∙ bind (statement d c.0) (λ body. pure (Always at s body)) body rest (statement_again d body c.0 rest c.2 (omega (arith, k)) (closed body rest o))
+    ∙ bind (statement d c.0) (λ body. pure (Always at s body)) body rest (statement_again d body c.0 rest c.2 (omega (arith, k)) o)
 
 instances_item : (d : ℕ) (n : Identifier) (ps : Association) (xs : List Instantiation) (ts rest : List Terminal) → IsItem (Instances n ps xs) ts rest → item_depth (Instances n ps xs) ≤ d
     → instances d ts ≡ Some (Instances n ps xs, rest)
@@ -155,7 +156,11 @@ from_head : (d : ℕ) (o : Direction) (at : ℕ) (ts rest : List Terminal) → I
 from_head d direction.Input at ts rest w = from d symbol.Input ts rest (at_is symbol.Input at ts rest w)
 from_head d direction.Output at ts rest w = from d symbol.Output ts rest (at_is symbol.Output at ts rest w)
 
-pub after_again : (d : ℕ) (i : ModuleItem) (ts rest : List Terminal) → IsItem i ts rest → item_depth i ≤ d → NoElse rest → item_after d ts ≡ Some (i, rest)
+-- an `else` that comes next belongs to no `if` that the item ends in
+abbrev pub ClosedItem : ModuleItem → List Terminal → Type 0
+ClosedItem i rest = starts symbol.Else rest ≡ true → item_ends_open i ≡ false
+
+pub after_again : (d : ℕ) (i : ModuleItem) (ts rest : List Terminal) → IsItem i ts rest → item_depth i ≤ d → ClosedItem i rest → item_after d ts ≡ Some (i, rest)
 after_again d (Ports h ns) ts rest w k o = let v = w.1 in from_head d h.direction h.at ts v.0 v.1 ∙ ports_item d h ns ts rest w k
 after_again d (Nets at s b xs) ts rest w k o = from d symbol.Wire ts w.0 (at_is symbol.Wire at ts w.0 w.1) ∙ nets_item d at s b xs ts rest w k
 after_again d (Variables at s b xs) ts rest w k o = from d symbol.Reg ts w.0 (at_is symbol.Reg at ts w.0 w.1) ∙ variables_item d at s b xs ts rest w k

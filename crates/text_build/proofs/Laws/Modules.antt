@@ -17,7 +17,7 @@ use Rattle.text_grammar.specs.Depth.{greatest, if_any, bounds_depth, head_depth,
 use Rattle.text_grammar.specs.Grammar.{IsA, IsAt, IsName, IsOptional, AreAll, AreMore, AreListed}
 use Rattle.text_grammar.specs.GrammarExpr.{IsBounds}
 use Rattle.text_grammar.specs.GrammarItem.{direction_symbol, IsHead}
-use Rattle.text_grammar.specs.GrammarGate.{IsMarkedItem}
+use Rattle.text_grammar.specs.GrammarWritten.{IsWritten}
 use Rattle.text_grammar.specs.GrammarModule.{IsHeading, IsParameter, AreParameters, IsPort, IsHeader, IsThere, is_between, IsCircuit, IsMarkedCircuit, AreCircuits, AreSpelled}
 use Rattle.text_build.specs.declared.fault.BuildFault.{BuildFault}
 use Rattle.text_build.specs.declared.fault.BuildFault.TheVariants as fault
@@ -36,7 +36,8 @@ use Rattle.text_build.proofs.Laws.Statements.{NoElse, no_else_is}
 use Rattle.text_build.proofs.Laws.Heads.{name_opens, range_again, head_again, value_again}
 use Rattle.text_build.proofs.Laws.Lists.{ends_by, names_again, more_shrinks, listed_shrinks, optional_shrinks, name_shrinks, bounds_shrinks, value_shrinks}
 use Rattle.text_build.proofs.Laws.Items.{head_shrinks}
-use Rattle.text_build.proofs.Laws.Written.{item_again, item_begins}
+use Rattle.text_build.proofs.Laws.Written.{written_shorter}
+use Rattle.text_build.proofs.Laws.Generate.{item_again, item_begins}
 
 comma_stops : (ts mid : List Terminal) → IsA symbol.Comma ts mid → Stops 12 ts
 comma_stops ts mid w = stop_stops symbol.Comma ts mid refl w
@@ -210,19 +211,19 @@ header_shrinks (Named ns) ts rest w = let a = w.2 in omega (arith, ap length w.1
 
 -- ---- modules
 
-rows_of : Rows IsMarkedItem (AreAll IsMarkedItem)
+rows_of : Rows IsWritten (AreAll IsWritten)
 rows_of = record { at_end = λ ts rest w. w; goes_on = λ x xs ts rest w. w }
 
-items_again : (d : ℕ) (is : List WrittenItem) (at : ℕ) (ts mid rest : List Terminal) → AreAll IsMarkedItem is ts mid → greatest written_depth is ≤ d → IsAt symbol.Endmodule at mid rest
+items_again : (d : ℕ) (is : List WrittenItem) (at : ℕ) (ts mid rest : List Terminal) → AreAll IsWritten is ts mid → greatest written_depth is ≤ d → IsAt symbol.Endmodule at mid rest
     → until symbol.Endmodule (item d) ts ≡ Some (is, mid)
 unfolding same_symbol
 items_again d is at ts mid rest w k m =
-    until_again IsMarkedItem (AreAll IsMarkedItem) symbol.Endmodule NoElse written_depth d (item d) (item_again d) item_begins rows_of is ts mid w k
+    until_again IsWritten (AreAll IsWritten) symbol.Endmodule NoElse written_depth d (item d) (item_again d) (item_begins symbol.Endmodule refl) rows_of is ts mid w k
     (no_else_is symbol.Endmodule mid rest (at_is symbol.Endmodule at mid rest m) refl) (starts_is symbol.Endmodule mid rest m.0 m.1 m.2.0)
 
-items_shrink : (is : List WrittenItem) → Shrinks (AreAll IsMarkedItem is)
+items_shrink : (is : List WrittenItem) → Shrinks (AreAll IsWritten is)
 items_shrink [] ts rest w = omega (arith, ap length w)
-items_shrink (i ∷ is) ts rest w = omega (arith, item_begins.consumes i ts w.0 w.1, items_shrink is w.0 rest w.2)
+items_shrink (i ∷ is) ts rest w = omega (arith, written_shorter i ts w.0 w.1, items_shrink is w.0 rest w.2)
 
 abbrev of_parts : List Dropped → ℕ → Identifier → List HeaderParameter → Header → List WrittenItem → ℕ → WrittenCircuit
 of_parts regions at n ps h is last = record { at = at; name = n; parameters = ps; header = h; items = is; dropped = filter (is_between at last) regions }

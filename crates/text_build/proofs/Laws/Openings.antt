@@ -86,15 +86,15 @@ more_shorter : (fs : List Formula) (ts rest : List Terminal) → AreMore IsExpre
 more_shorter [] ts rest w = omega (arith, ap length w)
 more_shorter (f ∷ fs) ts rest w = let a = w.2 in omega (arith, ap length w.1.1, formula_shorter 12 f w.0 a.0 a.1, more_shorter fs a.0 rest a.2)
 
-labels_shorter : (fs : List Formula) (ts rest : List Terminal) → AreListed IsExpression fs ts rest → length rest < length ts
+pub labels_shorter : (fs : List Formula) (ts rest : List Terminal) → AreListed IsExpression fs ts rest → length rest < length ts
 labels_shorter [] ts rest w = absurd w
 labels_shorter (f ∷ fs) ts rest w = omega (arith, formula_shorter 12 f ts w.0 w.1, more_shorter fs w.0 rest w.2)
 
-label_shorter : (l : Option Identifier) (ts rest : List Terminal) → IsOptional IsLabel l ts rest → length rest ≤ length ts
+pub label_shorter : (l : Option Identifier) (ts rest : List Terminal) → IsOptional IsLabel l ts rest → length rest ≤ length ts
 label_shorter None ts rest w = omega (arith, ap length w)
 label_shorter (Some n) ts rest w = omega (arith, ap length w.1.1, ap length w.2.1)
 
-default_shorter : (ts rest : List Terminal) → IsDefaultEnd ts rest → length rest ≤ length ts
+pub default_shorter : (ts rest : List Terminal) → IsDefaultEnd ts rest → length rest ≤ length ts
 default_shorter ts rest (inl w) = omega (arith, ap length w)
 default_shorter ts rest (inr w) = omega (arith, ap length w.1)
 

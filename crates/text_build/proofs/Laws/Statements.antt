@@ -34,7 +34,7 @@ Within d s = (a : Action) (ts rest : List Terminal) → IsStatement a ts rest �
 pub closed : (a : Action) (rest : List Terminal) → NoElse rest → Closed a rest
 closed a rest h e = let w : true ≡ false = sym e ∙ h in absurd (cc)
 
-open_is : (o : Bool) → (o ≡ true → true ≡ false) → o ≡ false
+pub open_is : (o : Bool) → (o ≡ true → true ≡ false) → o ≡ false
 open_is true h = h refl
 open_is false h = refl
 
