@@ -1,9 +1,10 @@
 -- What the tests of a text and of its modules say.
-use Rattle.std.proofs.Common.{◌≡◌, ℕ, zero, suc, ◌≤◌, Bool, true, false, ◌&&◌, not, if◌then◌else◌, List, [], ◌∷◌, Option, None, Some, refl, arith}
+use Rattle.std.proofs.Common.{◌≡◌, ℕ, zero, suc, ◌≤◌, Bool, true, false, ◌&&◌, not, if◌then◌else◌, List, [], ◌∷◌, Option, None, Some, refl, sym, ap, ◌∙◌, arith}
 use Rattle.std.specs.List.{list_all}
 use Rattle.std.proofs.lemmas.Bool.{leb-true}
 use denote.Enum.Bare.{sameb}
 use Rattle.rtl_tree.specs.contracts.symbol.Symbol.{the_type}
+use Rattle.rtl_tree.specs.declared.symbol.Symbol.{Symbol}
 use Rattle.rtl_tree.specs.declared.symbol.Symbol.TheVariants as symbol
 use Rattle.text_grammar.specs.declared.nesting.TheConstants.{MAX_NESTING}
 use Rattle.rtl_tree.specs.Symbols.{Terminal}
@@ -22,10 +23,11 @@ use Rattle.text_build.specs.Reading.{same_symbol}
 use Rattle.text_build.specs.Sound.{IsPlain}
 use Rattle.text_build.specs.Proper.{HasItem, IsProper, AreProper, IsProperBranch, AreProperBranches}
 use Rattle.text_build.specs.ProperModule.{Each, AreProperArguments, IsProperVariable, IsProperItem, IsProperGate, IsProperWritten, AreProperParameters, IsProperCircuit}
-use Rattle.text_build.specs.Ordinary.{is_ordinary_in}
+use Rattle.text_build.specs.Ordinary.{needs_survey, is_ordinary_in}
 use Rattle.text_build.specs.declared.ordinary.TheConstants.{MOST_TOKENS}
 use Rattle.text_build.specs.Tests.{has_item, is_proper, are_proper, is_proper_branch, are_proper_branches, has_value, are_proper_arguments, has_no_value, is_proper_item, are_terminals, is_proper_gate, is_proper_written, has_heading, has_first_heading, is_proper_circuit}
 use Rattle.text_build.specs.Certain.{ReadingsAreCertain}
+use Rattle.text_build.proofs.Laws.Tokens.{symbol_same}
 use Rattle.text_build.proofs.CertainModules.{texts}
 use Rattle.text_build.proofs.Shallow.{all_shallow}
 
@@ -117,7 +119,7 @@ written (Genvars at names) e = tt
 written (Region at items) e = absurd (cc)
 written (generate.If at condition taken) e = absurd (cc)
 written (generate.IfElse at condition taken otherwise) e = absurd (cc)
-written (generate.Case at selector choices) e = absurd (cc)
+written (generate.Case at selector all) e = absurd (cc)
 written (generate.For at index start condition stepped step body) e = absurd (cc)
 
 there : (o : Option Heading) → has_heading o ≡ true → IsThere o
@@ -144,23 +146,26 @@ modules (c ∷ cs) e =
 
 -- ---- texts
 
--- a first token that begins no attributes
-plain_first : (t : Terminal) (ts : List Terminal) → sameb the_type t.symbol symbol.OpenAttribute ≡ false → IsPlain ts → IsPlain (t ∷ ts)
-unfolding same_symbol
-plain_first t ts k p = (k, p)
+-- what needs no survey begins no attributes
+differ_by : (s : Symbol) (o : Bool) → needs_survey s ≡ false → same_symbol s symbol.OpenAttribute ≡ o → same_symbol s symbol.OpenAttribute ≡ false
+differ_by s true k e = let w : true ≡ false = sym (ap needs_survey (symbol_same s symbol.OpenAttribute e)) ∙ k in absurd (cc)
+differ_by s false k e = e
+
+no_marks : (s : Symbol) → needs_survey s ≡ false → same_symbol s symbol.OpenAttribute ≡ false
+no_marks s k = differ_by s (same_symbol s symbol.OpenAttribute) k refl
 
 -- the others are plain by either count
 plain_by : (n : ℕ) (t : Terminal) (ts : List Terminal) (a s : Bool) → (is_ordinary_in MOST_TOKENS ts ≡ true → IsPlain ts) → (is_ordinary_in n ts ≡ true → IsPlain ts)
-    → sameb the_type t.symbol symbol.OpenAttribute ≡ a → (if a then false else if s then is_ordinary_in MOST_TOKENS ts else is_ordinary_in n ts) ≡ true → IsPlain (t ∷ ts)
+    → needs_survey t.symbol ≡ a → (if a then false else if s then is_ordinary_in MOST_TOKENS ts else is_ordinary_in n ts) ≡ true → IsPlain (t ∷ ts)
 plain_by n t ts true s f g k e = absurd (cc)
-plain_by n t ts false true f g k e = plain_first t ts k (f e)
-plain_by n t ts false false f g k e = plain_first t ts k (g e)
+plain_by n t ts false true f g k e = (no_marks t.symbol k, f e)
+plain_by n t ts false false f g k e = (no_marks t.symbol k, g e)
 
 plain : (n : ℕ) (ts : List Terminal) → is_ordinary_in n ts ≡ true → IsPlain ts
 plain n [] e = tt
 plain zero (t ∷ ts) e = absurd (cc)
 plain (suc n) (t ∷ ts) e =
-    plain_by n t ts (sameb the_type t.symbol symbol.OpenAttribute) (sameb the_type t.symbol symbol.Semicolon) (plain MOST_TOKENS ts) (plain n ts) refl e
+    plain_by n t ts (needs_survey t.symbol) (sameb the_type t.symbol symbol.Semicolon) (plain MOST_TOKENS ts) (plain n ts) refl e
 
 pub certain : ReadingsAreCertain
 certain regions tokens cs ordinary read tested =

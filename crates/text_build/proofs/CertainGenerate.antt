@@ -1,5 +1,5 @@
 -- Items with generate constructs among them: those that are proper are no constructs, and nothing else is told of these.
-use Rattle.std.proofs.Common.{◌≡◌, ℕ, zero, suc, List, [], ◌∷◌, Some, refl, sym, subst}
+use Rattle.std.proofs.Common.{◌≡◌, ℕ, zero, suc, true, List, [], ◌∷◌, Some, refl, sym, subst}
 use Rattle.rtl_tree.specs.declared.symbol.Symbol.{Symbol}
 use Rattle.rtl_tree.specs.declared.symbol.Symbol.TheVariants as symbol
 use Rattle.rtl_tree.specs.Symbols.{Terminal}
@@ -9,10 +9,9 @@ use Rattle.text_grammar.specs.Grammar.{Spelling}
 use Rattle.text_grammar.specs.GrammarExpr.{IsExpression}
 use Rattle.text_grammar.specs.GrammarStmt.{IsLabel}
 use Rattle.text_grammar.specs.GrammarWritten.{IsUnmarked, IsWritten}
-use Rattle.text_build.specs.Reading.{Parser, and_then, ◌>>◌, symbol_at, starts, after, name, until, listed}
+use Rattle.text_build.specs.Reading.{Parser, and_then, ◌>>◌, symbol_at, starts, after, name, until}
 use Rattle.text_build.specs.ReadingExpr.{expression}
 use Rattle.text_build.specs.ReadingStmt.{attributes, no_colon, step_of, label}
-use Rattle.text_build.specs.ReadingGate.{written_after}
 use Rattle.text_build.specs.ReadingGenerate.{null, single, block, made_by, made, alternative, conditional, labelled, otherwise, choice, case_of, loop_of, genvars, region, simple, marked, within_by, within, item}
 use Rattle.text_build.specs.Sound.{IsPlain}
 use Rattle.text_build.specs.ProperModule.{IsProperWritten}
@@ -117,7 +116,7 @@ as_written (Genvars at names) ts rest p w = ([], (ts, refl, w))
 as_written (Region at items) ts rest p w = absurd p
 as_written (If at condition taken) ts rest p w = absurd p
 as_written (IfElse at condition taken otherwise) ts rest p w = absurd p
-as_written (Case at selector choices) ts rest p w = absurd p
+as_written (Case at selector all) ts rest p w = absurd p
 as_written (For at index start condition stepped step body) ts rest p w = absurd p
 
 -- there are no attributes

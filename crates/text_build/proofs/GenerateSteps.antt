@@ -1,5 +1,5 @@
 -- What one level of depth of an item does.
-use Rattle.std.proofs.Common.{◌≡◌, ℕ, zero, suc, List, refl, ap, arith}
+use Rattle.std.proofs.Common.{◌≡◌, ℕ, suc, List, ap}
 use Rattle.rtl_tree.specs.Symbols.{Terminal}
 use Rattle.text_build.specs.ReadingExpr.{expression}
 use Rattle.text_build.specs.ReadingGenerate.{simple, within, item}

@@ -49,7 +49,7 @@ IsProperWritten (Genvars at names) = Unit {0}
 IsProperWritten (Region at items) = ⊥
 IsProperWritten (If at condition taken) = ⊥
 IsProperWritten (IfElse at condition taken otherwise) = ⊥
-IsProperWritten (Case at selector choices) = ⊥
+IsProperWritten (Case at selector all) = ⊥
 IsProperWritten (For at index start condition stepped step body) = ⊥
 
 -- the first parameter in the head of a module stands after `parameter`

@@ -1,6 +1,6 @@
 -- It serves inner contracts and proofs; no answer of the program is stated by it.
 -- The builder as functions on tokens: generate constructs, and the items of a module with these among them.
-use Rattle.std.specs.Prelude.{ℕ, zero, suc, Option, Some, None}
+use Rattle.std.specs.Prelude.{ℕ, zero, suc, Option, Some}
 use Rattle.rtl_tree.specs.declared.symbol.Symbol.{Symbol}
 use Rattle.rtl_tree.specs.declared.symbol.Symbol.TheVariants as symbol
 use Rattle.rtl_tree.specs.TreeExpr.{Formula}

@@ -88,7 +88,7 @@ is_proper_written (Genvars at names) = true
 is_proper_written (Region at items) = false
 is_proper_written (generate.If at condition taken) = false
 is_proper_written (generate.IfElse at condition taken otherwise) = false
-is_proper_written (generate.Case at selector choices) = false
+is_proper_written (generate.Case at selector all) = false
 is_proper_written (generate.For at index start condition stepped step body) = false
 
 abbrev pub has_heading : Option Heading → Bool

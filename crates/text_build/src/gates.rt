@@ -18,10 +18,10 @@ use crate::fault::BuildFault;
 use rtl_tree::symbol::Symbol;
 use rtl_tree::tree::expr::Expr;
 use rtl_tree::tree::gate::{Gate, GateDelay, GateKind, GateTicks};
-use rtl_tree::tree::written::WrittenItem;
 use rtl_tree::tree::names::Name;
-use text_grammar::nesting::MAX_NESTING;
 use rtl_tree::tree::stmt::Ticks;
+use rtl_tree::tree::written::WrittenItem;
+use text_grammar::nesting::MAX_NESTING;
 
 /// The kind of gates that is written so.
 #[tactic(auto, unfolding(crate::specs::ReadingGate::gate_of))]

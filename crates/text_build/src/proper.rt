@@ -14,11 +14,11 @@ ghost use Rattle.text_build.specs.Tests.{are_proper, are_proper_arguments, are_p
 
 use rtl_tree::tree::expr::Expr;
 use rtl_tree::tree::gate::{Gate, GateKind};
-use rtl_tree::tree::written::WrittenItem;
 use rtl_tree::tree::item::{Arguments, Item, Reg};
 use rtl_tree::tree::modules::{HeadParameter, WrittenModule};
-use text_grammar::nesting::{MAX_NESTING, depth};
 use rtl_tree::tree::stmt::{CaseItem, Stmt};
+use rtl_tree::tree::written::WrittenItem;
+use text_grammar::nesting::{MAX_NESTING, depth};
 
 /// Whether at most one of the items of a `case` is its default.
 fn has_one_default(items: &[CaseItem]) -> bool

@@ -1,15 +1,16 @@
 -- What is spelled is read: generate constructs, and the items of a module with these among them; an `else` belongs to the nearest
 -- `if`.
-use Rattle.std.proofs.Common.{◌≡◌, ℕ, zero, suc, ◌≤◌, Bool, true, false, List, Option, Some, None, refl, sym, ap, subst, ◌∙◌, inl, inr, max, arith}
+use Rattle.std.proofs.Common.{◌≡◌, ℕ, zero, suc, ◌≤◌, true, false, List, Option, Some, None, refl, sym, ap, subst, ◌∙◌, inl, inr, max, arith}
 use Rattle.rtl_tree.specs.declared.symbol.Symbol.{Symbol}
 use Rattle.rtl_tree.specs.declared.symbol.Symbol.TheVariants as symbol
 use Rattle.rtl_tree.specs.Symbols.{Terminal}
 use Rattle.rtl_tree.specs.TreeExpr.{Identifier, Formula}
 use Rattle.rtl_tree.specs.TreeWritten.{WrittenItem, Plain, Primitives, Genvars, Region, If, IfElse, Case, For, WrittenItems, no_items, more_items, item_row, item_list, GenerateBlock, Null, Single, Block, GenerateChoice, Labelled, Default, GenerateChoices, no_choices, more_choices, choice_row, choice_list}
 use Rattle.text_grammar.specs.Depth.{greatest, formula_depth, written_depth, written_items_depth, made_depth, choice_depth, choices_depth}
-use Rattle.text_grammar.specs.Grammar.{◌⨾◌, IsA, IsAt, IsName, IsOptional, AreListed}
+use Rattle.text_grammar.specs.Grammar.{◌⨾◌, IsA, IsAt}
 use Rattle.text_grammar.specs.GrammarExpr.{IsExpression}
-use Rattle.text_grammar.specs.GrammarStmt.{Marked, IsLabel, IsDefaultEnd}
+use Rattle.text_grammar.specs.GrammarStmt.{Marked, IsDefaultEnd}
+use Rattle.text_grammar.specs.GrammarGate.{gate_symbol}
 use Rattle.text_grammar.specs.GrammarWritten.{ends_open, block_ends_open, takes_attributes, IsUnmarked, AreWritten, IsMade, IsChoice, AreChoices, AreMoreChoices, IsWritten}
 use Rattle.text_build.specs.Reading.{Parser, and_then, ◌>>=◌, ◌>>◌, pure, same_symbol, starts, name, advance, mark, either, optional, until, listed}
 use Rattle.text_build.specs.ReadingExpr.{expression}
@@ -266,10 +267,10 @@ module _ (k : ℕ) (e : Parser Formula) (c : Entire k e) (m : Parser GenerateBlo
 
   -- ---- loops
 
-  for_again : (at : ℕ) (n : Identifier) (x y : Formula) (o : Identifier) (z : Formula) (body : GenerateBlock) (ts rest : List Terminal) → IsUnmarked (For at n x y o z body) ts rest
-      → formula_depth x ≤ k → formula_depth y ≤ k → formula_depth z ≤ k → made_depth body ≤ k → ClosedBlock body rest → loop_of e m ts ≡ Some (For at n x y o z body, rest)
+  for_again : (at : ℕ) (n : Identifier) (x y : Formula) (t : Identifier) (z : Formula) (body : GenerateBlock) (ts rest : List Terminal) → IsUnmarked (For at n x y t z body) ts rest
+      → formula_depth x ≤ k → formula_depth y ≤ k → formula_depth z ≤ k → made_depth body ≤ k → ClosedBlock body rest → loop_of e m ts ≡ Some (For at n x y t z body, rest)
   unfolding loop_of
-  for_again at n x y o z body ts rest w hx hy hz hb ends =
+  for_again at n x y t z body ts rest w hx hy hz hb ends =
       let a = w.2 in
       let b = a.2 in
       let f = b.2 in
@@ -288,9 +289,9 @@ module _ (k : ℕ) (e : Parser Formula) (c : Entire k e) (m : Parser GenerateBlo
       ∙ ap (λ o. and_then o (λ condition. mark symbol.Semicolon >> step_of e >>= (λ next. mark symbol.CloseParen >> m >>= (λ body. pure (For at n x condition next.0 next.1 body))))) (mark_then symbol.Semicolon e u.0 h.0 h.1)
       ∙ before k e c symbol.Semicolon (λ condition. mark symbol.Semicolon >> step_of e >>= (λ next. mark symbol.CloseParen >> m >>= (λ body. pure (For at n x condition next.0 next.1 body)))) y h.0 j.0 v.0 j.1 hy refl v.1
       ∙ ap (λ o. and_then o (λ next. mark symbol.CloseParen >> m >>= (λ body. pure (For at n x y next.0 next.1 body))))
-      (mark_then symbol.Semicolon (step_of e) j.0 v.0 v.1 ∙ step_again k e c o z symbol.CloseParen v.0 q.0 r.0 (l.0, l.1, (p.0, p.1, q.1)) r.1 refl hz)
-      ∙ ap (λ o. and_then o (λ body. pure (For at n x y o z body))) (mark_then symbol.CloseParen m q.0 r.0 r.1)
-      ∙ bind (m r.0) (λ body. pure (For at n x y o z body)) body rest (g body r.0 rest r.2 hb ends)
+      (mark_then symbol.Semicolon (step_of e) j.0 v.0 v.1 ∙ step_again k e c t z symbol.CloseParen v.0 q.0 r.0 (l.0, l.1, (p.0, p.1, q.1)) r.1 refl hz)
+      ∙ ap (λ o. and_then o (λ body. pure (For at n x y t z body))) (mark_then symbol.CloseParen m q.0 r.0 r.1)
+      ∙ bind (m r.0) (λ body. pure (For at n x y t z body)) body rest (g body r.0 rest r.2 hb ends)
 
 -- ---- items in which no other stands
 
@@ -337,7 +338,7 @@ simple_again d (Genvars at ns) ts rest a w h o =
 simple_again d (Region at items) ts rest a w h o = absurd (cc)
 simple_again d (If at condition taken) ts rest a w h o = absurd (cc)
 simple_again d (IfElse at condition taken otherwise) ts rest a w h o = absurd (cc)
-simple_again d (Case at selector choices) ts rest a w h o = absurd (cc)
+simple_again d (Case at selector all) ts rest a w h o = absurd (cc)
 simple_again d (For at index start condition stepped step body) ts rest a w h o = absurd (cc)
 
 -- ---- any item

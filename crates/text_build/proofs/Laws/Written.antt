@@ -105,7 +105,7 @@ holds_none (Genvars at names) = true
 holds_none (Region at items) = false
 holds_none (If at condition taken) = false
 holds_none (IfElse at condition taken otherwise) = false
-holds_none (Case at selector choices) = false
+holds_none (Case at selector all) = false
 holds_none (For at index start condition stepped step body) = false
 
 pub alone_opens : (x : WrittenItem) (ts rest : List Terminal) → holds_none x ≡ true → IsUnmarked x ts rest → Opens is_alone ts
@@ -115,7 +115,7 @@ alone_opens (Genvars at names) ts rest a w = let v = w.1 in opens_by is_alone sy
 alone_opens (Region at items) ts rest a w = absurd (cc)
 alone_opens (If at condition taken) ts rest a w = absurd (cc)
 alone_opens (IfElse at condition taken otherwise) ts rest a w = absurd (cc)
-alone_opens (Case at selector choices) ts rest a w = absurd (cc)
+alone_opens (Case at selector all) ts rest a w = absurd (cc)
 alone_opens (For at index start condition stepped step body) ts rest a w = absurd (cc)
 
 -- an item that may have attributes, after them
@@ -126,7 +126,7 @@ front_opens (Genvars at names) ts rest a w = wider is_alone is_front alone_front
 front_opens (Region at items) ts rest a w = let v = w.1 in opens_by is_front symbol.Generate ts w.0 v.0 v.1 v.2.0 refl
 front_opens (If at condition taken) ts rest a w = absurd (cc)
 front_opens (IfElse at condition taken otherwise) ts rest a w = absurd (cc)
-front_opens (Case at selector choices) ts rest a w = absurd (cc)
+front_opens (Case at selector all) ts rest a w = absurd (cc)
 front_opens (For at index start condition stepped step body) ts rest a w = absurd (cc)
 
 -- and with them
@@ -144,7 +144,7 @@ written_opens (Genvars at names) ts rest w = attributed_opens (Genvars at names)
 written_opens (Region at items) ts rest w = attributed_opens (Region at items) ts rest refl w
 written_opens (If at condition taken) ts rest w = let x = w.1 in opens_by is_written symbol.If ts w.0 x.0 x.1 x.2.0 refl
 written_opens (IfElse at condition taken otherwise) ts rest w = let y = w.1 in let x = y.1 in opens_by is_written symbol.If ts y.0 x.0 x.1 x.2.0 refl
-written_opens (Case at selector choices) ts rest w = let y = w.1 in let x = y.1 in opens_by is_written symbol.Case ts y.0 x.0 x.1 x.2.0 refl
+written_opens (Case at selector all) ts rest w = let y = w.1 in let x = y.1 in opens_by is_written symbol.Case ts y.0 x.0 x.1 x.2.0 refl
 written_opens (For at index start condition stepped step body) ts rest w = let x = w.1 in opens_by is_written symbol.For ts w.0 x.0 x.1 x.2.0 refl
 
 start_branch : (s : Symbol) → is_start s ≡ true → is_branch s ≡ true
