@@ -1,5 +1,5 @@
 -- It serves inner contracts and proofs; no answer of the program is stated by it.
--- The builder as functions on tokens: gates, and the items of a module as they are written.
+-- The builder as functions on tokens: gates, and the items of a module that stand for themselves.
 use Rattle.std.specs.Prelude.{ℕ, Option, Some, None}
 use Rattle.rtl_tree.specs.declared.symbol.Symbol.{Symbol}
 use Rattle.rtl_tree.specs.declared.symbol.Symbol.TheVariants as symbol
@@ -79,6 +79,6 @@ abbrev pub written_by : ℕ → Option GateKind → Parser WrittenItem
 written_by d None = plain_item d
 written_by d (Some k) = gates d k
 
--- an item after its attributes
+-- an item after its attributes that stands for itself, or gates
 unfoldable pub written_after : ℕ → Parser WrittenItem
 written_after d = λ ts. written_by d (gate_by (symbol_at ts)) ts

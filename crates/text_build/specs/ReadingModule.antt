@@ -14,7 +14,7 @@ use Rattle.text_build.specs.ReadingStmt.{attributes}
 use Rattle.text_build.specs.ReadingItem.{range, value, port_head}
 use Rattle.text_build.specs.ReadingGenerate as generate
 
--- an item, in which nothing is nested more than `d` deep
+-- an item: constructs, and what stands in an item that is none, are nested at most `d` deep
 abbrev pub item : ℕ → Parser WrittenItem
 item d = generate.item d d
 

@@ -1,4 +1,4 @@
-// Builds gates, and chooses between them and the other items of a module.
+// Builds gates, and chooses between them and the items that stand for themselves.
 
 ghost use Rattle.std.specs.Prelude.{◌≡◌, map};
 ghost use Rattle.std.specs.Option.{option_map};
@@ -245,7 +245,7 @@ impl<'a> Cursor<'a> {
         Ok(WrittenItem::Plain(item))
     }
 
-    /// An item after its attributes.
+    /// An item after its attributes that stands for itself, or gates.
     #[tactic(auto, unfolding(crate::specs::ReadingGate::written_after))]
     pub(crate) fn written_after(&mut self) -> Result<WrittenItem, BuildFault>
         ensures { Reads written_item (reading.written_after MAX_NESTING
