@@ -1,0 +1,4 @@
+mod Examples
+pub mod Rows
+-- passed on to the crates above
+pub use Rattle.elab_scope.proofs as elab_scope_proofs
