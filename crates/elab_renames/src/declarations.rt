@@ -11,11 +11,7 @@ use rtl_tree::tree::item::{Assignment, GateDrive, PortHead, Reg, Setting, Wire};
 use std::alloc::Global;
 use text_ground::memory::Memory;
 
-fn renamed_head(
-    alloc: Global,
-    naming: &Naming<'_>,
-    written: &PortHead,
-) -> Result<PortHead, Memory>
+fn renamed_head(alloc: Global, naming: &Naming<'_>, written: &PortHead) -> Result<PortHead, Memory>
     ensures { IfOk result (λ made. head made ≡ renamed_head (renaming naming.now) (head written.now)) }
 {
     let range = optional_range(alloc, naming, &written.range)?;
@@ -90,11 +86,7 @@ pub(crate) fn renamed_regs(
     Ok(made)
 }
 
-fn renamed_setting(
-    alloc: Global,
-    naming: &Naming<'_>,
-    setting: &Setting,
-) -> Result<Setting, Memory>
+fn renamed_setting(alloc: Global, naming: &Naming<'_>, setting: &Setting) -> Result<Setting, Memory>
     ensures { IfOk result (λ made. valuation made
         ≡ renamed_valuation (renaming naming.now) (valuation setting.now)) }
 {
@@ -149,11 +141,7 @@ pub(crate) fn renamed_assignments(
     Ok(made)
 }
 
-fn renamed_gate(
-    alloc: Global,
-    naming: &Naming<'_>,
-    drive: &GateDrive,
-) -> Result<GateDrive, Memory>
+fn renamed_gate(alloc: Global, naming: &Naming<'_>, drive: &GateDrive) -> Result<GateDrive, Memory>
     ensures { IfOk result (λ made. gate_drive made
         ≡ renamed_gate_drive (renaming naming.now) (gate_drive drive.now)) }
 {

@@ -14,6 +14,7 @@ use std::alloc::Global;
 use text_ground::memory::Memory;
 
 #[cycle(expression)]
+#[tactic(auto, using(crate::proofs::Views::concat_renamed, crate::proofs::Views::repeat_renamed))]
 pub(crate) fn renamed_expr(alloc: Global, naming: &Naming<'_>, e: &Expr) -> Result<Expr, Memory>
     ensures { IfOk result (λ made. formula made
         ≡ renamed_formula (renaming naming.now) (formula e.now)) }
@@ -31,7 +32,7 @@ pub(crate) fn renamed_expr(alloc: Global, naming: &Naming<'_>, e: &Expr) -> Resu
         Expr::Concat(at, parts) => concat(alloc, naming, *at, parts),
         Expr::Repeat(at, times, parts) => {
             let times = boxed_expr(alloc, naming, times)?;
-            repeat(alloc, naming, *at, times, parts)
+            repeat(alloc, naming, parts, *at, times)
         }
         Expr::Unary(operator, at, operand) => unary(alloc, naming, *operator, *at, operand),
         Expr::Binary(operator, at, left, right) => {
@@ -48,11 +49,7 @@ pub(crate) fn renamed_expr(alloc: Global, naming: &Naming<'_>, e: &Expr) -> Resu
 
 /// The same in a box: what is held by value while more is copied is dear to prove.
 #[cycle(expression)]
-pub(crate) fn boxed_expr(
-    alloc: Global,
-    naming: &Naming<'_>,
-    e: &Expr,
-) -> Result<Box<Expr>, Memory>
+pub(crate) fn boxed_expr(alloc: Global, naming: &Naming<'_>, e: &Expr) -> Result<Box<Expr>, Memory>
     ensures { IfOk result (λ made. formula made.value
         ≡ renamed_formula (renaming naming.now) (formula e.now)) }
 {
@@ -69,12 +66,7 @@ fn read(alloc: Global, naming: &Naming<'_>, name: &Name) -> Result<Expr, Memory>
 }
 
 #[cycle(expression)]
-fn read_bit(
-    alloc: Global,
-    naming: &Naming<'_>,
-    name: &Name,
-    index: &Expr,
-) -> Result<Expr, Memory>
+fn read_bit(alloc: Global, naming: &Naming<'_>, name: &Name, index: &Expr) -> Result<Expr, Memory>
     ensures { IfOk result (λ made. formula made ≡ renamed_formula (renaming naming.now)
         (tree.ReadBit (identifier name.now) (formula index.now))) }
 {
@@ -142,9 +134,9 @@ fn concat(alloc: Global, naming: &Naming<'_>, at: u32, parts: &[Expr]) -> Result
 fn repeat(
     alloc: Global,
     naming: &Naming<'_>,
+    parts: &[Expr],
     at: u32,
     times: Box<Expr>,
-    parts: &[Expr],
 ) -> Result<Expr, Memory>
     ensures { IfOk result (λ made. formula made ≡ tree.Repeat at (formula times.value)
         (renamed_formulas (renaming naming.now) (formula_row (map formula parts.now)))) }

@@ -34,11 +34,7 @@ fn renamed_text(alloc: Global, naming: &Naming<'_>, name: &Text) -> Result<Text,
 }
 
 /// A name of the module itself.
-pub(crate) fn renamed_name(
-    alloc: Global,
-    naming: &Naming<'_>,
-    name: &Name,
-) -> Result<Name, Memory>
+pub(crate) fn renamed_name(alloc: Global, naming: &Naming<'_>, name: &Name) -> Result<Name, Memory>
     ensures { IfOk result (λ made. identifier made
         ≡ renamed_identifier (renaming naming.now) (identifier name.now)) }
 {

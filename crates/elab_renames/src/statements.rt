@@ -33,6 +33,7 @@ struct Step {
 }
 
 #[cycle(statement)]
+#[tactic(auto, using(crate::proofs::Views::block_renamed, crate::proofs::Views::case_renamed))]
 pub(crate) fn renamed_stmt(
     alloc: Global,
     naming: &Naming<'_>,
@@ -96,12 +97,7 @@ fn boxed_stmt(alloc: Global, naming: &Naming<'_>, written: &Stmt) -> Result<Box<
 }
 
 #[cycle(statement)]
-fn delayed(
-    alloc: Global,
-    naming: &Naming<'_>,
-    body: &Stmt,
-    delay: &Delay,
-) -> Result<Stmt, Memory>
+fn delayed(alloc: Global, naming: &Naming<'_>, body: &Stmt, delay: &Delay) -> Result<Stmt, Memory>
     ensures { IfOk result (λ made. action made ≡ renamed_action (renaming naming.now)
         (tree.Delayed (pause delay.now) (action body.now))) }
 {
@@ -113,15 +109,15 @@ fn delayed(
 fn assign(
     alloc: Global,
     naming: &Naming<'_>,
-    target: &Lvalue,
+    written: &Lvalue,
     kind: AssignmentKind,
     delay: &Option<Delay>,
     value: &Expr,
 ) -> Result<Stmt, Memory>
     ensures { IfOk result (λ made. action made ≡ renamed_action (renaming naming.now)
-        (tree.Assign (target target.now) kind (option_map pause delay.now) (formula value.now))) }
+        (tree.Assign (target written.now) kind (option_map pause delay.now) (formula value.now))) }
 {
-    let target = boxed_target(alloc, naming, target)?;
+    let target = boxed_target(alloc, naming, written)?;
     let delay = boxed_optional_delay(alloc, naming, delay)?;
     let value = boxed_expr(alloc, naming, value)?;
     Ok(Stmt::Assign(
@@ -256,11 +252,7 @@ fn block(
 
 /// Statements in a row.
 #[cycle(statement)]
-fn renamed_stmts(
-    alloc: Global,
-    naming: &Naming<'_>,
-    all: &[Stmt],
-) -> Result<Vec<Stmt>, Memory>
+fn renamed_stmts(alloc: Global, naming: &Naming<'_>, all: &[Stmt]) -> Result<Vec<Stmt>, Memory>
     ensures { IfOk result (λ made. map action made.items
         ≡ map (renamed_action (renaming naming.now)) (map action all.now)) }
 {

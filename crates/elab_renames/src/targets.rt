@@ -17,6 +17,7 @@ use std::alloc::Global;
 use text_ground::memory::Memory;
 
 #[cycle(target)]
+#[tactic(auto, using(crate::proofs::Views::joined_renamed))]
 pub(crate) fn renamed_target(
     alloc: Global,
     naming: &Naming<'_>,
@@ -79,12 +80,7 @@ fn part(
     let name = renamed_name(alloc, naming, name)?;
     let first = boxed_expr(alloc, naming, first)?;
     let second = boxed_expr(alloc, naming, second)?;
-    Ok(Lvalue::Part(
-        name,
-        kind,
-        Box::into_inner(first),
-        Box::into_inner(second),
-    ))
+    Ok(Lvalue::Part(name, kind, Box::into_inner(first), Box::into_inner(second)))
 }
 
 #[cycle(target)]
