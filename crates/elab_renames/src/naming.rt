@@ -38,8 +38,10 @@ pub(crate) fn renamed_name(alloc: Global, naming: &Naming<'_>, name: &Name) -> R
     ensures { IfOk result (λ made. identifier made
         ≡ renamed_identifier (renaming naming.now) (identifier name.now)) }
 {
-    let text = renamed_text(alloc, naming, &name.text)?;
-    Ok(Name { text, at: name.at })
+    Ok(Name {
+        text: renamed_text(alloc, naming, &name.text)?,
+        at: name.at,
+    })
 }
 
 /// Names of the module itself.
