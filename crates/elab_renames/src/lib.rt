@@ -5,6 +5,7 @@ mod declarations;
 mod expressions;
 mod instances;
 pub mod items;
+pub mod modules;
 pub mod naming;
 mod processes;
 mod statements;
