@@ -9,7 +9,7 @@ use Rattle.rtl_tree.specs.TreeStmt.{Whole, Valued}
 use Rattle.rtl_tree.specs.TreeItem.{Gates}
 use Rattle.rtl_tree.specs.TreeGate.{Gate, Two}
 use Rattle.rtl_tree.specs.TreeWritten.{Primitives}
-use Rattle.rtl_unroll.specs.Plain.{drives_of, plain_item}
+use Rattle.rtl_unroll.specs.Gates.{drives_of, gates_item}
 
 -- the names a, b, c, y, z and g
 abbrev a : Identifier
@@ -64,7 +64,7 @@ inverter : drives_of Not (gate_of (Read a ∷ []))
 inverter = refl
 
 -- not g (y, a), (y, b);
-two_gates : plain_item (Primitives 0 Not None (record { name = Some g; output = Whole y; terminals = Read a ∷ [] } ∷ gate_of (Read b ∷ []) ∷ []))
+two_gates : gates_item 0 Not None (record { name = Some g; output = Whole y; terminals = Read a ∷ [] } ∷ gate_of (Read b ∷ []) ∷ [])
     ≡ Gates 0 (g ∷ []) None (record { outputs = Whole y ∷ []; value = Unary BitwiseNot 7 (given a) } ∷ record { outputs = Whole y ∷ []; value = Unary BitwiseNot 7 (given b) } ∷ [])
 two_gates = refl
 
@@ -72,6 +72,6 @@ abbrev whole : ℕ → ℕ → Formula
 whole n at = Number (record { width = 32; val = n; unk = 0; signed = true; sized = false; radix = 10 }) at
 
 -- not #(1, 2) (y, a);
-rise_and_fall : plain_item (Primitives 0 Not (Some (record { at = 4; span = Two (whole 1 6) (whole 2 9) })) (gate_of (Read a ∷ []) ∷ []))
+rise_and_fall : gates_item 0 Not (Some (record { at = 4; span = Two (whole 1 6) (whole 2 9) })) (gate_of (Read a ∷ []) ∷ [])
     ≡ Gates 0 [] (Some (record { at = 4; span = Valued (whole 1 6) })) (record { outputs = Whole y ∷ []; value = Unary BitwiseNot 7 (given a) } ∷ [])
 rise_and_fall = refl

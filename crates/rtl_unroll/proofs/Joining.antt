@@ -5,7 +5,7 @@ use Rattle.std.specs.List.{flat_map}
 use Rattle.rtl_tree.specs.declared.tree.operators.BinaryOperator.{BinaryOperator}
 use Rattle.rtl_tree.specs.TreeExpr.{Formula}
 use Rattle.rtl_tree.specs.TreeStmt.{Target}
-use Rattle.rtl_unroll.specs.Plain.{alone, driven, input, inverted_if, joined, one_input, output_of, pairs, several_inputs, together}
+use Rattle.rtl_unroll.specs.Gates.{alone, driven, input, inverted_if, joined, one_input, output_of, pairs, several_inputs, together}
 
 pub pairs_most : (operator : BinaryOperator) (at : ℕ) (es : List Formula) → length (pairs operator at es) ≤ length es
 pairs_most operator at [] = omega arith

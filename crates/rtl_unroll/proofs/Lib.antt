@@ -1,2 +1,3 @@
-pub mod Examples
-pub mod Joining
+mod Counting
+mod Examples
+mod Joining

@@ -1,1 +1,4 @@
+pub mod Gates
+pub mod Lowered
+pub mod Numbering
 pub mod Plain

@@ -4,24 +4,24 @@ ghost use Rattle.std.specs.Prelude.{◌≡◌, ◌++◌, [], ◌∷◌, IfOk, No
 ghost use Rattle.std.specs.List.{flat_map};
 ghost use Rattle.std.specs.Option.{option_map, option_to_list};
 ghost use Rattle.rtl_tree.specs.TreeExpr.{formula, identifier};
-ghost use Rattle.rtl_tree.specs.TreeGate.{gate};
-ghost use Rattle.rtl_tree.specs.TreeItem.{gate_drive};
-ghost use Rattle.rtl_tree.specs.TreeStmt.{Target, target, target_place};
-ghost use Rattle.rtl_unroll.specs.Plain.{driven, drives_of, name_of, one_input, output_of, several_inputs};
+ghost use Rattle.rtl_tree.specs.TreeGate.{gate, gate_pause};
+ghost use Rattle.rtl_tree.specs.TreeItem.{gate_drive, module_item};
+ghost use Rattle.rtl_tree.specs.TreeStmt.{Target, pause, target, target_place};
+ghost use Rattle.rtl_unroll.specs.Gates.{driven, drives_of, gates_item, name_of, one_input, output_of, plain_pause, several_inputs};
 
 use crate::inputs::{alone, together};
 use rtl_tree::tree::expr::Expr;
-use rtl_tree::tree::gate::{Gate, GateKind};
-use rtl_tree::tree::item::GateDrive;
+use rtl_tree::tree::gate::{Gate, GateDelay, GateKind, GateTicks};
+use rtl_tree::tree::item::{GateDrive, Item};
 use rtl_tree::tree::names::Name;
 use rtl_tree::tree::operators::BinaryOperator;
-use rtl_tree::tree::stmt::Lvalue;
+use rtl_tree::tree::stmt::{Delay, Lvalue, Ticks};
 use std::alloc::Global;
 use text_ground::memory::Memory;
 
 /// The names of gates, and what they drive.
 #[derive(Drop)]
-pub struct Driving {
+struct Driving {
     pub names: Vec<Name>,
     pub drives: Vec<GateDrive>,
 }
@@ -153,7 +153,7 @@ fn drive_of(
 }
 
 /// The names of gates, and what they drive.
-pub fn drives_of(alloc: Global, kind: GateKind, gates: Vec<Gate>) -> Result<Driving, Memory>
+fn drives_of(alloc: Global, kind: GateKind, gates: Vec<Gate>) -> Result<Driving, Memory>
     ensures { IfOk result (λ made.
         (map identifier made.names.items ≡ flat_map name_of (map gate gates.items))
         × (map gate_drive made.drives.items ≡ flat_map (drives_of kind) (map gate gates.items))) }
@@ -174,4 +174,38 @@ pub fn drives_of(alloc: Global, kind: GateKind, gates: Vec<Gate>) -> Result<Driv
         }
     }
     Ok(Driving { names, drives })
+}
+
+/// The delay of an item that has gates.
+fn plain_delay(delay: GateDelay) -> Delay
+    ensures { pause result ≡ plain_pause (gate_pause delay) }
+{
+    let GateDelay { at, ticks } = delay;
+    match ticks {
+        GateTicks::One(ticks) => Delay { at, ticks },
+        GateTicks::Two(rise, _) => Delay {
+            at,
+            ticks: Ticks::Parens(rise),
+        },
+    }
+}
+
+/// Gates as an item: their names, and what they drive.
+pub fn gates_item(
+    alloc: Global,
+    at: u32,
+    kind: GateKind,
+    delay: Option<GateDelay>,
+    gates: Vec<Gate>,
+) -> Result<Item, Memory>
+    ensures { IfOk result (λ made. module_item made
+        ≡ gates_item at kind (option_map gate_pause delay) (map gate gates.items)) }
+{
+    let all = drives_of(alloc, kind, gates)?;
+    Ok(Item::Gates {
+        at,
+        names: all.names,
+        delay: delay.map(plain_delay),
+        drives: all.drives,
+    })
 }

@@ -3,7 +3,7 @@
 ghost use Rattle.std.specs.Prelude.{◌≡◌, ◌≤◌, IfOk, length, map};
 ghost use Rattle.std.specs.Option.{option_map, option_to_list};
 ghost use Rattle.rtl_tree.specs.TreeExpr.{Binary, formula};
-ghost use Rattle.rtl_unroll.specs.Plain.{alone, complement, input, inverted_if, joined, pairs, together};
+ghost use Rattle.rtl_unroll.specs.Gates.{alone, complement, input, inverted_if, joined, pairs, together};
 
 use rtl_tree::tree::expr::Expr;
 use rtl_tree::tree::operators::{BinaryOperator, UnaryOperator};

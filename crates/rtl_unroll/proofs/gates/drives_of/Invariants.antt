@@ -4,7 +4,7 @@ use Rattle.std.specs.Vec.Iter.{into_iter_items}
 use Rattle.rtl_tree.specs.TreeExpr.{identifier}
 use Rattle.rtl_tree.specs.TreeGate.{gate}
 use Rattle.rtl_tree.specs.TreeItem.{gate_drive}
-use Rattle.rtl_unroll.specs.Plain.{drives_of, name_of}
+use Rattle.rtl_unroll.specs.Gates.{drives_of, name_of}
 use Rattle.rtl_unroll.proofs.gates.drives_of.Given as goal
 
 abbrev pub invariant-loop-one : goal.invariant-loop-one

@@ -4,7 +4,7 @@ use Rattle.std.proofs.lemmas.List.{map-append}
 use Rattle.std.specs.List.{flat_map}
 use Rattle.rtl_tree.specs.TreeExpr.{formula}
 use Rattle.rtl_tree.specs.TreeStmt.{target}
-use Rattle.rtl_unroll.specs.Plain.{driven, one_input, output_of}
+use Rattle.rtl_unroll.specs.Gates.{driven, one_input, output_of}
 use Rattle.rtl_unroll.proofs.Joining.{one_input_push}
 use Rattle.rtl_unroll.proofs.gates.one_input.Goals as goal
 

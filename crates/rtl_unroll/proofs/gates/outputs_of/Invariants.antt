@@ -3,7 +3,7 @@ use Rattle.std.specs.List.{flat_map}
 use Rattle.std.specs.Vec.Iter.{into_iter_items}
 use Rattle.rtl_tree.specs.TreeExpr.{formula}
 use Rattle.rtl_tree.specs.TreeStmt.{target}
-use Rattle.rtl_unroll.specs.Plain.{output_of}
+use Rattle.rtl_unroll.specs.Gates.{output_of}
 use Rattle.rtl_unroll.proofs.gates.outputs_of.Given as goal
 
 abbrev pub invariant-loop-terminal : goal.invariant-loop-terminal

@@ -3,7 +3,7 @@ use Rattle.std.proofs.Common.{map, arith, sym, ◌∙◌, ap, length, ◌≡◌,
 use Rattle.std.proofs.lemmas.List.{length-map, nil_from_length}
 use Rattle.std.proofs.lemmas.Result.{IfOk-weaker}
 use Rattle.rtl_tree.specs.TreeExpr.{formula}
-use Rattle.rtl_unroll.specs.Plain.{driven, several_inputs}
+use Rattle.rtl_unroll.specs.Gates.{driven, several_inputs}
 use Rattle.rtl_unroll.proofs.Joining.{popped_one, several_many}
 use Rattle.rtl_unroll.proofs.gates.value_of.Goals as goal
 

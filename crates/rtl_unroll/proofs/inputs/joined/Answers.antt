@@ -2,7 +2,7 @@
 use Rattle.std.proofs.Common.{map, arith, sym, ◌∙◌, ap, length, ◌≡◌, ◌<◌, ◌≤◌}
 use Rattle.std.proofs.lemmas.List.{length-map}
 use Rattle.rtl_tree.specs.TreeExpr.{formula}
-use Rattle.rtl_unroll.specs.Plain.{pairs}
+use Rattle.rtl_unroll.specs.Gates.{pairs}
 use Rattle.rtl_unroll.proofs.Joining.{joined_done, joined_turn, pairs_fewer}
 use Rattle.rtl_unroll.proofs.inputs.joined.Goals as goal
 

@@ -1,6 +1,6 @@
 use Rattle.std.proofs.Common.{◌≡◌, map, vec_len}
 use Rattle.rtl_tree.specs.TreeExpr.{formula}
-use Rattle.rtl_unroll.specs.Plain.{joined}
+use Rattle.rtl_unroll.specs.Gates.{joined}
 use Rattle.rtl_unroll.proofs.inputs.joined.Given as goal
 
 abbrev pub invariant-loop-alloc : goal.invariant-loop-alloc

@@ -2,7 +2,7 @@ use Rattle.std.proofs.Common.{◌≡◌, ◌++◌, map}
 use Rattle.std.specs.Option.{option_map, option_to_list}
 use Rattle.std.specs.Vec.Iter.{into_iter_items}
 use Rattle.rtl_tree.specs.TreeExpr.{formula}
-use Rattle.rtl_unroll.specs.Plain.{pairs}
+use Rattle.rtl_unroll.specs.Gates.{pairs}
 use Rattle.rtl_unroll.proofs.inputs.paired.Given as goal
 
 abbrev pub invariant-loop-right : goal.invariant-loop-right

@@ -2,7 +2,7 @@
 use Rattle.std.proofs.Common.{map, arith, sym, ◌∙◌, ap, ◌≡◌, [], ◌∷◌}
 use Rattle.std.proofs.lemmas.List.{nil_from_length}
 use Rattle.rtl_tree.specs.TreeExpr.{formula}
-use Rattle.rtl_unroll.specs.Plain.{inverted_if}
+use Rattle.rtl_unroll.specs.Gates.{inverted_if}
 use Rattle.rtl_unroll.proofs.Joining.{popped_one, together_of}
 use Rattle.rtl_unroll.proofs.inputs.together.Goals as goal
 

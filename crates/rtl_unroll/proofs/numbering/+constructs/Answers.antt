@@ -1,0 +1,20 @@
+-- Constructs that hold vectors.
+use Rattle.std.proofs.Common.{arith}
+use Rattle.std.proofs.lemmas.Grind.{common_steps}
+use Rattle.rtl_unroll.proofs.Counting.{region_counted, case_counted, block_counted}
+use Rattle.rtl_unroll.proofs.numbering.+constructs.Goals as goal
+
+pub item_constructs-returns-in-Region : goal.item_constructs-returns-in-Region
+item_constructs-returns-in-Region t c =
+    let told = region_counted c.in-Region.field-0 c.in-Region.items c.args.item.now c.in-Region.is in
+    grind (arith, common_steps, told)
+
+pub item_constructs-returns-in_ok-choices_constructs-in-Case : goal.item_constructs-returns-in_ok-choices_constructs-in-Case
+item_constructs-returns-in_ok-choices_constructs-in-Case t c =
+    let told = case_counted c.in-Case.field-0 c.in-Case.field-1 c.in-Case.choices c.args.item.now c.in-Case.is in
+    grind (arith, common_steps, told)
+
+pub block_constructs-returns-in-None : goal.block_constructs-returns-in-None
+block_constructs-returns-in-None t c =
+    let told = block_counted c.in-Block.field-0 c.in-Block.label c.in-Block.items c.args.block.now c.in-Block.is c.in-None.is in
+    grind (arith, common_steps, told)
