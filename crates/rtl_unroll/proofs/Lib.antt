@@ -1,3 +1,4 @@
 mod Counting
 mod Examples
 mod Joining
+mod Lowering

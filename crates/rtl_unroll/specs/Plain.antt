@@ -1,10 +1,11 @@
 -- Modules as they are written, with assignments in place of gates, and generate constructs apart from the other items (IEEE
 -- 1364-2001 section 12.1.3, and IEEE 1364-2005 section 12.4.3 for names of loops without a label).
 -- Worked examples: crates/rtl_unroll/proofs/Examples.antt.
-use Rattle.std.specs.Prelude.{ℕ, ◌+◌, List, [], ◌∷◌, ◌++◌, length}
-use Rattle.rtl_tree.specs.TreeItem.{ModuleItem}
+use Rattle.std.specs.Prelude.{ℕ, ◌+◌, List, [], ◌∷◌, ◌++◌, length, map}
+use Rattle.rtl_tree.specs.TreeItem.{ModuleItem, module_item}
 use Rattle.rtl_tree.specs.TreeWritten.{WrittenItem, Plain, Primitives, Genvars, Region, If, IfElse, Case, For, WrittenItems, no_items, more_items, item_row}
-use Rattle.rtl_tree.specs.TreeModule.{Construct, Circuit, WrittenCircuit}
+use Rattle.rtl_tree.specs.TreeModule.{Construct, Circuit, WrittenCircuit, construct}
+use Rattle.rtl_unroll.specs.declared.Sorted as code
 use Rattle.rtl_unroll.specs.Gates.{gates_item}
 use Rattle.rtl_unroll.specs.Lowered.{lowered_item}
 use Rattle.rtl_unroll.specs.Numbering.{item_constructs}
@@ -14,6 +15,15 @@ pub record Sorted : Type 0 where
   pub items : List ModuleItem
   pub constructs : List Construct
   pub count : ℕ
+
+-- what a contract sees of items that are sorted
+abbrev pub sorted_of : code.Sorted → Sorted
+sorted_of made =
+    record {
+      items = map module_item made.items.items;
+      constructs = map construct made.constructs.items;
+      count = made.count;
+    }
 
 abbrev pub nothing_sorted : Sorted
 nothing_sorted = record { items = []; constructs = []; count = 0 }

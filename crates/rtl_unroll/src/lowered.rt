@@ -9,7 +9,7 @@ ghost use Rattle.rtl_unroll.specs.Lowered.{loop_name, lowered_block, lowered_bod
 
 use crate::gates::gates_item;
 use crate::numbering::{
-    block_constructs, choice_constructs, counted, item_constructs, without_outer,
+    choice_constructs, counted, counted_behind, item_constructs, without_outer,
 };
 use itoa::Buffer;
 use rtl_tree::tree::expr::Expr;
@@ -18,6 +18,13 @@ use rtl_tree::tree::written::{GenerateBlock, GenerateChoice, WrittenItem};
 use std::alloc::Global;
 use text_ground::memory::Memory;
 use text_ground::text::Text;
+
+/// A branch of a construct, and how many constructs of its scope stand up to its end.
+#[derive(Drop)]
+struct Taken {
+    block: GenerateBlock,
+    count: u64,
+}
 
 /// The label of a loop without one.
 fn loop_name(alloc: Global, number: u64, at: u32) -> Result<Name, Memory>
@@ -47,6 +54,7 @@ fn label_of(alloc: Global, number: u64, at: u32, label: Option<Name>) -> Result<
 pub fn lowered_item(alloc: Global, count: u64, written: WrittenItem) -> Result<WrittenItem, Memory>
     ensures { IfOk result (λ item. written_item item ≡ lowered_item count (written_item written)) }
 {
+    let number = counted(count, 1)?;
     match written {
         WrittenItem::Plain(item) => Ok(WrittenItem::Plain(item)),
         WrittenItem::Genvars(at, names) => Ok(WrittenItem::Genvars(at, names)),
@@ -57,12 +65,13 @@ pub fn lowered_item(alloc: Global, count: u64, written: WrittenItem) -> Result<W
             gates,
         } => Ok(WrittenItem::Plain(gates_item(alloc, at, kind, delay, gates)?)),
         WrittenItem::Region(at, items) => lowered_region(alloc, count, at, items),
-        WrittenItem::If(at, condition, taken) => lowered_if(alloc, count, taken, at, condition),
+        WrittenItem::If(at, condition, taken) => lowered_if(alloc, number, taken, at, condition),
         WrittenItem::IfElse(at, condition, taken, otherwise) => {
-            lowered_if_else(alloc, count, taken, otherwise, at, condition)
+            let taken = lowered_taken(alloc, number, taken)?;
+            lowered_otherwise(alloc, otherwise, taken, at, condition)
         }
         WrittenItem::Case(at, selector, choices) => {
-            lowered_case(alloc, count, choices, at, selector)
+            lowered_case(alloc, number, choices, at, selector)
         }
         WrittenItem::For {
             at,
@@ -72,12 +81,9 @@ pub fn lowered_item(alloc: Global, count: u64, written: WrittenItem) -> Result<W
             stepped,
             step,
             body,
-        } => {
-            let number = counted(count, 1)?;
-            lowered_loop(
-                alloc, number, body, at, index, start, condition, stepped, step,
-            )
-        }
+        } => lowered_loop(
+            alloc, number, body, at, index, start, condition, stepped, step,
+        ),
     }
 }
 
@@ -99,51 +105,57 @@ fn lowered_region(
 #[cycle(lowered)]
 fn lowered_if(
     alloc: Global,
-    count: u64,
+    number: u64,
     taken: GenerateBlock,
     at: u32,
     condition: Expr,
 ) -> Result<WrittenItem, Memory>
     ensures { IfOk result (λ item. written_item item
-        ≡ If at (formula condition) (lowered_block (count + 1) (made taken))) }
+        ≡ If at (formula condition) (lowered_block number (made taken))) }
 {
-    let number = counted(count, 1)?;
     let taken = lowered_block(alloc, number, taken)?;
     Ok(WrittenItem::If(at, condition, taken))
 }
 
+/// The branch of a condition that holds.
 #[cycle(lowered)]
-fn lowered_if_else(
+fn lowered_taken(alloc: Global, number: u64, taken: GenerateBlock) -> Result<Taken, Memory>
+    ensures block { IfOk result (λ lowered. made lowered.block ≡ lowered_block number (made taken)) }
+    ensures count { IfOk result (λ lowered. lowered.count ≡ number + block_constructs (made taken)) }
+{
+    let count = counted_behind(number, &taken)?;
+    let block = lowered_block(alloc, number, taken)?;
+    Ok(Taken { block, count })
+}
+
+/// The `else` of a condition, behind the other branch.
+#[cycle(lowered)]
+fn lowered_otherwise(
     alloc: Global,
-    count: u64,
-    taken: GenerateBlock,
     otherwise: GenerateBlock,
+    taken: Taken,
     at: u32,
     condition: Expr,
 ) -> Result<WrittenItem, Memory>
-    ensures { IfOk result (λ item. written_item item
-        ≡ IfElse at (formula condition) (lowered_block (count + 1) (made taken))
-        (lowered_block (count + 1 + block_constructs (made taken)) (made otherwise))) }
+    ensures { IfOk result (λ item. written_item item ≡ IfElse at (formula condition)
+        (made taken.block) (lowered_block taken.count (made otherwise))) }
 {
-    let number = counted(count, 1)?;
-    let next = counted(number, block_constructs(&taken)?)?;
-    let taken = lowered_block(alloc, number, taken)?;
-    let otherwise = lowered_block(alloc, next, otherwise)?;
-    Ok(WrittenItem::IfElse(at, condition, taken, otherwise))
+    let Taken { block, count } = taken;
+    let otherwise = lowered_block(alloc, count, otherwise)?;
+    Ok(WrittenItem::IfElse(at, condition, block, otherwise))
 }
 
 #[cycle(lowered)]
 fn lowered_case(
     alloc: Global,
-    count: u64,
+    number: u64,
     choices: Vec<GenerateChoice>,
     at: u32,
     selector: Expr,
 ) -> Result<WrittenItem, Memory>
     ensures { IfOk result (λ item. written_item item ≡ Case at (formula selector)
-        (lowered_choices (count + 1) (choice_row (map choice choices.items)))) }
+        (lowered_choices number (choice_row (map choice choices.items)))) }
 {
-    let number = counted(count, 1)?;
     let choices = lowered_choices(alloc, number, choices)?;
     Ok(WrittenItem::case(at, selector, choices))
 }

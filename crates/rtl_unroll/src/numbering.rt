@@ -73,7 +73,7 @@ fn items_constructs(items: &[WrittenItem]) -> Result<u64, Memory>
 
 /// Of what a branch makes.
 #[cycle(constructs)]
-pub fn block_constructs(block: &GenerateBlock) -> Result<u64, Memory>
+fn block_constructs(block: &GenerateBlock) -> Result<u64, Memory>
     ensures { IfOk result (λ count. count ≡ block_constructs (made block.now)) }
 {
     match block {
@@ -108,4 +108,11 @@ fn choices_constructs(choices: &[GenerateChoice]) -> Result<u64, Memory>
         count = counted(count, choice_constructs(one)?)?;
     }
     Ok(count)
+}
+
+/// How many constructs stand up to the end of a branch, where so many stand before it.
+pub fn counted_behind(count: u64, block: &GenerateBlock) -> Result<u64, Memory>
+    ensures { IfOk result (λ sum. sum ≡ count + block_constructs (made block.now)) }
+{
+    counted(count, block_constructs(block)?)
 }
