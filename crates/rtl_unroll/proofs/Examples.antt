@@ -1,15 +1,19 @@
--- Gates as assignments.
-use Rattle.std.specs.Prelude.{ℕ, true, false, List, [], ◌∷◌, None, Some}
-use Rattle.std.proofs.Common.{◌≡◌, refl}
+-- Gates as assignments, and generate constructs apart from other items.
+use Rattle.std.specs.Prelude.{ℕ, ◌++◌, codes, true, false, List, [], ◌∷◌, None, Some}
+use Rattle.std.proofs.Common.{◌≡◌, ap, lit<, refl}
+use Rattle.std.proofs.lemmas.Fmt.{decimal_digit}
 use Rattle.rtl_tree.specs.declared.tree.gate.GateKind.TheVariants.{And, Nand, Buf, Not}
 use Rattle.rtl_tree.specs.declared.tree.operators.BinaryOperator.TheVariants.{BitwiseAnd}
 use Rattle.rtl_tree.specs.declared.tree.operators.UnaryOperator.TheVariants.{BitwiseNot}
 use Rattle.rtl_tree.specs.TreeExpr.{Formula, Identifier, Number, Read, Parens, Unary, Binary}
 use Rattle.rtl_tree.specs.TreeStmt.{Whole, Valued}
-use Rattle.rtl_tree.specs.TreeItem.{Gates}
+use Rattle.rtl_tree.specs.TreeItem.{ModuleItem, Gates}
 use Rattle.rtl_tree.specs.TreeGate.{Gate, Two}
-use Rattle.rtl_tree.specs.TreeWritten.{Primitives}
+use Rattle.rtl_tree.specs.TreeWritten.{WrittenItem, Plain, Primitives, Region, If, IfElse, For, WrittenItems, no_items, more_items, GenerateBlock, Null, Single, Block}
 use Rattle.rtl_unroll.specs.Gates.{drives_of, gates_item}
+use Rattle.rtl_unroll.specs.Lowered.{loop_name, lowered_items}
+use Rattle.rtl_unroll.specs.Numbering.{item_constructs}
+use Rattle.rtl_unroll.specs.Plain.{nothing_sorted, sorted_items}
 
 -- the names a, b, c, y, z and g
 abbrev a : Identifier
@@ -75,3 +79,59 @@ whole n at = Number (record { width = 32; val = n; unk = 0; signed = true; sized
 rise_and_fall : gates_item 0 Not (Some (record { at = 4; span = Two (whole 1 6) (whole 2 9) })) (gate_of (Read a ∷ []) ∷ [])
     ≡ Gates 0 [] (Some (record { at = 4; span = Valued (whole 1 6) })) (record { outputs = Whole y ∷ []; value = Unary BitwiseNot 7 (given a) } ∷ [])
 rise_and_fall = refl
+
+-- ---- generate constructs
+
+-- genblk2
+named_loop : loop_name 2 20 ≡ record { text = 103 ∷ 101 ∷ 110 ∷ 98 ∷ 108 ∷ 107 ∷ 50 ∷ []; at = 20 }
+named_loop = ap (λ digits. record { text = codes "genblk" ++ digits; at = 20 }) (decimal_digit 2 (lit< tt))
+
+-- buf (y, b); and the assignment that it is
+abbrev buffer : WrittenItem
+buffer = Primitives 0 Buf None (gate_of (Read b ∷ []) ∷ [])
+
+abbrev assignment : ModuleItem
+assignment =
+    Gates 0 [] None (record { outputs = Whole y ∷ []; value = Unary BitwiseNot 7 (Unary BitwiseNot 7 (given b)) } ∷ [])
+
+-- for (a = b; c; a = z) body
+abbrev loop : ℕ → GenerateBlock → WrittenItem
+loop at body = For at a (Read b) (Read c) a (Read z) body
+
+abbrev alone : WrittenItem → WrittenItems
+alone item = more_items item no_items
+
+-- if (c) buf (y, b); for .. buf (y, b); the loop is the second construct of its scope
+loop_behind_if : (sorted_items nothing_sorted (more_items (If 5 (Read c) (Single buffer)) (alone (loop 20 (Single buffer))))).constructs
+    ≡ record { position = 0; written = If 5 (Read c) (Single (Plain assignment)) }
+    ∷ record { position = 0; written = loop 20 (Block 20 (Some (loop_name 2 20)) (alone (Plain assignment))) }
+    ∷ []
+loop_behind_if = refl
+
+-- if (c) begin for .. ; end else if (a) for .. ; else for .. ;
+abbrev chain : GenerateBlock → GenerateBlock → GenerateBlock → WrittenItem
+chain first second third =
+    IfElse 5 (Read c) (Block 8 None (alone (loop 20 first))) (Single (IfElse 30 (Read a) (Single (loop 40 second)) (Single (loop 50 third))))
+
+-- the loops of a chain and one behind it: the second `if` isn't a construct more
+loops_of_chain : lowered_items 0 (more_items (chain (Null 21) (Null 41) (Null 51)) (alone (loop 60 (Null 61))))
+    ≡ more_items (chain (Block 21 (Some (loop_name 2 20)) no_items) (Block 41 (Some (loop_name 3 40)) no_items) (Block 51 (Some (loop_name 4 50)) no_items)) (alone (loop 60 (Block 61 (Some (loop_name 5 60)) no_items)))
+loops_of_chain = refl
+
+-- if (c) ; else if (a) ; else if (b) ; is one construct
+constructs_of_chain : item_constructs (IfElse 5 (Read c) (Null 9) (Single (IfElse 15 (Read a) (Null 19) (Single (If 25 (Read b) (Null 29)))))) ≡ 1
+constructs_of_chain = refl
+
+-- if (c) begin : g for .. ; end for .. ; what stands in a block with a label is numbered by itself, and so is what a loop makes
+numbers_of_scopes : lowered_items 0 (more_items (If 5 (Read c) (Block 8 (Some g) (alone (loop 20 (Single (loop 30 (Null 31))))))) (alone (loop 40 (Null 41))))
+    ≡ more_items (If 5 (Read c) (Block 8 (Some g) (alone (loop 20 (Block 20 (Some (loop_name 1 20)) (alone (loop 30 (Block 31 (Some (loop_name 1 30)) no_items)))))))) (alone (loop 40 (Block 41 (Some (loop_name 2 40)) no_items)))
+numbers_of_scopes = refl
+
+-- generate buf (y, b); if (c) ; endgenerate buf (y, b);
+region : sorted_items nothing_sorted (more_items (Region 0 (more_items buffer (alone (If 5 (Read c) (Null 9))))) (alone buffer))
+    ≡ record {
+      items = assignment ∷ assignment ∷ [];
+      constructs = record { position = 1; written = If 5 (Read c) (Null 9) } ∷ [];
+      count = 1;
+    }
+region = refl

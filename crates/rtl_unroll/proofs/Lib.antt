@@ -2,3 +2,4 @@ mod Counting
 mod Examples
 mod Joining
 mod Lowering
+mod Sorting

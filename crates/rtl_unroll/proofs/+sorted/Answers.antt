@@ -1,0 +1,11 @@
+-- A region holds a vector.
+use Rattle.std.proofs.Common.{arith}
+use Rattle.std.proofs.lemmas.Grind.{common_steps}
+use Rattle.rtl_unroll.specs.Plain.{sorted_of}
+use Rattle.rtl_unroll.proofs.Sorting.{region_sorted}
+use Rattle.rtl_unroll.proofs.+sorted.Goals as goal
+
+pub push_item-returns-in-Region : goal.push_item-returns-in-Region
+push_item-returns-in-Region t c =
+    let told = region_sorted (sorted_of c.args.sorted.now) c.in-Region.field-0 c.in-Region.items c.args.written c.in-Region.is in
+    grind (arith, common_steps, told)
