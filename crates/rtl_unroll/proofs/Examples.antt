@@ -1,5 +1,5 @@
 -- Gates as assignments, and generate constructs apart from other items.
-use Rattle.std.specs.Prelude.{ℕ, ◌++◌, codes, true, false, List, [], ◌∷◌, None, Some}
+use Rattle.std.specs.Prelude.{ℕ, ◌+◌, ◌++◌, codes, true, false, List, [], ◌∷◌, None, Some}
 use Rattle.std.proofs.Common.{◌≡◌, ap, lit<, refl}
 use Rattle.std.proofs.lemmas.Fmt.{decimal_digit}
 use Rattle.rtl_tree.specs.declared.tree.gate.GateKind.TheVariants.{And, Nand, Buf, Not}
@@ -101,8 +101,15 @@ loop at body = For at a (Read b) (Read c) a (Read z) body
 abbrev alone : WrittenItem → WrittenItems
 alone item = more_items item no_items
 
+abbrev row_of : WrittenItem → WrittenItem → WrittenItems
+row_of first second = more_items first (alone second)
+
+-- what a loop with a number, at a place, makes of `;` right behind its place
+abbrev empty : ℕ → ℕ → GenerateBlock
+empty number at = Block (at + 1) (Some (loop_name number at)) no_items
+
 -- if (c) buf (y, b); for .. buf (y, b); the loop is the second construct of its scope
-loop_behind_if : (sorted_items nothing_sorted (more_items (If 5 (Read c) (Single buffer)) (alone (loop 20 (Single buffer))))).constructs
+loop_behind_if : (sorted_items nothing_sorted (row_of (If 5 (Read c) (Single buffer)) (loop 20 (Single buffer)))).constructs
     ≡ record { position = 0; written = If 5 (Read c) (Single (Plain assignment)) }
     ∷ record { position = 0; written = loop 20 (Block 20 (Some (loop_name 2 20)) (alone (Plain assignment))) }
     ∷ []
@@ -111,24 +118,30 @@ loop_behind_if = refl
 -- if (c) begin for .. ; end else if (a) for .. ; else for .. ;
 abbrev chain : GenerateBlock → GenerateBlock → GenerateBlock → WrittenItem
 chain first second third =
-    IfElse 5 (Read c) (Block 8 None (alone (loop 20 first))) (Single (IfElse 30 (Read a) (Single (loop 40 second)) (Single (loop 50 third))))
+    let others = IfElse 30 (Read a) (Single (loop 40 second)) (Single (loop 50 third)) in
+    IfElse 5 (Read c) (Block 8 None (alone (loop 20 first))) (Single others)
 
 -- the loops of a chain and one behind it: the second `if` isn't a construct more
-loops_of_chain : lowered_items 0 (more_items (chain (Null 21) (Null 41) (Null 51)) (alone (loop 60 (Null 61))))
-    ≡ more_items (chain (Block 21 (Some (loop_name 2 20)) no_items) (Block 41 (Some (loop_name 3 40)) no_items) (Block 51 (Some (loop_name 4 50)) no_items)) (alone (loop 60 (Block 61 (Some (loop_name 5 60)) no_items)))
+loops_of_chain : lowered_items 0 (row_of (chain (Null 21) (Null 41) (Null 51)) (loop 60 (Null 61)))
+    ≡ row_of (chain (empty 2 20) (empty 3 40) (empty 4 50)) (loop 60 (empty 5 60))
 loops_of_chain = refl
 
 -- if (c) ; else if (a) ; else if (b) ; is one construct
-constructs_of_chain : item_constructs (IfElse 5 (Read c) (Null 9) (Single (IfElse 15 (Read a) (Null 19) (Single (If 25 (Read b) (Null 29)))))) ≡ 1
+constructs_of_chain : (let others = IfElse 15 (Read a) (Null 19) (Single (If 25 (Read b) (Null 29))) in
+    item_constructs (IfElse 5 (Read c) (Null 9) (Single others)) ≡ 1)
 constructs_of_chain = refl
 
--- if (c) begin : g for .. ; end for .. ; what stands in a block with a label is numbered by itself, and so is what a loop makes
-numbers_of_scopes : lowered_items 0 (more_items (If 5 (Read c) (Block 8 (Some g) (alone (loop 20 (Single (loop 30 (Null 31))))))) (alone (loop 40 (Null 41))))
-    ≡ more_items (If 5 (Read c) (Block 8 (Some g) (alone (loop 20 (Block 20 (Some (loop_name 1 20)) (alone (loop 30 (Block 31 (Some (loop_name 1 30)) no_items)))))))) (alone (loop 40 (Block 41 (Some (loop_name 2 40)) no_items)))
+-- if (c) begin : g for .. body end
+abbrev choice : GenerateBlock → WrittenItem
+choice body = If 5 (Read c) (Block 8 (Some g) (alone (loop 20 body)))
+
+-- if (c) begin : g for .. for .. ; end for .. ; a block with a label and a loop have numbers of their own
+numbers_of_scopes : lowered_items 0 (row_of (choice (Single (loop 30 (Null 31)))) (loop 40 (Null 41)))
+    ≡ row_of (choice (Block 20 (Some (loop_name 1 20)) (alone (loop 30 (empty 1 30))))) (loop 40 (empty 2 40))
 numbers_of_scopes = refl
 
 -- generate buf (y, b); if (c) ; endgenerate buf (y, b);
-region : sorted_items nothing_sorted (more_items (Region 0 (more_items buffer (alone (If 5 (Read c) (Null 9))))) (alone buffer))
+region : sorted_items nothing_sorted (row_of (Region 0 (row_of buffer (If 5 (Read c) (Null 9)))) buffer)
     ≡ record {
       items = assignment ∷ assignment ∷ [];
       constructs = record { position = 1; written = If 5 (Read c) (Null 9) } ∷ [];

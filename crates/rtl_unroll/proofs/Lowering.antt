@@ -1,5 +1,5 @@
 -- Constructs that hold vectors, lowered.
-use Rattle.std.specs.Prelude.{ℕ, List, map, Option, None, Some, Vec}
+use Rattle.std.specs.Prelude.{ℕ, map, Option, None, Some, Vec}
 use Rattle.std.specs.Option.{option_map, unwrap_or}
 use Rattle.std.specs.declared.alloc.Global.{Global}
 use Rattle.std.proofs.Common.{◌≡◌, ◌∙◌, ap, refl}
@@ -14,7 +14,7 @@ use Rattle.rtl_tree.specs.TreeExpr.{Identifier, formula, identifier}
 use Rattle.rtl_tree.specs.TreeWritten as tree
 use Rattle.rtl_tree.specs.TreeWritten.{choice, choice_list, choice_row, item_list, item_row, made, written_item}
 use Rattle.rtl_tree.proofs.TreeViews.{region_is, generate_case_is, generate_block_is}
-use Rattle.rtl_unroll.specs.Lowered.{loop_name, lowered_block, lowered_body, lowered_item, lowered_items, lowered_choices}
+use Rattle.rtl_unroll.specs.Lowered.{loop_name, lowered_block, lowered_body, lowered_item, lowered_items}
 
 pub item_row_back : (row : tree.WrittenItems) → item_row (item_list row) ≡ row
 item_row_back tree.no_items = refl
@@ -26,7 +26,8 @@ choice_row_back (tree.more_choices first others) = ap (tree.more_choices first) 
 
 pub region_lowered : (count at : ℕ) (items : Vec WrittenItem Global) (written : WrittenItem)
     → written ≡ item.Region at items
-    → lowered_item count (written_item written) ≡ tree.Region at (lowered_items count (item_row (map written_item items.items)))
+    → lowered_item count (written_item written)
+    ≡ tree.Region at (lowered_items count (item_row (map written_item items.items)))
 region_lowered count at items written is =
     ap (λ w. lowered_item count (written_item w)) is ∙ ap (lowered_item count) (region_is at items)
 

@@ -21,7 +21,8 @@ abbrev mutual
   lowered_item count (Region at items) = Region at (lowered_items count items)
   lowered_item count (If at condition taken) = If at condition (lowered_block (count + 1) taken)
   lowered_item count (IfElse at condition taken otherwise) =
-      IfElse at condition (lowered_block (count + 1) taken) (lowered_block (count + 1 + block_constructs taken) otherwise)
+      let behind = count + 1 + block_constructs taken in
+      IfElse at condition (lowered_block (count + 1) taken) (lowered_block behind otherwise)
   lowered_item count (Case at selector choices) = Case at selector (lowered_choices (count + 1) choices)
   lowered_item count (For at index start condition stepped step body) =
       For at index start condition stepped step (lowered_body (count + 1) at body)
@@ -41,7 +42,8 @@ abbrev mutual
   -- what the loop with a number, at a place, makes: always between `begin` and `end`, with a label
   pub lowered_body : ℕ → ℕ → GenerateBlock → GenerateBlock
   lowered_body number at (Null own) = Block own (Some (loop_name number at)) no_items
-  lowered_body number at (Single item) = Block at (Some (loop_name number at)) (more_items (lowered_item 0 item) no_items)
+  lowered_body number at (Single item) =
+      Block at (Some (loop_name number at)) (more_items (lowered_item 0 item) no_items)
   lowered_body number at (Block own None items) = Block own (Some (loop_name number at)) (lowered_items 0 items)
   lowered_body number at (Block own (Some label) items) = Block own (Some label) (lowered_items 0 items)
 

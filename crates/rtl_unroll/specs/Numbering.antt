@@ -1,5 +1,5 @@
--- How generate constructs are counted, of which a loop without a label gets its number: by scopes (IEEE 1364-2001 section
--- 12.1.3, and IEEE 1364-2005 section 12.4.3 for names of loops without a label).
+-- How many generate constructs stand in a scope, by which a loop without a label is numbered (IEEE 1364-2001 section 12.1.3,
+-- and IEEE 1364-2005 section 12.4.3 for names of loops without a label).
 -- Worked examples: crates/rtl_unroll/proofs/Examples.antt.
 use Rattle.std.specs.Prelude.{ℕ, ◌+◌, ◌-◌, Bool, true, false, None, Some}
 use Rattle.rtl_tree.specs.TreeWritten.{WrittenItem, Plain, Primitives, Genvars, Region, If, IfElse, Case, For, WrittenItems, no_items, more_items, GenerateBlock, Null, Single, Block, GenerateChoice, Labelled, Default, GenerateChoices, no_choices, more_choices}

@@ -1,5 +1,5 @@
--- Modules as they are written, with assignments in place of gates, and generate constructs apart from the other items (IEEE
--- 1364-2001 section 12.1.3, and IEEE 1364-2005 section 12.4.3 for names of loops without a label).
+-- Modules as they are written, with assignments in place of gates, and generate constructs apart from other items
+-- (IEEE 1364-2001 sections 7.1 to 7.3 and 12.1.3, and IEEE 1364-2005 section 12.4.3 for names of loops without a label).
 -- Worked examples: crates/rtl_unroll/proofs/Examples.antt.
 use Rattle.std.specs.Prelude.{ℕ, ◌+◌, List, [], ◌∷◌, ◌++◌, length, map}
 use Rattle.rtl_tree.specs.TreeItem.{ModuleItem, module_item}

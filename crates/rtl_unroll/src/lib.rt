@@ -1,4 +1,4 @@
-//! Modules as elaboration reads them: assignments in place of gates, and generate constructs apart from the other items.
+//! Modules as elaboration reads them: assignments in place of gates, and generate constructs apart from other items.
 #![tactic(auto)]
 
 mod gates;
@@ -31,7 +31,8 @@ struct Sorted {
 
 /// Puts a construct behind others.
 fn push_construct(alloc: Global, written: WrittenItem, sorted: &mut Sorted) -> Result<(), Memory>
-    ensures { OnOk result (sorted_of sorted.new ≡ with_construct (sorted_of sorted.old) (written_item written)) }
+    ensures { OnOk result (sorted_of sorted.new
+        ≡ with_construct (sorted_of sorted.old) (written_item written)) }
 {
     let count = counted(sorted.count, item_constructs(&written)?)?;
     let written = lowered_item(alloc, sorted.count, written)?;
@@ -46,7 +47,8 @@ fn push_construct(alloc: Global, written: WrittenItem, sorted: &mut Sorted) -> R
 /// Puts an item behind others.
 #[cycle(sorted)]
 fn push_item(alloc: Global, written: WrittenItem, sorted: &mut Sorted) -> Result<(), Memory>
-    ensures { OnOk result (sorted_of sorted.new ≡ sorted_item (sorted_of sorted.old) (written_item written)) }
+    ensures { OnOk result (sorted_of sorted.new
+        ≡ sorted_item (sorted_of sorted.old) (written_item written)) }
 {
     match written {
         WrittenItem::Plain(item) => Ok(sorted.items.push(item)?),

@@ -120,8 +120,8 @@ fn lowered_if(
 /// The branch of a condition that holds.
 #[cycle(lowered)]
 fn lowered_taken(alloc: Global, number: u64, taken: GenerateBlock) -> Result<Taken, Memory>
-    ensures block { IfOk result (λ lowered. made lowered.block ≡ lowered_block number (made taken)) }
-    ensures count { IfOk result (λ lowered. lowered.count ≡ number + block_constructs (made taken)) }
+    ensures block { IfOk result (λ one. made one.block ≡ lowered_block number (made taken)) }
+    ensures count { IfOk result (λ one. one.count ≡ number + block_constructs (made taken)) }
 {
     let count = counted_behind(number, &taken)?;
     let block = lowered_block(alloc, number, taken)?;
@@ -224,7 +224,8 @@ fn lowered_block(alloc: Global, count: u64, block: GenerateBlock) -> Result<Gene
 /// An item that a branch makes alone.
 #[cycle(lowered)]
 fn lowered_single(alloc: Global, count: u64, item: WrittenItem) -> Result<GenerateBlock, Memory>
-    ensures { IfOk result (λ lowered. made lowered ≡ lowered_block count (Single (written_item item))) }
+    ensures { IfOk result (λ lowered. made lowered
+        ≡ lowered_block count (Single (written_item item))) }
 {
     let before = without_outer(&item, count);
     let item = lowered_item(alloc, before, item)?;
@@ -240,8 +241,8 @@ fn lowered_row(
     label: Option<Name>,
     items: Vec<WrittenItem>,
 ) -> Result<GenerateBlock, Memory>
-    ensures { IfOk result (λ lowered. made lowered
-        ≡ lowered_block count (Block at (option_map identifier label) (item_row (map written_item items.items)))) }
+    ensures { let all = item_row (map written_item items.items) in IfOk result (λ lowered.
+        made lowered ≡ lowered_block count (Block at (option_map identifier label) all)) }
 {
     let before = if label.is_some() { 0 } else { count };
     let items = lowered_items(alloc, before, items)?;

@@ -62,7 +62,8 @@ pub fn item_constructs(item: &WrittenItem) -> Result<u64, Memory>
 /// Of items in a row.
 #[cycle(constructs)]
 fn items_constructs(items: &[WrittenItem]) -> Result<u64, Memory>
-    ensures { IfOk result (λ count. count ≡ items_constructs (item_row (map written_item items.now))) }
+    ensures { IfOk result (λ count. count
+        ≡ items_constructs (item_row (map written_item items.now))) }
 {
     let mut count = 0;
     for item in items {
@@ -101,7 +102,8 @@ pub fn choice_constructs(chosen: &GenerateChoice) -> Result<u64, Memory>
 /// Of choices in a row.
 #[cycle(constructs)]
 fn choices_constructs(choices: &[GenerateChoice]) -> Result<u64, Memory>
-    ensures { IfOk result (λ count. count ≡ choices_constructs (choice_row (map choice choices.now))) }
+    ensures { IfOk result (λ count. count
+        ≡ choices_constructs (choice_row (map choice choices.now))) }
 {
     let mut count = 0;
     for one in choices {

@@ -7,5 +7,6 @@ use Rattle.rtl_unroll.proofs.+sorted.Goals as goal
 
 pub push_item-returns-in-Region : goal.push_item-returns-in-Region
 push_item-returns-in-Region t c =
-    let told = region_sorted (sorted_of c.args.sorted.now) c.in-Region.field-0 c.in-Region.items c.args.written c.in-Region.is in
+    let here = c.in-Region in
+    let told = region_sorted (sorted_of c.args.sorted.now) here.field-0 here.items c.args.written here.is in
     grind (arith, common_steps, told)

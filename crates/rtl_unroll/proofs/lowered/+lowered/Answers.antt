@@ -13,7 +13,8 @@ lowered_item-returns-in-Region t c =
 
 pub lowered_item-returns-in-Case : goal.lowered_item-returns-in-Case
 lowered_item-returns-in-Case t c =
-    let told = case_lowered c.args.count c.in-Case.at c.in-Case.selector c.in-Case.choices c.args.written c.in-Case.is in
+    let here = c.in-Case in
+    let told = case_lowered c.args.count here.at here.selector here.choices c.args.written here.is in
     grind (arith, common_steps, told)
 
 pub lowered_block-returns-in-Block : goal.lowered_block-returns-in-Block
@@ -23,7 +24,8 @@ lowered_block-returns-in-Block t c =
 
 pub lowered_body-returns-in_ok-label-in-Block : goal.lowered_body-returns-in_ok-label-in-Block
 lowered_body-returns-in_ok-label-in-Block t c =
-    let told = body_lowered c.args.number c.args.at c.in-Block.own c.in-Block.label c.in-Block.items c.args.body c.in-Block.is in
+    let here = c.in-Block in
+    let told = body_lowered c.args.number c.args.at here.own here.label here.items c.args.body here.is in
     grind (arith, common_steps, told)
 
 pub lowered_items-returns : goal.lowered_items-returns

@@ -11,10 +11,12 @@ item_constructs-returns-in-Region t c =
 
 pub item_constructs-returns-in_ok-choices_constructs-in-Case : goal.item_constructs-returns-in_ok-choices_constructs-in-Case
 item_constructs-returns-in_ok-choices_constructs-in-Case t c =
-    let told = case_counted c.in-Case.field-0 c.in-Case.field-1 c.in-Case.choices c.args.item.now c.in-Case.is in
+    let here = c.in-Case in
+    let told = case_counted here.field-0 here.field-1 here.choices c.args.item.now here.is in
     grind (arith, common_steps, told)
 
 pub block_constructs-returns-in-None : goal.block_constructs-returns-in-None
 block_constructs-returns-in-None t c =
-    let told = block_counted c.in-Block.field-0 c.in-Block.label c.in-Block.items c.args.block.now c.in-Block.is c.in-None.is in
+    let here = c.in-Block in
+    let told = block_counted here.field-0 here.label here.items c.args.block.now here.is c.in-None.is in
     grind (arith, common_steps, told)
