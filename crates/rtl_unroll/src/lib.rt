@@ -14,7 +14,7 @@ ghost use Rattle.rtl_unroll.specs.Plain.{nothing_sorted, plain_circuit, sorted_i
 
 use gates::gates_item;
 use lowered::lowered_item;
-use numbering::{counted, item_constructs};
+use numbering::behind_item;
 use rtl_tree::tree::item::Item;
 use rtl_tree::tree::modules::{Construct, Module, WrittenModule};
 use rtl_tree::tree::written::WrittenItem;
@@ -34,7 +34,7 @@ fn push_construct(alloc: Global, written: WrittenItem, sorted: &mut Sorted) -> R
     ensures { OnOk result (sorted_of sorted.new
         ≡ with_construct (sorted_of sorted.old) (written_item written)) }
 {
-    let count = counted(sorted.count, item_constructs(&written)?)?;
+    let count = behind_item(sorted.count, &written)?;
     let written = lowered_item(alloc, sorted.count, written)?;
     sorted.constructs.push(Construct {
         position: sorted.items.len(),

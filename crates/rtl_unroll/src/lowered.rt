@@ -8,9 +8,7 @@ ghost use Rattle.rtl_unroll.specs.Numbering.{block_constructs};
 ghost use Rattle.rtl_unroll.specs.Lowered.{loop_name, lowered_block, lowered_body, lowered_choice, lowered_choices, lowered_item, lowered_items};
 
 use crate::gates::gates_item;
-use crate::numbering::{
-    choice_constructs, counted, counted_behind, item_constructs, without_outer,
-};
+use crate::numbering::{behind_block, behind_choice, behind_item, counted, without_outer};
 use itoa::Buffer;
 use rtl_tree::tree::expr::Expr;
 use rtl_tree::tree::names::Name;
@@ -123,7 +121,7 @@ fn lowered_taken(alloc: Global, number: u64, taken: GenerateBlock) -> Result<Tak
     ensures block { IfOk result (λ one. made one.block ≡ lowered_block number (made taken)) }
     ensures count { IfOk result (λ one. one.count ≡ number + block_constructs (made taken)) }
 {
-    let count = counted_behind(number, &taken)?;
+    let count = behind_block(number, &taken)?;
     let block = lowered_block(alloc, number, taken)?;
     Ok(Taken { block, count })
 }
@@ -202,7 +200,7 @@ fn lowered_items(
     let mut before = count;
     let mut all = Vec::new(alloc);
     for item in items {
-        let next = counted(before, item_constructs(&item)?)?;
+        let next = behind_item(before, &item)?;
         all.push(lowered_item(alloc, before, item)?)?;
         before = next;
     }
@@ -228,8 +226,8 @@ fn lowered_single(alloc: Global, count: u64, item: WrittenItem) -> Result<Genera
         ≡ lowered_block count (Single (written_item item))) }
 {
     let before = without_outer(&item, count);
-    let item = lowered_item(alloc, before, item)?;
-    Ok(GenerateBlock::Single(Box::new(alloc, item)?))
+    let item = Box::new(alloc, lowered_item(alloc, before, item)?)?;
+    Ok(GenerateBlock::Single(item))
 }
 
 /// Items that a branch makes between `begin` and `end`: with a label these are a scope of their own.
@@ -265,8 +263,7 @@ fn lowered_body(
             Ok(GenerateBlock::block(own, Some(label), Vec::new(alloc)))
         }
         GenerateBlock::Single(item) => {
-            let item = lowered_item(alloc, 0, Box::into_inner(item))?;
-            let items = vec![in alloc; item]?;
+            let items = vec![in alloc; lowered_item(alloc, 0, Box::into_inner(item))?]?;
             let label = loop_name(alloc, number, at)?;
             Ok(GenerateBlock::block(at, Some(label), items))
         }
@@ -312,7 +309,7 @@ fn lowered_choices(
     let mut before = count;
     let mut all = Vec::new(alloc);
     for one in choices {
-        let next = counted(before, choice_constructs(&one)?)?;
+        let next = behind_choice(before, &one)?;
         all.push(lowered_choice(alloc, before, one)?)?;
         before = next;
     }

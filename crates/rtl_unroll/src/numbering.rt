@@ -43,7 +43,7 @@ pub fn without_outer(item: &WrittenItem, count: u64) -> u64
 
 /// How many constructs of its own scope an item is and holds.
 #[cycle(constructs)]
-pub fn item_constructs(item: &WrittenItem) -> Result<u64, Memory>
+fn item_constructs(item: &WrittenItem) -> Result<u64, Memory>
     ensures { IfOk result (λ count. count ≡ item_constructs (written_item item.now)) }
 {
     match item {
@@ -89,7 +89,7 @@ fn block_constructs(block: &GenerateBlock) -> Result<u64, Memory>
 
 /// Of a choice.
 #[cycle(constructs)]
-pub fn choice_constructs(chosen: &GenerateChoice) -> Result<u64, Memory>
+fn choice_constructs(chosen: &GenerateChoice) -> Result<u64, Memory>
     ensures { IfOk result (λ count. count ≡ choice_constructs (choice chosen.now)) }
 {
     match chosen {
@@ -112,9 +112,23 @@ fn choices_constructs(choices: &[GenerateChoice]) -> Result<u64, Memory>
     Ok(count)
 }
 
-/// How many constructs stand up to the end of a branch, where so many stand before it.
-pub fn counted_behind(count: u64, block: &GenerateBlock) -> Result<u64, Memory>
+/// How many constructs stand up to the end of an item, where so many stand before it.
+pub fn behind_item(count: u64, item: &WrittenItem) -> Result<u64, Memory>
+    ensures { IfOk result (λ sum. sum ≡ count + item_constructs (written_item item.now)) }
+{
+    counted(count, item_constructs(item)?)
+}
+
+/// The same of a branch.
+pub fn behind_block(count: u64, block: &GenerateBlock) -> Result<u64, Memory>
     ensures { IfOk result (λ sum. sum ≡ count + block_constructs (made block.now)) }
 {
     counted(count, block_constructs(block)?)
+}
+
+/// The same of a choice.
+pub fn behind_choice(count: u64, chosen: &GenerateChoice) -> Result<u64, Memory>
+    ensures { IfOk result (λ sum. sum ≡ count + choice_constructs (choice chosen.now)) }
+{
+    counted(count, choice_constructs(chosen)?)
 }
