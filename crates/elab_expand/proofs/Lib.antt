@@ -1,0 +1,5 @@
+pub mod Examples
+pub mod Expanding
+pub mod Scoping
+pub mod Turning
+pub mod Views
