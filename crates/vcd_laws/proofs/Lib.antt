@@ -1,0 +1,4 @@
+mod Reached
+mod Splits
+mod Stops
+mod Verdicts

@@ -1,0 +1,4 @@
+//! A dump beside synthesised hardware has one verdict, or one reason why it has none.
+#![tactic(auto)]
+
+pub mod law;
