@@ -6,7 +6,7 @@ use Rattle.desk_io.specs.declared.shelf.ShelfFault.{ShelfFault}
 use Rattle.desk_io.specs.declared.shelf.ShelfFault.TheVariants as fault
 use Rattle.desk_io.specs.Shelf.{Files}
 use Rattle.desk_top.specs.declared.deliver.Ending.{Ending}
-use Rattle.desk_top.specs.declared.deliver.Ending.TheVariants.{Clean, Open, Refused, NoCommand, Settled, Unsettled, Malformed, Shown, Same, NoNetlist, Counted}
+use Rattle.desk_top.specs.declared.deliver.Ending.TheVariants.{Clean, Open, Refused, NoCommand, Settled, Unsettled, Malformed, Shown, Same, NoNetlist, Agreed, Departed, NoDump, Counted}
 use Rattle.desk_top.specs.declared.deliver.Stop.{Stop}
 use Rattle.desk_top.specs.declared.deliver.Stop.TheVariants.{Unread, NoFile, Memory}
 use Rattle.desk_top.specs.declared.deliver.Work.{Work}
@@ -27,6 +27,9 @@ status_of Malformed = 12
 status_of Shown = 0
 status_of Same = 10
 status_of NoNetlist = 13
+status_of Agreed = 0
+status_of Departed = 15
+status_of NoDump = 16
 status_of Counted = 0
 
 abbrev pub stop_status : Stop → ℕ

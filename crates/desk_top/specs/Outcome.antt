@@ -27,13 +27,21 @@ use Rattle.desk_report.specs.Demos.{replay_line}
 use Rattle.desk_report.specs.Reports.{report_text, stages_report}
 use Rattle.desk_report.specs.Tellings.{signal_path, tellings}
 use Rattle.desk_stages.specs.Stages.{stages_text}
+use Rattle.vcd_check.specs.vcd_signals.vcd_read.Reading.{Dump, read}
+use Rattle.vcd_check.specs.vcd_signals.vcd_read.declared.fault.VcdFault.{VcdFault}
+use Rattle.vcd_check.specs.declared.verdict.CompareFault.{CompareFault}
+use Rattle.vcd_check.specs.declared.verdict.CompareFault.TheVariants as compare
+use Rattle.vcd_check.specs.declared.verdict.Verdict.{Verdict}
+use Rattle.vcd_check.specs.declared.verdict.Verdict.TheVariants.{Agrees, Departs}
+use Rattle.vcd_check.specs.Verdicts.{IsCompareFault, IsVerdict}
+use Rattle.desk_dumps.specs.Lines.{compare_line, read_line, verdict_line}
 use Rattle.desk_build.specs.Building.{Built, Designed, Refused, IsBuilt}
 use Rattle.desk_top.specs.Delivery.{Outcome, no_file}
 use Rattle.desk_top.specs.Texts.{named, texts_of}
-use Rattle.desk_top.specs.Words.{Order, Sign, Simulate, Replay, Generate, order}
+use Rattle.desk_top.specs.Words.{Order, Sign, Simulate, Replay, Vcd, Generate, order}
 
 -- what the outside holds: the files by their names, when the sources are read, and before that, when
--- the steps of a simulation or a demonstration are
+-- the steps of a simulation, a demonstration or a dump are
 pub record World : Type 0 where
   pub before : Files
   pub files : Files
@@ -187,6 +195,59 @@ IsReplaying top files (Ok demo) None outcome = outcome ≡ no_file
 IsReplaying top files (Ok demo) (Some texts) outcome =
     IsReplayIn top (named files texts) texts demo outcome
 
+-- ---- recorded dumps
+
+-- the dump agrees with what synthesis means, or departs from it
+abbrev pub verdict_status : Verdict → ℕ
+verdict_status (Agrees frames) = 0
+verdict_status (Departs time signal recorded synthesised) = 15
+
+abbrev pub verdict_outcome : DesignParts → Verdict → Outcome
+verdict_outcome design verdict =
+    record { status = verdict_status verdict; bytes = verdict_line design.parts.flat.signals verdict }
+
+-- the design has no netlist; or the dump doesn't have what a comparison needs
+abbrev pub compare_status : CompareFault → ℕ
+compare_status compare.NoNetlist = 13
+compare_status (compare.MissingInput signal) = 16
+compare_status (compare.MissingRegister signal) = 16
+compare_status compare.NeverKnown = 16
+compare_status (compare.Unlawful time) = 16
+compare_status compare.Memory = 16
+
+-- the answer for a dump that has the top of a design in a scope
+pub data IsCompared (design : DesignParts) (scope : List ℕ) (dump : Dump) : Outcome → Type 0 where
+  Told :
+      (verdict : Verdict) → IsVerdict design.parts.flat scope dump verdict →
+      IsCompared design scope dump (verdict_outcome design verdict)
+  Untold :
+      (fault : CompareFault) (line : List ℕ) → IsCompareFault design.parts.flat scope dump fault →
+      compare_line design.parts.flat.signals fault ≡ Some line →
+      IsCompared design scope dump (record { status = compare_status fault; bytes = line })
+
+abbrev pub IsComparedWith : List ℕ → Dump → Built → Outcome → Type 0
+IsComparedWith scope dump (Designed design) outcome = IsCompared design scope dump outcome
+IsComparedWith scope dump (Refused line) outcome = outcome ≡ refused line
+
+-- the answer for texts and a dump
+pub record IsBeside (top : List ℕ) (sources : List SourceFile) (texts : List (List ℕ)) (scope : List ℕ) (dump : Dump) (outcome : Outcome) : Type 0 where
+  pub built : Built
+  pub is_built : IsBuilt top sources texts built
+  pub is : IsComparedWith scope dump built outcome
+
+-- the answer for texts and what the text of a dump is read as: none that can be read comes before what texts make
+abbrev pub IsReadBeside : List ℕ → List SourceFile → List (List ℕ) → List ℕ → Result Dump VcdFault → Outcome → Type 0
+IsReadBeside top sources texts scope (Ok dump) outcome = IsBeside top sources texts scope dump outcome
+IsReadBeside top sources texts scope (Err fault) outcome =
+    (line : List ℕ) × (read_line fault ≡ Some line) × (outcome ≡ record { status = 16; bytes = line })
+
+-- the answer for files; none of it where one of them, or the one with the dump, isn't there or is too long
+abbrev pub IsComparing : List ℕ → List ℕ → List (List ℕ) → Result (List ℕ) ShelfFault → Option (List (List ℕ)) → Outcome → Type 0
+IsComparing top scope files (Err fault) texts outcome = outcome ≡ no_file
+IsComparing top scope files (Ok text) None outcome = outcome ≡ no_file
+IsComparing top scope files (Ok text) (Some texts) outcome =
+    IsReadBeside top (named files texts) texts scope (read text) outcome
+
 -- ---- generated designs
 
 -- a generated text as a file, which has this name where it is told
@@ -217,7 +278,7 @@ pub record IsGenerated (stages : ℕ) (outcome : Outcome) : Type 0 where
 -- the usage of the whole program
 abbrev pub usage : List ℕ
 usage =
-    codes "usage: desk sign TOP FILE.. | simulate TOP STEPS FILE.. | replay TOP DEMO FILE.. | serve PORT COUNT | report TOP | generate N" ++ 10 ∷ []
+    codes "usage: desk sign TOP FILE.. | simulate TOP STEPS FILE.. | replay TOP DEMO FILE.. | vcd TOP SCOPE DUMP FILE.. | serve PORT COUNT | report TOP | generate N" ++ 10 ∷ []
 
 -- the outcome of a command, and the usage where the words are none
 abbrev pub IsDone : World → Option Order → Outcome → Type 0
@@ -227,6 +288,8 @@ IsDone world (Some (Simulate top steps files)) outcome =
     IsSimulating top files (reading (world.before steps)) (texts_of world.files files) outcome
 IsDone world (Some (Replay top demo files)) outcome =
     IsReplaying top files (reading (world.before demo)) (texts_of world.files files) outcome
+IsDone world (Some (Vcd top scope dump files)) outcome =
+    IsComparing top scope files (reading (world.before dump)) (texts_of world.files files) outcome
 IsDone world (Some (Generate stages)) outcome = IsGenerated stages outcome
 
 -- the outcome of the words

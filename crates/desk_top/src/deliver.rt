@@ -11,7 +11,7 @@ use std::alloc::{AllocError, AllocFailed};
 use text_ground::memory::Memory as NoMemory;
 
 /// The exit status where the work was done: after `sign` the design is clean, after `simulate` each
-/// step came to rest, after `replay` the two values differ, after `generate` the design is ruled.
+/// step came to rest, after `replay` the two values differ, after `vcd` the dump agrees, after `generate` the design is ruled.
 pub const DONE: u8 = 0;
 
 /// The exit status where a rule of the first grade has a finding.
@@ -41,8 +41,14 @@ pub const UNSETTLED: u8 = 11;
 /// The exit status where the file of steps or of a demonstration has a line that is none.
 pub const MALFORMED: u8 = 12;
 
-/// The exit status where a demonstration's design has no netlist.
+/// The exit status where the design of a demonstration or of a dump has no netlist.
 pub const NO_NETLIST: u8 = 13;
+
+/// The exit status where a dump departs from what synthesis means.
+pub const DEPARTED: u8 = 15;
+
+/// The exit status where a dump can't be read or can't be compared.
+pub const NO_DUMP: u8 = 16;
 
 /// The exit status where memory ran out.
 pub const NO_MEMORY: u8 = 20;
@@ -68,8 +74,14 @@ pub enum Ending {
     Shown,
     /// A demonstration shows no difference.
     Same,
-    /// A demonstration's design has no netlist.
+    /// The design of a demonstration or of a dump has no netlist.
     NoNetlist,
+    /// A dump agrees with what synthesis means.
+    Agreed,
+    /// It departs from that.
+    Departed,
+    /// It can't be read or can't be compared.
+    NoDump,
     /// A generated design is ruled.
     Counted,
 }
@@ -132,6 +144,9 @@ impl Ending {
             Ending::Shown => DONE,
             Ending::Same => NO_DIFFERENCE,
             Ending::NoNetlist => NO_NETLIST,
+            Ending::Agreed => DONE,
+            Ending::Departed => DEPARTED,
+            Ending::NoDump => NO_DUMP,
             Ending::Counted => DONE,
         }
     }

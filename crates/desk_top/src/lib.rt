@@ -9,6 +9,7 @@ pub mod sign;
 pub mod simulate;
 pub mod stream;
 pub mod top;
+pub mod vcd;
 pub mod words;
 
 // Passed on to the crates above.

@@ -2,7 +2,7 @@
 
 ghost use Rattle.std.specs.Prelude.{◌≡◌, option_map, bytes_eq};
 ghost use Rattle.std.specs.List.{list_all, list_any};
-ghost use Rattle.desk_top.specs.Words.{Replay, Simulate, all_different, are_files, generate_order, is_name, order, sign_order, ahead_order, stages_order, texts};
+ghost use Rattle.desk_top.specs.Words.{Replay, Simulate, all_different, are_files, generate_order, is_name, order, sign_order, ahead_order, stages_order, texts, vcd_order};
 ghost use Rattle.desk_top.specs.Commands.{order_of};
 
 use desk_numbers::{is_positive, number_up_to};
@@ -31,6 +31,13 @@ pub enum Command<'a> {
         demo: &'a str,
         files: &'a [String],
     },
+    /// Compares a recorded dump, which has the top in a scope, with the module of this name among those of these files.
+    Vcd {
+        top: &'a str,
+        scope: &'a str,
+        dump: &'a str,
+        files: &'a [String],
+    },
     /// Rules a generated design of so many stages.
     Generate {
         stages: u32,
@@ -46,6 +53,7 @@ pub fn read_command(words: &[String]) -> Option<Command<'_>>
         "sign" => read_sign(rest),
         "simulate" => read_simulate(rest),
         "replay" => read_replay(rest),
+        "vcd" => read_vcd(rest),
         "generate" => read_generate(rest),
         _ => None,
     }
@@ -90,6 +98,26 @@ fn read_replay(words: &[String]) -> Option<Command<'_>>
         Some(Command::Replay {
             top: top.as_str(),
             demo: demo.as_str(),
+            files,
+        })
+    } else {
+        None
+    }
+}
+
+fn read_vcd(words: &[String]) -> Option<Command<'_>>
+    ensures { option_map order_of result ≡ vcd_order (texts words.now) }
+{
+    let (top, rest) = words.split_first()?;
+    let (scope, rest) = rest.split_first()?;
+    let (dump, files) = rest.split_first()?;
+    if is_name(top.as_str())
+        && (is_name(scope.as_str()) && (is_name(dump.as_str()) && are_files(files)))
+    {
+        Some(Command::Vcd {
+            top: top.as_str(),
+            scope: scope.as_str(),
+            dump: dump.as_str(),
             files,
         })
     } else {

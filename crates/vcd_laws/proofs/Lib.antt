@@ -1,4 +1,4 @@
 mod Reached
 mod Splits
 mod Stops
-mod Verdicts
+pub mod Verdicts
