@@ -1,4 +1,5 @@
 mod OneAnswer
 mod OneBuilt
 mod OneDemo
+mod OneDump
 mod OneRun

@@ -16,10 +16,11 @@ use Rattle.desk_top.specs.desk_build.Building.{Built, Designed, IsBuilt, Refused
 use Rattle.desk_top.specs.Delivery.{Outcome}
 use Rattle.desk_top.specs.Outcome.{IsAnswer, IsDone, IsGenerated, IsJudged, IsOutcome, IsReplayIn, IsReplaying, IsRuled, IsRun, IsShownIn, IsSigned, IsSimulating, IsStaged, IsStepped, IsTried, World, generated_sources, generation_outcome, names_in, ruling_outcome, run}
 use Rattle.desk_top.specs.Texts.{named, texts_of}
-use Rattle.desk_top.specs.Words.{Order, Sign, Simulate, Replay, Generate, order}
+use Rattle.desk_top.specs.Words.{Order, Sign, Simulate, Replay, Vcd, Generate, order}
 use Rattle.desk_laws.specs.Same.{AreSame, IsUndisturbed}
 use Rattle.desk_laws.proofs.OneBuilt.{OneLine, one_built}
 use Rattle.desk_laws.proofs.OneDemo.{demo_once, firsts_once, processes_of}
+use Rattle.desk_laws.proofs.OneDump.{comparing_once}
 use Rattle.desk_laws.proofs.OneRun.{one_run}
 
 -- ---- a ruling
@@ -108,6 +109,8 @@ done_once line world (Some (Simulate top steps files)) one other first second =
     simulating_once line top files (reading (world.before steps)) (texts_of world.files files) one other first second
 done_once line world (Some (Replay top demo files)) one other first second =
     replaying_once line top files (reading (world.before demo)) (texts_of world.files files) one other first second
+done_once line world (Some (Vcd top scope dump files)) one other first second =
+    comparing_once line top scope files (reading (world.before dump)) (texts_of world.files files) one other first second
 done_once line world (Some (Generate stages)) one other first second = generated_once line stages one other first second
 
 pub one_outcome : OneLine → (words : List (List ℕ)) (world : World) (one other : Outcome) → IsOutcome words world one → IsOutcome words world other → one ≡ other

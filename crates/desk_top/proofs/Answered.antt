@@ -12,7 +12,7 @@ use Rattle.desk_top.specs.declared.deliver.Stop.TheVariants.{Unread, NoFile, Mem
 use Rattle.desk_top.specs.declared.deliver.Work.{Work}
 use Rattle.desk_top.specs.declared.simulate.Plan.{Plan}
 use Rattle.desk_top.specs.declared.simulate.Plan.TheVariants.{Told, Run}
-use Rattle.desk_top.specs.Words.{Order, Sign, Simulate, Replay, Generate, is_sign, is_simulate, order}
+use Rattle.desk_top.specs.Words.{Order, Sign, Simulate, Replay, Vcd, Generate, is_sign, is_simulate, order}
 use Rattle.desk_top.specs.Delivery.{Outcome, Delivers, Finishes, IsCut, Front as Begun, Nothing, IsWork, gave_up, no_file, outcome_of}
 use Rattle.rtl_front.specs.Fronts.{AreAsked, AreSpelled}
 use Rattle.rtl_front.specs.rtl_prep.Conditions.{FileConditions}
@@ -172,6 +172,7 @@ zero_is_clean words world wanted before now asked is zero written = by_order (or
     by_order (Some (Sign top files)) command outcome = by_texts top files command (texts_of world.files files) refl outcome
     by_order (Some (Simulate top steps files)) command outcome = absurd (let no : false ≡ true = ap is_sign (sym command) ∙ asked in cc)
     by_order (Some (Replay top demo files)) command outcome = absurd (let no : false ≡ true = ap is_sign (sym command) ∙ asked in cc)
+    by_order (Some (Vcd top scope dump files)) command outcome = absurd (let no : false ≡ true = ap is_sign (sym command) ∙ asked in cc)
     by_order (Some (Generate stages)) command outcome = absurd (let no : false ≡ true = ap is_sign (sym command) ∙ asked in cc)
 
 -- the headline from the answer 0

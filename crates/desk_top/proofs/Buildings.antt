@@ -2,12 +2,13 @@
 use Rattle.std.proofs.Common.{◌≡◌, ℕ, List, codes, Result, subst}
 use Rattle.source_file.specs.SourceFiles.{texts_in}
 use Rattle.source_file.specs.declared.SourceFile.{SourceFile}
+use Rattle.vcd_check.specs.vcd_signals.vcd_read.Reading.{Dump}
 use Rattle.desk_top.specs.declared.deliver.Stop.{Stop}
 use Rattle.desk_top.specs.declared.deliver.Work.{Work}
 use Rattle.desk_top.specs.declared.simulate.Plan.{Plan}
 use Rattle.desk_build.specs.Building.{Built, IsBuilt}
 use Rattle.desk_top.specs.Delivery.{IsWork}
-use Rattle.desk_top.specs.Outcome.{IsAnswer, IsGenerated, IsJudged, IsReplayIn, IsShownIn, IsStaged, IsStepped, IsTried, generated_sources}
+use Rattle.desk_top.specs.Outcome.{IsAnswer, IsBeside, IsComparedWith, IsGenerated, IsJudged, IsReplayIn, IsShownIn, IsStaged, IsStepped, IsTried, generated_sources}
 use Rattle.desk_top.specs.Plans.{IsPlan}
 use Rattle.desk_top.proofs.Answered.{plan_map, work_map}
 
@@ -41,4 +42,11 @@ pub replayed_of : (top : List ℕ) (sources : List SourceFile) (texts : List (Li
     → IsWork (IsShownIn demo b) work → IsWork (IsReplayIn top sources texts demo) work
 replayed_of top sources texts demo b work made is =
     work_map {P = IsShownIn demo b} {Q = IsReplayIn top sources texts demo} work is
+    (λ outcome it. record { built = b; is_built = made; is = it })
+
+-- the answer for a dump over what texts make
+pub compared_of : (top : List ℕ) (sources : List SourceFile) (texts : List (List ℕ)) (scope : List ℕ) (dump : Dump) (b : Built) (work : Result Work Stop) → IsBuilt top sources texts b
+    → IsWork (IsComparedWith scope dump b) work → IsWork (IsBeside top sources texts scope dump) work
+compared_of top sources texts scope dump b work made is =
+    work_map {P = IsComparedWith scope dump b} {Q = IsBeside top sources texts scope dump} work is
     (λ outcome it. record { built = b; is_built = made; is = it })

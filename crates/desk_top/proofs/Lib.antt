@@ -4,6 +4,7 @@ pub mod Reading
 pub mod Answered
 pub mod Answering
 pub mod Buildings
+pub mod Dumps
 pub mod Ordered
 pub mod Streaming
 -- passed on to the crates above

@@ -1,11 +1,11 @@
 -- The files of a command.
-use Rattle.std.proofs.Common.{◌≡◌, ℕ, arith, List, [], ◌∷◌, None, Some, Bool, true, false, cond, refl, subst}
+use Rattle.std.proofs.Common.{◌≡◌, ℕ, arith, List, [], ◌∷◌, Option, None, Some, Bool, true, false, cond, refl, subst}
 use Rattle.std.specs.Prelude.{◌&&◌, bytes_eq, codes, nat_le}
 use Rattle.std.proofs.lemmas.Bool.{and_parts}
 use Rattle.std.proofs.lemmas.Bool.Decides.{nat_tests}
 use Rattle.desk_numbers.specs.Numbers.{is_positive, number_of}
 use Rattle.desk_top.specs.Commands.{IsWithin}
-use Rattle.desk_top.specs.Words.{Order, Sign, Simulate, Replay, Generate, ahead_order, are_files, generate_order, is_name, order, sign_order}
+use Rattle.desk_top.specs.Words.{Order, Sign, Simulate, Replay, Vcd, Generate, ahead_order, are_files, generate_order, is_name, order, sign_order, vcd_order}
 
 sign_has : (words : List (List ℕ)) (o : Order) → Some o ≡ sign_order words → IsWithin o
 sign_has [] o is = absurd (cc)
@@ -26,6 +26,20 @@ ahead_has made (top ∷ ahead ∷ files) o has is = by_test (is_name top && (is_
     by_test true test is =
         let same : made top ahead files ≡ o = cc in
         subst IsWithin same (has top ahead files (and_parts (is_name ahead) (are_files files) (and_parts (is_name top) (is_name ahead && are_files files) test).1).1)
+    by_test false test is = absurd (cc)
+
+vcd_has : (words : List (List ℕ)) (o : Order) → Some o ≡ vcd_order words → IsWithin o
+vcd_has [] o is = absurd (cc)
+vcd_has (top ∷ []) o is = absurd (cc)
+vcd_has (top ∷ scope ∷ []) o is = absurd (cc)
+vcd_has (top ∷ scope ∷ dump ∷ files) o is = by_test (is_name top && (is_name scope && (is_name dump && are_files files))) refl is
+  where
+    by_test : (b : Bool) → (is_name top && (is_name scope && (is_name dump && are_files files))) ≡ b → Some o ≡ cond b (Some (Vcd top scope dump files)) None → IsWithin o
+    by_test true test is =
+        let same : Vcd top scope dump files ≡ o = cc in
+        let behind = (and_parts (is_name top) (is_name scope && (is_name dump && are_files files)) test).1 in
+        let beyond = (and_parts (is_name scope) (is_name dump && are_files files) behind).1 in
+        subst IsWithin same (and_parts (is_name dump) (are_files files) beyond).1
     by_test false test is = absurd (cc)
 
 generate_has : (words : List (List ℕ)) (o : Order) → Some o ≡ generate_order words → IsWithin o
@@ -49,14 +63,21 @@ within (name ∷ rest) o is = by_sign (bytes_eq name (codes "sign")) is
     by_generate true is = generate_has rest o is
     by_generate false is = absurd (cc)
 
-    by_replay : (b : Bool) → Some o ≡ cond b (ahead_order Replay rest) (cond (bytes_eq name (codes "generate")) (generate_order rest) None) → IsWithin o
-    by_replay true is = ahead_has Replay rest o (λ top demo files are. are) is
-    by_replay false is = by_generate (bytes_eq name (codes "generate")) is
+    by_vcd : (b : Bool) → Some o ≡ cond b (vcd_order rest) (cond (bytes_eq name (codes "generate")) (generate_order rest) None) → IsWithin o
+    by_vcd true is = vcd_has rest o is
+    by_vcd false is = by_generate (bytes_eq name (codes "generate")) is
 
-    by_simulate : (b : Bool) → Some o ≡ cond b (ahead_order Simulate rest) (cond (bytes_eq name (codes "replay")) (ahead_order Replay rest) (cond (bytes_eq name (codes "generate")) (generate_order rest) None)) → IsWithin o
+    abbrev behind_replay : Option Order
+    behind_replay = cond (bytes_eq name (codes "vcd")) (vcd_order rest) (cond (bytes_eq name (codes "generate")) (generate_order rest) None)
+
+    by_replay : (b : Bool) → Some o ≡ cond b (ahead_order Replay rest) behind_replay → IsWithin o
+    by_replay true is = ahead_has Replay rest o (λ top demo files are. are) is
+    by_replay false is = by_vcd (bytes_eq name (codes "vcd")) is
+
+    by_simulate : (b : Bool) → Some o ≡ cond b (ahead_order Simulate rest) (cond (bytes_eq name (codes "replay")) (ahead_order Replay rest) behind_replay) → IsWithin o
     by_simulate true is = ahead_has Simulate rest o (λ top steps files are. are) is
     by_simulate false is = by_replay (bytes_eq name (codes "replay")) is
 
-    by_sign : (b : Bool) → Some o ≡ cond b (sign_order rest) (cond (bytes_eq name (codes "simulate")) (ahead_order Simulate rest) (cond (bytes_eq name (codes "replay")) (ahead_order Replay rest) (cond (bytes_eq name (codes "generate")) (generate_order rest) None))) → IsWithin o
+    by_sign : (b : Bool) → Some o ≡ cond b (sign_order rest) (cond (bytes_eq name (codes "simulate")) (ahead_order Simulate rest) (cond (bytes_eq name (codes "replay")) (ahead_order Replay rest) behind_replay)) → IsWithin o
     by_sign true is = sign_has rest o is
     by_sign false is = by_simulate (bytes_eq name (codes "simulate")) is

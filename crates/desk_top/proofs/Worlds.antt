@@ -12,13 +12,14 @@ use Rattle.desk_io.specs.declared.shelf.ShelfFault.{ShelfFault}
 use Rattle.desk_io.specs.declared.shelf.ShelfFault.TheVariants.{Failed, Memory as NoMemory, NoSuchFile, TooLong}
 use Rattle.desk_io.specs.Shelf.{Files, IsReading, no_files, reading, with_file}
 use Rattle.desk_io.proofs.Readings.{some_reading}
+use Rattle.vcd_check.specs.vcd_signals.vcd_read.Reading.{read}
 use Rattle.desk_top.specs.declared.deliver.Stop.{Stop}
 use Rattle.desk_top.specs.declared.deliver.Stop.TheVariants.{Memory, NoFile, Unread}
 use Rattle.desk_top.specs.declared.deliver.Work.{Work}
 use Rattle.desk_top.specs.declared.simulate.Plan.{Plan}
 use Rattle.desk_top.specs.Answers.{Agrees, OverWorld}
 use Rattle.desk_top.specs.Delivery.{IsWork, stop_of}
-use Rattle.desk_top.specs.Outcome.{World, IsJudged, IsReplayIn, IsReplaying, IsSigned, IsSimulating, IsStepped}
+use Rattle.desk_top.specs.Outcome.{World, IsComparing, IsJudged, IsReadBeside, IsReplayIn, IsReplaying, IsSigned, IsSimulating, IsStepped}
 use Rattle.desk_top.specs.Plans.{IsPlan}
 use Rattle.desk_top.specs.Texts.{texts_of, with_text}
 use Rattle.desk_top.specs.Words.{all_different, are_files, is_name}
@@ -278,3 +279,34 @@ replayed_stop files top demo names text Unread had fits told are = over_any {P =
 replayed_stop files top demo names text Memory had fits told are = over_any {P = λ world. IsWork (IsReplaying top names (reading (world.before demo)) (texts_of world.files names)) (Err Memory)} files (λ world. tt)
 replayed_stop files top demo names text NoFile had fits told are =
     over_ahead_missing (λ r o. IsWork (IsReplaying top names r o) (Err NoFile)) files demo names text had fits told are refl
+
+-- ---- recorded dumps
+
+pub compared_texts : (files : Option Files) (top scope dump : List ℕ) (names : List (List ℕ)) (text : Vec ℕ Global) (bytes : List ℕ) (made : List SourceFile) (work : Result Work Stop)
+    → IfSome files (λ held. IsReading (reading (held dump)) (Ok text)) → vec_len text ≤ 1048576 → bytes ≡ text.items
+    → IfSome files (λ held. texts_of held names ≡ Some (texts_in made)) → names_in made ≡ names → AreShort made → are_files names ≡ true
+    → IsWork (IsReadBeside top made (texts_in made) scope (read bytes)) work → OverWorld files (λ world. IsWork (IsComparing top scope names (reading (world.before dump)) (texts_of world.files names)) work)
+compared_texts files top scope dump names text bytes made work had fits same told called short are is =
+    over_ahead (λ r o. IsWork (IsComparing top scope names r o) work) files dump names text made had fits told called short are
+    (subst (λ (all : List SourceFile). IsWork (IsReadBeside top all (texts_in made) scope (read text.items)) work) (sym (named_by names made called))
+    (subst (λ (all : List ℕ). IsWork (IsReadBeside top made (texts_in made) scope (read all)) work) same is))
+
+pub compared_fault : (files : Option Files) (top scope dump : List ℕ) (names : List (List ℕ)) (fault : ShelfFault) → IfSome files (λ held. IsReading (reading (held dump)) (Err fault))
+    → OverWorld files (λ world. IsWork (IsComparing top scope names (reading (world.before dump)) (texts_of world.files names)) (Err (stop_of fault)))
+compared_fault files top scope dump names fault had =
+    over_ahead_fault (λ r o. IsWork (IsComparing top scope names r o) (Err (stop_of fault))) files dump names fault had (by_fault fault)
+  where
+    by_fault : (fault : ShelfFault) → IsFault (λ r o. IsWork (IsComparing top scope names r o) (Err (stop_of fault))) fault
+    by_fault Failed = λ r o. tt
+    by_fault NoMemory = λ r o. tt
+    by_fault NoSuchFile = λ o. refl
+    by_fault TooLong = λ o. refl
+
+pub compared_stop : (files : Option Files) (top scope dump : List ℕ) (names : List (List ℕ)) (text : Vec ℕ Global) (stop : Stop)
+    → IfSome files (λ held. IsReading (reading (held dump)) (Ok text)) → vec_len text ≤ 1048576
+    → IfSome files (λ held. gone stop ≡ Err NoFile → texts_of held names ≡ None) → are_files names ≡ true
+    → OverWorld files (λ world. IsWork (IsComparing top scope names (reading (world.before dump)) (texts_of world.files names)) (Err stop))
+compared_stop files top scope dump names text Unread had fits told are = over_any {P = λ world. IsWork (IsComparing top scope names (reading (world.before dump)) (texts_of world.files names)) (Err Unread)} files (λ world. tt)
+compared_stop files top scope dump names text Memory had fits told are = over_any {P = λ world. IsWork (IsComparing top scope names (reading (world.before dump)) (texts_of world.files names)) (Err Memory)} files (λ world. tt)
+compared_stop files top scope dump names text NoFile had fits told are =
+    over_ahead_missing (λ r o. IsWork (IsComparing top scope names r o) (Err NoFile)) files dump names text had fits told are refl

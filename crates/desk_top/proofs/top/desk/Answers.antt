@@ -1,7 +1,7 @@
 use Rattle.std.proofs.Common.{◌≡◌, Some, refl, subst}
 use Rattle.desk_top.specs.declared.words.Command.{Command}
 use Rattle.desk_top.specs.Commands.{order_of}
-use Rattle.desk_top.specs.Words.{Sign, Simulate, Replay, Generate, order, texts}
+use Rattle.desk_top.specs.Words.{Sign, Simulate, Replay, Vcd, Generate, order, texts}
 use Rattle.desk_top.proofs.Answering.{over_answered, never_unread, over_generated, over_performed, over_signed_clean, over_usage}
 use Rattle.desk_top.proofs.Ordered.{within}
 use Rattle.desk_top.proofs.top.desk.Goals as goal
@@ -54,6 +54,18 @@ returns-in-Some-Replay-clause-answer g c =
     (g.S.Sink.taken c.args.out.now) (g.S.Sink.taken c.finish-in-Some-Replay.new.out)
     (subst (λ (command : Command). Some (order_of command) ≡ order (texts c.args.words.now)) c.in-Some-Replay.field-0-is c.in-Some-Replay.ensures)
     c.replay.ensures.work c.finish-in-Some-Replay.ensures.finishes
+
+pub vcd-requires : goal.vcd-requires
+vcd-requires g c =
+    within (texts c.args.words.now) (Vcd c.in-Some-Vcd.top.now c.in-Some-Vcd.scope.now c.in-Some-Vcd.dump.now (texts c.in-Some-Vcd.files.now))
+    (subst (λ (command : Command). Some (order_of command) ≡ order (texts c.args.words.now)) c.in-Some-Vcd.field-0-is c.in-Some-Vcd.ensures)
+
+pub returns-in-Some-Vcd-clause-answer : goal.returns-in-Some-Vcd-clause-answer
+returns-in-Some-Vcd-clause-answer g c =
+    over_answered (g.F.Shelf.files c.args.shelf.now) (texts c.args.words.now) (Vcd c.in-Some-Vcd.top.now c.in-Some-Vcd.scope.now c.in-Some-Vcd.dump.now (texts c.in-Some-Vcd.files.now)) c.vcd.result c.finish-in-Some-Vcd.result
+    (g.S.Sink.taken c.args.out.now) (g.S.Sink.taken c.finish-in-Some-Vcd.new.out)
+    (subst (λ (command : Command). Some (order_of command) ≡ order (texts c.args.words.now)) c.in-Some-Vcd.field-0-is c.in-Some-Vcd.ensures)
+    c.vcd.ensures.work c.finish-in-Some-Vcd.ensures.finishes
 
 pub generate-requires : goal.generate-requires
 generate-requires g c =
