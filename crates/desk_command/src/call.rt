@@ -18,8 +18,8 @@ use desk_tables::Keeper;
 use std::alloc::Global;
 
 /// Does what the words of the command line say, and answers the exit status. The commands over
-/// sources (`sign`, `simulate`, `replay`, `generate`) are those of [`desk_top::top::desk`], with
-/// its statuses, and it answers words that are no command. `report TOP` answers 0 where each
+/// sources (`sign`, `simulate`, `replay`, `vcd`, `generate`) are those of [`desk_top::top::desk`],
+/// with its statuses, and it answers words that are no command. `report TOP` answers 0 where each
 /// finding of the first grade has a waiver that stands on the clock's day, 1 where one hasn't, 2
 /// where the module has no design, and 7 where the clock failed. `serve PORT COUNT` answers 0 where
 /// so many connections were served, and 8 where the door failed. Both migrate tables of version 1

@@ -92,13 +92,7 @@ pub fn verdict_line(alloc: Global, design: &Design, verdict: Verdict) -> Result<
             signal,
             recorded,
             synthesised,
-        } => departed_line(
-            alloc,
-            time,
-            path_of(design, signal),
-            recorded,
-            synthesised,
-        ),
+        } => departed_line(alloc, time, path_of(design, signal), recorded, synthesised),
     }
 }
 

@@ -54,6 +54,11 @@ generate_has (word ∷ []) o is = by_test (is_positive word && nat_le (number_of
         subst IsWithin same (grind (arith, nat_tests, few))
     by_test false test is = absurd (cc)
 
+-- what words are behind the name of a command that isn't one of the first three
+abbrev behind_replay : List ℕ → List (List ℕ) → Option Order
+behind_replay name rest =
+    cond (bytes_eq name (codes "vcd")) (vcd_order rest) (cond (bytes_eq name (codes "generate")) (generate_order rest) None)
+
 -- a command that words are has a list of files, or not too many stages
 pub within : (words : List (List ℕ)) (o : Order) → Some o ≡ order words → IsWithin o
 within [] o is = absurd (cc)
@@ -67,17 +72,14 @@ within (name ∷ rest) o is = by_sign (bytes_eq name (codes "sign")) is
     by_vcd true is = vcd_has rest o is
     by_vcd false is = by_generate (bytes_eq name (codes "generate")) is
 
-    abbrev behind_replay : Option Order
-    behind_replay = cond (bytes_eq name (codes "vcd")) (vcd_order rest) (cond (bytes_eq name (codes "generate")) (generate_order rest) None)
-
-    by_replay : (b : Bool) → Some o ≡ cond b (ahead_order Replay rest) behind_replay → IsWithin o
+    by_replay : (b : Bool) → Some o ≡ cond b (ahead_order Replay rest) (behind_replay name rest) → IsWithin o
     by_replay true is = ahead_has Replay rest o (λ top demo files are. are) is
     by_replay false is = by_vcd (bytes_eq name (codes "vcd")) is
 
-    by_simulate : (b : Bool) → Some o ≡ cond b (ahead_order Simulate rest) (cond (bytes_eq name (codes "replay")) (ahead_order Replay rest) behind_replay) → IsWithin o
+    by_simulate : (b : Bool) → Some o ≡ cond b (ahead_order Simulate rest) (cond (bytes_eq name (codes "replay")) (ahead_order Replay rest) (behind_replay name rest)) → IsWithin o
     by_simulate true is = ahead_has Simulate rest o (λ top steps files are. are) is
     by_simulate false is = by_replay (bytes_eq name (codes "replay")) is
 
-    by_sign : (b : Bool) → Some o ≡ cond b (sign_order rest) (cond (bytes_eq name (codes "simulate")) (ahead_order Simulate rest) (cond (bytes_eq name (codes "replay")) (ahead_order Replay rest) behind_replay)) → IsWithin o
+    by_sign : (b : Bool) → Some o ≡ cond b (sign_order rest) (cond (bytes_eq name (codes "simulate")) (ahead_order Simulate rest) (cond (bytes_eq name (codes "replay")) (ahead_order Replay rest) (behind_replay name rest))) → IsWithin o
     by_sign true is = sign_has rest o is
     by_sign false is = by_simulate (bytes_eq name (codes "simulate")) is

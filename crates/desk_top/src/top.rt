@@ -65,12 +65,14 @@ pub fn desk<F: Shelf, S: Sink>(alloc: Global, words: &[String], shelf: &mut F, o
         Some(Command::Replay { top, demo, files }) => {
             finish(replay(alloc, top, demo, files, shelf), out)
         }
-        Some(Command::Vcd {
-            top,
-            scope,
-            dump,
-            files,
-        }) => finish(vcd(alloc, top, scope, dump, files, shelf), out),
+        Some(
+            Command::Vcd {
+                top,
+                scope,
+                dump,
+                files,
+            },
+        ) => finish(vcd(alloc, top, scope, dump, files, shelf), out),
         Some(Command::Generate { stages }) => finish(generate(alloc, stages), out),
     }
 }

@@ -96,12 +96,7 @@ fn compare_in(
 }
 
 // What is told of a dump beside a design.
-fn compare_with(
-    alloc: Global,
-    scope: &str,
-    dump: &Dump,
-    design: &Design,
-) -> Result<Work, Stop>
+fn compare_with(alloc: Global, scope: &str, dump: &Dump, design: &Design) -> Result<Work, Stop>
     ensures work { IsWork (IsCompared (flat_in design.now) scope.now (dump_of dump.now)) result }
     ensures read { result ≢ Err Stop.Unread }
 {
