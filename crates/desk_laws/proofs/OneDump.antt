@@ -12,10 +12,9 @@ use Rattle.vcd_check.specs.declared.verdict.Verdict.{Verdict}
 use Rattle.vcd_check.specs.Verdicts.{IsCompareFault, IsVerdict}
 use Rattle.vcd_laws.proofs.Verdicts.{no_fault, one_fault, one_verdict}
 use Rattle.demo_laws.specs.Laws.{AreProcesses}
-use Rattle.desk_dumps.specs.Lines.{compare_line, read_line}
 use Rattle.desk_top.specs.desk_build.Building.{Built, Designed, IsBuilt, Refused}
 use Rattle.desk_top.specs.Delivery.{Outcome}
-use Rattle.desk_top.specs.Outcome.{IsBeside, IsCompared, IsComparedWith, IsComparing, IsReadBeside, Told, Untold, compare_status, verdict_outcome}
+use Rattle.desk_top.specs.Outcome.{IsBeside, IsCompared, IsComparedWith, IsComparing, IsReadBeside, Told, Untold, compare_outcome, verdict_outcome}
 use Rattle.desk_top.specs.Texts.{named}
 use Rattle.desk_laws.proofs.OneBuilt.{OneLine, one_built}
 use Rattle.desk_laws.proofs.OneDemo.{processes_of}
@@ -23,39 +22,36 @@ use Rattle.desk_laws.proofs.OneDemo.{processes_of}
 -- ---- a design and a dump
 
 module _ (design : DesignParts) (lawful : AreProcesses design.parts.flat) (scope : List ℕ) (dump : Dump) where
-  -- the line of a reason why nothing is told
-  abbrev says : CompareFault → Option (List ℕ)
-  says fault = compare_line design.parts.flat.signals fault
+  -- what is written of a reason why nothing is told
+  abbrev says : CompareFault → Option Outcome
+  says fault = compare_outcome design fault
 
   -- want of memory has none
-  memory_says : (fault : CompareFault) (line : List ℕ) → fault ≡ Memory → says fault ≡ Some line → ⊥
-  memory_says fault line memory is = none-some line (sym (ap says memory) ∙ is)
+  memory_says : (fault : CompareFault) (outcome : Outcome) → fault ≡ Memory → says fault ≡ Some outcome → ⊥
+  memory_says fault outcome memory is = none-some outcome (sym (ap says memory) ∙ is)
 
-  told_or_not : (verdict : Verdict) (fault : CompareFault) (line : List ℕ) → IsVerdict design.parts.flat scope dump verdict → IsCompareFault design.parts.flat scope dump fault → says fault ≡ Some line → ⊥
-  told_or_not verdict fault line told untold is =
-      memory_says fault line (no_fault design.parts.flat lawful scope dump verdict fault told untold) is
+  told_or_not : (verdict : Verdict) (fault : CompareFault) (outcome : Outcome) → IsVerdict design.parts.flat scope dump verdict → IsCompareFault design.parts.flat scope dump fault → says fault ≡ Some outcome → ⊥
+  told_or_not verdict fault outcome told untold is =
+      memory_says fault outcome (no_fault design.parts.flat lawful scope dump verdict fault told untold) is
 
   untold_once :
-      (one other : CompareFault) (line line' : List ℕ) → IsCompareFault design.parts.flat scope dump one → says one ≡ Some line →
-      IsCompareFault design.parts.flat scope dump other → says other ≡ Some line' →
-      ◌≡◌ {A = Outcome} (record { status = compare_status one; bytes = line }) (record { status = compare_status other; bytes = line' })
-  untold_once one other line line' first is second is' =
-      by (one_fault design.parts.flat lawful scope dump one other first second)
+      (fault fault' : CompareFault) (one other : Outcome) → IsCompareFault design.parts.flat scope dump fault → says fault ≡ Some one →
+      IsCompareFault design.parts.flat scope dump fault' → says fault' ≡ Some other → one ≡ other
+  untold_once fault fault' one other first is second is' =
+      by (one_fault design.parts.flat lawful scope dump fault fault' first second)
     where
-      by : (one ≡ other) ⊎ ((one ≡ Memory) ⊎ (other ≡ Memory)) → ◌≡◌ {A = Outcome} (record { status = compare_status one; bytes = line }) (record { status = compare_status other; bytes = line' })
-      by (inl same) =
-          ap (λ (fault : CompareFault). record { status = compare_status fault; bytes = line }) same
-          ∙ ap (λ (bytes : List ℕ). record { status = compare_status other; bytes = bytes }) (same_Some line line' (sym is ∙ ap says same ∙ is'))
-      by (inr (inl memory)) = absurd (memory_says one line memory is)
-      by (inr (inr memory)) = absurd (memory_says other line' memory is')
+      by : (fault ≡ fault') ⊎ ((fault ≡ Memory) ⊎ (fault' ≡ Memory)) → one ≡ other
+      by (inl same) = same_Some one other (sym is ∙ ap says same ∙ is')
+      by (inr (inl memory)) = absurd (memory_says fault one memory is)
+      by (inr (inr memory)) = absurd (memory_says fault' other memory is')
 
   compared_once : (one other : Outcome) → IsCompared design scope dump one → IsCompared design scope dump other → one ≡ other
   compared_once one other (Told verdict is) (Told verdict' is') =
       ap (verdict_outcome design) (one_verdict design.parts.flat lawful scope dump verdict verdict' is is')
-  compared_once one other (Told verdict is) (Untold fault line untold is') = absurd (told_or_not verdict fault line is untold is')
-  compared_once one other (Untold fault line untold is) (Told verdict is') = absurd (told_or_not verdict fault line is' untold is)
-  compared_once one other (Untold fault line untold is) (Untold fault' line' untold' is') =
-      untold_once fault fault' line line' untold is untold' is'
+  compared_once one other (Told verdict is) (Untold fault outcome untold is') = absurd (told_or_not verdict fault outcome is untold is')
+  compared_once one other (Untold fault outcome untold is) (Told verdict is') = absurd (told_or_not verdict fault outcome is' untold is)
+  compared_once one other (Untold fault outcome untold is) (Untold fault' outcome' untold' is') =
+      untold_once fault fault' outcome outcome' untold is untold' is'
 
 -- ---- texts and a text of a dump
 
@@ -71,7 +67,7 @@ beside_once line top sources texts scope dump one other first second =
 read_once : OneLine → (top : List ℕ) (sources : List SourceFile) (texts : List (List ℕ)) (scope : List ℕ) (dump : Result Dump VcdFault) (one other : Outcome) → IsReadBeside top sources texts scope dump one → IsReadBeside top sources texts scope dump other → one ≡ other
 read_once line top sources texts scope (Ok dump) one other first second = beside_once line top sources texts scope dump one other first second
 read_once line top sources texts scope (Err fault) one other first second =
-    first.2 ∙ ap (λ (bytes : List ℕ). record { status = 16; bytes = bytes }) (same_Some first.0 second.0 (sym first.1 ∙ second.1)) ∙ sym second.2
+    same_Some one other (sym first ∙ second)
 
 pub comparing_once : OneLine → (top scope : List ℕ) (files : List (List ℕ)) (dump : Result (List ℕ) ShelfFault) (texts : Option (List (List ℕ))) (one other : Outcome)
     → IsComparing top scope files dump texts one → IsComparing top scope files dump texts other → one ≡ other

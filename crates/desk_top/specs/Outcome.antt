@@ -206,6 +206,11 @@ abbrev pub verdict_outcome : DesignParts → Verdict → Outcome
 verdict_outcome design verdict =
     record { status = verdict_status verdict; bytes = verdict_line design.parts.flat.signals verdict }
 
+-- the outcome with a line, if there is one
+abbrev pub with_line : ℕ → Option (List ℕ) → Option Outcome
+with_line status None = None
+with_line status (Some line) = Some (record { status = status; bytes = line })
+
 -- the design has no netlist; or the dump doesn't have what a comparison needs
 abbrev pub compare_status : CompareFault → ℕ
 compare_status compare.NoNetlist = 13
@@ -215,15 +220,22 @@ compare_status compare.NeverKnown = 16
 compare_status (compare.Unlawful time) = 16
 compare_status compare.Memory = 16
 
+-- why nothing is told of a dump; of want of memory there is no line
+abbrev pub compare_outcome : DesignParts → CompareFault → Option Outcome
+compare_outcome design fault = with_line (compare_status fault) (compare_line design.parts.flat.signals fault)
+
+-- why a text is no dump
+abbrev pub read_outcome : VcdFault → Option Outcome
+read_outcome fault = with_line 16 (read_line fault)
+
 -- the answer for a dump that has the top of a design in a scope
 pub data IsCompared (design : DesignParts) (scope : List ℕ) (dump : Dump) : Outcome → Type 0 where
   Told :
       (verdict : Verdict) → IsVerdict design.parts.flat scope dump verdict →
       IsCompared design scope dump (verdict_outcome design verdict)
   Untold :
-      (fault : CompareFault) (line : List ℕ) → IsCompareFault design.parts.flat scope dump fault →
-      compare_line design.parts.flat.signals fault ≡ Some line →
-      IsCompared design scope dump (record { status = compare_status fault; bytes = line })
+      (fault : CompareFault) (outcome : Outcome) → IsCompareFault design.parts.flat scope dump fault →
+      compare_outcome design fault ≡ Some outcome → IsCompared design scope dump outcome
 
 abbrev pub IsComparedWith : List ℕ → Dump → Built → Outcome → Type 0
 IsComparedWith scope dump (Designed design) outcome = IsCompared design scope dump outcome
@@ -238,8 +250,7 @@ pub record IsBeside (top : List ℕ) (sources : List SourceFile) (texts : List (
 -- the answer for texts and what the text of a dump is read as: none that can be read comes before what texts make
 abbrev pub IsReadBeside : List ℕ → List SourceFile → List (List ℕ) → List ℕ → Result Dump VcdFault → Outcome → Type 0
 IsReadBeside top sources texts scope (Ok dump) outcome = IsBeside top sources texts scope dump outcome
-IsReadBeside top sources texts scope (Err fault) outcome =
-    (line : List ℕ) × (read_line fault ≡ Some line) × (outcome ≡ record { status = 16; bytes = line })
+IsReadBeside top sources texts scope (Err fault) outcome = read_outcome fault ≡ Some outcome
 
 -- the answer for files; none of it where one of them, or the one with the dump, isn't there or is too long
 abbrev pub IsComparing : List ℕ → List ℕ → List (List ℕ) → Result (List ℕ) ShelfFault → Option (List (List ℕ)) → Outcome → Type 0

@@ -6,10 +6,9 @@ ghost use Rattle.desk_io.specs.Causes.{Rose};
 ghost use Rattle.desk_io.specs.Shelf.{reading};
 ghost use Rattle.rtl_flat.specs.Flats.{flat_in};
 ghost use Rattle.vcd_check.specs.vcd_signals.vcd_read.Reading.{dump_of, read};
-ghost use Rattle.desk_dumps.specs.Lines.{compare_line, read_line};
 ghost use Rattle.desk_top.specs.Answers.{OverWorld};
 ghost use Rattle.desk_top.specs.Delivery.{IsCalmWork, IsWork, status_of};
-ghost use Rattle.desk_top.specs.Outcome.{IsBeside, IsCompared, IsComparing, IsReadBeside, compare_status, verdict_outcome, verdict_status};
+ghost use Rattle.desk_top.specs.Outcome.{IsBeside, IsCompared, IsComparing, IsReadBeside, compare_outcome, compare_status, read_outcome, verdict_outcome, verdict_status};
 ghost use Rattle.desk_top.specs.Texts.{texts_of};
 ghost use Rattle.desk_top.specs.Words.{are_files, texts};
 
@@ -129,9 +128,8 @@ fn ending_of(verdict: Verdict) -> Ending
 
 // Why nothing is told of a dump.
 fn tell_fault(alloc: Global, design: &Design, fault: CompareFault) -> Result<Work, Stop>
-    ensures work { IsWork (λ outcome. (line : List ℕ)
-        × (compare_line (flat_in design.now).parts.flat.signals fault ≡ Some line)
-        × (outcome ≡ record { status = compare_status fault; bytes = line })) result }
+    ensures work { IsWork (λ outcome. compare_outcome (flat_in design.now) fault ≡ Some outcome)
+        result }
     ensures read { result ≢ Err Stop.Unread }
 {
     Ok(Work {
@@ -155,8 +153,7 @@ fn fault_ending(fault: CompareFault) -> Ending
 
 // Why a text is no dump.
 fn tell_unread(alloc: Global, fault: VcdFault) -> Result<Work, Stop>
-    ensures work { IsWork (λ outcome. (line : List ℕ) × (read_line fault ≡ Some line)
-        × (outcome ≡ record { status = 16; bytes = line })) result }
+    ensures work { IsWork (λ outcome. read_outcome fault ≡ Some outcome) result }
     ensures read { result ≢ Err Stop.Unread }
 {
     Ok(Work {
