@@ -43,8 +43,8 @@ verdict_line signals (Departs time signal recorded synthesised) =
 abbrev pub missing_line : List ℕ → List ℕ
 missing_line path = codes "missing " ++ (path ++ codes "\n")
 
--- why a text is none that can be read, with the first place that keeps it from that, in bytes from 0; nothing is told where
--- memory ran out
+-- why a text is none that can be read, with the first place that keeps it from that, in bytes from 0; nothing is told
+-- where memory ran out
 abbrev pub read_line : VcdFault → Option (List ℕ)
 read_line (text.Malformed at) = Some (number_line (codes "malformed byte ") at)
 read_line (text.TooLarge at) = Some (number_line (codes "too large byte ") at)

@@ -96,8 +96,8 @@ pub fn verdict_line(alloc: Global, design: &Design, verdict: Verdict) -> Result<
     }
 }
 
-/// The line of a text that is none that can be read: `malformed byte N` or `too large byte N`. Fails where memory ran out, or
-/// runs out here.
+/// The line of a text that is none that can be read: `malformed byte N` or `too large byte N`. Fails where memory ran
+/// out, or runs out here.
 pub fn read_line(alloc: Global, fault: VcdFault) -> Result<Vec<u8>, Memory>
     ensures { IfOk result (λ line. read_line fault ≡ Some line.items) }
 {
@@ -108,8 +108,8 @@ pub fn read_line(alloc: Global, fault: VcdFault) -> Result<Vec<u8>, Memory>
     }
 }
 
-/// The line of a dump of which nothing is told: `missing PATH`, `no netlist`, `never known` or `unlawful time T`. Fails where
-/// memory ran out, or runs out here.
+/// The line of a dump of which nothing is told: `missing PATH`, `no netlist`, `never known` or `unlawful time T`. Fails
+/// where memory ran out, or runs out here.
 pub fn compare_line(alloc: Global, design: &Design, fault: CompareFault) -> Result<Vec<u8>, Memory>
     ensures { IfOk result (λ line. compare_line design.now.signals.items fault ≡ Some line.items) }
 {

@@ -10,8 +10,8 @@ use desk_io::{Failed, Sink};
 use std::alloc::{AllocError, AllocFailed};
 use text_ground::memory::Memory as NoMemory;
 
-/// The exit status where the work was done: after `sign` the design is clean, after `simulate` each
-/// step came to rest, after `replay` the two values differ, after `vcd` the dump agrees, after `generate` the design is ruled.
+/// The exit status where the work was done: after `sign` the design is clean, after `simulate` each step came to rest,
+/// after `replay` the two values differ, after `vcd` the dump agrees, after `generate` the design is ruled.
 pub const DONE: u8 = 0;
 
 /// The exit status where a rule of the first grade has a finding.

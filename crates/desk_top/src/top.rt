@@ -24,14 +24,14 @@ use std::alloc::Global;
 pub const USAGE: &[u8] =
     b"usage: desk sign TOP FILE.. | simulate TOP STEPS FILE.. | replay TOP DEMO FILE.. | vcd TOP SCOPE DUMP FILE.. | serve PORT COUNT | report TOP | generate N\n";
 
-/// Does what the words of the command line say, with the files of a shelf, writes to a sink, and answers the exit status:
-/// 0 where the module is signed clean, where each step of a simulation came to rest, where a demonstration shows two values
-/// that differ, where a dump agrees, or where a generated design is ruled; 1 where a rule of the first grade has a finding, 2
-/// where the source is refused, 3 where the words are no command, 4 where a read failed, 5 where a write failed, 9 where a
-/// file isn't there or is too long, 10 where a demonstration shows no difference, 11 where a step didn't come to rest within
-/// its budget, 12 where a line of the steps or of the demonstration is none, 13 where the design of a demonstration or of a
-/// dump has no netlist, 15 where a dump departs from what synthesis means, 16 where it can't be read or can't be compared, and
-/// 20 where memory ran out.
+/// Does what the words of the command line say, with the files of a shelf, writes to a sink, and answers the exit
+/// status: 0 where the module is signed clean, where each step of a simulation came to rest, where a demonstration
+/// shows two values that differ, where a dump agrees, or where a generated design is ruled; 1 where a rule of the first
+/// grade has a finding, 2 where the source is refused, 3 where the words are no command, 4 where a read failed, 5 where
+/// a write failed, 9 where a file isn't there or is too long, 10 where a demonstration shows no difference, 11 where a
+/// step didn't come to rest within its budget, 12 where a line of the steps or of the demonstration is none, 13 where
+/// the design of a demonstration or of a dump has no netlist, 15 where a dump departs from what synthesis means, 16
+/// where it can't be read or can't be compared, and 20 where memory ran out.
 pub fn desk<F: Shelf, S: Sink>(alloc: Global, words: &[String], shelf: &mut F, out: &mut S) -> u8
     // What is answered and written, over the files that are told, or over some files.
     ensures answer { OverWorld (F.files shelf.old)

@@ -25,8 +25,8 @@ use text_ground::memory::Memory;
 use vcd_check::vcd_read::{Dump, VcdFault, read};
 use vcd_check::{CompareFault, Verdict, compare};
 
-/// Compares the dump of a file, which has the top in a scope, with the module of this name among those of these files, and
-/// writes where it first departs.
+/// Compares the dump of a file, which has the top in a scope, with the module of this name among those of these files,
+/// and writes where it first departs.
 pub fn vcd<F: Shelf>(
     alloc: Global,
     top: &str,
