@@ -6,28 +6,9 @@
 #
 # Usage: examples/server.sh [PORT]
 set -eu
-top=$(CDPATH='' cd -- "$(dirname -- "$0")/.." && pwd)
-program=${DESK_PROGRAM:-$top/crates/desk/out/desk}
-# Where none was built here, it is the release.
-if [ -z "${DESK_PROGRAM:-}" ] && [ ! -x "$program" ] && (cd "$top" && sha256sum -c --status dist/desk.sha256) 2>/dev/null; then
-  program=$top/dist/desk
-fi
-port=${1:-8765}
-if [ ! -x "$program" ]; then
-  printf 'server.sh: there is no program %s: ./desk builds it, or DESK_PROGRAM names another\n' "$program" >&2
-  exit 70
-fi
-for tool in curl sqlite3; do
-  if ! command -v "$tool" >/dev/null 2>&1; then
-    printf 'server.sh: %s is not installed\n' "$tool" >&2
-    exit 70
-  fi
-done
+. "$(dirname -- "$0")/program.sh"
 today=$(date -u +%F)
 later=$(date -u -d '+30 days' +%F)
-room=$(mktemp -d)
-trap 'rm -rf "$room"' EXIT
-cd "$room"
 
 cat >adder.v <<'EOF'
 module adder(input [3:0] a, b, output reg [3:0] sum);
