@@ -259,9 +259,9 @@ abbrev mutual
   opened_item settings (IfElse at condition taken otherwise) o =
       with_outcome (outcome_in o condition) (judging o at condition)
       (λ c o. cond (is_true c) (opened_block settings taken o) (opened_block settings otherwise o))
-  opened_item settings (Case at selector choices) o =
+  opened_item settings (Case at selector listed) o =
       with_outcome (outcome_in o selector) (judging o at selector)
-      (λ n o. opened_choices settings choices (pick o.scopes n 0 choices None) (with_tally o (choices_judged o.scopes at n choices o.tally)))
+      (λ n o. opened_choices settings listed (pick o.scopes n 0 listed None) (with_tally o (choices_judged o.scopes at n listed o.tally)))
   opened_item settings (For at index start condition stepped step body) o =
       unless_faulty (head_faults o.scopes index stepped) o
       (λ o. with_outcome (outcome_in o start) (judging o at start)
