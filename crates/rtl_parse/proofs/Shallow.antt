@@ -5,12 +5,13 @@ use Rattle.rtl_tree.specs.TreeExpr.{Formula, Number, Read, ReadBit, ReadPart, Pa
 use Rattle.rtl_tree.specs.TreeStmt.{Target, Whole, Bit, Part, Joined, Targets, no_targets, more_targets, Span, Fixed, Named, Valued, Pause, Action, Null, Delayed, Assign, If, IfElse, Case, For, Block, Actions, no_actions, more_actions, Branch, Labelled, Default, Branches, no_branches, more_branches, target_place}
 use Rattle.rtl_tree.specs.TreeItem.{Head, Drive, Happening, Edge, Change, ChangeBit, ChangePart, Sensitivity, Star, StarInParens, Listed, Association, ByPosition, ByName, ModuleItem, Ports, Nets, Variables, Integers, Parameters, Drives, GateDrive, Gates, Always, Instances}
 use Rattle.rtl_tree.specs.TreeGate.{GateSpan, One, Two, GatePause, Gate}
-use Rattle.rtl_tree.specs.TreeWritten.{WrittenItem, Plain, Primitives}
+use Rattle.rtl_tree.specs.TreeWritten.{WrittenItem, Plain, Primitives, Genvars, Region, WrittenItems, no_items, more_items, GenerateBlock, Single, GenerateChoice, GenerateChoices, no_choices, more_choices}
+use Rattle.rtl_tree.specs.TreeWritten as generate
 use Rattle.rtl_tree.specs.TreeModule.{HeaderParameter, HeaderPort, Header, Absent, Empty, Declared, WrittenCircuit}
 use Rattle.rtl_tree.specs.TreeModule as modules
-use Rattle.text_grammar.specs.Deeper.{of_any, here, formula_deeper, formulas_deeper, bounds_deeper, target_deeper, targets_deeper, span_deeper, pause_deeper, action_deeper, actions_deeper, branch_deeper, branches_deeper, head_deeper, net_deeper, valuation_deeper, drive_deeper, happening_deeper, sensitivity_deeper, positional_deeper, associated_deeper, association_deeper, instantiation_deeper, gate_drive_deeper, item_deeper, gate_span_deeper, gate_pause_deeper, gate_deeper, written_deeper, header_parameter_deeper, header_port_deeper, header_deeper, deeper, too_deep}
+use Rattle.text_grammar.specs.Deeper.{of_any, here, formula_deeper, formulas_deeper, bounds_deeper, target_deeper, targets_deeper, span_deeper, pause_deeper, action_deeper, actions_deeper, branch_deeper, branches_deeper, head_deeper, net_deeper, valuation_deeper, drive_deeper, happening_deeper, sensitivity_deeper, positional_deeper, associated_deeper, association_deeper, instantiation_deeper, gate_drive_deeper, item_deeper, gate_span_deeper, gate_pause_deeper, gate_deeper, written_deeper, written_items_deeper, made_deeper, choice_deeper, choices_deeper, header_parameter_deeper, header_port_deeper, header_deeper, deeper, too_deep}
 use Rattle.text_grammar.specs.declared.nesting.TheConstants.{MAX_NESTING}
-use Rattle.text_grammar.specs.Depth.{greatest, if_any, formula_depth, formulas_depth, bounds_depth, target_depth, targets_depth, span_depth, pause_depth, action_depth, actions_depth, branch_depth, branches_depth, head_depth, net_depth, valuation_depth, drive_depth, happening_depth, sensitivity_depth, positional_depth, associated_depth, association_depth, instantiation_depth, gate_drive_depth, item_depth, gate_span_depth, gate_pause_depth, gate_depth, written_depth, header_parameter_depth, header_port_depth, header_depth, depth}
+use Rattle.text_grammar.specs.Depth.{greatest, if_any, formula_depth, formulas_depth, bounds_depth, target_depth, targets_depth, span_depth, pause_depth, action_depth, actions_depth, branch_depth, branches_depth, head_depth, net_depth, valuation_depth, drive_depth, happening_depth, sensitivity_depth, positional_depth, associated_depth, association_depth, instantiation_depth, gate_drive_depth, item_depth, gate_span_depth, gate_pause_depth, gate_depth, written_depth, written_items_depth, made_depth, choice_depth, choices_depth, header_parameter_depth, header_port_depth, header_depth, depth}
 
 left : (xs ys : List ℕ) → xs ++ ys ≡ [] → xs ≡ []
 left [] ys e = refl
@@ -232,11 +233,54 @@ gate g k e =
     let v = both (target_deeper k g.output) (flat_map (formula_deeper k) g.terminals) e in
     omega (arith, target g.output k v.0, of_list (formula_deeper k) formula_depth k (λ f h. formula f k h) g.terminals v.1)
 
-written : (i : WrittenItem) (k : ℕ) → written_deeper k i ≡ [] → written_depth i ≤ k
-written (Plain i) k e = item i k e
-written (Primitives at kind p gates) k e =
-    let v = both (of_any (gate_pause_deeper k) p) (flat_map (gate_deeper k) gates) e in
-    omega (arith, of_option (gate_pause_deeper k) gate_pause_depth k (λ x h. gate_pause x k h) p v.0, of_list (gate_deeper k) gate_depth k (λ g h. gate g k h) gates v.1)
+mutual
+  written : (i : WrittenItem) (k : ℕ) → written_deeper k i ≡ [] → written_depth i ≤ k
+  written (Plain i) k e = item i k e
+  written (Primitives at kind p gates) k e =
+      let v = both (of_any (gate_pause_deeper k) p) (flat_map (gate_deeper k) gates) e in
+      omega (arith, of_option (gate_pause_deeper k) gate_pause_depth k (λ x h. gate_pause x k h) p v.0, of_list (gate_deeper k) gate_depth k (λ g h. gate g k h) gates v.1)
+  written (Genvars at names) k e = omega arith
+  written (Region at items) k e =
+      let v = both (here k at) (written_items_deeper (k - 1) items) e in
+      omega (arith, some k at v.0, row items (k - 1) v.1)
+  written (generate.If at c taken) k e =
+      let v = three (here k at) (formula_deeper (k - 1) c) (made_deeper (k - 1) taken) e in
+      omega (arith, some k at v.0, formula c (k - 1) v.1, block taken (k - 1) v.2)
+  written (generate.IfElse at c taken otherwise) k e =
+      let v = four (here k at) (formula_deeper (k - 1) c) (made_deeper (k - 1) taken) (made_deeper (k - 1) otherwise) e in
+      omega (arith, some k at v.0, formula c (k - 1) v.1, block taken (k - 1) v.2, block otherwise (k - 1) v.3)
+  written (generate.Case at selector chosen) k e =
+      let v = three (here k at) (formula_deeper (k - 1) selector) (choices_deeper (k - 1) chosen) e in
+      omega (arith, some k at v.0, formula selector (k - 1) v.1, choices chosen (k - 1) v.2)
+  written (generate.For at i start c j step body) k e =
+      let front = (((here k at ++ formula_deeper (k - 1) start) ++ formula_deeper (k - 1) c) ++ formula_deeper (k - 1) step) in
+      let v = four (here k at) (formula_deeper (k - 1) start) (formula_deeper (k - 1) c) (formula_deeper (k - 1) step) (left front (made_deeper (k - 1) body) e) in
+      omega (arith, some k at v.0, formula start (k - 1) v.1, formula c (k - 1) v.2, formula step (k - 1) v.3, block body (k - 1) (right front (made_deeper (k - 1) body) e))
+
+  row : (items : WrittenItems) (k : ℕ) → written_items_deeper k items ≡ [] → written_items_depth items ≤ k
+  row no_items k e = omega arith
+  row (more_items i others) k e =
+      let v = both (written_deeper k i) (written_items_deeper k others) e in
+      omega (arith, written i k v.0, row others k v.1)
+
+  block : (made : GenerateBlock) (k : ℕ) → made_deeper k made ≡ [] → made_depth made ≤ k
+  block (generate.Null at) k e = some k at e
+  block (Single i) k e = written i k e
+  block (generate.Block at label items) k e =
+      let v = both (here k at) (written_items_deeper (k - 1) items) e in
+      omega (arith, some k at v.0, row items (k - 1) v.1)
+
+  choice : (chosen : GenerateChoice) (k : ℕ) → choice_deeper k chosen ≡ [] → choice_depth chosen ≤ k
+  choice (generate.Labelled labels body) k e =
+      let v = both (flat_map (formula_deeper k) labels) (made_deeper k body) e in
+      omega (arith, of_list (formula_deeper k) formula_depth k (λ f h. formula f k h) labels v.0, block body k v.1)
+  choice (generate.Default at body) k e = block body k e
+
+  choices : (all : GenerateChoices) (k : ℕ) → choices_deeper k all ≡ [] → choices_depth all ≤ k
+  choices no_choices k e = omega arith
+  choices (more_choices chosen others) k e =
+      let v = both (choice_deeper k chosen) (choices_deeper k others) e in
+      omega (arith, choice chosen k v.0, choices others k v.1)
 
 parameter : (p : HeaderParameter) (k : ℕ) → header_parameter_deeper k p ≡ [] → header_parameter_depth p ≤ k
 parameter p k e =

@@ -1,10 +1,11 @@
 -- What parsing answers of a prepared text.
 -- Worked examples: crates/tests_layers/stdin.
-use Rattle.std.specs.Prelude.{◌≡◌, ℕ, min, List, [], length, map, position, Bool, Option, Some, None}
-use Rattle.std.specs.List.{slice_get}
+use Rattle.std.specs.Prelude.{◌≡◌, ◌⊎◌, ℕ, min, List, [], length, map, position, Bool, Option, Some, None, IsSomeAnd, codes}
+use Rattle.std.specs.List.{flat_map, slice_get}
 use Rattle.rtl_tree.specs.Prepared.{Ready}
 use Rattle.rtl_tree.specs.Symbols.{Terminal, terminals}
-use Rattle.rtl_tree.specs.TreeModule.{Circuit, WrittenCircuit}
+use Rattle.rtl_tree.specs.TreeWritten.{WrittenItem, Plain, Primitives, Genvars, Region, If, IfElse, Case, For}
+use Rattle.rtl_tree.specs.TreeModule.{Construct, Circuit, WrittenCircuit}
 use Rattle.text_grammar.specs.GrammarModule.{Spells}
 use Rattle.text_grammar.specs.Deeper.{too_deep, IsLeastPlace}
 use Rattle.rtl_unroll.specs.Plain.{plain_circuit}
@@ -30,23 +31,71 @@ abbrev pub IsThere : List ℕ → Option Terminal → List ℕ → ℕ → Type 
 IsThere all (Some t) text at = (t.text ≡ text) × (t.at ≡ at)
 IsThere all None text at = (text ≡ []) × (at ≡ min (length all) 4294967295)
 
--- the modules of a prepared text: those that it spells, where nothing is nested too deep, with assignments in place of gates
+-- the word that a generate construct begins with; none of what stands in no construct
+abbrev pub construct_word : WrittenItem → List ℕ
+construct_word (Plain item) = []
+construct_word (Primitives at kind pause gates) = []
+construct_word (Genvars at names) = codes "genvar"
+construct_word (Region at items) = []
+construct_word (If at condition taken) = codes "if"
+construct_word (IfElse at condition taken otherwise) = codes "if"
+construct_word (Case at selector cases) = codes "case"
+construct_word (For at index start condition stepped step body) = codes "for"
+
+-- the place of that word
+abbrev pub construct_place : WrittenItem → ℕ
+construct_place (Plain item) = 0
+construct_place (Primitives at kind pause gates) = 0
+construct_place (Genvars at names) = at
+construct_place (Region at items) = 0
+construct_place (If at condition taken) = at
+construct_place (IfElse at condition taken otherwise) = at
+construct_place (Case at selector cases) = at
+construct_place (For at index start condition stepped step body) = at
+
+-- the first construct of the first module that has one
+abbrev pub first_construct : List Circuit → Option Construct
+first_construct circuits = slice_get (flat_map (λ circuit. circuit.constructs) circuits) 0
+
+-- the first construct of modules begins with this word, there
+abbrev pub IsFirstWord : List Circuit → List ℕ → ℕ → Type 0
+IsFirstWord circuits word at =
+    IsSomeAnd (first_construct circuits) (λ construct. (construct_word construct.written ≡ word) × (construct_place construct.written ≡ at))
+
+-- the modules of a prepared text: those that it spells, where nothing is nested too deep, with assignments in place of gates, and
+-- none has a construct, which elaboration doesn't follow
 pub record IsParsed (ready : Ready) (circuits : List Circuit) : Type 0 where
   pub written : List WrittenCircuit
   pub spelled : Spells ready written
   pub shallow : too_deep written ≡ []
   pub plain : circuits ≡ map plain_circuit written
+  pub followed : first_construct circuits ≡ None
+
+-- nothing is wrong with a prepared text but that its modules have a construct: the first begins with this word, there
+pub record IsUnfollowed (ready : Ready) (word : List ℕ) (at : ℕ) : Type 0 where
+  pub inside : first_outside ready ≡ None
+  pub written : List WrittenCircuit
+  pub spelled : Spells ready written
+  pub shallow : too_deep written ≡ []
+  pub first : IsFirstWord (map plain_circuit written) word at
 
 -- why a prepared text isn't parsed: its first token that is outside this language; else the first token that no modules can have
--- there, while the modules before it are spelled; else the least place that is nested too deep in what is spelled
+-- there, while the modules before it are spelled; else the least place that is nested too deep in what is spelled; else the first
+-- construct, which elaboration doesn't follow
 abbrev pub IsCause : Ready → ParseFault → Type 0
 IsCause ready (Refused text at) =
-    (n : ℕ) × (first_outside ready ≡ Some n) × IsThere ready.text (slice_get (tokens ready) n) text.items at
+    ((n : ℕ) × (first_outside ready ≡ Some n) × IsThere ready.text (slice_get (tokens ready) n) text.items at) ⊎ IsUnfollowed ready text.items at
 IsCause ready (Syntax text at) =
     (n : ℕ) × (first_outside ready ≡ None) × IsLeast (tokens ready) n × AreClosed (tokens ready) n × IsThere ready.text (slice_get (tokens ready) n) text.items at
 IsCause ready (TooDeep at) =
     (circuits : List WrittenCircuit) × (first_outside ready ≡ None) × Spells ready circuits × IsLeastPlace (too_deep circuits) at
 IsCause ready Memory = Unit {0}
+
+-- why plain modules aren't handed on: their first construct, or want of memory, which may come at any time
+abbrev pub IsHeld : List Circuit → ParseFault → Type 0
+IsHeld circuits (Refused text at) = IsFirstWord circuits text.items at
+IsHeld circuits Memory = Unit {0}
+IsHeld circuits _ = ⊥
 
 -- a fault by what it tells
 pub data Reason : Type 0 where

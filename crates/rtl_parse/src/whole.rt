@@ -9,7 +9,7 @@ ghost use Rattle.text_grammar.specs.Deeper.{too_deep};
 ghost use Rattle.rtl_parse.specs.Parses.{IsCause, IsParsed, IsThere, first_outside};
 
 use crate::fault::ParseFault;
-use crate::plain::all_plain;
+use crate::plain::followed;
 use rtl_tree::prepared::Prepared;
 use rtl_tree::symbol::Terminal;
 use rtl_tree::tree::modules::{Module, WrittenModule};
@@ -74,7 +74,8 @@ fn certain(
 /// # Errors
 ///
 /// `Refused` at the first such word, else `Syntax` at the first token that no modules can have there, else `TooDeep` at the least
-/// place that is nested more than 200 deep; `Memory` where memory runs out.
+/// place that is nested more than 200 deep, else `Refused` at the first construct of the first module that has one, since
+/// elaboration follows none; `Memory` where memory runs out.
 pub fn parse<L: Ledger>(
     alloc: Global,
     text: &Prepared,
@@ -94,7 +95,7 @@ pub fn parse<L: Ledger>(
     }
     let regions = text.dropped();
     if let Some(written) = certain(alloc, tokens, regions)? {
-        return Ok(all_plain(alloc, written)?);
+        return followed(alloc, written);
     }
     match survey(alloc, tokens)? {
         Surveyed::Stopped(number) => {
@@ -103,7 +104,7 @@ pub fn parse<L: Ledger>(
         }
         Surveyed::TooDeep(at) => Err(ParseFault::TooDeep(at)),
         Surveyed::Spelled => match build(alloc, tokens, regions) {
-            Ok(written) => Ok(all_plain(alloc, written)?),
+            Ok(written) => followed(alloc, written),
             // What is spelled and not too deep is built, unless memory runs out.
             Err(_) => Err(ParseFault::Memory),
         },
