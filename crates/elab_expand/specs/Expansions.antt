@@ -293,7 +293,7 @@ abbrev mutual
 
   -- the choice with this number, where there is one
   pub opened_choices : Settings → GenerateChoices → Option ℕ → Opening → Opening
-  opened_choices settings choices None o = o
+  opened_choices settings listed None o = o
   opened_choices settings no_choices (Some k) o = o
   opened_choices settings (more_choices first others) (Some zero) o = opened_choice settings first o
   opened_choices settings (more_choices first others) (Some (suc k)) o = opened_choices settings others (Some k) o
@@ -304,8 +304,8 @@ abbrev mutual
 
 -- the choice of a `case` whose selector has this number
 abbrev pub case_opened : Settings → ℕ → ℤ → GenerateChoices → Opening → Opening
-case_opened settings at n choices o =
-    opened_choices settings choices (pick o.scopes n 0 choices None) (with_tally o (choices_judged o.scopes at n choices o.tally))
+case_opened settings at n listed o =
+    opened_choices settings listed (pick o.scopes n 0 listed None) (with_tally o (choices_judged o.scopes at n listed o.tally))
 
 -- ---- modules
 
