@@ -1,7 +1,6 @@
 -- No text both has modules and is faulty.
-use Rattle.std.specs.Prelude.{ℕ, zero, suc, ◌<◌, false, List, [], ◌∷◌, length, Option, Some, None, Result, Ok, Err}
-use Rattle.std.specs.List.{Contains}
-use Rattle.std.proofs.Common.{◌≡◌, ◌∙◌, ap, sym, subst, refl, arith}
+use Rattle.std.specs.Prelude.{ℕ, zero, suc, false, List, [], ◌∷◌, Option, Some, None, Result, Ok, Err}
+use Rattle.std.proofs.Common.{◌≡◌, ◌∙◌, inl, inr, ap, sym, subst, refl}
 use Rattle.rtl_tree.specs.declared.token.Token.{Token}
 use Rattle.rtl_tree.specs.Prepared.{Ready}
 use Rattle.rtl_tree.specs.Symbols.{terminals}
@@ -19,6 +18,7 @@ use Rattle.text_build.proofs.Laws.Modules.{spelled_once}
 use Rattle.rtl_parse.specs.declared.fault.ParseFault.{ParseFault}
 use Rattle.rtl_parse.specs.declared.fault.ParseFault.TheVariants as parsing
 use Rattle.rtl_parse.specs.Parses.{IsCause, IsParsed, first_outside, tokens}
+use Rattle.rtl_parse.proofs.OneCause.{nothing_there, parsed_followed}
 use Rattle.rtl_front.specs.declared.fault.FileFault.{FileFault}
 use Rattle.rtl_front.specs.declared.fault.FileFault.TheVariants.{Lex, Prepare, Parse}
 use Rattle.rtl_front.specs.Fronts.{AreRead, IsFaulty, IsFirst, IsPrepared, IsRead, is_memory}
@@ -64,17 +64,12 @@ one_ready text ready other prepares again =
 
 -- ---- modules
 
-nothing_there : (places : List ℕ) (place : ℕ) → places ≡ [] → Contains places place → ⊥
-nothing_there places place none there =
-    let below : there.0 < length places = there.1 in
-    let empty : length places ≡ 0 = ap length none in
-    omega arith
-
 parsed_uncaused : (ready : Ready) (circuits : List Circuit) (fault : ParseFault) → is_memory (Parse fault) ≡ false
     → first_outside ready ≡ None → IsParsed ready circuits → IsCause ready fault → ⊥
-parsed_uncaused ready circuits (parsing.Refused name place) known inside parsed cause =
+parsed_uncaused ready circuits (parsing.Refused name place) known inside parsed (inl cause) =
     let both : ◌≡◌ {A = Option ℕ} (Some cause.0) None = sym cause.1 ∙ inside in
     cc
+parsed_uncaused ready circuits (parsing.Refused name place) known inside parsed (inr cause) = parsed_followed ready circuits name.items place parsed cause
 parsed_uncaused ready circuits (parsing.Syntax name place) known inside parsed cause =
     cause.2.dead (tokens ready) refl refl ready.dropped parsed.written parsed.spelled
 parsed_uncaused ready circuits (parsing.TooDeep place) known inside parsed cause =

@@ -5,7 +5,7 @@ use Rattle.std.specs.List.{Contains, slice_get}
 use Rattle.std.specs.Option.{IsSomeAnd}
 use Rattle.rtl_tree.specs.Prepared.{Ready}
 use Rattle.rtl_tree.specs.Symbols.{Terminal}
-use Rattle.rtl_tree.specs.TreeModule.{Construct, WrittenCircuit}
+use Rattle.rtl_tree.specs.TreeModule.{Circuit, Construct, WrittenCircuit}
 use Rattle.text_grammar.specs.GrammarModule.{Spells}
 use Rattle.text_grammar.specs.Deeper.{too_deep, IsLeastPlace}
 use Rattle.rtl_unroll.specs.Plain.{plain_circuit}
@@ -14,7 +14,7 @@ use Rattle.text_survey.proofs.Least.{one_least}
 use Rattle.text_build.proofs.Laws.Modules.{spelled_once}
 use Rattle.rtl_parse.specs.declared.fault.ParseFault.{ParseFault}
 use Rattle.rtl_parse.specs.declared.fault.ParseFault.TheVariants.{Refused, Syntax, TooDeep, Memory}
-use Rattle.rtl_parse.specs.Parses.{tokens, first_outside, IsThere, construct_word, construct_place, first_construct, IsFirstWord, IsUnfollowed, IsCause, Outside, Unspelled, Nested, reason, IsOfText}
+use Rattle.rtl_parse.specs.Parses.{tokens, first_outside, IsThere, construct_word, construct_place, first_construct, IsFirstWord, IsParsed, IsUnfollowed, IsCause, Outside, Unspelled, Nested, reason, IsOfText}
 
 -- one token has one text and one place
 one_there : (all : List ℕ) (o : Option Terminal) (s t : List ℕ) (i j : ℕ) → IsThere all o s i → IsThere all o t j → (s ≡ t) × (i ≡ j)
@@ -60,6 +60,13 @@ unfollowed_once : (ready : Ready) (s t : List ℕ) (i j : ℕ) → IsUnfollowed 
 unfollowed_once ready s t i j a b =
     let same = spelled_once ready.dropped (tokens ready) a.written b.written a.spelled b.spelled in
     one_word (first_construct (map plain_circuit b.written)) s t i j (subst (λ cs. IsFirstWord (map plain_circuit cs) s i) same a.first) b.first
+
+-- what is read has no construct
+pub parsed_followed : (ready : Ready) (circuits : List Circuit) (s : List ℕ) (i : ℕ) → IsParsed ready circuits → IsUnfollowed ready s i → ⊥
+parsed_followed ready circuits s i parsed a =
+    let same = spelled_once ready.dropped (tokens ready) a.written parsed.written a.spelled parsed.spelled in
+    let first : IsFirstWord circuits s i = subst (λ (cs : List Circuit). IsFirstWord cs s i) (ap (map plain_circuit) same ∙ sym parsed.plain) a.first in
+    subst (λ (found : Option Construct). IsSomeAnd found (λ (c : Construct). (construct_word c.written ≡ s) × (construct_place c.written ≡ i))) parsed.followed first
 
 -- modules that are nowhere too deep are read, or their first construct is told
 unfollowed_shallow : (ready : Ready) (s : List ℕ) (i j : ℕ) (circuits : List WrittenCircuit) → IsUnfollowed ready s i → Spells ready circuits → IsLeastPlace (too_deep circuits) j → ⊥

@@ -62,8 +62,8 @@ abbrev pub IsFirstWord : List Circuit → List ℕ → ℕ → Type 0
 IsFirstWord circuits word at =
     IsSomeAnd (first_construct circuits) (λ construct. (construct_word construct.written ≡ word) × (construct_place construct.written ≡ at))
 
--- the modules of a prepared text: those that it spells, where nothing is nested too deep, with assignments in place of gates, and
--- none has a construct, which elaboration doesn't follow
+-- the modules of a prepared text: those that it spells, where nothing is nested too deep, with assignments in place of
+-- gates, and none has a construct, since elaboration follows none
 pub record IsParsed (ready : Ready) (circuits : List Circuit) : Type 0 where
   pub written : List WrittenCircuit
   pub spelled : Spells ready written
@@ -79,9 +79,9 @@ pub record IsUnfollowed (ready : Ready) (word : List ℕ) (at : ℕ) : Type 0 wh
   pub shallow : too_deep written ≡ []
   pub first : IsFirstWord (map plain_circuit written) word at
 
--- why a prepared text isn't parsed: its first token that is outside this language; else the first token that no modules can have
--- there, while the modules before it are spelled; else the least place that is nested too deep in what is spelled; else the first
--- construct, which elaboration doesn't follow
+-- why a prepared text isn't parsed: its first token that is outside this language; else the first token that no modules
+-- can have there, while the modules before it are spelled; else the least place that is nested too deep in what is
+-- spelled; else the first construct of the first module that has one
 abbrev pub IsCause : Ready → ParseFault → Type 0
 IsCause ready (Refused text at) =
     ((n : ℕ) × (first_outside ready ≡ Some n) × IsThere ready.text (slice_get (tokens ready) n) text.items at) ⊎ IsUnfollowed ready text.items at
