@@ -7,8 +7,8 @@ use thiserror::Error;
 /// Why a text isn't parsed. Places are in bytes from 0.
 #[derive(Debug, Drop, Error)]
 pub enum ParseFault {
-    /// A word or a mark of a construct outside this language, or the word that a generate construct begins with, and its
-    /// place.
+    /// A word or a mark of a construct outside this language, or the word that a generate construct begins with, and
+    /// its place.
     #[error("refused construct")]
     Refused(Vec<u8>, u32),
     /// The first token that no text of modules can have there, and its place: the tokens before it go on to modules, and with

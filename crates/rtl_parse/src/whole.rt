@@ -73,9 +73,9 @@ fn certain(
 ///
 /// # Errors
 ///
-/// `Refused` at the first such word, else `Syntax` at the first token that no modules can have there, else `TooDeep` at the
-/// least place that is nested more than 200 deep, else `Refused` at the first construct of the first module that has one,
-/// since elaboration follows none; `Memory` where memory runs out.
+/// `Refused` at the first such word, else `Syntax` at the first token that no modules can have there, else `TooDeep` at
+/// the least place that is nested more than 200 deep, else `Refused` at the first construct of the first module that has
+/// one, since elaboration follows none; `Memory` where memory runs out.
 pub fn parse<L: Ledger>(
     alloc: Global,
     text: &Prepared,
