@@ -38,6 +38,7 @@ module_of its_name =
       parameters = [];
       header = Absent;
       items = [];
+      constructs = [];
       dropped = [];
     }
 

@@ -12,12 +12,12 @@ use rtl_tree::prepared::Prepared;
 use rtl_tree::token::Tokens;
 use rtl_tree::tree::item::Item;
 use rtl_tree::tree::modules::{Module, WrittenModule};
-use text_grammar::nesting::depth;
 use std::alloc::Global;
 use std::marker::Brand;
 use std::sync::ledger::{Blank, Ledger};
 use steps::Steps;
 use text_build::{build, spelled_once};
+use text_grammar::nesting::depth;
 use text_ground::text::Text;
 use text_survey::{refused, survey, terminals};
 
